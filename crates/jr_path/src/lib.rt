@@ -1,0 +1,20 @@
+//! Names, paths, items and the ids of documents, and small types over std's collections: a list, a text
+//! and a map, as contracts see them.
+#![tactic(auto)]
+
+mod copies;
+mod cursor;
+mod fault;
+mod keyed;
+mod list;
+mod name;
+mod path;
+mod text;
+
+pub use copies::DeepCopy;
+pub use fault::PathFault;
+pub use keyed::Keyed;
+pub use list::List;
+pub use name::Name;
+pub use path::{DocId, Item, Path};
+pub use text::Text;

@@ -1,0 +1,323 @@
+// Paths, items, and the ids of documents in store order.
+ghost use Rattle.std.specs.Prelude.{◌≡◌, ◌≤◌, ◌++◌, ◌∷◌, [], IfOk, length, take};
+ghost use Rattle.std.specs.Option.{option_copied};
+ghost use Rattle.std.specs.String.{string_bytes};
+ghost use Rattle.jr_path.specs.Names.{parent_of, last_name, is_under};
+ghost use Rattle.jr_path.specs.Ids.{path_text, id_text, node_cmp as node_order};
+
+use crate::cursor::text_cmp;
+use crate::{DeepCopy, Name, PathFault};
+use std::alloc::{AllocError, Global};
+use std::cmp::Ordering;
+use std::marker::Model;
+
+/// The path of a node from the root (JSR 283, 3.4 Paths), seen as the list of its names.
+/// Ordered name by name, by bytes, a prefix first.
+#[derive(Debug, Drop)]
+pub struct Path {
+    names: Vec<Name>,
+}
+
+impl Model for Path {
+    ghost use Rattle.std.specs.Prelude.{List, ℕ};
+
+    ghost Value = { List (List ℕ) };
+
+    ghost view = { λ a. a.names.items };
+}
+
+impl Path {
+    /// The path of the root. It takes no memory.
+    pub fn root(alloc: Global) -> Path
+        ensures { result ≡ [] }
+    {
+        Path {
+            names: Vec::new(alloc),
+        }
+    }
+
+    /// Reads a path.
+    pub fn parse(alloc: Global, text: &str) -> Result<Path, PathFault>
+    {
+        let mut names = Vec::new(alloc);
+        if text == "/" {
+            return Ok(Path { names });
+        }
+        for piece in text.split('/').skip(1) {
+            names.push(Name::parse(alloc, piece)?)?;
+        }
+        Ok(Path { names })
+    }
+
+    /// The names from the root on.
+    pub fn names(&self) -> &[Name]
+        ensures { result.now ≡ self.now }
+    {
+        self.names.as_slice()
+    }
+
+    /// How many names it has; the root has none.
+    pub fn depth(&self) -> usize
+        ensures { result ≡ length self.now }
+    {
+        self.names.len()
+    }
+
+    /// The last name; the root has none.
+    pub fn last_name(&self) -> Option<&Name>
+        ensures { option_copied result ≡ last_name self.now }
+    {
+        self.names.last()
+    }
+
+    /// The path of the node above; the root has none.
+    pub fn parent(&self) -> Result<Option<Path>, AllocError>
+        ensures { IfOk result (λ parent. parent ≡ parent_of self.now) }
+    {
+        let depth = self.depth();
+        if depth == 0 {
+            return Ok(None);
+        }
+        Ok(Some(self.prefix(depth - 1)?))
+    }
+
+    /// The path of the ancestor, or self, with so many names.
+    pub fn prefix(&self, depth: usize) -> Result<Path, AllocError>
+        requires { depth ≤ length self.now }
+        ensures { IfOk result (λ prefix. prefix ≡ take depth self.now) }
+    {
+        let mut names = Vec::new(*self.names.allocator());
+        for name in &self.names[..depth] {
+            names.push(name.copy()?)?;
+        }
+        Ok(Path { names })
+    }
+
+    /// The path of a child.
+    pub fn child(&self, name: &Name) -> Result<Path, AllocError>
+        ensures { IfOk result (λ child. child ≡ self.now ++ name.now ∷ []) }
+    {
+        let mut child = self.copy()?;
+        child.names.push(name.copy()?)?;
+        Ok(child)
+    }
+
+    /// Whether it is at or below the other.
+    pub fn is_under(&self, other: &Path) -> bool
+        ensures { result ≡ is_under self.now other.now }
+    {
+        self.names.starts_with(&other.names)
+    }
+
+    /// `/` for the root, or each name after a `/`.
+    pub fn text(&self) -> Result<String, AllocError>
+        ensures { IfOk result (λ text. string_bytes text ≡ path_text self.now) }
+    {
+        let mut text = String::new(*self.names.allocator());
+        if self.depth() == 0 {
+            text.push('/')?;
+        }
+        for name in &self.names {
+            text.push('/')?;
+            text.push_str(name.as_str())?;
+        }
+        Ok(text)
+    }
+}
+
+impl DeepCopy for Path {
+    fn copy(&self) -> Result<Path, AllocError> {
+        self.prefix(self.depth())
+    }
+}
+
+impl PartialEq for Path {
+    ghost use Rattle.std.specs.Cmp.Lexicographic.{slice_cmp};
+    ghost use Rattle.std.specs.Cmp.Rules.{comparing};
+    ghost use Rattle.std.specs.Ordering.{eq_by_cmp, nat_cmp};
+    ghost use Rattle.std.proofs.Common.{rules};
+
+    ghost eq = { eq_by_cmp (slice_cmp (slice_cmp nat_cmp)) };
+
+    ghost laws = { Prim.search (comparing, rules) };
+
+    fn eq(&self, other: &Path) -> bool {
+        self.cmp(other).is_eq()
+    }
+}
+
+impl Eq for Path {
+    ghost use Rattle.std.specs.Cmp.Rules.{comparing};
+    ghost use Rattle.std.proofs.Common.{rules};
+
+    ghost laws = { Prim.search (comparing, rules) };
+}
+
+impl Ord for Path {
+    ghost use Rattle.std.specs.Cmp.Lexicographic.{slice_cmp};
+    ghost use Rattle.std.specs.Cmp.Rules.{comparing};
+    ghost use Rattle.std.specs.Ordering.{nat_cmp};
+    ghost use Rattle.std.proofs.Common.{rules};
+
+    ghost cmp = { slice_cmp (slice_cmp nat_cmp) };
+
+    ghost total = { Prim.search (comparing, rules) };
+
+    ghost matches_partial_cmp = { Prim.search (comparing, rules) };
+
+    ghost matches_eq = { Prim.search (comparing, rules) };
+
+    fn cmp(&self, other: &Path) -> Ordering {
+        self.names.cmp(&other.names)
+    }
+}
+
+impl PartialOrd for Path {
+    ghost use Rattle.std.specs.Cmp.{partial_order_from_own_ties};
+    ghost use Rattle.std.specs.Cmp.Lexicographic.{slice_cmp};
+    ghost use Rattle.std.specs.Cmp.Rules.{comparing};
+    ghost use Rattle.std.specs.Ordering.{as_partial_cmp, nat_cmp};
+    ghost use Rattle.std.proofs.Common.{rules};
+
+    ghost partial_cmp = { as_partial_cmp (slice_cmp (slice_cmp nat_cmp)) };
+
+    ghost laws = { partial_order_from_own_ties (Prim.search (comparing, rules)) (Prim.search (comparing, rules)) };
+
+    fn partial_cmp(&self, other: &Path) -> Option<Ordering> {
+        Some(self.cmp(other))
+    }
+}
+
+/// A node, or with a name a property of it (JSR 283, 3.1 Items).
+/// Nodes in path order, each before its properties, and these by name.
+#[derive(Debug, Drop, PartialEq, Eq, PartialOrd, Ord)]
+pub struct Item {
+    pub path: Path,
+    pub name: Option<Name>,
+}
+
+impl DeepCopy for Item {
+    fn copy(&self) -> Result<Item, AllocError> {
+        Ok(Item {
+            path: self.path.copy()?,
+            name: self.name.copy()?,
+        })
+    }
+}
+
+/// The id of a document: of a node, of a previous document of a node with its number, or of the
+/// settings (Oak, DocumentNodeStore: Node Document). Store order is nodes' documents by depth, then by
+/// the bytes of the path's text; previous documents by path, then number; then the settings.
+#[derive(Debug, Drop)]
+pub enum DocId {
+    Node(Path),
+    Prev(u64, Path),
+    Settings,
+}
+
+impl DocId {
+    /// `depth:path`, `p<number in hexadecimal>:path`, or `settings`.
+    pub fn text(&self, alloc: Global) -> Result<String, AllocError>
+        ensures { IfOk result (λ text. string_bytes text ≡ id_text self.now) }
+    {
+        match self {
+            DocId::Node(path) => {
+                let depth = path.depth();
+                let path = path.text()?;
+                Ok(format!(in alloc; "{depth}:{path}")?)
+            }
+            DocId::Prev(number, path) => {
+                let path = path.text()?;
+                Ok(format!(in alloc; "p{number:x}:{path}")?)
+            }
+            DocId::Settings => Ok(String::from_str(alloc, "settings")?),
+        }
+    }
+}
+
+impl DeepCopy for DocId {
+    fn copy(&self) -> Result<DocId, AllocError> {
+        match self {
+            DocId::Node(path) => Ok(DocId::Node(path.copy()?)),
+            DocId::Prev(number, path) => Ok(DocId::Prev(*number, path.copy()?)),
+            DocId::Settings => Ok(DocId::Settings),
+        }
+    }
+}
+
+impl Ord for DocId {
+    ghost use Rattle.std.specs.Prelude.{refl};
+    ghost use Rattle.std.specs.Ordering.{nat_cmp};
+    ghost use Rattle.std.specs.Cmp.{on_total, then_total, nat_cmp_total};
+    ghost use Rattle.std.specs.Cmp.Rules.{comparing};
+    ghost use Rattle.std.proofs.Common.{rules};
+    ghost use Rattle.jr_path.specs.Ids.{id_cmp};
+
+    ghost cmp = { id_cmp };
+
+    ghost total = { Prim.search (comparing, rules) depth 14 };
+
+    ghost matches_partial_cmp = { λ x y. refl };
+
+    ghost matches_eq = { λ x y. refl };
+
+    fn cmp(&self, other: &DocId) -> Ordering {
+        match (self, other) {
+            (DocId::Node(a), DocId::Node(b)) => node_cmp(a, b),
+            (DocId::Node(_), _) => Ordering::Less,
+            (DocId::Prev(_, _), DocId::Node(_)) => Ordering::Greater,
+            (DocId::Prev(m, a), DocId::Prev(n, b)) => a.cmp(b).then(m.cmp(n)),
+            (DocId::Prev(_, _), DocId::Settings) => Ordering::Less,
+            (DocId::Settings, DocId::Settings) => Ordering::Equal,
+            (DocId::Settings, _) => Ordering::Greater,
+        }
+    }
+}
+
+// The store order of two nodes' documents.
+fn node_cmp(a: &Path, b: &Path) -> Ordering
+    ensures { result ≡ node_order a.now b.now }
+{
+    a.depth()
+        .cmp(&b.depth())
+        .then(text_cmp(&a.names, &b.names))
+        .then(a.cmp(b))
+}
+
+impl PartialOrd for DocId {
+    ghost use Rattle.std.specs.Ordering.{as_partial_cmp};
+    ghost use Rattle.std.specs.Cmp.{partial_order_from_own_ties};
+    ghost use Rattle.std.specs.Cmp.Rules.{comparing};
+    ghost use Rattle.std.proofs.Common.{rules};
+    ghost use Rattle.jr_path.specs.Ids.{id_cmp};
+
+    ghost partial_cmp = { as_partial_cmp id_cmp };
+
+    ghost laws = { partial_order_from_own_ties (Prim.search (comparing, rules) depth 14) (Prim.search (comparing, rules) depth 14) };
+
+    fn partial_cmp(&self, other: &DocId) -> Option<Ordering> {
+        Some(self.cmp(other))
+    }
+}
+
+impl PartialEq for DocId {
+    ghost use Rattle.std.specs.Ordering.{eq_by_cmp};
+    ghost use Rattle.std.specs.Cmp.Rules.{comparing};
+    ghost use Rattle.std.proofs.Common.{rules};
+    ghost use Rattle.jr_path.specs.Ids.{id_cmp};
+
+    ghost eq = { eq_by_cmp id_cmp };
+
+    ghost laws = { Prim.search (comparing, rules) depth 14 };
+
+    fn eq(&self, other: &DocId) -> bool {
+        self.cmp(other) == Ordering::Equal
+    }
+}
+
+impl Eq for DocId {
+    ghost use Rattle.std.specs.Cmp.Rules.{comparing};
+    ghost use Rattle.std.proofs.Common.{rules};
+
+    ghost laws = { Prim.search (comparing, rules) depth 14 };
+}
