@@ -37,8 +37,7 @@ impl Path {
     }
 
     /// Reads a path.
-    pub fn parse(alloc: Global, text: &str) -> Result<Path, PathFault>
-    {
+    pub fn parse(alloc: Global, text: &str) -> Result<Path, PathFault> {
         let mut names = Vec::new(alloc);
         if text == "/" {
             return Ok(Path { names });
