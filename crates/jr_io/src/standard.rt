@@ -1,0 +1,111 @@
+// std's readers and writers as sources and sinks.
+ghost use Rattle.std.specs.Prelude.{◌≡◌, ◌<◌, ◌≤◌, None, IfOk, OnErr, MatchResult, length};
+ghost use Rattle.std.specs.Io.KnownBytes.{Keeps, ReadConsumes, WriteAppends};
+ghost use Rattle.jr_io.specs.Causes.{count_after, HasCause, RoseExactly};
+ghost use Rattle.jr_io.specs.Told.{Moves, Grows};
+
+use crate::ends::{Failed, Sink, Source, count_fault};
+use std::io::{Read, Write};
+use std::marker::Model;
+
+/// A reader of std, as the standard input, as a source. It tells nothing of the bytes left, and
+/// counts each error of the reader as a fault, an interrupted call too.
+#[derive(Drop)]
+pub struct StdSource<R> {
+    inner: R,
+    given: u64,
+    faults: u64,
+}
+
+impl<R> Model for StdSource<R> {
+    ghost use Rattle.jr_io.specs.Standard.{Reading};
+
+    ghost Value = { Reading R };
+
+    ghost view = { λ s. record { inner = s.inner; given = s.given; faults = s.faults } };
+}
+
+impl<R: Read> StdSource<R> {
+    /// A source of what the reader gives from here on.
+    pub fn new(inner: R) -> StdSource<R>
+        ensures { result ≡ record { inner = inner; given = 0; faults = 0 } }
+    {
+        StdSource {
+            inner,
+            given: 0,
+            faults: 0,
+        }
+    }
+}
+
+impl<R: Read> Source for StdSource<R> {
+    ghost left = { λ s. None };
+
+    ghost given = { λ s. s.given };
+
+    ghost fault_count = { λ s. s.faults };
+
+    fn read(&mut self, buf: &mut [u8]) -> Result<usize, Failed> {
+        match self.inner.read(buf) {
+            Ok(count) => {
+                self.given = self.given.saturating_add(count as u64);
+                Ok(count)
+            }
+            Err(_) => Err(count_fault(&mut self.faults)),
+        }
+    }
+
+    fn faults(&self) -> u64 {
+        self.faults
+    }
+}
+
+/// A writer of std, as the standard output, as a sink. It tells nothing of the bytes taken, and
+/// counts as a fault each error of the writer, and a write that takes no byte of some.
+#[derive(Drop)]
+pub struct StdSink<W> {
+    inner: W,
+    faults: u64,
+}
+
+impl<W> Model for StdSink<W> {
+    ghost use Rattle.jr_io.specs.Standard.{Writing};
+
+    ghost Value = { Writing W };
+
+    ghost view = { λ s. record { inner = s.inner; faults = s.faults } };
+}
+
+impl<W: Write> StdSink<W> {
+    /// A sink into this writer.
+    pub fn new(inner: W) -> StdSink<W>
+        ensures { result ≡ record { inner = inner; faults = 0 } }
+    {
+        StdSink { inner, faults: 0 }
+    }
+}
+
+impl<W: Write> Sink for StdSink<W> {
+    ghost written = { λ s. None };
+
+    ghost fault_count = { λ s. s.faults };
+
+    fn write(&mut self, bytes: &[u8]) -> Result<usize, Failed> {
+        match self.inner.write(bytes) {
+            Ok(0) if !bytes.is_empty() => Err(count_fault(&mut self.faults)),
+            Ok(count) => Ok(count),
+            Err(_) => Err(count_fault(&mut self.faults)),
+        }
+    }
+
+    fn flush(&mut self) -> Result<(), Failed> {
+        match self.inner.flush() {
+            Ok(()) => Ok(()),
+            Err(_) => Err(count_fault(&mut self.faults)),
+        }
+    }
+
+    fn faults(&self) -> u64 {
+        self.faults
+    }
+}
