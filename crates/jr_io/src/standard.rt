@@ -1,8 +1,7 @@
 // std's readers and writers as sources and sinks.
-ghost use Rattle.std.specs.Prelude.{◌≡◌, ◌<◌, ◌≤◌, None, IfOk, OnErr, MatchResult, length};
+ghost use Rattle.std.specs.Prelude.{◌≡◌, ◌<◌, ◌≤◌, None, IfOk, OnErr, length};
 ghost use Rattle.std.specs.Io.KnownBytes.{Keeps, ReadConsumes, WriteAppends};
-ghost use Rattle.jr_io.specs.Causes.{count_after, HasCause, RoseExactly};
-ghost use Rattle.jr_io.specs.Told.{Moves, Grows};
+ghost use Rattle.jr_io.specs.Causes.{HasCause, RoseExactly};
 
 use crate::ends::{Failed, Sink, Source, count_fault};
 use std::io::{Read, Write};
@@ -45,7 +44,15 @@ impl<R: Read> Source for StdSource<R> {
 
     ghost fault_count = { λ s. s.faults };
 
-    fn read(&mut self, buf: &mut [u8]) -> Result<usize, Failed> {
+    fn read(&mut self, buf: &mut [u8]) -> Result<usize, Failed>
+        ensures within { IfOk result (λ n. n ≤ length buf.old) }
+        ensures counted { IfOk result (λ n. RoseExactly n self.old.given self.new.given) }
+        ensures uncounted { OnErr result (self.new.given ≡ self.old.given) }
+        ensures cause { HasCause self.old.faults self.new.faults result }
+
+        // What the reader tells of its bytes is handed on.
+        ensures passed { ReadConsumes (R.remaining self.old.inner) (R.remaining self.new.inner) result buf.new }
+    {
         match self.inner.read(buf) {
             Ok(count) => {
                 self.given = self.given.saturating_add(count as u64);
@@ -90,7 +97,14 @@ impl<W: Write> Sink for StdSink<W> {
 
     ghost fault_count = { λ s. s.faults };
 
-    fn write(&mut self, bytes: &[u8]) -> Result<usize, Failed> {
+    fn write(&mut self, bytes: &[u8]) -> Result<usize, Failed>
+        ensures within { IfOk result (λ n. n ≤ length bytes.now) }
+        ensures some { IfOk result (λ n. 0 < length bytes.now → 0 < n) }
+        ensures cause { HasCause self.old.faults self.new.faults result }
+
+        // What the writer tells of its bytes is handed on.
+        ensures passed { WriteAppends (W.contents self.old.inner) (W.contents self.new.inner) result bytes.now }
+    {
         match self.inner.write(bytes) {
             Ok(0) if !bytes.is_empty() => Err(count_fault(&mut self.faults)),
             Ok(count) => Ok(count),
@@ -98,7 +112,10 @@ impl<W: Write> Sink for StdSink<W> {
         }
     }
 
-    fn flush(&mut self) -> Result<(), Failed> {
+    fn flush(&mut self) -> Result<(), Failed>
+        ensures cause { HasCause self.old.faults self.new.faults result }
+        ensures passed { Keeps (W.contents self.old.inner) (W.contents self.new.inner) }
+    {
         match self.inner.flush() {
             Ok(()) => Ok(()),
             Err(_) => Err(count_fault(&mut self.faults)),
@@ -107,5 +124,52 @@ impl<W: Write> Sink for StdSink<W> {
 
     fn faults(&self) -> u64 {
         self.faults
+    }
+}
+
+#[cfg(test)]
+mod tests {
+    use super::*;
+    use crate::{ReadAll, read_all, write_all};
+    use std::io;
+    use std::io::ErrorKind;
+    use std::test::Fail;
+
+    // A reader that fails once its bytes are given.
+    #[derive(Drop)]
+    struct Broken<'a>(&'a [u8]);
+
+    impl Read for Broken<'_> {
+        fn read(&mut self, buf: &mut [u8]) -> io::Result<usize> {
+            if self.0.is_empty() {
+                return Err(io::Error::from(ErrorKind::BrokenPipe));
+            }
+            self.0.read(buf)
+        }
+    }
+
+    #[test]
+    fn readers_and_writers_count_their_faults(rt: HostRuntime) -> Result<(), Fail> {
+        let alloc = rt.alloc();
+        let mut source = StdSource::new(b"a source".as_slice());
+        let read = read_all(alloc, &mut source, 8)?;
+        assert_eq!(rt; read.as_slice(), b"a source".as_slice());
+        assert_eq!(rt; source.faults(), 0);
+        let mut source = StdSource::new(Broken(b"a source"));
+        assert_eq!(rt; read_all(alloc, &mut source, 8), Err(ReadAll::ReadFault));
+        assert_eq!(rt; source.faults(), 1);
+
+        let mut taken = Vec::new(alloc);
+        let mut sink = StdSink::new(&mut taken);
+        assert_eq!(rt; write_all(&mut sink, b"a sink"), Ok(()));
+        assert_eq!(rt; sink.flush(), Ok(()));
+        assert_eq!(rt; sink.faults(), 0);
+        assert_eq!(rt; taken.as_slice(), b"a sink".as_slice());
+        let mut room = [0u8; 4];
+        let mut sink = StdSink::new(room.as_mut_slice());
+        assert_eq!(rt; write_all(&mut sink, b"a sink"), Err(Failed));
+        assert_eq!(rt; sink.faults(), 1);
+        assert_eq!(rt; room.as_slice(), b"a si".as_slice());
+        Ok(())
     }
 }
