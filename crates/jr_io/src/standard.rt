@@ -135,7 +135,7 @@ mod tests {
     use std::io::ErrorKind;
     use std::test::Fail;
 
-    // A reader that fails once its bytes are given.
+    // Fails once its bytes are given, and at each flush.
     #[derive(Drop)]
     struct Broken<'a>(&'a [u8]);
 
@@ -145,6 +145,16 @@ mod tests {
                 return Err(io::Error::from(ErrorKind::BrokenPipe));
             }
             self.0.read(buf)
+        }
+    }
+
+    impl Write for Broken<'_> {
+        fn write(&mut self, buf: &[u8]) -> io::Result<usize> {
+            Ok(buf.len())
+        }
+
+        fn flush(&mut self) -> io::Result<()> {
+            Err(io::Error::from(ErrorKind::BrokenPipe))
         }
     }
 
@@ -170,6 +180,10 @@ mod tests {
         assert_eq!(rt; write_all(&mut sink, b"a sink"), Err(Failed));
         assert_eq!(rt; sink.faults(), 1);
         assert_eq!(rt; room.as_slice(), b"a si".as_slice());
+        let mut sink = StdSink::new(Broken(b""));
+        assert_eq!(rt; write_all(&mut sink, b"a sink"), Ok(()));
+        assert_eq!(rt; sink.flush(), Err(Failed));
+        assert_eq!(rt; sink.faults(), 1);
         Ok(())
     }
 }
