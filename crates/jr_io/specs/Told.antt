@@ -1,16 +1,18 @@
--- What the calls do to the bytes that a source has left and a sink has taken, where those are told.
--- What isn't told before a call isn't told after it.
+-- What the calls do to the bytes that a source has left and that a sink has taken, where the source or the
+-- sink tells them: Some list of bytes, and None where it doesn't tell, before a call and after it.
 use Rattle.std.specs.Prelude.{◌≡◌, ℕ, ◌<◌, ◌≤◌, List, [], ◌++◌, Option, Some, None, length, take, drop}
 
--- the first n bytes left were moved into the buffer, and none into a buffer with room only at the end
+-- the first n bytes left were moved into the buffer, and none into a buffer with room only where none is left
 abbrev pub Moves : Option (List ℕ) → Option (List ℕ) → List ℕ → ℕ → Type 0
 Moves None after buf n = after ≡ None
-Moves (Some left) after buf n = (n ≤ length left) × (after ≡ Some (drop n left)) × (take n buf ≡ take n left) × (n ≡ 0 → 0 < length buf → length left ≡ 0)
+Moves (Some left) after buf n = (n ≤ length left) × (after ≡ Some (drop n left)) × (take n buf ≡ take n left)
+    × (n ≡ 0 → 0 < length buf → length left ≡ 0)
 
 -- some first bytes are gone, and the others are left
 abbrev pub LosesFront : Option (List ℕ) → Option (List ℕ) → Type 0
 LosesFront None after = after ≡ None
-LosesFront (Some left) after = (front : List ℕ) × (rest : List ℕ) × (left ≡ front ++ rest) × (after ≡ Some rest)
+LosesFront (Some left) after =
+    (front : List ℕ) × (rest : List ℕ) × (left ≡ front ++ rest) × (after ≡ Some rest)
 
 -- nothing is left
 abbrev pub IsDrained : Option (List ℕ) → Option (List ℕ) → Type 0

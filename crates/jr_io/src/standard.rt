@@ -51,7 +51,8 @@ impl<R: Read> Source for StdSource<R> {
         ensures cause { HasCause self.old.faults self.new.faults result }
 
         // What the reader tells of its bytes is handed on.
-        ensures passed { ReadConsumes (R.remaining self.old.inner) (R.remaining self.new.inner) result buf.new }
+        ensures passed { ReadConsumes (R.remaining self.old.inner) (R.remaining self.new.inner)
+            result buf.new }
     {
         match self.inner.read(buf) {
             Ok(count) => {
@@ -103,7 +104,8 @@ impl<W: Write> Sink for StdSink<W> {
         ensures cause { HasCause self.old.faults self.new.faults result }
 
         // What the writer tells of its bytes is handed on.
-        ensures passed { WriteAppends (W.contents self.old.inner) (W.contents self.new.inner) result bytes.now }
+        ensures passed { WriteAppends (W.contents self.old.inner) (W.contents self.new.inner)
+            result bytes.now }
     {
         match self.inner.write(bytes) {
             Ok(0) if !bytes.is_empty() => Err(count_fault(&mut self.faults)),
