@@ -1,0 +1,13 @@
+-- A reader and a writer of std with its counts, as the callers of the adapters see them.
+use Rattle.std.specs.Prelude.{ℕ}
+
+-- the reader, how many bytes it has given, and how many calls have failed
+pub record Reading (R : Type 0) : Type 0 where
+  pub inner : R
+  pub given : ℕ
+  pub faults : ℕ
+
+-- the writer, and how many calls have failed
+pub record Writing (W : Type 0) : Type 0 where
+  pub inner : W
+  pub faults : ℕ

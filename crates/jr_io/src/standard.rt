@@ -1,0 +1,191 @@
+// std's readers and writers as sources and sinks.
+ghost use Rattle.std.specs.Prelude.{◌≡◌, ◌<◌, ◌≤◌, None, IfOk, OnErr, length};
+ghost use Rattle.std.specs.Io.KnownBytes.{Keeps, ReadConsumes, WriteAppends};
+ghost use Rattle.jr_io.specs.Causes.{HasCause, RoseExactly};
+
+use crate::ends::{Failed, Sink, Source, count_fault};
+use std::io::{Read, Write};
+use std::marker::Model;
+
+/// A reader of std, as the standard input, as a source. It tells nothing of the bytes left, and
+/// counts each error of the reader as a fault, an interrupted call too.
+#[derive(Drop)]
+pub struct StdSource<R> {
+    inner: R,
+    given: u64,
+    faults: u64,
+}
+
+impl<R> Model for StdSource<R> {
+    ghost use Rattle.jr_io.specs.Standard.{Reading};
+
+    ghost Value = { Reading R };
+
+    ghost view = { λ s. record { inner = s.inner; given = s.given; faults = s.faults } };
+}
+
+impl<R: Read> StdSource<R> {
+    /// A source of what the reader gives from here on.
+    pub fn new(inner: R) -> StdSource<R>
+        ensures { result ≡ record { inner = inner; given = 0; faults = 0 } }
+    {
+        StdSource {
+            inner,
+            given: 0,
+            faults: 0,
+        }
+    }
+}
+
+impl<R: Read> Source for StdSource<R> {
+    ghost left = { λ s. None };
+
+    ghost given = { λ s. s.given };
+
+    ghost fault_count = { λ s. s.faults };
+
+    fn read(&mut self, buf: &mut [u8]) -> Result<usize, Failed>
+        ensures within { IfOk result (λ n. n ≤ length buf.old) }
+        ensures counted { IfOk result (λ n. RoseExactly n self.old.given self.new.given) }
+        ensures uncounted { OnErr result (self.new.given ≡ self.old.given) }
+        ensures cause { HasCause self.old.faults self.new.faults result }
+
+        // What the reader tells of its bytes is handed on.
+        ensures passed { ReadConsumes (R.remaining self.old.inner) (R.remaining self.new.inner)
+            result buf.new }
+    {
+        match self.inner.read(buf) {
+            Ok(count) => {
+                self.given = self.given.saturating_add(count as u64);
+                Ok(count)
+            }
+            Err(_) => Err(count_fault(&mut self.faults)),
+        }
+    }
+
+    fn faults(&self) -> u64 {
+        self.faults
+    }
+}
+
+/// A writer of std, as the standard output, as a sink. It tells nothing of the bytes taken, and
+/// counts as a fault each error of the writer, and a write that takes no byte of some.
+#[derive(Drop)]
+pub struct StdSink<W> {
+    inner: W,
+    faults: u64,
+}
+
+impl<W> Model for StdSink<W> {
+    ghost use Rattle.jr_io.specs.Standard.{Writing};
+
+    ghost Value = { Writing W };
+
+    ghost view = { λ s. record { inner = s.inner; faults = s.faults } };
+}
+
+impl<W: Write> StdSink<W> {
+    /// A sink into this writer.
+    pub fn new(inner: W) -> StdSink<W>
+        ensures { result ≡ record { inner = inner; faults = 0 } }
+    {
+        StdSink { inner, faults: 0 }
+    }
+}
+
+impl<W: Write> Sink for StdSink<W> {
+    ghost written = { λ s. None };
+
+    ghost fault_count = { λ s. s.faults };
+
+    fn write(&mut self, bytes: &[u8]) -> Result<usize, Failed>
+        ensures within { IfOk result (λ n. n ≤ length bytes.now) }
+        ensures some { IfOk result (λ n. 0 < length bytes.now → 0 < n) }
+        ensures cause { HasCause self.old.faults self.new.faults result }
+
+        // What the writer tells of its bytes is handed on.
+        ensures passed { WriteAppends (W.contents self.old.inner) (W.contents self.new.inner)
+            result bytes.now }
+    {
+        match self.inner.write(bytes) {
+            Ok(0) if !bytes.is_empty() => Err(count_fault(&mut self.faults)),
+            Ok(count) => Ok(count),
+            Err(_) => Err(count_fault(&mut self.faults)),
+        }
+    }
+
+    fn flush(&mut self) -> Result<(), Failed>
+        ensures cause { HasCause self.old.faults self.new.faults result }
+        ensures passed { Keeps (W.contents self.old.inner) (W.contents self.new.inner) }
+    {
+        match self.inner.flush() {
+            Ok(()) => Ok(()),
+            Err(_) => Err(count_fault(&mut self.faults)),
+        }
+    }
+
+    fn faults(&self) -> u64 {
+        self.faults
+    }
+}
+
+#[cfg(test)]
+mod tests {
+    use super::*;
+    use crate::{ReadAll, read_all, write_all};
+    use std::io;
+    use std::io::ErrorKind;
+    use std::test::Fail;
+
+    // Fails once its bytes are given, and at each flush.
+    #[derive(Drop)]
+    struct Broken<'a>(&'a [u8]);
+
+    impl Read for Broken<'_> {
+        fn read(&mut self, buf: &mut [u8]) -> io::Result<usize> {
+            if self.0.is_empty() {
+                return Err(io::Error::from(ErrorKind::BrokenPipe));
+            }
+            self.0.read(buf)
+        }
+    }
+
+    impl Write for Broken<'_> {
+        fn write(&mut self, buf: &[u8]) -> io::Result<usize> {
+            Ok(buf.len())
+        }
+
+        fn flush(&mut self) -> io::Result<()> {
+            Err(io::Error::from(ErrorKind::BrokenPipe))
+        }
+    }
+
+    #[test]
+    fn readers_and_writers_count_their_faults(rt: HostRuntime) -> Result<(), Fail> {
+        let alloc = rt.alloc();
+        let mut source = StdSource::new(b"a source".as_slice());
+        let read = read_all(alloc, &mut source, 8)?;
+        assert_eq!(rt; read.as_slice(), b"a source".as_slice());
+        assert_eq!(rt; source.faults(), 0);
+        let mut source = StdSource::new(Broken(b"a source"));
+        assert_eq!(rt; read_all(alloc, &mut source, 8), Err(ReadAll::ReadFault));
+        assert_eq!(rt; source.faults(), 1);
+
+        let mut taken = Vec::new(alloc);
+        let mut sink = StdSink::new(&mut taken);
+        assert_eq!(rt; write_all(&mut sink, b"a sink"), Ok(()));
+        assert_eq!(rt; sink.flush(), Ok(()));
+        assert_eq!(rt; sink.faults(), 0);
+        assert_eq!(rt; taken.as_slice(), b"a sink".as_slice());
+        let mut room = [0u8; 4];
+        let mut sink = StdSink::new(room.as_mut_slice());
+        assert_eq!(rt; write_all(&mut sink, b"a sink"), Err(Failed));
+        assert_eq!(rt; sink.faults(), 1);
+        assert_eq!(rt; room.as_slice(), b"a si".as_slice());
+        let mut sink = StdSink::new(Broken(b""));
+        assert_eq!(rt; write_all(&mut sink, b"a sink"), Ok(()));
+        assert_eq!(rt; sink.flush(), Err(Failed));
+        assert_eq!(rt; sink.faults(), 1);
+        Ok(())
+    }
+}
