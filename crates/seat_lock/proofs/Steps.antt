@@ -1,5 +1,5 @@
 -- Each kind of step keeps the rule of the lock.
-use Rattle.std.proofs.Common.{Bool, true, false, not, cond, nat_lt, ◌&&◌, length-set, length-append, ◌+◌, ◌-◌, ◌%◌, ◌^◌, ◌⊎◌, inl, inr, slice_index, ◌≡◌, ◌≢◌, ℕ, suc, ◌<◌, ◌≤◌, ◌==◌, List, [], ◌∷◌, ◌++◌, length, set, refl, sym, ap, ◌∙◌, subst, ⊎_elim, arith, Contains}
+use Rattle.std.proofs.Common.{Bool, true, false, not, cond, nat_lt, ◌&&◌, length-set, length-append, ◌+◌, ◌-◌, ◌%◌, ◌^◌, ◌⊎◌, inl, inr, slice_index, ◌≡◌, ◌≢◌, ℕ, zero, suc, ◌<◌, ◌≤◌, ◌==◌, List, [], ◌∷◌, ◌++◌, length, set, refl, sym, ap, ◌∙◌, subst, ⊎_elim, arith, Contains}
 use Rattle.std.specs.List.{range_with_len, list_any}
 use Rattle.std.specs.declared.option.Option as std
 use Rattle.std.specs.declared.option.Option.TheVariants.{Some, None}
@@ -222,6 +222,7 @@ module _ {T E P F : Type 0} (law : Ghosts T E P F) where
       let placed : ℕ → ℕ = λ p. cond (nat_lt p (length r.events)) (r.placed p) id in
       let old : (p : ℕ) → p < length r.events → placed p ≡ r.placed p = λ p less. let hit : nat_lt p (length r.events) ≡ true = grind (arith, nat_tests) in rw hit refl in
       let new : (p : ℕ) → length r.events ≤ p → placed p ≡ id = λ p less. let miss : nat_lt p (length r.events) ≡ false = grind (arith, nat_tests) in rw miss refl in
+      let in_order : InOrder 0 w.places (length (law.journal x)) = subst (InOrder 0 w.places) (omega (arith, count, more, seen)) (in_order_extended 0 m.places (length m.seen) (length (law.journal x) - length m.seen) known.in_order) in
       let From : ℕ → Type 0 = λ n. (w : V) × (a : Act (std.Option T)) × Valid s.homes ((0, Some x) ∷ []) a × Rule (stepped s 1 ((n + k) % 2 ^ 64) id ((0, Some x) ∷ []) w a) × Adds law (step slots 1 k 0 none) (m, (0, Some x) ∷ []) n (w, carried_after ((0, Some x) ∷ []) a) in
       subst From (sym (ap (λ ws. slice_index ws 1) words)) (
         w,
@@ -266,7 +267,7 @@ module _ {T E P F : Type 0} (law : Ghosts T E P F) where
                   out_is = λ y e. absurd (cc);
                   earlier_is = prefix_trans m.earlier m.seen (law.journal x) known.earlier_is (prefix_trans m.seen r.events (law.journal x) known.seen_is goes_on);
                   parts_are = λ b q has. let t = contains_retold (law.part x) m.parts b q has in (t.0, (known.parts_are b t.1.0 t.1.1).1);
-                  in_order = subst (InOrder 0 w.places) (omega (arith, count, more, seen)) (in_order_extended 0 m.places (length m.seen) (length (law.journal x) - length m.seen) known.in_order);
+                  in_order = in_order;
                   places_are = λ p has. ⊎_elim
                       (λ (has' : Contains m.places p).
                       let under = in_order_within 0 m.places (length m.seen) p known.in_order has' in
@@ -282,7 +283,7 @@ module _ {T E P F : Type 0} (law : Ghosts T E P F) where
           present = λ _. (w, set_at s.views id w m at);
           newest = (id, w, set_at s.views id w m at, refl);
         },
-        (x, refl, record { had_out = (v, out); view = refl; slots = refl }),
+        (x, refl, record { had_out = (v, out); view = refl; slots = refl; in_order = in_order }),
       )
 
   -- kind 6: the turn is given up

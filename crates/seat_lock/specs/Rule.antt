@@ -95,6 +95,7 @@ module _ {T E P F : Type 0} (law : Ghosts T E P F) where
     pub had_out : (got : T) × (m.0.round ≡ Out got)
     pub view : m'.0 ≡ added law x m.0
     pub slots : m'.1 ≡ []
+    pub in_order : InOrder 0 m'.0.places (length m'.0.seen)
 
   abbrev pub Adds : Step (std.Option T) → LockMe T E P F → ℕ → LockMe T E P F → Type 0
   Adds st m found m' = (x : T) × (m.1 ≡ (0, Some x) ∷ []) × Returns m m' x

@@ -9,12 +9,3 @@ mod rule;
 pub use counted::Counted;
 pub use lock::SeatLock;
 pub use pass::{Hold, Pass};
-
-ghost use Rattle.std.specs.Prelude.{◌≡◌};
-
-/// trial
-pub fn trial() -> u8
-    ensures { result ≡ 1 }
-{
-    1
-}
