@@ -84,3 +84,31 @@ in_order_merged low (p ∷ ps) qs high h k apart =
     (λ (again : Contains ps p). let past = in_order_within (p + 1) ps high p h.1 again in let up = past.0 in absurd (omega arith))
     (λ (other : Contains qs p). apart p (0, omega arith, refl) other)
     (contains_merged ps qs p has))
+
+put_kept : (b : Bool) (p q r : ℕ) (qs : List ℕ) → (Contains qs r → Contains (put_place p qs) r) → Contains (q ∷ qs) r → Contains (if b then p ∷ q ∷ qs else q ∷ put_place p qs) r
+put_kept true p q r qs rest h = contains_more p r (q ∷ qs) h
+put_kept false p q r qs rest h = ⊎_elim (λ (same : q ≡ r). (0, omega arith, same)) (λ (more : Contains qs r). contains_more q r (put_place p qs) (rest more)) (contains_cons q r qs h.0 h.1 h.2)
+
+contains_put_kept : (p : ℕ) (qs : List ℕ) (r : ℕ) → Contains qs r → Contains (put_place p qs) r
+contains_put_kept p [] r h = absurd (contains_none r h)
+contains_put_kept p (q ∷ qs) r h = put_kept (nat_lt p q) p q r qs (contains_put_kept p qs r) h
+
+put_new : (b : Bool) (p q : ℕ) (qs : List ℕ) → Contains (put_place p qs) p → Contains (if b then p ∷ q ∷ qs else q ∷ put_place p qs) p
+put_new true p q qs rest = (0, omega arith, refl)
+put_new false p q qs rest = contains_more q p (put_place p qs) rest
+
+contains_put_new : (p : ℕ) (qs : List ℕ) → Contains (put_place p qs) p
+contains_put_new p [] = (0, omega arith, refl)
+contains_put_new p (q ∷ qs) = put_new (nat_lt p q) p q qs (contains_put_new p qs)
+
+pub contains_merged_left : (ps qs : List ℕ) (r : ℕ) → Contains ps r → Contains (merged ps qs) r
+contains_merged_left [] qs r h = absurd (contains_none r h)
+contains_merged_left (p ∷ ps) qs r h =
+    ⊎_elim
+    (λ (same : p ≡ r). subst (λ x. Contains (put_place p (merged ps qs)) x) same (contains_put_new p (merged ps qs)))
+    (λ (more : Contains ps r). contains_put_kept p (merged ps qs) r (contains_merged_left ps qs r more))
+    (contains_cons p r ps h.0 h.1 h.2)
+
+pub contains_merged_right : (ps qs : List ℕ) (r : ℕ) → Contains qs r → Contains (merged ps qs) r
+contains_merged_right [] qs r h = h
+contains_merged_right (p ∷ ps) qs r h = contains_put_kept p (merged ps qs) r (contains_merged_right ps qs r h)

@@ -30,10 +30,10 @@ and_false : (b : Bool) → (b && false) ≡ false
 and_false true = refl
 and_false false = refl
 
-busy_not_idle : {T : Type 0} (r : Round T) → turn_word r ≡ 1 → r ≡ Idle → ⊥
+pub busy_not_idle : {T : Type 0} (r : Round T) → turn_word r ≡ 1 → r ≡ Idle → ⊥
 busy_not_idle r one idle = let none : turn_word r ≡ 0 = ap turn_word idle in absurd (omega arith)
 
-free_or_busy : {T : Type 0} (r : Round T) → (r ≡ Idle) ⊎ (turn_word r ≡ 1)
+pub free_or_busy : {T : Type 0} (r : Round T) → (r ≡ Idle) ⊎ (turn_word r ≡ 1)
 free_or_busy Idle = inl refl
 free_or_busy Turn = inr refl
 free_or_busy (Out x) = inr refl
@@ -68,13 +68,13 @@ module _ {T E P F : Type 0} (law : Ghosts T E P F) where
       (λ not. k.elsewhere not)
 
   -- who is in a round is the holder, and the phase is its round
-  is_holder : (s : St) (r : Rule s) (id : ℕ) (v : V) → get_elem? s.views id ≡ some v → (v.round ≡ Idle → ⊥) → id ≡ r.holder
+  pub is_holder : (s : St) (r : Rule s) (id : ℕ) (v : V) → get_elem? s.views id ≡ some v → (v.round ≡ Idle → ⊥) → id ≡ r.holder
   is_holder s r id v at busy = dite (ℕ_discrete id r.holder) (λ is. is) (λ not. absurd (busy ((r.each id v at).elsewhere not)))
 
   words_at : (s : St) (r : Rule s) (p : Round T) → r.phase ≡ p → s.words ≡ turn_word p ∷ length r.events ∷ []
   words_at s r p is = r.words ∙ ap (λ q. turn_word q ∷ length r.events ∷ []) is
 
-  home_at : (s : St) (r : Rule s) (p : Round T) → r.phase ≡ p → HomeFits law (Settled law r.events r.parts r.f) p s.homes
+  pub home_at : (s : St) (r : Rule s) (p : Round T) → r.phase ≡ p → HomeFits law (Settled law r.events r.parts r.f) p s.homes
   home_at s r p is = subst (λ q. HomeFits law (Settled law r.events r.parts r.f) q s.homes) is r.home
 
   -- the rule after a step in which one view changes, and the events do not
@@ -283,7 +283,7 @@ module _ {T E P F : Type 0} (law : Ghosts T E P F) where
           present = λ _. (w, set_at s.views id w m at);
           newest = (id, w, set_at s.views id w m at, refl);
         },
-        (x, refl, record { had_out = (v, out); view = refl; slots = refl; in_order = in_order }),
+        (x, refl, record { had_out = (v, out); had_seen = known.out_is; view = refl; slots = refl; in_order = in_order }),
       )
 
   -- kind 6: the turn is given up

@@ -93,6 +93,7 @@ module _ {T E P F : Type 0} (law : Ghosts T E P F) where
   -- the value x is home again, and its events are counted
   pub record Returns (m m' : LockMe T E P F) (x : T) : Type 0 where
     pub had_out : (got : T) × (m.0.round ≡ Out got)
+    pub had_seen : (got : T) → m.0.round ≡ Out got → m.0.seen ≡ law.journal got
     pub view : m'.0 ≡ added law x m.0
     pub slots : m'.1 ≡ []
     pub in_order : InOrder 0 m'.0.places (length m'.0.seen)

@@ -35,6 +35,10 @@ slots_of Turn = []
 slots_of (Out x) = (0, None) ∷ []
 slots_of Added = []
 
+-- the places of the events that ys has past those of xs
+abbrev pub new_places : {E : Type 0} → List E → List E → List ℕ
+new_places xs ys = range_with_len (length xs) (length ys - length xs)
+
 -- the longer of two lists that are beginnings of one, and the other
 abbrev pub longer : {E : Type 0} → List E → List E → List E
 longer xs ys = if nat_le (length ys) (length xs) then xs else ys
@@ -82,7 +86,7 @@ module _ {T E P F : Type 0} (law : Ghosts T E P F) where
   added x v = record v {
     round = Added;
     seen = law.journal x;
-    places = v.places ++ range_with_len (length v.seen) (length (law.journal x) - length v.seen);
+    places = v.places ++ new_places v.seen (law.journal x);
     parts = map (λ y. (y.0, law.part x y.0)) v.parts;
   }
 

@@ -2,10 +2,12 @@
 #![tactic(auto)]
 
 mod counted;
+mod law;
 mod lock;
 mod pass;
 mod rule;
 
 pub use counted::Counted;
+pub use law::rule_gives_clauses;
 pub use lock::SeatLock;
 pub use pass::{Hold, Pass};

@@ -27,10 +27,10 @@ pub struct SeatLock<T: Counted> {
 }
 
 impl<T: Counted> SeatLock<T> {
-    ghost use Rattle.std.specs.Prelude.{◌≡◌, ◌≢◌, ◌<◌, ◌∷◌, [], ℕ, length, IfOk, Some, None, true, false};
+    ghost use Rattle.std.specs.Prelude.{◌≡◌, ◌≢◌, ◌<◌, ◌∷◌, ◌++◌, [], ℕ, length, IfOk, Some, None, true, false};
     ghost use mathlib.Core.List.{IsPrefix};
-    ghost use Rattle.seat_lock.specs.Views.{first_view, loaded, released, kept_back, handed, joined, with_round};
-    ghost use Rattle.seat_lock.specs.Passes.{IsOf, IsAtRest, IsHoldOf, GoesOn, HasPart, HasFrame, view_of, seen_of, weight_of, got_of};
+    ghost use Rattle.seat_lock.specs.Views.{first_view, loaded, released, kept_back, handed, joined, merged, new_places, with_round};
+    ghost use Rattle.seat_lock.specs.Passes.{IsOf, IsAtRest, IsHoldOf, GoesOn, HasPart, HasFrame, view_of, seen_of, places_of, weight_of, got_of};
     ghost use Rattle.seat_lock.specs.declared.rule.Round.TheVariants.{Idle, Turn, Out};
 
     /// A lock round the value, and its first pass, which has every author and the weight 1,024.
@@ -123,6 +123,7 @@ impl<T: Counted> SeatLock<T> {
         requires goes_on { GoesOn pass.old hold }
         ensures own { IsOf self.now pass.new }
         ensures pass { view_of pass.new ≡ released T.Counted hold.value (view_of pass.old) }
+        ensures places { places_of pass.new ≡ places_of pass.old ++ new_places (T.journal (got_of hold)) (T.journal hold.value) }
     {
         let Hold {
             value,
@@ -175,6 +176,7 @@ impl<T: Counted> SeatLock<T> {
         requires rest { IsAtRest other }
         ensures own { IsOf self.now pass.new }
         ensures pass { view_of pass.new ≡ joined (view_of pass.old) (view_of other) }
+        ensures places { places_of pass.new ≡ merged (places_of pass.old) (places_of other) }
         ensures longer { IsPrefix (seen_of pass.old) (seen_of pass.new) }
         ensures longer_too { IsPrefix (seen_of other) (seen_of pass.new) }
     {
