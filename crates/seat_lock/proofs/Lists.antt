@@ -1,5 +1,5 @@
 -- Lists of views, lists that begin one list, and what a list of parts contains.
-use Rattle.std.proofs.Common.{Bool, if◌then◌else◌, nat_le, true, false, not, cond, append_assoc, ◌+◌, ◌⊎◌, inl, inr, ◌≡◌, ◌≢◌, ℕ, zero, suc, ◌<◌, ◌≤◌, List, [], ◌∷◌, ◌++◌, length, set, refl, sym, ap, ◌∙◌, subst, ⊎_elim, arith, append-nil, map, filter, Contains}
+use Rattle.std.proofs.Common.{Bool, if◌then◌else◌, nat_le, true, false, not, cond, append_assoc, ◌+◌, ◌==◌, ◌||◌, ◌⊎◌, inl, inr, ◌≡◌, ◌≢◌, ℕ, zero, suc, ◌<◌, ◌≤◌, List, [], ◌∷◌, ◌++◌, length, set, refl, sym, ap, ◌∙◌, subst, ⊎_elim, arith, append-nil, map, filter, Contains}
 use Rattle.std.proofs.lemmas.Bool.Decides.{nat_tests}
 use mathlib.Core.Option.{some, some-injective, some-ne-none}
 use mathlib.Core.List.{IsPrefix}
@@ -8,7 +8,7 @@ use native.Mathlib.Decide.{ℕ_discrete}
 use lib.ListN.{get_elem?}
 use Rattle.atomic_table.proofs.Lists.{at_set, set_else, at_longer}
 use Rattle.seat_lock.specs.Rule.{total}
-use Rattle.seat_lock.specs.Views.{longer, shorter}
+use Rattle.seat_lock.specs.Views.{longer, shorter, is_one_of}
 
 module _ {A : Type 0} where
   -- each view fits after one of them has changed
@@ -153,13 +153,38 @@ module _ {A : Type 0} where
   contains_filter p [] y h = absurd (contains_none y h)
   contains_filter p (x ∷ xs) y h = contains_kept p (p x) x y xs refl (contains_filter p xs y) h
 
+-- a list that is filtered contains what passes
+contains_kept_too : {A : Type 0} (p : A → Bool) (b : Bool) (x y : A) (xs : List A) → p x ≡ b → p y ≡ true → (Contains xs y → Contains (filter p xs) y) → Contains (x ∷ xs) y → Contains (cond b (x ∷ filter p xs) (filter p xs)) y
+contains_kept_too p true x y xs is pass rest h =
+    ⊎_elim
+    (λ (same : x ≡ y). (0, omega arith, same))
+    (λ (more : Contains xs y). contains_more x y (filter p xs) (rest more))
+    (contains_cons x y xs h.0 h.1 h.2)
+contains_kept_too p false x y xs is pass rest h =
+    ⊎_elim
+    (λ (same : x ≡ y). let clash : true ≡ false = sym pass ∙ ap p (sym same) ∙ is in absurd (cc))
+    (λ (more : Contains xs y). rest more)
+    (contains_cons x y xs h.0 h.1 h.2)
+
+pub contains_filter_too : {A : Type 0} (p : A → Bool) (xs : List A) (y : A) → p y ≡ true → Contains xs y → Contains (filter p xs) y
+contains_filter_too p [] y pass h = absurd (contains_none y h)
+contains_filter_too p (x ∷ xs) y pass h = contains_kept_too p (p x) x y xs refl pass (contains_filter_too p xs y pass) h
+
+pub contains_map_too : {A B : Type 0} (f : A → B) (xs : List A) (x : A) → Contains xs x → Contains (map f xs) (f x)
+contains_map_too f [] x h = absurd (contains_none x h)
+contains_map_too f (y ∷ xs) x h =
+    ⊎_elim
+    (λ (same : y ≡ x). (0, omega arith, ap f same))
+    (λ (more : Contains xs x). contains_more (f y) (f x) (map f xs) (contains_map_too f xs x more))
+    (contains_cons y x xs h.0 h.1 h.2)
+
 -- of an author whose part is g of it
-pub contains_told : {P : Type 0} (g : ℕ → P) (names : List ℕ) (a : ℕ) (q : P) → Contains {X = ℕ × P} (map (λ n. (n, g n)) names) (a, q) → q ≡ g a
+pub contains_told : {P : Type 0} (g : ℕ → P) (names : List ℕ) (a : ℕ) (q : P) → Contains {X = ℕ × P} (map (λ n. (n, g n)) names) (a, q) → Contains names a × (q ≡ g a)
 contains_told g [] a q h = absurd (contains_none (a, q) h)
 contains_told g (n ∷ names) a q h =
     ⊎_elim
-    (λ (same : (n, g n) ≡ (a, q)). sym (ap (λ p. p.1) same) ∙ ap g (ap (λ p. p.0) same))
-    (λ more. contains_told g names a q more)
+    (λ (same : (n, g n) ≡ (a, q)). ((0, omega arith, ap (λ p. p.0) same), sym (ap (λ p. p.1) same) ∙ ap g (ap (λ p. p.0) same)))
+    (λ (more : Contains (map (λ n. (n, g n)) names) (a, q)). let t = contains_told g names a q more in (contains_more n a names t.0, t.1))
     (contains_cons (n, g n) (a, q) (map (λ n. (n, g n)) names) h.0 h.1 h.2)
 
 pub contains_retold : {P : Type 0} (g : ℕ → P) (ys : List (ℕ × P)) (a : ℕ) (q : P) → Contains {X = ℕ × P} (map (λ y. (y.0, g y.0)) ys) (a, q) → (q ≡ g a) × ((p : P) × Contains ys (a, p))
@@ -173,3 +198,37 @@ contains_retold g (y ∷ ys) a q h =
     let t = contains_retold g ys a q more in
     (t.0, (t.1.0, contains_more y (a, t.1.0) ys t.1.1)))
     (contains_cons (y.0, g y.0) (a, q) (map (λ y. (y.0, g y.0)) ys) h.0 h.1 h.2)
+
+pub contains_told_too : {P : Type 0} (g : ℕ → P) (names : List ℕ) (a : ℕ) (q : P) → Contains names a → q ≡ g a → Contains {X = ℕ × P} (map (λ n. (n, g n)) names) (a, q)
+contains_told_too {P} g names a q h is = subst (λ p. Contains {X = ℕ × P} (map (λ n. (n, g n)) names) (a, p)) (sym is) (contains_map_too (λ n. (n, g n)) names a h)
+
+pub contains_retold_too : {P : Type 0} (g : ℕ → P) (ys : List (ℕ × P)) (a : ℕ) (p q : P) → Contains {X = ℕ × P} ys (a, p) → q ≡ g a → Contains {X = ℕ × P} (map (λ y. (y.0, g y.0)) ys) (a, q)
+contains_retold_too {P} g ys a p q h is = subst (λ z. Contains {X = ℕ × P} (map (λ y. (y.0, g y.0)) ys) (a, z)) (sym is) (contains_map_too (λ y. (y.0, g y.0)) ys (a, p) h)
+
+one_of_or : (b : Bool) (n : ℕ) (names : List ℕ) (a : ℕ) → (n == a) ≡ b → (is_one_of names a ≡ true → Contains names a) → (b || is_one_of names a) ≡ true → Contains (n ∷ names) a
+one_of_or true n names a is rest e = (0, omega arith, grind (arith, nat_tests))
+one_of_or false n names a is rest e = contains_more n a names (rest e)
+
+-- a name that the test finds is in the list
+pub one_of : (names : List ℕ) (a : ℕ) → is_one_of names a ≡ true → Contains names a
+one_of [] a e = absurd (cc)
+one_of (n ∷ names) a e = one_of_or (n == a) n names a refl (one_of names a) e
+
+is_one_or : (b : Bool) (n : ℕ) (names : List ℕ) (a : ℕ) → (n == a) ≡ b → (Contains names a → is_one_of names a ≡ true) → Contains (n ∷ names) a → (b || is_one_of names a) ≡ true
+is_one_or true n names a is rest h = refl
+is_one_or false n names a is rest h =
+    ⊎_elim
+    (λ (same : n ≡ a). let hit : (n == a) ≡ true = grind (arith, nat_tests) in let clash : true ≡ false = sym hit ∙ is in absurd (cc))
+    (λ (more : Contains names a). rest more)
+    (contains_cons n a names h.0 h.1 h.2)
+
+pub is_one : (names : List ℕ) (a : ℕ) → Contains names a → is_one_of names a ≡ true
+is_one [] a h = absurd (contains_none a h)
+is_one (n ∷ names) a h = is_one_or (n == a) n names a refl (is_one names a) h
+
+is_none_if : (b : Bool) (names : List ℕ) (a : ℕ) → is_one_of names a ≡ b → (Contains names a → ⊥) → not b ≡ true
+is_none_if true names a is none = absurd (none (one_of names a is))
+is_none_if false names a is none = refl
+
+pub is_none : (names : List ℕ) (a : ℕ) → (Contains names a → ⊥) → not (is_one_of names a) ≡ true
+is_none names a none = is_none_if (is_one_of names a) names a refl none

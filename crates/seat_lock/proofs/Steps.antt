@@ -22,7 +22,7 @@ use Rattle.seat_lock.specs.Rule.{total, turn_word, LockState, LockMe, Settled, H
 use Rattle.seat_lock.proofs.Lists.{each_set, set_at, Somewhere, somewhere_set, somewhere_longer, same_total, total_set, total_end, total_two, at_end, within, prefix_same, prefix_trans, prefix_length, prefix_whole, Longer, longer_is, contains_none, contains_filter, contains_told, contains_retold}
 use Rattle.seat_lock.proofs.Places.{in_order_raised, in_order_within, in_order_extended, in_order_merged, contains_range, contains_merged}
 
-not_true : (b : Bool) → not b ≡ true → b ≡ false
+pub not_true : (b : Bool) → not b ≡ true → b ≡ false
 not_true true e = absurd (cc)
 not_true false e = refl
 
@@ -553,7 +553,7 @@ module _ {T E P F : Type 0} (law : Ghosts T E P F) where
           seen_is = prefix_same (law.journal x);
           out_is = λ y e. absurd (cc);
           earlier_is = (law.journal x, refl);
-          parts_are = λ a q has. (contains_told (law.part x) (law.authors x) a q has, refl);
+          parts_are = λ a q has. ((contains_told (law.part x) (law.authors x) a q has).1, refl);
           in_order = omega arith;
           places_are = λ p has. refl;
         };

@@ -9,7 +9,7 @@ use Rattle.atomic_table.specs.Table.{Step}
 use Rattle.seat_lock.specs.declared.counted.Counted.{Ghosts}
 use Rattle.seat_lock.specs.declared.rule.Round.TheVariants.{Idle, Out, Added}
 use Rattle.seat_lock.specs.declared.rule.View.{View}
-use Rattle.seat_lock.specs.Views.{Owns, InOrder, spent_view}
+use Rattle.seat_lock.specs.Views.{Owns, HasName, InOrder, spent_view}
 use Rattle.seat_lock.specs.Rule.{total, LockState, LockMe, TakesTurn, Loads, Adds, GivesTurn, Looks}
 
 module _ {T E P F : Type 0} where
@@ -42,9 +42,6 @@ module _ {T E P F : Type 0} where
 
   abbrev pub HasAdded : View T E P F → Type 0
   HasAdded v = v.round ≡ Added
-
-  abbrev pub HasName : View T E P F → ℕ → Type 0
-  HasName v a = (q : P) × Owns v a q
 
   -- one view that isn't spent has the turn, and no other has it
   abbrev pub OneHolder : LockState T E P F → Type 0

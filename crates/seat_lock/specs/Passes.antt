@@ -8,7 +8,7 @@ use Rattle.seat_lock.specs.declared.rule.View.{View}
 use Rattle.seat_lock.specs.declared.pass.Pass.{Pass}
 use Rattle.seat_lock.specs.declared.pass.Hold.{Hold}
 use Rattle.seat_lock.specs.declared.lock.SeatLock.{SeatLock}
-use Rattle.seat_lock.specs.Views.{Owns}
+use Rattle.seat_lock.specs.Views.{Owns, HasName}
 
 -- the value as it was got
 abbrev pub got_of : {T : Type 0} → Hold T → T
@@ -35,7 +35,7 @@ module _ {T E P F : Type 0} {law : Ghosts T E P F} where
   HasPart pass a q = Owns (view_of pass) a q
 
   abbrev pub HasAuthor : Pass T E P F law → ℕ → Type 0
-  HasAuthor pass a = (q : P) × HasPart pass a q
+  HasAuthor pass a = HasName (view_of pass) a
 
   -- each value of the pass's lock has this frame
   abbrev pub HasFrame : Pass T E P F law → F → Type 0

@@ -54,6 +54,10 @@ module _ {T E P F : Type 0} where
   abbrev pub Owns : View T E P F → ℕ → P → Type 0
   Owns v a q = Contains v.parts (a, q)
 
+  -- the author is one of the view's
+  abbrev pub HasName : View T E P F → ℕ → Type 0
+  HasName v a = (q : P) × Owns v a q
+
   -- what is left of a view that another has taken in
   abbrev pub spent_view : View T E P F
   spent_view = record { round = Idle; weight = 0; frame = None; seen = []; earlier = []; places = []; parts = [] }

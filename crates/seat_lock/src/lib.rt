@@ -8,6 +8,6 @@ mod pass;
 mod rule;
 
 pub use counted::Counted;
-pub use law::rule_gives_clauses;
+pub use law::{parts_after_calls, rule_gives_clauses};
 pub use lock::SeatLock;
 pub use pass::{Hold, Pass};

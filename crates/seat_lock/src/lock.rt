@@ -59,6 +59,7 @@ impl<T: Counted> SeatLock<T> {
     pub fn acquire<R: Wait>(&self, rt: &R, pass: &mut Pass<T>) -> Hold<T>
         requires { IsOf self.now pass.old }
         ensures own { IsOf self.now pass.new }
+        ensures rest { IsAtRest pass.old }
         ensures hold { IsHoldOf pass.new result }
         ensures got { got_of result ≡ result.value }
         ensures longer { IsPrefix (seen_of pass.old) (T.journal result.value) }
