@@ -1,8 +1,8 @@
 -- The rule of the lock gives its clauses.
-use Rattle.std.proofs.Common.{◌⊎◌, inl, inr, slice_index, ◌≡◌, ◌≢◌, ℕ, zero, suc, ◌<◌, ◌≤◌, List, [], ◌∷◌, ◌++◌, length, refl, sym, ap, ◌∙◌, subst, ⊎_elim, arith}
+use Rattle.std.proofs.Common.{inl, inr, slice_index, ◌≡◌, ◌≢◌, ℕ, zero, suc, ◌≤◌, List, [], ◌∷◌, ◌++◌, length, refl, sym, ap, ◌∙◌, subst, ⊎_elim, arith}
 use Rattle.std.specs.Prelude.{slice_get}
 use Rattle.std.specs.declared.option.Option as std
-use Rattle.std.specs.declared.option.Option.TheVariants.{Some, None}
+use Rattle.std.specs.declared.option.Option.TheVariants.{Some}
 use mathlib.Core.Option.{Option, none, some}
 use mathlib.Core.List.{IsPrefix}
 use mathlib.Core.Logic.{dite}
@@ -12,7 +12,7 @@ use Rattle.seat_lock.specs.declared.rule.Round.{Round}
 use Rattle.seat_lock.specs.declared.rule.Round.TheVariants.{Idle, Turn, Out, Added}
 use Rattle.seat_lock.specs.declared.rule.View.{View}
 use Rattle.seat_lock.specs.Rule.{turn_word, LockState, Settled, HomeFits, Kept}
-use Rattle.seat_lock.specs.Clauses.{Clauses, At, IsAtHome, IsAway, IsSpent, turn_of}
+use Rattle.seat_lock.specs.Clauses.{Clauses, At, IsAtHome, IsSpent, turn_of}
 use Rattle.seat_lock.proofs.Lists.{prefix_same, prefix_length}
 use Rattle.seat_lock.proofs.Places.{in_order_within}
 use Rattle.seat_lock.proofs.Steps.{busy_not_idle, free_or_busy, is_holder, home_at}

@@ -1,5 +1,5 @@
 -- Lists of places in order.
-use Rattle.std.proofs.Common.{Bool, if◌then◌else◌, nat_lt, true, false, ◌+◌, ◌⊎◌, inl, inr, ◌≡◌, ℕ, zero, suc, ◌<◌, ◌≤◌, List, [], ◌∷◌, ◌++◌, length, refl, sym, ap, ◌∙◌, subst, ⊎_elim, arith, Contains}
+use Rattle.std.proofs.Common.{Bool, if◌then◌else◌, nat_lt, true, false, ◌+◌, ◌⊎◌, inl, inr, ◌≡◌, ℕ, zero, suc, ◌<◌, ◌≤◌, List, [], ◌∷◌, ◌++◌, refl, sym, subst, ⊎_elim, arith, Contains}
 use Rattle.std.specs.List.{range_with_len}
 use Rattle.std.proofs.lemmas.Bool.Decides.{nat_tests}
 use Rattle.seat_lock.specs.Views.{InOrder, put_place, merged}

@@ -1,24 +1,24 @@
 -- Each kind of step keeps the rule of the lock.
-use Rattle.std.proofs.Common.{Bool, true, false, not, cond, nat_lt, ◌&&◌, length-set, length-append, ◌+◌, ◌-◌, ◌%◌, ◌^◌, ◌⊎◌, inl, inr, slice_index, ◌≡◌, ◌≢◌, ℕ, zero, suc, ◌<◌, ◌≤◌, ◌==◌, List, [], ◌∷◌, ◌++◌, length, set, refl, sym, ap, ◌∙◌, subst, ⊎_elim, arith, Contains}
+use Rattle.std.proofs.Common.{Bool, true, false, not, cond, nat_lt, ◌&&◌, length-set, ◌+◌, ◌-◌, ◌%◌, ◌^◌, ◌⊎◌, inl, inr, slice_index, ◌≡◌, ◌≢◌, ℕ, zero, suc, ◌<◌, ◌≤◌, ◌==◌, List, [], ◌∷◌, length, set, refl, sym, ap, ◌∙◌, subst, ⊎_elim, arith, Contains}
 use Rattle.std.specs.List.{range_with_len, list_any}
 use Rattle.std.specs.declared.option.Option as std
-use Rattle.std.specs.declared.option.Option.TheVariants.{Some, None}
+use Rattle.std.specs.declared.option.Option.TheVariants.{Some}
 use Rattle.std.proofs.lemmas.Bool.Decides.{nat_tests}
 use Rattle.std.proofs.lemmas.List.Elements.{Contains-append_cases}
-use mathlib.Core.Option.{Option, none, some, some-injective, some-ne-none}
+use mathlib.Core.Option.{none, some, some-injective, some-ne-none}
 use mathlib.Core.List.{IsPrefix}
 use mathlib.Core.Logic.{dite}
 use native.Mathlib.Decide.{ℕ_discrete}
 use lib.ListN.{get_elem?}
 use prog.Atomic.{either}
-use Rattle.atomic_table.specs.Table.{State, Me, Step, step, Act, keeps, takes, gives, Allows, stepped, Valid, homes_after, carried_after, Splits, Joins, opening}
+use Rattle.atomic_table.specs.Table.{step, Act, keeps, takes, gives, Allows, stepped, Valid, homes_after, carried_after, Splits, Joins, opening}
 use Rattle.atomic_table.proofs.Lists.{set_again, set_else, at_longer}
 use Rattle.seat_lock.specs.declared.counted.Counted.{Ghosts}
 use Rattle.seat_lock.specs.declared.rule.Round.{Round}
 use Rattle.seat_lock.specs.declared.rule.Round.TheVariants.{Idle, Turn, Out, Added}
 use Rattle.seat_lock.specs.declared.rule.View.{View}
-use Rattle.seat_lock.specs.Views.{Owns, InOrder, is_one_of, merged, longer, shorter, spent_view, with_round, first_view, loaded, added, kept_back, handed, joined}
-use Rattle.seat_lock.specs.Rule.{total, turn_word, LockState, LockMe, Settled, HomeFits, Knows, Fits, Kept, TakesTurn, Gets, Loads, Returns, Adds, GivesTurn, Looks}
+use Rattle.seat_lock.specs.Views.{Owns, InOrder, is_one_of, longer, shorter, spent_view, with_round, first_view, loaded, added, kept_back, handed, joined}
+use Rattle.seat_lock.specs.Rule.{total, turn_word, LockState, LockMe, Settled, HomeFits, Knows, Fits, Kept, TakesTurn, Loads, Adds, GivesTurn, Looks}
 use Rattle.seat_lock.proofs.Lists.{each_set, set_at, Somewhere, somewhere_set, somewhere_longer, same_total, total_set, total_end, total_two, at_end, within, prefix_same, prefix_trans, prefix_length, prefix_whole, Longer, longer_is, contains_none, contains_filter, contains_told, contains_retold}
 use Rattle.seat_lock.proofs.Places.{in_order_raised, in_order_within, in_order_extended, in_order_merged, contains_range, contains_merged}
 

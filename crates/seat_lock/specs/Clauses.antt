@@ -1,7 +1,7 @@
 -- What the rule of the lock gives, clause by clause. A holder is a pass whose view has the turn.
 use Rattle.std.specs.Prelude.{◌≡◌, ◌≢◌, ◌<◌, ◌≤◌, ◌↔◌, ◌⊎◌, ℕ, List, [], ◌∷◌, length, slice_get, slice_index, Contains}
 use Rattle.std.specs.declared.option.Option as std
-use Rattle.std.specs.declared.option.Option.TheVariants.{Some, None}
+use Rattle.std.specs.declared.option.Option.TheVariants.{Some}
 use mathlib.Core.Option.{none, some}
 use mathlib.Core.List.{IsPrefix}
 use lib.ListN.{get_elem?}

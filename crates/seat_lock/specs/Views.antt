@@ -1,7 +1,7 @@
 -- What a pass knows, as plain data, and how a step changes it.
 use Rattle.std.specs.List.{list_any, range_with_len}
 use Rattle.std.specs.Coded.{×_prop, le_prop}
-use Rattle.std.specs.Prelude.{◌≡◌, ◌<◌, ◌≤◌, ℕ, ◌+◌, ◌-◌, ◌==◌, nat_le, nat_lt, not, if◌then◌else◌, Bool, List, [], ◌∷◌, ◌++◌, length, map, filter, Contains}
+use Rattle.std.specs.Prelude.{◌≤◌, ℕ, ◌+◌, ◌-◌, ◌==◌, nat_le, nat_lt, not, if◌then◌else◌, Bool, List, [], ◌∷◌, ◌++◌, length, map, filter, Contains}
 use Rattle.std.specs.declared.option.Option as std
 use Rattle.std.specs.declared.option.Option.TheVariants.{Some, None}
 use Rattle.seat_lock.specs.declared.counted.Counted.{Ghosts}

@@ -12,8 +12,7 @@ pub fn rule_gives_clauses<T: Counted>()
     ensures clauses { (s : LockState T T.Entry T.Part T.Frame) → Kept T.Counted s → Clauses T.Counted s }
     ensures slots { (m : LockMe T T.Entry T.Part T.Frame) → HasAdded m.0 → AddedMovesNoSlot T.Counted m }
     ensures places { (ps qs : List ℕ) (p : ℕ) → Contains (merged ps qs) p ↔ (Contains ps p ⊎ Contains qs p) }
-{
-}
+{}
 
 /// Which parts a view has after each call: of `new` the part of each author, of `release` that of each of its own authors in the value put back, of `split` those of the named authors, and the others, and of `join` those of both.
 pub fn parts_after_calls<T: Counted>()
@@ -22,5 +21,4 @@ pub fn parts_after_calls<T: Counted>()
     ensures split { (names : List ℕ) (v : View T T.Entry T.Part T.Frame) (a : ℕ) (q : T.Part) → Owns (handed names v) a q ↔ (Contains names a × Owns v a q) }
     ensures left { (names : List ℕ) (v : View T T.Entry T.Part T.Frame) (a : ℕ) (q : T.Part) → Owns (kept_back names v) a q ↔ ((¬ Contains names a) × Owns v a q) }
     ensures join { (v w : View T T.Entry T.Part T.Frame) (a : ℕ) (q : T.Part) → Owns (joined v w) a q ↔ (Owns v a q ⊎ Owns w a q) }
-{
-}
+{}

@@ -11,3 +11,6 @@ pub use counted::Counted;
 pub use law::{parts_after_calls, rule_gives_clauses};
 pub use lock::SeatLock;
 pub use pass::{Hold, Pass};
+
+#[cfg(test)]
+mod tests;

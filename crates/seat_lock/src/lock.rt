@@ -3,7 +3,9 @@ ghost use Rattle.std.specs.Prelude.{◌≡◌};
 
 use crate::counted::Counted;
 use crate::pass::{Hold, Pass};
-use crate::rule::{Add, GiveTurn, Handed, JoinViews, Load, LockRule, Look, SplitView, TakeTurn, View};
+use crate::rule::{
+    Add, GiveTurn, Handed, JoinViews, Load, LockRule, Look, SplitView, TakeTurn, View,
+};
 use atomic_table::Table;
 use std::alloc::{AllocError, Global};
 use std::marker::Brand;
@@ -15,13 +17,7 @@ use std::sync::Wait;
 /// Each call has the condition that the passes given to it are of this lock: they come from its `new` or `split`.
 #[derive(Drop)]
 pub struct SeatLock<T: Counted> {
-    table: Table<
-        Option<T>,
-        View<T, T::Entry, T::Part, T::Frame>,
-        Snapshot<T>,
-        LockRule<T>,
-        Global,
-    >,
+    table: Table<Option<T>, View<T, T::Entry, T::Part, T::Frame>, Snapshot<T>, LockRule<T>, Global>,
     ghost two_words: { table.shared.table_id.words ≡ 2 },
     ghost one_slot: { table.shared.table_id.slots ≡ 1 },
 }
@@ -136,12 +132,8 @@ impl<T: Counted> SeatLock<T> {
             None => {}
             Some(_) => unreachable!(),
         }
-        self.table
-            .shared
-            .fetch_add::<Add>(&mut pass.seat, 1, more);
-        self.table
-            .shared
-            .store::<GiveTurn>(&mut pass.seat, 0, 0);
+        self.table.shared.fetch_add::<Add>(&mut pass.seat, 1, more);
+        self.table.shared.store::<GiveTurn>(&mut pass.seat, 0, 0);
         self.table.shared.wake_one(0);
     }
 
@@ -165,9 +157,7 @@ impl<T: Counted> SeatLock<T> {
         ensures left { view_of pass.new ≡ kept_back authors.now (view_of pass.old) }
     {
         let _ = authors;
-        let seat = self.table
-            .shared
-            .split_seat::<SplitView<J>>(&mut pass.seat);
+        let seat = self.table.shared.split_seat::<SplitView<J>>(&mut pass.seat);
         Pass { seat }
     }
 

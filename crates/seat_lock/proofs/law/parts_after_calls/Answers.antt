@@ -1,4 +1,4 @@
-use Rattle.std.proofs.Common.{◌≡◌, ℕ, not, true, false, sym, ◌∙◌, ⊎_elim}
+use Rattle.std.proofs.Common.{◌≡◌, not, true, false, sym, ◌∙◌, ⊎_elim}
 use Rattle.std.proofs.lemmas.List.Elements.{Contains-append_cases, Contains-append_left, Contains-append_right}
 use Rattle.seat_lock.specs.Views.{is_one_of}
 use Rattle.seat_lock.proofs.Lists.{contains_told, contains_retold, contains_filter, contains_filter_too, contains_told_too, contains_retold_too, one_of, is_one, is_none}

@@ -1,4 +1,4 @@
-use Rattle.std.proofs.Common.{◌≡◌, Contains, subst, sym, ap, ◌∙◌}
+use Rattle.std.proofs.Common.{Contains, subst, sym, ap, ◌∙◌}
 use Rattle.seat_lock.proofs.lock.SeatLock.acquire.Goals as goal
 
 pub returns-then-try_turn-clause-parts : goal.returns-then-try_turn-clause-parts

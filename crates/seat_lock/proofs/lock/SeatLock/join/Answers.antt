@@ -1,4 +1,4 @@
-use Rattle.std.proofs.Common.{◌≡◌, ◌∙◌, ap, arith}
+use Rattle.std.proofs.Common.{◌∙◌, ap, arith}
 use Rattle.seat_lock.specs.Views.{slots_of}
 use Rattle.seat_lock.proofs.Steps.{joins, looks}
 use Rattle.seat_lock.proofs.lock.SeatLock.join.Goals as goal
