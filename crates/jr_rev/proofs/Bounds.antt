@@ -1,5 +1,5 @@
 -- The order of vectors, and the least and the greatest of two.
-use Rattle.std.proofs.Common.{◌≡◌, ℕ, zero, suc, Bool, true, false, cond, ◌&&◌, Option, Some, None, [], ◌∷◌, get_or, refl, sym, ap, ◌∙◌, arith}
+use Rattle.std.proofs.Common.{◌≡◌, ℕ, ◌-◌, zero, suc, Bool, true, false, cond, ◌&&◌, Option, Some, None, [], ◌∷◌, get_or, refl, sym, ap, ◌∙◌, arith}
 use Rattle.std.specs.Prelude.{◌==◌, slice_get}
 use Rattle.std.specs.Option.{option_flatten, option_map_or}
 use Rattle.std.proofs.lemmas.Bool.Decides.{nat_tests}
@@ -146,3 +146,20 @@ greatest_right v w = each_below w (greatest v w) (λ k. rw (get_or-greatest v w 
 
 pub greatest_upper : (u v w : Entries) → is_below v u ≡ true → is_below w u ≡ true → is_below (greatest v w) u ≡ true
 greatest_upper u v w h i = each_below (greatest v w) u (λ k. rw (get_or-greatest v w k) (greater_upper (get_or u k None) (get_or v k None) (get_or w k None) (below_each v u h k) (below_each w u i k)))
+
+entry-least : (v w : Entries) (k : ℕ) → entry (least v w) k ≡ lesser_entry (entry v k) (entry w k)
+entry-least v w zero = refl
+entry-least v w (suc k) = rw (entry_at (least v w) k, entry_at v k, entry_at w k) (get_or-least v w k)
+
+lesser_seen : (r : Revision) (e f : Option Revision) → option_map_or (is_at_most r) e false ≡ true → option_map_or (is_at_most r) f false ≡ true → option_map_or (is_at_most r) (lesser_entry e f) false ≡ true
+lesser_seen r None f h s = absurd (false≢true h)
+lesser_seen r (Some e) None h s = absurd (false≢true s)
+lesser_seen r (Some e) (Some f) h s = by (is_at_most e f)
+  where
+    by : (b : Bool) → is_at_most r (cond b e f) ≡ true
+    by true = h
+    by false = s
+
+-- what both see, the least sees
+pub least_seen : (v w : Entries) (r : Revision) → sees v r ≡ true → sees w r ≡ true → sees (least v w) r ≡ true
+least_seen v w r h s = rw entry-least (lesser_seen r (entry v r.cluster) (entry w r.cluster) h s)

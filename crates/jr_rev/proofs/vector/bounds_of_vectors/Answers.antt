@@ -1,4 +1,4 @@
-use Rattle.jr_rev.proofs.Bounds.{least_left, least_right, least_lower, greatest_left, greatest_right, greatest_upper}
+use Rattle.jr_rev.proofs.Bounds.{least_left, least_right, least_lower, least_seen, greatest_left, greatest_right, greatest_upper}
 use Rattle.jr_rev.proofs.vector.bounds_of_vectors.Goals as goal
 
 pub returns-clause-left_above : goal.returns-clause-left_above
@@ -18,3 +18,6 @@ returns-clause-right_below c = greatest_right
 
 pub returns-clause-upper : goal.returns-clause-upper
 returns-clause-upper c = greatest_upper
+
+pub returns-clause-seen_by_both : goal.returns-clause-seen_by_both
+returns-clause-seen_by_both c = least_seen
