@@ -131,3 +131,10 @@ revision_text_is r fits = record {
   is_cluster = hexadecimal_spells 8 r.cluster (omega arith) (omega arith) fits.cluster;
   spelled = text_parts r;
 }
+
+-- a cluster node's number is one digit
+pub cluster_spells : (c : ℕ) → c ≤ 8 → Spells 8 ((48 + c) ∷ []) c
+cluster_spells c high = digit_spells 8 c (48 + c) (omega arith) (omega arith) (inl (omega arith, omega arith)) (grind (arith, nat_tests))
+
+pub cluster_digit : (c : ℕ) (digits : List ℕ) → c ≤ 8 → Spells 8 digits c → digits ≡ (48 + c) ∷ []
+cluster_digit c digits high s = one_text 8 c digits _ s (cluster_spells c high)
