@@ -104,7 +104,8 @@ behind_rest k [] text b = inl b
 behind_rest k (r ∷ rs) text b = inr (record { rest = b.0; split = b.1; then' = (r, rs, b.2) })
 
 split_parts : (text piece rest time counter cluster : List ℕ) (digit : ℕ) → text ≡ piece ++ rest → piece ≡ 114 ∷ (time ++ (45 ∷ (counter ++ (45 ∷ cluster)))) → cluster ≡ digit ∷ [] → text ≡ 114 ∷ (time ++ (45 ∷ (counter ++ (45 ∷ (digit ∷ rest)))))
-split_parts text piece rest time counter cluster digit e f g = rw (e, f, g) (simp append_assoc)
+split_parts text piece rest time counter cluster digit e f g =
+    rw (e, f, g) (ap (λ xs. 114 ∷ xs) (append_assoc time (45 ∷ (counter ++ (45 ∷ digit ∷ []))) rest ∙ ap (λ xs. time ++ (45 ∷ xs)) (append_assoc counter (45 ∷ digit ∷ []) rest)))
 
 list_parts : (k : ℕ) (text : List ℕ) → IsListed k text → Moment (ClusterThen k Rest) text
 list_parts k text t =

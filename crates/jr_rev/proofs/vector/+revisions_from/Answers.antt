@@ -1,6 +1,7 @@
 use Rattle.std.proofs.Common.{arith}
 use Rattle.std.proofs.lemmas.Result.{err_from_is_err_and}
 use Rattle.jr_rev.proofs.Clusters.{no_moment, no_cluster, no_rest, no_more}
+use Rattle.jr_rev.proofs.Listed.{found_end, found_more}
 use Rattle.jr_rev.proofs.vector.+revisions_from.Goals as goal
 
 pub returns-in_err-time-clause-fault : goal.returns-in_err-time-clause-fault
@@ -23,3 +24,11 @@ pub returns-in_err-vector-clause-fault : goal.returns-in_err-vector-clause-fault
 returns-in_err-vector-clause-fault t c =
     let p = err_from_is_err_and c.from_residual-in_err-vector.result c.from_residual-in_err-vector.ensures.1 in
     rw (p.1, p.2) (no_more _ _ _ _ _ _ _ _ c.in_ok-time.ensures.found c.in_ok-cluster.ensures.found (omega (arith, c.in_ok-cluster.ensures.found.within, c.if-end-text.false)) c.if-text-end-ne44.false c.in_err-vector.ensures.fault)
+
+pub returns-then-end-text-clause-found : goal.returns-then-end-text-clause-found
+returns-then-end-text-clause-found t c = rw (c.with.ensures, c.none.ensures) (found_end _ _ _ _ _ _ _ c.requires.low c.in_ok-time.ensures.found c.in_ok-cluster.ensures.found c.if-end-text.true)
+
+pub returns-clause-found : goal.returns-clause-found
+returns-clause-found t c =
+    rw c.with-2.ensures
+    (found_more _ _ _ _ _ _ _ _ c.requires.low c.in_ok-time.ensures.found c.in_ok-cluster.ensures.found (omega (arith, c.in_ok-cluster.ensures.found.within, c.if-end-text.false)) c.if-text-end-ne44.false c.in_ok-vector.ensures.found)
