@@ -69,15 +69,15 @@ rest_stops k (b ∷ bs) some past = record {
   within = omega arith;
   before = ([], inl refl);
   there = λ _ s. elim s.1 [
-      | inl e ↦ cc
-      | inr t ↦
-          (let e = t.split in
-          let comma : b ≡ 44 = cc in
-          let after = past comma in
-          let low = t.then'.2.low in
-          let high = t.then'.2.high in
-          omega arith)
-    ];
+    | inl e ↦ cc
+    | inr t ↦
+        (let e = t.split in
+        let comma : b ≡ 44 = cc in
+        let after = past comma in
+        let low = t.then'.2.low in
+        let high = t.then'.2.high in
+        omega arith)
+  ];
   at_end = λ e. absurd (omega (arith, e));
 }
 
@@ -230,8 +230,8 @@ no_rest k text at time counter dash cluster moment taken more past =
     let place : dash + 2 + 0 ≡ dash + 2 = omega arith in (
       omega arith,
       rw place at (behind_cluster k text at time counter dash cluster 0 moment taken
-      (rest_stops (cluster + 1) (drop (dash + 2) text) (omega (arith, length-drop (dash + 2) text))
-      (λ e. let there : get_or text (dash + 2) 0 ≡ 44 = rw (get_or-drop (dash + 2) text 0 0, add-zero) at e in let p = past there in omega arith))),
+          (rest_stops (cluster + 1) (drop (dash + 2) text) (omega (arith, length-drop (dash + 2) text))
+          (λ e. let there : get_or text (dash + 2) 0 ≡ 44 = rw (get_or-drop (dash + 2) text 0 0, add-zero) at e in let p = past there in omega arith))),
     )
 
 pub no_more : (k : ℕ) (text : List ℕ) (at time counter dash cluster offset : ℕ) → TakesMoment text at time counter dash → TakesCluster k text dash cluster → dash + 2 < length text → get_or text (dash + 2) 0 ≡ 44 → MissesList (cluster + 1) text (dash + 2 + 1) offset → MissesList k text at offset
@@ -241,5 +241,5 @@ no_more k text at time counter dash cluster offset moment taken more comma misse
     let place : dash + 2 + suc (offset - (dash + 2 + 1)) - at ≡ offset - at = omega arith in (
       omega arith,
       rw place at (behind_cluster k text at time counter dash cluster (suc (offset - (dash + 2 + 1))) moment taken
-      (rw (front_of 44 (dash + 2) text more comma) (rest_then (cluster + 1) (drop (dash + 2 + 1) text) (offset - (dash + 2 + 1)) missed.1))),
+          (rw (front_of 44 (dash + 2) text more comma) (rest_then (cluster + 1) (drop (dash + 2 + 1) text) (offset - (dash + 2 + 1)) missed.1))),
     )

@@ -113,4 +113,3 @@ least_vector v w a b = record { eight = length-least v w (a.eight ∙ sym b.eigh
 
 pub greatest_vector : (v w : Entries) → IsVector v → IsVector w → IsVector (greatest v w)
 greatest_vector v w a b = record { eight = length-greatest v w (a.eight ∙ sym b.eight) ∙ a.eight; stands = greatest_stands v w 1 a.stands b.stands }
-

@@ -70,7 +70,12 @@ fn number_of(digits: &[u8]) -> u64
 }
 
 // The number behind a mark at `at`, and where it ends.
-pub fn number_after(text: &[u8], at: usize, mark: u8, most: usize) -> Result<(u64, usize), BadRevision>
+pub fn number_after(
+    text: &[u8],
+    at: usize,
+    mark: u8,
+    most: usize,
+) -> Result<(u64, usize), BadRevision>
     requires within { at ≤ length text.now }
     requires some { 1 ≤ most }
     requires short { most ≤ 16 }
