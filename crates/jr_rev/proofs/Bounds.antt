@@ -1,5 +1,5 @@
 -- The order of vectors, and the least and the greatest of two.
-use Rattle.std.proofs.Common.{◌≡◌, ℕ, ◌-◌, zero, suc, Bool, true, false, cond, ◌&&◌, Option, Some, None, [], ◌∷◌, get_or, refl, sym, ap, ◌∙◌, arith}
+use Rattle.std.proofs.Common.{◌≡◌, ℕ, ◌-◌, zero, suc, Bool, true, false, cond, Option, Some, None, [], ◌∷◌, get_or, refl, arith}
 use Rattle.std.specs.Prelude.{◌==◌, slice_get}
 use Rattle.std.specs.Option.{option_flatten, option_map_or}
 use Rattle.std.proofs.lemmas.Bool.Decides.{nat_tests}

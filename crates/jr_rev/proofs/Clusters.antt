@@ -1,14 +1,12 @@
 -- Where reading the text of a vector stops.
-use Rattle.std.proofs.Common.{◌≡◌, ◌≢◌, ℕ, ◌+◌, ◌-◌, ◌<◌, ◌≤◌, ◌⊎◌, List, [], ◌∷◌, ◌++◌, length, take, drop, get_or, suc, arith, refl, inl, inr, sym, ap, ◌∙◌, append_assoc, length-append, length-drop, add-one, add-zero}
+use Rattle.std.proofs.Common.{◌≡◌, ◌≢◌, ℕ, ◌+◌, ◌-◌, ◌<◌, ◌≤◌, ◌⊎◌, List, [], ◌∷◌, ◌++◌, length, take, drop, get_or, suc, arith, refl, inl, inr, sym, ap, ◌∙◌, append_assoc, length-drop, add-zero}
 use Rattle.std.proofs.lemmas.List.{get_or-drop}
 use Rattle.std.specs.Str.Parse.{digits_value}
-use Rattle.std.proofs.lemmas.List.Elements.{All-nil, All-cons}
-use Rattle.jr_rev.specs.Digits.{IsHexDigit, IsNumeral, Spells}
-use Rattle.jr_rev.specs.Grammar.{Begins, IsFirstFault, IsRevisionText}
-use Rattle.jr_rev.specs.Listed.{Listed, IsBehind, IsListed, MissesList, TakesCluster, MissesCluster}
+use Rattle.jr_rev.specs.Grammar.{IsFirstFault}
+use Rattle.jr_rev.specs.Listed.{IsBehind, IsListed, MissesList, TakesCluster, MissesCluster}
 use Rattle.jr_rev.specs.Scan.{TakesMoment, MissesMoment}
 use Rattle.jr_rev.specs.declared.revision.Revision.{Revision}
-use Rattle.jr_rev.proofs.Faults.{ByteThen, NumberThen, IsEnd, same_faults, byte_stops, byte_then, zero_numeral, front_of, add-zero'}
+use Rattle.jr_rev.proofs.Faults.{ByteThen, same_faults, byte_stops, byte_then, front_of, add-zero'}
 use Rattle.jr_rev.proofs.Grammar.{missed_above, Moment, moment_missed, moment_then}
 use Rattle.jr_rev.proofs.Hexadecimal.{cluster_spells, cluster_digit}
 

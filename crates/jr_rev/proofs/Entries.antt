@@ -1,13 +1,12 @@
 -- The entries of vectors, one at a time.
-use Rattle.std.proofs.Common.{◌≡◌, ℕ, ◌+◌, ◌-◌, ◌<◌, ◌≤◌, zero, suc, Bool, true, false, cond, ◌&&◌, List, Option, Some, None, [], ◌∷◌, length, drop, get_or, refl, sym, ap, ◌∙◌, arith}
-use Rattle.std.specs.Prelude.{◌==◌, slice_get, slice_set}
-use Rattle.std.specs.Option.{option_flatten}
+use Rattle.std.proofs.Common.{◌≡◌, ℕ, ◌+◌, ◌-◌, ◌<◌, ◌≤◌, zero, suc, Bool, true, false, cond, ◌&&◌, Option, Some, None, [], ◌∷◌, length, get_or, refl, sym, ap, ◌∙◌, arith}
+use Rattle.std.specs.Prelude.{◌==◌, slice_set}
 use Rattle.std.proofs.lemmas.Bool.Decides.{nat_tests}
-use Rattle.std.proofs.lemmas.List.{length-set, ext_get_or, drop_more, drop_all}
+use Rattle.std.proofs.lemmas.List.{length-set, ext_get_or}
 use mathlib.Core.Bool.{false≢true}
 use Rattle.jr_rev.specs.declared.revision.Revision.{Revision}
 use Rattle.jr_rev.specs.Revisions.{is_at_most}
-use Rattle.jr_rev.specs.Vectors.{Entries, entry, with_entry, stands_from, is_entry_below, is_below, lesser_entry, least, greater_entry, greatest, IsVector}
+use Rattle.jr_rev.specs.Vectors.{Entries, with_entry, stands_from, lesser_entry, least, greater_entry, greatest, IsVector}
 
 pub both : (a b : Bool) → (a && b) ≡ true → (a ≡ true) × (b ≡ true)
 both true b h = (refl, h)
@@ -20,7 +19,7 @@ and_true false b h k = absurd (false≢true h)
 same_number : (a b : ℕ) → a ≡ b → (a == b) ≡ true
 same_number a b e = grind (arith, nat_tests)
 
-number_same : (a b : ℕ) → (a == b) ≡ true → a ≡ b
+pub number_same : (a b : ℕ) → (a == b) ≡ true → a ≡ b
 number_same a b e = grind (arith, nat_tests)
 
 -- ---- an entry that is set

@@ -1,5 +1,5 @@
 -- The digits that `hexadecimal` writes.
-use Rattle.std.proofs.Common.{◌≡◌, ◌==◌, ℕ, ◌+◌, ◌-◌, ◌*◌, ◌/◌, ◌%◌, ◌^◌, ◌<◌, ◌≤◌, List, [], ◌∷◌, ◌++◌, length, get_or, suc, zero, false, arith, refl, sym, ap, ◌∙◌, inl, inr, append_assoc, length-append}
+use Rattle.std.proofs.Common.{◌≡◌, ◌==◌, ℕ, ◌+◌, ◌*◌, ◌/◌, ◌%◌, ◌^◌, ◌<◌, ◌≤◌, List, [], ◌∷◌, ◌++◌, length, get_or, suc, zero, false, arith, refl, sym, ◌∙◌, inl, inr, append_assoc, length-append}
 use Rattle.std.specs.Char.{digit_value}
 use Rattle.std.specs.Fmt.{digits, digits_onto, digit_glyph}
 use Rattle.std.specs.Str.Parse.{digits_value}
@@ -7,6 +7,7 @@ use Rattle.std.proofs.Math.ListN.{get_or-append}
 use Rattle.std.proofs.Math.Nat.{pow-suc}
 use Rattle.std.proofs.lemmas.Bool.{cases_lt}
 use Rattle.std.proofs.lemmas.Bool.Decides.{nat_tests}
+use Rattle.std.proofs.lemmas.List.{append-nil}
 use Rattle.std.proofs.lemmas.List.Elements.{All-push, All-nil, All-cons}
 use Rattle.std.proofs.lemmas.Int.Digits.{digits_value_push}
 use Rattle.jr_rev.specs.Digits.{IsHexDigit, Spells}
@@ -85,10 +86,6 @@ spelled_onto (suc f) (suc k) n acc le some fits =
           (rest.0 ++ c ∷ [], more_spells k n c rest.0 large rest.1 hex value, onto_more f n acc large ∙ rest.2 ∙ parts))
     ]
 
-append_nil : (xs : List ℕ) → xs ++ [] ≡ xs
-append_nil [] = refl
-append_nil (x ∷ xs) = ap (λ ys. x ∷ ys) (append_nil xs)
-
 spells_same : (most n : ℕ) (ds es : List ℕ) → ds ≡ es → Spells most es n → Spells most ds n
 spells_same most n ds es e s = rw e s
 
@@ -96,7 +93,7 @@ pub hexadecimal_spells : (most n : ℕ) → 1 ≤ most → most ≤ 16 → n < 1
 unfolding digits
 hexadecimal_spells most n some le fits =
     let s = spelled_onto 64 most n [] (omega arith) some fits in
-    spells_same most n _ s.0 (s.2 ∙ append_nil s.0) s.1
+    spells_same most n _ s.0 (s.2 ∙ append-nil s.0) s.1
 
 spelled_below : (most n : ℕ) (digits : List ℕ) → Spells most digits n → n < 16 ^ most
 spelled_below most n digits s = rw s.value (value_most most digits s.numeral.hex s.numeral.fits)

@@ -1,38 +1,32 @@
 -- The texts of revisions with commas between them.
-use Rattle.std.proofs.Common.{◌≡◌, ℕ, ◌+◌, ◌<◌, ◌≤◌, Bool, true, false, cond, List, Option, Some, None, [], ◌∷◌, ◌++◌, length, drop, get_or, refl, sym, ap, ◌∙◌, append_assoc}
-use Rattle.std.proofs.lemmas.List.{drop_more, drop_all}
+use Rattle.std.proofs.Common.{◌≡◌, ℕ, ◌+◌, ◌<◌, Bool, true, false, cond, List, Some, None, [], ◌∷◌, ◌++◌, length, drop, get_or, refl, sym, ap, ◌∙◌, append_assoc}
+use Rattle.std.proofs.lemmas.List.{append-nil, drop_more}
 use Rattle.std.specs.List.{filter_map, join_with_byte}
 use Rattle.std.specs.Option.{option_map}
 use Rattle.jr_rev.specs.declared.revision.Revision.{Revision}
 use Rattle.jr_rev.specs.Texts.{revision_text, vector_text}
 use Rattle.jr_rev.specs.Vectors.{Entries}
 
--- the revisions' texts, a comma before each
-abbrev pub behind : Entries → List ℕ
-behind [] = []
-behind (None ∷ es) = behind es
-behind (Some r ∷ es) = 44 ∷ (revision_text r ++ behind es)
+-- the texts, a comma before each
+abbrev pub behind_texts : List (List ℕ) → List ℕ
+behind_texts [] = []
+behind_texts (t ∷ ts) = 44 ∷ (t ++ behind_texts ts)
 
-append_nil : (xs : List ℕ) → xs ++ [] ≡ xs
-append_nil [] = refl
-append_nil (x ∷ xs) = ap (λ ys. x ∷ ys) (append_nil xs)
-
-joined : (text : List ℕ) (es : Entries) → join_with_byte 44 (text ∷ filter_map (option_map revision_text) es) ≡ text ++ behind es
-joined text [] = sym (append_nil text)
-joined text (None ∷ es) = joined text es
-joined text (Some r ∷ es) = ap (λ more. text ++ (44 ∷ more)) (joined (revision_text r) es)
+pub joined_texts : (t : List ℕ) (ts : List (List ℕ)) → join_with_byte 44 (t ∷ ts) ≡ t ++ behind_texts ts
+joined_texts t [] = sym (append-nil t)
+joined_texts t (u ∷ us) = ap (λ more. t ++ (44 ∷ more)) (joined_texts u us)
 
 -- what is still to be written of the entries, where no revision is written yet, or some
 abbrev pub left_text : Bool → Entries → List ℕ
 left_text true es = vector_text es
-left_text false es = behind es
+left_text false es = behind_texts (filter_map (option_map revision_text) es)
 
 left_none : (first : Bool) (es : Entries) → left_text first (None ∷ es) ≡ left_text first es
 left_none true es = refl
 left_none false es = refl
 
 left_some : (first : Bool) (r : Revision) (es : Entries) → left_text first (Some r ∷ es) ≡ (cond first [] (44 ∷ []) ++ revision_text r) ++ left_text false es
-left_some true r es = joined (revision_text r) es
+left_some true r es = joined_texts (revision_text r) (filter_map (option_map revision_text) es)
 left_some false r es = refl
 
 pub nothing_next : (start out : List ℕ) (es : Entries) (i : ℕ) (first : Bool) → i < length es → get_or es i None ≡ None → out ++ left_text first (drop i es) ≡ start → out ++ left_text first (drop (i + 1) es) ≡ start
@@ -45,16 +39,6 @@ revision_next start out out' es i first r within is put h =
     let all : drop i es ≡ Some r ∷ drop (i + 1) es = drop_more es i None within ∙ ap (λ e. e ∷ drop (i + 1) es) is in
     let next : out ++ ((cond first [] (44 ∷ []) ++ revision_text r) ++ left_text false (drop (i + 1) es)) ≡ start = rw (all, left_some first r (drop (i + 1) es)) at h in
     rw (put, append_assoc out (cond first [] (44 ∷ []) ++ revision_text r) (left_text false (drop (i + 1) es))) next
-
-pub nothing_left : (start out : List ℕ) (es : Entries) (i : ℕ) (first : Bool) → length es ≤ i → out ++ left_text first (drop i es) ≡ start → out ≡ start
-nothing_left start out es i first past h =
-    let none : drop i es ≡ [] = drop_all i es past in
-    let last : out ++ left_text first [] ≡ start = rw none at h in
-    by first last
-  where
-    by : (b : Bool) → out ++ left_text b [] ≡ start → out ≡ start
-    by true e = sym (append_nil out) ∙ e
-    by false e = sym (append_nil out) ∙ e
 
 pub two_fronts : (old mid new x y : List ℕ) → mid ≡ old ++ x → new ≡ mid ++ y → (more : List ℕ) × (new ≡ old ++ more)
 two_fronts old mid new x y a b = (x ++ y, b ∙ ap (λ m. m ++ y) a ∙ append_assoc old x y)

@@ -1,21 +1,20 @@
 -- The texts of vectors as lists of revisions, and the vectors that have them.
-use Rattle.std.proofs.Common.{◌≡◌, ◌≢◌, ℕ, ◌+◌, ◌-◌, ◌<◌, ◌≤◌, ◌⊎◌, List, Option, Some, None, [], ◌∷◌, ◌++◌, length, drop, take, get_or, replicate, zero, suc, Bool, true, false, cond, ◌&&◌, arith, refl, inl, inr, sym, ap, ◌∙◌, append_assoc, get_or-set_other}
+use Rattle.std.proofs.Common.{◌≡◌, ◌≢◌, ℕ, ◌+◌, ◌-◌, ◌<◌, ◌≤◌, ◌⊎◌, List, Option, Some, None, [], ◌∷◌, ◌++◌, length, drop, get_or, replicate, zero, suc, Bool, true, false, arith, refl, inl, inr, sym, ap, ◌∙◌, append_assoc, get_or-set_other}
 use Rattle.std.specs.Prelude.{◌==◌, slice_set}
-use Rattle.std.specs.List.{AllZip, join_with_byte, filter_map}
+use Rattle.std.specs.List.{AllZip, join_with_byte}
 use Rattle.std.proofs.lemmas.List.{drop_all, length-append, length-take}
 use Rattle.std.proofs.lemmas.Bool.Decides.{nat_tests}
-use mathlib.Core.Bool.{false≢true}
-use Rattle.jr_rev.specs.Digits.{Spells}
 use Rattle.jr_rev.specs.Grammar.{IsRevisionText, IsVectorText, IsSomeVectorText, IsFirstFault}
 use Rattle.jr_rev.specs.Listed.{Listed, IsBehind, IsListed, IsClear, Reads, TakesCluster, MissesList}
 use Rattle.jr_rev.specs.Scan.{TakesMoment}
 use Rattle.jr_rev.specs.Vectors.{Entries, IsVector, stands_from, with_entry, no_entries, revisions_of}
 use Rattle.jr_rev.specs.declared.revision.Revision.{Revision}
 use Rattle.jr_rev.proofs.Clusters.{digit_front}
-use Rattle.jr_rev.proofs.Entries.{both, set_vector}
+use Rattle.jr_rev.proofs.Entries.{both, number_same, set_vector}
 use Rattle.jr_rev.proofs.Faults.{front_of}
 use Rattle.jr_rev.proofs.Grammar.{moment_part}
 use Rattle.jr_rev.proofs.Hexadecimal.{cluster_spells}
+use Rattle.jr_rev.proofs.Joined.{behind_texts, joined_texts}
 
 -- ---- a vector with one revision more, of a lower cluster node than all others
 
@@ -108,19 +107,6 @@ found_more k text at time counter dash cluster v positive moment taken more comm
 
 -- ---- from the list to a vector's text
 
--- the texts, a comma before each
-abbrev pub behind_texts : List (List ℕ) → List ℕ
-behind_texts [] = []
-behind_texts (t ∷ ts) = 44 ∷ (t ++ behind_texts ts)
-
-append_nil : (xs : List ℕ) → xs ++ [] ≡ xs
-append_nil [] = refl
-append_nil (x ∷ xs) = ap (λ ys. x ∷ ys) (append_nil xs)
-
-pub joined_texts : (t : List ℕ) (ts : List (List ℕ)) → join_with_byte 44 (t ∷ ts) ≡ t ++ behind_texts ts
-joined_texts t [] = sym (append_nil t)
-joined_texts t (u ∷ us) = ap (λ more. t ++ (44 ∷ more)) (joined_texts u us)
-
 -- the texts of the revisions
 texts_behind : (k : ℕ) (rs : List Revision) (text : List ℕ) → IsBehind k rs text → (texts : List (List ℕ)) × AllZip IsRevisionText texts rs × (text ≡ behind_texts texts)
 texts_behind k [] text b = ([], tt, b)
@@ -168,9 +154,6 @@ list_vector text t =
     (with_entry rest.0 r, text_of_reads text (with_entry rest.0 r) (reads_one 1 text l.rest r rest.0 (omega arith) rest.1 (record { low = l.low; high = l.high; piece = l.piece; rest = l.rest; is = l.is; split = l.split; behind = rest.1.behind })))
 
 -- ---- from a vector's text to the list
-
-pub number_same : (a b : ℕ) → (a == b) ≡ true → a ≡ b
-number_same a b e = grind (arith, nat_tests)
 
 behind_entries : (k j : ℕ) (es : Entries) (texts : List (List ℕ)) → k ≤ j → length es + j ≤ 9 → stands_from j es ≡ true → AllZip IsRevisionText texts (revisions_of es) → IsBehind k (revisions_of es) (behind_texts texts)
 behind_entries k j [] [] le fits stands each = refl

@@ -1,5 +1,5 @@
 -- Each vector has one text, and each text one vector.
-use Rattle.std.proofs.Common.{◌≡◌, ℕ, ◌+◌, ◌<◌, ◌≤◌, List, Option, Some, None, [], ◌∷◌, ◌++◌, length, All, suc, true, false, ◌&&◌, arith, refl, sym, ap, ◌∙◌}
+use Rattle.std.proofs.Common.{◌≡◌, ℕ, ◌+◌, ◌<◌, ◌≤◌, List, Some, None, [], ◌∷◌, ◌++◌, length, All, true, arith, refl, sym, ap, ◌∙◌}
 use Rattle.std.specs.Prelude.{◌==◌}
 use Rattle.std.specs.List.{AllZip, join_with_byte, filter_map}
 use Rattle.std.specs.Option.{option_map}
@@ -9,9 +9,9 @@ use Rattle.jr_rev.specs.Grammar.{IsRevisionText, IsVectorText, Fits}
 use Rattle.jr_rev.specs.Texts.{revision_text, vector_text}
 use Rattle.jr_rev.specs.Vectors.{Entries, IsVector, stands_from, revisions_of}
 use Rattle.jr_rev.specs.declared.revision.Revision.{Revision}
-use Rattle.jr_rev.proofs.Entries.{both}
+use Rattle.jr_rev.proofs.Entries.{both, number_same}
 use Rattle.jr_rev.proofs.Hexadecimal.{revision_text_of, revision_text_is}
-use Rattle.jr_rev.proofs.Listed.{behind_texts, joined_texts, number_same}
+use Rattle.jr_rev.proofs.Joined.{behind_texts, joined_texts}
 use Rattle.jr_rev.proofs.OneForm.{one_revision}
 
 -- ---- no comma stands in a revision's text
@@ -31,11 +31,14 @@ no_comma_cons c cs h hs = All-cons (λ (c : ℕ). c ≡ 44 → ⊥) c cs h hs
 no_comma_append : (xs ys : List ℕ) → NoComma xs → NoComma ys → NoComma (xs ++ ys)
 no_comma_append xs ys h k = All-append (λ (c : ℕ). c ≡ 44 → ⊥) xs ys h k
 
+above_comma : (c : ℕ) → 44 < c → c ≡ 44 → ⊥
+above_comma c lt e = omega arith
+
 no_comma : (text : List ℕ) (r : Revision) → IsRevisionText text r → NoComma text
 no_comma text r t =
-    let cluster = no_comma_cons 45 t.cluster (λ e. absurd (omega (arith, e))) (no_comma_digits t.cluster t.is_cluster.numeral.hex) in
-    let counter = no_comma_cons 45 _ (λ e. absurd (omega (arith, e))) (no_comma_append t.counter _ (no_comma_digits t.counter t.is_counter.numeral.hex) cluster) in
-    let whole = no_comma_cons 114 _ (λ e. absurd (omega (arith, e))) (no_comma_append t.time _ (no_comma_digits t.time t.is_time.numeral.hex) counter) in
+    let cluster : NoComma (45 ∷ t.cluster) = no_comma_cons 45 t.cluster (above_comma 45 (omega arith)) (no_comma_digits t.cluster t.is_cluster.numeral.hex) in
+    let counter : NoComma (45 ∷ (t.counter ++ (45 ∷ t.cluster))) = no_comma_cons 45 _ (above_comma 45 (omega arith)) (no_comma_append t.counter _ (no_comma_digits t.counter t.is_counter.numeral.hex) cluster) in
+    let whole : NoComma (114 ∷ (t.time ++ (45 ∷ (t.counter ++ (45 ∷ t.cluster))))) = no_comma_cons 114 _ (above_comma 114 (omega arith)) (no_comma_append t.time _ (no_comma_digits t.time t.is_time.numeral.hex) counter) in
     rw t.spelled whole
 
 -- a text without a comma ends where the first comma stands, or at the end
@@ -67,12 +70,12 @@ same_revisions (t ∷ ts) (u ∷ us) (r ∷ rs) (s ∷ ss) a b e =
     let others : rs ≡ ss = same_revisions ts us rs ss a.1 b.1 parts.1 in
     cc
 
+first_byte : (t more : List ℕ) → t ≡ 114 ∷ more → (rest : List ℕ) → [] ≡ t ++ rest → ⊥
+first_byte t more is rest e = let e' : [] ≡ 114 ∷ (more ++ rest) = e ∙ ap (λ x. x ++ rest) is in cc
+
 some_text : (t : List ℕ) (ts : List (List ℕ)) (rs : List Revision) → AllZip IsRevisionText (t ∷ ts) rs → [] ≡ t ++ behind_texts ts → ⊥
 some_text t ts [] a e = absurd a
-some_text t ts (r ∷ rs) a e =
-    let is = a.0 in
-    let e' : [] ≡ 114 ∷ _ = e ∙ ap (λ x. x ++ behind_texts ts) is.spelled in
-    cc
+some_text t ts (r ∷ rs) a e = first_byte t _ a.0.spelled (behind_texts ts) e
 
 -- texts that are joined alike are behind a comma alike
 same_behind : (ts us : List (List ℕ)) (rs ss : List Revision) → AllZip IsRevisionText ts rs → AllZip IsRevisionText us ss → join_with_byte 44 ts ≡ join_with_byte 44 us → behind_texts ts ≡ behind_texts us

@@ -1,5 +1,5 @@
 -- The revisions of a vector's text, read from a place on.
-use Rattle.std.specs.Prelude.{◌≡◌, ◌≢◌, ℕ, ◌+◌, ◌-◌, ◌<◌, ◌≤◌, ◌⊎◌, List, [], ◌∷◌, ◌++◌, Option, None, length, drop, slice_index, slice_index_or}
+use Rattle.std.specs.Prelude.{◌≡◌, ◌≢◌, ℕ, ◌+◌, ◌-◌, ◌<◌, ◌≤◌, ◌⊎◌, List, [], ◌∷◌, ◌++◌, None, length, drop, slice_index, slice_index_or}
 use Rattle.jr_rev.specs.Grammar.{IsRevisionText, IsFirstFault}
 use Rattle.jr_rev.specs.Vectors.{Entries, IsVector, revisions_of}
 use Rattle.jr_rev.specs.declared.revision.Revision.{Revision}

@@ -1,4 +1,3 @@
-use Rattle.std.proofs.Common.{◌≡◌, List, ◌++◌}
 use Rattle.jr_rev.proofs.Joined.{two_fronts}
 use Rattle.jr_rev.proofs.vector.put_next.Goals as goal
 use Rattle.jr_rev.proofs.vector.put_next.Goals.{then-not-first+in_ok-push, else-not-first}

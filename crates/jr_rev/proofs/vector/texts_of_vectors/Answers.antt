@@ -1,5 +1,5 @@
 use Rattle.jr_rev.proofs.OneVector.{vector_text_of, vector_text_is, one_vector}
-use Rattle.jr_rev.proofs.vector.one_text_each.Goals as goal
+use Rattle.jr_rev.proofs.vector.texts_of_vectors.Goals as goal
 
 pub returns-clause-text : goal.returns-clause-text
 returns-clause-text c = vector_text_of
