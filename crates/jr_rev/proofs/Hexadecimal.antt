@@ -11,7 +11,7 @@ use Rattle.std.proofs.lemmas.List.{append-nil}
 use Rattle.std.proofs.lemmas.List.Elements.{All-push, All-nil, All-cons}
 use Rattle.std.proofs.lemmas.Int.Digits.{digits_value_push}
 use Rattle.jr_rev.specs.Digits.{IsHexDigit, Spells}
-use Rattle.jr_rev.specs.Grammar.{IsRevisionText, Fits}
+use Rattle.jr_rev.specs.Grammar.{IsRevisionText, FitsFields}
 use Rattle.jr_rev.specs.Texts.{hexadecimal, revision_text}
 use Rattle.jr_rev.specs.declared.revision.Revision.{Revision}
 use Rattle.jr_rev.proofs.Digits.{value_most}
@@ -118,7 +118,7 @@ revision_text_of text r t =
     let cluster = one_text 8 r.cluster _ _ t.is_cluster (hexadecimal_spells 8 r.cluster (omega arith) (omega arith) (spelled_below 8 r.cluster t.cluster t.is_cluster)) in
     rw (t.spelled, time, counter, cluster) (sym (text_parts r))
 
-pub revision_text_is : (r : Revision) → Fits r → IsRevisionText (revision_text r) r
+pub revision_text_is : (r : Revision) → FitsFields r → IsRevisionText (revision_text r) r
 revision_text_is r fits = record {
   time = hexadecimal r.time;
   counter = hexadecimal r.counter;

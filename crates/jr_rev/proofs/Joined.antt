@@ -1,11 +1,13 @@
 -- The texts of revisions with commas between them.
-use Rattle.std.proofs.Common.{◌≡◌, ℕ, ◌+◌, ◌<◌, Bool, true, false, cond, List, Some, None, [], ◌∷◌, ◌++◌, length, drop, get_or, refl, sym, ap, ◌∙◌, append_assoc}
-use Rattle.std.proofs.lemmas.List.{append-nil, drop_more}
+use Rattle.std.proofs.Common.{◌≡◌, ℕ, ◌+◌, ◌<◌, Bool, true, false, cond, List, Some, None, [], ◌∷◌, ◌++◌, length, drop, take, get_or, All, refl, sym, ap, ◌∙◌, append_assoc}
+use Rattle.std.proofs.lemmas.List.{append-nil, drop_more, take_more, take_all}
+use Rattle.std.proofs.lemmas.List.Elements.{All-push}
 use Rattle.std.specs.List.{filter_map, join_with_byte}
 use Rattle.std.specs.Option.{option_map}
 use Rattle.jr_rev.specs.declared.revision.Revision.{Revision}
 use Rattle.jr_rev.specs.Texts.{revision_text, vector_text}
-use Rattle.jr_rev.specs.Vectors.{Entries}
+use Rattle.jr_rev.specs.Grammar.{FitsFields}
+use Rattle.jr_rev.specs.Vectors.{Entries, revisions_of}
 
 -- the texts, a comma before each
 abbrev pub behind_texts : List (List ℕ) → List ℕ
@@ -42,3 +44,22 @@ revision_next start out out' es i first r within is put h =
 
 pub two_fronts : (old mid new x y : List ℕ) → mid ≡ old ++ x → new ≡ mid ++ y → (more : List ℕ) × (new ≡ old ++ more)
 two_fronts old mid new x y a b = (x ++ y, b ∙ ap (λ m. m ++ y) a ∙ append_assoc old x y)
+
+-- ---- the numbers of the revisions fit
+
+revisions_of-append : (v w : Entries) → revisions_of (v ++ w) ≡ revisions_of v ++ revisions_of w
+revisions_of-append [] w = refl
+revisions_of-append (None ∷ v) w = revisions_of-append v w
+revisions_of-append (Some r ∷ v) w = ap (λ rs. r ∷ rs) (revisions_of-append v w)
+
+pub fits_none : (es : Entries) (i : ℕ) → i < length es → get_or es i None ≡ None → All FitsFields (revisions_of (take i es)) → All FitsFields (revisions_of (take (i + 1) es))
+fits_none es i within is fits =
+    let same : revisions_of (take (i + 1) es) ≡ revisions_of (take i es) =
+    ap revisions_of (take_more es i None within ∙ ap (λ e. take i es ++ e ∷ []) is) ∙ revisions_of-append (take i es) (None ∷ []) ∙ append-nil (revisions_of (take i es)) in
+    rw same fits
+
+pub fits_some : (es : Entries) (i : ℕ) (r : Revision) → i < length es → get_or es i None ≡ Some r → FitsFields r → All FitsFields (revisions_of (take i es)) → All FitsFields (revisions_of (take (i + 1) es))
+fits_some es i r within is fit fits =
+    let same : revisions_of (take (i + 1) es) ≡ revisions_of (take i es) ++ r ∷ [] =
+    ap revisions_of (take_more es i None within ∙ ap (λ e. take i es ++ e ∷ []) is) ∙ revisions_of-append (take i es) (Some r ∷ []) in
+    rw same (All-push FitsFields (revisions_of (take i es)) r fits fit)

@@ -5,7 +5,7 @@ use Rattle.std.specs.List.{AllZip, join_with_byte, filter_map}
 use Rattle.std.specs.Option.{option_map}
 use Rattle.std.proofs.lemmas.List.Elements.{All-head, All-tail, All-cons, All-append}
 use Rattle.jr_rev.specs.Digits.{IsHexDigit}
-use Rattle.jr_rev.specs.Grammar.{IsRevisionText, IsVectorText, Fits}
+use Rattle.jr_rev.specs.Grammar.{IsRevisionText, IsVectorText, FitsFields}
 use Rattle.jr_rev.specs.Texts.{revision_text, vector_text}
 use Rattle.jr_rev.specs.Vectors.{Entries, IsVector, stands_from, revisions_of}
 use Rattle.jr_rev.specs.declared.revision.Revision.{Revision}
@@ -96,12 +96,12 @@ texts_of (Some r ∷ v) (t ∷ ts) each = let first = revision_text_of t r each.
 pub vector_text_of : (text : List ℕ) (v : Entries) → IsVectorText text v → text ≡ vector_text v
 vector_text_of text v t = t.joined ∙ ap (λ texts. join_with_byte 44 texts) (texts_of v t.texts t.each)
 
-texts_are : (v : Entries) → All Fits (revisions_of v) → AllZip IsRevisionText (filter_map (option_map revision_text) v) (revisions_of v)
+texts_are : (v : Entries) → All FitsFields (revisions_of v) → AllZip IsRevisionText (filter_map (option_map revision_text) v) (revisions_of v)
 texts_are [] fits = tt
 texts_are (None ∷ v) fits = texts_are v fits
-texts_are (Some r ∷ v) fits = (revision_text_is r (All-head Fits r (revisions_of v) fits), texts_are v (All-tail Fits r (revisions_of v) fits))
+texts_are (Some r ∷ v) fits = (revision_text_is r (All-head FitsFields r (revisions_of v) fits), texts_are v (All-tail FitsFields r (revisions_of v) fits))
 
-pub vector_text_is : (v : Entries) → IsVector v → All Fits (revisions_of v) → IsVectorText (vector_text v) v
+pub vector_text_is : (v : Entries) → IsVector v → All FitsFields (revisions_of v) → IsVectorText (vector_text v) v
 vector_text_is v vector fits = record { vector = vector; texts = filter_map (option_map revision_text) v; each = texts_are v fits; joined = refl }
 
 -- ---- revisions go to their places

@@ -42,7 +42,7 @@ pub record IsFirstFault (IsText : List ℕ → Type 0) (text : List ℕ) (offset
   pub at_end : offset ≡ length text → IsText text → ⊥
 
 -- the numbers of the revision fit its fields
-pub record Fits (r : Revision) : Type 0 where
+pub record FitsFields (r : Revision) : Type 0 where
   pub time : r.time < 2 ^ 64
   pub counter : r.counter < 2 ^ 32
   pub cluster : r.cluster < 2 ^ 32
