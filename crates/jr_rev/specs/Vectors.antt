@@ -1,5 +1,6 @@
 -- Revision vectors: for each cluster node at most one revision.
-use Rattle.std.specs.Prelude.{ℕ, ◌+◌, ◌-◌, Bool, true, false, cond, ◌&&◌, ◌==◌, nat_le, List, [], ◌∷◌, map, slice_get, slice_set, Option, None, Some}
+use Rattle.std.specs.Prelude.{◌≡◌, ℕ, ◌+◌, ◌-◌, Bool, true, false, cond, ◌&&◌, ◌==◌, nat_le, List, [], ◌∷◌, map, length, slice_get, slice_set, Option, None, Some, IsTrue}
+use Rattle.std.specs.List.{filter_map}
 use Rattle.std.specs.Option.{option_flatten, option_map_or}
 use Rattle.jr_rev.specs.declared.revision.Revision.{Revision}
 use Rattle.jr_rev.specs.Revisions.{is_at_most}
@@ -59,3 +60,24 @@ lesser_entry _ _ = None
 abbrev pub least : Entries → Entries → Entries
 least (e ∷ v) (f ∷ w) = lesser_entry e f ∷ least v w
 least _ _ = []
+
+-- the greater of two entries; one that is missing in one is that of the other
+abbrev pub greater_entry : Option Revision → Option Revision → Option Revision
+greater_entry None f = f
+greater_entry (Some e) None = Some e
+greater_entry (Some e) (Some f) = Some (cond (is_at_most e f) f e)
+
+-- the greatest of two vectors, entry by entry
+abbrev pub greatest : Entries → Entries → Entries
+greatest [] w = w
+greatest (e ∷ v) [] = e ∷ v
+greatest (e ∷ v) (f ∷ w) = greater_entry e f ∷ greatest v w
+
+-- the revisions of v, in the order of their cluster nodes
+abbrev pub revisions_of : Entries → List Revision
+revisions_of v = filter_map (λ e. e) v
+
+-- eight entries, each of the cluster node that it stands for
+pub record IsVector (v : Entries) : Type 0 where
+  pub eight : length v ≡ 8
+  pub stands : IsTrue (stands_from 1 v)
