@@ -1,3 +1,6 @@
 pub mod Entries
+pub mod Follows
 pub mod Maps
+pub mod Orders
+pub mod Scanned
 mod Rows

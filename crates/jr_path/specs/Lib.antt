@@ -1,3 +1,5 @@
+pub mod Grammar
 pub mod Ids
 pub mod Lending
 pub mod Names
+pub mod Stages

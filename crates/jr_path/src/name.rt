@@ -1,5 +1,7 @@
 // A name, seen as its bytes.
-ghost use Rattle.std.specs.Prelude.{◌≡◌, IfOk};
+ghost use Rattle.std.specs.Prelude.{◌≡◌, ◌≤◌, ◌⊎◌, ◌↔◌, IfErr, IfOk, IsTrue, OnOk, MatchResult, codes};
+ghost use Rattle.jr_path.specs.Grammar.{IsFirstFault, IsName, RefusesName, is_plain, is_prefix_character};
+ghost use Rattle.jr_path.specs.Stages.{missing, stage_after, step_of};
 
 use crate::{DeepCopy, PathFault};
 use std::alloc::{AllocError, Global};
@@ -19,16 +21,32 @@ impl Model for Name {
     ghost Value = { List ℕ };
 
     ghost view = { λ a. string_bytes a.text };
+
+    ghost use Rattle.jr_path.specs.Grammar.{IsName};
+
+    ghost invariant = { λ a. IsName (string_bytes a.text) };
 }
 
 impl Name {
-    /// Reads a name.
+    /// Reads a name: 1 to 255 bytes; at most one `:`, behind a prefix of ASCII letters, digits, `_`, `-`
+    /// and `.`; none of `/ [ ] | *` and no control character; no space at either end; not `.` or `..`.
+    /// `BadName` has the offset of the first byte that no name has there, or the text's length.
     pub fn parse(alloc: Global, text: &str) -> Result<Name, PathFault>
+        ensures bytes { IfOk result (λ name. name ≡ text.now) }
+        ensures grammar { OnOk result (IsName text.now) }
+        ensures fault { IfErr result (RefusesName text.now) }
+    {
+        match check_name(text) {
+            Ok(()) => Ok(Name::of(alloc, text)?),
+            Err(offset) => Err(PathFault::BadName(offset)),
+        }
+    }
+
+    // The name of a text in the grammar.
+    pub(crate) fn of(alloc: Global, text: &str) -> Result<Name, AllocError>
+        requires { IsName text.now }
         ensures { IfOk result (λ name. name ≡ text.now) }
     {
-        if text.is_empty() {
-            return Err(PathFault::BadName(0));
-        }
         Ok(Name {
             text: String::from_str(alloc, text)?,
         })
@@ -40,6 +58,123 @@ impl Name {
     {
         self.text.as_str()
     }
+}
+
+// How far the characters of a name are read.
+#[derive(Clone, Copy)]
+enum Stage {
+    // Not at all.
+    Start,
+    // One or more characters of a prefix.
+    Prefix,
+    // A name in which no colon may follow.
+    Whole,
+    // A space or the colon is last, so more must follow.
+    Open,
+}
+
+impl Stage {
+    // The stage behind one more character, if a name can have it there.
+    fn after(self, c: char) -> Option<Stage>
+        ensures { result ≡ stage_after self c }
+    {
+        if c == ':' {
+            return match self {
+                Stage::Prefix => Some(Stage::Open),
+                _ => None,
+            };
+        }
+        if c == ' ' {
+            return match self {
+                Stage::Start => None,
+                _ => Some(Stage::Open),
+            };
+        }
+        if !is_plain(c) {
+            return None;
+        }
+        if !is_prefix_character(c) {
+            return Some(Stage::Whole);
+        }
+        match self {
+            Stage::Start => Some(Stage::Prefix),
+            Stage::Prefix => Some(Stage::Prefix),
+            _ => Some(Stage::Whole),
+        }
+    }
+
+    // How many bytes must still follow at least.
+    fn missing(self) -> usize
+        ensures { result ≡ missing self }
+    {
+        match self {
+            Stage::Start => 1,
+            Stage::Prefix => 0,
+            Stage::Whole => 0,
+            Stage::Open => 1,
+        }
+    }
+
+    // The stage behind the character at an offset, or where the first fault is.
+    fn read(self, offset: usize, c: char) -> Result<Stage, usize>
+        requires { offset ≤ 255 }
+        ensures { result ≡ step_of self offset c }
+    {
+        let end = offset + c.len_utf8();
+        let Some(next) = self.after(c) else {
+            // A character of more than one byte begins as others do that may stand here.
+            return Err(if (c as u32) < 128 {
+                offset
+            } else if end <= 255 {
+                offset + 1
+            } else {
+                offset
+            });
+        };
+        if end + next.missing() <= 255 {
+            Ok(next)
+        } else {
+            Err(offset)
+        }
+    }
+}
+
+// Whether a name may have the character elsewhere than between its prefix and the rest.
+fn is_plain(c: char) -> bool
+    ensures { result ≡ is_plain c }
+{
+    !c.is_control() && !matches!(c, '/' | ':' | '[' | ']' | '|' | '*')
+}
+
+// Whether a prefix may have the character.
+fn is_prefix_character(c: char) -> bool
+    ensures { result ≡ is_prefix_character c }
+{
+    c.is_ascii_alphanumeric() || matches!(c, '_' | '-' | '.')
+}
+
+// Whether the text is a name; else where its first fault is.
+pub(crate) fn check_name(text: &str) -> Result<(), usize>
+    ensures { MatchResult result (λ _. IsName text.now) (IsFirstFault IsName text.now) }
+{
+    let mut stage = Stage::Start;
+    for (offset, c) in text.char_indices() {
+        stage = stage.read(offset, c)?;
+    }
+    if stage.missing() > 0 {
+        return Err(text.len());
+    }
+    if is_dots(text) {
+        return Err(text.len());
+    }
+    Ok(())
+}
+
+// Whether the text is one of the two that stand for a node itself and the one above it.
+fn is_dots(text: &str) -> bool
+    ensures { IsTrue result ↔ ((text.now ≡ codes ".") ⊎ (text.now ≡ codes "..")) }
+{
+    text == "." || text == ".."
 }
 
 impl DeepCopy for Name {
