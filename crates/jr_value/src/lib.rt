@@ -2,6 +2,11 @@
 #![tactic(auto)]
 
 mod copies;
+mod equality;
+mod order;
 mod value;
+mod writing;
 
+pub use equality::{same_properties_are_equal, same_values_are_equal};
+pub use order::values_of_one_kind_have_an_order;
 pub use value::{Kind, Property, Value};

@@ -1,0 +1,123 @@
+// The JSON of values and properties, as it is printed.
+ghost use Rattle.std.specs.Prelude.{◌≡◌, IfOk, string_bytes};
+ghost use Rattle.serde_json.specs.Data.{array, string};
+ghost use Rattle.serde_json.specs.View.{view};
+ghost use Rattle.serde_json.specs.Written.{compact_text};
+ghost use Rattle.jr_value.specs.Json.{identifier_text, kind_text, property_data, tagged, value_data, value_items};
+
+use crate::value::{Kind, Property, Value};
+use base64::engine::general_purpose::STANDARD;
+use serde_json::{Map, Value as Json};
+use std::alloc::{AllocError, Global};
+use uuid::Uuid;
+
+impl Kind {
+    /// The lower-case word for the kind, as `weakreference`.
+    pub fn as_str(&self) -> &str
+        ensures { result.now ≡ kind_text self.now }
+    {
+        match self {
+            Kind::Str => "string",
+            Kind::Binary => "binary",
+            Kind::Long => "long",
+            Kind::Date => "date",
+            Kind::Boolean => "boolean",
+            Kind::Name => "name",
+            Kind::Path => "path",
+            Kind::Reference => "reference",
+            Kind::WeakReference => "weakreference",
+            Kind::Uri => "uri",
+        }
+    }
+}
+
+impl Value {
+    /// The JSON of the value: a STRING as text, a LONG as a number, a BOOLEAN as itself, each other kind as an
+    /// object of one member that the kind names: `{"binary": Base64}`, `{"date": milliseconds}`,
+    /// `{"name": text}`, `{"path": text}`, `{"reference": identifier}`, `{"weakreference": identifier}`,
+    /// `{"uri": text}`.
+    pub fn to_json(&self, alloc: Global) -> Result<Json, AllocError>
+        ensures { IfOk result (λ json. view json ≡ value_data self.now) }
+    {
+        match self {
+            Value::Str(text) => Ok(Json::try_from_str(alloc, text.as_str())?),
+            Value::Binary(bytes) => {
+                let text = STANDARD.encode(alloc, bytes.inner())?;
+                Ok(tagged(alloc, "binary", Json::String(text))?)
+            }
+            Value::Long(number) => Ok(Json::from(*number)),
+            Value::Date(time) => Ok(tagged(alloc, "date", Json::from(*time))?),
+            Value::Boolean(truth) => Ok(Json::Bool(*truth)),
+            Value::Name(name) => Ok(tagged_text(alloc, "name", name.as_str())?),
+            Value::Path(path) => Ok(tagged(alloc, "path", Json::String(path.text()?))?),
+            Value::Reference(id) => Ok(tagged_identifier(alloc, "reference", *id)?),
+            Value::WeakReference(id) => Ok(tagged_identifier(alloc, "weakreference", *id)?),
+            Value::Uri(text) => Ok(tagged_text(alloc, "uri", text.as_str())?),
+        }
+    }
+}
+
+impl Property {
+    /// The JSON of the property: that of its one value, a list of the values' JSON, or for a property with no
+    /// values `{"empty": kind}`.
+    pub fn to_json(&self, alloc: Global) -> Result<Json, AllocError>
+        ensures { IfOk result (λ json. view json ≡ property_data self.now) }
+    {
+        match self {
+            Property::Single(value) => Ok(value.to_json(alloc)?),
+            Property::Many(kind, values) => match values.inner().as_slice() {
+                [] => Ok(tagged_text(alloc, "empty", kind.as_str())?),
+                values => Ok(list_json(alloc, values)?),
+            },
+        }
+    }
+
+    /// The text of the property's JSON, with no spaces.
+    #[tactic(auto, using(crate::proofs::NoFloat::property_plain))]
+    pub fn json_text(&self, alloc: Global) -> Result<String, AllocError>
+        ensures { IfOk result (λ text. string_bytes text ≡ compact_text (property_data self.now)) }
+    {
+        let json = self.to_json(alloc)?;
+        Ok(json.to_string(alloc)?)
+    }
+}
+
+fn list_json(alloc: Global, values: &[Value]) -> Result<Json, AllocError>
+    ensures { IfOk result (λ json. view json ≡ array (value_items values.now)) }
+{
+    let mut items = Vec::new(alloc);
+    for value in values {
+        items.push(value.to_json(alloc)?)?;
+    }
+    Ok(Json::Array(items))
+}
+
+// An object with one member.
+fn tagged(alloc: Global, tag: &str, content: Json) -> Result<Json, AllocError>
+    ensures { IfOk result (λ json. view json ≡ tagged tag.now (view content)) }
+{
+    let mut map = Map::new(alloc);
+    map.insert(String::from_str(alloc, tag)?, content)?;
+    Ok(Json::Object(map))
+}
+
+fn tagged_text(alloc: Global, tag: &str, text: &str) -> Result<Json, AllocError>
+    ensures { IfOk result (λ json. view json ≡ tagged tag.now (string text.now)) }
+{
+    Ok(tagged(alloc, tag, Json::try_from_str(alloc, text)?)?)
+}
+
+fn tagged_identifier(alloc: Global, tag: &str, id: u128) -> Result<Json, AllocError>
+    ensures { IfOk result (λ json. view json ≡ tagged tag.now (string (identifier_text id))) }
+{
+    Ok(tagged(alloc, tag, Json::String(identifier_of(alloc, id)?))?)
+}
+
+// The hyphenated text of an identifier, in lower case.
+fn identifier_of(alloc: Global, id: u128) -> Result<String, AllocError>
+    ensures { IfOk result (λ text. string_bytes text ≡ identifier_text id) }
+{
+    let mut buffer = Uuid::encode_buffer();
+    let text = Uuid::from_u128(id).hyphenated().encode_lower(&mut buffer);
+    String::from_str(alloc, text)
+}
