@@ -1,8 +1,8 @@
 -- Trees: a node for each path, and a property for each name of a node.
-use Rattle.std.specs.Prelude.{Bool, true, false, List, [], ◌∷◌, Option, is_some, IsTrue, codes}
+use Rattle.std.specs.Prelude.{Bool, true, false, cond, List, [], ◌∷◌, Option, None, is_some, IsTrue, codes}
 use Rattle.std.specs.Option.{option_and_then, option_map_or}
 use Rattle.std.specs.Ordering.{eq_by_cmp}
-use Rattle.std.specs.Map.{lookup, keys_of}
+use Rattle.std.specs.Map.{lookup}
 use Rattle.std.specs.BTreeMap.{is_at}
 use Rattle.std.specs.FinMap.{is_sorted}
 use Rattle.std.specs.List.{list_all, filter, filter_map}
@@ -43,7 +43,7 @@ is_child_of p q = option_map_or (eq_by_cmp path_cmp p) (parent_of q) false
 
 -- the last names of the children of p, in the order of names
 abbrev pub children_of : Nodes → Path → List Name
-children_of t p = filter_map last_name (filter (is_child_of p) (keys_of t))
+children_of t p = filter_map (λ e. cond (is_child_of p e.0) (last_name e.0) None) t
 
 -- the nodes at or below p
 abbrev pub subtree_of : Nodes → Path → Nodes

@@ -1,7 +1,11 @@
 // Trees: a node for each path, and a property for each name of a node.
-ghost use Rattle.std.specs.Prelude.{◌≡◌, [], IfOk, is_some, length};
+ghost use Rattle.std.specs.Prelude.{◌≡◌, [], IfOk, OnOk, cond, is_some, length, map};
 ghost use Rattle.std.specs.Option.{option_copied};
-ghost use Rattle.jr_tree.specs.Trees.{node_at, property_at, node_of_type, initial_tree};
+ghost use Rattle.std.specs.List.Sorted.{IsStrictlySortedBy};
+ghost use Rattle.std.specs.Map.{keys_of};
+ghost use Rattle.std.specs.Map.Iter.{deref_pair};
+ghost use Rattle.jr_path.specs.Names.{last_name, path_cmp};
+ghost use Rattle.jr_tree.specs.Trees.{node_at, property_at, node_of_type, initial_tree, is_child_of, children_of, subtree_of};
 
 use jr_path::{DeepCopy, Keyed, Name, Path};
 use jr_value::{Property, Value};
@@ -17,6 +21,7 @@ pub struct Node {
 /// A node for each path, seen as the list of nodes in the order of their paths.
 #[derive(Drop)]
 pub struct Tree {
+    alloc: Global,
     nodes: Keyed<Path, Node>,
 }
 
@@ -74,6 +79,7 @@ impl Tree {
         ensures { result ≡ [] }
     {
         Tree {
+            alloc,
             nodes: Keyed::new(alloc),
         }
     }
@@ -91,7 +97,7 @@ impl Tree {
         nodes.put(root, Node::of_type(alloc, "nt:unstructured")?)?;
         nodes.put(system, Node::of_type(alloc, "rep:system")?)?;
         nodes.put(versions, Node::of_type(alloc, "rep:versionStorage")?)?;
-        Ok(Tree { nodes })
+        Ok(Tree { alloc, nodes })
     }
 
     /// The node at a path.
@@ -118,6 +124,49 @@ impl Tree {
         }
     }
 
+    /// The last names of the children of a path, in ascending order, whether or not there is a node at
+    /// the path itself (JSR 283, 5.2 Traversal Access).
+    pub fn children(&self, path: &Path) -> Result<Vec<Name>, AllocError>
+        ensures { IfOk result (λ names. names.items ≡ children_of self.now path.now) }
+    {
+        let mut names = Vec::new(self.alloc);
+        for (at, _) in &self.under(path)? {
+            if let Some(name) = child_name(path, at) {
+                names.push(name.copy()?)?;
+            }
+        }
+        Ok(names)
+    }
+
+    /// The nodes at or below a path, with their paths from the root.
+    pub fn subtree(&self, path: &Path) -> Result<Tree, AllocError>
+        ensures { IfOk result (λ part. part ≡ subtree_of self.now path.now) }
+    {
+        let mut nodes = Keyed::new(self.alloc);
+        for (at, node) in &self.under(path)? {
+            nodes.put(at.copy()?, node.copy()?)?;
+        }
+        Ok(Tree {
+            alloc: self.alloc,
+            nodes,
+        })
+    }
+
+    // The nodes at or below a path, which stand one after another in path order.
+    fn under<'a>(&'a self, path: &Path) -> Result<Vec<(&'a Path, &'a Node)>, AllocError>
+        ensures found { IfOk result (λ found. map deref_pair found.items ≡ subtree_of self.now path.now) }
+        ensures sorted { OnOk result (IsStrictlySortedBy path_cmp (keys_of (subtree_of self.now path.now))) }
+    {
+        let mut found = Vec::new(self.alloc);
+        for (at, node) in self.nodes.inner().range(path..) {
+            if !at.is_under(path) {
+                break;
+            }
+            found.push((at, node))?;
+        }
+        Ok(found)
+    }
+
     /// How many nodes it has.
     pub fn len(&self) -> usize
         ensures { result ≡ length self.now }
@@ -126,9 +175,32 @@ impl Tree {
     }
 }
 
+// The last name of the second path, where this is that of a child of the first.
+fn child_name<'a>(path: &Path, at: &'a Path) -> Option<&'a Name>
+    ensures { option_copied result ≡ cond (is_child_of path.now at.now) (last_name at.now) None }
+{
+    if is_child(path, at) {
+        at.last_name()
+    } else {
+        None
+    }
+}
+
+// Whether the second path is that of a child of the first.
+fn is_child(path: &Path, at: &Path) -> bool
+    ensures { result ≡ is_child_of path.now at.now }
+{
+    let depth = at.depth();
+    if depth == 0 {
+        return false;
+    }
+    at.is_under(path) && depth - 1 == path.depth()
+}
+
 impl DeepCopy for Tree {
     fn copy(&self) -> Result<Tree, AllocError> {
         Ok(Tree {
+            alloc: self.alloc,
             nodes: self.nodes.copy()?,
         })
     }
