@@ -1,7 +1,6 @@
 -- When two values or properties are the same.
-use Rattle.std.specs.Prelude.{ℕ, Bool, true, false, cond, ◌&&◌, ◌==◌, nat_eq, List}
-use Rattle.std.specs.Ordering.{int_eq, nat_cmp, eq_by_cmp}
-use Rattle.std.specs.Cmp.Lexicographic.{slice_cmp}
+use Rattle.std.specs.Prelude.{ℕ, Bool, true, false, cond, ◌&&◌, ◌==◌, List}
+use Rattle.std.specs.Ordering.{int_eq, eq_by_cmp}
 use Rattle.jr_path.specs.Names.{name_cmp, path_cmp}
 use lib.Pointwise.{pointwise}
 use Rattle.jr_value.specs.declared.value.Kind.{Kind}

@@ -2,6 +2,8 @@
 #![tactic(auto)]
 
 mod copies;
+mod equality;
 mod value;
 
+pub use equality::{same_properties_are_equal, same_values_are_equal};
 pub use value::{Kind, Property, Value};
