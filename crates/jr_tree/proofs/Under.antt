@@ -20,7 +20,9 @@ use Rattle.jr_path.specs.Names.{name_cmp, path_cmp, last_name, is_under}
 use Rattle.jr_path.specs.declared.name.Name.{Name}
 use Rattle.jr_path.specs.declared.path.Path.{Path}
 use Rattle.jr_path.proofs.Maps.{path_exact, path_total, name_exact}
+use Rattle.std.specs.FinMap.{is_sorted}
 use Rattle.jr_tree.specs.declared.tree.Node.{Node}
+use Rattle.jr_tree.proofs.Entries.{rising, sorted_filter}
 use Rattle.jr_tree.specs.Trees.{Nodes, is_child_of, children_of, subtree_of}
 
 exactly : (o : Ordering) → is_eq o ≡ true → o ≡ Equal
@@ -126,25 +128,9 @@ pub record IsSearch (p : Path) (t found rest : Nodes) : Type 0 where
   pub sorted : IsStrictlySortedBy path_cmp (keys_of rest)
   pub from : list_all (is_from p) rest ≡ true
 
-above_kept : (R : Path → Type 0) (test : Path × Node → Bool) (t : Nodes) → AllByRecursion R (keys_of t) → AllByRecursion R (keys_of (filter test t))
-above_kept R test [] h = tt
-above_kept R test (e ∷ t) h = elim (test e) as (λ b. AllByRecursion R (keys_of (cond b (e ∷ filter test t) (filter test t)))) [ true ↦ (h.0, above_kept R test t h.1) | false ↦ above_kept R test t h.1 ]
-
-pub sorted_kept : (test : Path × Node → Bool) (t : Nodes) → IsStrictlySortedBy path_cmp (keys_of t) → IsStrictlySortedBy path_cmp (keys_of (filter test t))
-unfolding IsStrictlySortedBy
-sorted_kept test [] h = tt
-sorted_kept test (e ∷ t) h =
-    elim (test e) as (λ b. IsStrictlySortedBy path_cmp (keys_of (cond b (e ∷ filter test t) (filter test t)))) [
-      | true ↦ (above_kept (λ q. path_cmp e.0 q ≡ Less) test t h.0, sorted_kept test t h.1)
-      | false ↦ sorted_kept test t h.1
-    ]
-
-pub subtree_sorted : (t : Nodes) (p : Path) → IsStrictlySortedBy path_cmp (keys_of t) → IsStrictlySortedBy path_cmp (keys_of (subtree_of t p))
-subtree_sorted t p = sorted_kept (λ e. is_under e.0 p) t
-
-pub search_begins : (p : Path) (entries t found range rest : Nodes) → entries ≡ t → IsStrictlySortedBy path_cmp (keys_of entries) → range ≡ entries_between path_cmp (Included p) Unbounded entries → rest ≡ range → found ≡ [] → IsSearch p t found rest
+pub search_begins : (p : Path) (entries t found range rest : Nodes) → entries ≡ t → is_sorted path_cmp entries ≡ true → range ≡ entries_between path_cmp (Included p) Unbounded entries → rest ≡ range → found ≡ [] → IsSearch p t found rest
 search_begins p entries t found range rest all sorted between same none =
-    rw (none, same, between, ← all) (record { whole = subtree_from entries p; sorted = sorted_kept (is_from p) entries sorted; from = all_filtered (is_from p) entries })
+    rw (none, same, between, ← all) (record { whole = subtree_from entries p; sorted = rising path_cmp _ (sorted_filter path_cmp (is_from p) entries sorted); from = all_filtered (is_from p) entries })
 
 -- the next entry is found
 pub search_goes_on : (p : Path) (t found found' rest more : Nodes) (e : Path × Node) → IsSearch p t found rest → rest ≡ e ∷ more → is_under e.0 p ≡ true → found' ≡ found ++ e ∷ [] → IsSearch p t found' more
@@ -212,7 +198,7 @@ children_all f p t xs ys i names so_far end same all =
 
 -- what is put behind all others is one more entry of the list
 pub copied_more : {A : Type 0} (f : A → Path × Node) (t : Nodes) (xs ys : List A) (i : ℕ) (x : A) (old new : Nodes) (path : Path) (node : Node) → i < length xs → x ≡ get_or xs i x → xs ≡ ys → map f ys ≡ t
-    → IsStrictlySortedBy path_cmp (keys_of t) → old ≡ map f (take i xs) → new ≡ insert_entry path_cmp old path node → path ≡ (f x).0 → node ≡ (f x).1 → new ≡ map f (take (i + 1) xs)
+    → is_sorted path_cmp t ≡ true → old ≡ map f (take i xs) → new ≡ insert_entry path_cmp old path node → path ≡ (f x).0 → node ≡ (f x).1 → new ≡ map f (take (i + 1) xs)
 copied_more {A = A} f t xs ys i x old new path node below at same all sorted so_far put same_path same_node =
     let more : take (i + 1) xs ≡ take i xs ++ x ∷ [] = take_more xs i x below ∙ ap (λ y. take i xs ++ y ∷ []) (sym at) in
     let whole : map f (take i xs) ++ f x ∷ map f (drop (i + 1) xs) ≡ t =
@@ -225,5 +211,12 @@ copied_more {A = A} f t xs ys i x old new path node below at same all sorted so_
     ∙ (ap (λ q. insert_entry path_cmp old q node) same_path
     ∙ (ap (insert_entry path_cmp old (f x).0) same_node
     ∙ (ap (λ (front : Nodes). insert_entry path_cmp front (f x).0 (f x).1) so_far
-    ∙ (insert_entry_last path_cmp path_total (map f (take i xs)) (f x).0 (f x).1 (map f (drop (i + 1) xs)) (rw whole sorted)
+    ∙ (insert_entry_last path_cmp path_total (map f (take i xs)) (f x).0 (f x).1 (map f (drop (i + 1) xs)) (rw whole (rising path_cmp t sorted))
     ∙ (sym (map-append f (take i xs) (x ∷ [])) ∙ ap (map f) (sym more))))))
+
+-- all were copied
+pub copied_all : {A : Type 0} (f : A → Path × Node) (t : Nodes) (xs ys : List A) (i : ℕ) (new : Nodes) → length xs ≤ i → xs ≡ ys → map f ys ≡ t → new ≡ map f (take i xs) → new ≡ t
+copied_all f t xs ys i new end same all so_far = so_far ∙ (ap (map f) (take_all i xs end ∙ same) ∙ all)
+
+pub subtree_sorted : (entries t : Nodes) (p : Path) → entries ≡ t → is_sorted path_cmp entries ≡ true → is_sorted path_cmp (subtree_of t p) ≡ true
+subtree_sorted entries t p all sorted = sorted_filter path_cmp (λ e. is_under e.0 p) t (rw (← all) sorted)

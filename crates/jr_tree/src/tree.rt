@@ -1,8 +1,7 @@
 // Trees: a node for each path, and a property for each name of a node.
-ghost use Rattle.std.specs.Prelude.{◌≡◌, [], IfOk, OnOk, cond, is_some, length, map};
+ghost use Rattle.std.specs.Prelude.{◌≡◌, [], IfOk, IsTrue, cond, is_some, length, map};
 ghost use Rattle.std.specs.Option.{option_copied};
-ghost use Rattle.std.specs.List.Sorted.{IsStrictlySortedBy};
-ghost use Rattle.std.specs.Map.{keys_of};
+ghost use Rattle.std.specs.FinMap.{is_sorted};
 ghost use Rattle.std.specs.Map.Iter.{deref_pair};
 ghost use Rattle.jr_path.specs.Names.{last_name, path_cmp};
 ghost use Rattle.jr_tree.specs.Trees.{node_at, property_at, node_of_type, initial_tree, is_child_of, children_of, subtree_of};
@@ -31,6 +30,12 @@ impl Model for Tree {
     ghost Value = { Nodes };
 
     ghost view = { λ a. a.nodes };
+
+    ghost use Rattle.std.specs.Prelude.{IsTrue};
+    ghost use Rattle.std.specs.FinMap.{is_sorted};
+    ghost use Rattle.jr_path.specs.Names.{path_cmp};
+
+    ghost invariant = { λ a. IsTrue (is_sorted path_cmp a.nodes) };
 }
 
 impl Node {
@@ -154,8 +159,7 @@ impl Tree {
 
     // The nodes at or below a path, which stand one after another in path order.
     fn under<'a>(&'a self, path: &Path) -> Result<Vec<(&'a Path, &'a Node)>, AllocError>
-        ensures found { IfOk result (λ found. map deref_pair found.items ≡ subtree_of self.now path.now) }
-        ensures sorted { OnOk result (IsStrictlySortedBy path_cmp (keys_of (subtree_of self.now path.now))) }
+        ensures { IfOk result (λ found. map deref_pair found.items ≡ subtree_of self.now path.now) }
     {
         let mut found = Vec::new(self.alloc);
         for (at, node) in self.nodes.inner().range(path..) {
@@ -167,9 +171,10 @@ impl Tree {
         Ok(found)
     }
 
-    /// How many nodes it has.
+    /// How many nodes it has. Their paths stand in order.
     pub fn len(&self) -> usize
-        ensures { result ≡ length self.now }
+        ensures len { result ≡ length self.now }
+        ensures sorted { IsTrue (is_sorted path_cmp self.now) }
     {
         self.nodes.inner().len()
     }

@@ -16,4 +16,4 @@ loop-at-preserved c =
     ])
 
 pub returns : goal.returns
-returns c = children_all deref_pair _ _ _ _ _ _ c.loop-at.invariant c.loop-at-test.false c.deref-at-items.ensures.value c.in_ok-under.ensures.found
+returns c = children_all deref_pair _ _ _ _ _ _ c.loop-at.invariant c.loop-at-test.false c.deref-at-items.ensures.value c.in_ok-under.ensures
