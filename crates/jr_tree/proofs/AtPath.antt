@@ -145,3 +145,7 @@ node_at-applied p t ws s =
 
 pub order-applied : (t : Nodes) (ws : List Write) → InOrder t → InOrder (applied t ws)
 order-applied t ws s = order-fills _ (last_writes ws) (order-comes t (last_writes ws) s)
+
+-- an edit is applied by its writes of nodes, and then by its writes of properties
+pub applied_in_steps : (t nodes come filled : Nodes) (ws last last' : List Write) → nodes ≡ t → last ≡ last_writes ws → last' ≡ last → come ≡ fold with_node_write nodes last → filled ≡ fold with_property_write come last' → filled ≡ applied t ws
+applied_in_steps t nodes come filled ws last last' same are are' first then = rw (then, are', first, are, same) refl

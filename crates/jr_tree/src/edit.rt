@@ -1,10 +1,12 @@
 // Edits: lists of writes of items.
-ghost use Rattle.std.specs.Prelude.{◌≡◌, IfOk};
-ghost use Rattle.jr_tree.specs.Edits.{item_of};
+ghost use Rattle.std.specs.Prelude.{◌≡◌, IfOk, map};
+ghost use Rattle.std.specs.Map.Iter.{deref};
+ghost use Rattle.jr_tree.specs.Edits.{item_of, last_writes};
 
 use jr_path::{DeepCopy, Item, List, Name, Path};
 use jr_value::Property;
 use std::alloc::AllocError;
+use std::collections::BTreeSet;
 
 /// A write of one item (JSR 283, 3.1 Items): a node comes or goes, a property of a node is put or unset.
 #[derive(Debug, Drop)]
@@ -46,6 +48,25 @@ impl Write {
             Write::Here(path) | Write::Gone(path) => path,
             Write::Put(path, _, _) | Write::Unset(path, _) => path,
         }
+    }
+}
+
+impl Edit {
+    // The last write of each item, in their order.
+    pub(crate) fn last_writes(&self) -> Result<Vec<&Write>, AllocError>
+        ensures { IfOk result (λ last. map deref last.items ≡ last_writes self.now.writes) }
+    {
+        let writes = self.writes.inner();
+        let mut seen = BTreeSet::new(*writes.allocator());
+        let mut last = Vec::new(*writes.allocator());
+        for at in (0..writes.len()).rev() {
+            let write = &writes[at];
+            if seen.insert(write.item()?)? {
+                last.push(write)?;
+            }
+        }
+        last.reverse();
+        Ok(last)
     }
 }
 

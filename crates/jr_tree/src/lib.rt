@@ -2,6 +2,7 @@
 //! crates share.
 #![tactic(auto)]
 
+mod apply;
 mod edit;
 mod laws;
 mod shared;

@@ -20,8 +20,8 @@ pub struct Node {
 /// A node for each path, seen as the list of nodes in the order of their paths.
 #[derive(Drop)]
 pub struct Tree {
-    alloc: Global,
-    nodes: Keyed<Path, Node>,
+    pub(crate) alloc: Global,
+    pub(crate) nodes: Keyed<Path, Node>,
 }
 
 impl Model for Tree {
