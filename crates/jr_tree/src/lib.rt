@@ -1,0 +1,14 @@
+//! Trees and edits: a node for each path, the writes that change them, and plain data that several
+//! crates share.
+#![tactic(auto)]
+
+mod apply;
+mod edit;
+mod laws;
+mod shared;
+mod tree;
+
+pub use edit::{Edit, Write};
+pub use laws::{initial_tree_is_a_tree, proper_edits_give_trees};
+pub use shared::{CommitChanges, Datum, ItemChange, Refusal, Who};
+pub use tree::{Node, Tree};

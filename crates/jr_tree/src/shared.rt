@@ -1,0 +1,93 @@
+// Plain data that several crates share.
+use jr_path::{DeepCopy, Item, List, Name, Path, Text};
+use jr_rev::{RevVec, Revision};
+use jr_value::Kind;
+use std::alloc::AllocError;
+
+/// Who runs a command: the number of the session, how many sessions there were before this run, how many
+/// identifiers the session has made, and the vector that its tree is read at.
+#[derive(Clone, Copy, Debug, PartialEq, Eq)]
+pub struct Who {
+    pub session: u32,
+    pub earlier: u32,
+    pub ids: u32,
+    pub base: RevVec,
+}
+
+/// Why a command is refused: the number of the refusal, 1 to 16, and what its reply names.
+#[derive(Debug, Drop)]
+pub struct Refusal {
+    pub number: u8,
+    pub parts: List<Datum>,
+}
+
+/// A thing that the reply of a refusal names. Null stands where there is none.
+#[derive(Debug, Drop)]
+pub enum Datum {
+    Path(Path),
+    Item(Item),
+    Name(Name),
+    Text(Text),
+    Number(u64),
+    Kind(Kind),
+    Revision(Revision),
+    Null,
+}
+
+/// An item that a commit wrote: whether it was there before, and whether it is after.
+#[derive(Debug, Drop)]
+pub struct ItemChange {
+    pub item: Item,
+    pub before: bool,
+    pub after: bool,
+}
+
+/// The items that the commit of this revision wrote.
+#[derive(Debug, Drop)]
+pub struct CommitChanges {
+    pub revision: Revision,
+    pub changes: List<ItemChange>,
+}
+
+impl DeepCopy for Refusal {
+    fn copy(&self) -> Result<Refusal, AllocError> {
+        Ok(Refusal {
+            number: self.number,
+            parts: self.parts.copy()?,
+        })
+    }
+}
+
+impl DeepCopy for Datum {
+    fn copy(&self) -> Result<Datum, AllocError> {
+        match self {
+            Datum::Path(path) => Ok(Datum::Path(path.copy()?)),
+            Datum::Item(item) => Ok(Datum::Item(item.copy()?)),
+            Datum::Name(name) => Ok(Datum::Name(name.copy()?)),
+            Datum::Text(text) => Ok(Datum::Text(text.copy()?)),
+            Datum::Number(number) => Ok(Datum::Number(*number)),
+            Datum::Kind(kind) => Ok(Datum::Kind(*kind)),
+            Datum::Revision(revision) => Ok(Datum::Revision(*revision)),
+            Datum::Null => Ok(Datum::Null),
+        }
+    }
+}
+
+impl DeepCopy for ItemChange {
+    fn copy(&self) -> Result<ItemChange, AllocError> {
+        Ok(ItemChange {
+            item: self.item.copy()?,
+            before: self.before,
+            after: self.after,
+        })
+    }
+}
+
+impl DeepCopy for CommitChanges {
+    fn copy(&self) -> Result<CommitChanges, AllocError> {
+        Ok(CommitChanges {
+            revision: self.revision,
+            changes: self.changes.copy()?,
+        })
+    }
+}

@@ -1,0 +1,212 @@
+// Trees: a node for each path, and a property for each name of a node.
+ghost use Rattle.std.specs.Prelude.{◌≡◌, [], IfOk, IsTrue, cond, is_some, length, map};
+ghost use Rattle.std.specs.Option.{option_copied};
+ghost use Rattle.std.specs.FinMap.{is_sorted};
+ghost use Rattle.std.specs.Map.Iter.{deref_pair};
+ghost use Rattle.jr_path.specs.Names.{last_name, path_cmp};
+ghost use Rattle.jr_tree.specs.Trees.{node_at, property_at, node_of_type, initial_tree, is_child_of, children_of, subtree_of};
+
+use jr_path::{DeepCopy, Keyed, Name, Path};
+use jr_value::{Property, Value};
+use std::alloc::{AllocError, Global};
+use std::marker::Model;
+
+/// A node (JSR 283, 3.1 Items): a property for each of its names.
+#[derive(Drop)]
+pub struct Node {
+    pub props: Keyed<Name, Property>,
+}
+
+/// A node for each path, seen as the list of nodes in the order of their paths.
+#[derive(Drop)]
+pub struct Tree {
+    pub(crate) alloc: Global,
+    pub(crate) nodes: Keyed<Path, Node>,
+}
+
+impl Model for Tree {
+    ghost use Rattle.jr_tree.specs.Trees.{Nodes};
+
+    ghost Value = { Nodes };
+
+    ghost view = { λ a. a.nodes };
+
+    ghost use Rattle.std.specs.Prelude.{IsTrue};
+    ghost use Rattle.std.specs.FinMap.{is_sorted};
+    ghost use Rattle.jr_path.specs.Names.{path_cmp};
+
+    ghost invariant = { λ a. IsTrue (is_sorted path_cmp a.nodes) };
+}
+
+impl Node {
+    /// A node with no properties. It takes no memory.
+    pub fn new(alloc: Global) -> Node
+        ensures { result.props ≡ [] }
+    {
+        Node {
+            props: Keyed::new(alloc),
+        }
+    }
+
+    // A node with its primary type, and no other property.
+    fn of_type(alloc: Global, name: &str) -> Result<Node, AllocError>
+        ensures { IfOk result (λ node. node ≡ node_of_type name.now) }
+    {
+        let mut node = Node::new(alloc);
+        let key = plain_name(alloc, "jcr:primaryType")?;
+        let value = Value::Name(plain_name(alloc, name)?);
+        node.props.put(key, Property::Single(value))?;
+        Ok(node)
+    }
+}
+
+// A name of the repository's own, which is in the grammar of names.
+fn plain_name(alloc: Global, text: &str) -> Result<Name, AllocError>
+    ensures { IfOk result (λ name. name ≡ text.now) }
+{
+    match Name::parse(alloc, text) {
+        Ok(name) => Ok(name),
+        Err(_) => Err(AllocError),
+    }
+}
+
+impl DeepCopy for Node {
+    fn copy(&self) -> Result<Node, AllocError> {
+        Ok(Node {
+            props: self.props.copy()?,
+        })
+    }
+}
+
+impl Tree {
+    /// A tree with no node, not even the root. It takes no memory.
+    pub fn new(alloc: Global) -> Tree
+        ensures { result ≡ [] }
+    {
+        Tree {
+            alloc,
+            nodes: Keyed::new(alloc),
+        }
+    }
+
+    /// The tree before any commit: `/` of type nt:unstructured, `/jcr:system` of type rep:system and
+    /// `/jcr:system/jcr:versionStorage` of type rep:versionStorage, each with its type alone
+    /// (JSR 283, 3.11 System Node).
+    pub fn initial(alloc: Global) -> Result<Tree, AllocError>
+        ensures { IfOk result (λ tree. tree ≡ initial_tree) }
+    {
+        let root = Path::root(alloc);
+        let system = root.child(&plain_name(alloc, "jcr:system")?)?;
+        let versions = system.child(&plain_name(alloc, "jcr:versionStorage")?)?;
+        let mut nodes = Keyed::new(alloc);
+        nodes.put(root, Node::of_type(alloc, "nt:unstructured")?)?;
+        nodes.put(system, Node::of_type(alloc, "rep:system")?)?;
+        nodes.put(versions, Node::of_type(alloc, "rep:versionStorage")?)?;
+        Ok(Tree { alloc, nodes })
+    }
+
+    /// The node at a path.
+    pub fn get(&self, path: &Path) -> Option<&Node>
+        ensures { option_copied result ≡ node_at self.now path.now }
+    {
+        self.nodes.get(path)
+    }
+
+    /// Whether there is a node at the path.
+    pub fn has(&self, path: &Path) -> bool
+        ensures { result ≡ is_some (node_at self.now path.now) }
+    {
+        self.nodes.contains(path)
+    }
+
+    /// The property of that name of the node at a path.
+    pub fn property(&self, path: &Path, name: &Name) -> Option<&Property>
+        ensures { option_copied result ≡ property_at self.now path.now name.now }
+    {
+        match self.nodes.get(path) {
+            Some(node) => node.props.get(name),
+            None => None,
+        }
+    }
+
+    /// The last names of the children of a path, in ascending order, whether or not there is a node at
+    /// the path itself (JSR 283, 5.2 Traversal Access).
+    pub fn children(&self, path: &Path) -> Result<Vec<Name>, AllocError>
+        ensures { IfOk result (λ names. names.items ≡ children_of self.now path.now) }
+    {
+        let mut names = Vec::new(self.alloc);
+        for (at, _) in &self.under(path)? {
+            if let Some(name) = child_name(path, at) {
+                names.push(name.copy()?)?;
+            }
+        }
+        Ok(names)
+    }
+
+    /// The nodes at or below a path, with their paths from the root.
+    pub fn subtree(&self, path: &Path) -> Result<Tree, AllocError>
+        ensures { IfOk result (λ part. part ≡ subtree_of self.now path.now) }
+    {
+        let mut nodes = Keyed::new(self.alloc);
+        for (at, node) in &self.under(path)? {
+            nodes.put(at.copy()?, node.copy()?)?;
+        }
+        Ok(Tree {
+            alloc: self.alloc,
+            nodes,
+        })
+    }
+
+    // The nodes at or below a path, which stand one after another in path order.
+    fn under<'a>(&'a self, path: &Path) -> Result<Vec<(&'a Path, &'a Node)>, AllocError>
+        ensures { IfOk result (λ found. map deref_pair found.items ≡ subtree_of self.now path.now) }
+    {
+        let mut found = Vec::new(self.alloc);
+        for (at, node) in self.nodes.inner().range(path..) {
+            if !at.is_under(path) {
+                break;
+            }
+            found.push((at, node))?;
+        }
+        Ok(found)
+    }
+
+    /// How many nodes it has. Their paths stand in order.
+    pub fn len(&self) -> usize
+        ensures len { result ≡ length self.now }
+        ensures sorted { IsTrue (is_sorted path_cmp self.now) }
+    {
+        self.nodes.inner().len()
+    }
+}
+
+// The last name of the second path, where this is that of a child of the first.
+fn child_name<'a>(path: &Path, at: &'a Path) -> Option<&'a Name>
+    ensures { option_copied result ≡ cond (is_child_of path.now at.now) (last_name at.now) None }
+{
+    if is_child(path, at) {
+        at.last_name()
+    } else {
+        None
+    }
+}
+
+// Whether the second path is that of a child of the first.
+fn is_child(path: &Path, at: &Path) -> bool
+    ensures { result ≡ is_child_of path.now at.now }
+{
+    let depth = at.depth();
+    if depth == 0 {
+        return false;
+    }
+    at.is_under(path) && depth - 1 == path.depth()
+}
+
+impl DeepCopy for Tree {
+    fn copy(&self) -> Result<Tree, AllocError> {
+        Ok(Tree {
+            alloc: self.alloc,
+            nodes: self.nodes.copy()?,
+        })
+    }
+}
