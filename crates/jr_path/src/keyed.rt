@@ -1,7 +1,8 @@
 // A map in the order of its keys, seen as the list of its entries.
-ghost use Rattle.std.specs.Prelude.{◌≡◌, [], IfOk, OnOk, OnErr, is_some};
+ghost use Rattle.std.specs.Prelude.{◌≡◌, ◌↔◌, [], IfOk, IsTrue, OnOk, OnErr, filter, is_some, length, not};
 ghost use Rattle.std.specs.BTreeMap.{is_at, insert_entry};
-ghost use Rattle.std.specs.Map.{lookup, remove_entry};
+ghost use Rattle.std.specs.List.Sorted.{IsStrictlySortedBy};
+ghost use Rattle.std.specs.Map.{keys_of, lookup, remove_entry};
 ghost use Rattle.std.specs.Option.{option_copied};
 ghost use Rattle.std.specs.Borrow.{sem};
 ghost use Rattle.jr_path.specs.Lending.{lends_entries};
@@ -9,6 +10,7 @@ ghost use Rattle.jr_path.specs.Lending.{lends_entries};
 use crate::DeepCopy;
 use std::alloc::{AllocError, Global};
 use std::collections::BTreeMap;
+use std::collections::btree_map::Iter;
 use std::default::Emptied;
 use std::marker::Model;
 
@@ -63,6 +65,27 @@ impl<K: Ord, V> Keyed<K, V> {
     {
         self.map
     }
+
+    /// How many entries it has. Their keys rise.
+    pub fn len(&self) -> usize
+        ensures len { result ≡ length self.now }
+        ensures ordered { IsStrictlySortedBy K.cmp (keys_of self.now) }
+    {
+        self.map.len()
+    }
+
+    pub fn is_empty(&self) -> bool
+        ensures { IsTrue result ↔ (self.now ≡ []) }
+    {
+        self.map.is_empty()
+    }
+
+    /// The entries in the order of their keys.
+    pub fn iter(&self) -> Iter<'_, K, V>
+        ensures { result ≡ self.now }
+    {
+        self.map.iter()
+    }
 }
 
 impl<K: Ord + Drop, V: Drop> Keyed<K, V> {
@@ -87,8 +110,10 @@ impl<K: Ord + Drop, V: Drop> Keyed<K, V> {
         Ok(())
     }
 
+    /// Drops what stands at a key, and keeps every other entry in order. It takes no memory.
     pub fn remove(&mut self, key: &K)
-        ensures { self.new ≡ remove_entry (is_at (K.cmp key.now)) self.old }
+        ensures entries { self.new ≡ remove_entry (is_at (K.cmp key.now)) self.old }
+        ensures others { self.new ≡ filter (λ e. not (is_at (K.cmp key.now) e.0)) self.old }
     {
         self.map.remove(key);
     }
