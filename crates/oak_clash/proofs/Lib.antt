@@ -1,0 +1,3 @@
+pub mod Marks
+pub mod Roots
+mod Rows
