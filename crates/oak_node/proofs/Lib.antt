@@ -1,0 +1,10 @@
+mod Ends
+mod Kept
+mod Owns
+mod Paths
+mod Places
+mod Rests
+mod Rising
+mod Settling
+mod Times
+mod Waits

@@ -1,0 +1,5 @@
+pub mod Heads
+pub mod Memory
+pub mod Notes
+pub mod Pins
+pub mod Seen

@@ -1,0 +1,48 @@
+-- What a cluster node keeps in its memory.
+use Rattle.std.specs.Prelude.{◌≡◌, ℕ, ◌≤◌, Bool, true, not, List, [], ◌∷◌, map, All, Option, Some, unwrap_or, IsTrue}
+use Rattle.std.specs.List.Sorted.{IsStrictlySortedBy}
+use Rattle.std.specs.Map.{keys_of}
+use Rattle.std.specs.Ordering.{nat_cmp}
+use Rattle.jr_rev.specs.declared.revision.Revision.{Revision}
+use Rattle.jr_rev.specs.declared.vector.Pin.{Pin}
+use Rattle.jr_rev.specs.Revisions.{revision_cmp}
+use Rattle.jr_rev.specs.Vectors.{Entries, entry, start_of}
+use Rattle.oak_node.specs.declared.drawn.Drawn.{Drawn}
+use Rattle.oak_node.specs.declared.pending.Note.{Note}
+
+-- a cluster node's number; its head; the sweep vector; the time of its last draw, 0 before the first; the revisions that
+-- it drew above its head's own entry, ascending; the pins by their owners, ascending; the noted paths, the first first
+pub record NodeState : Type 0 where
+  pub cluster : ℕ
+  pub head : Entries
+  pub sweep : Entries
+  pub last_time : ℕ
+  pub above : List Drawn
+  pub pins : List (ℕ × Pin)
+  pub notes : List Note
+
+-- the head's entry of the node itself
+abbrev pub own_entry : NodeState → Revision
+own_entry s = unwrap_or (entry s.head s.cluster) (start_of s.cluster)
+
+abbrev pub revisions_in : List Drawn → List Revision
+revisions_in drawn = map (λ d. d.revision) drawn
+
+-- the first, if there is one, is in flight
+abbrev pub begins_in_flight : List Drawn → Bool
+begins_in_flight [] = true
+begins_in_flight (d ∷ ds) = not d.ended
+
+-- what is true of each memory: the node has a number from 1 to 8, and an entry in its head; what it drew above that
+-- entry is of this node, rises from there and begins with one in flight, and no draw is later than the last;
+-- no owner has two pins
+pub record IsMemory (s : NodeState) : Type 0 where
+  pub low : 1 ≤ s.cluster
+  pub high : s.cluster ≤ 8
+  pub own : entry s.head s.cluster ≡ Some (own_entry s)
+  pub own_node : (own_entry s).cluster ≡ s.cluster
+  pub rising : IsStrictlySortedBy revision_cmp (own_entry s ∷ revisions_in s.above)
+  pub flying : IsTrue (begins_in_flight s.above)
+  pub of_node : All (λ d. d.revision.cluster ≡ s.cluster) s.above
+  pub times : All (λ d. d.revision.time ≤ s.last_time) s.above
+  pub owners : IsStrictlySortedBy nat_cmp (keys_of s.pins)

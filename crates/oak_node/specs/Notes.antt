@@ -1,0 +1,23 @@
+-- The paths that a cluster node noted and has still to publish.
+use Rattle.std.specs.Prelude.{◌≡◌, ℕ, not, List, [], ◌∷◌, ◌++◌, filter, Contains, ◌↔◌}
+use Rattle.std.specs.List.Sorted.{IsStrictlySortedBy}
+use Rattle.jr_path.specs.Names.{path_cmp}
+use Rattle.jr_rev.specs.declared.revision.Revision.{Revision}
+use Rattle.jr_rev.specs.Vectors.{sees}
+use Rattle.oak_node.specs.declared.pending.Pending.{Pending}
+use Rattle.oak_node.specs.Memory.{NodeState, own_entry}
+use Rattle.oak_node.specs.Seen.{seen_paths}
+
+-- the same memory, with the path noted with r, behind what was noted before
+abbrev pub with_note : NodeState → List (List ℕ) → Revision → NodeState
+with_note s path r = record s { notes = s.notes ++ record { path = path; revision = r } ∷ [] }
+
+-- the same memory, without the notes whose revision the head sees
+abbrev pub without_seen : NodeState → NodeState
+without_seen s = record s { notes = filter (λ note. not (sees s.head note.revision)) s.notes }
+
+-- the noted paths whose revision the head sees, each once and in path order, and the head's own entry
+pub record IsPending (s : NodeState) (pending : Pending) : Type 0 where
+  pub ordered : IsStrictlySortedBy path_cmp pending.paths
+  pub noted : (path : List (List ℕ)) → Contains pending.paths path ↔ Contains (seen_paths s.head s.notes) path
+  pub upto : pending.upto ≡ own_entry s

@@ -1,0 +1,54 @@
+// The revisions that a cluster node drew above its head's own entry.
+ghost use Rattle.std.specs.Prelude.{◌≡◌, ◌∷◌, filter};
+ghost use Rattle.std.specs.List.Sorted.{IsStrictlySortedBy};
+ghost use Rattle.jr_rev.specs.Revisions.{revision_cmp, is_before};
+ghost use Rattle.oak_node.specs.Memory.{revisions_in};
+ghost use Rattle.oak_node.specs.Heads.{with_end, local_from};
+
+use jr_rev::Revision;
+
+/// A revision that a cluster node drew, and whether it has ended.
+#[derive(Clone, Copy, Debug, PartialEq, Eq)]
+pub struct Drawn {
+    pub revision: Revision,
+    pub ended: bool,
+}
+
+// Ends a revision, gives the head's own entry from then on, and keeps what is above it.
+pub fn settle(drawn: &mut Vec<Drawn>, own: Revision, r: Revision) -> Revision
+    requires { IsStrictlySortedBy revision_cmp (own ∷ revisions_in drawn.old.items) }
+    ensures local { result ≡ local_from own (with_end drawn.old.items r) }
+    ensures rest { drawn.new.items ≡ filter (λ d. is_before result d.revision) (with_end drawn.old.items r) }
+{
+    end(drawn.as_mut_slice(), r);
+    let local = local(own, drawn.as_slice());
+    drawn.retain(|d| local < d.revision);
+    local
+}
+
+// Ends a revision.
+fn end(drawn: &mut [Drawn], r: Revision)
+    ensures { drawn.new ≡ with_end drawn.old r }
+{
+    for d in drawn.iter_mut() {
+        if d.revision == r {
+            d.ended = true;
+        }
+    }
+}
+
+// The greatest of `own` and of the drawn revisions that is below every one in flight. They rise from `own` on, so it is
+// the last before the first one in flight.
+fn local(own: Revision, drawn: &[Drawn]) -> Revision
+    requires { IsStrictlySortedBy revision_cmp (own ∷ revisions_in drawn.now) }
+    ensures { result ≡ local_from own drawn.now }
+{
+    let mut local = own;
+    for d in drawn {
+        if !d.ended {
+            break;
+        }
+        local = d.revision;
+    }
+    local
+}

@@ -1,0 +1,14 @@
+//! The memory of one cluster node: its head, the revisions that it drew, its pins, and the paths that it has
+//! still to publish.
+//!
+//! Oak, DocumentNodeStore: "Revisions", "Background operations". A cluster node draws the revisions of its commits,
+//! and publishes the changed paths (`_lastRev`) in the background.
+#![tactic(auto)]
+
+mod drawn;
+mod memory;
+mod pending;
+mod pins;
+
+pub use memory::{Awaits, NodeMem};
+pub use pending::Pending;

@@ -1,0 +1,251 @@
+// The memory of one cluster node.
+ghost use Rattle.std.specs.Prelude.{◌≡◌, ◌-◌, ◌^◌, ◌<◌, ◌≤◌, [], IfOk, OnOk, OnErr, IsOk, IsSome, IsSomeAnd};
+ghost use Rattle.std.specs.Bool.{OnFalse};
+ghost use Rattle.jr_rev.specs.Revisions.{is_before};
+ghost use Rattle.jr_rev.specs.Vectors.{Entries, entry};
+ghost use Rattle.oak_node.specs.Memory.{NodeState, IsMemory, own_entry};
+ghost use Rattle.oak_node.specs.Heads.{greatest_time, known_time, next_draw, with_draw, IsInFlight, HasEnded, finished, IsAwaited, learned};
+ghost use Rattle.oak_node.specs.Pins.{pin_of, pin_now, with_pin, without_pin};
+ghost use Rattle.oak_node.specs.Notes.{with_note, without_seen, IsPending};
+
+use crate::drawn::{Drawn, settle};
+use crate::pending::{Note, Pending, due_paths};
+use crate::pins;
+use jr_path::{DeepCopy, List, Path};
+use jr_rev::{Pin, RevVec, Revision};
+use std::alloc::{AllocError, Global};
+use std::marker::Model;
+
+/// Whether a cluster node's head sees a revision that has ended.
+#[derive(Clone, Copy, Debug, PartialEq, Eq)]
+pub enum Awaits {
+    /// The head sees it.
+    Ready,
+    /// The head doesn't see it as long as this earlier revision is in flight.
+    Pending(Revision),
+}
+
+/// What one cluster node keeps in memory (Oak, DocumentNodeStore: "Revisions", "Background operations").
+///
+/// Its number, 1 to 8; its head, a revision vector; the sweep vector; the time of its last draw; the revisions that it
+/// drew above its head's own entry; the pins, one for an owner; and the paths that it noted to be published.
+#[derive(Drop)]
+pub struct NodeMem {
+    cluster: u32,
+    head: RevVec,
+    sweep: RevVec,
+    last_time: u64,
+    above: Vec<Drawn>,
+    pins: Vec<(u32, Pin)>,
+    notes: Vec<Note>,
+}
+
+impl Model for NodeMem {
+    ghost use Rattle.oak_node.specs.Memory.{NodeState, IsMemory};
+
+    ghost Value = { NodeState };
+
+    ghost view = { λ m. record { cluster = m.cluster; head = m.head; sweep = m.sweep; last_time = m.last_time; above = m.above.items; pins = m.pins.items; notes = m.notes.items } };
+
+    ghost invariant = { λ m. IsMemory (record { cluster = m.cluster; head = m.head; sweep = m.sweep; last_time = m.last_time; above = m.above.items; pins = m.pins.items; notes = m.notes.items }) };
+}
+
+impl NodeMem {
+    /// A cluster node's memory at its start: the vector is its head and its sweep vector, and it has drawn, noted and
+    /// pinned nothing. The node's number is 1 to 8, and the vector has an entry for it. It takes no memory.
+    pub fn new(alloc: Global, cluster: u32, start: RevVec) -> NodeMem
+        requires node { 1 ≤ cluster × cluster ≤ 8 }
+        requires entry { IsSomeAnd (entry start cluster) (λ own. own.cluster ≡ cluster) }
+        ensures { result ≡ record { cluster = cluster; head = start; sweep = start; last_time = 0; above = []; pins = []; notes = [] } }
+    {
+        NodeMem {
+            cluster,
+            head: start,
+            sweep: start,
+            last_time: 0,
+            above: Vec::new(alloc),
+            pins: Vec::new(alloc),
+            notes: Vec::new(alloc),
+        }
+    }
+
+    /// Draws a revision, which is in flight from then on: its time is one more than the greatest that the node knows, of
+    /// its head and of its last draw.
+    pub fn draw(&mut self) -> Result<Revision, AllocError>
+        requires { known_time self.old < 2 ^ 64 - 1 }
+        ensures drawn { IfOk result (λ r. r ≡ next_draw self.old) }
+        ensures ok { OnOk result (self.new ≡ with_draw self.old (next_draw self.old)) }
+        ensures err { OnErr result (self.new ≡ self.old) }
+    {
+        let time = greatest_time(&self.head).max(self.last_time) + 1;
+        let revision = Revision {
+            time,
+            counter: 0,
+            cluster: self.cluster,
+        };
+        self.above.push(Drawn {
+            revision,
+            ended: false,
+        })?;
+        self.last_time = time;
+        Ok(revision)
+    }
+
+    /// Ends a revision that is in flight, and moves the head's own entry to the greatest drawn revision below every one in
+    /// flight. Tells whether the head moved. It takes no memory.
+    pub fn finish(&mut self, r: Revision) -> bool
+        requires { IsInFlight self.old r }
+        ensures ended { self.new ≡ finished self.old r }
+        ensures moved { result ≡ is_before (own_entry self.old) (own_entry self.new) }
+        ensures still { OnFalse result (self.new.head ≡ self.old.head) }
+    {
+        let own = self.own();
+        let local = settle(&mut self.above, own, r);
+        self.head.set(local);
+        own < local
+    }
+
+    /// The head: the revision vector that a session of this node gets as its base.
+    pub fn head(&self) -> RevVec
+        ensures { result ≡ self.now.head }
+    {
+        self.head
+    }
+
+    /// The sweep vector: all that it sees and that is still found in documents is committed.
+    pub fn sweep(&self) -> RevVec
+        ensures { result ≡ self.now.sweep }
+    {
+        self.sweep
+    }
+
+    /// Moves the owner's pin to the head with the sweep vector. It takes no memory where the owner has a pin.
+    pub fn pin(&mut self, owner: u32) -> Result<Pin, AllocError>
+        ensures pinned { IfOk result (λ pin. pin ≡ pin_now self.old) }
+        ensures ok { OnOk result (self.new ≡ with_pin self.old owner (pin_now self.old)) }
+        ensures err { OnErr result (self.new ≡ self.old) }
+        ensures kept { IsSome (pin_of self.old owner) → IsOk result }
+    {
+        let pin = Pin {
+            base: self.head,
+            sweep: self.sweep,
+        };
+        pins::put(&mut self.pins, owner, &pin)?;
+        Ok(pin)
+    }
+
+    /// Sets the owner's pin to that of the other, which has one. It takes no memory where the owner has a pin.
+    pub fn pin_like(&mut self, owner: u32, other: u32) -> Result<Pin, AllocError>
+        requires { IsSome (pin_of self.old other) }
+        ensures pinned { IfOk result (λ pin. pin_of self.old other ≡ Some pin) }
+        ensures ok { IfOk result (λ pin. self.new ≡ with_pin self.old owner pin) }
+        ensures err { OnErr result (self.new ≡ self.old) }
+        ensures kept { IsSome (pin_of self.old owner) → IsOk result }
+    {
+        let pin = pins::find(&self.pins, other).unwrap();
+        pins::put(&mut self.pins, owner, &pin)?;
+        Ok(pin)
+    }
+
+    /// Drops the owner's pin, where it has one. It takes no memory.
+    pub fn unpin(&mut self, owner: u32)
+        ensures { self.new ≡ without_pin self.old owner }
+    {
+        pins::remove(&mut self.pins, owner);
+    }
+
+    /// The pins with their owners, in the order of the owners.
+    pub fn pins(&self) -> &[(u32, Pin)]
+        ensures { result.now ≡ self.now.pins }
+    {
+        &self.pins
+    }
+
+    /// The owner's pin.
+    pub fn pin_of(&self, owner: u32) -> Option<Pin>
+        ensures { result ≡ pin_of self.now owner }
+    {
+        pins::find(&self.pins, owner)
+    }
+
+    /// Whether the head sees a revision that this node drew and that has ended. Where it doesn't, the earliest one of this
+    /// node in flight, which is earlier, is named.
+    pub fn awaits(&self, r: Revision) -> Awaits
+        requires { HasEnded self.now r }
+        ensures { IsAwaited self.now r result }
+    {
+        if self.head.sees(r) {
+            return Awaits::Ready;
+        }
+        match self.above.first() {
+            Some(first) => Awaits::Pending(first.revision),
+            None => Awaits::Ready,
+        }
+    }
+
+    /// Notes a path that a commit with this revision changes. Noted twice, it stands twice.
+    pub fn note(&mut self, path: &Path, r: Revision) -> Result<(), AllocError>
+        ensures ok { OnOk result (self.new ≡ with_note self.old path.now r) }
+        ensures err { OnErr result (self.new ≡ self.old) }
+    {
+        self.notes.push(Note {
+            path: path.copy()?,
+            revision: r,
+        })?;
+        Ok(())
+    }
+
+    /// Takes the noted paths whose revision the head sees, those of refused commits among them, each once and in path
+    /// order, with the head's own entry. They are then no longer noted.
+    pub fn take_pending(&mut self) -> Result<Pending, AllocError>
+        ensures pending { IfOk result (IsPending self.old) }
+        ensures ok { OnOk result (self.new ≡ without_seen self.old) }
+        ensures err { OnErr result (self.new ≡ self.old) }
+    {
+        let head = self.head;
+        let paths = due_paths(*self.notes.allocator(), &self.notes, &head)?;
+        self.notes.retain(|note| !head.sees(note.revision));
+        Ok(Pending {
+            paths: List::of(paths),
+            upto: self.own(),
+        })
+    }
+
+    /// Raises the other nodes' entries of the head, and the entries of the sweep vector, to those that were read (the
+    /// root's `_lastRev` and `_sweepRev`). None is lowered, and the head's entry of this node stays. It takes no memory.
+    pub fn learn(&mut self, last_revisions: &RevVec, sweep: &RevVec)
+        ensures { self.new ≡ learned self.old last_revisions.now sweep.now }
+    {
+        let own = self.own();
+        self.head = self.head.max_with(last_revisions);
+        self.head.set(own);
+        self.sweep = self.sweep.max_with(sweep);
+    }
+
+    // The head's entry of this node.
+    fn own(&self) -> Revision
+        ensures { result ≡ own_entry self.now }
+    {
+        match self.head.get(self.cluster) {
+            Some(own) => own,
+            None => Revision {
+                time: 0,
+                counter: 0,
+                cluster: self.cluster,
+            },
+        }
+    }
+}
+
+// The greatest time in a vector.
+fn greatest_time(vector: &RevVec) -> u64
+    ensures { result ≡ greatest_time vector.now }
+{
+    let mut time = 0;
+    for cluster in [1, 2, 3, 4, 5, 6, 7, 8] {
+        if let Some(r) = vector.get(cluster) {
+            time = time.max(r.time);
+        }
+    }
+    time
+}

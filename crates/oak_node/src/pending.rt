@@ -1,0 +1,49 @@
+// The paths that a cluster node noted, and what is taken of them to be published.
+ghost use Rattle.std.specs.Prelude.{◌≡◌, ◌↔◌, IfOk, Contains};
+ghost use Rattle.std.specs.List.Sorted.{IsStrictlySortedBy};
+ghost use Rattle.jr_path.specs.Names.{path_cmp};
+ghost use Rattle.oak_node.specs.Seen.{seen_paths};
+
+use jr_path::{DeepCopy, List, Path};
+use jr_rev::{RevVec, Revision};
+use std::alloc::{AllocError, Global};
+
+/// A path that a commit changed, with the commit's revision.
+#[derive(Debug, Drop)]
+pub struct Note {
+    pub path: Path,
+    pub revision: Revision,
+}
+
+/// What a background write is to publish (Oak, DocumentNodeStore: "Background operations"): the changed paths, each once
+/// and in path order, and the revision that becomes their `_lastRev`.
+#[derive(Debug, Drop)]
+pub struct Pending {
+    pub paths: List<Path>,
+    pub upto: Revision,
+}
+
+impl DeepCopy for Pending {
+    fn copy(&self) -> Result<Pending, AllocError> {
+        Ok(Pending {
+            paths: self.paths.copy()?,
+            upto: self.upto,
+        })
+    }
+}
+
+// The noted paths whose revision the head sees, each once and in path order.
+pub fn due_paths(alloc: Global, notes: &[Note], head: &RevVec) -> Result<Vec<Path>, AllocError>
+    ensures ordered { IfOk result (λ paths. IsStrictlySortedBy path_cmp paths.items) }
+    ensures noted { IfOk result (λ paths. (path : _) → Contains paths.items path ↔ Contains (seen_paths head.now notes.now) path) }
+{
+    let mut paths = Vec::new(alloc);
+    for note in notes {
+        if head.sees(note.revision) {
+            paths.push(note.path.copy()?)?;
+        }
+    }
+    paths.sort_unstable();
+    paths.dedup();
+    Ok(paths)
+}

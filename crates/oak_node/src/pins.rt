@@ -1,0 +1,53 @@
+// Pins, in the order of their owners.
+ghost use Rattle.std.specs.Prelude.{◌≡◌, MatchResult, OnOk, OnErr, IsOk, IsSome};
+ghost use Rattle.std.specs.BTreeMap.{is_at, insert_entry};
+ghost use Rattle.std.specs.List.Sorted.{IsStrictlySortedBy};
+ghost use Rattle.std.specs.Map.{lookup, keys_of, remove_entry};
+ghost use Rattle.std.specs.Ordering.{nat_cmp};
+ghost use Rattle.oak_node.specs.Pins.{IsPlaceOf, IsGapOf};
+
+use jr_rev::Pin;
+use std::alloc::AllocError;
+
+// The owner's pin.
+pub fn find(pins: &[(u32, Pin)], owner: u32) -> Option<Pin>
+    requires { IsStrictlySortedBy nat_cmp (keys_of pins.now) }
+    ensures { result ≡ lookup (is_at (nat_cmp owner)) pins.now }
+{
+    match place(pins, owner) {
+        Ok(at) => Some(pins[at].1),
+        Err(_) => None,
+    }
+}
+
+// Puts the owner's pin in the place of one that it has, without memory, or else in a new place.
+pub fn put(pins: &mut Vec<(u32, Pin)>, owner: u32, pin: &Pin) -> Result<(), AllocError>
+    requires { IsStrictlySortedBy nat_cmp (keys_of pins.old.items) }
+    ensures ok { OnOk result (pins.new.items ≡ insert_entry nat_cmp pins.old.items owner pin.now) }
+    ensures err { OnErr result (pins.new.items ≡ pins.old.items) }
+    ensures kept { IsSome (lookup (is_at (nat_cmp owner)) pins.old.items) → IsOk result }
+{
+    match place(pins, owner) {
+        Ok(at) => pins[at] = (owner, *pin),
+        Err(at) => pins.insert(at, (owner, *pin))?,
+    }
+    Ok(())
+}
+
+// Drops the owner's pin, where it has one.
+pub fn remove(pins: &mut Vec<(u32, Pin)>, owner: u32)
+    requires { IsStrictlySortedBy nat_cmp (keys_of pins.old.items) }
+    ensures { pins.new.items ≡ remove_entry (is_at (nat_cmp owner)) pins.old.items }
+{
+    if let Ok(at) = place(pins, owner) {
+        pins.remove(at);
+    }
+}
+
+// Where the owner's pin stands, or where it would go.
+fn place(pins: &[(u32, Pin)], owner: u32) -> Result<usize, usize>
+    requires { IsStrictlySortedBy nat_cmp (keys_of pins.now) }
+    ensures { MatchResult result (IsPlaceOf pins.now owner) (IsGapOf pins.now owner) }
+{
+    pins.binary_search_by_key(&owner, |pin| pin.0)
+}
