@@ -2,5 +2,7 @@ pub mod Entries
 pub mod Follows
 pub mod Maps
 pub mod Orders
-pub mod Scanned
+pub mod Pieces
 mod Rows
+pub mod Scanned
+pub mod TextLaws

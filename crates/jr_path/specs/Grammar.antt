@@ -55,3 +55,8 @@ abbrev pub RefusesName : List ℕ → PathFault → Type 0
 RefusesName text (BadName offset) = IsFirstFault IsName text offset
 RefusesName text Memory = Unit {0}
 RefusesName text _ = ⊥
+
+-- a text has one first fault at most, and none where it is in the grammar
+pub record HasOneFault (Grammar : List ℕ → Type 0) : Type 0 where
+  pub one : (text : List ℕ) (a b : ℕ) → IsFirstFault Grammar text a → IsFirstFault Grammar text b → a ≡ b
+  pub none : (text : List ℕ) (a : ℕ) → IsFirstFault Grammar text a → Grammar text → ⊥

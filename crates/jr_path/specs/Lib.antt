@@ -2,4 +2,5 @@ pub mod Grammar
 pub mod Ids
 pub mod Lending
 pub mod Names
+pub mod Paths
 pub mod Stages

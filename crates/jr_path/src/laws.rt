@@ -1,9 +1,11 @@
-// Laws of names', paths', items' and ids' orders.
-ghost use Rattle.std.specs.Prelude.{◌≡◌, ◌↔◌, IsTrue};
+// Laws of the texts and the orders of names, paths, items and ids.
+ghost use Rattle.std.specs.Prelude.{◌≡◌, ◌↔◌, ◌<◌, ◌^◌, All, IsTrue, length};
 ghost use Rattle.std.specs.Cmp.{IsTotalOrder};
 ghost use Rattle.std.specs.Ordering.{is_eq};
-ghost use Rattle.jr_path.specs.Ids.{id_cmp};
+ghost use Rattle.jr_path.specs.Grammar.{HasOneFault, IsName};
+ghost use Rattle.jr_path.specs.Ids.{id_cmp, id_text, names_of, number_of, path_text};
 ghost use Rattle.jr_path.specs.Names.{item_cmp, name_cmp, path_cmp};
+ghost use Rattle.jr_path.specs.Paths.{IsPathText, NamesReadBack, PathsReadBack};
 
 use crate::{DocId, Item, Name, Path};
 
@@ -34,4 +36,30 @@ pub fn order_of_ids()
     ensures is { (a b : _) → ⟦<DocId as Ord>⟧.cmp a b ≡ id_cmp a b }
     ensures total { IsTotalOrder id_cmp }
     ensures exact { (a b : _) → IsTrue (is_eq (id_cmp a b)) ↔ (a ≡ b) }
+{}
+
+/// A text that is no name, or no path, has one first fault.
+pub fn first_faults()
+    ensures name { HasOneFault IsName }
+    ensures path { HasOneFault IsPathText }
+{}
+
+/// `Name::parse` reads the text of each name, and `Path::parse` that of each path within the limits, as
+/// that name or path, unless memory is refused.
+pub fn texts_read_back()
+    ensures name { NamesReadBack }
+    ensures path { PathsReadBack }
+{}
+
+/// Two paths with one text are equal.
+pub fn texts_of_paths()
+    ensures { (a b : _) → All IsName a → All IsName b → path_text a ≡ path_text b → a ≡ b }
+{}
+
+/// Two ids with one text are equal, with numbers below 2^64 and fewer than 2^64 names.
+pub fn texts_of_ids()
+    ensures { (a b : _) → All IsName (names_of a) → All IsName (names_of b)
+        → length (names_of a) < 2 ^ 64 → length (names_of b) < 2 ^ 64
+        → number_of a < 2 ^ 64 → number_of b < 2 ^ 64
+        → id_text a ≡ id_text b → a ≡ b }
 {}

@@ -52,6 +52,13 @@ impl Name {
         })
     }
 
+    /// Every name is in the grammar. It does nothing: callers learn the fact.
+    pub fn in_grammar(&self)
+        ensures { IsName self.now }
+    {
+        let _ = &self.text;
+    }
+
     /// The text of the name.
     pub fn as_str(&self) -> &str
         ensures { result.now ≡ self.now }

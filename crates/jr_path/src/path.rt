@@ -1,12 +1,14 @@
 // Paths, items, and the ids of documents in store order.
-ghost use Rattle.std.specs.Prelude.{◌≡◌, ◌≤◌, ◌++◌, ◌∷◌, [], IfOk, length, take};
+ghost use Rattle.std.specs.Prelude.{◌≡◌, ◌≤◌, ◌++◌, ◌∷◌, [], All, IfErr, IfOk, OnErr, OnOk, length, take};
 ghost use Rattle.std.specs.Option.{option_copied};
 ghost use Rattle.std.specs.String.{string_bytes};
 ghost use Rattle.jr_path.specs.Names.{parent_of, last_name, is_under};
 ghost use Rattle.jr_path.specs.Ids.{path_text, id_text, node_cmp as node_order};
+ghost use Rattle.jr_path.specs.Grammar.{IsName};
+ghost use Rattle.jr_path.specs.Paths.{IsPath, Measures, RefusesPath};
 
 use crate::cursor::text_cmp;
-use crate::{DeepCopy, Name, PathFault};
+use crate::{DeepCopy, Name, PathFault, PathText};
 use std::alloc::{AllocError, Global};
 use std::cmp::Ordering;
 use std::marker::Model;
@@ -24,6 +26,11 @@ impl Model for Path {
     ghost Value = { List (List ℕ) };
 
     ghost view = { λ a. a.names.items };
+
+    ghost use Rattle.std.specs.Prelude.{All};
+    ghost use Rattle.jr_path.specs.Grammar.{IsName};
+
+    ghost invariant = { λ a. All IsName a.names.items };
 }
 
 impl Path {
@@ -36,16 +43,36 @@ impl Path {
         }
     }
 
-    /// Reads a path.
-    pub fn parse(alloc: Global, text: &str) -> Result<Path, PathFault> {
-        let mut names = Vec::new(alloc);
-        if text == "/" {
-            return Ok(Path { names });
+    /// Reads a path within the limits of 64 names and 1,024 bytes of text: `/`, or names each after a `/`.
+    /// `BadPath` has the offset of the first byte that no path's text has there, or the text's length;
+    /// a path over a limit is `TooDeep` with the number of its names, else `TooLong` with that of its bytes.
+    pub fn parse(alloc: Global, text: &str) -> Result<Path, PathFault>
+        ensures path { IfOk result (λ path. Measures text.now (PathText.Within path)) }
+        ensures fault { IfErr result (RefusesPath text.now) }
+    {
+        match PathText::read(alloc, text)? {
+            PathText::Within(path) => Ok(path),
+            PathText::TooDeep(depth) => Err(PathFault::TooDeep(depth)),
+            PathText::TooLong(bytes) => Err(PathFault::TooLong(bytes)),
         }
-        for piece in text.split('/').skip(1) {
-            names.push(Name::parse(alloc, piece)?)?;
-        }
-        Ok(Path { names })
+    }
+
+    /// Every name of a path is in the grammar, and so is its text. It does nothing: callers learn the facts.
+    pub fn in_grammar(&self)
+        ensures names { All IsName self.now }
+        ensures text { IsPath (path_text self.now) self.now }
+    {
+        let _ = &self.names;
+    }
+
+    // Puts a name at the end.
+    pub(crate) fn push(&mut self, name: Name) -> Result<(), AllocError>
+        requires { IsName name }
+        ensures ok { OnOk result (self.new ≡ self.old ++ name ∷ []) }
+        ensures err { OnErr result (self.new ≡ self.old) }
+    {
+        self.names.push(name)?;
+        Ok(())
     }
 
     /// The names from the root on.
@@ -97,7 +124,8 @@ impl Path {
         ensures { IfOk result (λ child. child ≡ self.now ++ name.now ∷ []) }
     {
         let mut child = self.copy()?;
-        child.names.push(name.copy()?)?;
+        name.in_grammar();
+        child.push(name.copy()?)?;
         Ok(child)
     }
 

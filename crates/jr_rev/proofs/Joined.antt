@@ -1,5 +1,5 @@
 -- The texts of revisions with commas between them.
-use Rattle.std.proofs.Common.{◌≡◌, ℕ, ◌+◌, ◌<◌, Bool, true, false, cond, List, Some, None, [], ◌∷◌, ◌++◌, length, drop, take, get_or, All, refl, sym, ap, ◌∙◌, append_assoc}
+use Rattle.std.proofs.Common.{◌≡◌, ℕ, ◌+◌, ◌<◌, ◌≤◌, Bool, true, false, cond, List, Some, None, [], ◌∷◌, ◌++◌, length, drop, take, get_or, All, refl, sym, ap, ◌∙◌, append_assoc}
 use Rattle.std.proofs.lemmas.List.{append-nil, drop_more, take_more, take_all}
 use Rattle.std.proofs.lemmas.List.Elements.{All-push}
 use Rattle.std.specs.List.{filter_map, join_with_byte}
@@ -63,3 +63,6 @@ fits_some es i r within is fit fits =
     let same : revisions_of (take (i + 1) es) ≡ revisions_of (take i es) ++ r ∷ [] =
     ap revisions_of (take_more es i None within ∙ ap (λ e. take i es ++ e ∷ []) is) ∙ revisions_of-append (take i es) (Some r ∷ []) in
     rw same (All-push FitsFields (revisions_of (take i es)) r fits fit)
+
+pub fits_all : (es : Entries) (i : ℕ) → length es ≤ i → All FitsFields (revisions_of (take i es)) → All FitsFields (revisions_of es)
+fits_all es i past fits = rw (take_all i es past) at fits

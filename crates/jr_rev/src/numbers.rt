@@ -1,5 +1,5 @@
 // Numbers in lower-case hexadecimal digits, without leading zeros.
-ghost use Rattle.std.specs.Prelude.{◌≡◌, ℕ, ◌+◌, ◌^◌, ◌<◌, ◌≤◌, ◌↔◌, List, ◌++◌, length, All, IsTrue, IfOk, IfErr, OnOk};
+ghost use Rattle.std.specs.Prelude.{◌≡◌, ℕ, ◌+◌, ◌^◌, ◌<◌, ◌≤◌, ◌↔◌, List, ◌∷◌, ◌++◌, length, All, IsTrue, IfOk, IfErr, OnOk};
 ghost use Rattle.std.specs.Char.{digit_value};
 ghost use Rattle.std.specs.Str.Parse.{digits_value};
 ghost use Rattle.jr_rev.specs.Digits.{IsHexDigit};
@@ -94,8 +94,18 @@ pub fn number_after(
     Ok((number_of(&text[at + 1..end]), end))
 }
 
+// Appends the mark, and behind it the number's digits.
+pub fn put_marked(mark: u8, number: u64, out: &mut Vec<u8>) -> Result<(), AllocError>
+    ensures ok { OnOk result (out.new.items ≡ out.old.items ++ mark ∷ hexadecimal number) }
+    ensures front { (more : List ℕ) × (out.new.items ≡ out.old.items ++ more) }
+{
+    out.push(mark)?;
+    put_number(number, out)?;
+    Ok(())
+}
+
 // Appends the number's digits.
-pub fn put_number(number: u64, out: &mut Vec<u8>) -> Result<(), AllocError>
+fn put_number(number: u64, out: &mut Vec<u8>) -> Result<(), AllocError>
     ensures ok { OnOk result (out.new.items ≡ out.old.items ++ hexadecimal number) }
     ensures front { (more : List ℕ) × (out.new.items ≡ out.old.items ++ more) }
 {

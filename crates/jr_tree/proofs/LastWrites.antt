@@ -19,22 +19,22 @@ use Rattle.jr_tree.specs.Edits.{is_same_item, item_of, item_cmp, last_writes}
 pub item_total : IsTotalOrder item_cmp
 item_total = then_total (on_total (λ (i : Item). i.path) path_total) (on_total (λ (i : Item). i.name) (options_total nat_list_cmp_total))
 
-none_tied : (o : Ordering) → is_eq o ≡ is_eq (ordering_then o Equal)
+pub none_tied : (o : Ordering) → is_eq o ≡ is_eq (ordering_then o Equal)
 none_tied Less = refl
 none_tied Equal = refl
 none_tied Greater = refl
 
-both_tied : (o r : Ordering) → (is_eq o && is_eq r) ≡ is_eq (ordering_then o r)
+pub both_tied : (o r : Ordering) → (is_eq o && is_eq r) ≡ is_eq (ordering_then o r)
 both_tied Less r = refl
 both_tied Equal r = refl
 both_tied Greater r = refl
 
-apart_less : (o : Ordering) → false ≡ is_eq (ordering_then o Less)
+pub apart_less : (o : Ordering) → false ≡ is_eq (ordering_then o Less)
 apart_less Less = refl
 apart_less Equal = refl
 apart_less Greater = refl
 
-apart_greater : (o : Ordering) → false ≡ is_eq (ordering_then o Greater)
+pub apart_greater : (o : Ordering) → false ≡ is_eq (ordering_then o Greater)
 apart_greater Less = refl
 apart_greater Equal = refl
 apart_greater Greater = refl

@@ -30,6 +30,10 @@ property_at t p n = option_and_then (λ node. lookup (is_at (name_cmp n)) node.p
 abbrev pub has_parent : Nodes → Path → Bool
 has_parent t p = option_map_or (λ q. is_some (node_at t q)) (parent_of p) true
 
+-- each name of a node stands once, in order
+abbrev pub has_names_in_order : Nodes → Bool
+has_names_in_order t = list_all (λ e. is_sorted name_cmp e.1.props) t
+
 -- each path and each name stands once, in order; the root is there, and so is the parent of each node
 pub record IsTree (t : Nodes) : Type 0 where
   pub paths : IsTrue (is_sorted path_cmp t)

@@ -62,7 +62,8 @@ same_value_decides x y = (exact x y, λ e. subst (λ z. same_value x z ≡ true)
 pub values_equivalent : IsEquivalence same_value
 values_equivalent = decided same_value same_value_decides
 
-kind_exact : (k l : Kind) → (kind_number k == kind_number l) ≡ true → k ≡ l
+-- a kind is known by its number
+pub kind_exact : (k l : Kind) → (kind_number k == kind_number l) ≡ true → k ≡ l
 kind_exact kind.Str kind.Str h = refl
 kind_exact kind.Binary kind.Binary h = refl
 kind_exact kind.Long kind.Long h = refl

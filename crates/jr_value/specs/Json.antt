@@ -56,8 +56,12 @@ value_data (value.Uri t) = tagged (codes "uri") (string t)
 abbrev pub value_items : List Value → Items
 value_items xs = items_of (map value_data xs)
 
+-- the JSON of a property that has no values of a kind
+abbrev pub no_values : Kind → Data
+no_values k = tagged (codes "empty") (string (kind_text k))
+
 -- the JSON of a property: its value, the list of its values, or the kind of which it has none
 abbrev pub property_data : Property → Data
 property_data (Single x) = value_data x
-property_data (Many k []) = tagged (codes "empty") (string (kind_text k))
+property_data (Many k []) = no_values k
 property_data (Many k (x ∷ xs)) = array (value_items (x ∷ xs))

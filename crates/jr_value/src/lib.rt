@@ -1,12 +1,24 @@
-//! Values and properties (JSR 283, 3.6 Value and 3.5 Property): their kinds, equality and copies.
+//! Values and properties (JSR 283, 3.6 Value and 3.5 Property): their kinds, equality, order and copies, and
+//! their JSON both ways.
 #![tactic(auto)]
 
 mod copies;
 mod equality;
+mod fault;
+mod laws;
 mod order;
+mod reading;
 mod value;
 mod writing;
 
 pub use equality::{same_properties_are_equal, same_values_are_equal};
+pub use fault::ValueFault;
+pub use laws::{
+    identifiers_order_as_their_texts, json_is_at_most_one_property,
+    printed_properties_are_read_back,
+};
 pub use order::values_of_one_kind_have_an_order;
 pub use value::{Kind, Property, Value};
+
+#[cfg(test)]
+mod tests;

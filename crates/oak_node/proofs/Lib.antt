@@ -1,10 +1,13 @@
-mod Ends
-mod Kept
-mod Owns
-mod Paths
-mod Places
-mod Rests
-mod Rising
-mod Settling
-mod Times
-mod Waits
+pub mod Ends
+mod Example
+pub mod Kept
+pub mod Members
+pub mod Owns
+pub mod Paths
+pub mod Places
+pub mod Rests
+pub mod Rising
+pub mod Rules
+pub mod Settling
+pub mod Times
+pub mod Waits

@@ -1,15 +1,12 @@
 -- The head's entry of the node itself.
-use Rattle.std.proofs.Common.{◌≡◌, ℕ, zero, suc, ◌-◌, ◌<◌, ◌≤◌, max, Bool, true, false, cond, Option, Some, None, List, [], ◌∷◌, length, get_or, set, fold, inl, inr, refl, sym, ap, subst, ◌∙◌, arith}
+use Rattle.std.proofs.Common.{◌≡◌, ℕ, zero, suc, ◌-◌, ◌<◌, ◌≤◌, max, Some, None, List, [], ◌∷◌, length, get_or, set, fold, inl, inr, sym, ap, ◌∙◌, arith}
 use Rattle.std.specs.List.{AllByRecursion}
-use Rattle.std.specs.Option.{option_map_or, IsSomeAnd}
-use Rattle.std.specs.Prelude.{unwrap_or}
+use Rattle.std.specs.Option.{option_map_or}
 use Rattle.std.proofs.lemmas.List.{get_or-set_same, get_or_past, set-get_or}
 use Rattle.std.proofs.lemmas.Bool.{cases_lt}
 use Rattle.jr_rev.specs.declared.revision.Revision.{Revision}
-use Rattle.jr_rev.specs.Revisions.{is_at_most}
-use Rattle.jr_rev.specs.Vectors.{Entries, entry, with_entry, start_of, greatest, greater_entry}
+use Rattle.jr_rev.specs.Vectors.{Entries, entry, with_entry}
 use Rattle.jr_rev.proofs.Bounds.{entry_at}
-use Rattle.jr_rev.proofs.Entries.{get_or-greatest}
 use Rattle.oak_node.specs.Heads.{greatest_time}
 
 -- an entry that is there stands within the vector

@@ -1,5 +1,5 @@
 -- Paths in path order, each once.
-use Rattle.std.proofs.Common.{◌≡◌, ℕ, Bool, true, List, refl, sym, subst, ◌↔◌}
+use Rattle.std.proofs.Common.{◌≡◌, ℕ, true, List, refl, sym, subst, ◌↔◌}
 use Rattle.std.specs.Prelude.{Contains, IsSorted, IsPermutation}
 use Rattle.std.specs.List.{dedup}
 use Rattle.std.specs.List.Sorted.{IsStrictlySortedBy}

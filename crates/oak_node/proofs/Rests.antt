@@ -1,11 +1,10 @@
 -- What a memory keeps above the head's own entry, after an end.
-use Rattle.std.proofs.Common.{◌≡◌, ℕ, Bool, true, false, cond, not, List, [], ◌∷◌, filter, map, refl, sym, ap, subst, ◌∙◌}
+use Rattle.std.proofs.Common.{◌≡◌, Bool, true, false, cond, List, [], ◌∷◌, filter, refl, sym, ap, subst}
 use Rattle.std.specs.Prelude.{All}
 use Rattle.std.specs.List.{AllByRecursion}
 use Rattle.std.specs.List.Sorted.{IsStrictlySortedBy}
 use Rattle.std.specs.declared.cmp.Ordering.TheVariants.{Less}
-use Rattle.std.proofs.lemmas.Bool.{cond_both}
-use Rattle.std.proofs.lemmas.List.Elements.{recursion_from_All, All-from_recursion, All-map, All-weaker}
+use Rattle.std.proofs.lemmas.List.Elements.{All-map, All-weaker}
 use Rattle.std.proofs.lemmas.List.Kept.{IsStrictlySortedBy-filter}
 use Rattle.std.proofs.lemmas.Map.Keys.{sorted_tail}
 use Rattle.jr_rev.specs.declared.revision.Revision.{Revision}
@@ -21,7 +20,7 @@ end_keeps true d = refl
 end_keeps false d = refl
 
 -- an end changes no revision
-revisions_in-with_end : (ds : List Drawn) (r : Revision) → revisions_in (with_end ds r) ≡ revisions_in ds
+pub revisions_in-with_end : (ds : List Drawn) (r : Revision) → revisions_in (with_end ds r) ≡ revisions_in ds
 revisions_in-with_end [] r = refl
 revisions_in-with_end (d ∷ ds) r = rw (end_keeps (is_same d.revision r) d, revisions_in-with_end ds r) refl
 

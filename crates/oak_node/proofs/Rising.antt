@@ -1,10 +1,7 @@
 -- Revisions in their order, and lists of them that rise.
-use Rattle.std.proofs.Common.{◌≡◌, ℕ, ◌<◌, Bool, true, false, cond, ◌&&◌, List, [], ◌∷◌, ◌++◌, filter, map, refl, sym, ap, ◌∙◌, arith}
-use Rattle.std.specs.Prelude.{◌==◌}
-use Rattle.std.specs.Cmp.{IsTotalOrder}
-use Rattle.std.specs.List.{AllByRecursion}
-use Rattle.std.specs.List.Sorted.{IsStrictlySortedBy}
-use Rattle.std.specs.Ordering.{nat_cmp, is_eq, is_lt, ordering_reverse, ordering_then}
+use Rattle.std.proofs.Common.{◌≡◌, ℕ, ◌<◌, true, false, ◌&&◌, inl, inr, refl, sym, ap, subst, ◌∙◌, arith}
+use Rattle.std.specs.Prelude.{◌==◌, ◌⊎◌}
+use Rattle.std.specs.Ordering.{nat_cmp, is_eq, is_lt, is_le, ordering_reverse, ordering_then}
 use Rattle.std.specs.declared.cmp.Ordering.{Ordering}
 use Rattle.std.specs.declared.cmp.Ordering.TheVariants.{Less, Equal, Greater}
 use Rattle.std.proofs.lemmas.Cmp.{tied_itself}
@@ -54,7 +51,7 @@ eq_numbers a b = grind (arith, nat_tests)
 
 -- `==` on revisions, field by field
 pub same_fields : (a b : Revision) → is_same a b ≡ ((a.time == b.time) && ((a.counter == b.counter) && (a.cluster == b.cluster)))
-same_fields a b = rw (eq_then, eq_then, eq_numbers, eq_numbers, eq_numbers) refl
+same_fields a b = rw (eq_then, eq_then, eq_numbers a.time b.time, eq_numbers a.counter b.counter, eq_numbers a.cluster b.cluster) refl
 
 less_time : (a b : ℕ) → a < b → nat_cmp a b ≡ Less
 less_time a b h = grind arith
@@ -62,3 +59,24 @@ less_time a b h = grind arith
 -- a later time decides
 pub time_before : (a b : Revision) → a.time < b.time → is_before a b ≡ true
 time_before a b h = rw (less_time a.time b.time h) refl
+
+pub at_most_less : (o : Ordering) → is_le o ≡ true → (o ≡ Less) ⊎ (o ≡ Equal)
+at_most_less Less h = inl refl
+at_most_less Equal h = inr refl
+at_most_less Greater h = absurd (false≢true h)
+
+-- before one that is at most a third
+pub before_at_most : (a b c : Revision) → is_before a b ≡ true → is_at_most b c ≡ true → is_before a c ≡ true
+before_at_most a b c h k =
+    elim (at_most_less (revision_cmp b c) k) [
+      | inl less ↦ before_along a b c h (less_before b c less)
+      | inr same ↦ subst (λ (x : Revision). is_before a x ≡ true) (revision_exact b c same) h
+    ]
+
+flipped : (o : Ordering) → is_lt o ≡ false → is_le (ordering_reverse o) ≡ true
+flipped Less h = absurd (false≢true (sym h))
+flipped Equal h = refl
+flipped Greater h = refl
+
+pub not_before_at_most : (a b : Revision) → is_before a b ≡ false → is_at_most b a ≡ true
+not_before_at_most a b h = ap is_le (revision_total.antisymm b a) ∙ flipped (revision_cmp a b) h

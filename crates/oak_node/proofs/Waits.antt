@@ -1,11 +1,10 @@
 -- What has ended and is not seen stands behind the first revision in flight.
-use Rattle.std.proofs.Common.{◌≡◌, ℕ, zero, suc, ◌<◌, Bool, true, false, Option, Some, None, List, [], ◌∷◌, length, get_or, inl, inr, refl, sym, ap, subst, ◌∙◌, arith}
-use Rattle.std.specs.Prelude.{Contains, slice_get, IsTrue}
+use Rattle.std.proofs.Common.{◌≡◌, ℕ, zero, suc, ◌<◌, Bool, true, false, Some, None, List, [], ◌∷◌, length, get_or, inl, inr, refl, sym, ap, subst, ◌∙◌, arith}
+use Rattle.std.specs.Prelude.{Contains, slice_get}
 use Rattle.std.specs.Option.{option_map_or}
 use Rattle.std.specs.declared.cmp.Ordering.TheVariants.{Less}
 use Rattle.std.specs.Ordering.{is_le}
-use Rattle.std.proofs.lemmas.Bool.{false≢true, both_ways, not-true}
-use Rattle.std.proofs.lemmas.List.Elements.{All-from_recursion, All-contains}
+use Rattle.std.proofs.lemmas.Bool.{both_ways, not-true}
 use Rattle.jr_rev.specs.declared.revision.Revision.{Revision}
 use Rattle.jr_rev.specs.Revisions.{revision_cmp, is_before, is_at_most}
 use Rattle.jr_rev.specs.Vectors.{entry, sees}
@@ -22,7 +21,7 @@ later_at r (d ∷ ds) o zero l is h = ap (λ (x : Drawn). revision_cmp r x.revis
 later_at r (d ∷ ds) o (suc k) l is h = later_at r ds o k (omega arith) is h.1
 
 -- the first is at most each of them
-first_least : (e : Revision) (d : Drawn) (ds : List Drawn) (o : Drawn) → RisesFrom e (d ∷ ds) → Contains (d ∷ ds) o → is_at_most d.revision o.revision ≡ true
+pub first_least : (e : Revision) (d : Drawn) (ds : List Drawn) (o : Drawn) → RisesFrom e (d ∷ ds) → Contains (d ∷ ds) o → is_at_most d.revision o.revision ≡ true
 first_least e d ds o h there = by there.0 there.1 there.2
   where
     by : (k : ℕ) → k < suc (length ds) → get_or (d ∷ ds) k o ≡ o → is_at_most d.revision o.revision ≡ true

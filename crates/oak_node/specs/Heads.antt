@@ -1,5 +1,5 @@
 -- Draws, ends, and the head.
-use Rattle.std.specs.Prelude.{◌≡◌, ℕ, ◌+◌, ◌≤◌, ◌⊎◌, max, Bool, true, false, not, cond, List, [], ◌∷◌, ◌++◌, map, fold, filter, All, Contains, IsTrue}
+use Rattle.std.specs.Prelude.{◌≡◌, ℕ, ◌+◌, ◌⊎◌, max, true, false, not, cond, List, [], ◌∷◌, ◌++◌, map, fold, filter, Contains, IsTrue}
 use Rattle.std.specs.List.{list_all}
 use Rattle.std.specs.Option.{option_map_or}
 use Rattle.jr_rev.specs.declared.revision.Revision.{Revision}
@@ -61,11 +61,11 @@ with_own s e = record s { head = with_entry s.head e; above = filter (λ d. is_b
 abbrev pub finished : NodeState → Revision → NodeState
 finished s r = with_own (record s { above = with_end s.above r }) (local_from (own_entry s) (with_end s.above r))
 
--- the rule of heads: e is one of the drawn revisions, is below every one in flight, and no greater one is
-pub record IsGreatestSettled (drawn flying : List Revision) (e : Revision) : Type 0 where
-  pub one : Contains drawn e
-  pub below : All (λ q. IsTrue (is_before e q)) flying
-  pub greatest : (o : Revision) → Contains drawn o → All (λ q. IsTrue (is_before o q)) flying → IsTrue (is_at_most o e)
+-- the rule of heads: the head's own entry is the greatest of these revisions that is below every one in flight
+pub record IsLocal (drawn : List Revision) (s : NodeState) : Type 0 where
+  pub one : Contains drawn (own_entry s)
+  pub below : (q : Revision) → IsInFlight s q → IsTrue (is_before (own_entry s) q)
+  pub greatest : (o : Revision) → Contains drawn o → ((q : Revision) → IsInFlight s q → IsTrue (is_before o q)) → IsTrue (is_at_most o (own_entry s))
 
 -- ---- waiting
 

@@ -15,7 +15,7 @@ pub struct Drawn {
 }
 
 // Ends a revision, gives the head's own entry from then on, and keeps what is above it.
-pub fn settle(drawn: &mut Vec<Drawn>, own: Revision, r: Revision) -> Revision
+pub(crate) fn settle(drawn: &mut Vec<Drawn>, own: Revision, r: Revision) -> Revision
     requires { IsStrictlySortedBy revision_cmp (own ∷ revisions_in drawn.old.items) }
     ensures local { result ≡ local_from own (with_end drawn.old.items r) }
     ensures rest { drawn.new.items ≡ filter (λ d. is_before result d.revision) (with_end drawn.old.items r) }

@@ -6,9 +6,11 @@
 #![tactic(auto)]
 
 mod drawn;
+mod laws;
 mod memory;
 mod pending;
 mod pins;
 
+pub use laws::{draws_rise, others_are_learned, rule_of_heads};
 pub use memory::{Awaits, NodeMem};
 pub use pending::Pending;

@@ -2,8 +2,8 @@
 ghost use Rattle.std.specs.Prelude.{◌≡◌, ◌-◌, ◌^◌, ◌<◌, ◌≤◌, [], IfOk, OnOk, OnErr, IsOk, IsSome, IsSomeAnd};
 ghost use Rattle.std.specs.Bool.{OnFalse};
 ghost use Rattle.jr_rev.specs.Revisions.{is_before};
-ghost use Rattle.jr_rev.specs.Vectors.{Entries, entry};
-ghost use Rattle.oak_node.specs.Memory.{NodeState, IsMemory, own_entry};
+ghost use Rattle.jr_rev.specs.Vectors.{entry, start_of};
+ghost use Rattle.oak_node.specs.Memory.{IsMemory, own_entry};
 ghost use Rattle.oak_node.specs.Heads.{greatest_time, known_time, next_draw, with_draw, IsInFlight, HasEnded, finished, IsAwaited, learned};
 ghost use Rattle.oak_node.specs.Pins.{pin_of, pin_now, with_pin, without_pin};
 ghost use Rattle.oak_node.specs.Notes.{with_note, without_seen, IsPending};
@@ -69,8 +69,8 @@ impl NodeMem {
         }
     }
 
-    /// Draws a revision, which is in flight from then on: its time is one more than the greatest that the node knows, of
-    /// its head and of its last draw.
+    /// Draws a revision of this node, which is in flight from then on. Its time is one more than the greatest that the node
+    /// knows, of its head and of its last draw, and its counter is 0.
     pub fn draw(&mut self) -> Result<Revision, AllocError>
         requires { known_time self.old < 2 ^ 64 - 1 }
         ensures drawn { IfOk result (λ r. r ≡ next_draw self.old) }
@@ -105,9 +105,11 @@ impl NodeMem {
         own < local
     }
 
-    /// The head: the revision vector that a session of this node gets as its base.
+    /// The head: the revision vector that a session of this node gets as its base. The clause `memory` tells a caller what
+    /// is true of each memory.
     pub fn head(&self) -> RevVec
-        ensures { result ≡ self.now.head }
+        ensures head { result ≡ self.now.head }
+        ensures memory { IsMemory self.now }
     {
         self.head
     }
@@ -228,12 +230,19 @@ impl NodeMem {
     {
         match self.head.get(self.cluster) {
             Some(own) => own,
-            None => Revision {
-                time: 0,
-                counter: 0,
-                cluster: self.cluster,
-            },
+            None => start_of(self.cluster),
         }
+    }
+}
+
+// The revision at which a cluster node starts.
+fn start_of(cluster: u32) -> Revision
+    ensures { result ≡ start_of cluster }
+{
+    Revision {
+        time: 0,
+        counter: 0,
+        cluster,
     }
 }
 
@@ -249,3 +258,6 @@ fn greatest_time(vector: &RevVec) -> u64
     }
     time
 }
+
+#[cfg(test)]
+mod tests;

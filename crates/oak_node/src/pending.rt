@@ -33,7 +33,11 @@ impl DeepCopy for Pending {
 }
 
 // The noted paths whose revision the head sees, each once and in path order.
-pub fn due_paths(alloc: Global, notes: &[Note], head: &RevVec) -> Result<Vec<Path>, AllocError>
+pub(crate) fn due_paths(
+    alloc: Global,
+    notes: &[Note],
+    head: &RevVec,
+) -> Result<Vec<Path>, AllocError>
     ensures ordered { IfOk result (λ paths. IsStrictlySortedBy path_cmp paths.items) }
     ensures noted { IfOk result (λ paths. (path : _) → Contains paths.items path ↔ Contains (seen_paths head.now notes.now) path) }
 {

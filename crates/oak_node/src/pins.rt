@@ -10,7 +10,7 @@ use jr_rev::Pin;
 use std::alloc::AllocError;
 
 // The owner's pin.
-pub fn find(pins: &[(u32, Pin)], owner: u32) -> Option<Pin>
+pub(crate) fn find(pins: &[(u32, Pin)], owner: u32) -> Option<Pin>
     requires { IsStrictlySortedBy nat_cmp (keys_of pins.now) }
     ensures { result ≡ lookup (is_at (nat_cmp owner)) pins.now }
 {
@@ -21,7 +21,7 @@ pub fn find(pins: &[(u32, Pin)], owner: u32) -> Option<Pin>
 }
 
 // Puts the owner's pin in the place of one that it has, without memory, or else in a new place.
-pub fn put(pins: &mut Vec<(u32, Pin)>, owner: u32, pin: &Pin) -> Result<(), AllocError>
+pub(crate) fn put(pins: &mut Vec<(u32, Pin)>, owner: u32, pin: &Pin) -> Result<(), AllocError>
     requires { IsStrictlySortedBy nat_cmp (keys_of pins.old.items) }
     ensures ok { OnOk result (pins.new.items ≡ insert_entry nat_cmp pins.old.items owner pin.now) }
     ensures err { OnErr result (pins.new.items ≡ pins.old.items) }
@@ -35,7 +35,7 @@ pub fn put(pins: &mut Vec<(u32, Pin)>, owner: u32, pin: &Pin) -> Result<(), Allo
 }
 
 // Drops the owner's pin, where it has one.
-pub fn remove(pins: &mut Vec<(u32, Pin)>, owner: u32)
+pub(crate) fn remove(pins: &mut Vec<(u32, Pin)>, owner: u32)
     requires { IsStrictlySortedBy nat_cmp (keys_of pins.old.items) }
     ensures { pins.new.items ≡ remove_entry (is_at (nat_cmp owner)) pins.old.items }
 {

@@ -17,7 +17,7 @@ use Rattle.seat_lock.specs.declared.counted.Counted.{Ghosts}
 use Rattle.seat_lock.specs.declared.rule.Round.{Round}
 use Rattle.seat_lock.specs.declared.rule.Round.TheVariants.{Idle, Turn, Out, Added}
 use Rattle.seat_lock.specs.declared.rule.View.{View}
-use Rattle.seat_lock.specs.Views.{Owns, InOrder, is_one_of, longer, shorter, spent_view, with_round, first_view, loaded, added, kept_back, handed, joined}
+use Rattle.seat_lock.specs.Views.{OwnsPart, InOrder, is_one_of, longer, shorter, spent_view, with_round, first_view, loaded, added, kept_back, handed, joined}
 use Rattle.seat_lock.specs.Rule.{total, turn_word, LockState, LockMe, Settled, HomeFits, Knows, Fits, Kept, TakesTurn, Loads, Adds, GivesTurn, Looks}
 use Rattle.seat_lock.proofs.Lists.{each_set, set_at, Somewhere, somewhere_set, somewhere_longer, same_total, total_set, total_end, total_two, at_end, within, prefix_same, prefix_trans, prefix_length, prefix_whole, Longer, longer_is, contains_none, contains_filter, contains_told, contains_retold}
 use Rattle.seat_lock.proofs.Places.{in_order_raised, in_order_within, in_order_extended, in_order_merged, contains_range, contains_merged}
@@ -202,7 +202,7 @@ module _ {T E P F : Type 0} (law : Ghosts T E P F) where
       )
 
   -- kinds 4 and 5: the value is home, and the new events are counted
-  pub adds : (slots id k : ℕ) (m : V) (v x : T) → m.round ≡ Out v → IsPrefix (law.journal v) (law.journal x) → law.frame x ≡ law.frame v → ((a : ℕ) → (((q : P) × Owns m a q) → ⊥) → law.part x a ≡ law.part v a)
+  pub adds : (slots id k : ℕ) (m : V) (v x : T) → m.round ≡ Out v → IsPrefix (law.journal v) (law.journal x) → law.frame x ≡ law.frame v → ((a : ℕ) → (((q : P) × OwnsPart m a q) → ⊥) → law.part x a ≡ law.part v a)
       → length (law.journal x) ≡ length (law.journal v) + k → length (law.journal x) < 2 ^ 64
       → Allows Rule slots id (m, (0, Some x) ∷ []) 1 (λ n. (n + k) % 2 ^ 64) (Adds law (step slots 1 k 0 none) (m, (0, Some x) ∷ []))
   adds slots id k m v x out longer same_frame others more fits s r _ at _ =
@@ -446,8 +446,8 @@ module _ {T E P F : Type 0} (law : Ghosts T E P F) where
               joined_seen r.events m.seen w.seen k.seen_is o.seen_is (inl (k.out_is x out ∙ home.1.journal_is)) ∙ sym home.1.journal_is;
           earlier_is = l.below;
           parts_are = λ b q has. ⊎_elim
-              (λ (h : Owns m b q). let own = k.parts_are b q h in (own.0, stays r.owner b (λ is. apart (sym is ∙ own.1)) ∙ own.1))
-              (λ (h : Owns w b q). let own = o.parts_are b q h in (own.0, goes r.owner b own.1))
+              (λ (h : OwnsPart m b q). let own = k.parts_are b q h in (own.0, stays r.owner b (λ is. apart (sym is ∙ own.1)) ∙ own.1))
+              (λ (h : OwnsPart w b q). let own = o.parts_are b q h in (own.0, goes r.owner b own.1))
               (Contains-append_cases m.parts w.parts (b, q) has);
           in_order = in_order_merged 0 m.places w.places top
               (in_order_raised 0 m.places (length m.seen) top k.in_order (prefix_length m.seen (longer m.seen w.seen) l.first))
@@ -587,7 +587,7 @@ module _ {T E P F : Type 0} (law : Ghosts T E P F) where
       prefix_whole m.seen r.events (r.each id m at).knows.seen_is (let size = ap length none in omega arith))
 
   pub closes : (s : St) (r : Rule s) (id : ℕ) (m : V) → get_elem? s.views id ≡ some m → m.weight ≡ 1024 → m.round ≡ Idle
-      → (x : T) × (get_elem? s.homes 0 ≡ some (some (Some x))) × (law.journal x ≡ m.seen) × (m.frame ≡ Some (law.frame x)) × ((a : ℕ) (q : P) → Owns m a q → law.part x a ≡ q)
+      → (x : T) × (get_elem? s.homes 0 ≡ some (some (Some x))) × (law.journal x ≡ m.seen) × (m.frame ≡ Some (law.frame x)) × ((a : ℕ) (q : P) → OwnsPart m a q → law.part x a ≡ q)
   closes s r id m at whole idle =
       let k = (r.each id m at).knows in
       let home = home_at s r Idle (free_at_last s r id m at whole idle) in

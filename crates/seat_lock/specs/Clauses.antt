@@ -9,7 +9,7 @@ use Rattle.atomic_table.specs.Table.{Step}
 use Rattle.seat_lock.specs.declared.counted.Counted.{Ghosts}
 use Rattle.seat_lock.specs.declared.rule.Round.TheVariants.{Idle, Out, Added}
 use Rattle.seat_lock.specs.declared.rule.View.{View}
-use Rattle.seat_lock.specs.Views.{Owns, HasName, InOrder, spent_view}
+use Rattle.seat_lock.specs.Views.{OwnsPart, OwnsAuthor, InOrder, spent_view}
 use Rattle.seat_lock.specs.Rule.{total, LockState, LockMe, TakesTurn, Loads, Adds, GivesTurn, Looks}
 
 module _ {T E P F : Type 0} where
@@ -72,7 +72,7 @@ module _ {T E P F : Type 0} (law : Ghosts T E P F) where
     -- 7. A holder that has added has its value at home with exactly `count` events
     pub home_once_added : (by : ℕ) (v : View T E P F) → At s by v → HasAdded v → (x : T) × IsAtHome s x × (length (law.journal x) ≡ count_of s)
     -- 8. No author stands in two views
-    pub authors_are_apart : (by other : ℕ) (v w : View T E P F) (a : ℕ) → At s by v → At s other w → HasName v a → HasName w a → other ≡ by
+    pub authors_are_apart : (by other : ℕ) (v w : View T E P F) (a : ℕ) → At s by v → At s other w → OwnsAuthor v a → OwnsAuthor w a → other ≡ by
     -- 9. The weights of all views add up to 1,024. A view that isn't spent has at least 1, and a spent one has 0
     pub weights : total (λ v. v.weight) s.views ≡ 1024
     pub weight_where_live : (by : ℕ) (v : View T E P F) → At s by v → ¬ IsSpent v → 1 ≤ v.weight
@@ -81,10 +81,10 @@ module _ {T E P F : Type 0} (law : Ghosts T E P F) where
     pub one_frame : (by other : ℕ) (v w : View T E P F) → At s by v → At s other w → ¬ IsSpent v → ¬ IsSpent w → v.frame ≡ w.frame
     pub frame_at_home : (by : ℕ) (v : View T E P F) (x : T) → At s by v → ¬ IsSpent v → IsAtHome s x → v.frame ≡ Some (law.frame x)
     -- 11. The part of an author in a view is its part in a value at home. The own parts of a holder that has loaded and hasn't added are among those that it got
-    pub parts_at_home : (by : ℕ) (v : View T E P F) (a : ℕ) (q : P) (x : T) → At s by v → Owns v a q → IsAtHome s x → law.part x a ≡ q
-    pub parts_got : (by : ℕ) (v : View T E P F) (a : ℕ) (q : P) (x : T) → At s by v → Owns v a q → HasLoaded v x → law.part x a ≡ q
+    pub parts_at_home : (by : ℕ) (v : View T E P F) (a : ℕ) (q : P) (x : T) → At s by v → OwnsPart v a q → IsAtHome s x → law.part x a ≡ q
+    pub parts_got : (by : ℕ) (v : View T E P F) (a : ℕ) (q : P) (x : T) → At s by v → OwnsPart v a q → HasLoaded v x → law.part x a ≡ q
     -- 12. Where the value isn't at home, the holder has loaded and not added, its seen has exactly `count` events, and the parts that it got are those in every view
-    pub holder_where_away : IsAway s → (by : ℕ) × (v : View T E P F) × (x : T) × At s by v × HasLoaded v x × (length v.seen ≡ count_of s) × ((other : ℕ) (w : View T E P F) (a : ℕ) (q : P) → At s other w → Owns w a q → law.part x a ≡ q)
+    pub holder_where_away : IsAway s → (by : ℕ) × (v : View T E P F) × (x : T) × At s by v × HasLoaded v x × (length v.seen ≡ count_of s) × ((other : ℕ) (w : View T E P F) (a : ℕ) (q : P) → At s other w → OwnsPart w a q → law.part x a ≡ q)
     pub away_where_loaded : (by : ℕ) (v : View T E P F) (x : T) → At s by v → HasLoaded v x → IsAway s × (v.seen ≡ law.journal x)
 
   -- 7, of steps. A pass that has added moves no slot until it has given up the turn

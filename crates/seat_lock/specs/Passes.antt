@@ -8,7 +8,7 @@ use Rattle.seat_lock.specs.declared.rule.View.{View}
 use Rattle.seat_lock.specs.declared.pass.Pass.{Pass}
 use Rattle.seat_lock.specs.declared.pass.Hold.{Hold}
 use Rattle.seat_lock.specs.declared.lock.SeatLock.{SeatLock}
-use Rattle.seat_lock.specs.Views.{Owns, HasName}
+use Rattle.seat_lock.specs.Views.{OwnsPart, OwnsAuthor}
 
 -- the value as it was got
 abbrev pub got_of : {T : Type 0} → Hold T → T
@@ -32,10 +32,10 @@ module _ {T E P F : Type 0} {law : Ghosts T E P F} where
 
   -- the pass has this author, whose part it last left so
   abbrev pub HasPart : Pass T E P F law → ℕ → P → Type 0
-  HasPart pass a q = Owns (view_of pass) a q
+  HasPart pass a q = OwnsPart (view_of pass) a q
 
   abbrev pub HasAuthor : Pass T E P F law → ℕ → Type 0
-  HasAuthor pass a = HasName (view_of pass) a
+  HasAuthor pass a = OwnsAuthor (view_of pass) a
 
   -- each value of the pass's lock has this frame
   abbrev pub HasFrame : Pass T E P F law → F → Type 0

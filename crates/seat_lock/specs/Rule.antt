@@ -10,7 +10,7 @@ use Rattle.seat_lock.specs.declared.counted.Counted.{Ghosts}
 use Rattle.seat_lock.specs.declared.rule.Round.{Round}
 use Rattle.seat_lock.specs.declared.rule.Round.TheVariants.{Idle, Turn, Out, Added}
 use Rattle.seat_lock.specs.declared.rule.View.{View}
-use Rattle.seat_lock.specs.Views.{Owns, InOrder, spent_view, with_round, loaded, added}
+use Rattle.seat_lock.specs.Views.{OwnsPart, InOrder, spent_view, with_round, loaded, added}
 
 -- the weights of all views
 abbrev pub total : {A : Type 0} → (A → ℕ) → List A → ℕ
@@ -51,7 +51,7 @@ module _ {T E P F : Type 0} (law : Ghosts T E P F) where
     pub seen_is : IsPrefix v.seen events
     pub out_is : (x : T) → v.round ≡ Out x → v.seen ≡ law.journal x
     pub earlier_is : IsPrefix v.earlier v.seen
-    pub parts_are : (a : ℕ) (q : P) → Owns v a q → (q ≡ parts a) × (owner a ≡ by)
+    pub parts_are : (a : ℕ) (q : P) → OwnsPart v a q → (q ≡ parts a) × (owner a ≡ by)
     pub in_order : InOrder 0 v.places (length v.seen)
     pub places_are : (p : ℕ) → Contains v.places p → placed p ≡ by
 
@@ -84,7 +84,7 @@ module _ {T E P F : Type 0} (law : Ghosts T E P F) where
     pub longer : IsPrefix m.0.seen (law.journal x)
     pub count : length (law.journal x) ≡ found
     pub frame_is : 0 < m.0.weight → m.0.frame ≡ Some (law.frame x)
-    pub parts_are : (a : ℕ) (q : P) → Owns m.0 a q → law.part x a ≡ q
+    pub parts_are : (a : ℕ) (q : P) → OwnsPart m.0 a q → law.part x a ≡ q
 
   -- the count is loaded, and the value is out
   abbrev pub Loads : Step (std.Option T) → LockMe T E P F → ℕ → LockMe T E P F → Type 0

@@ -51,12 +51,12 @@ is_one_of names a = list_any (λ n. n == a) names
 
 module _ {T E P F : Type 0} where
   -- the author is one of the view's, and this is its part
-  abbrev pub Owns : View T E P F → ℕ → P → Type 0
-  Owns v a q = Contains v.parts (a, q)
+  abbrev pub OwnsPart : View T E P F → ℕ → P → Type 0
+  OwnsPart v a q = Contains v.parts (a, q)
 
   -- the author is one of the view's
-  abbrev pub HasName : View T E P F → ℕ → Type 0
-  HasName v a = (q : P) × Owns v a q
+  abbrev pub OwnsAuthor : View T E P F → ℕ → Type 0
+  OwnsAuthor v a = (q : P) × OwnsPart v a q
 
   -- what is left of a view that another has taken in
   abbrev pub spent_view : View T E P F

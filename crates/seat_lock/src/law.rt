@@ -1,7 +1,7 @@
 // What the rule of the lock gives.
 ghost use Rattle.std.specs.Prelude.{◌≡◌, ◌↔◌, ◌⊎◌, ℕ, List, Contains};
 ghost use Rattle.seat_lock.specs.declared.rule.View.{View};
-ghost use Rattle.seat_lock.specs.Views.{Owns, HasName, merged, first_view, released, handed, kept_back, joined};
+ghost use Rattle.seat_lock.specs.Views.{OwnsPart, OwnsAuthor, merged, first_view, released, handed, kept_back, joined};
 ghost use Rattle.seat_lock.specs.Rule.{Kept, LockState, LockMe};
 ghost use Rattle.seat_lock.specs.Clauses.{Clauses, AddedMovesNoSlot, HasAdded};
 
@@ -16,9 +16,9 @@ pub fn rule_gives_clauses<T: Counted>()
 
 /// Which parts a view has after each call: of `new` the part of each author, of `release` that of each of its own authors in the value put back, of `split` those of the named authors, and the others, and of `join` those of both.
 pub fn parts_after_calls<T: Counted>()
-    ensures new { (x : T) (a : ℕ) (q : T.Part) → Owns (first_view T.Counted x) a q ↔ (Contains (T.authors x) a × (q ≡ T.part x a)) }
-    ensures release { (x : T) (v : View T T.Entry T.Part T.Frame) (a : ℕ) (q : T.Part) → Owns (released T.Counted x v) a q ↔ (HasName v a × (q ≡ T.part x a)) }
-    ensures split { (names : List ℕ) (v : View T T.Entry T.Part T.Frame) (a : ℕ) (q : T.Part) → Owns (handed names v) a q ↔ (Contains names a × Owns v a q) }
-    ensures left { (names : List ℕ) (v : View T T.Entry T.Part T.Frame) (a : ℕ) (q : T.Part) → Owns (kept_back names v) a q ↔ ((¬ Contains names a) × Owns v a q) }
-    ensures join { (v w : View T T.Entry T.Part T.Frame) (a : ℕ) (q : T.Part) → Owns (joined v w) a q ↔ (Owns v a q ⊎ Owns w a q) }
+    ensures new { (x : T) (a : ℕ) (q : T.Part) → OwnsPart (first_view T.Counted x) a q ↔ (Contains (T.authors x) a × (q ≡ T.part x a)) }
+    ensures release { (x : T) (v : View T T.Entry T.Part T.Frame) (a : ℕ) (q : T.Part) → OwnsPart (released T.Counted x v) a q ↔ (OwnsAuthor v a × (q ≡ T.part x a)) }
+    ensures split { (names : List ℕ) (v : View T T.Entry T.Part T.Frame) (a : ℕ) (q : T.Part) → OwnsPart (handed names v) a q ↔ (Contains names a × OwnsPart v a q) }
+    ensures left { (names : List ℕ) (v : View T T.Entry T.Part T.Frame) (a : ℕ) (q : T.Part) → OwnsPart (kept_back names v) a q ↔ ((¬ Contains names a) × OwnsPart v a q) }
+    ensures join { (v w : View T T.Entry T.Part T.Frame) (a : ℕ) (q : T.Part) → OwnsPart (joined v w) a q ↔ (OwnsPart v a q ⊎ OwnsPart w a q) }
 {}

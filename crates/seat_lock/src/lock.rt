@@ -26,7 +26,7 @@ impl<T: Counted> SeatLock<T> {
     ghost use Rattle.std.specs.Prelude.{◌≡◌, ◌≢◌, ◌<◌, ◌∷◌, ◌++◌, [], ℕ, length, IfOk, Some, None, true, false};
     ghost use mathlib.Core.List.{IsPrefix};
     ghost use Rattle.seat_lock.specs.Views.{first_view, loaded, released, kept_back, handed, joined, merged, new_places, with_round};
-    ghost use Rattle.seat_lock.specs.Passes.{IsOf, IsAtRest, IsHoldOf, GoesOn, HasPart, HasFrame, view_of, seen_of, places_of, weight_of, got_of};
+    ghost use Rattle.seat_lock.specs.Passes.{IsOf, IsAtRest, IsHoldOf, GoesOn, HasAuthor, HasPart, HasFrame, view_of, seen_of, places_of, weight_of, got_of};
     ghost use Rattle.seat_lock.specs.declared.rule.Round.TheVariants.{Idle, Turn, Out};
 
     /// A lock round the value, and its first pass, which has every author and the weight 1,024.
@@ -79,10 +79,8 @@ impl<T: Counted> SeatLock<T> {
         ensures got { result ≡ true → IsAtRest pass.old × (view_of pass.new ≡ with_round Turn (view_of pass.old)) }
         ensures missed { result ≡ false → view_of pass.new ≡ view_of pass.old }
     {
-        self.table
-            .shared
-            .compare_exchange::<TakeTurn>(&mut pass.seat, 0, 0, 1)
-            == 0
+        let words = &self.table.shared;
+        words.compare_exchange::<TakeTurn>(&mut pass.seat, 0, 0, 1) == 0
     }
 
     // Loads the count and takes the value out.
@@ -121,6 +119,7 @@ impl<T: Counted> SeatLock<T> {
         ensures own { IsOf self.now pass.new }
         ensures pass { view_of pass.new ≡ released T.Counted hold.value (view_of pass.old) }
         ensures places { places_of pass.new ≡ places_of pass.old ++ new_places (T.journal (got_of hold)) (T.journal hold.value) }
+        ensures parts { (a : ℕ) → HasAuthor pass.old a → HasPart pass.new a (T.part hold.value a) }
     {
         let Hold {
             value,

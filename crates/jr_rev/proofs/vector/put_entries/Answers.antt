@@ -1,4 +1,4 @@
-use Rattle.jr_rev.proofs.Joined.{nothing_next, revision_next, two_fronts, fits_none, fits_some}
+use Rattle.jr_rev.proofs.Joined.{nothing_next, revision_next, two_fronts, fits_none, fits_some, fits_all}
 use Rattle.jr_rev.proofs.vector.put_entries.Goals as goal
 use Rattle.jr_rev.proofs.vector.put_entries.Goals.{in-Some+in_ok-put_next, in_default}
 
@@ -21,3 +21,6 @@ loop-entry-preserved c =
             fits = fits_none c.args.entries.now c.loop-entry.entry-index c.loop-entry-test.true w.in_default.is c.loop-entry.invariant.fits;
           })
     ]
+
+pub returns-clause-fits : goal.returns-clause-fits
+returns-clause-fits c = fits_all _ _ c.loop-entry-test.false c.loop-entry.invariant.fits

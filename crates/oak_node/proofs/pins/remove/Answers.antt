@@ -1,4 +1,4 @@
-use Rattle.std.proofs.Common.{List, ℕ, sym, ap, subst, ◌∙◌}
+use Rattle.std.proofs.Common.{List, ℕ, sym, subst, ◌∙◌}
 use Rattle.jr_rev.specs.declared.vector.Pin.{Pin}
 use Rattle.oak_node.specs.Pins.{IsPlaceOf, IsGapOf}
 use Rattle.oak_node.proofs.Places.{front_of, remove_found, remove_nowhere, gap_nowhere}

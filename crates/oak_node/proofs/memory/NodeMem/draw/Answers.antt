@@ -1,5 +1,4 @@
-use Rattle.std.proofs.Common.{◌≡◌, max, ◌∙◌, ap, refl, arith}
-use Rattle.oak_node.specs.Heads.{known_time}
+use Rattle.std.proofs.Common.{max, ◌∙◌, ap, refl, arith}
 use Rattle.oak_node.proofs.Kept.{draw_memory}
 use Rattle.oak_node.proofs.memory.NodeMem.draw.Goals as goal
 

@@ -1,4 +1,4 @@
-use Rattle.std.proofs.Common.{◌≡◌, ◌≤◌, ap, sym, subst, ◌∙◌, arith, rules}
+use Rattle.std.proofs.Common.{◌≡◌, ap, sym, ◌∙◌, arith, rules}
 use Rattle.std.proofs.lemmas.Bool.{OnFalse_from}
 use Rattle.jr_rev.specs.Revisions.{is_before}
 use Rattle.oak_node.specs.Memory.{own_entry}

@@ -1,4 +1,4 @@
-use Rattle.std.proofs.Common.{◌≡◌, ℕ, not, List, filter, sym, ap, subst, ◌∙◌, ◌↔◌, rules}
+use Rattle.std.proofs.Common.{ℕ, not, List, sym, ap, subst, ◌∙◌, ◌↔◌, rules}
 use Rattle.std.specs.Prelude.{Contains}
 use Rattle.std.specs.List.Sorted.{IsStrictlySortedBy}
 use Rattle.std.proofs.lemmas.Fn.{filter_same}
