@@ -1,10 +1,10 @@
 // Laws of the texts and the orders of names, paths, items and ids.
-ghost use Rattle.std.specs.Prelude.{◌≡◌, ◌↔◌, ◌<◌, ◌^◌, All, IsTrue, length};
+ghost use Rattle.std.specs.Prelude.{◌≡◌, ◌↔◌, ◌<◌, ◌^◌, ◌∷◌, ◌++◌, [], All, IsTrue, length};
 ghost use Rattle.std.specs.Cmp.{IsTotalOrder};
 ghost use Rattle.std.specs.Ordering.{is_eq};
 ghost use Rattle.jr_path.specs.Grammar.{HasOneFault, IsName};
 ghost use Rattle.jr_path.specs.Ids.{id_cmp, id_text, names_of, number_of, path_text};
-ghost use Rattle.jr_path.specs.Names.{item_cmp, name_cmp, path_cmp};
+ghost use Rattle.jr_path.specs.Names.{is_under, item_cmp, last_name, name_cmp, parent_of, path_cmp};
 ghost use Rattle.jr_path.specs.Paths.{IsPathText, NamesReadBack, PathsReadBack};
 
 use crate::{DocId, Item, Name, Path};
@@ -36,6 +36,17 @@ pub fn order_of_ids()
     ensures is { (a b : _) → ⟦<DocId as Ord>⟧.cmp a b ≡ id_cmp a b }
     ensures total { IsTotalOrder id_cmp }
     ensures exact { (a b : _) → IsTrue (is_eq (id_cmp a b)) ↔ (a ≡ b) }
+{}
+
+/// A child's path has its node's path above it and its name last; only the root has no such parts.
+pub fn parts_of_paths()
+    ensures child { (path name : _) → (parent_of (path ++ name ∷ []) ≡ Some path) × (last_name (path ++ name ∷ []) ≡ Some name) }
+    ensures root { (parent_of [] ≡ None) × (last_name [] ≡ None) }
+{}
+
+/// One path is at or below another exactly where it begins with the other's names.
+pub fn paths_below()
+    ensures { (path other : _) → IsTrue (is_under path other) ↔ ((more : _) × (path ≡ other ++ more)) }
 {}
 
 /// A text that is no name, or no path, has one first fault.

@@ -11,17 +11,19 @@ mod list;
 mod name;
 mod path;
 mod path_text;
+#[cfg(test)]
+mod tests;
 mod text;
 
 pub use copies::DeepCopy;
 pub use fault::PathFault;
 pub use keyed::Keyed;
 pub use laws::{
-    first_faults, order_of_ids, order_of_items, order_of_names, order_of_paths, texts_of_ids,
-    texts_of_paths, texts_read_back,
+    first_faults, order_of_ids, order_of_items, order_of_names, order_of_paths, parts_of_paths,
+    paths_below, texts_of_ids, texts_of_paths, texts_read_back,
 };
 pub use list::List;
-pub use name::Name;
+pub use name::{MAX_NAME_BYTES, Name};
 pub use path::{DocId, Item, Path};
 pub use path_text::{MAX_PATH_BYTES, MAX_PATH_NAMES, PathText};
 pub use text::Text;

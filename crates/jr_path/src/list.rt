@@ -1,5 +1,5 @@
 // A vector, seen as the list of its items.
-ghost use Rattle.std.specs.Prelude.{◌≡◌, [], ◌∷◌, ◌++◌, IfOk, OnOk, OnErr, length};
+ghost use Rattle.std.specs.Prelude.{◌≡◌, ◌↔◌, [], ◌∷◌, ◌++◌, IfOk, IsTrue, OnOk, OnErr, length};
 ghost use Rattle.std.specs.Borrow.{sem};
 ghost use Rattle.jr_path.specs.Lending.{lends_items};
 
@@ -8,6 +8,7 @@ use std::alloc::{AllocError, Global};
 use std::cmp::Ordering;
 use std::marker::Model;
 
+/// A list of items, over a vector.
 #[derive(Debug, Drop)]
 pub struct List<T> {
     items: Vec<T>,
@@ -22,6 +23,7 @@ impl<T> Model for List<T> {
 }
 
 impl<T> List<T> {
+    /// The empty list. It takes no memory.
     pub fn new(alloc: Global) -> Self
         ensures { result ≡ [] }
     {
@@ -30,6 +32,7 @@ impl<T> List<T> {
         }
     }
 
+    /// Takes over a vector, without memory.
     pub fn of(items: Vec<T>) -> Self
         ensures { result ≡ items.items }
     {
@@ -42,6 +45,7 @@ impl<T> List<T> {
         &self.items
     }
 
+    /// What is left in the vector that is lent is what this list then has.
     pub fn inner_mut(&mut self) -> &mut Vec<T>
         ensures* writes_back { sem 𝓛 (lends_items T.row self.entry result) }
         ensures shows { result.now.items ≡ self.old }
@@ -49,10 +53,29 @@ impl<T> List<T> {
         &mut self.items
     }
 
+    /// Gives the vector back, without memory.
     pub fn into_inner(self) -> Vec<T>
         ensures { result.items ≡ self }
     {
         self.items
+    }
+
+    pub fn as_slice(&self) -> &[T]
+        ensures { result.now ≡ self.now }
+    {
+        self.items.as_slice()
+    }
+
+    pub fn len(&self) -> usize
+        ensures { result ≡ length self.now }
+    {
+        self.items.len()
+    }
+
+    pub fn is_empty(&self) -> bool
+        ensures { IsTrue result ↔ (self.now ≡ []) }
+    {
+        self.items.is_empty()
     }
 }
 

@@ -8,6 +8,9 @@ use std::alloc::{AllocError, Global};
 use std::cmp::Ordering;
 use std::marker::Model;
 
+/// The most bytes that a name has.
+pub const MAX_NAME_BYTES: usize = 255;
+
 /// The name of a node or a property (JSR 283, 3.2 Names), ordered by its bytes.
 #[derive(Debug, Drop)]
 pub struct Name {
@@ -132,13 +135,13 @@ impl Stage {
             // A character of more than one byte begins as others do that may stand here.
             return Err(if (c as u32) < 128 {
                 offset
-            } else if end <= 255 {
+            } else if end <= MAX_NAME_BYTES {
                 offset + 1
             } else {
                 offset
             });
         };
-        if end + next.missing() <= 255 {
+        if end + next.missing() <= MAX_NAME_BYTES {
             Ok(next)
         } else {
             Err(offset)

@@ -1,5 +1,5 @@
 // A string, seen as its bytes.
-ghost use Rattle.std.specs.Prelude.{◌≡◌, [], IfOk, IsTrue, ◌↔◌};
+ghost use Rattle.std.specs.Prelude.{◌≡◌, ◌↔◌, ◌++◌, [], IfOk, IsTrue, OnErr, OnOk, length};
 ghost use Rattle.std.specs.String.{string_bytes};
 ghost use Rattle.std.specs.Borrow.{sem};
 ghost use Rattle.jr_path.specs.Lending.{lends_text};
@@ -9,6 +9,7 @@ use std::alloc::{AllocError, Global};
 use std::cmp::Ordering;
 use std::marker::Model;
 
+/// A text in UTF-8, over a string; ordered by its bytes.
 #[derive(Debug, Drop)]
 pub struct Text {
     string: String,
@@ -24,6 +25,7 @@ impl Model for Text {
 }
 
 impl Text {
+    /// The empty text. It takes no memory.
     pub fn new(alloc: Global) -> Self
         ensures { result ≡ [] }
     {
@@ -32,6 +34,16 @@ impl Text {
         }
     }
 
+    /// A text with the bytes of another.
+    pub fn copy_of(alloc: Global, text: &str) -> Result<Text, AllocError>
+        ensures { IfOk result (λ copy. copy ≡ text.now) }
+    {
+        Ok(Text {
+            string: String::from_str(alloc, text)?,
+        })
+    }
+
+    /// Takes over a string, without memory.
     pub fn of(string: String) -> Self
         ensures { result ≡ string_bytes string }
     {
@@ -50,6 +62,7 @@ impl Text {
         self.string.as_str()
     }
 
+    /// What is left in the string that is lent is what this text then has.
     pub fn inner_mut(&mut self) -> &mut String
         ensures* writes_back { sem 𝓛 (lends_text self.entry result) }
         ensures shows { string_bytes result.now ≡ self.old }
@@ -57,10 +70,33 @@ impl Text {
         &mut self.string
     }
 
+    /// Gives the string back, without memory.
     pub fn into_inner(self) -> String
         ensures { string_bytes result ≡ self }
     {
         self.string
+    }
+
+    /// How many bytes it has.
+    pub fn len(&self) -> usize
+        ensures { result ≡ length self.now }
+    {
+        self.string.len()
+    }
+
+    pub fn is_empty(&self) -> bool
+        ensures { IsTrue result ↔ (self.now ≡ []) }
+    {
+        self.string.is_empty()
+    }
+
+    /// Puts a text at the end.
+    pub fn push_str(&mut self, text: &str) -> Result<(), AllocError>
+        ensures ok { OnOk result (self.new ≡ self.old ++ text.now) }
+        ensures err { OnErr result (self.new ≡ self.old) }
+    {
+        self.string.push_str(text)?;
+        Ok(())
     }
 }
 

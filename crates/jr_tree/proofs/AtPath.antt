@@ -83,7 +83,7 @@ order-come t s (Put q m x) = s
 order-come t s (Unset q m) = s
 
 -- a node that is there is changed in place
-changed_there : (f : Node → Node) (t : Nodes) (p q : Path) (o : Option Node) → node_at t q ≡ o
+pub changed_there : (f : Node → Node) (t : Nodes) (p q : Path) (o : Option Node) → node_at t q ≡ o
     → node_at (option_map_or (λ node. set_value (is_at (path_cmp q)) t (f node)) o t) p ≡ cond (eq_by_cmp path_cmp p q) (option_map f (node_at t p)) (node_at t p)
 changed_there f t p q None h = by (eq_by_cmp path_cmp p q) refl
   where

@@ -1,7 +1,10 @@
 // What an edit makes of a tree.
-ghost use Rattle.std.specs.Prelude.{◌≡◌, OnOk, OnErr, map};
+ghost use Rattle.std.specs.Prelude.{◌≡◌, ℕ, IfOk, IsTrue, OnOk, OnErr, map, take};
+ghost use Rattle.std.specs.FinMap.{is_sorted};
 ghost use Rattle.std.specs.List.{fold};
 ghost use Rattle.std.specs.Map.Iter.{deref};
+ghost use Rattle.jr_path.specs.Names.{path_cmp};
+ghost use Rattle.jr_tree.specs.Merging.{with_node_of, written_nodes, missing, with_room, without_paths, without_gone, without_unless, with_part, changed_part, merged};
 ghost use Rattle.jr_tree.specs.Edits.{applied, with_node_write, with_property_write};
 
 use crate::edit::{Edit, Write};
@@ -18,11 +21,159 @@ impl Tree {
         ensures err { OnErr result (self.new ≡ self.old) }
     {
         let last = edit.last_writes()?;
-        let mut nodes = self.nodes.copy()?;
-        write_nodes(&mut nodes, self.alloc, &last)?;
-        write_properties(&mut nodes, &last)?;
-        self.nodes = nodes;
+        let part = changed_part(&self.nodes, self.alloc, &last)?;
+        merge(&mut self.nodes, self.alloc, part, &last)?;
         Ok(())
+    }
+}
+
+// Copies of the nodes that are written, with the writes made.
+fn changed_part(
+    nodes: &Keyed<Path, Node>,
+    alloc: Global,
+    writes: &[&Write],
+) -> Result<Keyed<Path, Node>, AllocError>
+    ensures { IfOk result (λ part. part ≡ changed_part nodes.now (map deref writes.now)) }
+{
+    let mut part = written_nodes(nodes, alloc, writes)?;
+    write_nodes(&mut part, alloc, writes)?;
+    write_properties(&mut part, writes)?;
+    Ok(part)
+}
+
+// Puts the changed part in its places. A refusal leaves all as it was.
+fn merge(
+    nodes: &mut Keyed<Path, Node>,
+    alloc: Global,
+    part: Keyed<Path, Node>,
+    writes: &[&Write],
+) -> Result<(), AllocError>
+    requires { IsTrue (is_sorted path_cmp nodes.old) }
+    ensures ok { OnOk result (nodes.new ≡ merged nodes.old part (map deref writes.now)) }
+    ensures err { OnErr result (nodes.new ≡ nodes.old) }
+{
+    make_room(nodes, alloc, &part)?;
+    remove_gone(nodes, &part, writes);
+    move_in(nodes, part);
+    Ok(())
+}
+
+// Copies of the nodes that are written or of which a property is.
+fn written_nodes(
+    nodes: &Keyed<Path, Node>,
+    alloc: Global,
+    writes: &[&Write],
+) -> Result<Keyed<Path, Node>, AllocError>
+    ensures { IfOk result (λ part. part ≡ written_nodes nodes.now (map deref writes.now)) }
+{
+    let mut part = Keyed::new(alloc);
+    for write in writes {
+        copy_node(&mut part, nodes, write.path())?;
+    }
+    Ok(part)
+}
+
+fn copy_node(
+    part: &mut Keyed<Path, Node>,
+    nodes: &Keyed<Path, Node>,
+    path: &Path,
+) -> Result<(), AllocError>
+    ensures { OnOk result (part.new ≡ with_node_of nodes.now part.old path.now) }
+{
+    if part.contains(path) {
+        return Ok(());
+    }
+    match nodes.get(path) {
+        Some(node) => part.put(path.copy()?, node.copy()?),
+        None => Ok(()),
+    }
+}
+
+// Puts an empty node at each path of the part that has none. A refusal leaves all as it was.
+fn make_room(
+    nodes: &mut Keyed<Path, Node>,
+    alloc: Global,
+    part: &Keyed<Path, Node>,
+) -> Result<(), AllocError>
+    requires { IsTrue (is_sorted path_cmp nodes.old) }
+    ensures ok { OnOk result (nodes.new ≡ with_room nodes.old (missing nodes.old part.now)) }
+    ensures err { OnErr result (nodes.new ≡ nodes.old) }
+{
+    let missing = missing_paths(nodes, alloc, part)?;
+    match put_empty(nodes, alloc, &missing) {
+        Ok(()) => Ok(()),
+        Err(refused) => {
+            remove_paths(nodes, &missing);
+            Err(refused)
+        }
+    }
+}
+
+// The paths of the part that the nodes lack.
+fn missing_paths<'a>(
+    nodes: &Keyed<Path, Node>,
+    alloc: Global,
+    part: &'a Keyed<Path, Node>,
+) -> Result<Vec<&'a Path>, AllocError>
+    ensures { IfOk result (λ paths. map deref paths.items ≡ missing nodes.now part.now) }
+{
+    let mut paths = Vec::new(alloc);
+    for (path, _) in part.inner() {
+        if !nodes.contains(path) {
+            paths.push(path)?;
+        }
+    }
+    Ok(paths)
+}
+
+// A refusal leaves the nodes that were put before it.
+fn put_empty(
+    nodes: &mut Keyed<Path, Node>,
+    alloc: Global,
+    paths: &[&Path],
+) -> Result<(), AllocError>
+    ensures ok { OnOk result (nodes.new ≡ with_room nodes.old (map deref paths.now)) }
+    ensures err { OnErr result ((n : ℕ) × (nodes.new ≡ with_room nodes.old (map deref (take n paths.now)))) }
+{
+    for path in paths {
+        nodes.put(path.copy()?, Node::new(alloc))?;
+    }
+    Ok(())
+}
+
+fn remove_paths(nodes: &mut Keyed<Path, Node>, paths: &[&Path])
+    ensures { nodes.new ≡ without_paths nodes.old (map deref paths.now) }
+{
+    for path in paths {
+        nodes.remove(path);
+    }
+}
+
+// Removes the written nodes that the part doesn't have any more.
+fn remove_gone(nodes: &mut Keyed<Path, Node>, part: &Keyed<Path, Node>, writes: &[&Write])
+    ensures { nodes.new ≡ without_gone nodes.old part.now (map deref writes.now) }
+{
+    for write in writes {
+        remove_unless(nodes, part, write.path());
+    }
+}
+
+fn remove_unless(nodes: &mut Keyed<Path, Node>, part: &Keyed<Path, Node>, path: &Path)
+    ensures { nodes.new ≡ without_unless part.now nodes.old path.now }
+{
+    if !part.contains(path) {
+        nodes.remove(path);
+    }
+}
+
+// Puts the nodes of the part in the places that are there for them, without memory.
+fn move_in(nodes: &mut Keyed<Path, Node>, part: Keyed<Path, Node>)
+    ensures { nodes.new ≡ with_part nodes.old part }
+{
+    for (path, node) in part.into_inner() {
+        if let Some(place) = nodes.inner_mut().get_mut(&path) {
+            *place = node;
+        }
     }
 }
 

@@ -242,7 +242,7 @@ fn values(alloc: Global, items: &[Json], kind: Kind) -> Result<Option<List<Value
 fn value_of_kind(alloc: Global, json: &Json, kind: Kind) -> Result<Option<Value>, AllocError>
     ensures { IfOk result (IsFound (λ x. IsValueJson (view json.now) x × (kind_of x ≡ kind))) }
 {
-    if is_of(form_begun(json), kind) {
+    if same_kind(form_begun(json), kind) {
         Ok(value(alloc, json)?)
     } else {
         Ok(None)
@@ -250,7 +250,7 @@ fn value_of_kind(alloc: Global, json: &Json, kind: Kind) -> Result<Option<Value>
 }
 
 // Whether two kinds are the same.
-fn is_of(a: Kind, b: Kind) -> bool
+fn same_kind(a: Kind, b: Kind) -> bool
     ensures { result ≡ (kind_number a == kind_number b) }
 {
     a == b
@@ -262,7 +262,7 @@ fn first_other(items: &[Json], kind: Kind) -> Kind
 {
     for item in items {
         let begun = form_begun(item);
-        if !is_of(begun, kind) {
+        if !same_kind(begun, kind) {
             return begun;
         }
     }

@@ -61,7 +61,8 @@ with_own s e = record s { head = with_entry s.head e; above = filter (λ d. is_b
 abbrev pub finished : NodeState → Revision → NodeState
 finished s r = with_own (record s { above = with_end s.above r }) (local_from (own_entry s) (with_end s.above r))
 
--- the rule of heads: the head's own entry is the greatest of these revisions that is below every one in flight
+-- the rule of heads: the head's own entry is the greatest of these revisions that is below every
+-- one in flight
 pub record IsLocal (drawn : List Revision) (s : NodeState) : Type 0 where
   pub one : Contains drawn (own_entry s)
   pub below : (q : Revision) → IsInFlight s q → IsTrue (is_before (own_entry s) q)
@@ -82,6 +83,7 @@ IsAwaited s r (Pending q) = AwaitsEarlier s r q
 
 -- ---- what other nodes published
 
--- each entry of the head but the node's own, and each of the sweep vector, is raised to what was read, and none is lowered
+-- each entry of the head but the node's own, and each of the sweep vector, is raised to what was
+-- read, and none is lowered
 abbrev pub learned : NodeState → Entries → Entries → NodeState
 learned s last_revisions sweep = record s { head = with_entry (greatest s.head last_revisions) (own_entry s); sweep = greatest s.sweep sweep }

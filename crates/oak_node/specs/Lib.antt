@@ -1,3 +1,5 @@
+pub mod Examples
+pub mod Fields
 pub mod Heads
 pub mod Memory
 pub mod Notes

@@ -10,8 +10,9 @@ use Rattle.jr_rev.specs.Vectors.{Entries, entry, start_of}
 use Rattle.oak_node.specs.declared.drawn.Drawn.{Drawn}
 use Rattle.oak_node.specs.declared.pending.Note.{Note}
 
--- a cluster node's number; its head; the sweep vector; the time of its last draw, 0 before the first; the revisions that
--- it drew above its head's own entry, ascending; the pins by their owners, ascending; the noted paths, the first first
+-- a cluster node's number; its head; the sweep vector; the time of its last draw, 0 before the
+-- first; the revisions that it drew above its head's own entry, ascending; the pins by their
+-- owners, ascending; the noted paths, the first first
 pub record NodeState : Type 0 where
   pub cluster : ℕ
   pub head : Entries
@@ -20,6 +21,18 @@ pub record NodeState : Type 0 where
   pub above : List Drawn
   pub pins : List (ℕ × Pin)
   pub notes : List Note
+
+-- a memory that has drawn, pinned and noted nothing, with this vector as its head and sweep vector
+abbrev pub begun : ℕ → Entries → NodeState
+begun cluster start = record {
+  cluster = cluster;
+  head = start;
+  sweep = start;
+  last_time = 0;
+  above = [];
+  pins = [];
+  notes = [];
+}
 
 -- the head's entry of the node itself
 abbrev pub own_entry : NodeState → Revision
@@ -33,9 +46,9 @@ abbrev pub begins_in_flight : List Drawn → Bool
 begins_in_flight [] = true
 begins_in_flight (d ∷ ds) = not d.ended
 
--- what is true of each memory: the node has a number from 1 to 8, and an entry in its head; what it drew above that
--- entry is of this node, rises from there and begins with one in flight, and no draw is later than the last;
--- no owner has two pins
+-- what is true of each memory: the node has a number from 1 to 8, and an entry in its head; what it
+-- drew above that entry is of this node, rises from there and begins with one in flight, and no
+-- draw is later than the last; no owner has two pins
 pub record IsMemory (s : NodeState) : Type 0 where
   pub low : 1 ≤ s.cluster
   pub high : s.cluster ≤ 8

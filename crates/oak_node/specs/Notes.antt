@@ -16,7 +16,8 @@ with_note s path r = record s { notes = s.notes ++ record { path = path; revisio
 abbrev pub without_seen : NodeState → NodeState
 without_seen s = record s { notes = filter (λ note. not (sees s.head note.revision)) s.notes }
 
--- the noted paths whose revision the head sees, each once and in path order, and the head's own entry
+-- the noted paths whose revision the head sees, each once and in path order, and the head's own
+-- entry
 pub record IsPending (s : NodeState) (pending : Pending) : Type 0 where
   pub ordered : IsStrictlySortedBy path_cmp pending.paths
   pub noted : (path : List (List ℕ)) → Contains pending.paths path ↔ Contains (seen_paths s.head s.notes) path

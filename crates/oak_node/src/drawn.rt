@@ -18,7 +18,8 @@ pub struct Drawn {
 pub(crate) fn settle(drawn: &mut Vec<Drawn>, own: Revision, r: Revision) -> Revision
     requires { IsStrictlySortedBy revision_cmp (own ∷ revisions_in drawn.old.items) }
     ensures local { result ≡ local_from own (with_end drawn.old.items r) }
-    ensures rest { drawn.new.items ≡ filter (λ d. is_before result d.revision) (with_end drawn.old.items r) }
+    ensures rest { drawn.new.items
+        ≡ filter (λ d. is_before result d.revision) (with_end drawn.old.items r) }
 {
     end(drawn.as_mut_slice(), r);
     let local = local(own, drawn.as_slice());
@@ -37,8 +38,8 @@ fn end(drawn: &mut [Drawn], r: Revision)
     }
 }
 
-// The greatest of `own` and of the drawn revisions that is below every one in flight. They rise from `own` on, so it is
-// the last before the first one in flight.
+// The greatest of `own` and of the drawn revisions that is below every one in flight. They rise
+// from `own` on, so it is the last before the first one in flight.
 fn local(own: Revision, drawn: &[Drawn]) -> Revision
     requires { IsStrictlySortedBy revision_cmp (own ∷ revisions_in drawn.now) }
     ensures { result ≡ local_from own drawn.now }

@@ -5,24 +5,35 @@ ghost use Rattle.jr_rev.specs.Vectors.{Entries, entry, sees, is_below, greater_e
 ghost use Rattle.oak_node.specs.Memory.{NodeState, IsMemory, own_entry, revisions_in};
 ghost use Rattle.oak_node.specs.Heads.{next_draw, IsInFlight, finished, IsLocal, learned};
 
-/// The rule of heads: once a revision has ended, the head's own entry is the greatest revision that the node drew (of its
-/// entry before and those above) below every one in flight. In flight are those that were, but for the one that ended.
+/// The rule of heads: once a revision has ended, the head's own entry is the greatest revision that
+/// the node drew (of its entry before and those above) below every one in flight. In flight are
+/// those that were, but for the one that ended.
 pub fn rule_of_heads()
-    ensures own { (s : NodeState) (r : _) → IsMemory s → IsLocal (own_entry s ∷ revisions_in s.above) (finished s r) }
-    ensures flying { (s : NodeState) (r q : _) → IsMemory s → IsInFlight (finished s r) q ↔ (IsInFlight s q × (q ≢ r)) }
+    ensures own { (s : NodeState) (r : _) →
+        IsMemory s → IsLocal (own_entry s ∷ revisions_in s.above) (finished s r) }
+    ensures flying { (s : NodeState) (r q : _) →
+        IsMemory s → IsInFlight (finished s r) q ↔ (IsInFlight s q × (q ≢ r)) }
 {}
 
-/// Draws rise: what the head sees, and what the node drew above the head's own entry, is before its next draw.
+/// Draws rise: what the head sees, and what the node drew above the head's own entry, is before its
+/// next draw.
 pub fn draws_rise()
-    ensures seen { (s : NodeState) (o : _) → o.cluster ≤ 8 → IsTrue (sees s.head o) → IsTrue (is_before o (next_draw s)) }
-    ensures drawn { (s : NodeState) (o : _) → IsMemory s → Contains (revisions_in s.above) o → IsTrue (is_before o (next_draw s)) }
+    ensures seen { (s : NodeState) (o : _) →
+        o.cluster ≤ 8 → IsTrue (sees s.head o) → IsTrue (is_before o (next_draw s)) }
+    ensures drawn { (s : NodeState) (o : _) →
+        IsMemory s → Contains (revisions_in s.above) o → IsTrue (is_before o (next_draw s)) }
 {}
 
-/// What is learned raises the entries of the other nodes and of the sweep vector, and lowers none. The head's entry of the
-/// node itself stays.
+/// What is learned raises the entries of the other nodes and of the sweep vector, and lowers none.
+/// The head's entry of the node itself stays.
 pub fn others_are_learned()
-    ensures own { (s : NodeState) (v w : Entries) → IsMemory s → entry (learned s v w).head s.cluster ≡ entry s.head s.cluster }
-    ensures others { (s : NodeState) (v w : Entries) (k : ℕ) → IsMemory s → k ≢ s.cluster → entry (learned s v w).head k ≡ greater_entry (entry s.head k) (entry v k) }
-    ensures sweep { (s : NodeState) (v w : Entries) (k : ℕ) → entry (learned s v w).sweep k ≡ greater_entry (entry s.sweep k) (entry w k) }
-    ensures rising { (s : NodeState) (v w : Entries) → IsMemory s → IsTrue (is_below s.head (learned s v w).head) }
+    ensures own { (s : NodeState) (v w : Entries) →
+        IsMemory s → entry (learned s v w).head s.cluster ≡ entry s.head s.cluster }
+    ensures others { (s : NodeState) (v w : Entries) (k : ℕ) →
+        IsMemory s → k ≢ s.cluster →
+        entry (learned s v w).head k ≡ greater_entry (entry s.head k) (entry v k) }
+    ensures sweep { (s : NodeState) (v w : Entries) (k : ℕ) →
+        entry (learned s v w).sweep k ≡ greater_entry (entry s.sweep k) (entry w k) }
+    ensures rising { (s : NodeState) (v w : Entries) →
+        IsMemory s → IsTrue (is_below s.head (learned s v w).head) }
 {}

@@ -1,8 +1,8 @@
-//! The memory of one cluster node: its head, the revisions that it drew, its pins, and the paths that it has
-//! still to publish.
+//! The memory of one cluster node: its head, the revisions that it drew, its pins, and the paths
+//! that it has still to publish.
 //!
-//! Oak, DocumentNodeStore: "Revisions", "Background operations". A cluster node draws the revisions of its commits,
-//! and publishes the changed paths (`_lastRev`) in the background.
+//! Oak, DocumentNodeStore: "Revisions", "Background operations". A cluster node draws the revisions
+//! of its commits, and publishes the changed paths (`_lastRev`) in the background.
 #![tactic(auto)]
 
 mod drawn;

@@ -1,10 +1,11 @@
 // The memory of one cluster node.
-ghost use Rattle.std.specs.Prelude.{◌≡◌, ◌-◌, ◌^◌, ◌<◌, ◌≤◌, [], IfOk, OnOk, OnErr, IsOk, IsSome, IsSomeAnd};
+ghost use Rattle.std.specs.Prelude.{◌≡◌, ◌-◌, ◌^◌, ◌<◌, ◌≤◌, IfOk, OnOk, OnErr, IsOk, IsSome, IsSomeAnd};
 ghost use Rattle.std.specs.Bool.{OnFalse};
 ghost use Rattle.jr_rev.specs.Revisions.{is_before};
 ghost use Rattle.jr_rev.specs.Vectors.{entry, start_of};
-ghost use Rattle.oak_node.specs.Memory.{IsMemory, own_entry};
-ghost use Rattle.oak_node.specs.Heads.{greatest_time, known_time, next_draw, with_draw, IsInFlight, HasEnded, finished, IsAwaited, learned};
+ghost use Rattle.oak_node.specs.Memory.{IsMemory, begun, own_entry};
+ghost use Rattle.oak_node.specs.Heads.{greatest_time, known_time, next_draw, with_draw, finished, learned};
+ghost use Rattle.oak_node.specs.Heads.{IsInFlight, HasEnded, IsAwaited};
 ghost use Rattle.oak_node.specs.Pins.{pin_of, pin_now, with_pin, without_pin};
 ghost use Rattle.oak_node.specs.Notes.{with_note, without_seen, IsPending};
 
@@ -25,10 +26,12 @@ pub enum Awaits {
     Pending(Revision),
 }
 
-/// What one cluster node keeps in memory (Oak, DocumentNodeStore: "Revisions", "Background operations").
+/// What one cluster node keeps in memory (Oak, DocumentNodeStore: "Revisions", "Background
+/// operations").
 ///
-/// Its number, 1 to 8; its head, a revision vector; the sweep vector; the time of its last draw; the revisions that it
-/// drew above its head's own entry; the pins, one for an owner; and the paths that it noted to be published.
+/// Its number, 1 to 8; its head, a revision vector; the sweep vector; the time of its last draw;
+/// the revisions that it drew above its head's own entry; the pins, one for an owner; and the paths
+/// that it noted to be published.
 #[derive(Drop)]
 pub struct NodeMem {
     cluster: u32,
@@ -45,18 +48,21 @@ impl Model for NodeMem {
 
     ghost Value = { NodeState };
 
-    ghost view = { λ m. record { cluster = m.cluster; head = m.head; sweep = m.sweep; last_time = m.last_time; above = m.above.items; pins = m.pins.items; notes = m.notes.items } };
+    ghost use Rattle.oak_node.specs.Fields.{state_of};
 
-    ghost invariant = { λ m. IsMemory (record { cluster = m.cluster; head = m.head; sweep = m.sweep; last_time = m.last_time; above = m.above.items; pins = m.pins.items; notes = m.notes.items }) };
+    ghost view = { state_of };
+
+    ghost invariant = { λ m. IsMemory (state_of m) };
 }
 
 impl NodeMem {
-    /// A cluster node's memory at its start: the vector is its head and its sweep vector, and it has drawn, noted and
-    /// pinned nothing. The node's number is 1 to 8, and the vector has an entry for it. It takes no memory.
+    /// A cluster node's memory at its start: the vector is its head and its sweep vector, and it
+    /// has drawn, noted and pinned nothing. The node's number is 1 to 8, and the vector has an
+    /// entry for it. It takes no memory.
     pub fn new(alloc: Global, cluster: u32, start: RevVec) -> NodeMem
         requires node { 1 ≤ cluster × cluster ≤ 8 }
         requires entry { IsSomeAnd (entry start cluster) (λ own. own.cluster ≡ cluster) }
-        ensures { result ≡ record { cluster = cluster; head = start; sweep = start; last_time = 0; above = []; pins = []; notes = [] } }
+        ensures { result ≡ begun cluster start }
     {
         NodeMem {
             cluster,
@@ -69,8 +75,8 @@ impl NodeMem {
         }
     }
 
-    /// Draws a revision of this node, which is in flight from then on. Its time is one more than the greatest that the node
-    /// knows, of its head and of its last draw, and its counter is 0.
+    /// Draws a revision of this node, which is in flight from then on. Its time is one more than
+    /// the greatest that the node knows, of its head and of its last draw, and its counter is 0.
     pub fn draw(&mut self) -> Result<Revision, AllocError>
         requires { known_time self.old < 2 ^ 64 - 1 }
         ensures drawn { IfOk result (λ r. r ≡ next_draw self.old) }
@@ -91,8 +97,8 @@ impl NodeMem {
         Ok(revision)
     }
 
-    /// Ends a revision that is in flight, and moves the head's own entry to the greatest drawn revision below every one in
-    /// flight. Tells whether the head moved. It takes no memory.
+    /// Ends a revision that is in flight, and moves the head's own entry to the greatest drawn
+    /// revision below every one in flight. Tells whether the head moved. It takes no memory.
     pub fn finish(&mut self, r: Revision) -> bool
         requires { IsInFlight self.old r }
         ensures ended { self.new ≡ finished self.old r }
@@ -105,8 +111,8 @@ impl NodeMem {
         own < local
     }
 
-    /// The head: the revision vector that a session of this node gets as its base. The clause `memory` tells a caller what
-    /// is true of each memory.
+    /// The head: the revision vector that a session of this node gets as its base. The clause
+    /// `memory` tells a caller what is true of each memory.
     pub fn head(&self) -> RevVec
         ensures head { result ≡ self.now.head }
         ensures memory { IsMemory self.now }
@@ -121,7 +127,8 @@ impl NodeMem {
         self.sweep
     }
 
-    /// Moves the owner's pin to the head with the sweep vector. It takes no memory where the owner has a pin.
+    /// Moves the owner's pin to the head with the sweep vector. It takes no memory where the owner
+    /// has a pin.
     pub fn pin(&mut self, owner: u32) -> Result<Pin, AllocError>
         ensures pinned { IfOk result (λ pin. pin ≡ pin_now self.old) }
         ensures ok { OnOk result (self.new ≡ with_pin self.old owner (pin_now self.old)) }
@@ -136,7 +143,8 @@ impl NodeMem {
         Ok(pin)
     }
 
-    /// Sets the owner's pin to that of the other, which has one. It takes no memory where the owner has a pin.
+    /// Sets the owner's pin to that of the other, which has one. It takes no memory where the owner
+    /// has a pin.
     pub fn pin_like(&mut self, owner: u32, other: u32) -> Result<Pin, AllocError>
         requires { IsSome (pin_of self.old other) }
         ensures pinned { IfOk result (λ pin. pin_of self.old other ≡ Some pin) }
@@ -170,8 +178,8 @@ impl NodeMem {
         pins::find(&self.pins, owner)
     }
 
-    /// Whether the head sees a revision that this node drew and that has ended. Where it doesn't, the earliest one of this
-    /// node in flight, which is earlier, is named.
+    /// Whether the head sees a revision that this node drew and that has ended. Where it doesn't,
+    /// the earliest one of this node in flight, which is earlier, is named.
     pub fn awaits(&self, r: Revision) -> Awaits
         requires { HasEnded self.now r }
         ensures { IsAwaited self.now r result }
@@ -197,8 +205,8 @@ impl NodeMem {
         Ok(())
     }
 
-    /// Takes the noted paths whose revision the head sees, those of refused commits among them, each once and in path
-    /// order, with the head's own entry. They are then no longer noted.
+    /// Takes the noted paths whose revision the head sees, those of refused commits among them,
+    /// each once and in path order, with the head's own entry. They are then no longer noted.
     pub fn take_pending(&mut self) -> Result<Pending, AllocError>
         ensures pending { IfOk result (IsPending self.old) }
         ensures ok { OnOk result (self.new ≡ without_seen self.old) }
@@ -213,8 +221,9 @@ impl NodeMem {
         })
     }
 
-    /// Raises the other nodes' entries of the head, and the entries of the sweep vector, to those that were read (the
-    /// root's `_lastRev` and `_sweepRev`). None is lowered, and the head's entry of this node stays. It takes no memory.
+    /// Raises the other nodes' entries of the head, and the entries of the sweep vector, to those
+    /// that were read (the root's `_lastRev` and `_sweepRev`). None is lowered, and the head's
+    /// entry of this node stays. It takes no memory.
     pub fn learn(&mut self, last_revisions: &RevVec, sweep: &RevVec)
         ensures { self.new ≡ learned self.old last_revisions.now sweep.now }
     {

@@ -15,8 +15,8 @@ pub struct Note {
     pub revision: Revision,
 }
 
-/// What a background write is to publish (Oak, DocumentNodeStore: "Background operations"): the changed paths, each once
-/// and in path order, and the revision that becomes their `_lastRev`.
+/// What a background write is to publish (Oak, DocumentNodeStore: "Background operations"): the
+/// changed paths, each once and in path order, and the revision that becomes their `_lastRev`.
 #[derive(Debug, Drop)]
 pub struct Pending {
     pub paths: List<Path>,
@@ -39,7 +39,8 @@ pub(crate) fn due_paths(
     head: &RevVec,
 ) -> Result<Vec<Path>, AllocError>
     ensures ordered { IfOk result (λ paths. IsStrictlySortedBy path_cmp paths.items) }
-    ensures noted { IfOk result (λ paths. (path : _) → Contains paths.items path ↔ Contains (seen_paths head.now notes.now) path) }
+    ensures noted { IfOk result (λ paths. (path : _) →
+        Contains paths.items path ↔ Contains (seen_paths head.now notes.now) path) }
 {
     let mut paths = Vec::new(alloc);
     for note in notes {

@@ -74,28 +74,28 @@ module _ {T E P F : Type 0} (law : Ghosts T E P F) where
   words_at : (s : St) (r : Rule s) (p : Round T) → r.phase ≡ p → s.words ≡ turn_word p ∷ length r.events ∷ []
   words_at s r p is = r.words ∙ ap (λ q. turn_word q ∷ length r.events ∷ []) is
 
-  pub home_at : (s : St) (r : Rule s) (p : Round T) → r.phase ≡ p → HomeFits law (Settled law r.events r.parts r.f) p s.homes
-  home_at s r p is = subst (λ q. HomeFits law (Settled law r.events r.parts r.f) q s.homes) is r.home
+  pub home_at : (s : St) (r : Rule s) (p : Round T) → r.phase ≡ p → HomeFits law (Settled law r.events r.parts r.common_frame) p s.homes
+  home_at s r p is = subst (λ q. HomeFits law (Settled law r.events r.parts r.common_frame) q s.homes) is r.home
 
   -- the rule after a step in which one view changes, and the events do not
   moved : (s : St) (r : Rule s) (i n id : ℕ) (c : List (ℕ × std.Option T)) (w : V) (a : Act (std.Option T))
       → set s.words i n ≡ turn_word w.round ∷ length r.events ∷ []
-      → HomeFits law (Settled law r.events r.parts r.f) w.round (homes_after s.homes c a)
+      → HomeFits law (Settled law r.events r.parts r.common_frame) w.round (homes_after s.homes c a)
       → ((j : ℕ) (u : V) → j ≢ id → get_elem? s.views j ≡ some u → u.round ≡ Idle)
       → (v : V) → get_elem? s.views id ≡ some v → w.weight ≡ v.weight → (v.seen ≡ r.events → w.seen ≡ r.events)
-      → Knows law r.events r.parts r.f r.owner r.placed id w
+      → Knows law r.events r.parts r.common_frame r.owner r.placed id w
       → Rule (stepped s i n id c w a)
   moved s r i n id c w a words home others v at weight seen knows = record {
     events = r.events;
     parts = r.parts;
-    f = r.f;
+    common_frame = r.common_frame;
     owner = r.owner;
     placed = r.placed;
     holder = id;
     phase = w.round;
     words = words;
     home = home;
-    each = each_set (Fits law r.events r.parts r.f r.owner r.placed id w.round) s.views id w
+    each = each_set (Fits law r.events r.parts r.common_frame r.owner r.placed id w.round) s.views id w
         (λ j u apart e. record { here = λ is. absurd (apart is); elsewhere = λ _. others j u apart e; knows = (r.each j u e).knows })
         (record { here = λ _. refl; elsewhere = λ not. absurd (not refl); knows = knows });
     weights = same_total (λ u. u.weight) s.views id v w at weight ∙ r.weights;
@@ -108,7 +108,7 @@ module _ {T E P F : Type 0} (law : Ghosts T E P F) where
   unmoved s r i n id c v same at = record {
     events = r.events;
     parts = r.parts;
-    f = r.f;
+    common_frame = r.common_frame;
     owner = r.owner;
     placed = r.placed;
     holder = r.holder;
@@ -231,14 +231,14 @@ module _ {T E P F : Type 0} (law : Ghosts T E P F) where
         record {
           events = law.journal x;
           parts = law.part x;
-          f = r.f;
+          common_frame = r.common_frame;
           owner = r.owner;
           placed = placed;
           holder = id;
           phase = Added;
           words = ap (λ ws. set ws 1 ((length r.events + k) % 2 ^ 64)) words ∙ ap (λ n. 1 ∷ n ∷ []) sum;
           home = (x, ap (λ hs. set hs 0 (some (Some x))) home.0, record { journal_is = refl; parts_are = λ b. refl; frame_is = same_frame ∙ ok.frame_is });
-          each = each_set (Fits law (law.journal x) (law.part x) r.f r.owner placed id Added) s.views id w
+          each = each_set (Fits law (law.journal x) (law.part x) r.common_frame r.owner placed id Added) s.views id w
               (λ j u apart e. let o = (r.each j u e).knows in record {
                 here = λ same. absurd (apart same);
                 elsewhere = λ _. idle_others s r id (inr mine) j u apart e;
@@ -326,7 +326,7 @@ module _ {T E P F : Type 0} (law : Ghosts T E P F) where
       let vs : List V = set s.views id left in
       let n : ℕ = length vs in
       let owner : ℕ → ℕ = moved_to (is_one_of names) n id r.owner in
-      let Q : ℕ → V → Type 0 = Fits law r.events r.parts r.f owner r.placed r.holder r.phase in
+      let Q : ℕ → V → Type 0 = Fits law r.events r.parts r.common_frame owner r.placed r.holder r.phase in
       let size : n ≡ length s.views = length-set s.views id left in
       let fit_left : Q id left = record {
         here = fit.here;
@@ -368,7 +368,7 @@ module _ {T E P F : Type 0} (law : Ghosts T E P F) where
       record {
         events = r.events;
         parts = r.parts;
-        f = r.f;
+        common_frame = r.common_frame;
         owner = owner;
         placed = r.placed;
         holder = r.holder;
@@ -432,7 +432,7 @@ module _ {T E P F : Type 0} (law : Ghosts T E P F) where
       let goes : (owner : ℕ → ℕ) (b : ℕ) → owner b ≡ other → taken owner b ≡ id = λ owner b is. let hit : (owner b == other) ≡ true = grind (arith, nat_tests) in rw hit refl in
       let l : Longer m.seen w.seen r.events (longer m.seen w.seen) (shorter m.seen w.seen) = longer_is m.seen w.seen r.events k.seen_is o.seen_is in
       let top : ℕ = length (longer m.seen w.seen) in
-      let Q : ℕ → V → Type 0 = Fits law r.events r.parts r.f (taken r.owner) (taken r.placed) r.holder r.phase in
+      let Q : ℕ → V → Type 0 = Fits law r.events r.parts r.common_frame (taken r.owner) (taken r.placed) r.holder r.phase in
       let fit_both : Q id both = record {
         here = fit.here;
         elsewhere = fit.elsewhere;
@@ -494,7 +494,7 @@ module _ {T E P F : Type 0} (law : Ghosts T E P F) where
       record {
         events = r.events;
         parts = r.parts;
-        f = r.f;
+        common_frame = r.common_frame;
         owner = taken r.owner;
         placed = taken r.placed;
         holder = r.holder;
@@ -530,7 +530,7 @@ module _ {T E P F : Type 0} (law : Ghosts T E P F) where
   opens x count is = record {
     events = law.journal x;
     parts = law.part x;
-    f = law.frame x;
+    common_frame = law.frame x;
     owner = λ _. 0;
     placed = λ _. 0;
     holder = 0;

@@ -27,6 +27,7 @@ module _ {T E P F : Type 0} {law : Ghosts T E P F} where
   abbrev pub places_of : Pass T E P F law → List ℕ
   places_of pass = (view_of pass).places
 
+  -- its part of the lock's 1,024
   abbrev pub weight_of : Pass T E P F law → ℕ
   weight_of pass = (view_of pass).weight
 
@@ -34,6 +35,7 @@ module _ {T E P F : Type 0} {law : Ghosts T E P F} where
   abbrev pub HasPart : Pass T E P F law → ℕ → P → Type 0
   HasPart pass a q = OwnsPart (view_of pass) a q
 
+  -- the pass has this author
   abbrev pub HasAuthor : Pass T E P F law → ℕ → Type 0
   HasAuthor pass a = OwnsAuthor (view_of pass) a
 
@@ -45,7 +47,7 @@ module _ {T E P F : Type 0} {law : Ghosts T E P F} where
   abbrev pub IsOf : SeatLock T E P F → Pass T E P F law → Type 0
   IsOf lock pass = pass.seat.table_id ≡ lock.table.shared.table_id
 
-  -- no value is out with the pass
+  -- no `Hold` of the pass is out
   abbrev pub IsAtRest : Pass T E P F law → Type 0
   IsAtRest pass = (view_of pass).round ≡ Idle
 

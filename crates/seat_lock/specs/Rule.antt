@@ -24,9 +24,11 @@ turn_word Turn = 1
 turn_word (Out x) = 1
 turn_word Added = 1
 
+-- the words, the slot and the views of all passes
 abbrev pub LockState : Type 0 → Type 0 → Type 0 → Type 0 → Type 0
 LockState T E P F = State (std.Option T) (View T E P F)
 
+-- a pass's view, and the slots that it has out
 abbrev pub LockMe : Type 0 → Type 0 → Type 0 → Type 0 → Type 0
 LockMe T E P F = Me (std.Option T) (View T E P F)
 
@@ -44,7 +46,7 @@ module _ {T E P F : Type 0} (law : Ghosts T E P F) where
   HomeFits ok (Out x) homes = (homes ≡ none ∷ []) × ok x
   HomeFits ok Added homes = (x : T) × (homes ≡ some (Some x) ∷ []) × ok x
 
-  -- what a view knows is so. Each author has one view that owns it, and each place one
+  -- what a view knows is so. Each author has one view that owns it, and each place one, by the pass's number
   pub record Knows (events : List E) (parts : ℕ → P) (f : F) (owner placed : ℕ → ℕ) (by : ℕ) (v : View T E P F) : Type 0 where
     pub spent_is : v.weight ≡ 0 → v ≡ spent_view
     pub frame_is : 0 < v.weight → v.frame ≡ Some f
@@ -61,17 +63,19 @@ module _ {T E P F : Type 0} (law : Ghosts T E P F) where
     pub elsewhere : by ≢ holder → v.round ≡ Idle
     pub knows : Knows events parts f owner placed by v
 
+  -- The rule. There are counted events, a part of each author, one frame, an owner of each author and of each place, and a holder with its round, such that
+  -- the words are the turn and the count, the value is where the round says, each view knows what is so, the weights add up to 1,024, the holder is there where the turn is taken, and some view has seen all events
   pub record Kept (s : LockState T E P F) : Type 0 where
     pub events : List E
     pub parts : ℕ → P
-    pub f : F
+    pub common_frame : F
     pub owner : ℕ → ℕ
     pub placed : ℕ → ℕ
     pub holder : ℕ
     pub phase : Round T
     pub words : s.words ≡ turn_word phase ∷ length events ∷ []
-    pub home : HomeFits (Settled events parts f) phase s.homes
-    pub each : (by : ℕ) (v : View T E P F) → get_elem? s.views by ≡ some v → Fits events parts f owner placed holder phase by v
+    pub home : HomeFits (Settled events parts common_frame) phase s.homes
+    pub each : (by : ℕ) (v : View T E P F) → get_elem? s.views by ≡ some v → Fits events parts common_frame owner placed holder phase by v
     pub weights : total (λ v. v.weight) s.views ≡ 1024
     pub present : turn_word phase ≡ 1 → (v : View T E P F) × (get_elem? s.views holder ≡ some v)
     pub newest : (by : ℕ) × (v : View T E P F) × (get_elem? s.views by ≡ some v) × (v.seen ≡ events)
@@ -98,6 +102,7 @@ module _ {T E P F : Type 0} (law : Ghosts T E P F) where
     pub slots : m'.1 ≡ []
     pub in_order : InOrder 0 m'.0.places (length m'.0.seen)
 
+  -- the number of new events is added to the count, and the slot is home
   abbrev pub Adds : Step (std.Option T) → LockMe T E P F → ℕ → LockMe T E P F → Type 0
   Adds st m found m' = (x : T) × (m.1 ≡ (0, Some x) ∷ []) × Returns m m' x
 

@@ -39,13 +39,15 @@ slots_of Added = []
 abbrev pub new_places : {E : Type 0} → List E → List E → List ℕ
 new_places xs ys = range_with_len (length xs) (length ys - length xs)
 
--- the longer of two lists that are beginnings of one, and the other
+-- the longer of two lists that are beginnings of one
 abbrev pub longer : {E : Type 0} → List E → List E → List E
 longer xs ys = if nat_le (length ys) (length xs) then xs else ys
 
+-- the shorter of the two
 abbrev pub shorter : {E : Type 0} → List E → List E → List E
 shorter xs ys = if nat_le (length ys) (length xs) then ys else xs
 
+-- the author is one of these
 abbrev pub is_one_of : List ℕ → ℕ → Bool
 is_one_of names a = list_any (λ n. n == a) names
 
@@ -62,13 +64,15 @@ module _ {T E P F : Type 0} where
   abbrev pub spent_view : View T E P F
   spent_view = record { round = Idle; weight = 0; frame = None; seen = []; earlier = []; places = []; parts = [] }
 
+  -- at another point of its round
   abbrev pub with_round : Round T → View T E P F → View T E P F
   with_round r v = record v { round = r }
 
-  -- what a split leaves, and what it hands over: 1 of the weight, and those of the authors that are named
+  -- what a split leaves: it hands over 1 of the weight, and those of the authors that are named
   abbrev pub kept_back : List ℕ → View T E P F → View T E P F
   kept_back names v = record v { weight = v.weight - 1; parts = filter (λ y. not (is_one_of names y.0)) v.parts }
 
+  -- what it hands over
   abbrev pub handed : List ℕ → View T E P F → View T E P F
   handed names v = record { round = Idle; weight = 1; frame = v.frame; seen = v.seen; earlier = []; places = []; parts = filter (λ y. is_one_of names y.0) v.parts }
 

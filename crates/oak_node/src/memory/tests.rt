@@ -1,6 +1,6 @@
 // Rows of calls with the answers that the rules of heads, pins and notes give.
 ghost use Rattle.std.specs.Prelude.{◌≡◌};
-ghost use Rattle.jr_rev.specs.Vectors.{with_entry, no_entries};
+ghost use Rattle.oak_node.specs.Examples.{vector_of};
 
 use crate::{Awaits, NodeMem};
 use jr_path::{DeepCopy, Path};
@@ -19,7 +19,7 @@ fn revision(time: u64, cluster: u32) -> Revision
 
 // A vector of cluster nodes 1 and 2.
 fn vector(first: u64, second: u64) -> RevVec
-    ensures { result ≡ with_entry (with_entry no_entries (record { time = first; counter = 0; cluster = 1 })) (record { time = second; counter = 0; cluster = 2 }) }
+    ensures { result ≡ vector_of first second }
 {
     let mut vector = RevVec::none();
     vector.set(revision(first, 1));

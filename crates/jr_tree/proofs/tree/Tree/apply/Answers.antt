@@ -1,12 +1,21 @@
-use Rattle.std.proofs.Common.{sym, ap, ◌∙◌, map}
+use Rattle.std.proofs.Common.{◌≡◌, map, ap, sym, ◌∙◌}
 use Rattle.std.specs.FinMap.{is_sorted}
 use Rattle.std.specs.Map.Iter.{deref}
 use Rattle.jr_path.specs.Names.{path_cmp}
-use Rattle.jr_tree.proofs.AtPath.{order-applied, applied_in_steps}
+use Rattle.jr_tree.specs.Edits.{applied}
+use Rattle.jr_tree.proofs.AtPath.{order-applied}
+use Rattle.jr_tree.proofs.Merging.{applied_apart}
 use Rattle.jr_tree.proofs.tree.Tree.apply.Goals as goal
+use Rattle.jr_tree.proofs.tree.Tree.apply.Goals.{After-drop-last-2}
 
-pub invariant_of-self : goal.invariant_of-self
-invariant_of-self c =
-    ap (is_sorted path_cmp)
-    (applied_in_steps c.self.inside.nodes _ _ _ c.args.edit.now.writes _ _ c.in_ok-nodes.ensures (ap (map deref) c.deref.ensures.value ∙ c.in_ok-last.ensures) (ap (map deref) (c.deref-2.ensures.value ∙ sym c.deref.ensures.value)) c.in_ok-write_nodes.ensures c.in_ok-write_properties.ensures)
-    ∙ order-applied c.self.inside.nodes c.args.edit.now.writes c.self.invariant
+-- the nodes are those of the tree after the edit
+done : (c : After-drop-last-2) → c.merge.new.nodes ≡ applied c.self.inside.nodes c.args.edit.now.writes
+done c =
+    applied_apart c.self.inside.nodes c.args.edit.now.writes _ _ _ _ c.self.invariant (ap (map deref) c.deref.ensures.value ∙ c.in_ok-last.ensures) (ap (map deref) (c.deref-2.ensures.value ∙ sym c.deref.ensures.value)) c.in_ok-part.ensures
+    c.in_ok-merge.ensures.ok
+
+pub invariant_of-self-2 : goal.invariant_of-self-2
+invariant_of-self-2 c = ap (is_sorted path_cmp) (done c) ∙ order-applied c.self.inside.nodes c.args.edit.now.writes c.self.invariant
+
+pub returns-clause-ok : goal.returns-clause-ok
+returns-clause-ok c = done c ∙ ap (λ t. applied t c.args.edit.now.writes) c.self.view_is

@@ -1,0 +1,14 @@
+-- What the fields of a memory mean.
+use Rattle.oak_node.specs.declared.memory.NodeMem.TheInside.{Inside}
+use Rattle.oak_node.specs.Memory.{NodeState}
+
+abbrev pub state_of : Inside → NodeState
+state_of m = record {
+  cluster = m.cluster;
+  head = m.head;
+  sweep = m.sweep;
+  last_time = m.last_time;
+  above = m.above.items;
+  pins = m.pins.items;
+  notes = m.notes.items;
+}
