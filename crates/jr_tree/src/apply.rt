@@ -144,8 +144,8 @@ fn put_empty(
 fn remove_paths(nodes: &mut Keyed<Path, Node>, paths: &[&Path])
     ensures { nodes.new ≡ without_paths nodes.old (map deref paths.now) }
 {
-    for path in paths {
-        nodes.remove(path);
+    for gone in paths {
+        nodes.remove(gone);
     }
 }
 

@@ -9,6 +9,9 @@ mod laws;
 mod shared;
 mod tree;
 
+#[cfg(test)]
+mod tests;
+
 pub use difference::changes;
 pub use edit::{Edit, Write};
 pub use laws::{

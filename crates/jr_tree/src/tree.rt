@@ -61,7 +61,7 @@ impl Node {
 }
 
 // A name of the repository's own, which is in the grammar of names.
-fn plain_name(alloc: Global, text: &str) -> Result<Name, AllocError>
+pub(crate) fn plain_name(alloc: Global, text: &str) -> Result<Name, AllocError>
     ensures { IfOk result (λ name. name ≡ text.now) }
 {
     match Name::parse(alloc, text) {
