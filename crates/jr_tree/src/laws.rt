@@ -7,7 +7,7 @@ ghost use Rattle.jr_path.specs.declared.name.Name.{Name};
 ghost use Rattle.jr_path.specs.declared.path.Path.{Path};
 ghost use Rattle.jr_tree.specs.declared.edit.Write.{Write};
 ghost use Rattle.jr_tree.specs.Trees.{Nodes, IsTree, has_names_in_order, node_at, property_at, initial_tree};
-ghost use Rattle.jr_tree.specs.Edits.{applied, IsProper};
+ghost use Rattle.jr_tree.specs.Edits.{applied, changes, IsProper};
 ghost use Rattle.jr_tree.specs.Items.{has_after, property_after, written, put_of};
 
 /// The initial tree is a tree.
@@ -33,4 +33,9 @@ pub fn edits_write_properties()
 /// After an edit that is proper on a tree each property is as its last write says, and else as it was.
 pub fn proper_edits_write_properties()
     ensures { (t : Nodes) (ws : List Write) → IsTree t → IsProper t ws → (p : Path) (n : Name) → property_at (applied t ws) p n ≡ unwrap_or (written (put_of p n) ws) (property_at t p n) }
+{}
+
+/// The changes from one tree to another, applied to the first, give the second.
+pub fn changes_lead_there()
+    ensures { (t u : Nodes) → IsTree t → IsTree u → applied t (changes t u) ≡ u }
 {}

@@ -22,7 +22,11 @@ fn write_of(alloc: Global, row: &Row<'_>) -> Result<Write, AllocError> {
         b'h' => Ok(Write::Here(at)),
         b'g' => Ok(Write::Gone(at)),
         b'u' => Ok(Write::Unset(at, plain_name(alloc, "p")?)),
-        _ => Ok(Write::Put(at, plain_name(alloc, "p")?, Property::Single(Value::Long(row.2)))),
+        _ => Ok(Write::Put(
+            at,
+            plain_name(alloc, "p")?,
+            Property::Single(Value::Long(row.2)),
+        )),
     }
 }
 
