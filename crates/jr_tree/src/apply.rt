@@ -1,15 +1,18 @@
 // What an edit makes of a tree.
 ghost use Rattle.std.specs.Prelude.{◌≡◌, ℕ, IfOk, IsTrue, OnOk, OnErr, map, take};
+ghost use Rattle.std.specs.BTreeMap.{insert_entry};
 ghost use Rattle.std.specs.FinMap.{is_sorted};
 ghost use Rattle.std.specs.List.{fold};
 ghost use Rattle.std.specs.Map.Iter.{deref};
 ghost use Rattle.jr_path.specs.Names.{path_cmp};
+ghost use Rattle.jr_tree.specs.declared.edit.Write.TheVariants as write;
 ghost use Rattle.jr_tree.specs.Merging.{with_node_of, written_nodes, missing, with_room, without_paths, without_gone, without_unless, with_part, changed_part, merged};
 ghost use Rattle.jr_tree.specs.Edits.{applied, with_node_write, with_property_write};
 
 use crate::edit::{Edit, Write};
 use crate::tree::{Node, Tree};
-use jr_path::{DeepCopy, Keyed, Path};
+use jr_path::{DeepCopy, Keyed, Name, Path};
+use jr_value::Property;
 use std::alloc::{AllocError, Global};
 
 impl Tree {
@@ -25,6 +28,40 @@ impl Tree {
         merge(&mut self.nodes, self.alloc, part, &last)?;
         Ok(())
     }
+
+    /// Puts a node at a path, in the place of one that is there. A refusal leaves the tree as it was.
+    pub fn insert(&mut self, path: Path, node: Node) -> Result<(), AllocError>
+        ensures ok { OnOk result (self.new ≡ insert_entry path_cmp self.old path node) }
+        ensures err { OnErr result (self.new ≡ self.old) }
+    {
+        self.nodes.put(path, node)?;
+        Ok(())
+    }
+
+    /// Puts a property of the node at a path, if one is there. A refusal leaves the tree as it was.
+    pub fn put(&mut self, path: &Path, name: Name, property: Property) -> Result<(), AllocError>
+        ensures ok { OnOk result (self.new ≡ with_property_write self.old (write.Put path.now name property)) }
+        ensures err { OnErr result (self.new ≡ self.old) }
+    {
+        put_property(&mut self.nodes, path, name, property)?;
+        Ok(())
+    }
+}
+
+// Puts a property of the node at a path, if one is there.
+fn put_property(
+    nodes: &mut Keyed<Path, Node>,
+    path: &Path,
+    name: Name,
+    property: Property,
+) -> Result<(), AllocError>
+    ensures ok { OnOk result (nodes.new ≡ with_property_write nodes.old (write.Put path.now name property)) }
+    ensures err { OnErr result (nodes.new ≡ nodes.old) }
+{
+    if let Some(node) = nodes.inner_mut().get_mut(path) {
+        node.props.put(name, property)?;
+    }
+    Ok(())
 }
 
 // Copies of the nodes that are written, with the writes made.

@@ -1,8 +1,10 @@
 // Plain data that several crates share.
+ghost use Rattle.std.specs.Prelude.{◌≡◌, []};
+
 use jr_path::{DeepCopy, Item, List, Name, Path, Text};
 use jr_rev::{RevVec, Revision};
 use jr_value::Kind;
-use std::alloc::AllocError;
+use std::alloc::{AllocError, Global};
 
 /// Who runs a command: the number of the session, how many sessions there were before this run, how many
 /// identifiers the session has made, and the vector that its tree is read at.
@@ -47,6 +49,19 @@ pub struct ItemChange {
 pub struct CommitChanges {
     pub revision: Revision,
     pub changes: List<ItemChange>,
+}
+
+impl Refusal {
+    /// Memory was refused: number 16, which names nothing. It takes no memory.
+    pub fn memory(alloc: Global) -> Refusal
+        ensures number { result.number ≡ 16 }
+        ensures parts { result.parts ≡ [] }
+    {
+        Refusal {
+            number: 16,
+            parts: List::new(alloc),
+        }
+    }
 }
 
 impl DeepCopy for Refusal {

@@ -48,8 +48,8 @@ impl Node {
         }
     }
 
-    // A node with its primary type, and no other property.
-    fn of_type(alloc: Global, name: &str) -> Result<Node, AllocError>
+    /// A node with its primary type (JSR 283, 3.7 Node Types), and no other property.
+    pub fn of_type(alloc: Global, name: &str) -> Result<Node, AllocError>
         ensures { IfOk result (λ node. node ≡ node_of_type name.now) }
     {
         let mut node = Node::new(alloc);

@@ -1,0 +1,4 @@
+pub mod Longer
+pub mod NoFloat
+pub mod Passing
+mod Rows

@@ -1,0 +1,44 @@
+-- The reply text of an answer: `ok`, `ok` and a JSON value, or `no`, a number and a JSON list.
+use Rattle.std.specs.Prelude.{ℕ, List, ◌++◌, codes, map}
+use Rattle.std.specs.Fmt.{decimal}
+use Rattle.serde_json.specs.Data.{Data, Items, null, number, string, array, unsigned}
+use Rattle.serde_json.specs.View.{items_of}
+use Rattle.serde_json.specs.Written.{compact_text}
+use Rattle.jr_path.specs.Ids.{path_text}
+use Rattle.jr_path.specs.Names.{item_path}
+use Rattle.jr_path.specs.declared.name.Name.{Name}
+use Rattle.jr_value.specs.Json.{kind_text, property_data}
+use Rattle.jr_rev.specs.Texts.{revision_text}
+use Rattle.jr_tree.specs.declared.shared.Datum.{Datum}
+use Rattle.jr_tree.specs.declared.shared.Datum.TheVariants as datum
+use Rattle.jcr_trans.specs.Answers.{Answer, Done, ShowsProperty, ShowsNames, ShowsRevision, ShowsNothing, Refused}
+
+-- names, as texts
+abbrev pub name_items : List Name → Items
+name_items ns = items_of (map string ns)
+
+-- the JSON of what a refusal names
+abbrev pub datum_data : Datum → Data
+datum_data (datum.Path p) = string (path_text p)
+datum_data (datum.Item i) = string (path_text (item_path i))
+datum_data (datum.Name n) = string n
+datum_data (datum.Text t) = string t
+datum_data (datum.Number n) = number (unsigned n)
+datum_data (datum.Kind k) = string (kind_text k)
+datum_data (datum.Revision r) = string (revision_text r)
+datum_data datum.Null = null
+
+abbrev pub datum_items : List Datum → Items
+datum_items ds = items_of (map datum_data ds)
+
+-- `ok` and a JSON value
+abbrev pub ok_text : Data → List ℕ
+ok_text d = codes "ok " ++ compact_text d
+
+abbrev pub answer_text : Answer → List ℕ
+answer_text Done = codes "ok"
+answer_text (ShowsProperty p) = ok_text (property_data p)
+answer_text (ShowsNames ns) = ok_text (array (name_items ns))
+answer_text (ShowsRevision r) = ok_text (string (revision_text r))
+answer_text ShowsNothing = ok_text null
+answer_text (Refused n ds) = codes "no " ++ decimal n ++ codes " " ++ compact_text (array (datum_items ds))

@@ -1,0 +1,13 @@
+//! Commands of a session, what they do to its view, and what they answer (JSR 283, 10 Writing and 5 Reading).
+#![tactic(auto)]
+
+mod checks;
+mod command;
+#[cfg(test)]
+mod tests;
+mod texts;
+mod view;
+
+pub use command::Command;
+pub use texts::{null_reply, refusal_text, revision_reply};
+pub use view::run;

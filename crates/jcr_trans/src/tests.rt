@@ -1,0 +1,108 @@
+use crate::{Command, null_reply, refusal_text, revision_reply, run};
+use jr_path::{DeepCopy, Name, Path};
+use jr_rev::Revision;
+use jr_tree::Tree;
+use jr_value::{Property, Value};
+use std::alloc::{AllocError, Global};
+use std::test::Fail;
+
+// Commands of each kind; a number is set as a LONG.
+#[derive(Clone, Copy, Debug)]
+enum Plain {
+    Add(&'static str),
+    Set(&'static str, &'static str, i64),
+    Get(&'static str),
+    List(&'static str),
+}
+
+// One after another, with their replies: in an empty repository, and again after some are refused.
+const REPLIES: [(Plain, &str); 17] = [
+    (Plain::List("/"), r#"ok ["jcr:system"]"#),
+    (Plain::Add("/b/c"), r#"no 1 ["/b"]"#),
+    (Plain::Set("/b", "p", 1), r#"no 1 ["/b"]"#),
+    (Plain::Get("/b/p"), r#"no 1 ["/b/p"]"#),
+    (Plain::List("/b"), r#"no 1 ["/b"]"#),
+    (Plain::Add("/"), r#"no 2 ["/"]"#),
+    (Plain::Get("/"), r#"no 1 ["/"]"#),
+    (Plain::Add("/b"), "ok"),
+    (Plain::Add("/b"), r#"no 2 ["/b"]"#),
+    (Plain::Add("/b/c"), "ok"),
+    (Plain::Set("/b/c", "p", -7), "ok"),
+    (Plain::Get("/b/c/p"), "ok -7"),
+    (Plain::Set("/b/c", "p", 8), "ok"),
+    (Plain::Get("/b/c/p"), "ok 8"),
+    (Plain::List("/b"), r#"ok ["c"]"#),
+    (
+        Plain::Add("/jcr:system/x"),
+        r#"no 4 [0,"/jcr:system/x",null]"#,
+    ),
+    (
+        Plain::Set("/b", "jcr:primaryType", 1),
+        r#"no 4 [0,"/b","jcr:primaryType"]"#,
+    ),
+];
+
+fn command(alloc: Global, plain: Plain) -> Result<Command, AllocError> {
+    match plain {
+        Plain::Add(at) => Ok(Command::Add(path(alloc, at)?)),
+        Plain::Set(at, name, number) => {
+            let name = match Name::parse(alloc, name) {
+                Ok(name) => name,
+                Err(_) => return Err(AllocError),
+            };
+            let value = Property::Single(Value::Long(number));
+            Ok(Command::Set(path(alloc, at)?, name, value))
+        }
+        Plain::Get(at) => Ok(Command::Get(path(alloc, at)?)),
+        Plain::List(at) => Ok(Command::List(path(alloc, at)?)),
+    }
+}
+
+fn path(alloc: Global, text: &str) -> Result<Path, AllocError> {
+    match Path::parse(alloc, text) {
+        Ok(path) => Ok(path),
+        Err(_) => Err(AllocError),
+    }
+}
+
+fn reply(alloc: Global, view: &mut Tree, command: &Command) -> Result<String, AllocError> {
+    match run(alloc, view, command) {
+        Ok(text) => Ok(text),
+        Err(refusal) => refusal_text(alloc, &refusal),
+    }
+}
+
+#[test]
+fn replies_of_commands(rt: HostRuntime) -> Result<(), Fail> {
+    let alloc = rt.alloc();
+    let mut view = Tree::initial(alloc)?;
+    for (plain, want) in REPLIES {
+        let command = command(alloc, plain)?.copy()?;
+        let text = reply(alloc, &mut view, &command)?;
+        assert_eq!(rt; text.as_str(), want, "at {plain:?}");
+    }
+    assert_eq!(rt; view.len(), 5);
+    Ok(())
+}
+
+#[test]
+fn replies_of_saves(rt: HostRuntime) -> Result<(), Fail> {
+    let alloc = rt.alloc();
+    let first = Revision {
+        time: 1,
+        counter: 0,
+        cluster: 1,
+    };
+    assert_eq!(rt; revision_reply(alloc, &first)?.as_str(), "ok \"r1-0-1\"");
+    let last = Revision {
+        time: u64::MAX,
+        counter: u32::MAX,
+        cluster: 8,
+    };
+    assert_eq!(rt;
+        revision_reply(alloc, &last)?.as_str(),
+        "ok \"rffffffffffffffff-ffffffff-8\""
+    );
+    assert_eq!(rt; null_reply(alloc)?.as_str(), "ok null");
+    Ok(())
+}

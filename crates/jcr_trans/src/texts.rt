@@ -1,0 +1,135 @@
+// The texts of replies.
+ghost use Rattle.std.specs.Prelude.{◌≡◌, IfOk, string_bytes};
+ghost use Rattle.serde_json.specs.Data.{array};
+ghost use Rattle.serde_json.specs.View.{view};
+ghost use Rattle.serde_json.specs.Written.{compact_text};
+ghost use Rattle.jcr_trans.specs.Answers.{Done, ShowsProperty, ShowsNames, ShowsRevision, ShowsNothing, Refused};
+ghost use Rattle.jcr_trans.specs.Texts.{answer_text, datum_data, datum_items, name_items};
+ghost use Rattle.jr_path.specs.Ids.{path_text};
+ghost use Rattle.jr_path.specs.Names.{item_path};
+ghost use Rattle.jr_rev.specs.Texts.{revision_text};
+
+use jr_path::{Item, Name};
+use jr_rev::Revision;
+use jr_tree::{Datum, Refusal};
+use jr_value::Property;
+use serde_json::Value as Json;
+use std::alloc::{AllocError, Global};
+
+// The reply that shows nothing: `ok`.
+pub fn done_text(alloc: Global) -> Result<String, AllocError>
+    ensures { IfOk result (λ text. string_bytes text ≡ answer_text Done) }
+{
+    Ok(String::from_str(alloc, "ok")?)
+}
+
+// The reply that shows a property: `ok` and its JSON.
+pub fn property_text(alloc: Global, property: &Property) -> Result<String, AllocError>
+    ensures { IfOk result (λ text. string_bytes text ≡ answer_text (ShowsProperty property.now)) }
+{
+    let shown = property.json_text(alloc)?;
+    Ok(format!(in alloc; "ok {shown}")?)
+}
+
+// The reply that shows names: `ok` and a list of texts.
+#[tactic(auto, using(crate::proofs::NoFloat::names_plain))]
+pub fn names_text(alloc: Global, names: &[Name]) -> Result<String, AllocError>
+    ensures { IfOk result (λ text. string_bytes text ≡ answer_text (ShowsNames names.now)) }
+{
+    let json = names_json(alloc, names)?;
+    let shown = json.to_string(alloc)?;
+    Ok(format!(in alloc; "ok {shown}")?)
+}
+
+fn names_json(alloc: Global, names: &[Name]) -> Result<Json, AllocError>
+    ensures { IfOk result (λ json. view json ≡ array (name_items names.now)) }
+{
+    let mut items = Vec::new(alloc);
+    for name in names {
+        items.push(Json::try_from_str(alloc, name.as_str())?)?;
+    }
+    Ok(Json::Array(items))
+}
+
+/// The reply of a save that committed: `ok` and the text of the commit's revision, as `ok "r1-0-1"`.
+pub fn revision_reply(alloc: Global, revision: &Revision) -> Result<String, AllocError>
+    ensures { IfOk result (λ text. string_bytes text ≡ answer_text (ShowsRevision revision.now)) }
+{
+    let json = Json::String(text_of_revision(alloc, revision)?);
+    let shown = json.to_string(alloc)?;
+    Ok(format!(in alloc; "ok {shown}")?)
+}
+
+fn text_of_revision(alloc: Global, revision: &Revision) -> Result<String, AllocError>
+    ensures { IfOk result (λ text. string_bytes text ≡ revision_text revision.now) }
+{
+    let Revision {
+        time,
+        counter,
+        cluster,
+    } = *revision;
+    Ok(format!(in alloc; "r{time:x}-{counter:x}-{cluster:x}")?)
+}
+
+/// The reply of a save that had nothing to commit: `ok null`.
+pub fn null_reply(alloc: Global) -> Result<String, AllocError>
+    ensures { IfOk result (λ text. string_bytes text ≡ answer_text ShowsNothing) }
+{
+    Ok(String::from_str(alloc, "ok null")?)
+}
+
+/// The reply of a refusal: `no`, its number, and a list of what it names, as `no 1 ["/a"]`. A path, an item, a
+/// name, a text, a kind and a revision are texts there, and an item is the path of its node or property.
+pub fn refusal_text(alloc: Global, refusal: &Refusal) -> Result<String, AllocError>
+    ensures { IfOk result (λ text. string_bytes text ≡ answer_text (Refused refusal.now.number refusal.now.parts)) }
+{
+    let number = refusal.number;
+    let named = parts_text(alloc, refusal.parts.inner())?;
+    Ok(format!(in alloc; "no {number} {named}")?)
+}
+
+#[tactic(auto, using(crate::proofs::NoFloat::parts_plain))]
+fn parts_text(alloc: Global, parts: &[Datum]) -> Result<String, AllocError>
+    ensures { IfOk result (λ text. string_bytes text ≡ compact_text (array (datum_items parts.now))) }
+{
+    let json = parts_json(alloc, parts)?;
+    Ok(json.to_string(alloc)?)
+}
+
+fn parts_json(alloc: Global, parts: &[Datum]) -> Result<Json, AllocError>
+    ensures { IfOk result (λ json. view json ≡ array (datum_items parts.now)) }
+{
+    let mut items = Vec::new(alloc);
+    for part in parts {
+        items.push(part_json(alloc, part)?)?;
+    }
+    Ok(Json::Array(items))
+}
+
+fn part_json(alloc: Global, part: &Datum) -> Result<Json, AllocError>
+    ensures { IfOk result (λ json. view json ≡ datum_data part.now) }
+{
+    match part {
+        Datum::Path(path) => Ok(Json::String(path.text()?)),
+        Datum::Item(item) => Ok(Json::String(text_of_item(item)?)),
+        Datum::Name(name) => Ok(Json::try_from_str(alloc, name.as_str())?),
+        Datum::Text(text) => Ok(Json::try_from_str(alloc, text.as_str())?),
+        Datum::Number(number) => Ok(Json::from(*number)),
+        Datum::Kind(kind) => Ok(Json::try_from_str(alloc, kind.as_str())?),
+        Datum::Revision(revision) => Ok(Json::String(text_of_revision(alloc, revision)?)),
+        Datum::Null => Ok(Json::Null),
+    }
+}
+
+// The text of an item's path, which has the property's name last.
+fn text_of_item(item: &Item) -> Result<String, AllocError>
+    ensures { IfOk result (λ text. string_bytes text ≡ path_text (item_path item.now)) }
+{
+    match &item.name {
+        Some(name) => {
+            let path = item.path.child(name)?;
+            Ok(path.text()?)
+        }
+        None => Ok(item.path.text()?),
+    }
+}
