@@ -1,2 +1,3 @@
 pub mod Below
 pub mod Entries
+mod Rows
