@@ -1,0 +1,13 @@
+//! What documents mean: the node at a path, as it is seen from a pin, and the names of its children.
+//!
+//! Oak, DocumentNodeStore: "Reading". An entry counts where it is committed and the base sees it; for each
+//! item the latest such entry counts, over the node's document and its previous documents.
+#![tactic(auto)]
+
+mod children;
+mod committed;
+mod latest;
+mod node;
+
+pub use children::{children_of_documents, find_children};
+pub use node::find_node;
