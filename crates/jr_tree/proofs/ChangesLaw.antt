@@ -35,12 +35,12 @@ use Rattle.jr_tree.proofs.Written.{Reads, here_reads, put_reads, or_none, none_f
 use Rattle.jr_tree.proofs.AtPath.{InOrder, prop_of, order-applied}
 use Rattle.jr_tree.proofs.EditLaw.{IsOrderly, Orderly-all, Orderly-applied, has_applied, property_applied}
 
-item_ties : IsEquivalence (eq_by_cmp item_cmp)
+pub item_ties : IsEquivalence (eq_by_cmp item_cmp)
 item_ties = eq_by_cmp_equiv item_total
 
 -- ---- writes kept by their items
 
-abbrev is_keyed : Writes → Bool
+abbrev pub is_keyed : Writes → Bool
 is_keyed es = list_all (λ e. eq_by_cmp item_cmp e.0 (item_of e.1)) es
 
 keyed_insert : (w : Write) (es : Writes) → is_keyed es ≡ true → is_keyed (insert_entry item_cmp es (item_of w) w) ≡ true
@@ -52,16 +52,16 @@ keyed_insert w (e ∷ es) h = by (item_cmp (item_of w) e.0) refl (keyed_insert w
     by Equal r rest = both _ _ (item_ties.symm e.0 (item_of w) ∙ ap is_eq r) (second _ _ h)
     by Greater r rest = both _ _ (first _ _ h) rest
 
-keyed_with : (es : Writes) (ws : List Write) → is_keyed es ≡ true → is_keyed (with_writes es ws) ≡ true
+pub keyed_with : (es : Writes) (ws : List Write) → is_keyed es ≡ true → is_keyed (with_writes es ws) ≡ true
 keyed_with es [] h = h
 keyed_with es (w ∷ ws) h = keyed_with (insert_entry item_cmp es (item_of w) w) ws (keyed_insert w es h)
 
-sorted_with : (es : Writes) (ws : List Write) → is_sorted item_cmp es ≡ true → is_sorted item_cmp (with_writes es ws) ≡ true
+pub sorted_with : (es : Writes) (ws : List Write) → is_sorted item_cmp es ≡ true → is_sorted item_cmp (with_writes es ws) ≡ true
 sorted_with es [] h = h
 sorted_with es (w ∷ ws) h = sorted_with (insert_entry item_cmp es (item_of w) w) ws (sorted_insert item_cmp item_total (item_of w) w es h)
 
 -- a reading of an item reads the entry at that item
-values_read : {X : Type 0} (i : Item) (f : Write → Option X) → Reads i f → (es : Writes) → is_sorted item_cmp es ≡ true → is_keyed es ≡ true → written f (values_of es) ≡ option_and_then f (lookup (is_at (item_cmp i)) es)
+pub values_read : {X : Type 0} (i : Item) (f : Write → Option X) → Reads i f → (es : Writes) → is_sorted item_cmp es ≡ true → is_keyed es ≡ true → written f (values_of es) ≡ option_and_then f (lookup (is_at (item_cmp i)) es)
 values_read i f reads [] s k = refl
 values_read i f reads (e ∷ es) s k = ap (λ o. option_or o (f e.1)) (values_read i f reads es (second _ _ s) (second _ _ k)) ∙ by (eq_by_cmp item_cmp i e.0) refl
   where
@@ -93,7 +93,7 @@ either_found (Some x) b None q g h = absurd (false≢true (sym g))
 either_found None b (Some y) q g h = absurd (false≢true g)
 either_found None b None q g h = h
 
-given : {X : Type 0} (b : Bool) (x : X) → is_some (cond b (Some x) None) ≡ b
+pub given : {X : Type 0} (b : Bool) (x : X) → is_some (cond b (Some x) None) ≡ b
 given true x = refl
 given false x = refl
 
@@ -228,7 +228,7 @@ put_found p q n (m ∷ ns) s = ap (λ o. option_or o (put_of p n (Put q m.0 m.1)
     by true false h = or_none _
 
 -- a property that isn't so in the old node
-abbrev changed_from : List (Name × Property) → Name → Property → Option Property
+abbrev pub changed_from : List (Name × Property) → Name → Property → Option Property
 changed_from old n x = cond (not (option_map_or (same_property x) (lookup (is_at (name_cmp n)) old) false)) (Some x) None
 
 changed_found : (old : List (Name × Property)) (n : Name) (new : List (Name × Property)) → is_sorted name_cmp new ≡ true
@@ -255,7 +255,7 @@ taken_put : (p : Path) (n : Name) (e : Path × Node) → written (put_of p n) (t
 taken_put p n e = or_none _ ∙ unset_found p e.0 n e.1.props
 
 -- what is written of a property of a node that may differ: it is put, or else unset where it was there and isn't any more
-abbrev written_of : List (Name × Property) → Name → Node → Option (Option Property)
+abbrev pub written_of : List (Name × Property) → Name → Node → Option (Option Property)
 written_of old n node =
     option_or (option_map Some (option_and_then (changed_from old n) (lookup (is_at (name_cmp n)) node.props)))
     (cond (is_some (cond (is_none (lookup (is_at (name_cmp n)) node.props)) (lookup (is_at (name_cmp n)) old) None)) (Some None) None)
@@ -314,7 +314,7 @@ here_changed t u s o p =
     ∙ ap (option_and_then (λ node. Some false)) (kept_at path_cmp same_path (λ q. is_none (node_at u q)) p t))))
 
 -- and of a property
-put_changed_of : (t u : Nodes) → InOrder t → InOrder u → has_names_in_order u ≡ true → (p : Path) (n : Name)
+pub put_changed_of : (t u : Nodes) → InOrder t → InOrder u → has_names_in_order u ≡ true → (p : Path) (n : Name)
     → written (put_of p n) (changes t u) ≡ option_or (option_and_then (written_of (properties_at t p) n) (node_at u p)) (option_and_then (λ node. cond (is_some (lookup (is_at (name_cmp n)) node.props)) (Some None) None) (cond (is_none (node_at u p)) (node_at t p) None))
 put_changed_of t u s o names p n =
     changes_read (record { path = p; name = Some n }) (put_of p n) (put_reads p n) t u

@@ -1,5 +1,5 @@
 // Laws of trees and edits.
-ghost use Rattle.std.specs.Prelude.{◌≡◌, List, IsTrue, is_some};
+ghost use Rattle.std.specs.Prelude.{◌≡◌, List, [], IsTrue, is_some};
 ghost use Rattle.std.specs.Option.{unwrap_or};
 ghost use Rattle.std.specs.FinMap.{is_sorted};
 ghost use Rattle.jr_path.specs.Names.{path_cmp};
@@ -38,4 +38,10 @@ pub fn proper_edits_write_properties()
 /// The changes from one tree to another, applied to the first, give the second.
 pub fn changes_lead_there()
     ensures { (t u : Nodes) → IsTree t → IsTree u → applied t (changes t u) ≡ u }
+{}
+
+/// The changes from one tree to another are a proper edit of the first, and there are none from a tree to itself.
+pub fn changes_are_proper()
+    ensures proper { (t u : Nodes) → IsTree t → IsTree u → IsProper t (changes t u) }
+    ensures none { (t : Nodes) → IsTree t → changes t t ≡ [] }
 {}

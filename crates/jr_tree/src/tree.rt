@@ -9,6 +9,7 @@ ghost use Rattle.jr_tree.specs.Trees.{node_at, property_at, node_of_type, initia
 use jr_path::{DeepCopy, Keyed, Name, Path};
 use jr_value::{Property, Value};
 use std::alloc::{AllocError, Global};
+use std::collections::btree_map::Iter;
 use std::marker::Model;
 
 /// A node (JSR 283, 3.1 Items): a property for each of its names.
@@ -157,6 +158,13 @@ impl Tree {
         })
     }
 
+    /// The nodes with their paths, in path order.
+    pub fn iter(&self) -> Iter<'_, Path, Node>
+        ensures { result ≡ self.now }
+    {
+        self.nodes.iter()
+    }
+
     // The nodes at or below a path, which stand one after another in path order.
     fn under<'a>(&'a self, path: &Path) -> Result<Vec<(&'a Path, &'a Node)>, AllocError>
         ensures { IfOk result (λ found. map deref_pair found.items ≡ subtree_of self.now path.now) }
@@ -191,8 +199,8 @@ fn child_name<'a>(path: &Path, at: &'a Path) -> Option<&'a Name>
     }
 }
 
-// Whether the second path is that of a child of the first.
-fn is_child(path: &Path, at: &Path) -> bool
+/// Whether the second path is that of a child of the first. It takes no memory.
+pub fn is_child(path: &Path, at: &Path) -> bool
     ensures { result ≡ is_child_of path.now at.now }
 {
     let depth = at.depth();

@@ -34,12 +34,12 @@ use Rattle.oak_read.specs.Meaning.{Documents, documents_in, found_node, child_fo
 
 -- ---- a child's path
 
-is_equal : (o : Ordering) → is_eq o ≡ true → o ≡ Equal
+pub is_equal : (o : Ordering) → is_eq o ≡ true → o ≡ Equal
 is_equal Less h = cc
 is_equal Equal h = refl
 is_equal Greater h = cc
 
-both_true : (a b : Bool) → (a && b) ≡ true → (a ≡ true) × (b ≡ true)
+pub both_true : (a b : Bool) → (a && b) ≡ true → (a ≡ true) × (b ≡ true)
 both_true true b h = (refl, h)
 both_true false b h = cc
 
@@ -52,30 +52,30 @@ last_behind q n h =
     ∙ ap (λ x. take (length q - 1) q ++ x ∷ []) (get_or_from_slice_get q (length q - 1) n n h)
 
 -- a child has one name more than its parent
-child_path : (p q : Path) (n : Name) → is_child_of p q ≡ true → last_name q ≡ Some n → q ≡ p ++ n ∷ []
+pub child_path : (p q : Path) (n : Name) → is_child_of p q ≡ true → last_name q ≡ Some n → q ≡ p ++ n ∷ []
 child_path p q n h last =
     let within : length q - 1 < length q = slice_get_within q (length q - 1) n last in
     let some : (length q == 0) ≡ false = grind (arith, nat_tests) in
     let parent : p ≡ take (length q - 1) q = path_exact p (take (length q - 1) q) (is_equal (path_cmp p (take (length q - 1) q)) (rw some at h)) in
     rw parent (last_behind q n last)
 
-long_child : (p q : Path) (k : ℕ) → length q ≡ k + 1 → take k q ≡ p → is_child_of p q ≡ true
+pub long_child : (p q : Path) (k : ℕ) → length q ≡ k + 1 → take k q ≡ p → is_child_of p q ≡ true
 long_child p q k long front =
     let some : (k + 1 == 0) ≡ false = grind (arith, nat_tests) in
     let less : k + 1 - 1 ≡ k = omega arith in
     rw (long, some, less, front) (ap is_eq (tied_itself path_total p))
 
-longer : (p : Path) (n : Name) → length (p ++ n ∷ []) ≡ length p + 1
+pub longer : (p : Path) (n : Name) → length (p ++ n ∷ []) ≡ length p + 1
 longer p n = length-append p (n ∷ [])
 
-own_child : (p : Path) (n : Name) → is_child_of p (p ++ n ∷ []) ≡ true
+pub own_child : (p : Path) (n : Name) → is_child_of p (p ++ n ∷ []) ≡ true
 own_child p n = long_child p (p ++ n ∷ []) (length p) (longer p n) (take-append_seam p (n ∷ []))
 
 slice_get-behind : (p : Path) (n : Name) → slice_get (p ++ n ∷ []) (length p) ≡ Some n
 slice_get-behind [] n = refl
 slice_get-behind (m ∷ p) n = slice_get-behind p n
 
-own_name : (p : Path) (n : Name) → last_name (p ++ n ∷ []) ≡ Some n
+pub own_name : (p : Path) (n : Name) → last_name (p ++ n ∷ []) ≡ Some n
 own_name p n =
     let less : length (p ++ n ∷ []) - 1 ≡ length p = omega (arith, longer p n) in
     rw less (slice_get-behind p n)
@@ -87,7 +87,7 @@ module _ (table : List (DocId × Document)) (t v : RevVec) (p : Path) where
   ds = documents_in table
 
   -- what is a child is found one name below
-  found_below : (x : DocId) (n : Name) → child_found ds t v p x ≡ Some n → (x ≡ id.Node (p ++ n ∷ [])) × (is_some (found_node ds t v (p ++ n ∷ [])) ≡ true)
+  pub found_below : (x : DocId) (n : Name) → child_found ds t v p x ≡ Some n → (x ≡ id.Node (p ++ n ∷ [])) × (is_some (found_node ds t v (p ++ n ∷ [])) ≡ true)
   found_below (id.Node q) n h = by (is_child_of p q && is_some (found_node ds t v q)) refl h
     where
       by : (b : Bool) → (is_child_of p q && is_some (found_node ds t v q)) ≡ b → cond b (last_name q) None ≡ Some n → (id.Node q ≡ id.Node (p ++ n ∷ [])) × (is_some (found_node ds t v (p ++ n ∷ [])) ≡ true)
@@ -144,15 +144,15 @@ module _ (table : List (DocId × Document)) (t v : RevVec) (p : Path) where
 
 -- ---- the order
 
-same_front : {K : Type 0} {R : K → K → Ordering} → IsTotalOrder R → (xs a b : List K) → slice_cmp R (xs ++ a) (xs ++ b) ≡ slice_cmp R a b
+pub same_front : {K : Type 0} {R : K → K → Ordering} → IsTotalOrder R → (xs a b : List K) → slice_cmp R (xs ++ a) (xs ++ b) ≡ slice_cmp R a b
 same_front o [] a b = refl
 same_front o (x ∷ xs) a b = rw (tied_itself o x) (same_front o xs a b)
 
-joined-child : (p : Path) (a : Name) → joined (p ++ a ∷ []) ≡ joined p ++ (codes "/" ++ a)
+pub joined-child : (p : Path) (a : Name) → joined (p ++ a ∷ []) ≡ joined p ++ (codes "/" ++ a)
 joined-child p a = flat_map-append (λ name. codes "/" ++ name) p (a ∷ []) ∙ ap (λ x. joined p ++ x) (append-nil (codes "/" ++ a))
 
 -- the names of two children are in the store's order of their documents
-names_rise : (p : Path) (a b : Name) → id_cmp (id.Node (p ++ a ∷ [])) (id.Node (p ++ b ∷ [])) ≡ Less → name_cmp a b ≡ Less
+pub names_rise : (p : Path) (a b : Name) → id_cmp (id.Node (p ++ a ∷ [])) (id.Node (p ++ b ∷ [])) ≡ Less → name_cmp a b ≡ Less
 names_rise p a b h =
     let depth : nat_cmp (length (p ++ a ∷ [])) (length (p ++ b ∷ [])) ≡ Equal = rw (longer p a, longer p b) (tied_itself nat_cmp_total (length p + 1)) in
     let text : name_cmp (joined (p ++ a ∷ [])) (joined (p ++ b ∷ [])) ≡ name_cmp a b = rw (joined-child p a, joined-child p b) (same_front nat_cmp_total (joined p) (codes "/" ++ a) (codes "/" ++ b)) in

@@ -1,5 +1,5 @@
 -- The latest of entries, taken one after another.
-use Rattle.std.proofs.Common.{◌≡◌, ℕ, ◌+◌, ◌<◌, Bool, true, false, cond, List, [], ◌∷◌, ◌++◌, Option, None, Some, length, take, get_or, map, refl, sym, ap, ◌∙◌, append-nil, append_assoc}
+use Rattle.std.proofs.Common.{◌≡◌, ℕ, ◌+◌, ◌<◌, Bool, true, false, cond, List, [], ◌∷◌, ◌++◌, Option, None, Some, length, take, get_or, map, fold, refl, sym, ap, ◌∙◌, append-nil, append_assoc}
 use Rattle.std.specs.Prelude.{option_to_list}
 use Rattle.std.specs.declared.cmp.Ordering.{Ordering}
 use Rattle.std.specs.declared.cmp.Ordering.TheVariants.{Less, Equal, Greater}
@@ -96,3 +96,16 @@ found_more h f start xs i d found old new within so_far is added =
     ∙ ap (λ ys. ys ++ option_to_list found) so_far
     ∙ append_assoc start (filter_map h (take i xs)) (option_to_list found)
     ∙ ap (λ ys. start ++ ys) (ap (λ o. filter_map h (take i xs) ++ option_to_list o) is ∙ ap (λ ys. filter_map h (take i xs) ++ ys) (listed_alone (h (get_or xs i d))) ∙ sym (filter_map-append h (take i xs) (get_or xs i d ∷ [])) ∙ ap (filter_map h) (sym (take_more xs i d within)))
+
+fold-last : {B S : Type 0} (w : S → B → S) (xs : List B) (x : B) (s : S) → fold w s (xs ++ x ∷ []) ≡ w (fold w s xs) x
+fold-last w [] x s = refl
+fold-last w (y ∷ xs) x s = fold-last w xs x (w s y)
+
+-- one more item is taken into account
+pub fold_more : {A B S : Type 0} (w : S → B → S) (f : A → B) (xs : List A) (i : ℕ) (d : A) (start now next : S) → i < length xs → now ≡ fold w start (map f (take i xs)) → next ≡ w now (f (get_or xs i d)) → next ≡ fold w start (map f (take (i + 1) xs))
+fold_more {A} w f xs i d start now next within so_far more =
+    more
+    ∙ ap (λ s. w s (f (get_or xs i d))) so_far
+    ∙ sym (fold-last w (map f (take i xs)) (f (get_or xs i d)) start)
+    ∙ ap (fold w start) (sym (map-append f (take i xs) (get_or xs i d ∷ [])))
+    ∙ ap (λ (ys : List A). fold w start (map f ys)) (sym (take_more xs i d within))

@@ -1,2 +1,4 @@
 pub mod Meaning
 pub mod Shown
+pub mod Wanted
+pub mod Reading

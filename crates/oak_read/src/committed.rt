@@ -47,7 +47,11 @@ fn is_committed(
 }
 
 // The commit root of a revision, as it stands in the document.
-fn commit_root_of(alloc: Global, document: &Document, r: Revision) -> Result<DocId, AllocError>
+pub(crate) fn commit_root_of(
+    alloc: Global,
+    document: &Document,
+    r: Revision,
+) -> Result<DocId, AllocError>
     ensures { IfOk result (λ root. root ≡ commit_root_of document.now r) }
 {
     match document.commit_root.get(&r) {

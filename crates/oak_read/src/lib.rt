@@ -8,6 +8,11 @@ mod children;
 mod committed;
 mod latest;
 mod node;
+mod reader;
+#[cfg(test)]
+mod tests;
+mod wanted;
 
 pub use children::{children_of_documents, find_children};
 pub use node::find_node;
+pub use reader::{ReadOut, Reader, readers_end_in_what_documents_mean};

@@ -57,14 +57,14 @@ fn properties_in(
 }
 
 // The document of an id.
-fn document_at(documents: &Keyed<DocId, Document>, id: DocId) -> Option<&Document>
+pub(crate) fn document_at(documents: &Keyed<DocId, Document>, id: DocId) -> Option<&Document>
     ensures { option_copied result ≡ documents_in documents.now id }
 {
     documents.get(&id)
 }
 
 // The document of a path and the previous documents that it lists and that are there.
-fn documents_at<'a>(
+pub(crate) fn documents_at<'a>(
     alloc: Global,
     documents: &'a Keyed<DocId, Document>,
     path: &Path,

@@ -1,0 +1,330 @@
+// The reading automaton.
+ghost use Rattle.std.specs.Prelude.{◌≡◌, IfOk, OnErr, OnOk, Some, codes};
+ghost use Rattle.jr_path.specs.Ids.{id_cmp};
+ghost use Rattle.oak_read.specs.Reading.{ReadsChildren, ReadsNode, child_at, children_reader, due, ended, fed, fed_main, fed_next, node_reader, noted, on_main, on_previous, on_roots, passed_by, settled};
+ghost use Rattle.oak_doc.specs.declared.asks.Ask.TheVariants as ask;
+ghost use Rattle.oak_read.specs.declared.reader.Step.TheVariants.{Done};
+
+use crate::children::{child_found, is_child};
+use crate::node::find_node;
+use crate::wanted::{Left, previous_wanted, roots_wanted};
+use jr_path::{DeepCopy, DocId, Keyed, List, Name, Path};
+use jr_rev::Pin;
+use jr_tree::Node;
+use oak_doc::{Ask, Document, Reply};
+use std::alloc::{AllocError, Global};
+use std::mem;
+
+/// What a reader gives.
+#[derive(Drop)]
+pub enum ReadOut {
+    /// The node; None where there is none.
+    Node(Option<Node>),
+    /// The names of the children, in ascending order.
+    Children(List<Name>),
+}
+
+/// Reads a node, or the names of the children of a node, one document at a time (Oak, DocumentNodeStore:
+/// "Reading"). It asks for the node's document, for the previous documents that it lists, and for the
+/// commit roots that tell of entries which the sweep vector doesn't see; each once where it is there.
+/// For children it does so for each document one name below the path, one after another in store order.
+#[derive(Drop)]
+pub struct Reader {
+    alloc: Global,
+    pin: Pin,
+    // The path whose children are read; None where a node is read.
+    parent: Option<Path>,
+    // The path of the node that is read, or was read last.
+    at: Path,
+    // The documents that were found.
+    known: Keyed<DocId, Document>,
+    // The children that are found so far.
+    names: List<Name>,
+    step: Step,
+}
+
+// What is due.
+#[derive(Drop)]
+pub(crate) enum Step {
+    // The document of the node.
+    Main,
+    // The first document behind that of the node.
+    Next,
+    // Previous documents of the node.
+    Previous(Left),
+    // Commit roots of the node's entries.
+    Roots(Left),
+    Done(ReadOut),
+}
+
+impl Reader {
+    /// Reads the node at a path, as it is seen at a pin.
+    pub fn node(alloc: Global, path: &Path, pin: &Pin) -> Result<Reader, AllocError>
+        ensures { IfOk result (λ reader. reader ≡ node_reader alloc pin.now path.now) }
+    {
+        Ok(Reader {
+            alloc,
+            pin: *pin,
+            parent: None,
+            at: path.copy()?,
+            known: Keyed::new(alloc),
+            names: List::new(alloc),
+            step: Step::Main,
+        })
+    }
+
+    /// Reads the names of the nodes below a path, as they are seen at a pin.
+    pub fn children(alloc: Global, path: &Path, pin: &Pin) -> Result<Reader, AllocError>
+        ensures { IfOk result (λ reader. reader ≡ children_reader alloc pin.now path.now) }
+    {
+        let parent = path.copy()?;
+        Ok(Reader {
+            alloc,
+            pin: *pin,
+            parent: Some(parent),
+            at: path.child(&least_name(alloc)?)?,
+            known: Keyed::new(alloc),
+            names: List::new(alloc),
+            step: Step::Main,
+        })
+    }
+
+    /// The one operation that is due, or Done.
+    pub fn next(&self) -> Result<Ask, AllocError>
+        ensures { IfOk result (λ ask. ask ≡ due self.now) }
+    {
+        match &self.step {
+            Step::Main => Ok(Ask::Find(DocId::Node(self.at.copy()?))),
+            Step::Next => Ok(Ask::NextAfter(Some(DocId::Node(self.at.copy()?)))),
+            Step::Previous(left) => Ok(Ask::Find(left.first.copy()?)),
+            Step::Roots(left) => Ok(Ask::Find(left.first.copy()?)),
+            Step::Done(_) => Ok(Ask::Done),
+        }
+    }
+
+    /// Takes the reply to what is due. A reply of another kind, and one to Done, changes nothing; nor does
+    /// a refusal.
+    pub fn feed(&mut self, reply: Reply) -> Result<(), AllocError>
+        ensures ok { OnOk result (self.new ≡ fed self.old reply) }
+        ensures err { OnErr result (self.new ≡ self.old) }
+    {
+        let Reply::Found(found) = reply else {
+            return Ok(());
+        };
+        match &self.step {
+            Step::Main => self.feed_main(found),
+            Step::Next => self.feed_next(found),
+            Step::Previous(left) => {
+                let id = left.first.copy()?;
+                self.feed_left(id, found)
+            }
+            Step::Roots(left) => {
+                let id = left.first.copy()?;
+                self.feed_left(id, found)
+            }
+            Step::Done(_) => Ok(()),
+        }
+    }
+
+    /// Gives what was read.
+    pub fn take(self) -> ReadOut
+        requires { due self ≡ ask.Done }
+        ensures { self.step ≡ Done result }
+    {
+        let Reader { step, .. } = self;
+        match step {
+            Step::Done(out) => out,
+            _ => ReadOut::Node(None),
+        }
+    }
+
+    // Takes the node's document.
+    fn feed_main(&mut self, found: Option<Document>) -> Result<(), AllocError>
+        ensures ok { OnOk result (self.new ≡ fed_main self.old found) }
+        ensures err { OnErr result (self.new ≡ self.old) }
+    {
+        let Some(document) = found else {
+            self.pass_by();
+            return Ok(());
+        };
+        let id = DocId::Node(self.at.copy()?);
+        self.note(id, document)
+    }
+
+    // Takes the document behind that of the node.
+    fn feed_next(&mut self, found: Option<Document>) -> Result<(), AllocError>
+        ensures ok { OnOk result (self.new ≡ fed_next self.old found) }
+        ensures err { OnErr result (self.new ≡ self.old) }
+    {
+        let Some(document) = found else {
+            self.end();
+            return Ok(());
+        };
+        let Some(at) = self.child_at(&document.id)? else {
+            self.end();
+            return Ok(());
+        };
+        let id = document.id.copy()?;
+        let before = mem::replace(&mut self.at, at);
+        match self.note(id, document) {
+            Ok(()) => Ok(()),
+            Err(error) => {
+                self.at = before;
+                Err(error)
+            }
+        }
+    }
+
+    // Takes a previous document, or a commit root.
+    fn feed_left(&mut self, id: DocId, found: Option<Document>) -> Result<(), AllocError>
+        ensures ok { OnOk result (self.new ≡ settled (noted self.old id found)) }
+        ensures err { OnErr result (self.new ≡ self.old) }
+    {
+        match found {
+            Some(document) => self.note(id, document),
+            None => self.settle(),
+        }
+    }
+
+    // The path of the node whose document it is, where that is a child.
+    fn child_at(&self, id: &DocId) -> Result<Option<Path>, AllocError>
+        ensures { IfOk result (λ at. at ≡ child_at self.now.parent id.now) }
+    {
+        match (&self.parent, id) {
+            (Some(parent), DocId::Node(at)) => {
+                if is_child(parent, at) {
+                    Ok(Some(at.copy()?))
+                } else {
+                    Ok(None)
+                }
+            }
+            _ => Ok(None),
+        }
+    }
+
+    // There is no document of the node.
+    fn pass_by(&mut self)
+        ensures { self.new ≡ passed_by self.old }
+    {
+        self.step = match &self.parent {
+            None => Step::Done(ReadOut::Node(None)),
+            Some(_) => Step::Next,
+        };
+    }
+
+    // There is no further child.
+    fn end(&mut self)
+        ensures { self.new ≡ ended self.old }
+    {
+        let names = mem::replace(&mut self.names, List::new(self.alloc));
+        self.step = Step::Done(ReadOut::Children(names));
+    }
+
+    // Keeps a document that was found, and goes on; one of an id that is known isn't kept.
+    fn note(&mut self, id: DocId, document: Document) -> Result<(), AllocError>
+        ensures ok { OnOk result (self.new ≡ settled (noted self.old id (Some document))) }
+        ensures err { OnErr result (self.new ≡ self.old) }
+    {
+        if self.known.contains(&id) {
+            return self.settle();
+        }
+        self.known.put(id.copy()?, document)?;
+        if let Err(error) = self.settle() {
+            self.known.remove(&id);
+            return Err(error);
+        }
+        Ok(())
+    }
+
+    // Goes on to the next document that is due.
+    fn settle(&mut self) -> Result<(), AllocError>
+        ensures ok { OnOk result (self.new ≡ settled self.old) }
+        ensures err { OnErr result (self.new ≡ self.old) }
+    {
+        match &mut self.step {
+            Step::Main => self.read_previous(),
+            Step::Next => self.read_previous(),
+            Step::Previous(left) => {
+                if left.go_on() {
+                    Ok(())
+                } else {
+                    self.read_roots()
+                }
+            }
+            Step::Roots(left) => {
+                if left.go_on() {
+                    Ok(())
+                } else {
+                    self.conclude()
+                }
+            }
+            Step::Done(_) => Ok(()),
+        }
+    }
+
+    // The node's document is known.
+    fn read_previous(&mut self) -> Result<(), AllocError>
+        ensures ok { OnOk result (self.new ≡ on_main self.old) }
+        ensures err { OnErr result (self.new ≡ self.old) }
+    {
+        let wanted = previous_wanted(self.alloc, &self.known, &self.at)?;
+        match Left::of(wanted) {
+            Some(left) => {
+                self.step = Step::Previous(left);
+                Ok(())
+            }
+            None => self.read_roots(),
+        }
+    }
+
+    // The previous documents are known too.
+    fn read_roots(&mut self) -> Result<(), AllocError>
+        ensures ok { OnOk result (self.new ≡ on_previous self.old) }
+        ensures err { OnErr result (self.new ≡ self.old) }
+    {
+        let whole = self.parent.is_none();
+        let wanted = roots_wanted(self.alloc, &self.known, &self.pin, whole, &self.at)?;
+        match Left::of(wanted) {
+            Some(left) => {
+                self.step = Step::Roots(left);
+                Ok(())
+            }
+            None => self.conclude(),
+        }
+    }
+
+    // All that the node takes is known.
+    fn conclude(&mut self) -> Result<(), AllocError>
+        ensures ok { OnOk result (self.new ≡ on_roots self.old) }
+        ensures err { OnErr result (self.new ≡ self.old) }
+    {
+        let Some(parent) = &self.parent else {
+            let node = find_node(self.alloc, &self.known, &self.pin, &self.at)?;
+            self.step = Step::Done(ReadOut::Node(node));
+            return Ok(());
+        };
+        let id = DocId::Node(self.at.copy()?);
+        if let Some(name) = child_found(self.alloc, &self.known, &self.pin, parent, &id)? {
+            self.names.push(name.copy()?)?;
+        }
+        self.step = Step::Next;
+        Ok(())
+    }
+}
+
+// The first of all names: no name begins with a space or a control character.
+fn least_name(alloc: Global) -> Result<Name, AllocError>
+    ensures { IfOk result (λ name. name ≡ codes "!") }
+{
+    match Name::parse(alloc, "!") {
+        Ok(name) => Ok(name),
+        Err(_) => Err(AllocError),
+    }
+}
+
+/// Over documents at rest, entries that are not committed among them, a reader ends, and gives the node or
+/// the children that they show at its pin.
+pub fn readers_end_in_what_documents_mean()
+    ensures node { ReadsNode }
+    ensures children { ReadsChildren }
+{}
