@@ -1,0 +1,4 @@
+pub mod Induction
+mod Rows
+pub mod Stays
+mod StepRows

@@ -1,0 +1,89 @@
+-- Draws and commits, and the tree that a vector sees.
+use Rattle.std.specs.Prelude.{◌≡◌, ℕ, Bool, false, cond, not, ◌&&◌, List, [], ◌∷◌, Option, None, Some, is_some, IsTrue, codes}
+use Rattle.std.specs.Option.{option_map_or}
+use Rattle.std.specs.BTreeMap.{insert_entry}
+use Rattle.std.specs.List.{filter, fold, list_any}
+use Rattle.jr_path.specs.declared.path.Item.{Item}
+use Rattle.jr_rev.specs.declared.revision.Revision.{Revision}
+use Rattle.jr_rev.specs.declared.vector.RevVec.{RevVec}
+use Rattle.jr_rev.specs.Revisions.{revision_cmp, is_same}
+use Rattle.jr_rev.specs.Vectors.{sees, is_below}
+use Rattle.jr_tree.specs.declared.edit.Write.{Write}
+use Rattle.jr_tree.specs.Trees.{Nodes, initial_tree}
+use Rattle.jr_tree.specs.Edits.{applied}
+use Rattle.oak_clash.specs.declared.mark.MarkAt.{MarkAt}
+use Rattle.oak_clash.specs.Clashes.{clashing}
+use Rattle.oak_machine.specs.declared.event.Draw.{Draw}
+use Rattle.oak_machine.specs.declared.event.Event.{Event}
+use Rattle.oak_machine.specs.declared.event.Event.TheVariants as event
+use Rattle.oak_machine.specs.History.{Past}
+
+abbrev pub is_commit_of : Revision → Event → Bool
+is_commit_of r (event.Commit q) = is_same r q
+is_commit_of r _ = false
+
+abbrev pub is_refusal_of : Revision → Event → Bool
+is_refusal_of r (event.Refuse q item o) = is_same r q
+is_refusal_of r _ = false
+
+abbrev pub is_end_of : Revision → Event → Bool
+is_end_of r (event.End q) = is_same r q
+is_end_of r _ = false
+
+-- the draw of a revision
+abbrev pub draw_of : Past → Revision → Option Draw
+draw_of [] r = None
+draw_of (event.Draw d ∷ past) r = cond (is_same r d.revision) (Some d) (draw_of past r)
+draw_of (_ ∷ past) r = draw_of past r
+
+abbrev pub is_drawn : Past → Revision → Bool
+is_drawn past r = is_some (draw_of past r)
+
+abbrev pub is_committed : Past → Revision → Bool
+is_committed past r = list_any (is_commit_of r) past
+
+abbrev pub is_refused : Past → Revision → Bool
+is_refused past r = list_any (is_refusal_of r) past
+
+abbrev pub is_ended : Past → Revision → Bool
+is_ended past r = list_any (is_end_of r) past
+
+-- drawn, and not ended
+abbrev pub is_in_flight : Past → Revision → Bool
+is_in_flight past r = is_drawn past r && not (is_ended past r)
+
+-- the marks of a draw
+abbrev pub marks_of : Past → Revision → List MarkAt
+marks_of past r = option_map_or (λ d. d.marks) (draw_of past r) []
+
+-- the base of r sees o
+abbrev pub is_in_base : Past → Revision → Revision → Bool
+is_in_base past r o = option_map_or (λ d. sees d.base o) (draw_of past r) false
+
+-- two draws clash
+abbrev pub are_clashing : Past → Revision → Revision → Bool
+are_clashing past r o = clashing (marks_of past r) (marks_of past o)
+
+-- the committed edits, in ascending order of their revisions
+abbrev pub committed_edits : Past → List (Revision × List Write)
+committed_edits [] = []
+committed_edits (event.Commit r ∷ past) = option_map_or (λ d. insert_entry revision_cmp (committed_edits past) r d.edit.writes) (draw_of past r) (committed_edits past)
+committed_edits (_ ∷ past) = committed_edits past
+
+-- the tree that v sees: the initial one, with the committed edits that v sees applied in ascending order
+abbrev pub tree_at : Past → RevVec → Nodes
+tree_at past v = fold (λ t e. applied t e.1) initial_tree (filter (λ e. sees v e.0) (committed_edits past))
+
+-- each drawn revision that v sees has ended
+abbrev pub IsSettled : Past → RevVec → Type 0
+IsSettled past v = (r : Revision) → IsTrue (is_drawn past r) → IsTrue (sees v r) → IsTrue (is_ended past r)
+
+-- the base of each committed revision that v sees is at most v
+abbrev pub IsClosed : Past → RevVec → Type 0
+IsClosed past v = (r : Revision) (d : Draw) → IsTrue (is_committed past r) → draw_of past r ≡ Some d → IsTrue (sees v r) → IsTrue (is_below d.base v)
+
+-- what a draw was refused for: its item and the other revision
+abbrev pub refusal_of : Past → Revision → Option (Item × Revision)
+refusal_of [] r = None
+refusal_of (event.Refuse q item o ∷ past) r = cond (is_same r q) (Some (item, o)) (refusal_of past r)
+refusal_of (_ ∷ past) r = refusal_of past r

@@ -1,0 +1,65 @@
+-- The heads of the cluster nodes.
+use Rattle.std.specs.Prelude.{ℕ, ◌+◌, cond, ◌==◌, max, List, [], ◌∷◌}
+use Rattle.std.specs.Option.{option_map_or}
+use Rattle.std.specs.List.{filter, fold, list_all}
+use Rattle.jr_rev.specs.declared.revision.Revision.{Revision}
+use Rattle.jr_rev.specs.declared.vector.RevVec.{RevVec}
+use Rattle.jr_rev.specs.Revisions.{is_before}
+use Rattle.jr_rev.specs.Vectors.{with_entry, start, start_of}
+use Rattle.oak_machine.specs.declared.event.Event.TheVariants as event
+use Rattle.oak_machine.specs.History.{Past}
+use Rattle.oak_machine.specs.Commits.{is_in_flight}
+
+-- the revisions that cluster node k has drawn
+abbrev pub draws_by : Past → ℕ → List Revision
+draws_by [] k = []
+draws_by (event.Draw d ∷ past) k = cond (d.revision.cluster == k) (d.revision ∷ draws_by past k) (draws_by past k)
+draws_by (_ ∷ past) k = draws_by past k
+
+abbrev pub greater_of : Revision → Revision → Revision
+greater_of a b = cond (is_before a b) b a
+
+-- the greatest of some revisions, or the start of cluster node k
+abbrev pub greatest : ℕ → List Revision → Revision
+greatest k rs = fold greater_of (start_of k) rs
+
+-- the revisions of cluster node k that are in flight
+abbrev pub flying : Past → ℕ → List Revision
+flying past k = filter (is_in_flight past) (draws_by past k)
+
+-- the greatest drawn revision of cluster node k below every one of it in flight
+abbrev pub local : Past → ℕ → Revision
+local past k = greatest k (filter (λ r. list_all (is_before r) (flying past k)) (draws_by past k))
+
+-- what cluster node k has published
+abbrev pub outs_of : Past → ℕ → List Revision
+outs_of [] k = []
+outs_of (event.Out m r ∷ past) k = cond (m == k) (r ∷ outs_of past k) (outs_of past k)
+outs_of (_ ∷ past) k = outs_of past k
+
+abbrev pub published : Past → ℕ → Revision
+published past k = greatest k (outs_of past k)
+
+-- what cluster node k has learned last
+abbrev pub last_in : ℕ → Past → ℕ → RevVec
+last_in clusters [] k = start clusters
+last_in clusters (event.In m v ∷ past) k = cond (m == k) v (last_in clusters past k)
+last_in clusters (_ ∷ past) k = last_in clusters past k
+
+-- the head of cluster node k: its local revision, and for the others what it has learned last
+abbrev pub head_of : ℕ → Past → ℕ → RevVec
+head_of clusters past k = with_entry (last_in clusters past k) (local past k)
+
+-- the greatest time in a vector
+abbrev pub greatest_time : RevVec → ℕ
+greatest_time v = fold (λ t e. max t (option_map_or (λ r. r.time) e 0)) 0 v
+
+-- the time of the last draw of cluster node k
+abbrev pub last_draw_time : Past → ℕ → ℕ
+last_draw_time [] k = 0
+last_draw_time (event.Draw d ∷ past) k = cond (d.revision.cluster == k) d.revision.time (last_draw_time past k)
+last_draw_time (_ ∷ past) k = last_draw_time past k
+
+-- the revision that cluster node k draws next
+abbrev pub next_draw : ℕ → Past → ℕ → Revision
+next_draw clusters past k = record { time = max (greatest_time (head_of clusters past k)) (last_draw_time past k) + 1; counter = 0; cluster = k }

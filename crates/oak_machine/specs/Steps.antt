@@ -1,0 +1,91 @@
+-- Which events the counted steps append. Reading steps append none.
+use Rattle.std.specs.Prelude.{ℕ, Bool, true, false, cond, not, ◌&&◌, ◌==◌, List, [], ◌∷◌, slice_get}
+use Rattle.std.specs.Option.{option_map_or}
+use Rattle.std.specs.List.{list_any}
+use Rattle.jr_rev.specs.declared.revision.Revision.{Revision}
+use Rattle.jr_rev.specs.Revisions.{is_same}
+use Rattle.oak_machine.specs.declared.event.StepKind.{StepKind}
+use Rattle.oak_machine.specs.declared.event.StepKind.TheVariants as kind
+use Rattle.oak_machine.specs.declared.event.Event.{Event}
+use Rattle.oak_machine.specs.declared.event.Event.TheVariants as event
+use Rattle.oak_machine.specs.History.{History}
+use Rattle.oak_machine.specs.Heads.{local}
+use Rattle.oak_machine.specs.Laws.{is_revision_of}
+
+-- s is a session of cluster node k
+abbrev pub is_on : History → ℕ → ℕ → Bool
+is_on h s k = option_map_or (λ m. m == k) (slice_get h.sessions s) false
+
+-- the end of r moves the head of its cluster node
+abbrev pub is_moving : History → Revision → Bool
+is_moving h r = not (is_same (local (event.End r ∷ h.past) r.cluster) (local h.past r.cluster))
+
+-- the steps of which a Went may be all that is appended: of the other kinds each step has an event of its own
+abbrev pub leaves_went : StepKind → Bool
+leaves_went kind.Login = false
+leaves_went kind.Read = false
+leaves_went kind.Draw = false
+leaves_went kind.Last = false
+leaves_went kind.Finish = false
+leaves_went kind.Say = false
+leaves_went _ = true
+
+-- the kinds, where the test holds
+abbrev pub where_test : Bool → List StepKind → List StepKind
+where_test b ks = cond b ks []
+
+-- the kinds of the counted steps of session s that append just these events to the history
+abbrev pub kinds_for : History → ℕ → List Event → List StepKind
+kinds_for h s (event.Login t v ∷ []) = where_test (t == s) (kind.Login ∷ [])
+kinds_for h s (event.Refresh t v ∷ []) = where_test (t == s) (kind.Pin ∷ [])
+kinds_for h s (event.Draw d ∷ []) = where_test (d.session == s) (kind.Draw ∷ [])
+kinds_for h s (event.Refuse r item o ∷ []) = where_test (is_revision_of h.past s r) (kind.Mark ∷ kind.Last ∷ [])
+kinds_for h s (event.Commit r ∷ []) = where_test (is_revision_of h.past s r) (kind.Last ∷ [])
+kinds_for h s (event.End r ∷ []) = where_test (is_revision_of h.past s r && not (is_moving h r)) (kind.Finish ∷ [])
+kinds_for h s (event.End r ∷ event.Head k v ∷ []) = where_test (is_revision_of h.past s r && is_moving h r && r.cluster == k) (kind.Finish ∷ [])
+kinds_for h s (event.Out k r ∷ []) = where_test (is_on h s k) (kind.Back ∷ [])
+kinds_for h s (event.In k v ∷ []) = where_test (is_on h s k) (kind.Learn ∷ [])
+kinds_for h s (event.Sweep k r ∷ []) = where_test (is_on h s k) (kind.Sweep ∷ [])
+kinds_for h s (event.Bound m t ∷ []) = kind.Bound ∷ []
+kinds_for h s (event.Checkpoint id v ∷ []) = kind.Settings ∷ []
+kinds_for h s (event.Release id ∷ []) = kind.Settings ∷ []
+kinds_for h s (event.Attach t id ∷ []) = where_test (t == s) (kind.Settings ∷ [])
+kinds_for h s (event.Detach t ∷ []) = where_test (t == s) (kind.Settings ∷ [])
+kinds_for h s (event.Said t i text ∷ []) = where_test (t == s) (kind.Say ∷ [])
+kinds_for h s (event.Split t path e ∷ event.Said u i text ∷ []) = where_test (t == s && u == s) (kind.Say ∷ [])
+kinds_for h s (event.Collected t c ∷ event.Said u i text ∷ []) = where_test (t == s && u == s) (kind.Say ∷ [])
+kinds_for h s (event.Went t k ∷ []) = where_test (t == s && leaves_went k) (k ∷ [])
+kinds_for h s _ = []
+
+-- the number of a kind
+abbrev pub kind_number : StepKind → ℕ
+kind_number kind.Login = 0
+kind_number kind.Pin = 1
+kind_number kind.Read = 2
+kind_number kind.Draw = 3
+kind_number kind.Write = 4
+kind_number kind.Mark = 5
+kind_number kind.Last = 6
+kind_number kind.Undo = 7
+kind_number kind.Finish = 8
+kind_number kind.Back = 9
+kind_number kind.Learn = 10
+kind_number kind.Split = 11
+kind_number kind.Sweep = 12
+kind_number kind.Bound = 13
+kind_number kind.Collect = 14
+kind_number kind.Settings = 15
+kind_number kind.Say = 16
+kind_number kind.End = 17
+
+abbrev pub is_kind : StepKind → StepKind → Bool
+is_kind a b = kind_number a == kind_number b
+
+-- a step of s of that kind appends these events to the history, and no others; a reading step none
+abbrev pub is_appended_by : History → ℕ → StepKind → List Event → Bool
+is_appended_by h s kind.Read [] = true
+is_appended_by h s k events = list_any (is_kind k) (kinds_for h s events)
+
+-- the events are those of one counted step of s
+abbrev pub is_one_step : History → ℕ → List Event → Bool
+is_one_step h s events = list_any (λ k. true) (kinds_for h s events)

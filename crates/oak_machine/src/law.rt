@@ -1,0 +1,45 @@
+// Which edits may start, and which texts may be said.
+ghost use Rattle.std.specs.Prelude.{ℕ, List};
+ghost use Rattle.jr_path.specs.declared.text.Text.{Text};
+ghost use Rattle.jr_tree.specs.declared.edit.Edit.{Edit};
+ghost use Rattle.oak_clash.specs.declared.mark.MarkAt.{MarkAt};
+ghost use Rattle.oak_machine.specs.History.{History};
+ghost use Rattle.oak_machine.specs.Laws.{StartsProper};
+ghost use Rattle.oak_machine.specs.Runs.{StartsLast, SaysLast, SaysLastBehind};
+
+/// A law of a machine: which edits may start, and which texts may be said.
+pub trait Law {
+    /// An edit with its marks may start for a session at a history.
+    ghost may_start: { Self → History → ℕ → Edit → List MarkAt → Type 0 };
+
+    /// A text may be said as the reply of that index of a session at a history.
+    ghost may_say: { Self → History → ℕ → ℕ → Text → Type 0 };
+
+    /// What may start may still start, after events of others.
+    ghost starts_last: { (law : Self) → StartsLast (may_start law) (may_say law) };
+
+    ghost says_last: { (law : Self) → SaysLast (may_start law) (may_say law) };
+
+    ghost says_last_behind: { (law : Self) → SaysLastBehind (may_start law) (may_say law) };
+
+    /// What may start is proper, with the marks of its writes.
+    ghost proper: { (law : Self) → StartsProper (may_start law) };
+}
+
+/// The law under which nothing starts, and anything may be said.
+#[derive(Clone, Copy, Debug, PartialEq, Eq)]
+pub struct IdleLaw;
+
+impl Law for IdleLaw {
+    ghost may_start = { λ law h s edit marks. ⊥ };
+
+    ghost may_say = { λ law h s i text. Unit {0} };
+
+    ghost starts_last = { λ law h added s edit marks nodes run later others starts. starts };
+
+    ghost says_last = { λ law h added s i text nodes run later others says. says };
+
+    ghost says_last_behind = { λ law h added e s i text nodes end run later others says. says };
+
+    ghost proper = { λ law h s edit marks v base starts. absurd starts };
+}
