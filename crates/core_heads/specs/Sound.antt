@@ -1,0 +1,82 @@
+-- What the heads of a run keep.
+use Rattle.std.specs.Prelude.{◌≡◌, ℕ, ◌<◌, ◌≤◌, ◌⊎◌, List, [], ◌∷◌, Some, length, slice_get, IsTrue, IsFalse}
+use Rattle.jr_path.specs.declared.text.Text.{Text}
+use Rattle.jr_rev.specs.declared.revision.Revision.{Revision}
+use Rattle.jr_rev.specs.declared.vector.RevVec.{RevVec}
+use Rattle.jr_rev.specs.Revisions.{is_before, is_at_most}
+use Rattle.jr_rev.specs.Vectors.{sees, start_of, stands_from}
+use Rattle.oak_machine.specs.declared.event.Draw.{Draw}
+use Rattle.oak_machine.specs.declared.event.Event.TheVariants as event
+use Rattle.oak_machine.specs.History.{Past}
+use Rattle.oak_machine.specs.Commits.{draw_of, is_drawn, is_in_flight, is_in_base}
+use Rattle.oak_machine.specs.Heads.{last_draw_time, head_of, local, published, last_in, outs_of}
+use Rattle.oak_machine.specs.Runs.{IsNode}
+use Rattle.oak_machine.specs.Sessions.{base_of, is_attached, last_checkpoint}
+
+-- what is seen, as a proposition for each revision
+abbrev pub Sight : Type 1
+Sight = Revision → Type 0
+
+-- what a vector sees
+abbrev pub Seen : RevVec → Sight
+Seen v = λ o. IsTrue (sees v o)
+
+-- in flight, or of a time that its node has not come to
+abbrev pub IsAhead : Past → Revision → Type 0
+IsAhead past o = IsTrue (is_in_flight past o) ⊎ (last_draw_time past o.cluster < o.time)
+
+-- nothing ahead is seen, and with a drawn revision all that its base sees
+pub record IsGood (past : Past) (s : Sight) : Type 0 where
+  pub behind : (o : Revision) → IsAhead past o → s o → ⊥
+  pub closed : (o : Revision) (d : Draw) → draw_of past o ≡ Some d → s o → (x : Revision) → IsTrue (sees d.base x) → s x
+
+-- what the cluster nodes have published
+abbrev pub Public : ℕ → Past → Sight
+Public clusters past = λ o. IsNode clusters o.cluster × IsTrue (is_at_most o (published past o.cluster))
+
+-- k is one of the list
+abbrev pub IsIn : Revision → List Revision → Type 0
+IsIn k [] = ⊥
+IsIn k (x ∷ xs) = (x ≡ k) ⊎ IsIn k xs
+
+-- a drawn revision: of a node, at most its last time, with a base that its node's head has come to see, of earlier ones, and of others only what they had published
+pub record IsSoundDraw (clusters : ℕ) (past : Past) (o : Revision) (d : Draw) : Type 0 where
+  pub node : IsNode clusters o.cluster
+  pub late : o.time ≤ last_draw_time past o.cluster
+  pub positive : 1 ≤ o.time
+  pub stands : IsTrue (stands_from 1 d.base)
+  pub headed : (x : Revision) → IsTrue (sees d.base x) → IsTrue (sees (head_of clusters past o.cluster) x)
+  pub rises : (x : Revision) → IsTrue (sees d.base x) → IsTrue (is_before x o)
+  pub told : (x : Revision) → IsTrue (sees d.base x) → (x.cluster ≡ o.cluster) ⊎ Public clusters past x
+
+-- what a node has learned: good, of eight entries, not ahead of itself, and of others only what they have published
+pub record IsSoundIn (clusters : ℕ) (past : Past) (k : ℕ) (v : RevVec) : Type 0 where
+  pub good : IsGood past (Seen v)
+  pub eight : length v ≡ 8
+  pub stands : IsTrue (stands_from 1 v)
+  pub own : (x : Revision) → IsTrue (sees v x) → x.cluster ≡ k → IsTrue (is_at_most x (local past k))
+  pub told : (x : Revision) → IsTrue (sees v x) → (x.cluster ≡ k) ⊎ Public clusters past x
+  pub begun : IsTrue (sees v (start_of 1))
+
+-- a vector that is held: good, with its entries at their nodes, and it sees the start
+pub record IsHeld (past : Past) (v : RevVec) : Type 0 where
+  pub good : IsGood past (Seen v)
+  pub stands : IsTrue (stands_from 1 v)
+  pub begun : IsTrue (sees v (start_of 1))
+
+pub record IsSound (clusters : ℕ) (sessions : List ℕ) (past : Past) : Type 0 where
+  pub draws : (o : Revision) (d : Draw) → draw_of past o ≡ Some d → IsSoundDraw clusters past o d
+  pub outs : (k : ℕ) (r : Revision) → IsIn r (outs_of past k) → (r.cluster ≡ k) × IsTrue (is_at_most r (local past k))
+  pub ins : (k : ℕ) → IsNode clusters k → IsSoundIn clusters past k (last_in clusters past k)
+  pub bases : (s : ℕ) (v : RevVec) → base_of past s ≡ Some v → IsHeld past v
+  pub kept : (id : Text) (v : RevVec) → last_checkpoint past id ≡ Some v → IsHeld past v
+  pub headed : (s k : ℕ) (v : RevVec) → slice_get sessions s ≡ Some k → IsFalse (is_attached past s) → base_of past s ≡ Some v → (x : Revision) → IsTrue (sees v x) → IsTrue (sees (head_of clusters past k) x)
+
+-- a new revision, that no base sees; a base that sees the start and nothing in flight
+pub record Begins (past : Past) (d : Draw) : Type 0 where
+  pub fresh : IsFalse (is_drawn past d.revision)
+  pub later : (r : Revision) → IsFalse (is_in_base past r d.revision)
+  pub itself : IsFalse (is_in_base (event.Draw d ∷ past) d.revision d.revision)
+  pub settled : (o : Revision) → IsTrue (is_in_flight past o) → IsFalse (is_in_base (event.Draw d ∷ past) d.revision o)
+  pub start : IsTrue (is_in_base (event.Draw d ∷ past) d.revision (start_of 1))
+  pub started : d.revision ≡ start_of 1 → ⊥

@@ -1,0 +1,6 @@
+pub mod Bases
+pub mod Passing
+pub mod Lasting
+pub mod Saves
+pub mod Views
+pub mod Turns

@@ -1,0 +1,23 @@
+-- Where a session stands between two of its commands.
+use Rattle.std.specs.Prelude.{◌≡◌, ℕ, false, None, IsFalse}
+use Rattle.std.specs.Option.{option_map_or}
+use Rattle.jr_tree.specs.Trees.{Nodes, IsTree}
+use Rattle.jr_tree.specs.Edits.{changes}
+use Rattle.oak_machine.specs.History.{Past}
+use Rattle.oak_machine.specs.Commits.{is_committed}
+use Rattle.oak_machine.specs.Sessions.{is_drawing, drawn_since}
+use Rattle.core_law.specs.State.{Orders, base_tree, pending_of}
+
+-- the tree at its base, and its view, which is that tree with what is pending; nothing of it is in flight, and nothing was committed since its last reply
+pub record IsOver (law : Orders) (past : Past) (s : ℕ) (base view : Nodes) : Type 0 where
+  pub base_is : base ≡ base_tree past s
+  pub pending : pending_of law past s ≡ changes base view
+  pub from : IsTree base
+  pub to : IsTree view
+  pub idle : IsFalse (is_drawing past s)
+  pub uncommitted : IsFalse (option_map_or (is_committed past) (drawn_since past s) false)
+
+-- the same, where nothing was drawn since its last reply
+pub record IsTurn (law : Orders) (past : Past) (s : ℕ) (base view : Nodes) : Type 0 where
+  pub over : IsOver law past s base view
+  pub fresh : drawn_since past s ≡ None

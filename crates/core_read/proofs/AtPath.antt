@@ -1,0 +1,158 @@
+-- What an edit makes of the node at one path.
+use Rattle.std.proofs.Common.{◌≡◌, Bool, true, false, cond, Some, None, Option, List, [], ◌∷◌, refl, sym, ap, ◌∙◌, subst, is_some, IsSome}
+use Rattle.std.specs.Prelude.{not}
+use Rattle.std.specs.Option.{option_and_then, option_map_or, option_map, unwrap_or}
+use Rattle.std.specs.Ordering.{eq_by_cmp}
+use Rattle.std.specs.Cmp.{IsEquivalence}
+use Rattle.std.specs.Map.{lookup, set_value, remove_entry}
+use Rattle.std.specs.BTreeMap.{is_at, insert_entry}
+use Rattle.std.specs.List.{fold, list_any}
+use Rattle.std.specs.FinMap.{is_sorted}
+use Rattle.std.proofs.lemmas.Cmp.{eq_by_cmp_equiv}
+use Rattle.std.proofs.lemmas.Map.{lookup-set_value}
+use mathlib.Core.Bool.{false≢true}
+use Rattle.jr_path.specs.Names.{name_cmp, path_cmp}
+use Rattle.jr_path.specs.declared.name.Name.{Name}
+use Rattle.jr_path.specs.declared.path.Path.{Path}
+use Rattle.jr_path.proofs.Maps.{path_total, lookup-insert_entry}
+use Rattle.jr_value.specs.declared.value.Property.{Property}
+use Rattle.jr_tree.specs.declared.tree.Node.{Node}
+use Rattle.jr_tree.specs.declared.edit.Write.{Write}
+use Rattle.jr_tree.specs.declared.edit.Write.TheVariants.{Here, Gone, Put, Unset}
+use Rattle.jr_tree.specs.Trees.{Nodes, node_at}
+use Rattle.jr_tree.specs.Edits.{with_node_write, with_property_write, applied, last_writes, is_once, is_same_item}
+use Rattle.jr_tree.proofs.Pointwise.{same_path}
+use Rattle.core_read.proofs.Entries.{first, second, sorted_insert, sorted_remove, sorted_set, lookup-remove}
+
+-- what a write of a node makes of the node at p
+abbrev pub come : Path → Option Node → Write → Option Node
+come p o (Here q) = cond (eq_by_cmp path_cmp p q) (Some (unwrap_or o (record { props = [] }))) o
+come p o (Gone q) = cond (eq_by_cmp path_cmp p q) None o
+come p o (Put q m x) = o
+come p o (Unset q m) = o
+
+-- what a write of a property makes of the node at p
+abbrev pub filled : Path → Option Node → Write → Option Node
+filled p o (Here q) = o
+filled p o (Gone q) = o
+filled p o (Put q m x) = cond (eq_by_cmp path_cmp p q) (option_map (λ node. record { props = insert_entry name_cmp node.props m x }) o) o
+filled p o (Unset q m) = cond (eq_by_cmp path_cmp p q) (option_map (λ node. record { props = remove_entry (is_at (name_cmp m)) node.props }) o) o
+
+abbrev pub prop_of : Name → Option Node → Option Property
+prop_of n o = option_and_then (λ node. lookup (is_at (name_cmp n)) node.props) o
+
+abbrev pub InOrder : Nodes → Type 0
+InOrder t = is_sorted path_cmp t ≡ true
+
+same : (p q : Path) → eq_by_cmp path_cmp p q ≡ true → (t : Nodes) → node_at t q ≡ node_at t p
+same p q h t = ap (node_at t) (sym (same_path p q h))
+
+path_ties : IsEquivalence (eq_by_cmp path_cmp)
+path_ties = eq_by_cmp_equiv path_total
+
+come_there : (p q : Path) (t : Nodes) (b c : Bool) → eq_by_cmp path_cmp p q ≡ b → is_some (node_at t q) ≡ c
+    → node_at (cond c t (insert_entry path_cmp t q (record { props = [] }))) p ≡ cond b (Some (unwrap_or (node_at t p) (record { props = [] }))) (node_at t p)
+come_there p q t true true h i = ap (λ (o : Option Node). o) (there (node_at t p) (sym (ap is_some (same p q h t)) ∙ i))
+  where
+    there : (o : Option Node) → is_some o ≡ true → o ≡ Some (unwrap_or o (record { props = [] }))
+    there None e = absurd (false≢true e)
+    there (Some node) e = refl
+come_there p q t true false h i =
+    lookup-insert_entry path_cmp path_total p q (record { props = [] }) t ∙ (ap (λ b. cond b (Some (record { props = [] })) (node_at t p)) h
+    ∙ gone (node_at t p) (sym (ap is_some (same p q h t)) ∙ i))
+  where
+    gone : (o : Option Node) → is_some o ≡ false → Some (record { props = [] }) ≡ Some (unwrap_or o (record { props = [] }))
+    gone None e = refl
+    gone (Some node) e = absurd (false≢true (sym e))
+come_there p q t false true h i = refl
+come_there p q t false false h i = lookup-insert_entry path_cmp path_total p q (record { props = [] }) t ∙ ap (λ b. cond b (Some (record { props = [] })) (node_at t p)) h
+
+pub node_at-come : (t : Nodes) → InOrder t → (w : Write) (p : Path) → node_at (with_node_write t w) p ≡ come p (node_at t p) w
+node_at-come t s (Here q) p = come_there p q t _ _ refl refl
+node_at-come t s (Gone q) p = lookup-remove path_cmp path_total p q t s
+node_at-come t s (Put q m x) p = refl
+node_at-come t s (Unset q m) p = refl
+
+pub order-come : (t : Nodes) → InOrder t → (w : Write) → InOrder (with_node_write t w)
+order-come t s (Here q) = by (is_some (node_at t q))
+  where
+    by : (b : Bool) → InOrder (cond b t (insert_entry path_cmp t q (record { props = [] })))
+    by true = s
+    by false = sorted_insert path_cmp path_total q _ t s
+order-come t s (Gone q) = sorted_remove path_cmp _ t s
+order-come t s (Put q m x) = s
+order-come t s (Unset q m) = s
+
+-- a node that is there is changed in place
+changed_there : (f : Node → Node) (t : Nodes) (p q : Path) (o : Option Node) → node_at t q ≡ o
+    → node_at (option_map_or (λ node. set_value (is_at (path_cmp q)) t (f node)) o t) p ≡ cond (eq_by_cmp path_cmp p q) (option_map f (node_at t p)) (node_at t p)
+changed_there f t p q None h = by (eq_by_cmp path_cmp p q) refl
+  where
+    by : (b : Bool) → eq_by_cmp path_cmp p q ≡ b → node_at t p ≡ cond b (option_map f (node_at t p)) (node_at t p)
+    by true e = let none : node_at t p ≡ None = sym (same p q e t) ∙ h in none ∙ ap (option_map f) (sym none)
+    by false e = refl
+changed_there f t p q (Some node) h = lookup-set_value path_ties (is_at (path_cmp q)) one p (f node) t (subst IsSome (sym h) refl) ∙ by (eq_by_cmp path_cmp p q) refl
+  where
+    one : (a b : Path) → eq_by_cmp path_cmp q a ≡ true → eq_by_cmp path_cmp q b ≡ eq_by_cmp path_cmp a b
+    one a b e = ap (λ c. eq_by_cmp path_cmp c b) (same_path q a e)
+
+    turned : eq_by_cmp path_cmp q p ≡ eq_by_cmp path_cmp p q
+    turned = path_ties.symm q p
+
+    by : (b : Bool) → eq_by_cmp path_cmp p q ≡ b → cond (eq_by_cmp path_cmp q p) (Some (f node)) (node_at t p) ≡ cond b (option_map f (node_at t p)) (node_at t p)
+    by true e = ap (λ b. cond b (Some (f node)) (node_at t p)) (turned ∙ e) ∙ ap (option_map f) (sym (sym (same p q e t) ∙ h))
+    by false e = ap (λ b. cond b (Some (f node)) (node_at t p)) (turned ∙ e)
+
+pub node_at-filled : (t : Nodes) (w : Write) (p : Path) → node_at (with_property_write t w) p ≡ filled p (node_at t p) w
+node_at-filled t (Here q) p = refl
+node_at-filled t (Gone q) p = refl
+node_at-filled t (Put q m x) p = changed_there (λ node. record { props = insert_entry name_cmp node.props m x }) t p q (node_at t q) refl
+node_at-filled t (Unset q m) p = changed_there (λ node. record { props = remove_entry (is_at (name_cmp m)) node.props }) t p q (node_at t q) refl
+
+pub order-filled : (t : Nodes) → InOrder t → (w : Write) → InOrder (with_property_write t w)
+order-filled t s (Here q) = s
+order-filled t s (Gone q) = s
+order-filled t s (Put q m x) = by (node_at t q)
+  where
+    by : (o : Option Node) → InOrder (option_map_or (λ node. set_value (is_at (path_cmp q)) t (record { props = insert_entry name_cmp node.props m x })) o t)
+    by None = s
+    by (Some node) = sorted_set path_cmp _ _ t s
+order-filled t s (Unset q m) = by (node_at t q)
+  where
+    by : (o : Option Node) → InOrder (option_map_or (λ node. set_value (is_at (path_cmp q)) t (record { props = remove_entry (is_at (name_cmp m)) node.props })) o t)
+    by None = s
+    by (Some node) = sorted_set path_cmp _ _ t s
+
+pub order-comes : (t : Nodes) (ws : List Write) → InOrder t → InOrder (fold with_node_write t ws)
+order-comes t [] s = s
+order-comes t (w ∷ ws) s = order-comes (with_node_write t w) ws (order-come t s w)
+
+pub order-fills : (t : Nodes) (ws : List Write) → InOrder t → InOrder (fold with_property_write t ws)
+order-fills t [] s = s
+order-fills t (w ∷ ws) s = order-fills (with_property_write t w) ws (order-filled t s w)
+
+pub node_at-comes : (p : Path) (t : Nodes) (ws : List Write) → InOrder t → node_at (fold with_node_write t ws) p ≡ fold (come p) (node_at t p) ws
+node_at-comes p t [] s = refl
+node_at-comes p t (w ∷ ws) s = node_at-comes p (with_node_write t w) ws (order-come t s w) ∙ ap (λ (o : Option Node). fold (come p) o ws) (node_at-come t s w p)
+
+pub node_at-fills : (p : Path) (t : Nodes) (ws : List Write) → node_at (fold with_property_write t ws) p ≡ fold (filled p) (node_at t p) ws
+node_at-fills p t [] = refl
+node_at-fills p t (w ∷ ws) = node_at-fills p (with_property_write t w) ws ∙ ap (λ (o : Option Node). fold (filled p) o ws) (node_at-filled t w p)
+
+-- an edit without two writes of an item is its own last writes
+pub last_once : (ws : List Write) → is_once ws ≡ true → last_writes ws ≡ ws
+last_once [] h = refl
+last_once (w ∷ ws) h =
+    (elim (list_any (is_same_item w) ws) as (λ b. not b ≡ true → cond b (last_writes ws) (w ∷ last_writes ws) ≡ w ∷ ws) [
+      | true ↦ λ e. absurd (false≢true e)
+      | false ↦ λ e. ap (λ (rest : List Write). w ∷ rest) (last_once ws (second _ _ h))
+    ]) (first _ _ h)
+
+-- the node at a path after an edit hangs on the node there before
+pub node_at-applied : (p : Path) (t : Nodes) (ws : List Write) → InOrder t → is_once ws ≡ true → node_at (applied t ws) p ≡ fold (filled p) (fold (come p) (node_at t p) ws) ws
+node_at-applied p t ws s h =
+    ap (λ (us : List Write). node_at (fold with_property_write (fold with_node_write t us) us) p) (last_once ws h)
+    ∙ (node_at-fills p (fold with_node_write t ws) ws ∙ ap (λ (o : Option Node). fold (filled p) o ws) (node_at-comes p t ws s))
+
+pub order-applied : (t : Nodes) (ws : List Write) → InOrder t → InOrder (applied t ws)
+order-applied t ws s = order-fills _ (last_writes ws) (order-comes t (last_writes ws) s)

@@ -1,0 +1,104 @@
+//! The plan of a commit: the marks that an edit makes.
+#![tactic(auto)]
+
+ghost use Rattle.std.specs.Prelude.{◌≡◌, [], IfOk, OnOk};
+ghost use Rattle.oak_machine.specs.Marks.{marks_for, marks_of_node, marks_of_write, with_marks};
+
+use jr_path::{DeepCopy, Keyed, List, Path};
+use jr_tree::{Edit, Write};
+use oak_clash::{Mark, MarkAt};
+use std::alloc::{AllocError, Global};
+
+/// The marks of an edit, each once, in path order and at one path in the order of marks: Exists of a node that comes or
+/// goes and Touch of its parent, Prop of a property that is written.
+pub fn marks_of(alloc: Global, edit: &Edit) -> Result<List<MarkAt>, AllocError>
+    ensures { IfOk result (λ marks. marks ≡ marks_for [] edit.now.writes) }
+{
+    let mut found = Keyed::new(alloc);
+    for write in edit.writes.inner() {
+        note_write(&mut found, write)?;
+    }
+    let mut marks = List::new(alloc);
+    for (mark, _) in found.into_inner() {
+        marks.push(mark)?;
+    }
+    Ok(marks)
+}
+
+// Notes the marks for which a write is the cause.
+fn note_write(found: &mut Keyed<MarkAt, bool>, write: &Write) -> Result<(), AllocError>
+    ensures { OnOk result (found.new ≡ with_marks found.old (marks_of_write write.now)) }
+{
+    match write {
+        Write::Here(path) | Write::Gone(path) => note_node(found, path),
+        Write::Put(path, name, _) | Write::Unset(path, name) => found.put(
+            MarkAt {
+                path: path.copy()?,
+                mark: Mark::Prop(name.copy()?),
+            },
+            true,
+        ),
+    }
+}
+
+// Notes the marks of a node that comes or goes.
+fn note_node(found: &mut Keyed<MarkAt, bool>, path: &Path) -> Result<(), AllocError>
+    ensures { OnOk result (found.new ≡ with_marks found.old (marks_of_node path.now)) }
+{
+    found.put(
+        MarkAt {
+            path: path.copy()?,
+            mark: Mark::Exists,
+        },
+        true,
+    )?;
+    if let Some(parent) = path.parent()? {
+        found.put(
+            MarkAt {
+                path: parent,
+                mark: Mark::Touch,
+            },
+            true,
+        )?;
+    }
+    Ok(())
+}
+
+#[cfg(test)]
+mod tests {
+    use super::*;
+    use jr_path::{Name, PathFault};
+    use jr_value::{Property, Value};
+    use std::test::Fail;
+
+    // The nodes `/a` and `/a/b` come, and a property of `/a` is put.
+    fn edit(alloc: Global) -> Result<Edit, PathFault> {
+        let five = Property::Single(Value::Long(5));
+        let a = Path::parse(alloc, "/a")?;
+        let b = Path::parse(alloc, "/a/b")?;
+        let mut writes = List::new(alloc);
+        writes.push(Write::Here(b))?;
+        writes.push(Write::Put(a.copy()?, Name::parse(alloc, "p")?, five))?;
+        writes.push(Write::Here(a))?;
+        Ok(Edit { writes })
+    }
+
+    #[test]
+    fn marks_of_two_nodes(rt: HostRuntime) -> Result<(), Fail> {
+        let alloc = rt.alloc();
+        let marks = marks_of(alloc, &edit(alloc)?)?;
+        let rows = [
+            ("/", Mark::Touch),
+            ("/a", Mark::Exists),
+            ("/a", Mark::Touch),
+            ("/a", Mark::Prop(Name::parse(alloc, "p")?)),
+            ("/a/b", Mark::Exists),
+        ];
+        assert_eq!(rt; marks.inner().len(), rows.len());
+        for (found, (path, mark)) in marks.inner().iter().zip(&rows) {
+            assert_eq!(rt; found.path.text()?.as_str(), *path);
+            assert!(rt; found.mark == *mark);
+        }
+        Ok(())
+    }
+}
