@@ -1,0 +1,17 @@
+pub mod Additions
+pub mod Begins
+pub mod Calls
+pub mod Flights
+pub mod Ids
+pub mod Keeping
+pub mod Lawful
+pub mod Made
+pub mod Notes
+pub mod Pasts
+pub mod Resting
+pub mod Saves
+pub mod Stored
+pub mod Tables
+pub mod Times
+pub mod Whole
+pub mod Writing

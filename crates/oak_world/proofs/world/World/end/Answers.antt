@@ -1,0 +1,9 @@
+use Rattle.std.proofs.Common.{rules, ◌≡◌, true, is_some}
+use Rattle.oak_node.specs.Pins.{pin_of}
+use Rattle.oak_world.proofs.Calls.{end_call}
+use Rattle.oak_world.proofs.world.World.end.Goals as goal
+
+pub invariant_of-self-2 : goal.invariant_of-self-2
+invariant_of-self-2 g c =
+    let some : is_some (pin_of c.self.inside.node 0) ≡ true = search rules in
+    end_call (g.L.Law.may_start c.self.inside.law) (g.L.Law.may_say c.self.inside.law) (g.L.Law.proper c.self.inside.law) c.self.inside.journal c.self.inside.table c.self.inside.node c.self.invariant.0 c.self.invariant.1 c.push.new.self c.unpin.new.self some c.in_ok-push.ensures.ok c.unpin.ensures

@@ -1,0 +1,9 @@
+//! The store, the memory of a cluster node and the journal together, step by step. Today there is one cluster node, and at
+//! most one session.
+#![tactic(auto)]
+
+mod commit;
+mod start;
+mod world;
+
+pub use world::World;

@@ -1,0 +1,96 @@
+// The documents before any step.
+ghost use Rattle.std.specs.Prelude.{◌≡◌, [], ◌∷◌, IfOk};
+ghost use Rattle.jr_rev.specs.Vectors.{start_of};
+ghost use Rattle.oak_world.specs.Worlds.{start_document, start_documents, start_root, start_settings, system_path, versions_path};
+
+use jr_path::{DocId, Keyed, Name, Path};
+use jr_rev::{RevVec, Revision};
+use jr_value::{Property, Value};
+use oak_doc::Document;
+use std::alloc::{AllocError, Global};
+
+// The four documents of the start, in store order.
+pub(crate) fn start_documents(alloc: Global, sessions: u32) -> Result<Vec<Document>, AllocError>
+    ensures { IfOk result (λ documents. documents.items ≡ start_documents sessions) }
+{
+    let system = system_path(alloc)?;
+    let versions = versions_path(alloc)?;
+    let mut documents = Vec::new(alloc);
+    documents.push(start_root(alloc)?)?;
+    documents.push(start_document(alloc, system, "rep:system", 2)?)?;
+    documents.push(start_document(alloc, versions, "rep:versionStorage", 3)?)?;
+    documents.push(start_settings(alloc, sessions))?;
+    Ok(documents)
+}
+
+fn system_path(alloc: Global) -> Result<Path, AllocError>
+    ensures { IfOk result (λ path. path ≡ system_path) }
+{
+    Path::root(alloc).child(&plain_name(alloc, "jcr:system")?)
+}
+
+fn versions_path(alloc: Global) -> Result<Path, AllocError>
+    ensures { IfOk result (λ path. path ≡ versions_path) }
+{
+    system_path(alloc)?.child(&plain_name(alloc, "jcr:versionStorage")?)
+}
+
+fn start_root(alloc: Global) -> Result<Document, AllocError>
+    ensures { IfOk result (λ document. document ≡ start_root) }
+{
+    let mut root = start_document(alloc, Path::root(alloc), "nt:unstructured", 1)?;
+    root.last_rev = RevVec::start(1);
+    root.sweep_rev = RevVec::start(1);
+    Ok(root)
+}
+
+fn start_settings(alloc: Global, sessions: u32) -> Document
+    ensures { result ≡ start_settings sessions }
+{
+    let mut settings = Document::empty(alloc, DocId::Settings);
+    settings.mod_count = 4;
+    settings.sessions = sessions;
+    settings
+}
+
+// The document of a node with its primary type alone, at the revision of the start.
+fn start_document(
+    alloc: Global,
+    path: Path,
+    kind: &str,
+    number: u64,
+) -> Result<Document, AllocError>
+    ensures { IfOk result (λ document. document ≡ start_document path kind.now number) }
+{
+    let mut document = Document::empty(alloc, DocId::Node(path));
+    document.mod_count = number;
+    document.deleted = at_start(alloc, false)?;
+    let kind = Property::Single(Value::Name(plain_name(alloc, kind)?));
+    let name = plain_name(alloc, "jcr:primaryType")?;
+    document.props.put(name, at_start(alloc, Some(kind))?)?;
+    Ok(document)
+}
+
+// A value at the revision of the start.
+fn at_start<T: Drop>(alloc: Global, value: T) -> Result<Keyed<Revision, T>, AllocError>
+    ensures { IfOk result (λ entries. entries ≡ (start_of 1, value) ∷ []) }
+{
+    let start = Revision {
+        time: 0,
+        counter: 0,
+        cluster: 1,
+    };
+    let mut entries = Keyed::new(alloc);
+    entries.put(start, value)?;
+    Ok(entries)
+}
+
+// A name of the repository's own, which is in the grammar of names.
+fn plain_name(alloc: Global, text: &str) -> Result<Name, AllocError>
+    ensures { IfOk result (λ name. name ≡ text.now) }
+{
+    match Name::parse(alloc, text) {
+        Ok(name) => Ok(name),
+        Err(_) => Err(AllocError),
+    }
+}
