@@ -1,0 +1,93 @@
+//! The reply lines of a journal.
+#![tactic(auto)]
+
+ghost use Rattle.std.specs.Prelude.{◌≡◌, ◌++◌, IfOk, OnOk};
+ghost use Rattle.std.specs.String.{string_bytes};
+ghost use Rattle.jr_print.specs.Replies.{reply_text, reply_line, line_of, lines_of};
+
+use jr_path::Text;
+use oak_machine::{Event, Journal};
+use std::alloc::{AllocError, Global};
+
+/// The reply lines of a journal: the number of the session, the index of its command and the reply's text, separated by a
+/// space. They stand by session, and those of a session in the order in which they were said.
+#[tactic(auto, using(crate::proofs::More::flat_map_more))]
+pub fn lines(alloc: Global, journal: &Journal) -> Result<Vec<u8>, AllocError>
+    ensures { IfOk result (λ text. text.items ≡ reply_text journal.now) }
+{
+    let mut text = Vec::new(alloc);
+    for session in 0..journal.sessions.inner().len() {
+        put_lines(alloc, &mut text, session, journal.events.inner().as_slice())?;
+    }
+    Ok(text)
+}
+
+// Appends the lines of a session.
+fn put_lines(
+    alloc: Global,
+    out: &mut Vec<u8>,
+    session: usize,
+    events: &[Event],
+) -> Result<(), AllocError>
+    ensures { OnOk result (out.new.items ≡ out.old.items ++ lines_of events.now session) }
+{
+    for event in events {
+        put_event(alloc, out, session, event)?;
+    }
+    Ok(())
+}
+
+// Appends the line of an event, where it is a reply of the session.
+fn put_event(
+    alloc: Global,
+    out: &mut Vec<u8>,
+    session: usize,
+    event: &Event,
+) -> Result<(), AllocError>
+    ensures { OnOk result (out.new.items ≡ out.old.items ++ line_of session event.now) }
+{
+    let Event::Said(of, index, text) = event else {
+        return Ok(());
+    };
+    if *of as usize == session {
+        let line = line(alloc, *of, *index, text)?;
+        out.extend_from_slice(line.as_bytes())?;
+    }
+    Ok(())
+}
+
+// The line of a reply.
+fn line(alloc: Global, session: u32, index: u32, text: &Text) -> Result<String, AllocError>
+    ensures { IfOk result (λ line. string_bytes line ≡ reply_line session index text.now) }
+{
+    let text = text.as_str();
+    Ok(format!(in alloc; "{session} {index} {text}\n")?)
+}
+
+#[cfg(test)]
+mod tests {
+    use super::*;
+    use jr_path::List;
+    use std::test::Fail;
+
+    #[test]
+    fn replies_of_two_sessions(rt: HostRuntime) -> Result<(), Fail> {
+        let alloc = rt.alloc();
+        let mut sessions = List::new(alloc);
+        sessions.push(1)?;
+        sessions.push(1)?;
+        let mut events = List::new(alloc);
+        for (session, index, text) in [(1, 0, "ok"), (0, 0, "ok [\"a\"]"), (1, 1, "no 16 []")] {
+            let text = Text::copy_of(alloc, text)?;
+            events.push(Event::Said(session, index, text))?;
+        }
+        let journal = Journal {
+            clusters: 1,
+            sessions,
+            events,
+        };
+        let want = "0 0 ok [\"a\"]\n1 0 ok\n1 1 no 16 []\n";
+        assert_eq!(rt; lines(alloc, &journal)?.as_slice(), want.as_bytes());
+        Ok(())
+    }
+}

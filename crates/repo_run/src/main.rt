@@ -1,0 +1,46 @@
+//! The program: reads a script, runs it, prints the replies.
+#![tactic(auto)]
+
+mod session;
+mod status;
+#[cfg(test)]
+mod tests;
+mod top;
+mod words;
+
+use jr_io::{StdSink, StdSource};
+use std::alloc::AllocError;
+use std::env::Env;
+use std::process::ExitCode;
+use std::{env, io};
+
+// The words behind the program's name.
+fn words_of<R: Env + Alloc>(rt: &R) -> io::Result<Vec<String<R::A>, R::A>> {
+    let mut words = Vec::new(rt.alloc());
+    for word in env::args(rt)?.skip(1) {
+        if words.push(word).is_err() {
+            return Err(io::Error::from(AllocError));
+        }
+    }
+    Ok(words)
+}
+
+// Words that are no text have no meaning.
+fn main(rt: HostRuntime) -> ExitCode {
+    let words = match words_of(&rt) {
+        Ok(words) => words,
+        Err(_) => Vec::new(rt.alloc()),
+    };
+    let mut source = StdSource::new(rt.reader());
+    let mut sink = StdSink::new(io::writer(&rt));
+    let mut left = None;
+    let status = top::repo_main(
+        &rt,
+        rt.alloc(),
+        words.as_slice(),
+        &mut source,
+        &mut sink,
+        &mut left,
+    );
+    ExitCode::from(status.code())
+}

@@ -1,0 +1,167 @@
+use crate::status::Status;
+use crate::top::steps_main;
+use jcr_session::JcrLaw;
+use jr_io::{MemSink, MemSource};
+use jr_rev::RevVec;
+use oak_doc::Document;
+use oak_machine::{Event, StepKind};
+use oak_world::World;
+use std::alloc::{AllocError, Global};
+use std::test::Fail;
+
+const FIRST: &str =
+    r#"{"sessions":[{"commands":[["add","/a"],["set","/a","p",5],["save"],["get","/a/p"],["list","/"]]}]}"#;
+
+const REPLIES: &str =
+    "0 0 ok\n0 1 ok\n0 2 ok \"r1-0-1\"\n0 3 ok 5\n0 4 ok [\"a\",\"jcr:system\"]\n";
+
+// The status, the bytes written, and the world that is left, for a word, an input and the calls that fail.
+fn run(
+    alloc: Global,
+    word: &str,
+    input: &str,
+    read_fails: &[u64],
+    write_fails: &[u64],
+) -> Result<(Status, MemSink, Option<World<JcrLaw>>), Fail> {
+    let mut words = Vec::new(alloc);
+    words.push(String::from_str(alloc, word)?)?;
+    let bytes = Vec::from_slice(alloc, input.as_bytes())?;
+    let mut source = MemSource::new(bytes, 7, Vec::from_slice(alloc, read_fails)?);
+    let mut sink = MemSink::new(alloc, 1000, 64, Vec::from_slice(alloc, write_fails)?)?;
+    let mut left = None;
+    let status = steps_main(alloc, words.as_slice(), &mut source, &mut sink, &mut left);
+    Ok((status, sink, left))
+}
+
+#[test]
+fn statuses_and_what_is_written(rt: HostRuntime) -> Result<(), Fail> {
+    let alloc = rt.alloc();
+    let rows: [(&str, &str, &[u64], &[u64], Status, &str); 8] = [
+        ("steps", FIRST, &[], &[], Status::Done, REPLIES),
+        ("steps", r#"{"sessions":[]}"#, &[], &[], Status::Done, ""),
+        ("Steps", FIRST, &[0], &[], Status::Words, "bad words\n"),
+        (
+            "steps",
+            "{}",
+            &[],
+            &[],
+            Status::Script,
+            "bad script 0 \"\"\n",
+        ),
+        ("steps", FIRST, &[2], &[], Status::ReadFault, "read fault\n"),
+        ("steps", FIRST, &[2], &[0], Status::WriteFault, ""),
+        (
+            "steps",
+            FIRST,
+            &[],
+            &[1],
+            Status::WriteFault,
+            &REPLIES[..64],
+        ),
+        ("steps", FIRST, &[], &[2], Status::WriteFault, REPLIES),
+    ];
+    for (word, input, read_fails, write_fails, status, written) in rows {
+        let (found, sink, left) = run(alloc, word, input, read_fails, write_fails)?;
+        assert_eq!(rt; found, status);
+        assert_eq!(rt; sink.written(), written.as_bytes());
+        let ran = written.is_empty() || written.starts_with("0 0");
+        assert_eq!(rt; left.is_some(), ran && read_fails.is_empty());
+    }
+    Ok(())
+}
+
+// The time of a vector's one revision, or `-`.
+fn vector_text(alloc: Global, vector: &RevVec) -> Result<String, AllocError> {
+    match vector.get(1) {
+        Some(r) => Ok(format!(in alloc; "{}", r.time)?),
+        None => String::from_str(alloc, "-"),
+    }
+}
+
+// A document: its id, its number, `_lastRev`, `_sweepRev` and `_sessions`; then its entries, each with the time of its
+// revision, all of which are of cluster node 1; then how many entries the other fields have.
+fn shown(alloc: Global, document: &Document) -> Result<String, Fail> {
+    let id = document.id.text(alloc)?;
+    let last = vector_text(alloc, &document.last_rev)?;
+    let sweep = vector_text(alloc, &document.sweep_rev)?;
+    let number = document.mod_count;
+    let sessions = document.sessions;
+    let mut text = format!(in alloc; "{id} {number} {last} {sweep} {sessions}:")?;
+    for (r, deleted) in document.deleted.iter() {
+        text.push_str(format!(in alloc; " _deleted {}={deleted}", r.time)?.as_str())?;
+    }
+    for (r, depth) in document.commit_root.iter() {
+        text.push_str(format!(in alloc; " _commitRoot {}={depth}", r.time)?.as_str())?;
+    }
+    for (r, _) in document.revisions.iter() {
+        text.push_str(format!(in alloc; " _revisions {}", r.time)?.as_str())?;
+    }
+    for (r, _) in document.touched.iter() {
+        text.push_str(format!(in alloc; " _touched {}", r.time)?.as_str())?;
+    }
+    for (name, values) in document.props.iter() {
+        let name = name.as_str();
+        for (r, value) in values.iter() {
+            let json = match value {
+                Some(property) => property.json_text(alloc)?,
+                None => String::from_str(alloc, "null")?,
+            };
+            text.push_str(format!(in alloc; " p:{name} {}={json}", r.time)?.as_str())?;
+        }
+    }
+    let others = [
+        document.collisions.len(),
+        document.guard.len(),
+        document.prev.inner().len(),
+        document.checkpoints.len(),
+        document.readers.len(),
+    ];
+    text.push_str(format!(in alloc; " {others:?}")?.as_str())?;
+    Ok(text)
+}
+
+fn name_of(event: &Event) -> &'static str {
+    match event {
+        Event::Login(0, _) => "Login",
+        Event::Draw(_) => "Draw",
+        Event::Went(0, StepKind::Write) => "Write",
+        Event::Commit(_) => "Commit",
+        Event::End(_) => "End",
+        Event::Head(1, _) => "Head",
+        Event::Refresh(0, _) => "Refresh",
+        Event::Said(0, _, _) => "Said",
+        Event::Went(0, StepKind::End) => "Left",
+        _ => "another",
+    }
+}
+
+#[test]
+fn documents_of_the_first_example(rt: HostRuntime) -> Result<(), Fail> {
+    let alloc = rt.alloc();
+    let (_, _, left) = run(alloc, "steps", FIRST, &[], &[])?;
+    let Some(world) = left else {
+        return Err(AllocError.into());
+    };
+    let rows = [
+        "0:/ 7 0 0 0: _deleted 0=false _revisions 1 _touched 1 p:jcr:primaryType 0={\"name\":\"nt:unstructured\"} [0, 0, 0, 0, 0]",
+        "1:/a 6 - - 0: _deleted 1=false _commitRoot 1=0 p:jcr:primaryType 1={\"name\":\"nt:unstructured\"} p:p 1=5 [0, 0, 0, 0, 0]",
+        "1:/jcr:system 2 - - 0: _deleted 0=false p:jcr:primaryType 0={\"name\":\"rep:system\"} [0, 0, 0, 0, 0]",
+        "2:/jcr:system/jcr:versionStorage 3 - - 0: _deleted 0=false p:jcr:primaryType 0={\"name\":\"rep:versionStorage\"} [0, 0, 0, 0, 0]",
+        "settings 4 - - 1: [0, 0, 0, 0, 0]",
+    ];
+    let documents = world.documents().documents();
+    assert_eq!(rt; documents.len(), rows.len());
+    for ((_, document), row) in documents.iter().zip(rows) {
+        assert_eq!(rt; shown(alloc, document)?.as_str(), row);
+    }
+    let steps = [
+        "Login", "Said", "Said", "Draw", "Write", "Write", "Commit", "End", "Head", "Refresh",
+        "Said", "Said", "Said", "Left",
+    ];
+    let events = world.journal().events.inner();
+    assert_eq!(rt; events.len(), steps.len());
+    for (event, step) in events.iter().zip(steps) {
+        assert_eq!(rt; name_of(event), step);
+    }
+    Ok(())
+}
