@@ -5,9 +5,10 @@ ghost use Rattle.std.specs.String.{string_bytes};
 ghost use Rattle.jr_path.specs.Names.{parent_of, last_name, is_under};
 ghost use Rattle.jr_path.specs.Ids.{path_text, id_text, node_cmp as node_order};
 ghost use Rattle.jr_path.specs.Grammar.{IsName};
-ghost use Rattle.jr_path.specs.Paths.{IsPath, Measures, RefusesPath};
+ghost use Rattle.jr_path.specs.Paths.{IsPath, Measures, RefusesPath, RefusesText};
 
 use crate::cursor::text_cmp;
+use crate::path_text::read_unlimited;
 use crate::{DeepCopy, Name, PathFault, PathText};
 use std::alloc::{AllocError, Global};
 use std::cmp::Ordering;
@@ -55,6 +56,15 @@ impl Path {
             PathText::TooDeep(depth) => Err(PathFault::TooDeep(depth)),
             PathText::TooLong(bytes) => Err(PathFault::TooLong(bytes)),
         }
+    }
+
+    /// Reads a path of any number of names and any length: `/`, or names each after a `/`. `BadPath` has the
+    /// offset of the first byte that no path's text has there, or the text's length.
+    pub fn parse_unlimited(alloc: Global, text: &str) -> Result<Path, PathFault>
+        ensures path { IfOk result (IsPath text.now) }
+        ensures fault { IfErr result (RefusesText text.now) }
+    {
+        read_unlimited(alloc, text)
     }
 
     /// Every name of a path is in the grammar, and so is its text. It does nothing: callers learn the facts.

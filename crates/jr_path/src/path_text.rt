@@ -46,6 +46,17 @@ impl PathText {
     }
 }
 
+// The path of a text, however long, or where the text's first fault is.
+pub(crate) fn read_unlimited(alloc: Global, text: &str) -> Result<Path, PathFault>
+    ensures path { IfOk result (IsPath text.now) }
+    ensures fault { IfErr result (RefusesText text.now) }
+{
+    if let Err(offset) = depth_of(text) {
+        return Err(PathFault::BadPath(offset));
+    }
+    Ok(path_of(alloc, text)?)
+}
+
 impl DeepCopy for PathText {
     fn copy(&self) -> Result<PathText, AllocError> {
         match self {
