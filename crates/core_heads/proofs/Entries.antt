@@ -1,10 +1,11 @@
 -- What a vector sees after one entry is set.
 use Rattle.oak_machine.specs.Runs.{IsNode}
-use Rattle.std.proofs.Common.{◌≡◌, ℕ, ◌<◌, ◌≤◌, ◌-◌, zero, suc, Bool, true, false, cond, not, ◌||◌, ◌⊎◌, inl, inr, Some, None, Option, [], ◌∷◌, length, refl, sym, ap, subst, ◌∙◌, arith}
-use Rattle.std.specs.Prelude.{◌==◌, nat_le, slice_get, slice_set, max}
+use Rattle.std.proofs.Common.{◌≡◌, ℕ, ◌<◌, ◌≤◌, ◌-◌, zero, suc, Bool, true, false, cond, not, ◌||◌, ◌⊎◌, inl, inr, Some, None, Option, List, [], ◌∷◌, length, refl, sym, ap, subst, ◌∙◌, arith}
+use Rattle.std.specs.Prelude.{◌==◌, nat_le, slice_get, slice_set, max, unwrap_or}
 use Rattle.std.specs.List.{fold}
 use Rattle.std.specs.Option.{option_map_or, option_flatten}
 use Rattle.std.proofs.lemmas.Bool.Decides.{nat_tests}
+use Rattle.std.proofs.lemmas.Option.{slice_get_within}
 use mathlib.Core.Bool.{false≢true}
 use Rattle.jr_rev.specs.declared.revision.Revision.{Revision}
 use Rattle.jr_rev.specs.declared.vector.RevVec.{RevVec}
@@ -87,21 +88,34 @@ seen_own v r o low high eight same h = subst (λ (k : ℕ). option_map_or (is_at
     at zero e = absurd (omega arith)
     at (suc k) e = let i : r.cluster - 1 ≡ k = omega arith in entry_at (with_entry v r) k ∙ ap option_flatten (subst (λ (j : ℕ). slice_get (with_entry v r) j ≡ Some (Some r)) i (set_there v (r.cluster - 1) (Some r) (omega arith)))
 
-max_first : (t : ℕ) (v : Entries) → t ≤ fold (λ t e. max t (option_map_or (λ (r : Revision). r.time) e 0)) t v
-max_first t [] = omega arith
-max_first t (e ∷ v) = let rest = max_first (max t (option_map_or (λ (r : Revision). r.time) e 0)) v in omega arith
+max_first : (v : Entries) (t : ℕ) (ks : List ℕ) → t ≤ fold (λ t k. max t (option_map_or (λ (r : Revision). r.time) (entry v k) 0)) t ks
+max_first v t [] = omega arith
+max_first v t (k ∷ ks) = let rest = max_first v (max t (option_map_or (λ (r : Revision). r.time) (entry v k) 0)) ks in omega arith
 
-max_each : (t : ℕ) (v : Entries) (i : ℕ) (e : Revision) → slice_get v i ≡ Some (Some e) → e.time ≤ fold (λ t e. max t (option_map_or (λ (r : Revision). r.time) e 0)) t v
-max_each t [] i e h = absurd (false≢true (ap Rattle.std.specs.Prelude.is_some h))
-max_each t (f ∷ v) zero e h =
-    let rest = max_first (max t (option_map_or (λ (r : Revision). r.time) f 0)) v in
-    let here = ap (λ (x : Option (Option Revision)). option_map_or (λ (r : Revision). r.time) (option_flatten x) 0) h in
+max_each : (v : Entries) (t : ℕ) (ks : List ℕ) (i k : ℕ) (e : Revision) → slice_get ks i ≡ Some k → entry v k ≡ Some e → e.time ≤ fold (λ t k. max t (option_map_or (λ (r : Revision). r.time) (entry v k) 0)) t ks
+max_each v t [] i k e at h = absurd (false≢true (ap Rattle.std.specs.Prelude.is_some at))
+max_each v t (j ∷ ks) zero k e at h =
+    let rest = max_first v (max t (option_map_or (λ (r : Revision). r.time) (entry v j) 0)) ks in
+    let same : j ≡ k = ap (λ (x : Option ℕ). unwrap_or x j) at in
+    let here : option_map_or (λ (r : Revision). r.time) (entry v j) 0 ≡ e.time = ap (λ (n : ℕ). option_map_or (λ (r : Revision). r.time) (entry v n) 0) same ∙ ap (λ (x : Option Revision). option_map_or (λ (r : Revision). r.time) x 0) h in
     omega arith
-max_each t (f ∷ v) (suc i) e h = max_each (max t (option_map_or (λ (r : Revision). r.time) f 0)) v i e h
+max_each v t (j ∷ ks) (suc i) k e at h = max_each v (max t (option_map_or (λ (r : Revision). r.time) (entry v j) 0)) ks i k e at h
 
--- what a vector sees isn't later than its greatest time
-pub seen_time : (v : Entries) (o : Revision) → sees v o ≡ true → o.time ≤ greatest_time v
-seen_time v o h = by o.cluster (entry v o.cluster) refl refl h
+-- the cluster nodes 1 to 8, by their places
+numbered : (i : ℕ) → i < 8 → slice_get (1 ∷ 2 ∷ 3 ∷ 4 ∷ 5 ∷ 6 ∷ 7 ∷ 8 ∷ []) i ≡ Some (suc i)
+numbered zero h = refl
+numbered (suc zero) h = refl
+numbered (suc (suc zero)) h = refl
+numbered (suc (suc (suc zero))) h = refl
+numbered (suc (suc (suc (suc zero)))) h = refl
+numbered (suc (suc (suc (suc (suc zero))))) h = refl
+numbered (suc (suc (suc (suc (suc (suc zero)))))) h = refl
+numbered (suc (suc (suc (suc (suc (suc (suc zero))))))) h = refl
+numbered (suc (suc (suc (suc (suc (suc (suc (suc i)))))))) h = absurd (omega (arith, h))
+
+-- what a vector of eight entries sees isn't later than its greatest time
+pub seen_time : (v : Entries) (o : Revision) → length v ≡ 8 → sees v o ≡ true → o.time ≤ greatest_time v
+seen_time v o eight h = by o.cluster (entry v o.cluster) refl refl h
   where
     flat : (x : Option (Option Revision)) (e : Revision) → option_flatten x ≡ Some e → x ≡ Some (Some e)
     flat None e h = absurd (false≢true (ap Rattle.std.specs.Prelude.is_some h))
@@ -111,7 +125,11 @@ seen_time v o h = by o.cluster (entry v o.cluster) refl refl h
     by : (k : ℕ) (x : Option Revision) → o.cluster ≡ k → entry v k ≡ x → option_map_or (is_at_most o) x false ≡ true → o.time ≤ greatest_time v
     by k None same e s = absurd (false≢true s)
     by zero (Some f) same e s = absurd (false≢true (ap Rattle.std.specs.Prelude.is_some e))
-    by (suc k) (Some f) same e s = let a = at_most_time o f s in let b = max_each 0 v k f (flat (slice_get v k) f (sym (entry_at v k) ∙ e)) in omega arith
+    by (suc k) (Some f) same e s =
+        let within = slice_get_within v k (Some f) (flat (slice_get v k) f (sym (entry_at v k) ∙ e)) in
+        let a = at_most_time o f s in
+        let b = max_each v 0 (1 ∷ 2 ∷ 3 ∷ 4 ∷ 5 ∷ 6 ∷ 7 ∷ 8 ∷ []) k (suc k) f (numbered k (omega arith)) e in
+        omega arith
 
 -- the start sees start revisions alone
 pub start_sees : (clusters : ℕ) (o : Revision) → sees (start clusters) o ≡ true → (IsNode clusters o.cluster) × (is_at_most o (start_of o.cluster) ≡ true)

@@ -1,5 +1,5 @@
 -- In each run the heads are good, a draw is fresh, and so the past can be read.
-use Rattle.std.proofs.Common.{◌≡◌, ℕ, zero, suc, ◌≤◌, Bool, true, false, cond, not, inl, inr, Some, None, Option, List, [], ◌∷◌, ◌++◌, drop, refl, sym, ap, subst, ◌∙◌, arith, is_some}
+use Rattle.std.proofs.Common.{◌≡◌, ℕ, zero, suc, ◌-◌, ◌≤◌, Bool, true, false, cond, not, inl, inr, Some, None, Option, List, [], ◌∷◌, ◌++◌, drop, refl, sym, ap, subst, ◌∙◌, arith, is_some}
 use Rattle.std.specs.Prelude.{◌==◌, slice_get}
 use mathlib.Core.Bool.{false≢true}
 use Rattle.std.specs.Option.{option_map_or}
@@ -24,7 +24,7 @@ use Rattle.core_read.proofs.Latest.{same_revision}
 use Rattle.core_heads.specs.Sound.{IsAhead, IsGood, Public, IsSoundDraw, IsSoundIn, IsHeld, IsSound}
 use Rattle.core_heads.proofs.Orders.{and_true, same_number, same_itself}
 use Rattle.core_heads.proofs.Below.{seen_below, below_seen}
-use Rattle.core_heads.proofs.Entries.{seen_time}
+use Rattle.core_heads.proofs.Entries.{seen_time, set_length}
 use Rattle.core_heads.proofs.Later.{IsLater, good_kept, held_kept, draw_kept, in_kept, out_kept, head_good, head_held, head_told, published_is, public_good, sound_start}
 use Rattle.core_heads.proofs.Steps.{later_aside, later_end, above, above_head, later_draw, later_out, out_outs, in_ins, later_in, learned_more, learned_sound}
 
@@ -232,7 +232,8 @@ module _ (clusters : ℕ) (sessions : List ℕ) (nodes : AreNodes clusters sessi
 
       base_rises : (x : Revision) → sees d.base x ≡ true → is_before x d.revision ≡ true
       base_rises x h =
-          let a = seen_time (head_of clusters past d.revision.cluster) x (base_headed x h) in
+          let eight = set_length (last_in clusters past d.revision.cluster) ((local past d.revision.cluster).cluster - 1) (Some (local past d.revision.cluster)) ∙ (sound.ins d.revision.cluster node).eight in
+          let a = seen_time (head_of clusters past d.revision.cluster) x eight (base_headed x h) in
           let b = above_head clusters sessions nodes past sound d node may.next in
           time_before x d.revision (omega arith)
 

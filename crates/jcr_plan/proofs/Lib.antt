@@ -1,1 +1,1 @@
-mod Touched
+mod MarkOrder

@@ -1,7 +1,7 @@
 //! The plan of a commit: the marks that an edit makes.
 #![tactic(auto)]
 
-ghost use Rattle.std.specs.Prelude.{◌≡◌, [], IfOk, OnOk};
+ghost use Rattle.std.specs.Prelude.{◌≡◌, [], ◌∷◌, IfOk, OnOk};
 ghost use Rattle.oak_machine.specs.Marks.{marks_for, marks_of_node, marks_of_write, with_marks};
 
 use jr_path::{DeepCopy, Keyed, List, Path};
@@ -31,13 +31,9 @@ fn note_write(found: &mut Keyed<MarkAt, bool>, write: &Write) -> Result<(), Allo
 {
     match write {
         Write::Here(path) | Write::Gone(path) => note_node(found, path),
-        Write::Put(path, name, _) | Write::Unset(path, name) => found.put(
-            MarkAt {
-                path: path.copy()?,
-                mark: Mark::Prop(name.copy()?),
-            },
-            true,
-        ),
+        Write::Put(path, name, _) | Write::Unset(path, name) => {
+            note(found, path.copy()?, Mark::Prop(name.copy()?))
+        }
     }
 }
 
@@ -45,22 +41,18 @@ fn note_write(found: &mut Keyed<MarkAt, bool>, write: &Write) -> Result<(), Allo
 fn note_node(found: &mut Keyed<MarkAt, bool>, path: &Path) -> Result<(), AllocError>
     ensures { OnOk result (found.new ≡ with_marks found.old (marks_of_node path.now)) }
 {
-    found.put(
-        MarkAt {
-            path: path.copy()?,
-            mark: Mark::Exists,
-        },
-        true,
-    )?;
-    if let Some(parent) = path.parent()? {
-        found.put(
-            MarkAt {
-                path: parent,
-                mark: Mark::Touch,
-            },
-            true,
-        )?;
+    note(found, path.copy()?, Mark::Exists)?;
+    match path.parent()? {
+        Some(parent) => note(found, parent, Mark::Touch),
+        None => Ok(()),
     }
+}
+
+// Notes a mark.
+fn note(found: &mut Keyed<MarkAt, bool>, path: Path, mark: Mark) -> Result<(), AllocError>
+    ensures { OnOk result (found.new ≡ with_marks found.old (record { path = path; mark = mark } ∷ [])) }
+{
+    found.put(MarkAt { path, mark }, true)?;
     Ok(())
 }
 

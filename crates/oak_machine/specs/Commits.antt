@@ -1,5 +1,5 @@
 -- Draws and commits, and the tree that a vector sees.
-use Rattle.std.specs.Prelude.{◌≡◌, ℕ, Bool, false, cond, not, ◌&&◌, List, [], ◌∷◌, Option, None, Some, is_some, IsTrue, codes}
+use Rattle.std.specs.Prelude.{◌≡◌, Bool, false, cond, not, ◌&&◌, List, [], ◌∷◌, Option, None, Some, is_some, IsTrue}
 use Rattle.std.specs.Option.{option_map_or}
 use Rattle.std.specs.BTreeMap.{insert_entry}
 use Rattle.std.specs.List.{filter, fold, list_any}
@@ -64,10 +64,14 @@ is_in_base past r o = option_map_or (λ d. sees d.base o) (draw_of past r) false
 abbrev pub are_clashing : Past → Revision → Revision → Bool
 are_clashing past r o = clashing (marks_of past r) (marks_of past o)
 
+-- some edits in ascending order of their revisions, with that of r, where it was drawn
+abbrev pub with_commit : Past → List (Revision × List Write) → Revision → List (Revision × List Write)
+with_commit past edits r = option_map_or (λ d. insert_entry revision_cmp edits r d.edit.writes) (draw_of past r) edits
+
 -- the committed edits, in ascending order of their revisions
 abbrev pub committed_edits : Past → List (Revision × List Write)
 committed_edits [] = []
-committed_edits (event.Commit r ∷ past) = option_map_or (λ d. insert_entry revision_cmp (committed_edits past) r d.edit.writes) (draw_of past r) (committed_edits past)
+committed_edits (event.Commit r ∷ past) = with_commit past (committed_edits past) r
 committed_edits (_ ∷ past) = committed_edits past
 
 -- the tree that v sees: the initial one, with the committed edits that v sees applied in ascending order

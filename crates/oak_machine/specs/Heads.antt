@@ -1,11 +1,11 @@
 -- The heads of the cluster nodes.
-use Rattle.std.specs.Prelude.{ℕ, ◌+◌, cond, ◌==◌, max, List, [], ◌∷◌}
+use Rattle.std.specs.Prelude.{ℕ, ◌+◌, Bool, cond, ◌==◌, max, List, [], ◌∷◌, Option, None, Some}
 use Rattle.std.specs.Option.{option_map_or}
 use Rattle.std.specs.List.{filter, fold, list_all}
 use Rattle.jr_rev.specs.declared.revision.Revision.{Revision}
 use Rattle.jr_rev.specs.declared.vector.RevVec.{RevVec}
 use Rattle.jr_rev.specs.Revisions.{is_before}
-use Rattle.jr_rev.specs.Vectors.{with_entry, start, start_of}
+use Rattle.jr_rev.specs.Vectors.{entry, with_entry, start, start_of}
 use Rattle.oak_machine.specs.declared.event.Event.TheVariants as event
 use Rattle.oak_machine.specs.History.{Past}
 use Rattle.oak_machine.specs.Commits.{is_in_flight}
@@ -23,13 +23,30 @@ greater_of a b = cond (is_before a b) b a
 abbrev pub greatest : ℕ → List Revision → Revision
 greatest k rs = fold greater_of (start_of k) rs
 
+-- the greatest of some revisions, where there is one
+abbrev pub greatest_of : ℕ → List Revision → Option Revision
+greatest_of k [] = None
+greatest_of k (r ∷ rs) = Some (greatest k (r ∷ rs))
+
 -- the revisions of cluster node k that are in flight
 abbrev pub flying : Past → ℕ → List Revision
 flying past k = filter (is_in_flight past) (draws_by past k)
 
--- the greatest drawn revision of cluster node k below every one of it in flight
+-- r is below every revision of cluster node k that is in flight
+abbrev pub is_below_flying : Past → ℕ → Revision → Bool
+is_below_flying past k r = list_all (is_before r) (flying past k)
+
+-- the drawn revisions of cluster node k below every one of it in flight
+abbrev pub below_flying : Past → ℕ → List Revision
+below_flying past k = filter (is_below_flying past k) (draws_by past k)
+
+-- the greatest of them, or the start of cluster node k
 abbrev pub local : Past → ℕ → Revision
-local past k = greatest k (filter (λ r. list_all (is_before r) (flying past k)) (draws_by past k))
+local past k = greatest k (below_flying past k)
+
+-- the greatest of them, where there is one
+abbrev pub local_head : Past → ℕ → Option Revision
+local_head past k = greatest_of k (below_flying past k)
 
 -- what cluster node k has published
 abbrev pub outs_of : Past → ℕ → List Revision
@@ -52,7 +69,7 @@ head_of clusters past k = with_entry (last_in clusters past k) (local past k)
 
 -- the greatest time in a vector
 abbrev pub greatest_time : RevVec → ℕ
-greatest_time v = fold (λ t e. max t (option_map_or (λ r. r.time) e 0)) 0 v
+greatest_time v = fold (λ t k. max t (option_map_or (λ r. r.time) (entry v k) 0)) 0 (1 ∷ 2 ∷ 3 ∷ 4 ∷ 5 ∷ 6 ∷ 7 ∷ 8 ∷ [])
 
 -- the time of the last draw of cluster node k
 abbrev pub last_draw_time : Past → ℕ → ℕ

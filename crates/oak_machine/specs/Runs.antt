@@ -122,6 +122,19 @@ MayFollow starts says h (event.Collected s c) = MayCollect h.past s c
 MayFollow starts says h (event.Went s kind) = IsTrue (has_login h.past s) × IsFalse (has_left h.past s)
 MayFollow starts says h (event.Said s i text) = (i ≡ next_index h.past s) × says h s i text
 
+-- a law that lets everything start, and everything be said
+abbrev pub any_start : Starts
+any_start h s edit marks = Unit {0}
+
+abbrev pub any_said : Says
+any_said h s i text = Unit {0}
+
+-- what the law owes where an event follows a history
+abbrev pub IsLawful : Starts → Says → History → Event → Type 0
+IsLawful starts says h (event.Draw d) = starts h d.session d.edit d.marks
+IsLawful starts says h (event.Said s i text) = says h s i text
+IsLawful starts says h _ = Unit {0}
+
 abbrev pub IsRunOf : Starts → Says → ℕ → List ℕ → Past → Type 0
 IsRunOf starts says clusters sessions [] = Unit {0}
 IsRunOf starts says clusters sessions (e ∷ past) = MayFollow starts says (record { clusters = clusters; sessions = sessions; past = past }) e × IsRunOf starts says clusters sessions past
@@ -139,6 +152,20 @@ pub record AreNodes (clusters : ℕ) (sessions : List ℕ) : Type 0 where
   pub eight : clusters ≤ 8
   pub some : 1 ≤ clusters
   pub node : (s k : ℕ) → slice_get sessions s ≡ Some k → IsNode clusters k
+
+-- the cluster node of which an event tells, if any, is one of them
+abbrev pub IsOfNode : ℕ → Event → Type 0
+IsOfNode clusters (event.Head k v) = IsNode clusters k
+IsOfNode clusters (event.Out k r) = IsNode clusters k
+IsOfNode clusters (event.In k v) = IsNode clusters k
+IsOfNode clusters (event.Sweep k r) = IsNode clusters k
+IsOfNode clusters _ = Unit {0}
+
+-- the machine without the law lets the event follow a history of one to eight cluster nodes, of which it is
+pub record Follows (h : History) (e : Event) : Type 0 where
+  pub nodes : AreNodes h.clusters h.sessions
+  pub of_node : IsOfNode h.clusters e
+  pub may : MayFollow any_start any_said h e
 
 -- what may start may still start, after events of others
 abbrev pub StartsLast : Starts → Says → Type 0

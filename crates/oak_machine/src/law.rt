@@ -1,11 +1,11 @@
 // Which edits may start, and which texts may be said.
-ghost use Rattle.std.specs.Prelude.{ℕ, List};
+ghost use Rattle.std.specs.Prelude.{◌↔◌, ℕ, List};
 ghost use Rattle.jr_path.specs.declared.text.Text.{Text};
 ghost use Rattle.jr_tree.specs.declared.edit.Edit.{Edit};
 ghost use Rattle.oak_clash.specs.declared.mark.MarkAt.{MarkAt};
 ghost use Rattle.oak_machine.specs.History.{History};
 ghost use Rattle.oak_machine.specs.Laws.{StartsProper};
-ghost use Rattle.oak_machine.specs.Runs.{StartsLast, SaysLast, SaysLastBehind};
+ghost use Rattle.oak_machine.specs.Runs.{IsLawful, MayFollow, StartsLast, SaysLast, SaysLastBehind, any_said, any_start};
 
 /// A law of a machine: which edits may start, and which texts may be said.
 pub trait Law {
@@ -43,3 +43,10 @@ impl Law for IdleLaw {
 
     ghost proper = { λ law h s edit marks v base starts. absurd starts };
 }
+
+/// An event may follow by a law just where it may whatever the law lets start and say, and where the law
+/// lets start the edit, or say the text, of which it tells.
+pub fn machine_and_law<L: Law>()
+    ensures { (law : L) (h : History) (e : _) → MayFollow (L.may_start law) (L.may_say law) h e
+        ↔ (MayFollow any_start any_said h e × IsLawful (L.may_start law) (L.may_say law) h e) }
+{}

@@ -3,7 +3,20 @@
 
 mod copies;
 mod event;
+mod heads;
 mod law;
+mod machine;
+mod meeting;
+mod past;
+mod sessions;
+#[cfg(test)]
+mod tests;
+mod tree;
 
 pub use event::{Draw, Event, Journal, StepKind};
-pub use law::{IdleLaw, Law};
+pub use heads::local_head;
+pub use law::{IdleLaw, Law, machine_and_law};
+pub use machine::follows;
+pub use past::{is_committed, is_ended};
+pub use sessions::{base_of, last_checkpoint, next_index};
+pub use tree::tree_at;

@@ -106,7 +106,7 @@ module _ (starts : Starts) (says : Says) (proper : StartsProper starts) (j : Jou
     no_base o seen None drawn q b = absurd (false≢true (sym (ap (λ (x : Option Draw). option_map_or (λ (d : Draw). sees d.base q) x false) drawn) ∙ b))
     no_base o seen (Some d) drawn q b =
         let positive = ((sound_run 1 j.sessions lawful.kept.nodes starts says past lawful.kept.run).draws o d drawn).positive in
-        let time = seen_time (start 1) o seen in
+        let time = seen_time (start 1) o refl seen in
         absurd (impossible o.time positive time)
 
     start_in_use : IsInUse past (start 1)

@@ -8,6 +8,7 @@ pub mod Lawful
 pub mod Made
 pub mod Notes
 pub mod Pasts
+pub mod Places
 pub mod Resting
 pub mod Saves
 pub mod Stored

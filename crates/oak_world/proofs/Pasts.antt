@@ -1,5 +1,5 @@
 -- The past after a commit, and after one that is called off, event by event.
-use Rattle.std.proofs.Common.{◌≡◌, inl, inr, ℕ, ◌+◌, true, Some, Option, List, [], ◌∷◌, take, refl, sym, ap, subst, ◌∙◌}
+use Rattle.std.proofs.Common.{◌≡◌, ℕ, ◌+◌, Some, List, [], ◌∷◌, take, sym, ap, subst, ◌∙◌}
 use Rattle.std.specs.Prelude.{reverse}
 use Rattle.jr_path.specs.declared.path.DocId.{DocId}
 use Rattle.jr_rev.specs.declared.revision.Revision.{Revision}

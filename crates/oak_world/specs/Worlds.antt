@@ -1,5 +1,5 @@
 -- What contracts see of a world, and the world before any step.
-use Rattle.std.specs.Prelude.{◌≤◌, ℕ, cond, ◌==◌, List, [], ◌∷◌, ◌++◌, length, false, Option, Some, None, codes}
+use Rattle.std.specs.Prelude.{◌≡◌, ◌<◌, ◌≤◌, ℕ, Bool, true, IsTrue, cond, ◌==◌, List, [], ◌∷◌, ◌++◌, length, false, Option, Some, None, codes, vec_capacity}
 use Rattle.std.specs.Map.{keys_of}
 use Rattle.std.specs.Option.{option_and_then, option_map_or}
 use Rattle.jr_path.specs.declared.path.Path.{Path}
@@ -11,7 +11,10 @@ use Rattle.jr_value.specs.declared.value.Property.TheVariants.{Single}
 use Rattle.jr_value.specs.declared.value.Value.TheVariants as value
 use Rattle.oak_doc.specs.declared.document.Document.{Document}
 use Rattle.oak_doc.specs.Updates.{document_of}
+use Rattle.std.specs.declared.vec.Vec.{Vec}
+use Rattle.std.specs.declared.alloc.Global.{Global}
 use Rattle.oak_machine.specs.declared.event.Event.{Event}
+use Rattle.oak_machine.specs.declared.event.Event.TheVariants as event
 use Rattle.oak_machine.specs.declared.event.Journal.{Journal}
 use Rattle.oak_node.specs.Heads.{known_time}
 use Rattle.oak_node.specs.Memory.{NodeState}
@@ -29,6 +32,21 @@ pub record WorldOf (L : Type 0) : Type 0 where
 -- what is true of each world: the node knows no later time than there are events
 abbrev pub IsWorld : Journal → NodeState → Type 0
 IsWorld journal node = known_time node ≤ length journal.events
+
+abbrev pub is_refresh : Event → Bool
+is_refresh (event.Refresh s v) = true
+is_refresh _ = false
+
+-- a place is kept for one event more: the last event is the move of the base that ends a commit
+abbrev pub has_place : List Event → Bool
+has_place [] = false
+has_place (e ∷ []) = is_refresh e
+has_place (e ∷ f ∷ es) = has_place (f ∷ es)
+
+-- an empty vector, which has places for all events and one more where a place is kept
+pub record IsSpare (events : List Event) (spare : Vec Event Global) : Type 0 where
+  pub empty : spare.items ≡ []
+  pub place : IsTrue (has_place events) → length events < vec_capacity spare
 
 -- the journal with some events more
 abbrev pub with_events : Journal → List Event → Journal

@@ -174,15 +174,15 @@ fn write_all(
     Ok(())
 }
 
-// Reserves the places of all events of a commit that writes so many documents.
+// Reserves the places of all events of a commit that writes so many documents, and of its reply.
 fn reserve(events: &mut Vec<Event>, documents: usize) -> Result<(), AllocError>
     ensures items { events.new.items ≡ events.old.items }
-    ensures room { OnOk result (vec_len events.new + 2 * documents + 6 ≤ vec_capacity events.new) }
+    ensures room { OnOk result (vec_len events.new + 2 * documents + 7 ≤ vec_capacity events.new) }
 {
     if documents > u32::MAX as usize {
         return Err(AllocError);
     }
-    events.reserve(2 * documents + 6)
+    events.reserve(2 * documents + 7)
 }
 
 // The base of the session. The clause `memory` says what is true of each memory.
@@ -214,6 +214,7 @@ fn commit_drawn(
     ensures revision { IfOk result (λ drawn. drawn ≡ r) }
     ensures ok { OnOk result (parts table.new node.new events.new.items ≡ carried_out r plan.now (parts table.old node.old events.old.items)) }
     ensures err { OnErr result (IsCalledOff r plan.now (parts table.old node.old events.old.items) (parts table.new node.new events.new.items)) }
+    ensures room { vec_capacity events.new ≡ vec_capacity events.old }
 {
     if let Err(AllocError) = note_all(node, r, plan.paths.inner().as_slice()) {
         finish(events, node, r);
@@ -236,6 +237,7 @@ pub(crate) fn commit(
     table: &mut DocTable,
     node: &mut NodeMem,
     events: &mut Vec<Event>,
+    spare: &mut Vec<Event>,
     edit: Edit,
     marks: List<MarkAt>,
 ) -> Result<Revision, AllocError>
@@ -245,10 +247,14 @@ pub(crate) fn commit(
     ensures ok { OnOk result (parts table.new node.new events.new.items ≡ committed (parts table.old node.old events.old.items) edit marks) }
     ensures err { OnErr result (IsGivenUp (parts table.old node.old events.old.items) (parts table.new node.new events.new.items) edit marks) }
     ensures memory { IsMemory node.old }
+    ensures place { OnOk result (length events.new.items < vec_capacity spare.new) }
+    ensures spare { spare.new.items ≡ spare.old.items }
+    ensures larger { vec_capacity spare.old ≤ vec_capacity spare.new }
 {
     let base = base_of(node);
     let plan = Plan::of(alloc, &edit, &marks)?;
     reserve(events, plan.ids.inner().len())?;
+    spare.reserve(events.capacity() + 1)?;
     let r = node.draw()?;
     events.push_reserved(Event::Draw(Draw {
         revision: r,

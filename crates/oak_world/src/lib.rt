@@ -3,6 +3,7 @@
 #![tactic(auto)]
 
 mod commit;
+mod place;
 mod start;
 mod world;
 

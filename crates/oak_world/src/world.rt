@@ -1,5 +1,5 @@
 // A world under a law.
-ghost use Rattle.std.specs.Prelude.{◌≡◌, ◌≤◌, ◌↔◌, ◌∷◌, ◌++◌, [], Some, Contains, IfOk, OnOk, OnErr, IsSome, IsTrue, IsFalse, is_some};
+ghost use Rattle.std.specs.Prelude.{◌≡◌, ◌≤◌, ◌↔◌, ◌∷◌, ◌++◌, [], Some, Contains, IfOk, IsOk, OnOk, OnErr, IsSome, IsTrue, IsFalse, is_some};
 ghost use Rattle.std.specs.Option.{option_map};
 ghost use Rattle.jr_path.specs.declared.name.Name.{Name};
 ghost use Rattle.jr_rev.specs.declared.vector.Pin.{Pin};
@@ -16,9 +16,10 @@ ghost use Rattle.oak_node.specs.Pins.{pin_of, pin_now, with_pin, without_pin};
 ghost use Rattle.oak_node.specs.Heads.{next_draw};
 ghost use Rattle.oak_world.specs.Commits.{IsGivenUp, committed, parts_of, with_parts};
 ghost use Rattle.oak_world.specs.Kept.{AreNotesLive};
-ghost use Rattle.oak_world.specs.Worlds.{with_events, start_world, node_shown, children_shown};
+ghost use Rattle.oak_world.specs.Worlds.{has_place, with_events, start_world, node_shown, children_shown};
 
 use crate::commit::commit;
+use crate::place::append;
 use crate::start::start_documents;
 use jr_path::{List, Name, Path, Text};
 use jr_rev::{Pin, RevVec, Revision};
@@ -40,17 +41,19 @@ pub struct World<L: Law> {
     journal: Journal,
     table: DocTable,
     node: NodeMem,
+    // Empty, and large enough for all events and one more where a reply is owed to a commit.
+    spare: Vec<Event>,
 }
 
 impl<L: Law> Model for World<L> {
     ghost use Rattle.oak_world.specs.Kept.{IsLawful};
-    ghost use Rattle.oak_world.specs.Worlds.{IsWorld, WorldOf};
+    ghost use Rattle.oak_world.specs.Worlds.{IsSpare, IsWorld, WorldOf};
 
     ghost Value = { WorldOf L };
 
     ghost view = { λ w. record { law = w.law; journal = w.journal; table = w.table; node = w.node } };
 
-    ghost invariant = { λ w. IsWorld w.journal w.node × IsLawful (L.may_start w.law) (L.may_say w.law) w.journal w.table w.node };
+    ghost invariant = { λ w. IsWorld w.journal w.node × IsLawful (L.may_start w.law) (L.may_say w.law) w.journal w.table w.node × IsSpare w.journal.events w.spare };
 }
 
 impl<L: Law + Drop> World<L> {
@@ -77,6 +80,7 @@ impl<L: Law + Drop> World<L> {
             journal,
             table,
             node,
+            spare: Vec::new(alloc),
         })
     }
 
@@ -172,6 +176,7 @@ impl<L: Law + Drop> World<L> {
         ensures ok { OnOk result (self.new ≡ with_parts self.old (committed (parts_of self.old) edit marks)) }
         ensures kept { OnErr result (self.new ≡ with_parts self.old (parts_of self.new)) }
         ensures err { OnErr result (IsGivenUp (parts_of self.old) (parts_of self.new) edit marks) }
+        ensures place { OnOk result (IsTrue (has_place self.new.journal.events)) }
     {
         let mut events = mem::replace(&mut self.journal.events, List::new(self.alloc)).into_inner();
         let committed = commit(
@@ -179,6 +184,7 @@ impl<L: Law + Drop> World<L> {
             &mut self.table,
             &mut self.node,
             &mut events,
+            &mut self.spare,
             edit,
             marks,
         );
@@ -186,14 +192,17 @@ impl<L: Law + Drop> World<L> {
         committed
     }
 
-    /// Says the session's reply to its next command, which the law lets it say. A step of the kind Say.
+    /// Says the session's reply to its next command, which the law lets it say. A step of the kind Say. The reply that follows a
+    /// commit always finds its place.
     pub fn say(&mut self, index: u32, text: Text) -> Result<(), AllocError>
         requires next { index ≡ next_index (history_of self.old.journal).past 0 }
         requires lawful { L.may_say self.old.law (history_of self.old.journal) 0 index text }
         ensures ok { OnOk result (self.new ≡ record self.old { journal = with_events self.old.journal (event.Said 0 index text ∷ []) }) }
         ensures err { OnErr result (self.new ≡ self.old) }
+        ensures place { IsTrue (has_place self.old.journal.events) → IsOk result }
     {
-        self.journal.events.push(Event::Said(0, index, text))
+        let said = Event::Said(0, index, text);
+        append(self.alloc, &mut self.journal.events, &mut self.spare, said)
     }
 
     /// The session, which is there, ends: its pin goes. A step of the kind End.

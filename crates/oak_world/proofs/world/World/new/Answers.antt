@@ -1,5 +1,6 @@
-use Rattle.std.proofs.Common.{rules, ◌≡◌, []}
-use Rattle.oak_world.specs.Worlds.{start_node, start_table}
+use Rattle.std.proofs.Common.{rules, ◌≡◌, [], sym, ap, ◌∙◌}
+use mathlib.Core.Bool.{false≢true}
+use Rattle.oak_world.specs.Worlds.{has_place, start_node, start_table}
 use Rattle.oak_world.proofs.Begins.{sessions_of}
 use Rattle.oak_world.proofs.Calls.{start_call}
 use Rattle.oak_world.proofs.Stored.{start_stored}
@@ -14,4 +15,5 @@ invariant_of-result g c =
     let none : c.new.result ≡ [] = search rules in
     let documents : c.in_ok-table.table ≡ start_table c.args.sessions = search rules in
     let memory : c.new-node.result ≡ start_node = search rules in
-    start_call (g.L.Law.may_start c.args.law) (g.L.Law.may_say c.args.law) c.args.sessions c.if-sessions-ne0.nodes c.new.result c.in_ok-table.table c.new-node.result on none documents memory
+    let kept = start_call (g.L.Law.may_start c.args.law) (g.L.Law.may_say c.args.law) c.args.sessions c.if-sessions-ne0.nodes c.new.result c.in_ok-table.table c.new-node.result on none documents memory in
+    (kept.0, kept.1, record { empty = c.new-2.ensures.items; place = λ h. absurd (false≢true (sym (ap has_place none) ∙ h)) })
