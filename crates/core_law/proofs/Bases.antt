@@ -1,24 +1,23 @@
 -- In a run the tree at the base of a session stays as it is while events of others are added.
-use Rattle.std.proofs.Common.{◌≡◌, ℕ, Bool, true, false, cond, ◌||◌, ◌&&◌, Some, None, Option, List, [], ◌∷◌, ◌++◌, is_some, inr, refl, sym, ap, ◌∙◌, subst}
+use Rattle.std.proofs.Common.{◌≡◌, ℕ, true, false, cond, Some, None, Option, List, [], ◌∷◌, ◌++◌, is_some, inr, refl, ap, ◌∙◌, subst}
 use Rattle.std.specs.Option.{option_map_or}
 use Rattle.std.specs.List.{list_any}
-use mathlib.Core.Bool.{false≢true}
 use Rattle.jr_rev.specs.declared.revision.Revision.{Revision}
 use Rattle.jr_rev.specs.declared.vector.RevVec.{RevVec}
 use Rattle.jr_rev.specs.Revisions.{is_same}
 use Rattle.jr_rev.specs.Vectors.{sees}
 use Rattle.jr_rev.proofs.Order.{same_revision}
-use Rattle.jr_tree.specs.Trees.{Nodes, initial_tree}
+use Rattle.jr_tree.specs.Trees.{initial_tree}
 use Rattle.oak_machine.specs.declared.event.Draw.{Draw}
 use Rattle.oak_machine.specs.declared.event.Event.TheVariants as event
 use Rattle.oak_machine.specs.History.{Past}
-use Rattle.oak_machine.specs.Commits.{draw_of, is_drawn, is_ended, tree_at}
+use Rattle.oak_machine.specs.Commits.{draw_of, is_ended, tree_at}
 use Rattle.oak_machine.specs.Laws.{Starts, Says, is_event_of}
 use Rattle.oak_machine.specs.Runs.{IsRunOf, AreNodes}
 use Rattle.oak_machine.specs.Sessions.{base_of}
 use Rattle.oak_machine.proofs.Induction.{base_stays, neither}
 use Rattle.oak_machine.proofs.Stays.{HadEnded, tree_stays}
-use Rattle.core_heads.specs.Sound.{IsHeld, IsAhead}
+use Rattle.core_heads.specs.Sound.{IsHeld}
 use Rattle.core_heads.proofs.Runs.{sound_run, held_settled}
 use Rattle.core_heads.proofs.Steps.{above}
 use Rattle.core_law.specs.State.{base_tree}

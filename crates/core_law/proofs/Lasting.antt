@@ -1,22 +1,21 @@
 -- What the law lets start and say lasts while events of others are added, and what it lets start is proper.
-use Rattle.std.proofs.Common.{◌≡◌, ℕ, Bool, true, false, cond, ◌||◌, Some, None, Option, List, [], ◌∷◌, ◌++◌, refl, sym, ap, ◌∙◌, subst, codes}
+use Rattle.std.proofs.Common.{◌≡◌, ℕ, true, false, Some, None, Option, List, ◌∷◌, ◌++◌, refl, sym, ap, ◌∙◌, subst}
 use Rattle.std.specs.Option.{option_map_or}
 use Rattle.std.specs.List.{list_any, filter}
 use mathlib.Core.Bool.{false≢true}
 use Rattle.jr_rev.specs.declared.revision.Revision.{Revision}
 use Rattle.jr_rev.specs.declared.vector.RevVec.{RevVec}
-use Rattle.jr_tree.specs.declared.edit.Write.{Write}
 use Rattle.jr_tree.specs.Trees.{Nodes, initial_tree}
 use Rattle.jr_tree.specs.Edits.{IsProper, applied}
 use Rattle.oak_clash.specs.declared.mark.MarkAt.{MarkAt}
 use Rattle.oak_machine.specs.declared.event.Event.{Event}
 use Rattle.oak_machine.specs.declared.event.Event.TheVariants as event
-use Rattle.oak_machine.specs.History.{History, Past}
-use Rattle.oak_machine.specs.Commits.{is_commit_of, is_committed, is_ended, is_end_of, refusal_of, tree_at}
+use Rattle.oak_machine.specs.History.{Past}
+use Rattle.oak_machine.specs.Commits.{is_commit_of, is_committed, is_ended, is_end_of, tree_at}
 use Rattle.oak_machine.specs.Laws.{Starts, Says, StartsProper, is_event_of, is_of_item}
 use Rattle.oak_machine.specs.Marks.{marks_for}
 use Rattle.oak_machine.specs.Runs.{IsRunOf, AreNodes, StartsLast, SaysLast, SaysLastBehind, is_task_end}
-use Rattle.oak_machine.specs.Sessions.{base_of, drawn_since}
+use Rattle.oak_machine.specs.Sessions.{drawn_since}
 use Rattle.oak_machine.proofs.Stays.{any_later}
 use Rattle.jcr_trans.specs.declared.command.Command.{Command}
 use Rattle.jcr_trans.specs.Answers.{Answer}

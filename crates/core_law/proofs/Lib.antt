@@ -1,5 +1,6 @@
 pub mod Bases
 pub mod Passing
+pub mod Refused
 pub mod Lasting
 pub mod Saves
 pub mod Views

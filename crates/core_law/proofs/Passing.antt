@@ -1,14 +1,12 @@
 -- What a history says of a session stays as it is while events of others are added.
-use Rattle.std.proofs.Common.{◌≡◌, ℕ, Bool, true, false, cond, ◌||◌, ◌&&◌, not, Some, None, Option, List, [], ◌∷◌, ◌++◌, is_some, refl, sym, ap, ◌∙◌, subst}
+use Rattle.std.proofs.Common.{◌≡◌, ℕ, Bool, true, false, cond, ◌||◌, ◌&&◌, not, Some, List, [], ◌∷◌, ◌++◌, is_some, arith, refl, sym, ap, ◌∙◌, subst}
 use Rattle.std.specs.Prelude.{◌==◌, ◌+◌}
 use Rattle.std.specs.Option.{unwrap_or}
 use Rattle.std.specs.List.{fold, list_any}
 use mathlib.Core.Bool.{false≢true}
-use Rattle.jr_path.specs.declared.path.Item.{Item}
 use Rattle.jr_rev.specs.declared.revision.Revision.{Revision}
 use Rattle.jr_rev.specs.Revisions.{is_same}
 use Rattle.jr_rev.proofs.Order.{same_revision}
-use Rattle.oak_machine.specs.declared.event.Draw.{Draw}
 use Rattle.oak_machine.specs.declared.event.Event.{Event}
 use Rattle.oak_machine.specs.declared.event.Event.TheVariants as event
 use Rattle.oak_machine.specs.History.{Past}
@@ -18,8 +16,7 @@ use Rattle.oak_machine.specs.Runs.{IsRunOf}
 use Rattle.oak_machine.specs.Sessions.{drawn_among, drawn_since, is_drawing, is_drawing_among, is_login_of, is_reply_of, next_index, refreshed_among, refreshed_since, since}
 use Rattle.oak_machine.proofs.Induction.{neither, other}
 use Rattle.oak_machine.proofs.Stays.{any_later}
-use Rattle.core_law.specs.State.{Orders, base_tree, pending_kept, pending_of, pending_said}
-use Rattle.oak_machine.specs.Commits.{tree_at}
+use Rattle.core_law.specs.State.{Orders, pending_of}
 
 -- ---- replies and pending edits
 
@@ -34,6 +31,19 @@ pending_stays law whole (event.Said t i text ∷ added) past s h = let n = neith
 pending_stays law whole (event.Refresh t v ∷ added) past s h = let n = neither (t == s) _ h in other (t == s) _ _ _ n.0 (pending_stays law whole added past s n.1)
 pending_stays law whole (event.Attach t id ∷ added) past s h = let n = neither (t == s) _ h in other (t == s) _ _ _ n.0 (pending_stays law whole added past s n.1)
 pending_stays law whole (e ∷ added) past s h = pending_stays law whole added past s (neither (is_event_of whole s e) _ h).1
+
+-- one event more adds one reply, where it is one
+pub next_more : (s : ℕ) (e : Event) (past : Past) → next_index (e ∷ past) s ≡ next_index past s + cond (is_reply_of s e) 1 0
+next_more s e past = more past 0 (cond (is_reply_of s e) 1 0)
+  where
+    more : (past : Past) (b a : ℕ) → fold (λ (n : ℕ) (e : Event). n + cond (is_reply_of s e) 1 0) (b + a) past ≡ fold (λ (n : ℕ) (e : Event). n + cond (is_reply_of s e) 1 0) b past + a
+    more [] b a = refl
+    more (e ∷ past) b a =
+        ap (λ (n : ℕ). fold (λ (n : ℕ) (e : Event). n + cond (is_reply_of s e) 1 0) n past) (turned b a (cond (is_reply_of s e) 1 0))
+        ∙ more past (b + cond (is_reply_of s e) 1 0) a
+      where
+        turned : (b a c : ℕ) → b + a + c ≡ b + c + a
+        turned b a c = omega arith
 
 -- ---- since the last reply
 

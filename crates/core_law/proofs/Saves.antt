@@ -1,35 +1,33 @@
 -- Where a session stands after its save was committed, or called off.
-use Rattle.std.proofs.Common.{◌≡◌, ℕ, Bool, true, false, cond, not, ◌&&◌, ◌||◌, Some, None, Option, List, [], ◌∷◌, ◌++◌, is_some, refl, sym, ap, ◌∙◌, subst}
+use Rattle.std.proofs.Common.{◌≡◌, ℕ, Bool, true, false, cond, ◌||◌, Some, None, Option, List, [], ◌∷◌, ◌++◌, refl, sym, ap, ◌∙◌, subst}
 use Rattle.std.specs.declared.cmp.Ordering.{Ordering}
 use Rattle.std.specs.declared.cmp.Ordering.TheVariants.{Less, Equal, Greater}
 use Rattle.std.specs.Ordering.{is_eq, match_ordering}
 use Rattle.std.specs.Cmp.{tied_itself}
 use Rattle.std.specs.Option.{option_map_or}
 use Rattle.std.specs.BTreeMap.{insert_entry}
-use Rattle.std.specs.List.{filter, fold, list_any}
-use mathlib.Core.Bool.{false≢true}
+use Rattle.std.specs.List.{filter, fold}
 use Rattle.jr_rev.specs.declared.revision.Revision.{Revision}
 use Rattle.jr_rev.specs.declared.vector.RevVec.{RevVec}
 use Rattle.jr_rev.specs.Revisions.{is_same, revision_cmp}
 use Rattle.jr_rev.specs.Vectors.{sees}
-use Rattle.jr_rev.proofs.Order.{revision_total, revision_exact}
+use Rattle.jr_rev.proofs.Order.{revision_total}
 use Rattle.jr_tree.specs.declared.edit.Edit.{Edit}
 use Rattle.jr_tree.specs.declared.edit.Write.{Write}
 use Rattle.jr_tree.specs.Trees.{Nodes, IsTree, initial_tree}
-use Rattle.jr_tree.specs.Edits.{applied, changes}
+use Rattle.jr_tree.specs.Edits.{applied}
 use Rattle.oak_clash.specs.declared.mark.MarkAt.{MarkAt}
 use Rattle.oak_machine.specs.declared.event.Draw.{Draw}
-use Rattle.oak_machine.specs.declared.event.Event.{Event}
 use Rattle.oak_machine.specs.declared.event.Event.TheVariants as event
 use Rattle.oak_machine.specs.declared.event.StepKind.{StepKind}
-use Rattle.oak_machine.specs.History.{History, Past}
+use Rattle.oak_machine.specs.History.{Past}
 use Rattle.oak_machine.specs.Commits.{committed_edits, draw_of, is_committed, is_ended, tree_at}
 use Rattle.oak_machine.specs.Sessions.{base_of, drawn_since, is_drawing}
 use Rattle.jcr_trans.specs.declared.command.Command.TheVariants as command
 use Rattle.jcr_trans.specs.Answers.{ShowsRevision}
 use Rattle.jcr_trans.specs.Texts.{answer_text}
 use Rattle.core_law.specs.Law.{MayStart, SaysBy}
-use Rattle.core_law.specs.State.{Orders, base_tree, command_at, pending_of}
+use Rattle.core_law.specs.State.{Orders, command_at, pending_of}
 use Rattle.core_law.specs.Turns.{IsOver, IsTurn}
 use Rattle.core_law.proofs.Turns.{says_saved, turn_saved}
 

@@ -1,5 +1,5 @@
 -- What a session may say and start where it stands between two commands, and where it stands after.
-use Rattle.std.proofs.Common.{◌≡◌, ◌≢◌, ℕ, Bool, true, false, cond, not, ◌&&◌, ◌||◌, Some, None, Option, List, [], ◌∷◌, ◌++◌, refl, sym, ap, ◌∙◌, subst, codes}
+use Rattle.std.proofs.Common.{◌≡◌, ℕ, Bool, true, false, cond, not, ◌&&◌, ◌||◌, Some, None, Option, List, [], ◌∷◌, refl, sym, ap, ◌∙◌, subst}
 use Rattle.std.specs.Prelude.{◌==◌}
 use Rattle.std.specs.Option.{option_map_or}
 use Rattle.std.specs.List.{list_all}
@@ -10,7 +10,6 @@ use Rattle.jr_path.specs.declared.text.Text.{Text}
 use Rattle.jr_rev.specs.declared.revision.Revision.{Revision}
 use Rattle.jr_rev.specs.declared.vector.RevVec.{RevVec}
 use Rattle.jr_rev.specs.Vectors.{sees}
-use Rattle.jr_value.specs.declared.value.Property.{Property}
 use Rattle.jr_tree.specs.declared.edit.Write.{Write}
 use Rattle.jr_tree.specs.Trees.{Nodes, IsTree}
 use Rattle.jr_tree.specs.Edits.{IsProper, applied, changes}
@@ -23,10 +22,11 @@ use Rattle.oak_machine.specs.Marks.{marks_for}
 use Rattle.oak_machine.specs.Sessions.{drawn_since, is_drawing, is_reply_of, is_login_of, next_index, refreshed_since, since}
 use Rattle.jcr_trans.specs.declared.command.Command.{Command}
 use Rattle.jcr_trans.specs.declared.command.Command.TheVariants as command
+use Rattle.jcr_trans.specs.Commands.{saves}
 use Rattle.jcr_trans.specs.Answers.{Answer, Done, ShowsProperty, ShowsNames, ShowsRevision, ShowsNothing, Refused}
 use Rattle.jcr_trans.specs.Texts.{answer_text}
 use Rattle.jcr_trans.specs.Views.{Check, answered, checks, first_of, passes, property_of_path, shown, view_after}
-use Rattle.jcr_trans.proofs.Passing.{first_passes}
+use Rattle.jcr_trans.proofs.Passing.{each_refuses, first_passes, is_refused, shows}
 use Rattle.core_law.specs.Law.{MayStart, MaySay, SaysBy, has_few_nodes, is_plain, plain, unchanged, saved, memory}
 use Rattle.core_law.specs.State.{Orders, base_tree, command_at, is_ok_text, pending_after, pending_of, pending_said, view_of}
 use Rattle.core_law.specs.Turns.{IsOver, IsTurn}
@@ -34,10 +34,6 @@ use Rattle.core_law.proofs.Passing.{among_same}
 use Rattle.core_law.proofs.Views.{view_is_tree}
 
 -- ---- which answers accept
-
-abbrev is_refused : Answer → Bool
-is_refused (Refused n ds) = true
-is_refused _ = false
 
 refused_text : (a : Answer) → is_refused a ≡ true → is_ok_text (answer_text a) ≡ false
 refused_text Done h = absurd (false≢true h)
@@ -66,24 +62,6 @@ first_refuses (c ∷ cs) answer all h = by c.test (is_refused c.answer) refl all
     by true false k all h rest = absurd (false≢true all)
     by false true k all h rest = rest all h
     by false false k all h rest = absurd (false≢true all)
-
-each_refuses : (c : Command) (t : Nodes) → list_all (λ k. is_refused k.answer) (checks c t) ≡ true
-each_refuses (command.Add p) t = refl
-each_refuses (command.Set p n x) t = refl
-each_refuses (command.Get p) t = refl
-each_refuses (command.List p) t = refl
-each_refuses command.Save t = refl
-
-shows : (c : Command) (t : Nodes) → is_refused (shown c t) ≡ false
-shows (command.Add p) t = refl
-shows (command.Set p n x) t = refl
-shows (command.Get p) t = by (property_of_path t p)
-  where
-    by : (o : Option Property) → is_refused (option_map_or ShowsProperty o Done) ≡ false
-    by None = refl
-    by (Some x) = refl
-shows (command.List p) t = refl
-shows command.Save t = refl
 
 -- ---- a reply that is said
 
@@ -178,21 +156,21 @@ module _ (law : Orders) (h : History) (s i : ℕ) (base view : Nodes) where
   pub turn_view : (c : Command) → IsTurn law h.past s base view → command_at law s i ≡ Some c → is_plain c ≡ true → IsTurn law (event.Said s i (answer_text (answered c view)) ∷ h.past) s base (view_after c view)
   turn_view c turn is p = by (passes (checks c view)) refl
     where
-      left : (c : Command) → is_plain c ≡ true → pending_after c (base_tree h.past s) (pending_of law h.past s) ≡ changes base (view_after c view)
-      left command.Save p = absurd (false≢true p)
-      left (command.Add q) p = again (command.Add q)
-        where
-          again : (c : Command) → changes (base_tree h.past s) (view_after c (view_of law h.past s)) ≡ changes base (view_after c view)
-          again c = ap (λ (t : Nodes). changes (base_tree h.past s) (view_after c t)) (view_is turn.over) ∙ ap (λ (t : Nodes). changes t (view_after c view)) (sym turn.over.base_is)
-      left (command.Set q n x) p = ap (λ (t : Nodes). changes (base_tree h.past s) (view_after (command.Set q n x) t)) (view_is turn.over) ∙ ap (λ (t : Nodes). changes t (view_after (command.Set q n x) view)) (sym turn.over.base_is)
-      left (command.Get q) p = ap (λ (t : Nodes). changes (base_tree h.past s) (view_after (command.Get q) t)) (view_is turn.over) ∙ ap (λ (t : Nodes). changes t (view_after (command.Get q) view)) (sym turn.over.base_is)
-      left (command.List q) p = ap (λ (t : Nodes). changes (base_tree h.past s) (view_after (command.List q) t)) (view_is turn.over) ∙ ap (λ (t : Nodes). changes t (view_after (command.List q) view)) (sym turn.over.base_is)
+      kept : (b : Bool) (ws : List Write) → not b ≡ true → cond b [] ws ≡ ws
+      kept true ws h = absurd (false≢true h)
+      kept false ws h = refl
+
+      left : pending_after c (base_tree h.past s) (pending_of law h.past s) ≡ changes base (view_after c view)
+      left =
+          kept (saves c) (changes (base_tree h.past s) (view_after c (view_of law h.past s))) p
+          ∙ (ap (λ (t : Nodes). changes (base_tree h.past s) (view_after c t)) (view_is turn.over)
+          ∙ ap (λ (t : Nodes). changes t (view_after c view)) (sym turn.over.base_is))
 
       by : (b : Bool) → passes (checks c view) ≡ b → IsTurn law (event.Said s i (answer_text (answered c view)) ∷ h.past) s base (view_after c view)
       by true k =
           turn_accepted law h.past s i (answer_text (answered c view)) c base (view_after c view) is
           (ap (λ a. is_ok_text (answer_text a)) (first_passes (checks c view) (shown c view) k) ∙ accepted_text (shown c view) (shows c view))
-          turn.over.base_is turn.over.idle (left c p) turn.over.from (view_is_tree c view turn.over.to)
+          turn.over.base_is turn.over.idle left turn.over.from (view_is_tree c view turn.over.to)
       by false k =
           subst (λ (t : Nodes). IsTurn law (event.Said s i (answer_text (answered c view)) ∷ h.past) s base t) (sym (ap (λ b. cond b (Rattle.jcr_trans.specs.Views.changed_view c view) view) k))
           (turn_refused law h.past s i (answer_text (answered c view)) base view turn.over (refused_text (answered c view) (first_refuses (checks c view) (shown c view) (each_refuses c view) k)))

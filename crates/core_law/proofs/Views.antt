@@ -1,13 +1,11 @@
 -- A command that reads or changes a view leaves a tree.
-use Rattle.std.proofs.Common.{◌≡◌, Bool, true, false, cond, ◌&&◌, not, Some, None, Option, List, [], ◌∷◌, is_some, is_none, refl, sym, ap, ◌∙◌, subst, codes}
+use Rattle.std.proofs.Common.{◌≡◌, Bool, true, false, cond, not, Some, None, Option, [], ◌∷◌, is_some, is_none, refl, sym, ap, ◌∙◌, subst, codes}
 use Rattle.std.specs.Option.{option_map, option_map_or}
 use Rattle.std.specs.Ordering.{is_eq, eq_by_cmp}
 use Rattle.std.specs.Cmp.{tied_itself}
-use Rattle.std.specs.Map.{lookup}
-use Rattle.std.specs.BTreeMap.{is_at, insert_entry}
+use Rattle.std.specs.BTreeMap.{insert_entry}
 use Rattle.std.specs.List.{list_all}
 use Rattle.std.specs.FinMap.{is_sorted}
-use Rattle.std.proofs.lemmas.Cmp.{nat_list_cmp_total}
 use mathlib.Core.Bool.{false≢true}
 use Rattle.jr_path.specs.Names.{name_cmp, path_cmp, parent_of}
 use Rattle.jr_path.specs.declared.name.Name.{Name}
@@ -23,8 +21,8 @@ use Rattle.jr_tree.proofs.Pointwise.{same_path}
 use Rattle.jr_tree.proofs.AtPath.{InOrder, filled, node_at-filled, order-filled}
 use Rattle.jr_tree.proofs.EditLaw.{IsOrderly, Orderly-all, Orderly-filled}
 use Rattle.jcr_trans.specs.declared.command.Command.{Command}
-use Rattle.jcr_trans.specs.declared.command.Command.TheVariants as command
-use Rattle.jcr_trans.specs.Views.{Check, add_checks, changed_view, checks, passes, view_after, depth_limit, length_limit, not_system, parent_stands, place_is_free}
+use Rattle.jcr_trans.specs.Commands.{Built, Adds, Sets, Gets, Lists, Saves, NotBuilt, built}
+use Rattle.jcr_trans.specs.Views.{changed_by, checks, checks_of, passes, view_after, depth_limit, length_limit, not_system, parent_stands, place_is_free}
 
 -- ---- a tree, by what stands at each path
 
@@ -132,14 +130,15 @@ parent_there t (Some q) h = by (node_at t q) h
     by (Some node) h = refl
 
 pub view_is_tree : (c : Command) (t : Nodes) → IsTree t → IsTree (view_after c t)
-view_is_tree c t tree = by c (passes (checks c t)) refl
+view_is_tree c t tree = by (built c) (passes (checks c t)) refl
   where
-    by : (c : Command) (b : Bool) → passes (checks c t) ≡ b → IsTree (cond b (changed_view c t) t)
-    by (command.Add p) true h =
+    by : (k : Built) (b : Bool) → passes (checks_of k t) ≡ b → IsTree (cond b (changed_by k t) t)
+    by (Adds p) true h =
         tree_added t tree p (node_of_type (codes "nt:unstructured")) refl
         (parent_there t (parent_of p) (unheld (parent_stands t p).test (first (not (parent_stands t p).test) (passes (place_is_free t p ∷ [])) (second (not (not_system p).test) _ (second (not (length_limit p).test) _ (second (not (depth_limit p).test) _ h))))))
-    by (command.Set p n x) true h = tree_set t tree p n x
-    by (command.Get p) true h = tree
-    by (command.List p) true h = tree
-    by command.Save true h = tree
-    by c false h = tree
+    by (Sets p n x) true h = tree_set t tree p n x
+    by (Gets p) true h = tree
+    by (Lists p) true h = tree
+    by Saves true h = tree
+    by (NotBuilt word) true h = tree
+    by k false h = tree

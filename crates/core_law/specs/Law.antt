@@ -1,5 +1,5 @@
 -- The law of the product: which edits may start, and which texts may be said.
-use Rattle.std.specs.Prelude.{◌≡◌, ◌≢◌, ℕ, Bool, true, false, List, [], ◌∷◌, length, None, Some, IsTrue, IsFalse, codes, nat_le}
+use Rattle.std.specs.Prelude.{◌≡◌, ◌≢◌, ℕ, Bool, false, not, List, [], ◌∷◌, length, None, Some, IsTrue, IsFalse, codes, nat_le}
 use Rattle.std.specs.Option.{option_map_or}
 use Rattle.jr_path.specs.declared.path.Item.{Item}
 use Rattle.jr_path.specs.declared.text.Text.{Text}
@@ -17,6 +17,7 @@ use Rattle.oak_machine.specs.Marks.{marks_for}
 use Rattle.oak_machine.specs.Sessions.{is_drawing, next_index, drawn_since, refreshed_since}
 use Rattle.jcr_trans.specs.declared.command.Command.{Command}
 use Rattle.jcr_trans.specs.declared.command.Command.TheVariants as command
+use Rattle.jcr_trans.specs.Commands.{saves}
 use Rattle.jcr_trans.specs.Answers.{Answer, ShowsRevision, ShowsNothing, Refused}
 use Rattle.jcr_trans.specs.Texts.{answer_text}
 use Rattle.jcr_trans.specs.Views.{answered, over_limit}
@@ -40,14 +41,13 @@ pub record MayStart (law : Orders) (h : History) (s : ℕ) (edit : Edit) (marks 
   pub some : edit.writes ≢ []
   pub plan : IsPlan (base_tree h.past s) edit marks
 
--- a command that reads or changes the view alone
+-- a command that reads or changes the view alone, or isn't built
 abbrev pub is_plain : Command → Bool
-is_plain command.Save = false
-is_plain c = true
+is_plain c = not (saves c)
 
 -- the causes of an answer of s to a command
 pub data MaySay (law : Orders) (past : Past) (s : ℕ) : Command → Answer → Type 0 where
-  -- a reading or view command answers by the view
+  -- a reading or view command answers by the view, and one that isn't built is refused
   plain : (c : Command) → IsTrue (is_plain c) → MaySay law past s c (answered c (view_of law past s))
   -- nothing was pending
   unchanged : drawn_since past s ≡ None → pending_of law past s ≡ [] → MaySay law past s command.Save ShowsNothing

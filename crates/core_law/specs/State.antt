@@ -14,7 +14,7 @@ use Rattle.oak_machine.specs.History.{Past}
 use Rattle.oak_machine.specs.Commits.{tree_at}
 use Rattle.oak_machine.specs.Sessions.{base_of}
 use Rattle.jcr_trans.specs.declared.command.Command.{Command}
-use Rattle.jcr_trans.specs.declared.command.Command.TheVariants as command
+use Rattle.jcr_trans.specs.Commands.{saves}
 use Rattle.jcr_trans.specs.Views.{view_after}
 
 -- the cluster node and the commands of each session
@@ -35,8 +35,7 @@ base_tree past s = option_map_or (tree_at past) (base_of past s) initial_tree
 
 -- what an accepted command leaves of the pending edits: none where it saves, else those by which the view then differs from the base
 abbrev pub pending_after : Command → Nodes → List Write → List Write
-pending_after command.Save base ws = []
-pending_after c base ws = changes base (view_after c (applied base ws))
+pending_after c base ws = cond (saves c) [] (changes base (view_after c (applied base ws)))
 
 -- what a reply leaves of the pending edits: those there are, where it refuses
 abbrev pub pending_said : Orders → Past → ℕ → ℕ → Text → List Write → List Write

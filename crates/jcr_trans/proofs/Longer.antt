@@ -1,5 +1,5 @@
 -- Whether names, each with a byte before it, have more bytes than a number.
-use Rattle.std.proofs.Common.{◌≡◌, ℕ, ◌+◌, ◌-◌, ◌<◌, ◌≤◌, Bool, true, false, nat_lt, ◌||◌, arith, refl, sym, ap, ◌∙◌, ltb-true, lt-ltb}
+use Rattle.std.proofs.Common.{◌≡◌, ℕ, ◌+◌, ◌-◌, ◌<◌, ◌≤◌, Bool, true, false, nat_lt, ◌||◌, arith, sym, ap, ◌∙◌, ltb-true, lt-ltb}
 use Rattle.std.proofs.lemmas.Bool.{ltb_from_iff}
 use mathlib.Core.Bool.{false≢true}
 

@@ -1,21 +1,19 @@
 -- What a command does to a view, and what it answers.
-use Rattle.std.specs.Prelude.{◌≡◌, ◌⊎◌, bytes_eq, ℕ, ◌+◌, Bool, true, false, cond, not, ◌&&◌, ◌||◌, ◌==◌, nat_lt, List, [], ◌∷◌, ◌++◌, length, drop, sum_by, codes, Option, None, is_some, is_none}
+use Rattle.std.specs.Prelude.{◌≡◌, ◌⊎◌, bytes_eq, ℕ, ◌+◌, Bool, true, false, cond, not, ◌&&◌, ◌||◌, nat_lt, List, [], ◌∷◌, length, codes, Option, is_some, is_none}
 use Rattle.std.specs.Option.{option_map_or, option_and_then}
 use Rattle.std.specs.BTreeMap.{insert_entry}
-use Rattle.std.specs.List.{filter, filter_map, fold}
-use Rattle.jr_path.specs.Names.{name_cmp, path_cmp, parent_of, last_name, is_under}
+use Rattle.jr_path.specs.Names.{path_cmp, parent_of, last_name, is_under}
 use Rattle.jr_path.specs.declared.name.Name.{Name}
 use Rattle.jr_path.specs.declared.path.Path.{Path}
 use Rattle.jr_value.specs.declared.value.Property.{Property}
 use Rattle.jr_tree.specs.declared.shared.Datum.TheVariants as datum
 use Rattle.jr_tree.specs.declared.shared.Refusal.{Refusal}
-use Rattle.jr_tree.specs.declared.edit.Write.{Write}
 use Rattle.jr_tree.specs.declared.edit.Write.TheVariants as write
 use Rattle.jr_tree.specs.Trees.{Nodes, node_at, property_at}
 use Rattle.jr_tree.specs.Edits.{with_property_write}
 use Rattle.jr_tree.specs.Trees.{node_of_type, children_of}
 use Rattle.jcr_trans.specs.declared.command.Command.{Command}
-use Rattle.jcr_trans.specs.declared.command.Command.TheVariants as command
+use Rattle.jcr_trans.specs.Commands.{Built, Adds, Sets, Gets, Lists, Saves, NotBuilt, built}
 use Rattle.jcr_trans.specs.Answers.{Answer, Done, ShowsProperty, ShowsNames, Refused}
 
 -- a refusal, where its test holds
@@ -97,6 +95,13 @@ property_of_path t p = option_and_then (λ q. option_and_then (λ n. property_at
 abbrev pub property_stands : Nodes → Path → Check
 property_stands t p = record { test = is_none (property_of_path t p); answer = no_item p }
 
+-- a command that isn't built, or not with these arguments, is refused before all else
+abbrev pub unsupported : List ℕ → Answer
+unsupported word = Refused 12 (datum.Text word ∷ [])
+
+abbrev pub not_built : List ℕ → Check
+not_built word = record { test = true; answer = unsupported word }
+
 -- the refusals of each command, in their order
 abbrev pub add_checks : Path → Nodes → List Check
 add_checks p t = depth_limit p ∷ length_limit p ∷ not_system p ∷ parent_stands t p ∷ place_is_free t p ∷ []
@@ -110,12 +115,16 @@ get_checks p t = depth_limit p ∷ length_limit p ∷ property_stands t p ∷ []
 abbrev pub list_checks : Path → Nodes → List Check
 list_checks p t = depth_limit p ∷ length_limit p ∷ node_stands t p ∷ []
 
+abbrev pub checks_of : Built → Nodes → List Check
+checks_of (Adds p) t = add_checks p t
+checks_of (Sets p n x) t = set_checks p n t
+checks_of (Gets p) t = get_checks p t
+checks_of (Lists p) t = list_checks p t
+checks_of Saves t = []
+checks_of (NotBuilt word) t = not_built word ∷ []
+
 abbrev pub checks : Command → Nodes → List Check
-checks (command.Add p) t = add_checks p t
-checks (command.Set p n x) t = set_checks p n t
-checks (command.Get p) t = get_checks p t
-checks (command.List p) t = list_checks p t
-checks command.Save t = []
+checks c t = checks_of (built c) t
 
 -- memory was refused
 abbrev pub IsMemory : Refusal → Type 0
@@ -133,20 +142,26 @@ abbrev pub FailsFirst : List Check → Refusal → Type 0
 FailsFirst cs r = IsMemory r ⊎ ((answer : Answer) → IsRefusal (first_of cs answer) r)
 
 -- the view after a command that passes its checks
+abbrev pub changed_by : Built → Nodes → Nodes
+changed_by (Adds p) t = insert_entry path_cmp t p (node_of_type (codes "nt:unstructured"))
+changed_by (Sets p n x) t = with_property_write t (write.Put p n x)
+changed_by _ t = t
+
 abbrev pub changed_view : Command → Nodes → Nodes
-changed_view (command.Add p) t = insert_entry path_cmp t p (node_of_type (codes "nt:unstructured"))
-changed_view (command.Set p n x) t = with_property_write t (write.Put p n x)
-changed_view _ t = t
+changed_view c t = changed_by (built c) t
 
 -- the view after a command: as it was where the command is refused
 abbrev pub view_after : Command → Nodes → Nodes
 view_after c t = cond (passes (checks c t)) (changed_view c t) t
 
 -- what a command that passes its checks shows
+abbrev pub shown_by : Built → Nodes → Answer
+shown_by (Gets p) t = option_map_or ShowsProperty (property_of_path t p) Done
+shown_by (Lists p) t = ShowsNames (children_of t p)
+shown_by _ t = Done
+
 abbrev pub shown : Command → Nodes → Answer
-shown (command.Get p) t = option_map_or ShowsProperty (property_of_path t p) Done
-shown (command.List p) t = ShowsNames (children_of t p)
-shown _ t = Done
+shown c t = shown_by (built c) t
 
 -- what a reading or view command answers: the first refusal whose test holds, or else what it shows
 abbrev pub answered : Command → Nodes → Answer

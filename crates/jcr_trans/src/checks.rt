@@ -2,7 +2,7 @@
 ghost use Rattle.std.specs.Prelude.{◌≡◌, true, false, IfOk, IfErr, OnOk, OnErr, bytes_eq, nat_lt};
 ghost use Rattle.std.specs.Option.{option_copied};
 ghost use Rattle.jr_path.specs.Names.{is_under};
-ghost use Rattle.jcr_trans.specs.Views.{add_checks, checks, depth_limit, get_checks, is_type_name, length_limit, list_checks, no_item, node_stands, not_protected, not_system, over_limit, own_item_rule, own_rule, parent_stands, passes, place_is_free, property_of_path, property_stands, set_checks, system, taken, text_length, Fails, FailsFirst, IsMemory, IsRefusal};
+ghost use Rattle.jcr_trans.specs.Views.{add_checks, checks, depth_limit, get_checks, is_type_name, length_limit, list_checks, no_item, node_stands, not_protected, not_system, over_limit, own_item_rule, own_rule, parent_stands, passes, place_is_free, property_of_path, property_stands, set_checks, system, taken, text_length, unsupported, Fails, FailsFirst, IsMemory, IsRefusal};
 
 use crate::Command;
 use jr_path::{DeepCopy, List, Name, Path, Text};
@@ -16,11 +16,12 @@ pub fn check(alloc: Global, view: &Tree, command: &Command) -> Result<(), Refusa
     ensures err { IfErr result (FailsFirst (checks command.now view.now)) }
 {
     match command {
-        Command::Add(path) => check_add(alloc, view, path),
+        Command::Add(path, None) => check_add(alloc, view, path),
         Command::Set(path, name, _) => check_set(alloc, view, path, name),
         Command::Get(path) => check_get(alloc, view, path),
         Command::List(path) => check_list(alloc, view, path),
         Command::Save => Ok(()),
+        _ => Err(refused_with(alloc, unsupported(alloc, command.word()))),
     }
 }
 
@@ -208,6 +209,15 @@ fn refused_with(alloc: Global, made: Result<Refusal, AllocError>) -> Refusal
         Ok(refusal) => refusal,
         Err(AllocError) => Refusal::memory(alloc),
     }
+}
+
+// A command of this name isn't built.
+fn unsupported(alloc: Global, word: &str) -> Result<Refusal, AllocError>
+    ensures { IfOk result (IsRefusal (unsupported word.now)) }
+{
+    let mut parts = List::new(alloc);
+    parts.push(Datum::Text(Text::copy_of(alloc, word)?))?;
+    Ok(Refusal { number: 12, parts })
 }
 
 // There is no such item.

@@ -8,6 +8,6 @@ mod tests;
 mod texts;
 mod view;
 
-pub use command::Command;
+pub use command::{Command, TreeNode};
 pub use texts::{null_reply, refusal_text, revision_reply};
 pub use view::run;

@@ -13,10 +13,12 @@ enum Plain {
     Set(&'static str, &'static str, i64),
     Get(&'static str),
     List(&'static str),
+    AddFolder(&'static str),
+    Remove(&'static str),
 }
 
 // One after another, with their replies: in an empty repository, and again after some are refused.
-const REPLIES: [(Plain, &str); 17] = [
+const REPLIES: [(Plain, &str); 19] = [
     (Plain::List("/"), r#"ok ["jcr:system"]"#),
     (Plain::Add("/b/c"), r#"no 1 ["/b"]"#),
     (Plain::Set("/b", "p", 1), r#"no 1 ["/b"]"#),
@@ -40,21 +42,31 @@ const REPLIES: [(Plain, &str); 17] = [
         Plain::Set("/b", "jcr:primaryType", 1),
         r#"no 4 [0,"/b","jcr:primaryType"]"#,
     ),
+    (Plain::AddFolder("/b"), r#"no 12 ["add"]"#),
+    (Plain::Remove("/x"), r#"no 12 ["remove"]"#),
 ];
 
 fn command(alloc: Global, plain: Plain) -> Result<Command, AllocError> {
     match plain {
-        Plain::Add(at) => Ok(Command::Add(path(alloc, at)?)),
+        Plain::Add(at) => Ok(Command::Add(path(alloc, at)?, None)),
         Plain::Set(at, name, number) => {
-            let name = match Name::parse(alloc, name) {
-                Ok(name) => name,
-                Err(_) => return Err(AllocError),
-            };
             let value = Property::Single(Value::Long(number));
-            Ok(Command::Set(path(alloc, at)?, name, value))
+            Ok(Command::Set(path(alloc, at)?, named(alloc, name)?, value))
         }
         Plain::Get(at) => Ok(Command::Get(path(alloc, at)?)),
         Plain::List(at) => Ok(Command::List(path(alloc, at)?)),
+        Plain::AddFolder(at) => {
+            let folder = named(alloc, "nt:folder")?;
+            Ok(Command::Add(path(alloc, at)?, Some(folder)))
+        }
+        Plain::Remove(at) => Ok(Command::Remove(path(alloc, at)?)),
+    }
+}
+
+fn named(alloc: Global, text: &str) -> Result<Name, AllocError> {
+    match Name::parse(alloc, text) {
+        Ok(name) => Ok(name),
+        Err(_) => Err(AllocError),
     }
 }
 
@@ -65,8 +77,13 @@ fn path(alloc: Global, text: &str) -> Result<Path, AllocError> {
     }
 }
 
-fn reply(alloc: Global, view: &mut Tree, command: &Command) -> Result<String, AllocError> {
-    match run(alloc, view, command) {
+fn copied(alloc: Global, plain: Plain) -> Result<Command, AllocError> {
+    command(alloc, plain)?.copy()
+}
+
+fn reply(alloc: Global, view: &mut Tree, plain: Plain) -> Result<String, AllocError> {
+    let command = copied(alloc, plain)?;
+    match run(alloc, view, &command) {
         Ok(text) => Ok(text),
         Err(refusal) => refusal_text(alloc, &refusal),
     }
@@ -77,8 +94,7 @@ fn replies_of_commands(rt: HostRuntime) -> Result<(), Fail> {
     let alloc = rt.alloc();
     let mut view = Tree::initial(alloc)?;
     for (plain, want) in REPLIES {
-        let command = command(alloc, plain)?.copy()?;
-        let text = reply(alloc, &mut view, &command)?;
+        let text = reply(alloc, &mut view, plain)?;
         assert_eq!(rt; text.as_str(), want, "at {plain:?}");
     }
     assert_eq!(rt; view.len(), 5);

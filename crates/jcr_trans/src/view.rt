@@ -41,7 +41,7 @@ fn passed(alloc: Global, view: &mut Tree, command: &Command) -> Result<String, A
     ensures kept { OnErr result (view.new ≡ view.old) }
 {
     match command {
-        Command::Add(path) => {
+        Command::Add(path, None) => {
             let text = done_text(alloc)?;
             add_node(alloc, view, path)?;
             Ok(text)
@@ -56,7 +56,7 @@ fn passed(alloc: Global, view: &mut Tree, command: &Command) -> Result<String, A
             None => done_text(alloc),
         },
         Command::List(path) => names_text(alloc, view.children(path)?.as_slice()),
-        Command::Save => done_text(alloc),
+        _ => done_text(alloc),
     }
 }
 

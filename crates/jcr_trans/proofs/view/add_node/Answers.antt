@@ -1,4 +1,4 @@
-use Rattle.std.proofs.Common.{◌≡◌, ap, ◌∙◌}
+use Rattle.std.proofs.Common.{◌∙◌}
 use Rattle.std.specs.BTreeMap.{insert_entry}
 use Rattle.jr_path.specs.Names.{path_cmp}
 use Rattle.jcr_trans.proofs.view.add_node.Goals as goal
