@@ -1,6 +1,7 @@
-pub mod Arguments
+pub mod Below
+pub mod Escapes
+pub mod Grammar
 pub mod Lists
-mod Rows
-pub mod Short
+pub mod Readings
+pub mod Sessions
 pub mod Unique
-pub mod Words

@@ -1,66 +1,90 @@
--- Lists of commands.
-use Rattle.std.proofs.Common.{◌≡◌, ℕ, Some, codes, List, [], ◌∷◌, refl, sym, ◌++◌, append_assoc, append-nil, ◌+◌, ◌<◌, ◌≤◌, length, get_or, drop, drop-cons, add-one, arith}
+-- Lists and maps that are read one after another.
+use Rattle.std.proofs.Common.{◌≡◌, ℕ, ◌+◌, ◌<◌, ◌≤◌, List, [], ◌∷◌, ◌++◌, Err, append_assoc, append-nil, length, get_or, drop, drop-cons, add-one, refl, subst, String, Global}
+use Rattle.std.specs.String.{string_bytes}
 use Rattle.std.proofs.lemmas.List.{drop_all}
-use Rattle.serde_json.specs.Data.{Data, Items, no_items, item}
-use Rattle.serde_json.specs.View.{view, items_view}
+use Rattle.std.specs.BTreeMap.{insert_entry}
+use Rattle.serde_json.specs.Data.{Data, Items, Members, no_items, item, no_members, member}
+use Rattle.serde_json.specs.View.{view, items_view, members_view}
 use Rattle.serde_json.specs.declared.value.Value as json
-use Rattle.jcr_trans.specs.declared.command.Command.{Command}
-use Rattle.jr_script.specs.Commands.{IsCommand}
-use Rattle.jr_script.specs.Scripts.{only_list, AreCommands, IsSession}
-use Rattle.jr_script.specs.declared.script.SessionScript.{SessionScript}
+use Rattle.jr_path.specs.Names.{name_cmp}
+use Rattle.jr_path.specs.declared.name.Name.{Name}
+use Rattle.jr_script.specs.declared.fault.Fault.{Fault}
+use Rattle.jr_script.specs.declared.fault.Fault.TheVariants as fault
+use Rattle.jr_script.specs.declared.fault.Step.TheVariants.{Key, Index}
+use Rattle.jr_script.specs.Outcomes.{Outcome, Means, Breaks, Reading, Answers, IsRaised, is}
+use Rattle.jr_script.specs.Trees.{entry_of, list_of, map_of}
+use Rattle.jr_script.proofs.Readings.{raised}
 
--- So far these commands are read of the list, and these items are left: any commands of theirs are the list's next,
--- and where they have none the list has none.
-pub record IsReadTo (all rest : Items) (front : List Command) : Type 0 where
-  pub next : (cs : List Command) → AreCommands rest cs → AreCommands all (front ++ cs)
-  pub has : (cs : List Command) → AreCommands all cs → (ds : List Command) × AreCommands rest ds
+-- the outcome with these before what it means
+abbrev pub behind : {X : Type 0} → List X → Outcome (List X) → Outcome (List X)
+behind front (Means xs) = Means (front ++ xs)
+behind front (Breaks rule steps) = Breaks rule steps
 
-pub read_none : (all : Items) → IsReadTo all all []
-read_none all = record { next = λ cs h. h; has = λ cs h. (cs, h) }
+pub behind_none : {X : Type 0} (o : Outcome (List X)) → behind [] o ≡ o
+behind_none (Means xs) = refl
+behind_none (Breaks rule steps) = refl
 
-tail : (d : Data) (ds : Items) (cs : List Command) → AreCommands (item d ds) cs → (es : List Command) × AreCommands ds es
-tail d ds [] h = absurd h
-tail d ds (c ∷ cs) h = (cs, h.1)
+pub behind_more : {X : Type 0} (front more : List X) (o : Outcome (List X)) → behind front (behind more o) ≡ behind (front ++ more) o
+behind_more front more (Means xs) = rw (append_assoc front more xs) refl
+behind_more front more (Breaks rule steps) = refl
 
-pub read_more : (all rest left : Items) (front more : List Command) (d : Data) (c : Command) → IsReadTo all rest front → rest ≡ item d left → more ≡ front ++ c ∷ [] → IsCommand d c → IsReadTo all left more
-read_more all rest left front more d c read is put good = record {
-  next = λ cs h. rw (put, append_assoc front (c ∷ []) cs) (read.next (c ∷ cs) (rw is (good, h)));
-  has = λ cs h. let rest_has = read.has cs h in tail d left rest_has.0 (rw is at rest_has.1);
-}
+-- so many items are read, and what the rest comes to the whole does behind them
+pub record IsReadTo {X : Type 0} (M : Data → Reading X) (vs : List json.Value) (i : ℕ) (front : List X) : Type 0 where
+  pub next : (o : Outcome (List X)) → list_of M i (items_view (drop i vs)) o → list_of M 0 (items_view vs) (behind front o)
 
--- an item that is no command leaves the list without commands
-pub read_stop : (all rest left : Items) (front : List Command) (d : Data) → IsReadTo all rest front → rest ≡ item d left → ((c : Command) → IsCommand d c → ⊥) → (cs : List Command) → AreCommands all cs → ⊥
-read_stop all rest left front d read is bad cs h = let rest_has = read.has cs h in no_head rest_has.0 (rw is at rest_has.1)
-  where
-    no_head : (ds : List Command) → AreCommands (item d left) ds → ⊥
-    no_head [] g = g
-    no_head (c ∷ ds) g = bad c g.0
+pub read_none : {X : Type 0} (M : Data → Reading X) (vs : List json.Value) → IsReadTo M vs 0 []
+read_none M vs = record { next = λ o h. rw (behind_none o) h }
 
-pub read_all : (all rest : Items) (front : List Command) → IsReadTo all rest front → rest ≡ no_items → AreCommands all front
-read_all all rest front read is = rw append-nil at (read.next [] (rw is tt))
-
--- the items from a place on
-pub rest_more : (vs : List json.Value) (i : ℕ) (v : json.Value) → i < length vs → v ≡ get_or vs i v → items_view (drop i vs) ≡ item (view v) (items_view (drop (i + 1) vs))
+rest_more : (vs : List json.Value) (i : ℕ) (v : json.Value) → i < length vs → v ≡ get_or vs i v → items_view (drop i vs) ≡ item (view v) (items_view (drop (i + 1) vs))
 rest_more vs i v within is = rw (drop-cons vs i v within, ← is, add-one) refl
 
-pub rest_all : (vs : List json.Value) (i : ℕ) → length vs ≤ i → items_view (drop i vs) ≡ no_items
+rest_all : (vs : List json.Value) (i : ℕ) → length vs ≤ i → items_view (drop i vs) ≡ no_items
 rest_all vs i past = rw (drop_all i vs past) refl
 
--- there are as many commands as items
-pub as_many : (vs : List json.Value) (cs : List Command) → AreCommands (items_view vs) cs → length cs ≡ length vs
-as_many [] [] h = refl
-as_many [] (c ∷ cs) h = absurd h
-as_many (v ∷ vs) [] h = absurd h
-as_many (v ∷ vs) (c ∷ cs) h = let same = as_many vs cs h.1 in omega (arith, same)
+put_before : {X : Type 0} (M : Data → Reading X) (d : Data) (ds : Items) (i : ℕ) (x : X) (o : Outcome (List X)) → M d (Means x) → list_of M (i + 1) ds o → list_of M i (item d ds) (behind (x ∷ []) o)
+put_before M d ds i x (Means xs) g h = record { first = Means x; is_first = g; rest = record { first = Means xs; is_first = h; rest = refl } }
+put_before M d ds i x (Breaks rule steps) g h = record { first = Means x; is_first = g; rest = record { first = Breaks rule steps; is_first = h; rest = refl } }
 
--- a list of too many commands
-pub too_many : (vs : List json.Value) (d : Data) → Some (items_view vs) ≡ only_list (codes "commands") d → 10000 < length vs → (s : SessionScript) → IsSession d s → ⊥
-too_many vs d is over s h =
-    let same = as_many vs s.commands (rw (sym is) at h.2) in
-    let most = h.1 in
-    absurd (omega (arith, same, most, over))
+pub read_more : {X : Type 0} (M : Data → Reading X) (vs : List json.Value) (i : ℕ) (front more : List X) (v : json.Value) (x : X) → IsReadTo M vs i front → i < length vs → v ≡ get_or vs i v
+    → M (view v) (Means x) → more ≡ front ++ x ∷ [] → IsReadTo M vs (i + 1) more
+read_more M vs i front more v x read within at good put = record {
+  next = λ o h. rw (put, ← behind_more front (x ∷ []) o) (read.next (behind (x ∷ []) o) (rw (rest_more vs i v within at) (put_before M (view v) _ i x o good h)));
+}
 
-pub session_found : (vs : List json.Value) (d : Data) (cs : List Command) → Some (items_view vs) ≡ only_list (codes "commands") d → length vs ≤ 10000 → AreCommands (items_view vs) cs → IsSession d (record { cluster = 1; commands = cs })
-session_found vs d cs is within are =
-    let same = as_many vs cs are in
-    (refl, omega (arith, same, within), rw (sym is) are)
+pub read_stop : {X : Type 0} (M : Data → Reading X) (vs : List json.Value) (i : ℕ) (front : List X) (v : json.Value) (below above : Fault) → IsReadTo M vs i front → i < length vs → v ≡ get_or vs i v
+    → IsRaised (Index i) below above → Answers (M (view v)) (Err below) → Answers (list_of M 0 (items_view vs)) (Err above)
+read_stop M vs i front v below (fault.Bad rule steps) read within at up bad =
+    let here = raised (Index i) (M (view v)) below (fault.Bad rule steps) up bad in
+    read.next (Breaks rule steps) (rw (rest_more vs i v within at) (record { first = Breaks rule steps; is_first = here; rest = refl }))
+read_stop M vs i front v below fault.Memory read within at up bad = tt
+
+pub read_all : {X : Type 0} (M : Data → Reading X) (vs : List json.Value) (i : ℕ) (front all : List X) → IsReadTo M vs i front → length vs ≤ i → all ≡ front → list_of M 0 (items_view vs) (Means all)
+read_all M vs i front all read past same = rw same (rw (append-nil front) at (read.next (Means []) (rw (rest_all vs i past) refl)))
+
+-- some members are put into the map, and what the rest comes to from it the whole does
+pub record IsPutTo {X : Type 0} (M : Data → Reading X) (all rest : Members) (map : List (Name × X)) : Type 0 where
+  pub next : (o : Outcome (List (Name × X))) → map_of M map rest o → map_of M [] all o
+
+pub put_none : {X : Type 0} (M : Data → Reading X) (all : Members) → IsPutTo M all all []
+put_none M all = record { next = λ o h. h }
+
+-- the same where the key that is read and the step's are written otherwise
+pub put_more : {X : Type 0} (M : Data → Reading X) (all rest left : Members) (map more : List (Name × X)) (key read : List ℕ) (d : Data) (name : Name) (x : X) → IsPutTo M all rest map → rest ≡ member key d left
+    → read ≡ key → entry_of M read d (Means (name, x)) → more ≡ insert_entry name_cmp map name x → IsPutTo M all left more
+put_more M all rest left map more key read d name x put at is good same = record {
+  next = λ o h. put.next o (rw at (record { first = Means (name, x); is_first = rw is at good; rest = rw same at h }));
+}
+
+pub put_stop : {X : Type 0} (M : Data → Reading X) (all rest left : Members) (map : List (Name × X)) (key read step : List ℕ) (d : Data) (below above : Fault) → IsPutTo M all rest map → rest ≡ member key d left
+    → read ≡ key → step ≡ key → IsRaised (Key step) below above → Answers (entry_of M read d) (Err below) → Answers (map_of M [] all) (Err above)
+put_stop M all rest left map key read step d below (fault.Bad rule steps) put at is same up bad =
+    let here = raised (Key key) (entry_of M key d) below (fault.Bad rule steps) (subst (λ k. IsRaised (Key k) below (fault.Bad rule steps)) same up) (subst (λ k. Answers (entry_of M k d) (Err below)) is bad) in
+    put.next (Breaks rule steps) (rw at (record { first = Breaks rule steps; is_first = here; rest = refl }))
+put_stop M all rest left map key read step d below fault.Memory put at is same up bad = tt
+
+-- what an iterator goes on with
+pub first_member : (es : List (String Global × json.Value)) (k : String Global) (v : json.Value) (rest : List (String Global × json.Value)) → es ≡ (k, v) ∷ rest → members_view es ≡ member (string_bytes k) (view v) (members_view rest)
+first_member es k v rest is = rw is refl
+
+pub no_member : (es : List (String Global × json.Value)) → es ≡ [] → members_view es ≡ no_members
+no_member es is = rw is refl

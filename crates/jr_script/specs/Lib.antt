@@ -1,3 +1,7 @@
 pub mod Commands
-pub mod Names
+pub mod Outcomes
+pub mod Pointers
 pub mod Scripts
+pub mod Trees
+pub mod Values
+pub mod Words

@@ -1,149 +1,185 @@
 // The commands of a script.
-ghost use Rattle.std.specs.Prelude.{◌≡◌, IfOk, codes};
 ghost use Rattle.serde_json.specs.View.{view, items_view};
-ghost use Rattle.jr_script.specs.Names.{IsFound};
-ghost use Rattle.jr_script.specs.Commands.{ArePath, IsCall, IsCommand, IsNameData, IsNamed, IsPathData, whole_of};
+ghost use Rattle.jr_script.specs.Commands.{call_of, called_of, command_of, listed_of, named_of};
+ghost use Rattle.std.specs.Prelude.{Some};
+ghost use Rattle.serde_json.specs.Find.{as_str};
+ghost use Rattle.jr_script.specs.declared.word.Word.TheVariants as the_word;
+ghost use Rattle.jr_script.specs.Outcomes.{Answers};
 
-use crate::names::{short_name, short_path};
+use crate::arguments::{
+    mask_at, name_at, name_if_any_at, number_at, path_at, property_at, text_at, tree_at, truth_at,
+    variables_at,
+};
+use crate::fault::Fault;
+use crate::word::{OnName, OnPath, Word, fits, word_named};
 use jcr_trans::Command;
-use jr_path::{Name, Path};
-use jr_value::{Property, Value};
+use jr_path::Text;
 use serde_json::Value as Json;
-use std::alloc::{AllocError, Global};
+use std::alloc::Global;
 
-// The command that the JSON is, if it is one.
-pub fn command(alloc: Global, json: &Json) -> Result<Option<Command>, AllocError>
-    ensures { IfOk result (IsFound (IsCommand (view json.now))) }
+// The rule on the form of a command.
+const FORM: u8 = 5;
+
+// The command that the JSON is.
+pub fn command(alloc: Global, json: &Json) -> Result<Command, Fault>
+    ensures { Answers (command_of (view json.now)) result }
 {
     match json {
-        Json::Array(items) => Ok(call(alloc, items)?),
-        _ => Ok(None),
+        Json::Array(items) => listed(alloc, items),
+        _ => Err(Fault::here(alloc, FORM)),
     }
 }
 
 // The command that a list is: its name, and then its arguments.
-fn call(alloc: Global, items: &[Json]) -> Result<Option<Command>, AllocError>
-    ensures { IfOk result (IsFound (IsCall (items_view items.now))) }
+fn listed(alloc: Global, items: &[Json]) -> Result<Command, Fault>
+    ensures { Answers (listed_of (items_view items.now)) result }
 {
-    let [word, arguments @ ..] = items else {
-        return Ok(None);
-    };
+    match items {
+        [] => Err(Fault::here(alloc, FORM)),
+        [word, arguments @ ..] => named(alloc, word, arguments),
+    }
+}
+
+fn named(alloc: Global, word: &Json, arguments: &[Json]) -> Result<Command, Fault>
+    ensures { Answers (called_of (as_str (view word.now)) (items_view arguments.now)) result }
+{
+    match word.as_str() {
+        Some(text) => match word_named(text) {
+            Some(word) => fitting(alloc, word, arguments),
+            None => Err(Fault::here(alloc, FORM)),
+        },
+        None => Err(Fault::here(alloc, FORM)),
+    }
+}
+
+fn fitting(alloc: Global, word: Word, arguments: &[Json]) -> Result<Command, Fault>
+    ensures { Answers (named_of (Some word) (items_view arguments.now)) result }
+{
+    if fits(word.kinds(), arguments) {
+        call(alloc, word, arguments)
+    } else {
+        Err(Fault::here(alloc, FORM))
+    }
+}
+
+// The command of this name with arguments that fit.
+fn call(alloc: Global, word: Word, arguments: &[Json]) -> Result<Command, Fault>
+    ensures { Answers (call_of word (items_view arguments.now)) result }
+{
     match word {
-        Json::String(word) => Ok(named(alloc, word.as_str(), arguments)?),
-        _ => Ok(None),
+        Word::Bare(word) => Ok(word.command()),
+        Word::OnPath(word) => on_path(alloc, word, arguments),
+        Word::OnText(word) => {
+            let text = Text::copy_of(alloc, text_at(arguments, 0))?;
+            Ok(word.command(text))
+        }
+        Word::OnName(word) => on_name(alloc, word, arguments),
+        Word::OnNode(word) => Ok(word.command(number_at(arguments, 0))),
+        Word::Add => add(alloc, arguments),
+        Word::Tree => tree(alloc, arguments),
+        Word::Set => set(alloc, arguments),
+        Word::Move => move_to(alloc, arguments),
+        Word::Refresh => Ok(Command::Refresh(truth_at(arguments, 0))),
+        Word::Lock => lock(alloc, arguments),
+        Word::Restore => restore(alloc, arguments),
+        Word::Label => label(alloc, arguments),
+        Word::Observe => observe(alloc, arguments),
+        Word::Query => query(alloc, arguments),
+        Word::OrderBefore => order_before(alloc, arguments),
     }
 }
 
-// The command of this name with these arguments.
-fn named(alloc: Global, word: &str, arguments: &[Json]) -> Result<Option<Command>, AllocError>
-    ensures { IfOk result (IsFound (IsNamed word.now (items_view arguments.now))) }
+fn on_path(alloc: Global, word: OnPath, arguments: &[Json]) -> Result<Command, Fault>
+    ensures { Answers (call_of (the_word.OnPath word) (items_view arguments.now)) result }
 {
-    if word == "add" {
-        return Ok(add(alloc, arguments)?);
-    }
-    if word == "set" {
-        return Ok(set(alloc, arguments)?);
-    }
-    if word == "get" {
-        return Ok(get(alloc, arguments)?);
-    }
-    if word == "list" {
-        return Ok(list(alloc, arguments)?);
-    }
-    if word == "save" {
-        return Ok(save(arguments));
-    }
-    Ok(None)
+    let path = path_at(alloc, arguments, 0)?;
+    Ok(word.command(path))
 }
 
-fn add(alloc: Global, arguments: &[Json]) -> Result<Option<Command>, AllocError>
-    ensures { IfOk result (IsFound (IsNamed (codes "add") (items_view arguments.now))) }
+fn on_name(alloc: Global, word: OnName, arguments: &[Json]) -> Result<Command, Fault>
+    ensures { Answers (call_of (the_word.OnName word) (items_view arguments.now)) result }
 {
-    match one_path(alloc, arguments)? {
-        Some(path) => Ok(Some(Command::Add(path))),
-        None => Ok(None),
-    }
+    let path = path_at(alloc, arguments, 0)?;
+    let name = name_at(alloc, arguments, 1)?;
+    Ok(word.command(path, name))
 }
 
-fn get(alloc: Global, arguments: &[Json]) -> Result<Option<Command>, AllocError>
-    ensures { IfOk result (IsFound (IsNamed (codes "get") (items_view arguments.now))) }
+fn add(alloc: Global, arguments: &[Json]) -> Result<Command, Fault>
+    ensures { Answers (call_of the_word.Add (items_view arguments.now)) result }
 {
-    match one_path(alloc, arguments)? {
-        Some(path) => Ok(Some(Command::Get(path))),
-        None => Ok(None),
-    }
+    let path = path_at(alloc, arguments, 0)?;
+    let node_type = name_if_any_at(alloc, arguments, 1)?;
+    Ok(Command::Add(path, node_type))
 }
 
-fn list(alloc: Global, arguments: &[Json]) -> Result<Option<Command>, AllocError>
-    ensures { IfOk result (IsFound (IsNamed (codes "list") (items_view arguments.now))) }
+fn tree(alloc: Global, arguments: &[Json]) -> Result<Command, Fault>
+    ensures { Answers (call_of the_word.Tree (items_view arguments.now)) result }
 {
-    match one_path(alloc, arguments)? {
-        Some(path) => Ok(Some(Command::List(path))),
-        None => Ok(None),
-    }
+    let path = path_at(alloc, arguments, 0)?;
+    let nodes = tree_at(alloc, arguments, 1)?;
+    Ok(Command::Tree(path, nodes))
 }
 
-fn save(arguments: &[Json]) -> Option<Command>
-    ensures { IsFound (IsNamed (codes "save") (items_view arguments.now)) result }
+fn set(alloc: Global, arguments: &[Json]) -> Result<Command, Fault>
+    ensures { Answers (call_of the_word.Set (items_view arguments.now)) result }
 {
-    match arguments {
-        [] => Some(Command::Save),
-        _ => None,
-    }
+    let path = path_at(alloc, arguments, 0)?;
+    let name = name_at(alloc, arguments, 1)?;
+    let property = property_at(alloc, arguments, 2)?;
+    Ok(Command::Set(path, name, property))
 }
 
-fn set(alloc: Global, arguments: &[Json]) -> Result<Option<Command>, AllocError>
-    ensures { IfOk result (IsFound (IsNamed (codes "set") (items_view arguments.now))) }
+fn move_to(alloc: Global, arguments: &[Json]) -> Result<Command, Fault>
+    ensures { Answers (call_of the_word.Move (items_view arguments.now)) result }
 {
-    let [at, name, value] = arguments else {
-        return Ok(None);
-    };
-    let Some(path) = path_in(alloc, at)? else {
-        return Ok(None);
-    };
-    let Some(name) = name_in(alloc, name)? else {
-        return Ok(None);
-    };
-    match whole_in(value) {
-        Some(value) => Ok(Some(Command::Set(path, name, value))),
-        None => Ok(None),
-    }
+    let path = path_at(alloc, arguments, 0)?;
+    let target = path_at(alloc, arguments, 1)?;
+    Ok(Command::Move(path, target))
 }
 
-// The path that is the only argument.
-fn one_path(alloc: Global, arguments: &[Json]) -> Result<Option<Path>, AllocError>
-    ensures { IfOk result (IsFound (ArePath (items_view arguments.now))) }
+fn lock(alloc: Global, arguments: &[Json]) -> Result<Command, Fault>
+    ensures { Answers (call_of the_word.Lock (items_view arguments.now)) result }
 {
-    let [at] = arguments else {
-        return Ok(None);
-    };
-    Ok(path_in(alloc, at)?)
+    let path = path_at(alloc, arguments, 0)?;
+    Ok(Command::Lock(path, truth_at(arguments, 1)))
 }
 
-fn path_in(alloc: Global, json: &Json) -> Result<Option<Path>, AllocError>
-    ensures { IfOk result (IsFound (IsPathData (view json.now))) }
+fn restore(alloc: Global, arguments: &[Json]) -> Result<Command, Fault>
+    ensures { Answers (call_of the_word.Restore (items_view arguments.now)) result }
 {
-    match json {
-        Json::String(text) => Ok(short_path(alloc, text.as_str())?),
-        _ => Ok(None),
-    }
+    let path = path_at(alloc, arguments, 0)?;
+    let version = Text::copy_of(alloc, text_at(arguments, 1))?;
+    Ok(Command::Restore(path, version))
 }
 
-fn name_in(alloc: Global, json: &Json) -> Result<Option<Name>, AllocError>
-    ensures { IfOk result (IsFound (IsNameData (view json.now))) }
+fn label(alloc: Global, arguments: &[Json]) -> Result<Command, Fault>
+    ensures { Answers (call_of the_word.Label (items_view arguments.now)) result }
 {
-    match json {
-        Json::String(text) => Ok(short_name(alloc, text.as_str())?),
-        _ => Ok(None),
-    }
+    let path = path_at(alloc, arguments, 0)?;
+    let label = name_at(alloc, arguments, 2)?;
+    let version = Text::copy_of(alloc, text_at(arguments, 1))?;
+    Ok(Command::Label(path, version, label, truth_at(arguments, 3)))
 }
 
-// The LONG that a whole number is.
-fn whole_in(json: &Json) -> Option<Property>
-    ensures { result ≡ whole_of (view json.now) }
+fn observe(alloc: Global, arguments: &[Json]) -> Result<Command, Fault>
+    ensures { Answers (call_of the_word.Observe (items_view arguments.now)) result }
 {
-    match json.as_i64() {
-        Some(number) => Some(Property::Single(Value::Long(number))),
-        None => None,
-    }
+    let path = path_at(alloc, arguments, 0)?;
+    Ok(Command::Observe(path, truth_at(arguments, 1), mask_at(arguments, 2)))
+}
+
+fn query(alloc: Global, arguments: &[Json]) -> Result<Command, Fault>
+    ensures { Answers (call_of the_word.Query (items_view arguments.now)) result }
+{
+    let variables = variables_at(alloc, arguments, 1)?;
+    let text = Text::copy_of(alloc, text_at(arguments, 0))?;
+    Ok(Command::Query(text, variables))
+}
+
+fn order_before(alloc: Global, arguments: &[Json]) -> Result<Command, Fault>
+    ensures { Answers (call_of the_word.OrderBefore (items_view arguments.now)) result }
+{
+    let path = path_at(alloc, arguments, 0)?;
+    let name = name_if_any_at(alloc, arguments, 1)?;
+    Ok(Command::OrderBefore(path, name))
 }

@@ -1,11 +1,11 @@
-// A law of scripts.
+// Laws of scripts.
 ghost use Rattle.std.specs.Prelude.{◌≡◌};
 ghost use Rattle.serde_json.specs.Data.{Data};
+ghost use Rattle.jr_script.specs.Outcomes.{Outcome};
+ghost use Rattle.jr_script.specs.Scripts.{script_of};
 ghost use Rattle.jr_script.specs.declared.script.Script.{Script};
-ghost use Rattle.jr_script.specs.Scripts.{IsScript};
 
-/// JSON is one script at most.
-#[tactic(auto, using(crate::proofs::Unique::one_script))]
+/// JSON has one outcome at most: it means one script, or its first fault is one rule broken at one place.
 pub fn scripts_are_unique()
-    ensures { (d : Data) (s t : Script) → IsScript d s → IsScript d t → s ≡ t }
+    ensures { (d : Data) (o p : Outcome Script) → script_of d o → script_of d p → o ≡ p }
 {}

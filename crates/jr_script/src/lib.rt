@@ -1,14 +1,17 @@
-//! Scripts of sessions from their JSON: for now the scripts of one session at most, whose commands are `add`, `set`,
-//! `get`, `list` and `save`.
+//! Scripts of sessions from their JSON.
 #![tactic(auto)]
 
+mod arguments;
 mod commands;
+mod fault;
 mod laws;
-mod names;
 mod reading;
 mod script;
 #[cfg(test)]
 mod tests;
+mod tree;
+mod values;
+mod word;
 
 pub use laws::scripts_are_unique;
 pub use reading::{MAX_COMMANDS, read_script};

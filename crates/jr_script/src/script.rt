@@ -7,13 +7,13 @@ use jr_path::{List, Text};
 use std::alloc::AllocError;
 
 /// What is run: the sessions, by number from 0 on.
-#[derive(Debug, Drop)]
+#[derive(Drop)]
 pub struct Script {
     pub sessions: List<SessionScript>,
 }
 
 /// A session: the cluster node that it is at, from 1 on, and its commands in order, at most 10,000.
-#[derive(Debug, Drop)]
+#[derive(Drop)]
 pub struct SessionScript {
     pub cluster: u32,
     pub commands: List<Command>,
@@ -22,8 +22,7 @@ pub struct SessionScript {
 /// Why an input isn't read as a script.
 #[derive(Debug, Drop)]
 pub enum ScriptFault {
-    /// The input breaks a rule, at the place that a JSON Pointer (RFC 6901) names. Rule 0 with the empty pointer says
-    /// that it is no script of those that are read for now.
+    /// The input breaks a rule, and no earlier one, at the place that a JSON Pointer (RFC 6901) names.
     Bad { rule: u8, pointer: Text },
     /// Memory was refused.
     Memory,

@@ -1,16 +1,15 @@
-use Rattle.std.proofs.Common.{arith, ltb-false, ltb-true}
-use Rattle.jr_script.proofs.Arguments.{few_for_set, many_for_set, no_set_name}
+use Rattle.std.proofs.Common.{refl}
+use Rattle.jr_script.proofs.Readings.{exits, goes, means}
 use Rattle.jr_script.proofs.commands.set.Goals as goal
-use Rattle.jr_script.proofs.commands.set.Goals.{in_default-via-then-arguments-lt3, in_default-via-else-arguments-lt3+else-arguments-lt4}
 
-pub returns-in_default : goal.returns-in_default
-returns-in_default c =
-    elim c.in_default.branch [
-      | in_default-via-then-arguments-lt3 w ↦ few_for_set c.args.arguments.now (omega (arith, ltb-true))
-      | in_default-via-else-arguments-lt3+else-arguments-lt4 w ↦ many_for_set c.args.arguments.now (omega (arith, ltb-false))
-    ]
+pub returns-in_err-path : goal.returns-in_err-path
+returns-in_err-path c = exits _ _ _ _ c.from_residual.ensures.1 c.in_err-path.ensures
 
-pub returns-in_default-3 : goal.returns-in_default-3
-returns-in_default-3 c =
-    no_set_name c.args.arguments.now c.name-item.result c.in-len3.len_at_least c.in-len3.len_below c.name-item.is
-    (rw c.in_default-3.is at c.in_ok-name.ensures)
+pub returns-in_err-name : goal.returns-in_err-name
+returns-in_err-name c = goes _ _ _ _ c.in_ok-path.ensures (exits _ _ _ _ c.from_residual-in_err-name.ensures.1 c.in_err-name.ensures)
+
+pub returns-in_err-property : goal.returns-in_err-property
+returns-in_err-property c = goes _ _ _ _ c.in_ok-path.ensures (goes _ _ _ _ c.in_ok-name.ensures (exits _ _ _ _ c.from_residual-in_err-property.ensures.1 c.in_err-property.ensures))
+
+pub returns : goal.returns
+returns c = means _ _ _ _ c.in_ok-path.ensures (means _ _ _ _ c.in_ok-name.ensures (means _ _ _ _ c.in_ok-property.ensures refl))

@@ -1,11 +1,10 @@
+use Rattle.std.proofs.Common.{sym, ◌∙◌}
 use Rattle.serde_json.specs.View.{view}
-use Rattle.jr_script.proofs.Lists.{too_many, session_found}
+use Rattle.jr_script.proofs.Sessions.{object_view, session_goes, session_keys}
 use Rattle.jr_script.proofs.reading.session.Goals as goal
 
-pub returns-then-items-gt-MAX_COMMANDS : goal.returns-then-items-gt-MAX_COMMANDS
-returns-then-items-gt-MAX_COMMANDS c = too_many c.in-Some.items.now (view c.args.json.now) c.in-Some.ensures c.if-items-gt-MAX_COMMANDS.true
+pub returns-then-not-are_keys : goal.returns-then-not-are_keys
+returns-then-not-are_keys c = session_keys (view c.args.json.now) _ _ (object_view _ _ c.in-Object.is) (sym c.are_keys.ensures ∙ c.if-not-are_keys.true) c.here-then-not-are_keys.ensures
 
-pub returns-in-Some-2 : goal.returns-in-Some-2
-returns-in-Some-2 c =
-    session_found c.in-Some.items.now (view c.args.json.now) c.in-Some-2.commands c.in-Some.ensures c.if-items-gt-MAX_COMMANDS.false
-    (rw c.in-Some-2.is at c.in_ok-commands.ensures)
+pub returns : goal.returns
+returns c = session_goes (view c.args.json.now) _ _ (object_view _ _ c.in-Object.is) (sym c.are_keys.ensures ∙ c.if-not-are_keys.false) c.session_in.ensures

@@ -1,0 +1,8 @@
+use Rattle.std.proofs.Common.{◌≡◌, map}
+use Rattle.serde_json.specs.View.{members_view}
+use Rattle.jr_script.specs.Scripts.{are_keys}
+use Rattle.jr_script.proofs.reading.are_keys.Given as goal
+
+abbrev pub invariant-loop-key : goal.invariant-loop-key
+invariant-loop-key l =
+    are_keys (map (λ k. k.now) l.keys) (members_view l.members.entries) ≡ are_keys (map (λ k. k.now) l.keys) (members_view l.key-iterator)

@@ -1,0 +1,9 @@
+use Rattle.std.proofs.Common.{refl}
+use Rattle.jr_script.proofs.Readings.{exits, means}
+use Rattle.jr_script.proofs.reading.session_in.Goals as goal
+
+pub returns-in_err-commands : goal.returns-in_err-commands
+returns-in_err-commands c = exits _ _ _ _ c.from_residual.ensures.1 c.in_err-commands.ensures
+
+pub returns : goal.returns
+returns c = means _ _ _ _ c.in_ok-commands.ensures refl
