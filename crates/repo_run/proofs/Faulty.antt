@@ -1,65 +1,105 @@
--- Where no script came of a source.
-use Rattle.std.proofs.Common.{◌≡◌, ◌⊎◌, ℕ, ◌+◌, ◌<◌, ◌≤◌, Option, Some, None, IfSome, List, length, inl, inr, refl, sym, ap, ◌∙◌, subst, arith}
-use Rattle.jr_io.specs.Causes.{Rose}
+-- How a call ends, from how its parts ended.
+use Rattle.std.proofs.Common.{◌≡◌, ℕ, ◌<◌, ◌≤◌, Option, Some, None, IfSome, IsSome, IsNone, List, length, inl, inr, refl, sym, subst, arith}
 use Rattle.repo_run.specs.declared.status.Status.{Status}
 use Rattle.repo_run.specs.declared.status.Status.TheVariants as status
 use Rattle.jr_script.specs.declared.script.Script.{Script}
 use Rattle.oak_world.specs.Worlds.{WorldOf}
 use Rattle.jcr_session.specs.declared.law.JcrLaw.{JcrLaw}
-use Rattle.repo_run.specs.Ends.{Faults, IsCalm, IsNoScript, IsReadWhole, IsUnread, Prints, Spells, Tells, longest}
-use Rattle.repo_run.specs.Statuses.{code_of, fault_line}
+use Rattle.repo_run.specs.Ends.{BreaksRule, Call, Ends, EndsWith, FailsNowhere, Faults, HasLine, HasRunAll, IsCalm, IsCause, IsFault, IsPart, IsReadWhole, IsRefused, IsUnread, Output, Prints, Spells, Tells, longest}
+use Rattle.repo_run.specs.Headline.{HasRun}
+use Rattle.repo_run.specs.Statuses.{fault_line, status_of}
+use Rattle.repo_run.specs.declared.status.Unrun.{Unrun}
+use Rattle.repo_run.specs.declared.status.Unrun.TheVariants as unrun
+use Rattle.repo_run.specs.Words.{meaning_of}
+use Rattle.repo_run.specs.declared.words.Words.{Words}
+use mathlib.Core.Bool.{false≢true}
 
-none_spelled : (o : Option (List ℕ)) (bytes : List ℕ) → IfSome o (λ left. bytes ≡ left) → IsNoScript bytes → IfSome o IsNoScript
-none_spelled None bytes same never = tt
-none_spelled (Some left) bytes same never = subst (λ (b : List ℕ). IsNoScript b) same never
+-- ---- no script is run
 
--- the status that is answered, or a write fault
-told_as : (before after : Option (List ℕ)) (k k_now : ℕ) (text : List ℕ) (answer result : Status) → Tells before after k k_now text answer result → (result ≡ answer) ⊎ (result ≡ status.WriteFault)
-told_as before after k k_now text answer result (inl t) = inl t.0
-told_as before after k k_now text answer result (inr t) = inr t.0
+module _ (c : Call) (none : c.left ≡ None) where
+  -- the line that says why was written, or a part of it
+  lined : (why : Unrun) (result : Status) → HasLine why → IsCause c why → (IsFault c (status_of why) → EndsWith c (status_of why)) → Tells c.sink c.sink_now (fault_line why) (status_of why) result → EndsWith c result
+  lined why result line cause make (inl t) =
+      subst (λ (r : Status). EndsWith c r) (sym t.0) (make (record { why = why; status = refl; unrun = none; cause = cause; line = t.1 }))
+  lined why result line cause make (inr t) =
+      subst (λ (r : Status). EndsWith c r) (sym t.0)
+      (record { fault = t.1; part = subst (λ (o : Option (WorldOf JcrLaw)). IsPart c o) (sym none) (why, line, cause, t.2) })
 
-other : (answer result : Status) → (result ≡ answer) ⊎ (result ≡ status.WriteFault) → result ≡ status.Script → (code_of answer ≡ 2 → ⊥) → ⊥
-other answer result (inl e) is apart = apart (ap code_of (sym e ∙ is))
-other answer result (inr e) is apart = let n : 4 ≡ 2 = ap code_of (sym e ∙ is) in omega (arith, n)
+  -- memory was refused
+  refused : (result : Status) → IsSome (meaning_of c.words) → IsRefused c.sink c.sink_now result → EndsWith c result
+  refused result meant told =
+      subst (λ (r : Status). EndsWith c r) (sym told.0) (record { meant = meant; ran = subst (λ (o : Option (WorldOf JcrLaw)). IfSome o (HasRunAll c)) (sym none) tt; nothing = told.1 })
 
-module _ (before after : Option (List ℕ)) (given given_now faults faults_now : ℕ) (written written_now : Option (List ℕ)) (k k_now : ℕ) where
-  -- the answer 'no script' comes where the bytes are none
-  pub unread_script : (s result : Status) → IsUnread before after given given_now faults faults_now s → Faults written written_now k k_now s result → result ≡ status.Script → IfSome before IsNoScript
-  unread_script status.Done result unread told is = absurd unread
-  unread_script status.Words result unread told is = absurd unread
-  unread_script status.Script result unread told is = none_spelled before unread.0 unread.1.all unread.2
-  unread_script status.ReadFault result unread told is = absurd (other status.ReadFault result (told_as written written_now k k_now (fault_line status.ReadFault) status.ReadFault result told) is (λ e. omega (arith, e)))
-  unread_script status.WriteFault result unread told is = absurd unread
-  unread_script status.Memory result unread told is = absurd (other status.Memory result (inl told.0) is (λ e. omega (arith, e)))
-  unread_script status.TooLong result unread told is = absurd (other status.TooLong result (told_as written written_now k k_now (fault_line status.TooLong) status.TooLong result told) is (λ e. omega (arith, e)))
+  pub unrun_ends : (why : Unrun) (result : Status) → IsCause c why → Faults c.sink c.sink_now why result → EndsWith c result
+  unrun_ends unrun.Words result cause told = lined unrun.Words result tt cause (λ f. f) told
+  unrun_ends (unrun.Script rule pointer) result cause (inl told) = lined (unrun.Script rule pointer) result tt cause (λ f. f) told
+  unrun_ends (unrun.Script rule pointer) result cause (inr told) = refused result cause.0 told
+  unrun_ends unrun.ReadFault result cause told = lined unrun.ReadFault result tt cause (λ f. f) told
+  unrun_ends unrun.TooLong result cause told = lined unrun.TooLong result tt cause (λ f. f) told
+  unrun_ends unrun.Memory result cause told = refused result cause.0 told
 
-calm_script : (bytes : List ℕ) (written written_now : Option (List ℕ)) (k k_now : ℕ) (result : Status) → IsNoScript bytes → (Rose k k_now → ⊥) → Tells written written_now k k_now (fault_line status.Script) status.Script result → IsCalm bytes result
-calm_script bytes written written_now k k_now result never quiet (inl t) = subst (λ (s : Status). IsCalm bytes s) (sym t.0) never
-calm_script bytes written written_now k k_now result never quiet (inr t) = absurd (quiet t.1)
+-- no script came of a source, where the words have a meaning
+pub unread_cause : (c : Call) (why : Unrun) → IsSome (meaning_of c.words) → IsUnread c.source c.source_now why → IsCause c why
+unread_cause c unrun.Words meant unread = absurd unread
+unread_cause c (unrun.Script rule pointer) meant unread = (meant, unread)
+unread_cause c unrun.ReadFault meant unread = (meant, unread)
+unread_cause c unrun.TooLong meant unread = (meant, unread)
+unread_cause c unrun.Memory meant unread = (meant, unread)
 
--- where nothing fails, and the input isn't too long, it is no script, or memory was refused
-pub unread_calm : (before after : Option (List ℕ)) (given given_now faults faults_now : ℕ) (written written_now : Option (List ℕ)) (k k_now : ℕ) (s result : Status) → IsUnread before after given given_now faults faults_now s → Faults written written_now k k_now s result → IfSome before (λ bytes. length bytes ≤ longest → (Rose faults faults_now → ⊥) → (Rose k k_now → ⊥) → IsCalm bytes result)
-unread_calm None after given given_now faults faults_now written written_now k k_now s result unread told = tt
-unread_calm (Some bytes) after given given_now faults faults_now written written_now k k_now status.Done result unread told = absurd unread
-unread_calm (Some bytes) after given given_now faults faults_now written written_now k k_now status.Words result unread told = absurd unread
-unread_calm (Some bytes) after given given_now faults faults_now written written_now k k_now status.Script result unread told =
-    λ short quiet still. calm_script bytes written written_now k k_now result (none_spelled (Some bytes) unread.0 unread.1.all unread.2) still told
-unread_calm (Some bytes) after given given_now faults faults_now written written_now k k_now status.ReadFault result unread told = λ short quiet still. absurd (quiet unread)
-unread_calm (Some bytes) after given given_now faults faults_now written written_now k k_now status.WriteFault result unread told = absurd unread
-unread_calm (Some bytes) after given given_now faults faults_now written written_now k k_now status.Memory result unread told = λ short quiet still. subst (λ (s : Status). IsCalm bytes s) (sym told.0) tt
-unread_calm (Some bytes) after given given_now faults faults_now written written_now k k_now status.TooLong result unread told = λ short quiet still. let long : longest < length bytes = unread.1 in absurd (omega (arith, long, short))
+-- ---- a script is run
 
 -- what is told of a text is told of the same text
-pub told_text : (before after : Option (List ℕ)) (k k_now : ℕ) (text same : List ℕ) (answer result : Status) → text ≡ same → Tells before after k k_now text answer result → Tells before after k k_now same answer result
-told_text before after k k_now text same answer result e told = subst (λ (t : List ℕ). Tells before after k k_now t answer result) e told
+pub told_text : (before now : Output) (text same : List ℕ) (answer result : Status) → text ≡ same → Tells before now text answer result → Tells before now same answer result
+told_text before now text same answer result e told = subst (λ (t : List ℕ). Tells before now t answer result) e told
 
--- where a script is run and nothing fails, the status is done and the bytes are the script, or memory was refused
-pub run_calm : (before after : Option (List ℕ)) (given given_now : ℕ) (script : Script) (written written_now : Option (List ℕ)) (faults faults_now k k_now : ℕ) (left : Option (WorldOf JcrLaw)) (result : Status)
-    → ((bytes : List ℕ) × IsReadWhole before after given given_now bytes × Spells bytes script) → Prints written written_now k k_now left result
-    → IfSome before (λ bytes. length bytes ≤ longest → (Rose faults faults_now → ⊥) → (Rose k k_now → ⊥) → IsCalm bytes result)
-run_calm None after given given_now script written written_now faults faults_now k k_now left result read prints = tt
-run_calm (Some bytes) after given given_now script written written_now faults faults_now k k_now None result read prints = λ short quiet still. subst (λ (s : Status). IsCalm bytes s) (sym prints.0) tt
-run_calm (Some bytes) after given given_now script written written_now faults faults_now k k_now (Some world) result read (inl (inl t)) =
-    λ short quiet still. subst (λ (s : Status). IsCalm bytes s) (sym t.0) (script, subst (λ (b : List ℕ). Spells b script) read.1.all read.2)
-run_calm (Some bytes) after given given_now script written written_now faults faults_now k k_now (Some world) result read (inl (inr t)) = λ short quiet still. absurd (still t.1)
-run_calm (Some bytes) after given given_now script written written_now faults faults_now k k_now (Some world) result read (inr m) = λ short quiet still. subst (λ (s : Status). IsCalm bytes s) (sym m.0) tt
+module _ (c : Call) (script : Script) (meant : IsSome (meaning_of c.words)) (read : (bytes : List ℕ) × IsReadWhole c.source c.source_now bytes × Spells bytes script) where
+  run_all : (world : WorldOf JcrLaw) → HasRun script world → HasRunAll c world
+  run_all world ran = record { meant = meant; bytes = read.0; read = read.1; script = script; spells = read.2; ran = ran }
+
+  run_ends : (o : Option (WorldOf JcrLaw)) (result : Status) → c.left ≡ o → IfSome o (HasRun script) → Prints c.sink c.sink_now o result → EndsWith c result
+  run_ends None result is ran prints =
+      subst (λ (r : Status). EndsWith c r) (sym prints.0) (record { meant = meant; ran = subst (λ (o : Option (WorldOf JcrLaw)). IfSome o (HasRunAll c)) (sym is) tt; nothing = prints.1 })
+  run_ends (Some world) result is ran (inl (inl t)) =
+      subst (λ (r : Status). EndsWith c r) (sym t.0) (record { world = world; left = is; ran = run_all world ran; replies = t.1 })
+  run_ends (Some world) result is ran (inl (inr t)) =
+      subst (λ (r : Status). EndsWith c r) (sym t.0)
+      (record { fault = t.1; part = subst (λ (o : Option (WorldOf JcrLaw)). IsPart c o) (sym is) (run_all world ran, t.2) })
+  run_ends (Some world) result is ran (inr m) =
+      subst (λ (r : Status). EndsWith c r) (sym m.0)
+      (record { meant = meant; ran = subst (λ (o : Option (WorldOf JcrLaw)). IfSome o (HasRunAll c)) (sym is) (run_all world ran); nothing = m.1 })
+
+  pub ran_ends : (result : Status) → IfSome c.left (HasRun script) → Prints c.sink c.sink_now c.left result → EndsWith c result
+  ran_ends result ran prints = run_ends c.left result refl ran prints
+
+-- ---- where nothing fails
+
+unmeant : {A : Type 0} (o : Option Words) → IsSome o → IsNone o → A
+unmeant None some none = absurd (false≢true some)
+unmeant (Some w) some none = absurd (false≢true (sym none))
+
+all_bytes : (c : Call) (bytes all : List ℕ) → c.source.left ≡ Some bytes → IsReadWhole c.source c.source_now all → all ≡ bytes
+all_bytes c bytes all is read = subst (λ (o : Option (List ℕ)). IfSome o (λ left. all ≡ left)) is read.all
+
+-- a fault with a line comes of the words, of the bytes, or of a source that failed or gave too many
+calm_fault : (c : Call) (s : Status) (why : Unrun) → s ≡ status_of why → IsCause c why → (bytes : List ℕ) → FailsNowhere c bytes → IsCalm bytes s
+calm_fault c s unrun.Words is cause bytes calm = unmeant (meaning_of c.words) calm.meant cause
+calm_fault c s (unrun.Script rule pointer) is cause bytes calm =
+    let unread = cause.1 in subst (λ (r : Status). IsCalm bytes r) (sym is) (rule, pointer, subst (λ (b : List ℕ). BreaksRule b rule pointer) (all_bytes c bytes unread.0 calm.tells unread.1) unread.2)
+calm_fault c s unrun.ReadFault is cause bytes calm = absurd (calm.reads cause.1)
+calm_fault c s unrun.TooLong is cause bytes calm = absurd (never (length bytes) calm.short (subst (λ (o : Option (List ℕ)). IfSome o (λ left. longest < length left)) calm.tells cause.1.1))
+  where
+    never : (n : ℕ) → n ≤ longest → longest < n → ⊥
+    never n short long = omega (arith, short, long)
+calm_fault c s unrun.Memory is cause bytes calm = subst (λ (r : Status). IsCalm bytes r) (sym is) tt
+
+calm_ends : (c : Call) (result : Status) → EndsWith c result → (bytes : List ℕ) → FailsNowhere c bytes → IsCalm bytes result
+calm_ends c status.Done end bytes calm = (end.ran.script, subst (λ (b : List ℕ). Spells b end.ran.script) (all_bytes c bytes end.ran.bytes calm.tells end.ran.read) end.ran.spells)
+calm_ends c status.Words end bytes calm = calm_fault c status.Words end.why end.status end.cause bytes calm
+calm_ends c status.Script end bytes calm = calm_fault c status.Script end.why end.status end.cause bytes calm
+calm_ends c status.ReadFault end bytes calm = calm_fault c status.ReadFault end.why end.status end.cause bytes calm
+calm_ends c status.WriteFault end bytes calm = absurd (calm.writes end.fault)
+calm_ends c status.Memory end bytes calm = tt
+calm_ends c status.TooLong end bytes calm = calm_fault c status.TooLong end.why end.status end.cause bytes calm
+
+pub ends : (c : Call) (result : Status) → EndsWith c result → Ends c result
+ends c result says = record { says = says; calm = calm_ends c result says }

@@ -1,5 +1,5 @@
 -- A walk over the documents puts at each path the node that the documents show.
-use Rattle.std.proofs.Common.{◌≡◌, Bool, true, false, cond, Some, None, Option, List, [], ◌∷◌, refl, sym, ap, ◌∙◌, subst, is_some, IsSome}
+use Rattle.std.proofs.Common.{◌≡◌, Bool, true, false, cond, Some, None, Option, List, [], ◌∷◌, refl, sym, ap, ◌∙◌, subst, is_some}
 use Rattle.std.specs.Option.{option_and_then, option_map_or, option_map}
 use Rattle.std.specs.declared.cmp.Ordering.{Ordering}
 use Rattle.std.specs.declared.cmp.Ordering.TheVariants.{Less, Equal, Greater}
@@ -19,7 +19,6 @@ use Rattle.jr_path.specs.declared.path.DocId.{DocId}
 use Rattle.jr_path.specs.declared.path.DocId.TheVariants as id
 use Rattle.jr_path.proofs.Maps.{path_total, lookup-insert_entry}
 use Rattle.jr_path.proofs.Orders.{id_exact}
-use Rattle.jr_rev.specs.declared.vector.Pin.{Pin}
 use Rattle.jr_value.specs.declared.value.Property.{Property}
 use Rattle.jr_tree.specs.declared.tree.Node.{Node}
 use Rattle.jr_tree.specs.Trees.{Nodes, node_at}

@@ -1,5 +1,5 @@
 -- The session stays pinned.
-use Rattle.std.proofs.Common.{◌≡◌, ◌⊎◌, ℕ, true, Some, None, Option, List, [], ◌∷◌, take, inl, inr, refl, sym, ap, ◌∙◌, subst, is_some, IsSome}
+use Rattle.std.proofs.Common.{◌≡◌, ℕ, true, List, [], ◌∷◌, take, inl, inr, refl, sym, ap, ◌∙◌, subst, is_some, IsSome}
 use Rattle.std.specs.Ordering.{nat_cmp}
 use Rattle.std.proofs.lemmas.Cmp.{nat_cmp_total}
 use Rattle.jr_path.specs.declared.path.Path.{Path}

@@ -1,16 +1,14 @@
 -- The world with which the run of a script ends is lawful, and each command of the script is answered once, in order.
-use Rattle.std.proofs.Common.{◌≡◌, ◌⊎◌, inl, inr, ℕ, suc, zero, ◌+◌, ◌<◌, ◌≤◌, get_or, Bool, true, false, cond, Some, None, Option, List, [], ◌∷◌, ◌++◌, is_some, refl, sym, ap, subst, ◌∙◌, arith}
+use Rattle.std.proofs.Common.{◌≡◌, inl, inr, ℕ, suc, zero, ◌+◌, ◌<◌, ◌≤◌, get_or, Bool, true, false, cond, not, Some, None, Option, List, [], ◌∷◌, ◌++◌, is_some, refl, sym, ap, subst, ◌∙◌, arith}
 use Rattle.std.specs.Prelude.{◌==◌, codes, length, map, reverse, slice_get}
 use Rattle.std.specs.Option.{option_map_or}
 use Rattle.std.specs.List.{filter_map, range_with_len}
-use Rattle.std.proofs.lemmas.List.{length-append, reverse-reverse}
+use Rattle.std.proofs.lemmas.List.{reverse-reverse}
 use Rattle.std.proofs.lemmas.List.Elements.{filter_map-append}
 use Rattle.std.proofs.lemmas.List.FromFn.{map-range_with_len_more}
 use mathlib.Core.Bool.{false≢true}
 use mathlib.Core.List.{reverse-cons}
 use Rattle.jr_path.specs.declared.text.Text.{Text}
-use Rattle.jr_rev.specs.declared.vector.Pin.{Pin}
-use Rattle.jr_rev.specs.declared.vector.RevVec.{RevVec}
 use Rattle.jr_tree.specs.declared.edit.Write.{Write}
 use Rattle.jr_tree.specs.Trees.{Nodes, IsTree, initial_tree}
 use Rattle.jr_tree.specs.Edits.{changes}
@@ -21,33 +19,33 @@ use Rattle.oak_clash.specs.declared.mark.MarkAt.{MarkAt}
 use Rattle.oak_machine.specs.Marks.{marks_for}
 use Rattle.oak_machine.specs.declared.event.Event.{Event}
 use Rattle.oak_machine.specs.declared.event.Event.TheVariants as event
-use Rattle.oak_machine.specs.declared.event.Journal.{Journal}
 use Rattle.oak_machine.specs.History.{Past, history_of}
-use Rattle.oak_machine.specs.Commits.{tree_at}
 use Rattle.oak_machine.specs.Laws.{Says, Starts}
 use Rattle.oak_machine.specs.Runs.{IsRun, IsRunOf, MayFollow}
-use Rattle.oak_machine.specs.Sessions.{is_reply_of, next_index}
+use Rattle.oak_machine.specs.Sessions.{next_index}
 use Rattle.oak_node.specs.Heads.{next_draw}
 use Rattle.oak_node.specs.Pins.{pin_now, pin_of}
 use Rattle.oak_world.specs.Commits.{IsGivenUp, committed, parts_of, with_parts}
-use Rattle.oak_world.specs.Worlds.{WorldOf, start_world, with_events}
+use Rattle.oak_world.specs.Worlds.{WorldOf, start_world}
 use Rattle.oak_world.proofs.Lawful.{end_lawful, login_lawful, run_is, start_lawful}
 use Rattle.oak_world.proofs.Saves.{some_pin}
 use Rattle.core_heads.proofs.Orders.{same_number}
 use Rattle.jcr_trans.specs.declared.command.Command.{Command}
 use Rattle.jcr_trans.specs.declared.command.Command.TheVariants as command
+use Rattle.jcr_trans.specs.Commands.{saves}
+use Rattle.jcr_trans.proofs.Passing.{only_save}
 use Rattle.jcr_trans.specs.Answers.{ShowsNothing, ShowsRevision}
 use Rattle.jcr_trans.specs.Texts.{answer_text}
 use Rattle.jcr_trans.specs.Views.{over_limit, view_after}
-use Rattle.core_law.specs.Law.{MayStart, has_few_nodes}
+use Rattle.core_law.proofs.Passing.{next_more}
+use Rattle.core_law.specs.Law.{MayStart, has_few_nodes, is_plain}
 use Rattle.core_law.specs.State.{command_at}
-use Rattle.core_law.specs.Turns.{IsTurn}
 use Rattle.jcr_session.specs.declared.law.JcrLaw.{JcrLaw}
-use Rattle.repo_run.specs.Headline.{FollowsScript, HasRun, index_said, indexes_said}
+use Rattle.repo_run.specs.Headline.{FollowsScript, HasRun, index_said}
 use Rattle.repo_run.specs.Stands.{AreFrom, IsBegun, IsLawfulWorld, IsNext, Stands, says_of, starts_of}
 use Rattle.repo_run.specs.Turns.{Answers, AnswersAll, AnswersSave, AnswersView, AreOfOne, memory_text, IsCancelled, IsRefused, IsSaved, IsSeen, IsSessionRun, IsShown, IsSmall, IsTooMany, IsUnchanged, RunsScript, State, first_commands, ended, law_of, logged_in, pending, pending_marks, said, state}
 use Rattle.repo_run.proofs.Pinned.{pinned_by_pin}
-use Rattle.repo_run.proofs.Stands.{MaySayNow, proper_of, say_called, say_many, say_memory, say_saved, say_unchanged, say_view, next_more, shown_is, stands_said, start}
+use Rattle.repo_run.proofs.Stands.{MaySayNow, proper_of, say_called, say_many, say_memory, say_saved, say_unchanged, say_view, shown_is, stands_said, start}
 
 -- ---- one command
 
@@ -78,7 +76,7 @@ module _ (i : ℕ) (old : State) (stands : Stands old.world old.base old.view i)
   save_says next text is (inr (inr (inr (inr u)))) =
       (subst (λ (t : Text). MaySayAt next i t) (sym u.0) (subst (λ (x : State). MaySayAt x i memory_text) (sym u.1) (say_memory old.world old.base old.view i stands command.Save is)), ap (λ (x : State). x.world.law) u.1)
 
-  view_says : (c : Command) (next : State) (text : Text) → command_at old.world.law.sessions 0 i ≡ Some c → Rattle.core_law.specs.Law.is_plain c ≡ true → AnswersView c old next text → MaySayAt next i text × (next.world.law ≡ old.world.law)
+  view_says : (c : Command) (next : State) (text : Text) → command_at old.world.law.sessions 0 i ≡ Some c → is_plain c ≡ true → AnswersView c old next text → MaySayAt next i text × (next.world.law ≡ old.world.law)
   view_says c next text is p a = (
     subst (λ (w : WorldOf JcrLaw). MaySayNow w next.base next.view i text) (sym a.world) (subst (λ (b : Nodes). MaySayNow old.world b next.view i text) (sym a.base) (elim a.seen [
       | inl h ↦ subst (λ (v : Nodes). MaySayNow old.world old.base v i text) (sym h.1) (subst (λ (t : Text). MaySayNow old.world old.base (view_after c old.view) i t) (sym h.0) (say_view old.world old.base old.view i stands c is p))
@@ -88,11 +86,11 @@ module _ (i : ℕ) (old : State) (stands : Stands old.world old.base old.view i)
   )
 
   pub answer_says : (c : Command) (next : State) (text : Text) → command_at old.world.law.sessions 0 i ≡ Some c → Answers c old next text → MaySayAt next i text × (next.world.law ≡ old.world.law)
-  answer_says command.Save next text is a = save_says next text is a
-  answer_says (command.Add p) next text is a = view_says (command.Add p) next text is refl a
-  answer_says (command.Set p n x) next text is a = view_says (command.Set p n x) next text is refl a
-  answer_says (command.Get p) next text is a = view_says (command.Get p) next text is refl a
-  answer_says (command.List p) next text is a = view_says (command.List p) next text is refl a
+  answer_says c next text is a = by (saves c) refl
+    where
+      by : (b : Bool) → saves c ≡ b → MaySayAt next i text × (next.world.law ≡ old.world.law)
+      by true e = save_says next text (subst (λ (d : Command). command_at old.world.law.sessions 0 i ≡ Some d) (only_save c e) is) (a.save e)
+      by false e = view_says c next text is (ap not e) (a.view (ap not e))
 
 -- ---- all commands
 

@@ -1,8 +1,7 @@
 -- Each command keeps the world lawful, and leaves its session where the law has it.
-use Rattle.std.proofs.Common.{◌≡◌, ◌≢◌, ◌⊎◌, inl, inr, ℕ, ◌+◌, ◌<◌, Bool, true, false, cond, Some, None, Option, List, [], ◌∷◌, ◌++◌, is_some, IsSome, take, refl, sym, ap, subst, ◌∙◌, arith}
+use Rattle.std.proofs.Common.{◌≡◌, ◌≢◌, inl, inr, ℕ, ◌+◌, ◌<◌, true, false, Some, None, Option, List, [], ◌∷◌, ◌++◌, IsSome, refl, sym, ap, subst, ◌∙◌, arith}
 use Rattle.std.specs.Prelude.{reverse, slice_get, map}
-use Rattle.std.specs.declared.cmp.Ordering.{Ordering}
-use Rattle.std.specs.declared.cmp.Ordering.TheVariants.{Less, Equal, Greater}
+use Rattle.std.specs.declared.cmp.Ordering.TheVariants.{Greater}
 use Rattle.std.specs.Ordering.{ordering_reverse}
 use Rattle.std.specs.Option.{option_map, option_and_then, option_map_or}
 use Rattle.std.specs.List.{filter, fold}
@@ -10,7 +9,6 @@ use Rattle.std.specs.FinMap.{is_sorted}
 use mathlib.Core.Bool.{false≢true}
 use Rattle.jr_path.specs.Names.{path_cmp}
 use Rattle.jr_path.specs.declared.path.DocId.{DocId}
-use Rattle.jr_path.specs.declared.path.Path.{Path}
 use Rattle.jr_path.specs.declared.text.Text.{Text}
 use Rattle.jr_path.proofs.Maps.{path_total, path_exact}
 use Rattle.jr_rev.specs.declared.revision.Revision.{Revision}
@@ -22,14 +20,12 @@ use Rattle.jr_rev.proofs.Order.{revision_total}
 use Rattle.jr_tree.specs.declared.edit.Edit.{Edit}
 use Rattle.jr_tree.specs.declared.edit.Write.{Write}
 use Rattle.jr_tree.specs.declared.tree.Node.{Node}
-use Rattle.jr_tree.specs.Trees.{Nodes, IsTree, initial_tree, node_at}
+use Rattle.jr_tree.specs.Trees.{Nodes, initial_tree, node_at}
 use Rattle.jr_tree.specs.Edits.{applied, changes}
 use Rattle.jr_tree.proofs.Entries.{is_less, same_lists}
 use Rattle.jr_tree.proofs.AtPath.{InOrder, order-applied}
-use Rattle.jr_tree.proofs.ProperChanges.{no_changes}
 use Rattle.oak_clash.specs.declared.mark.MarkAt.{MarkAt}
 use Rattle.oak_commit.specs.Writing.{written_ids}
-use Rattle.oak_machine.specs.declared.event.Event.{Event}
 use Rattle.oak_machine.specs.declared.event.Event.TheVariants as event
 use Rattle.oak_machine.specs.declared.event.StepKind.{StepKind}
 use Rattle.oak_machine.specs.declared.event.StepKind.TheVariants as kind
@@ -37,12 +33,12 @@ use Rattle.oak_machine.specs.History.{History, Past, history_of}
 use Rattle.oak_machine.specs.Commits.{committed_edits, is_committed, tree_at}
 use Rattle.oak_machine.specs.Laws.{StartsProper}
 use Rattle.oak_machine.specs.Marks.{marks_for}
-use Rattle.oak_machine.specs.Sessions.{base_of, is_drawing, is_reply_of, next_index}
+use Rattle.oak_machine.specs.Sessions.{base_of, is_drawing, next_index}
 use Rattle.oak_node.specs.Heads.{next_draw}
 use Rattle.oak_node.specs.Pins.{pin_of}
-use Rattle.oak_world.specs.Commits.{IsGivenUp, Parts, committed, parts, parts_of, steps_of, with_parts}
-use Rattle.oak_world.specs.Kept.{IsKept, IsLawful, head_at, revision_at}
-use Rattle.oak_world.specs.Worlds.{WorldOf, node_shown, with_events}
+use Rattle.oak_world.specs.Commits.{IsGivenUp, Parts, committed, parts_of, steps_of, with_parts}
+use Rattle.oak_world.specs.Kept.{IsKept, head_at, revision_at}
+use Rattle.oak_world.specs.Worlds.{WorldOf, with_events}
 use Rattle.oak_world.proofs.Additions.{added, added_reverse}
 use Rattle.oak_world.proofs.Flights.{draw_at}
 use Rattle.oak_world.proofs.Keeping.{pinned_is}
@@ -53,19 +49,19 @@ use Rattle.core_heads.proofs.Orders.{at_most_time}
 use Rattle.core_read.proofs.Vectors.{time_before}
 use Rattle.jcr_trans.specs.declared.command.Command.{Command}
 use Rattle.jcr_trans.specs.declared.command.Command.TheVariants as command
-use Rattle.jcr_trans.specs.Answers.{Refused, ShowsNothing, ShowsRevision}
+use Rattle.jcr_trans.specs.Answers.{ShowsNothing, ShowsRevision}
 use Rattle.jcr_trans.specs.Texts.{answer_text}
 use Rattle.jcr_trans.specs.Views.{answered, over_limit, view_after}
 use Rattle.core_law.specs.Law.{MayStart, SaysBy, has_few_nodes, is_plain, too_many}
-use Rattle.core_law.specs.State.{Orders, base_tree, command_at}
+use Rattle.core_law.specs.State.{Orders, command_at}
 use Rattle.core_law.specs.Turns.{IsOver, IsTurn}
 use Rattle.core_law.proofs.Lasting.{proper_starts}
-use Rattle.core_law.proofs.Passing.{next_stays}
+use Rattle.core_law.proofs.Passing.{next_more}
 use Rattle.core_law.proofs.Saves.{IsLike, like_itself, like_went, over_after_call, says_after_save, turn_after_save}
 use Rattle.core_law.proofs.Turns.{may_start, says_memory, says_unchanged, says_view, turn_memory, turn_refused, turn_unchanged, turn_view, view_is}
 use Rattle.jcr_session.specs.declared.law.JcrLaw.{JcrLaw}
 use Rattle.repo_run.specs.Stands.{IsLawfulWorld, Stands, says_of, starts_of}
-use Rattle.repo_run.specs.Turns.{Answers, AnswersSave, AnswersView, IsCancelled, IsSaved, IsSeen, IsShown, IsTooMany, IsUnchanged, State, memory_text, pending, pending_marks, said}
+use Rattle.repo_run.specs.Turns.{IsShown, memory_text}
 use Rattle.repo_run.proofs.Pinned.{pinned_by_commit, still_pinned}
 
 pub proper_of : (law : JcrLaw) → StartsProper (starts_of law)
@@ -106,19 +102,6 @@ pub record MaySayNow (w : WorldOf JcrLaw) (base view : Nodes) (i : ℕ) (text : 
   pub says : SaysBy w.law.sessions (history_of w.journal) 0 i text
   pub turn : IsTurn w.law.sessions (event.Said 0 i text ∷ reverse w.journal.events) 0 base view
   pub pinned : IsSome (pin_of w.node 0)
-
--- one event more adds one reply, where it is one
-pub next_more : (s : ℕ) (e : Event) (past : Past) → next_index (e ∷ past) s ≡ next_index past s + cond (is_reply_of s e) 1 0
-next_more s e past = more past 0 (cond (is_reply_of s e) 1 0)
-  where
-    more : (past : Past) (b a : ℕ) → fold (λ (n : ℕ) (e : Event). n + cond (is_reply_of s e) 1 0) (b + a) past ≡ fold (λ (n : ℕ) (e : Event). n + cond (is_reply_of s e) 1 0) b past + a
-    more [] b a = refl
-    more (e ∷ past) b a =
-        ap (λ (n : ℕ). fold (λ (n : ℕ) (e : Event). n + cond (is_reply_of s e) 1 0) n past) (turned b a (cond (is_reply_of s e) 1 0))
-        ∙ more past (b + cond (is_reply_of s e) 1 0) a
-      where
-        turned : (b a c : ℕ) → b + a + c ≡ b + c + a
-        turned b a c = omega arith
 
 pub stands_said : (w : WorldOf JcrLaw) (base view : Nodes) (i : ℕ) (text : Text) → MaySayNow w base view i text → Stands (record w { journal = with_events w.journal (event.Said 0 i text ∷ []) }) base view (i + 1)
 stands_said w base view i text may = record {

@@ -11,11 +11,11 @@ use Rattle.jr_tree.specs.Trees.{Nodes, node_at}
 use Rattle.jr_script.specs.declared.script.Script.{Script}
 use Rattle.jr_script.specs.declared.script.SessionScript.{SessionScript}
 use Rattle.jcr_trans.specs.declared.command.Command.{Command}
-use Rattle.jcr_trans.specs.declared.command.Command.TheVariants as command
+use Rattle.jcr_trans.specs.Commands.{saves}
 use Rattle.jcr_trans.specs.Answers.{Refused, ShowsNothing, ShowsRevision}
 use Rattle.jcr_trans.specs.Texts.{answer_text}
 use Rattle.jcr_trans.specs.Views.{answered, over_limit, view_after}
-use Rattle.core_law.specs.Law.{has_few_nodes}
+use Rattle.core_law.specs.Law.{has_few_nodes, is_plain}
 use Rattle.oak_clash.specs.declared.mark.MarkAt.{MarkAt}
 use Rattle.oak_machine.specs.declared.event.Event.TheVariants as event
 use Rattle.oak_machine.specs.declared.event.StepKind.TheVariants as kind
@@ -51,7 +51,7 @@ pending_marks s = marks_for [] (changes s.base s.view)
 abbrev pub memory_text : List ℕ
 memory_text = answer_text (Refused 16 [])
 
--- a reading or view command answers by the view, and changes it; or memory was refused, and the view stays
+-- a reading or view command answers by the view, and changes it, and one that isn't built is refused; or memory was refused, and the view stays
 abbrev pub IsSeen : Command → Nodes → Nodes → Text → Type 0
 IsSeen c old new text =
     ((text ≡ answer_text (answered c old)) × (new ≡ view_after c old))
@@ -95,16 +95,16 @@ IsRefused old new text = (text ≡ memory_text) × (new ≡ old)
 abbrev pub AnswersSave : State → State → Text → Type 0
 AnswersSave old new text = IsUnchanged old new text ⊎ IsTooMany old new text ⊎ IsSaved old new text ⊎ IsCancelled old new text ⊎ IsRefused old new text
 
--- a reading or view command leaves the world and the base
+-- a reading or view command, and one that isn't built, leaves the world and the base
 pub record AnswersView (c : Command) (old new : State) (text : Text) : Type 0 where
   pub seen : IsSeen c old.view new.view text
   pub base : new.base ≡ old.base
   pub world : new.world ≡ old.world
 
 -- what a command does and answers
-abbrev pub Answers : Command → State → State → Text → Type 0
-Answers command.Save old new text = AnswersSave old new text
-Answers c old new text = AnswersView c old new text
+pub record Answers (c : Command) (old new : State) (text : Text) : Type 0 where
+  pub save : IsTrue (saves c) → AnswersSave old new text
+  pub view : IsTrue (is_plain c) → AnswersView c old new text
 
 -- the state once a reply is said
 abbrev pub said : ℕ → Text → State → State

@@ -112,13 +112,11 @@ impl Session {
     {
         match command {
             Command::Save => self.save(alloc, world),
-            Command::Add(_) | Command::Set(_, _, _) | Command::Get(_) | Command::List(_) => {
-                self.see(alloc, command)
-            }
+            _ => self.see(alloc, command),
         }
     }
 
-    // A reading or view command.
+    // A reading or view command, or one that isn't built.
     fn see(&mut self, alloc: Global, command: &Command) -> Result<String, AllocError>
         ensures base { self.new.base ≡ self.old.base }
         ensures answer { IfOk result (λ text. IsSeen command.now self.old.view self.new.view (string_bytes text)) }

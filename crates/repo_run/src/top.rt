@@ -1,21 +1,16 @@
 // The top calls.
-ghost use Rattle.std.specs.Prelude.{◌≡◌, ◌⊎◌, ◌+◌, ◌<◌, ◌≤◌, ℕ, List, Some, None, IfOk, IfErr, IfSome, IsSome, IsNone, length, map, string_bytes};
-ghost use Rattle.jr_io.specs.Causes.{Rose, RoseBy};
-ghost use Rattle.jr_io.specs.Told.{Grows, IsDrained};
-ghost use Rattle.jr_print.specs.Replies.{reply_text};
-ghost use Rattle.jr_script.specs.declared.script.Script.{Script};
-ghost use Rattle.repo_run.specs.Ends.{Faults, GrowsUpTo, IsCalm, IsNoScript, IsReadWhole, IsUnread, IsUnrun, Prints, Spells, Tells, longest};
-ghost use Rattle.repo_run.specs.Statuses.{fault_line};
+ghost use Rattle.std.specs.Prelude.{◌≡◌, ℕ, List, None, IfOk, IfErr, IfSome, IsNone, map, string_bytes};
+ghost use Rattle.repo_run.specs.Ends.{Ends, Faults, IsReadWhole, IsUnread, Prints, Spells, Tells, call, input, output};
 ghost use Rattle.repo_run.specs.Headline.{HasRun};
 ghost use Rattle.repo_run.specs.Turns.{IsSmall};
-ghost use Rattle.repo_run.specs.Words.{meaning_of};
-ghost use Rattle.repo_run.specs.declared.status.Status.TheVariants as status;
+ghost use Rattle.repo_run.specs.declared.status.Unrun.TheVariants as unrun;
 
 use crate::session::run_steps;
-use crate::status::Status;
+use crate::status::{Status, Unrun, script_line};
 use crate::words::words_meant;
 use jcr_session::JcrLaw;
 use jr_io::{Failed, Sink, Source, read_all, write_all};
+use jr_path::Text;
 use jr_print::lines;
 use jr_script::{Script, read_script};
 use oak_world::World;
@@ -26,7 +21,8 @@ use std::thread::Threads;
 /// The greatest number of bytes of an input.
 pub const LONGEST_INPUT: usize = 16_777_216;
 
-/// All that the program does: takes the words of the command line, a source and a sink, and answers the status.
+/// All that the program does: takes the words of the command line, a source and a sink, and answers the status. `Ends` says what each
+/// status says of the words, of what was read and written, and of the world that is left.
 pub fn repo_main<R: Threads + Wait + Sync, S: Source, K: Sink>(
     _rt: &R,
     alloc: Global,
@@ -35,31 +31,7 @@ pub fn repo_main<R: Threads + Wait + Sync, S: Source, K: Sink>(
     sink: &mut K,
     left: &mut Option<World<JcrLaw>>,
 ) -> Status
-    // The words.
-    ensures words { result ≡ status.Words → IsNone (meaning_of (map string_bytes words.now)) }
-    ensures no_words { IsNone (meaning_of (map string_bytes words.now)) → (result ≡ status.Words) ⊎ (result ≡ status.WriteFault) }
-
-    // The input.
-    ensures script { result ≡ status.Script → IfSome (S.left source.old) IsNoScript }
-    ensures read_fault { result ≡ status.ReadFault → Rose (S.fault_count source.old) (S.fault_count source.new) }
-    ensures too_many { result ≡ status.TooLong → RoseBy (longest + 1) (S.given source.old) (S.given source.new) }
-    ensures too_long { result ≡ status.TooLong → IfSome (S.left source.old) (λ left. longest < length left) }
-    ensures all_read { result ≡ status.Done → IsDrained (S.left source.old) (S.left source.new) }
-
-    // The output.
-    ensures write_fault { result ≡ status.WriteFault → Rose (K.fault_count sink.old) (K.fault_count sink.new) }
-    ensures replies { result ≡ status.Done → IfSome left.new (λ world. Grows (K.written sink.old) (K.written sink.new) (reply_text world.journal) (length (reply_text world.journal))) }
-    ensures part { result ≡ status.WriteFault → IfSome left.new (λ world. GrowsUpTo (K.written sink.old) (K.written sink.new) (reply_text world.journal)) }
-    ensures line { IsUnrun result → Grows (K.written sink.old) (K.written sink.new) (fault_line result) (length (fault_line result)) }
-    ensures nothing { result ≡ status.Memory → K.written sink.new ≡ K.written sink.old }
-
-    // The world: where a script was run to its end, the one with which it ended.
-    ensures ran { IfSome left.new (λ world. (bytes : List ℕ) × (script : Script) × IsReadWhole (S.left source.old) (S.left source.new) (S.given source.old) (S.given source.new) bytes × Spells bytes script × HasRun script world) }
-    ensures done { result ≡ status.Done → IsSome left.new }
-    ensures unrun { IsUnrun result → IsNone left.new }
-
-    // Where nothing fails.
-    ensures calm { IsSome (meaning_of (map string_bytes words.now)) → IfSome (S.left source.old) (λ bytes. length bytes ≤ longest → (Rose (S.fault_count source.old) (S.fault_count source.new) → ⊥) → (Rose (K.fault_count sink.old) (K.fault_count sink.new) → ⊥) → IsCalm bytes result) }
+    ensures ends { Ends (call (map string_bytes words.now) (input (S.left source.old) (S.given source.old) (S.fault_count source.old)) (input (S.left source.new) (S.given source.new) (S.fault_count source.new)) (output (K.written sink.old) (K.fault_count sink.old)) (output (K.written sink.new) (K.fault_count sink.new)) left.new) result }
 {
     steps_main(alloc, words, source, sink, left)
 }
@@ -72,46 +44,22 @@ pub fn steps_main<S: Source, K: Sink>(
     sink: &mut K,
     left: &mut Option<World<JcrLaw>>,
 ) -> Status
-    // The words.
-    ensures words { result ≡ status.Words → IsNone (meaning_of (map string_bytes words.now)) }
-    ensures no_words { IsNone (meaning_of (map string_bytes words.now)) → (result ≡ status.Words) ⊎ (result ≡ status.WriteFault) }
-
-    // The input.
-    ensures script { result ≡ status.Script → IfSome (S.left source.old) IsNoScript }
-    ensures read_fault { result ≡ status.ReadFault → Rose (S.fault_count source.old) (S.fault_count source.new) }
-    ensures too_many { result ≡ status.TooLong → RoseBy (longest + 1) (S.given source.old) (S.given source.new) }
-    ensures too_long { result ≡ status.TooLong → IfSome (S.left source.old) (λ left. longest < length left) }
-    ensures all_read { result ≡ status.Done → IsDrained (S.left source.old) (S.left source.new) }
-
-    // The output.
-    ensures write_fault { result ≡ status.WriteFault → Rose (K.fault_count sink.old) (K.fault_count sink.new) }
-    ensures replies { result ≡ status.Done → IfSome left.new (λ world. Grows (K.written sink.old) (K.written sink.new) (reply_text world.journal) (length (reply_text world.journal))) }
-    ensures part { result ≡ status.WriteFault → IfSome left.new (λ world. GrowsUpTo (K.written sink.old) (K.written sink.new) (reply_text world.journal)) }
-    ensures line { IsUnrun result → Grows (K.written sink.old) (K.written sink.new) (fault_line result) (length (fault_line result)) }
-    ensures nothing { result ≡ status.Memory → K.written sink.new ≡ K.written sink.old }
-
-    // The world: where a script was run to its end, the one with which it ended.
-    ensures ran { IfSome left.new (λ world. (bytes : List ℕ) × (script : Script) × IsReadWhole (S.left source.old) (S.left source.new) (S.given source.old) (S.given source.new) bytes × Spells bytes script × HasRun script world) }
-    ensures done { result ≡ status.Done → IsSome left.new }
-    ensures unrun { IsUnrun result → IsNone left.new }
-
-    // Where nothing fails.
-    ensures calm { IsSome (meaning_of (map string_bytes words.now)) → IfSome (S.left source.old) (λ bytes. length bytes ≤ longest → (Rose (S.fault_count source.old) (S.fault_count source.new) → ⊥) → (Rose (K.fault_count sink.old) (K.fault_count sink.new) → ⊥) → IsCalm bytes result) }
+    ensures ends { Ends (call (map string_bytes words.now) (input (S.left source.old) (S.given source.old) (S.fault_count source.old)) (input (S.left source.new) (S.given source.new) (S.fault_count source.new)) (output (K.written sink.old) (K.fault_count sink.old)) (output (K.written sink.new) (K.fault_count sink.new)) left.new) result }
 {
     *left = None;
     if words_meant(words).is_none() {
-        return unrun(sink, Status::Words);
+        return unrun(alloc, sink, &Unrun::Words);
     }
     match script_of(alloc, source) {
         Ok(script) => run_script(alloc, script, sink, left),
-        Err(status) => unrun(sink, status),
+        Err(why) => unrun(alloc, sink, &why),
     }
 }
 
 // The script that a source gives.
-fn script_of<S: Source>(alloc: Global, source: &mut S) -> Result<Script, Status>
-    ensures read { IfOk result (λ script. (bytes : List ℕ) × IsReadWhole (S.left source.old) (S.left source.new) (S.given source.old) (S.given source.new) bytes × Spells bytes script) }
-    ensures unread { IfErr result (λ status. IsUnread (S.left source.old) (S.left source.new) (S.given source.old) (S.given source.new) (S.fault_count source.old) (S.fault_count source.new) status) }
+fn script_of<S: Source>(alloc: Global, source: &mut S) -> Result<Script, Unrun>
+    ensures read { IfOk result (λ script. (bytes : List ℕ) × IsReadWhole (input (S.left source.old) (S.given source.old) (S.fault_count source.old)) (input (S.left source.new) (S.given source.new) (S.fault_count source.new)) bytes × Spells bytes script) }
+    ensures unread { IfErr result (IsUnread (input (S.left source.old) (S.given source.old) (S.fault_count source.old)) (input (S.left source.new) (S.given source.new) (S.fault_count source.new))) }
 {
     let bytes = read_all(alloc, source, LONGEST_INPUT)?;
     Ok(read_script(alloc, bytes.as_slice())?)
@@ -127,7 +75,7 @@ fn run_script<K: Sink>(
     requires small { IsSmall script.sessions }
     requires none { IsNone left.old }
     ensures ran { IfSome left.new (HasRun script) }
-    ensures replies { Prints (K.written sink.old) (K.written sink.new) (K.fault_count sink.old) (K.fault_count sink.new) left.new result }
+    ensures replies { Prints (output (K.written sink.old) (K.fault_count sink.old)) (output (K.written sink.new) (K.fault_count sink.new)) left.new result }
 {
     let Ok(world) = run_steps(alloc, script) else {
         return Status::Memory;
@@ -140,19 +88,32 @@ fn run_script<K: Sink>(
     }
 }
 
-// Writes the line of a status with which no script is run; none where memory was refused.
-fn unrun<K: Sink>(sink: &mut K, status: Status) -> Status
-    ensures { Faults (K.written sink.old) (K.written sink.new) (K.fault_count sink.old) (K.fault_count sink.new) status result }
+// Writes the line that says why no script is run; none where memory was refused.
+fn unrun<K: Sink>(alloc: Global, sink: &mut K, why: &Unrun) -> Status
+    ensures { Faults (output (K.written sink.old) (K.fault_count sink.old)) (output (K.written sink.new) (K.fault_count sink.new)) why.now result }
 {
-    if status == Status::Memory {
-        return status;
+    match why {
+        Unrun::Words => written(sink, "bad words\n".as_bytes(), Status::Words),
+        Unrun::Script { rule, pointer } => broken(alloc, sink, *rule, pointer),
+        Unrun::ReadFault => written(sink, "read fault\n".as_bytes(), Status::ReadFault),
+        Unrun::TooLong => written(sink, "too long\n".as_bytes(), Status::TooLong),
+        Unrun::Memory => Status::Memory,
     }
-    written(sink, status.fault_line().as_bytes(), status)
+}
+
+// Writes the line of a broken script.
+fn broken<K: Sink>(alloc: Global, sink: &mut K, rule: u8, pointer: &Text) -> Status
+    ensures { Faults (output (K.written sink.old) (K.fault_count sink.old)) (output (K.written sink.new) (K.fault_count sink.new)) (unrun.Script rule pointer.now) result }
+{
+    match script_line(alloc, rule, pointer) {
+        Ok(line) => written(sink, line.as_bytes(), Status::Script),
+        Err(AllocError) => Status::Memory,
+    }
 }
 
 // Writes the bytes and flushes, and answers the status, or that the sink failed.
 fn written<K: Sink>(sink: &mut K, bytes: &[u8], status: Status) -> Status
-    ensures { Tells (K.written sink.old) (K.written sink.new) (K.fault_count sink.old) (K.fault_count sink.new) bytes.now status result }
+    ensures { Tells (output (K.written sink.old) (K.fault_count sink.old)) (output (K.written sink.new) (K.fault_count sink.new)) bytes.now status result }
 {
     match write_all(sink, bytes) {
         Err(Failed) => Status::WriteFault,

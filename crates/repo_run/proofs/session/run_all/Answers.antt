@@ -1,6 +1,5 @@
 -- The session of a script begins with its commands.
-use Rattle.std.proofs.Common.{◌≡◌, ◌∙◌, sym, ap, subst, List, ◌∷◌, []}
-use Rattle.jr_script.specs.declared.script.SessionScript.{SessionScript}
+use Rattle.std.proofs.Common.{◌≡◌, ◌∙◌, sym, subst, List}
 use Rattle.jcr_trans.specs.declared.command.Command.{Command}
 use Rattle.repo_run.specs.Stands.{IsBegun}
 use Rattle.repo_run.proofs.Runs.{begun_from, first_item}

@@ -1,7 +1,6 @@
-use Rattle.std.proofs.Common.{◌≡◌, ◌∙◌, sym, ap, subst, refl, IsSome, IsFalse}
+use Rattle.std.proofs.Common.{◌∙◌, sym, ap, subst, refl}
 use Rattle.oak_machine.specs.Sessions.{has_login}
 use Rattle.oak_machine.specs.History.{history_of}
-use Rattle.oak_node.specs.Pins.{pin_of, pin_now}
 use Rattle.oak_world.specs.Worlds.{WorldOf}
 use Rattle.jcr_session.specs.declared.law.JcrLaw.{JcrLaw}
 use Rattle.jr_path.specs.declared.text.Text.{Text}

@@ -1,5 +1,4 @@
-use Rattle.std.proofs.Common.{◌≡◌, take, IsSome}
-use Rattle.oak_node.specs.Pins.{pin_of}
+use Rattle.std.proofs.Common.{◌≡◌, take}
 use Rattle.repo_run.specs.Stands.{Stands}
 use Rattle.repo_run.specs.Turns.{AnswersAll, state}
 use Rattle.repo_run.proofs.session.run_session.Given as goal

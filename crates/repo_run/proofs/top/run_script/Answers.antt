@@ -1,5 +1,6 @@
-use Rattle.std.proofs.Common.{◌≡◌, inl, sym, ap, ◌∙◌, arith}
+use Rattle.std.proofs.Common.{◌≡◌, inl, arith}
 use Rattle.jr_print.specs.Replies.{reply_text}
+use Rattle.repo_run.specs.Ends.{output}
 use Rattle.repo_run.specs.declared.status.Status.TheVariants as status
 use Rattle.repo_run.proofs.Faulty.{told_text}
 use Rattle.repo_run.proofs.top.run_script.Goals as goal
@@ -7,4 +8,4 @@ use Rattle.repo_run.proofs.top.run_script.Goals as goal
 pub returns-in-Ok-text-clause-replies : goal.returns-in-Ok-text-clause-replies
 returns-in-Ok-text-clause-replies g c =
     let e : c.as_slice.result.now ≡ reply_text c.in-Ok.world.journal = grind (arith, c.as_slice.ensures.value, c.in-Ok-text.ensures, c.journal.ensures) in
-    inl (told_text (g.K.Sink.written c.args.sink.now) (g.K.Sink.written c.written.new.sink) (g.K.Sink.fault_count c.args.sink.now) (g.K.Sink.fault_count c.written.new.sink) c.as_slice.result.now (reply_text c.in-Ok.world.journal) status.Done c.written.result e c.written.ensures)
+    inl (told_text (output (g.K.Sink.written c.args.sink.now) (g.K.Sink.fault_count c.args.sink.now)) (output (g.K.Sink.written c.written.new.sink) (g.K.Sink.fault_count c.written.new.sink)) c.as_slice.result.now (reply_text c.in-Ok.world.journal) status.Done c.written.result e c.written.ensures)

@@ -1,20 +1,36 @@
-use Rattle.repo_run.proofs.Faulty.{run_calm, unread_calm, unread_script}
+-- How a call ends.
+use Rattle.std.proofs.Common.{None, refl, is_some, map, sym, ap, ◌∙◌}
+use Rattle.std.specs.String.{string_bytes}
+use Rattle.repo_run.proofs.Faulty.{ends, ran_ends, unread_cause, unrun_ends}
+use Rattle.repo_run.specs.Ends.{call, input, output}
+use Rattle.repo_run.specs.declared.status.Unrun.TheVariants as unrun
+use Rattle.repo_run.proofs.Small.{read_is_small}
 use Rattle.repo_run.proofs.top.steps_main.Goals as goal
 
-pub returns-in-Err-clause-script : goal.returns-in-Err-clause-script
-returns-in-Err-clause-script g c =
-    unread_script (g.S.Source.left c.args.source.now) (g.S.Source.left c.script_of.new.source) (g.S.Source.given c.args.source.now) (g.S.Source.given c.script_of.new.source) (g.S.Source.fault_count c.args.source.now) (g.S.Source.fault_count c.script_of.new.source)
-    (g.K.Sink.written c.args.sink.now) (g.K.Sink.written c.unrun-in-Err.new.sink) (g.K.Sink.fault_count c.args.sink.now) (g.K.Sink.fault_count c.unrun-in-Err.new.sink)
-    c.in-Err.status c.unrun-in-Err.result c.in-Err.ensures.unread c.unrun-in-Err.ensures
+pub returns-then-is_none : goal.returns-then-is_none
+returns-then-is_none g c = record {
+  ends = ends _ _ (unrun_ends
+      (call (map string_bytes c.args.words.now) (input (g.S.Source.left c.args.source.now) (g.S.Source.given c.args.source.now) (g.S.Source.fault_count c.args.source.now))
+      (input (g.S.Source.left c.args.source.now) (g.S.Source.given c.args.source.now) (g.S.Source.fault_count c.args.source.now))
+      (output (g.K.Sink.written c.args.sink.now) (g.K.Sink.fault_count c.args.sink.now)) (output (g.K.Sink.written c.unrun.new.sink) (g.K.Sink.fault_count c.unrun.new.sink)) None)
+      refl unrun.Words c.unrun.result (ap is_some (sym c.words_meant.ensures) ∙ c.if-is_none.ensures) c.unrun.ensures);
+}
 
-pub returns-in-Err-clause-calm : goal.returns-in-Err-clause-calm
-returns-in-Err-clause-calm g c meant =
-    unread_calm (g.S.Source.left c.args.source.now) (g.S.Source.left c.script_of.new.source) (g.S.Source.given c.args.source.now) (g.S.Source.given c.script_of.new.source) (g.S.Source.fault_count c.args.source.now) (g.S.Source.fault_count c.script_of.new.source)
-    (g.K.Sink.written c.args.sink.now) (g.K.Sink.written c.unrun-in-Err.new.sink) (g.K.Sink.fault_count c.args.sink.now) (g.K.Sink.fault_count c.unrun-in-Err.new.sink)
-    c.in-Err.status c.unrun-in-Err.result c.in-Err.ensures.unread c.unrun-in-Err.ensures
+pub returns-in-Err : goal.returns-in-Err
+returns-in-Err g c =
+    let k = (call (map string_bytes c.args.words.now) (input (g.S.Source.left c.args.source.now) (g.S.Source.given c.args.source.now) (g.S.Source.fault_count c.args.source.now))
+    (input (g.S.Source.left c.script_of.new.source) (g.S.Source.given c.script_of.new.source) (g.S.Source.fault_count c.script_of.new.source))
+    (output (g.K.Sink.written c.args.sink.now) (g.K.Sink.fault_count c.args.sink.now)) (output (g.K.Sink.written c.unrun-in-Err.new.sink) (g.K.Sink.fault_count c.unrun-in-Err.new.sink)) None) in
+    record { ends = ends _ _ (unrun_ends k refl c.in-Err.why c.unrun-in-Err.result (unread_cause k c.in-Err.why (ap is_some (sym c.words_meant.ensures) ∙ c.if-is_none.ensures) c.in-Err.ensures.unread) c.unrun-in-Err.ensures) }
 
-pub returns-in-Ok-clause-calm : goal.returns-in-Ok-clause-calm
-returns-in-Ok-clause-calm g c meant =
-    run_calm (g.S.Source.left c.args.source.now) (g.S.Source.left c.script_of.new.source) (g.S.Source.given c.args.source.now) (g.S.Source.given c.script_of.new.source) c.in-Ok.script
-    (g.K.Sink.written c.args.sink.now) (g.K.Sink.written c.run_script.new.sink) (g.S.Source.fault_count c.args.source.now) (g.S.Source.fault_count c.script_of.new.source) (g.K.Sink.fault_count c.args.sink.now) (g.K.Sink.fault_count c.run_script.new.sink)
-    c.run_script.new.left c.run_script.result c.in-Ok.ensures.read c.run_script.ensures.replies
+pub returns-in-Ok : goal.returns-in-Ok
+returns-in-Ok g c = record {
+  ends = ends _ _ (ran_ends
+      (call (map string_bytes c.args.words.now) (input (g.S.Source.left c.args.source.now) (g.S.Source.given c.args.source.now) (g.S.Source.fault_count c.args.source.now))
+      (input (g.S.Source.left c.script_of.new.source) (g.S.Source.given c.script_of.new.source) (g.S.Source.fault_count c.script_of.new.source))
+      (output (g.K.Sink.written c.args.sink.now) (g.K.Sink.fault_count c.args.sink.now)) (output (g.K.Sink.written c.run_script.new.sink) (g.K.Sink.fault_count c.run_script.new.sink)) c.run_script.new.left)
+      c.in-Ok.script (ap is_some (sym c.words_meant.ensures) ∙ c.if-is_none.ensures) c.in-Ok.ensures.read c.run_script.result c.run_script.ensures.ran c.run_script.ensures.replies);
+}
+
+pub run_script-requires-clause-small : goal.run_script-requires-clause-small
+run_script-requires-clause-small g c = read_is_small c.in-Ok.ensures.read.0 c.in-Ok.script c.in-Ok.ensures.read.2

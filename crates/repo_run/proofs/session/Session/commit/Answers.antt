@@ -8,7 +8,7 @@ use Rattle.jcr_session.specs.declared.law.JcrLaw.{JcrLaw}
 use Rattle.repo_run.specs.Turns.{state}
 use Rattle.repo_run.proofs.Kept.{IfOk-weaker, OnOk-known}
 use Rattle.repo_run.proofs.Pinned.{pinned_by_commit, still_pinned}
-use Rattle.repo_run.proofs.Runs.{cancelled_save, committed_save, start_given}
+use Rattle.repo_run.proofs.Runs.{cancelled_save, start_given}
 use Rattle.repo_run.proofs.session.Session.commit.Goals as goal
 
 pub commit-requires-clause-lawful : goal.commit-requires-clause-lawful
