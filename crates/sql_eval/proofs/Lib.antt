@@ -1,0 +1,6 @@
+pub mod Rests
+pub mod Orders
+pub mod Missing
+pub mod Places
+pub mod OneOrder
+pub mod OneRows

@@ -1,0 +1,9 @@
+pub mod Texts
+pub mod Patterns
+pub mod Matching
+pub mod Values
+pub mod Conditions
+pub mod Joins
+pub mod Shown
+pub mod Keys
+pub mod Rows

@@ -1,0 +1,213 @@
+// What operands are in a tuple.
+ghost use Rattle.std.specs.Prelude.{◌≡◌, IfOk};
+ghost use Rattle.std.specs.Map.Iter.{deref_pair};
+ghost use Rattle.std.specs.Option.{option_copied, option_map};
+ghost use Rattle.jr_value.specs.declared.value.Value.TheVariants as value;
+ghost use Rattle.jr_value.specs.declared.value.Property.TheVariants.{Single};
+ghost use Rattle.sql_eval.specs.Conditions.{name_of, operand_of};
+ghost use Rattle.sql_eval.specs.Texts.{cased, in_case, lengths_of, local_part};
+ghost use Rattle.sql_eval.specs.Values.{missing_first, values_in};
+
+use crate::characters::{Case, in_case, lengths_of, local_part};
+use crate::compare::{lists_cmp, values_in, values_of};
+use crate::tuple::Tuple;
+use jr_path::{Path, Text};
+use jr_value::{Property, Value};
+use sql_parse::Operand;
+use std::alloc::{AllocError, Global};
+use std::cmp::Ordering;
+use std::marker::Model;
+
+/// What an operand is in a tuple (JSR 283, 6.7.25 DynamicOperand): a property, or nothing. Ordered as rows are: a
+/// missing one first, the others by their values as lists, values of two kinds by their kinds.
+#[derive(Drop)]
+pub(crate) struct Operated<'a> {
+    shown: Shown<'a>,
+}
+
+#[derive(Drop)]
+enum Shown<'a> {
+    Missing,
+    Kept(&'a Property),
+    Made(Property),
+}
+
+impl<'a> Model for Operated<'a> {
+    ghost use Rattle.std.specs.Prelude.{Option};
+    ghost use Rattle.jr_value.specs.declared.value.Property.{Property};
+    ghost use Rattle.sql_eval.specs.Shown.{shown_property};
+
+    ghost Value = { Option Property };
+
+    ghost view = { λ o. shown_property o.shown };
+}
+
+impl<'a> Operated<'a> {
+    pub fn kept(property: Option<&'a Property>) -> Operated<'a>
+        ensures { result ≡ option_copied property.entry }
+    {
+        match property {
+            Some(property) => Operated {
+                shown: Shown::Kept(property),
+            },
+            None => Operated {
+                shown: Shown::Missing,
+            },
+        }
+    }
+
+    fn made(property: Option<Property>) -> Operated<'a>
+        ensures { result ≡ property }
+    {
+        match property {
+            Some(property) => Operated {
+                shown: Shown::Made(property),
+            },
+            None => Operated {
+                shown: Shown::Missing,
+            },
+        }
+    }
+
+    fn property(&self) -> Option<&Property>
+        ensures { option_copied result ≡ self.now }
+    {
+        match &self.shown {
+            Shown::Missing => None,
+            Shown::Kept(property) => Some(*property),
+            Shown::Made(property) => Some(property),
+        }
+    }
+
+    /// Its values; a missing property has none.
+    pub fn values(&self) -> &[Value]
+        ensures { result.now ≡ values_in self.now }
+    {
+        values_in(self.property())
+    }
+
+    // With the letters of ASCII in one case.
+    fn in_case(&self, alloc: Global, case: Case) -> Result<Operated<'a>, AllocError>
+        ensures { IfOk result (λ changed. changed ≡ option_map (in_case (cased case)) self.now) }
+    {
+        match self.property() {
+            Some(property) => Ok(Operated::made(Some(in_case(alloc, case, property)?))),
+            None => Ok(Operated::made(None)),
+        }
+    }
+
+    // The lengths of its values.
+    fn lengths(&self, alloc: Global) -> Result<Operated<'a>, AllocError>
+        ensures { IfOk result (λ lengths. lengths ≡ option_map lengths_of self.now) }
+    {
+        match self.property() {
+            Some(property) => Ok(Operated::made(Some(lengths_of(alloc, property)?))),
+            None => Ok(Operated::made(None)),
+        }
+    }
+}
+
+/// What an operand is in a tuple (JSR 283, 6.7.26 to 6.7.33).
+pub(crate) fn operand_of<'a>(
+    alloc: Global,
+    tuple: &Tuple<'a>,
+    operand: &Operand,
+) -> Result<Operated<'a>, AllocError>
+    ensures { IfOk result (λ operated. operated ≡ operand_of tuple.now operand.now) }
+{
+    match operand {
+        Operand::Property(property) => Ok(Operated::kept(tuple.property(property))),
+        Operand::Length(property) => {
+            Ok(Operated::kept(tuple.property(property)).lengths(alloc)?)
+        }
+        Operand::Name(selector) => match tuple.spot(*selector) {
+            Some((path, _)) => Ok(Operated::made(Some(text(alloc, name_of(path))?))),
+            None => Ok(Operated::made(None)),
+        },
+        Operand::LocalName(selector) => match tuple.spot(*selector) {
+            Some((path, _)) => Ok(Operated::made(Some(text(alloc, local_part(name_of(path)))?))),
+            None => Ok(Operated::made(None)),
+        },
+        Operand::Lower(inner) => Ok(operand_of(alloc, tuple, inner)?.in_case(alloc, Case::Lower)?),
+        Operand::Upper(inner) => Ok(operand_of(alloc, tuple, inner)?.in_case(alloc, Case::Upper)?),
+    }
+}
+
+// The name of a node, which is empty for the root.
+fn name_of(path: &Path) -> &str
+    ensures { result.now ≡ name_of path.now }
+{
+    match path.last_name() {
+        Some(name) => name.as_str(),
+        None => "",
+    }
+}
+
+// A STRING.
+fn text(alloc: Global, text: &str) -> Result<Property, AllocError>
+    ensures { IfOk result (λ property. property ≡ Single (value.Str text.now)) }
+{
+    let text = Text::of(String::from_str(alloc, text)?);
+    Ok(Property::Single(Value::Str(text)))
+}
+
+impl<'a> PartialEq for Operated<'a> {
+    ghost use Rattle.std.specs.Ordering.{eq_by_cmp};
+    ghost use Rattle.std.specs.Cmp.{eq_by_cmp_equiv, partial_equiv_from_equiv};
+    ghost use Rattle.sql_eval.specs.Values.{missing_first};
+    ghost use Rattle.sql_eval.specs.Keys.{missing_first_total};
+
+    ghost eq = { eq_by_cmp missing_first };
+
+    ghost laws = { partial_equiv_from_equiv (eq_by_cmp_equiv missing_first_total) };
+
+    fn eq(&self, other: &Operated<'a>) -> bool {
+        self.cmp(other).is_eq()
+    }
+}
+
+impl<'a> Eq for Operated<'a> {
+    ghost use Rattle.std.specs.Cmp.{eq_by_cmp_equiv};
+    ghost use Rattle.sql_eval.specs.Keys.{missing_first_total};
+
+    ghost laws = { eq_by_cmp_equiv missing_first_total };
+}
+
+impl<'a> Ord for Operated<'a> {
+    ghost use Rattle.std.specs.Prelude.{refl};
+    ghost use Rattle.sql_eval.specs.Values.{missing_first};
+    ghost use Rattle.sql_eval.specs.Keys.{missing_first_total};
+
+    ghost cmp = { missing_first };
+
+    ghost total = { missing_first_total };
+
+    ghost matches_partial_cmp = { λ x y. refl };
+
+    ghost matches_eq = { λ x y. refl };
+
+    fn cmp(&self, other: &Operated<'a>) -> Ordering {
+        match (self.property(), other.property()) {
+            (None, None) => Ordering::Equal,
+            (None, Some(_)) => Ordering::Less,
+            (Some(_), None) => Ordering::Greater,
+            (Some(own), Some(property)) => lists_cmp(values_of(own), values_of(property)),
+        }
+    }
+}
+
+impl<'a> PartialOrd for Operated<'a> {
+    ghost use Rattle.std.specs.Prelude.{refl};
+    ghost use Rattle.std.specs.Ordering.{as_partial_cmp};
+    ghost use Rattle.std.specs.Cmp.{po};
+    ghost use Rattle.sql_eval.specs.Values.{missing_first};
+    ghost use Rattle.sql_eval.specs.Keys.{missing_first_total};
+
+    ghost partial_cmp = { as_partial_cmp missing_first };
+
+    ghost laws = { po missing_first_total (λ x y. refl) };
+
+    fn partial_cmp(&self, other: &Operated<'a>) -> Option<Ordering> {
+        Some(self.cmp(other))
+    }
+}

@@ -1,0 +1,56 @@
+// Tuples in order.
+ghost use Rattle.std.specs.Prelude.{◌≡◌, IfOk, OnOk, map};
+ghost use Rattle.sql_eval.specs.Keys.{ranked_of};
+ghost use Rattle.sql_eval.specs.Rows.{IsStablySorted, by_orders, by_paths};
+
+use crate::key::{Ranked, ranked_of};
+use crate::tuple::Tuple;
+use sql_parse::Order;
+use std::alloc::{AllocError, Global};
+
+/// Puts tuples in the order of the paths of their nodes.
+pub(crate) fn sort_by_paths(tuples: &mut Vec<Tuple<'_>>) -> Result<(), AllocError>
+    ensures { OnOk result (IsStablySorted by_paths tuples.old.items tuples.new.items) }
+{
+    tuples.sort()?;
+    Ok(())
+}
+
+/// Puts tuples in the orders of a query, those that tie as they stood.
+pub(crate) fn sorted_by_orders<'a>(
+    alloc: Global,
+    orders: &[Order],
+    tuples: Vec<Tuple<'a>>,
+) -> Result<Vec<Tuple<'a>>, AllocError>
+    ensures { IfOk result (λ sorted. IsStablySorted (by_orders orders.now) tuples.entry.items sorted.items) }
+{
+    let mut ranked = ranked(alloc, orders, tuples)?;
+    ranked.sort()?;
+    tuples_in(alloc, ranked)
+}
+
+// The tuples with their keys.
+fn ranked<'a>(
+    alloc: Global,
+    orders: &[Order],
+    tuples: Vec<Tuple<'a>>,
+) -> Result<Vec<Ranked<'a>>, AllocError>
+    ensures { IfOk result (λ ranked. ranked.items ≡ map (ranked_of orders.now) tuples.entry.items) }
+{
+    let mut ranked = Vec::new(alloc);
+    for tuple in tuples {
+        ranked.push(ranked_of(alloc, orders, tuple)?)?;
+    }
+    Ok(ranked)
+}
+
+// The tuples without their keys.
+fn tuples_in<'a>(alloc: Global, ranked: Vec<Ranked<'a>>) -> Result<Vec<Tuple<'a>>, AllocError>
+    ensures { IfOk result (λ tuples. tuples.items ≡ map (λ r. r.tuple) ranked.entry.items) }
+{
+    let mut tuples = Vec::new(alloc);
+    for one in ranked {
+        tuples.push(one.tuple)?;
+    }
+    Ok(tuples)
+}

@@ -1,0 +1,202 @@
+// Tuples of nodes: for each selector of a query, by its place, a node with its path, or none.
+ghost use Rattle.std.specs.Prelude.{◌≡◌, ◌∷◌, ◌++◌, [], None, Some, IfOk, length, map};
+ghost use Rattle.std.specs.Ordering.{on};
+ghost use Rattle.jr_path.specs.Names.{path_cmp};
+ghost use Rattle.std.specs.List.{repeat};
+ghost use Rattle.std.specs.Map.Iter.{deref_pair};
+ghost use Rattle.std.specs.Option.{option_cmp, option_copied, option_map};
+ghost use Rattle.sql_eval.specs.Conditions.{property_in, property_of, spot_of};
+ghost use Rattle.sql_eval.specs.Rows.{by_paths};
+
+use jr_path::{Name, Path};
+use jr_tree::Node;
+use jr_value::Property;
+use sql_parse::PropertyOf;
+use std::alloc::{AllocError, Global};
+use std::cmp::Ordering;
+use std::marker::Model;
+
+/// A node of a tree with its path.
+pub(crate) type Spot<'a> = (&'a Path, &'a Node);
+
+/// For each selector its node, or none where an outer join has none. Ordered by the paths of the nodes in the order
+/// of the selectors, a missing node first.
+#[derive(Drop)]
+pub(crate) struct Tuple<'a> {
+    spots: Vec<Option<Spot<'a>>>,
+}
+
+impl<'a> Model for Tuple<'a> {
+    ghost use Rattle.std.specs.Prelude.{map};
+    ghost use Rattle.std.specs.Map.Iter.{deref_pair};
+    ghost use Rattle.std.specs.Option.{option_map};
+    ghost use Rattle.sql_eval.specs.Conditions.{Tuple as Spots};
+
+    ghost Value = { Spots };
+
+    ghost view = { λ t. map (option_map deref_pair) t.spots.items };
+}
+
+impl<'a> Tuple<'a> {
+    /// The tuple with no selectors. It takes no memory.
+    pub fn new(alloc: Global) -> Tuple<'a>
+        ensures { result ≡ [] }
+    {
+        Tuple {
+            spots: Vec::new(alloc),
+        }
+    }
+
+    /// How many selectors it has.
+    pub fn len(&self) -> usize
+        ensures { result ≡ length self.now }
+    {
+        self.spots.len()
+    }
+
+    /// The node of a selector.
+    pub fn spot(&self, selector: u32) -> Option<Spot<'a>>
+        ensures { option_map deref_pair result ≡ spot_of self.now selector }
+    {
+        match self.spots.get(selector as usize) {
+            Some(spot) => *spot,
+            None => None,
+        }
+    }
+
+    /// A property of the node of a selector.
+    pub fn property(&self, property: &PropertyOf) -> Option<&'a Property>
+        ensures { option_copied result ≡ property_of self.now property.now }
+    {
+        property_in(self.spot(property.selector), &property.name)
+    }
+
+    /// The tuple with one more selector.
+    pub fn with(&self, alloc: Global, spot: Option<Spot<'a>>) -> Result<Tuple<'a>, AllocError>
+        ensures { IfOk result (λ tuple. tuple ≡ self.now ++ option_map deref_pair spot.entry ∷ []) }
+    {
+        let mut spots = Vec::new(alloc);
+        for own in &self.spots {
+            spots.push(*own)?;
+        }
+        spots.push(spot)?;
+        Ok(Tuple { spots })
+    }
+
+    /// A node behind so many missing ones.
+    pub fn behind(alloc: Global, missing: usize, spot: Spot<'a>) -> Result<Tuple<'a>, AllocError>
+        ensures { IfOk result (λ tuple. tuple ≡ repeat missing (None ∷ []) ++ Some (deref_pair spot.entry) ∷ []) }
+    {
+        let mut spots: Vec<Option<Spot<'a>>> = Vec::new(alloc);
+        for _ in 0..missing {
+            spots.push(None)?;
+        }
+        spots.push(Some(spot))?;
+        Ok(Tuple { spots })
+    }
+}
+
+/// The property of that name, where there is a node that has it.
+pub(crate) fn property_in<'a>(spot: Option<Spot<'a>>, name: &Name) -> Option<&'a Property>
+    ensures { option_copied result ≡ property_in (option_map deref_pair spot.entry) name.now }
+{
+    match spot {
+        Some((_, node)) => node.props.get(name),
+        None => None,
+    }
+}
+
+// The order of two nodes by their paths, a missing one first.
+fn spot_cmp(spot: &Option<Spot<'_>>, other: &Option<Spot<'_>>) -> Ordering
+    ensures { result ≡ option_cmp (on (λ e. e.0) path_cmp) (option_map deref_pair spot.now) (option_map deref_pair other.now) }
+{
+    match (spot, other) {
+        (None, None) => Ordering::Equal,
+        (None, Some(_)) => Ordering::Less,
+        (Some(_), None) => Ordering::Greater,
+        (Some((path, _)), Some((other, _))) => path.cmp(other),
+    }
+}
+
+// The order of two lists of nodes by their paths.
+fn spots_cmp(spots: &[Option<Spot<'_>>], others: &[Option<Spot<'_>>]) -> Ordering
+    ensures { result ≡ by_paths (map (option_map deref_pair) spots.now) (map (option_map deref_pair) others.now) }
+{
+    let mut left = spots;
+    let mut right = others;
+    loop {
+        match left {
+            [] => match right {
+                [] => return Ordering::Equal,
+                [_, ..] => return Ordering::Less,
+            },
+            [spot, rest @ ..] => match right {
+                [] => return Ordering::Greater,
+                [other, more @ ..] => {
+                    let order = spot_cmp(spot, other);
+                    if order.is_ne() {
+                        return order;
+                    }
+                    left = rest;
+                    right = more;
+                }
+            },
+        }
+    }
+}
+
+impl<'a> PartialEq for Tuple<'a> {
+    ghost use Rattle.std.specs.Ordering.{eq_by_cmp};
+    ghost use Rattle.std.specs.Cmp.{eq_by_cmp_equiv, partial_equiv_from_equiv};
+    ghost use Rattle.sql_eval.specs.Rows.{by_paths};
+    ghost use Rattle.sql_eval.specs.Keys.{by_paths_total};
+
+    ghost eq = { eq_by_cmp by_paths };
+
+    ghost laws = { partial_equiv_from_equiv (eq_by_cmp_equiv by_paths_total) };
+
+    fn eq(&self, other: &Tuple<'a>) -> bool {
+        self.cmp(other).is_eq()
+    }
+}
+
+impl<'a> Eq for Tuple<'a> {
+    ghost use Rattle.std.specs.Cmp.{eq_by_cmp_equiv};
+    ghost use Rattle.sql_eval.specs.Keys.{by_paths_total};
+
+    ghost laws = { eq_by_cmp_equiv by_paths_total };
+}
+
+impl<'a> Ord for Tuple<'a> {
+    ghost use Rattle.std.specs.Prelude.{refl};
+    ghost use Rattle.sql_eval.specs.Rows.{by_paths};
+    ghost use Rattle.sql_eval.specs.Keys.{by_paths_total};
+
+    ghost cmp = { by_paths };
+
+    ghost total = { by_paths_total };
+
+    ghost matches_partial_cmp = { λ x y. refl };
+
+    ghost matches_eq = { λ x y. refl };
+
+    fn cmp(&self, other: &Tuple<'a>) -> Ordering {
+        spots_cmp(&self.spots, &other.spots)
+    }
+}
+
+impl<'a> PartialOrd for Tuple<'a> {
+    ghost use Rattle.std.specs.Prelude.{refl};
+    ghost use Rattle.std.specs.Ordering.{as_partial_cmp};
+    ghost use Rattle.std.specs.Cmp.{po};
+    ghost use Rattle.sql_eval.specs.Rows.{by_paths};
+    ghost use Rattle.sql_eval.specs.Keys.{by_paths_total};
+
+    ghost partial_cmp = { as_partial_cmp by_paths };
+
+    ghost laws = { po by_paths_total (λ x y. refl) };
+
+    fn partial_cmp(&self, other: &Tuple<'a>) -> Option<Ordering> {
+        Some(self.cmp(other))
+    }
+}

@@ -1,0 +1,5 @@
+pub mod Grammar
+pub mod Leaves
+pub mod Pieces
+pub mod Reading
+pub mod Trees

@@ -1,0 +1,302 @@
+// What is asked of a row.
+ghost use Rattle.std.specs.Prelude.{◌≡◌, IfOk};
+ghost use Rattle.std.specs.Option.{option_map};
+ghost use Rattle.sql_parse.specs.Grammar.{and_with, filter_at, follows_name, grouped, negated, not_at, not_first, or_with, path_at, path_first, path_in, place_call, selector_before, selector_first, is_selector, test_at, tested};
+ghost use Rattle.sql_parse.specs.Reading.{Reads, ReadsAs};
+ghost use Rattle.sql_parse.specs.Trees.{look_of, test_of};
+ghost use Rattle.sql_parse.specs.Trees as tree;
+
+use crate::cursor::{Cursor, behind, sign_first, word_first};
+use crate::names::only_or;
+use crate::operands::operator_first;
+use crate::piece::{Placed, Says, Sign};
+use crate::{Condition, Operand, SqlFault};
+use jr_path::{DeepCopy, Name, Path};
+use std::alloc::{AllocError, Global};
+
+fn path_in(says: &Says) -> Result<Option<Path>, AllocError>
+    ensures { IfOk result (λ path. path ≡ path_in says.now) }
+{
+    match says {
+        Says::Path(path) => Ok(Some(path.copy()?)),
+        Says::Text(_, path, _) => Ok(path.copy()?),
+        _ => Ok(None),
+    }
+}
+
+// The path that comes first.
+fn path_first(pieces: &[Placed]) -> Result<Option<Path>, AllocError>
+    ensures { IfOk result (λ path. path ≡ path_first pieces.now) }
+{
+    match pieces {
+        [piece, ..] => Ok(path_in(&piece.says)?),
+        [] => Ok(None),
+    }
+}
+
+fn is_selector(says: &Says) -> bool
+    ensures { result ≡ is_selector says.now }
+{
+    match says {
+        Says::Word(_) => true,
+        Says::Bracketed(_) => true,
+        _ => false,
+    }
+}
+
+// Whether a name comes first.
+fn selector_first(pieces: &[Placed]) -> bool
+    ensures { result ≡ selector_first pieces.now }
+{
+    match pieces {
+        [piece, ..] => is_selector(&piece.says),
+        [] => false,
+    }
+}
+
+// Whether the first piece can follow a property's first name.
+fn follows_name(pieces: &[Placed]) -> bool
+    ensures { result ≡ follows_name pieces.now }
+{
+    sign_first(Sign::Dot, pieces) || operator_first(pieces).is_some() || word_first("IS", pieces)
+}
+
+// Whether NOT comes first, as the keyword.
+fn not_first(pieces: &[Placed]) -> bool
+    ensures { result ≡ not_first pieces.now }
+{
+    word_first("NOT", pieces) && !follows_name(behind(pieces))
+}
+
+impl<'a> Cursor<'a> {
+    // Whether NOT comes next, as the keyword.
+    fn is_not(&self) -> bool
+        ensures { result ≡ not_first self.now.pieces }
+    {
+        not_first(self.pieces)
+    }
+
+    // A path, in quotes or in brackets.
+    fn path(&mut self) -> Result<Path, SqlFault>
+        ensures { Reads result self.new (path_at self.old) }
+    {
+        let Some(path) = path_first(self.pieces)? else {
+            return Err(self.fault());
+        };
+        self.advance();
+        Ok(path)
+    }
+
+    // [name ,]
+    fn selector_before(&mut self, names: &[Name]) -> Result<u32, SqlFault>
+        ensures { Reads result self.new (selector_before names.now self.old) }
+    {
+        if selector_first(self.pieces) {
+            let selector = self.declared(names)?;
+            self.sign(Sign::Comma)?;
+            return Ok(selector);
+        }
+        let selector = only_or(names, self.place())?;
+        Ok(selector)
+    }
+
+    // ( [name ,] path ), behind a function's word
+    fn place_call(&mut self, names: &[Name]) -> Result<(u32, Path), SqlFault>
+        ensures { Reads result self.new (place_call names.now self.old) }
+    {
+        self.advance();
+        self.sign(Sign::Open)?;
+        let selector = self.selector_before(names)?;
+        let path = self.path()?;
+        self.sign(Sign::Close)?;
+        Ok((selector, path))
+    }
+
+    // IS NOT NULL behind a property, or op static behind any operand
+    fn tested(&mut self, operand: Operand) -> Result<Condition, SqlFault>
+        ensures { ReadsAs test_of result self.new (tested (look_of operand) self.old) }
+    {
+        match operand {
+            Operand::Property(property) => {
+                if self.is_word("IS") {
+                    self.advance();
+                    self.word("NOT")?;
+                    self.word("NULL")?;
+                    return Ok(Condition::Has(property));
+                }
+                let operator = self.operator()?;
+                let value = self.constant()?;
+                Ok(Condition::Compare(Operand::Property(property), operator, value))
+            }
+            operand => {
+                let operator = self.operator()?;
+                let value = self.constant()?;
+                Ok(Condition::Compare(operand, operator, value))
+            }
+        }
+    }
+
+    // property IS NOT NULL | operand op static
+    // | ISSAMENODE([name,] path) | ISCHILDNODE([name,] path) | ISDESCENDANTNODE([name,] path)
+    #[tactic(auto, unfolding(crate::specs::Grammar::test_at))]
+    fn test(&mut self, alloc: Global, names: &[Name]) -> Result<Condition, SqlFault>
+        ensures { ReadsAs test_of result self.new (test_at names.now self.old) }
+    {
+        if self.is_call("ISSAMENODE") {
+            let (selector, path) = self.place_call(names)?;
+            return Ok(Condition::Same(selector, path));
+        }
+        if self.is_call("ISCHILDNODE") {
+            let (selector, path) = self.place_call(names)?;
+            return Ok(Condition::Child(selector, path));
+        }
+        if self.is_call("ISDESCENDANTNODE") {
+            let (selector, path) = self.place_call(names)?;
+            return Ok(Condition::Descendant(selector, path));
+        }
+        let operand = self.operand(alloc, names, self.pieces)?;
+        let condition = self.tested(operand)?;
+        Ok(condition)
+    }
+
+    // NOT not
+    #[cycle(condition)]
+    #[tactic(auto, unfolding(crate::specs::Grammar::negated))]
+    fn negated(
+        &mut self,
+        alloc: Global,
+        names: &[Name],
+        room: &[Placed],
+    ) -> Result<Condition, SqlFault>
+        ensures { ReadsAs test_of result self.new (negated (not_at names.now room.now) self.old) }
+    {
+        self.advance();
+        let condition = self.negation(alloc, names, room)?;
+        let condition = Box::new(alloc, condition)?;
+        Ok(Condition::Not(condition))
+    }
+
+    // ( or )
+    #[cycle(condition)]
+    #[tactic(auto, unfolding(crate::specs::Grammar::grouped))]
+    fn grouped(
+        &mut self,
+        alloc: Global,
+        names: &[Name],
+        room: &[Placed],
+    ) -> Result<Condition, SqlFault>
+        ensures { ReadsAs test_of result self.new (grouped (not_at names.now room.now) self.old) }
+    {
+        self.advance();
+        let condition = self.condition(alloc, names, room)?;
+        self.sign(Sign::Close)?;
+        Ok(condition)
+    }
+
+    // not = NOT not | primary; primary = ( or ) | .. No more NOT and `(` stand inside one another than `room` has
+    // pieces.
+    #[cycle(condition)]
+    fn negation(
+        &mut self,
+        alloc: Global,
+        names: &[Name],
+        room: &[Placed],
+    ) -> Result<Condition, SqlFault>
+        ensures { ReadsAs test_of result self.new (not_at names.now room.now self.old) }
+    {
+        let [_, room @ ..] = room else {
+            return Err(self.fault());
+        };
+        if self.is_not() {
+            let condition = self.negated(alloc, names, room)?;
+            return Ok(condition);
+        }
+        if self.is_sign(Sign::Open) {
+            let condition = self.grouped(alloc, names, room)?;
+            return Ok(condition);
+        }
+        let condition = self.test(alloc, names)?;
+        Ok(condition)
+    }
+
+    // and = not {AND not}
+    #[cycle(condition)]
+    fn conjunction(
+        &mut self,
+        alloc: Global,
+        names: &[Name],
+        room: &[Placed],
+    ) -> Result<Condition, SqlFault>
+        ensures { ReadsAs test_of result self.new (and_with (not_at names.now room.now) self.old) }
+    {
+        let mut left = self.negation(alloc, names, room)?;
+        let mut turns = self.pieces;
+        while let [_, more @ ..] = turns {
+            if !self.is_word("AND") {
+                break;
+            }
+            turns = more;
+            self.advance();
+            let right = self.negation(alloc, names, room)?;
+            left = and(alloc, left, right)?;
+        }
+        Ok(left)
+    }
+
+    // or = and {OR and}
+    #[cycle(condition)]
+    fn condition(
+        &mut self,
+        alloc: Global,
+        names: &[Name],
+        room: &[Placed],
+    ) -> Result<Condition, SqlFault>
+        ensures { ReadsAs test_of result self.new (or_with (not_at names.now room.now) self.old) }
+    {
+        let mut left = self.conjunction(alloc, names, room)?;
+        let mut turns = self.pieces;
+        while let [_, more @ ..] = turns {
+            if !self.is_word("OR") {
+                break;
+            }
+            turns = more;
+            self.advance();
+            let right = self.conjunction(alloc, names, room)?;
+            left = or(alloc, left, right)?;
+        }
+        Ok(left)
+    }
+
+    // [WHERE or]
+    #[tactic(auto, unfolding(crate::specs::Grammar::filter_at))]
+    pub(crate) fn filter(
+        &mut self,
+        alloc: Global,
+        names: &[Name],
+    ) -> Result<Option<Condition>, SqlFault>
+        ensures { ReadsAs (option_map test_of) result self.new (filter_at names.now self.old) }
+    {
+        if self.is_word("WHERE") {
+            self.advance();
+            let condition = self.condition(alloc, names, self.pieces)?;
+            return Ok(Some(condition));
+        }
+        Ok(None)
+    }
+}
+
+fn and(alloc: Global, left: Condition, right: Condition) -> Result<Condition, AllocError>
+    ensures { IfOk result (λ c. test_of c ≡ tree.And (test_of left) (test_of right)) }
+{
+    let left = Box::new(alloc, left)?;
+    let right = Box::new(alloc, right)?;
+    Ok(Condition::And(left, right))
+}
+
+fn or(alloc: Global, left: Condition, right: Condition) -> Result<Condition, AllocError>
+    ensures { IfOk result (λ c. test_of c ≡ tree.Or (test_of left) (test_of right)) }
+{
+    let left = Box::new(alloc, left)?;
+    let right = Box::new(alloc, right)?;
+    Ok(Condition::Or(left, right))
+}

@@ -1,0 +1,24 @@
+//! Queries of JCR-SQL2 (JSR 283, 6.7), read from their text.
+#![tactic(auto)]
+
+mod columns;
+mod conditions;
+mod cursor;
+mod fault;
+mod leaves;
+mod names;
+mod operands;
+mod orders;
+mod parser;
+mod piece;
+mod pieces;
+mod query;
+mod sources;
+#[cfg(test)]
+mod tests;
+
+pub use fault::SqlFault;
+pub use parser::parse;
+pub use query::{
+    Column, Condition, Direction, Join, JoinKind, On, Operand, Operator, Order, PropertyOf, Query,
+};

@@ -1,0 +1,77 @@
+// Names of selectors and properties.
+ghost use Rattle.std.specs.Prelude.{◌≡◌};
+ghost use Rattle.sql_parse.specs.Grammar.{declared_at, is_one, only_at, property_at};
+ghost use Rattle.sql_parse.specs.Leaves.{place_named};
+ghost use Rattle.sql_parse.specs.Reading.{Gives, Reads, required};
+
+use crate::cursor::{Cursor, name_first};
+use crate::leaves::place_named;
+use crate::piece::Sign;
+use crate::{PropertyOf, SqlFault};
+use jr_path::{DeepCopy, Name};
+
+// Whether there is one selector alone.
+fn is_one(names: &[Name]) -> bool
+    ensures { result ≡ is_one names.now }
+{
+    match names {
+        [_] => true,
+        _ => false,
+    }
+}
+
+// The place of a selector's name; where it isn't declared, the fault is at the offset.
+fn place_or(names: &[Name], name: &Name, at: usize) -> Result<u32, SqlFault>
+    ensures { Gives result (required (place_named names.now name.now) at) }
+{
+    match place_named(names, name) {
+        Some(place) => Ok(place),
+        None => Err(SqlFault::InvalidQuery(at)),
+    }
+}
+
+// The place of the one selector; where there are several, the fault is at the offset.
+pub(crate) fn only_or(names: &[Name], at: usize) -> Result<u32, SqlFault>
+    ensures { Gives result (only_at names.now at) }
+{
+    if is_one(names) {
+        Ok(0)
+    } else {
+        Err(SqlFault::InvalidQuery(at))
+    }
+}
+
+impl<'a> Cursor<'a> {
+    // Reads the name of a selector that is declared.
+    pub(crate) fn declared(&mut self, names: &[Name]) -> Result<u32, SqlFault>
+        ensures { Reads result self.new (declared_at names.now self.old) }
+    {
+        let at = self.place();
+        let Some(name) = name_first(self.pieces) else {
+            return Err(self.fault());
+        };
+        self.advance();
+        let place = place_or(names, name, at)?;
+        Ok(place)
+    }
+
+    // property = [name .] name
+    pub(crate) fn property(&mut self, names: &[Name]) -> Result<PropertyOf, SqlFault>
+        ensures { Reads result self.new (property_at names.now self.old) }
+    {
+        let at = self.place();
+        let Some(first) = name_first(self.pieces) else {
+            return Err(self.fault());
+        };
+        self.advance();
+        if self.is_sign(Sign::Dot) {
+            let selector = place_or(names, first, at)?;
+            self.advance();
+            let name = self.name()?;
+            return Ok(PropertyOf { selector, name });
+        }
+        let selector = only_or(names, at)?;
+        let name = first.copy()?;
+        Ok(PropertyOf { selector, name })
+    }
+}

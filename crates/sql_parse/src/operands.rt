@@ -1,0 +1,280 @@
+// Operands and values.
+ghost use Rattle.std.specs.Prelude.{◌≡◌, IfOk};
+ghost use Rattle.sql_parse.specs.Grammar.{cast_at, first_kind, kind_at, kind_first, kind_in, literal_at, literal_first, literal_in, operand_at, operator_at, operator_first, operator_in, plain_operand, property_call, selector_call, static_at, text_at, text_first, truth_in};
+ghost use Rattle.sql_parse.specs.Reading.{Reads, ReadsAs};
+ghost use Rattle.sql_parse.specs.Trees.{look_of};
+
+use crate::cursor::Cursor;
+use crate::leaves::{is_a, kind_named};
+use crate::names::only_or;
+use crate::piece::{Placed, Says, Sign};
+use crate::{Operand, Operator, PropertyOf, SqlFault};
+use jr_path::{DeepCopy, Name, Text};
+use jr_value::{Kind, Value};
+use std::alloc::{AllocError, Global};
+
+fn operator_in(says: &Says) -> Option<Operator>
+    ensures { result ≡ operator_in says.now }
+{
+    match says {
+        Says::Sign(Sign::Equal) => Some(Operator::Equal),
+        Says::Sign(Sign::Unequal) => Some(Operator::Unequal),
+        Says::Sign(Sign::Less) => Some(Operator::Less),
+        Says::Sign(Sign::AtMost) => Some(Operator::AtMost),
+        Says::Sign(Sign::Greater) => Some(Operator::Greater),
+        Says::Sign(Sign::AtLeast) => Some(Operator::AtLeast),
+        Says::Word(name) => {
+            if is_a("LIKE", name.as_str().as_bytes()) {
+                Some(Operator::Like)
+            } else {
+                None
+            }
+        }
+        _ => None,
+    }
+}
+
+// The operator that comes first.
+pub(crate) fn operator_first(pieces: &[Placed]) -> Option<Operator>
+    ensures { result ≡ operator_first pieces.now }
+{
+    match pieces {
+        [piece, ..] => operator_in(&piece.says),
+        [] => None,
+    }
+}
+
+fn truth_in(name: &str) -> Option<Value>
+    ensures { result ≡ truth_in name.now }
+{
+    if is_a("TRUE", name.as_bytes()) {
+        return Some(Value::Boolean(true));
+    }
+    if is_a("FALSE", name.as_bytes()) {
+        return Some(Value::Boolean(false));
+    }
+    None
+}
+
+fn literal_in(says: &Says) -> Result<Option<Value>, AllocError>
+    ensures { IfOk result (λ value. value ≡ literal_in says.now) }
+{
+    match says {
+        Says::Text(text, _, _) => Ok(Some(Value::Str(text.copy()?))),
+        Says::Number(number) => Ok(Some(Value::Long(*number))),
+        Says::Variable(value) => Ok(Some(value.copy()?)),
+        Says::Word(name) => Ok(truth_in(name.as_str())),
+        _ => Ok(None),
+    }
+}
+
+// The value that comes first, but for a CAST.
+fn literal_first(pieces: &[Placed]) -> Result<Option<Value>, AllocError>
+    ensures { IfOk result (λ value. value ≡ literal_first pieces.now) }
+{
+    match pieces {
+        [piece, ..] => Ok(literal_in(&piece.says)?),
+        [] => Ok(None),
+    }
+}
+
+// The text that comes first, with its value in a CAST.
+fn text_first(pieces: &[Placed]) -> Result<Option<(Text, Option<Value>)>, AllocError>
+    ensures { IfOk result (λ text. text ≡ text_first pieces.now) }
+{
+    match pieces {
+        [
+            Placed {
+                says: Says::Text(text, _, value),
+                ..
+            },
+            ..
+        ] => Ok(Some((text.copy()?, value.copy()?))),
+        _ => Ok(None),
+    }
+}
+
+fn kind_in(says: &Says) -> Option<Kind>
+    ensures { result ≡ kind_in says.now }
+{
+    match says {
+        Says::Word(name) => kind_named(name.as_str().as_bytes()),
+        _ => None,
+    }
+}
+
+// The kind whose word comes first.
+fn kind_first(pieces: &[Placed]) -> Option<Kind>
+    ensures { result ≡ kind_first pieces.now }
+{
+    match pieces {
+        [piece, ..] => kind_in(&piece.says),
+        [] => None,
+    }
+}
+
+fn first_kind(first: Option<Kind>, kind: Kind) -> Option<Kind>
+    ensures { result ≡ first_kind first kind }
+{
+    match first {
+        Some(first) => Some(first),
+        None => Some(kind),
+    }
+}
+
+impl<'a> Cursor<'a> {
+    // ( property ), behind a function's word
+    fn property_call(&mut self, names: &[Name]) -> Result<PropertyOf, SqlFault>
+        ensures { Reads result self.new (property_call names.now self.old) }
+    {
+        self.advance();
+        self.sign(Sign::Open)?;
+        let property = self.property(names)?;
+        self.sign(Sign::Close)?;
+        Ok(property)
+    }
+
+    // ( [name] ), behind a function's word
+    fn selector_call(&mut self, names: &[Name]) -> Result<u32, SqlFault>
+        ensures { Reads result self.new (selector_call names.now self.old) }
+    {
+        self.advance();
+        self.sign(Sign::Open)?;
+        if self.is_sign(Sign::Close) {
+            let selector = only_or(names, self.place())?;
+            self.advance();
+            return Ok(selector);
+        }
+        let selector = self.declared(names)?;
+        self.sign(Sign::Close)?;
+        Ok(selector)
+    }
+
+    // property | LENGTH(property) | NAME([name]) | LOCALNAME([name])
+    fn plain_operand(&mut self, names: &[Name]) -> Result<Operand, SqlFault>
+        ensures { ReadsAs look_of result self.new (plain_operand names.now self.old) }
+    {
+        if self.is_call("LENGTH") {
+            let property = self.property_call(names)?;
+            return Ok(Operand::Length(property));
+        }
+        if self.is_call("NAME") {
+            let selector = self.selector_call(names)?;
+            return Ok(Operand::Name(selector));
+        }
+        if self.is_call("LOCALNAME") {
+            let selector = self.selector_call(names)?;
+            return Ok(Operand::LocalName(selector));
+        }
+        let property = self.property(names)?;
+        Ok(Operand::Property(property))
+    }
+
+    // operand = property | LENGTH(property) | NAME([name]) | LOCALNAME([name]) | LOWER(operand) | UPPER(operand).
+    // No more operands stand inside one another than `room` has pieces.
+    pub(crate) fn operand(
+        &mut self,
+        alloc: Global,
+        names: &[Name],
+        room: &[Placed],
+    ) -> Result<Operand, SqlFault>
+        ensures { ReadsAs look_of result self.new (operand_at names.now room.now self.old) }
+    {
+        let [_, room @ ..] = room else {
+            return Err(self.fault());
+        };
+        if self.is_call("LOWER") {
+            self.advance();
+            self.sign(Sign::Open)?;
+            let operand = self.operand(alloc, names, room)?;
+            self.sign(Sign::Close)?;
+            let operand = Box::new(alloc, operand)?;
+            return Ok(Operand::Lower(operand));
+        }
+        if self.is_call("UPPER") {
+            self.advance();
+            self.sign(Sign::Open)?;
+            let operand = self.operand(alloc, names, room)?;
+            self.sign(Sign::Close)?;
+            let operand = Box::new(alloc, operand)?;
+            return Ok(Operand::Upper(operand));
+        }
+        let operand = self.plain_operand(names)?;
+        Ok(operand)
+    }
+
+    // op = = | <> | < | <= | > | >= | LIKE
+    pub(crate) fn operator(&mut self) -> Result<Operator, SqlFault>
+        ensures { Reads result self.new (operator_at self.old) }
+    {
+        let Some(operator) = operator_first(self.pieces) else {
+            return Err(self.fault());
+        };
+        self.advance();
+        Ok(operator)
+    }
+
+    // text | number | TRUE | FALSE | $name
+    fn literal(&mut self) -> Result<Value, SqlFault>
+        ensures { Reads result self.new (literal_at self.old) }
+    {
+        let Some(value) = literal_first(self.pieces)? else {
+            return Err(self.fault());
+        };
+        self.advance();
+        Ok(value)
+    }
+
+    // A text, with its value in a CAST.
+    fn text(&mut self) -> Result<(Text, Option<Value>), SqlFault>
+        ensures { Reads result self.new (text_at self.old) }
+    {
+        let Some(text) = text_first(self.pieces)? else {
+            return Err(self.fault());
+        };
+        self.advance();
+        Ok(text)
+    }
+
+    // The word of a kind.
+    fn kind(&mut self) -> Result<Kind, SqlFault>
+        ensures { Reads result self.new (kind_at self.old) }
+    {
+        let Some(kind) = kind_first(self.pieces) else {
+            return Err(self.fault());
+        };
+        self.advance();
+        Ok(kind)
+    }
+
+    // CAST(text AS kind). Where the text has no value of the kind, the kind is noted, and the text stands for it.
+    fn cast(&mut self) -> Result<Value, SqlFault>
+        ensures { Reads result self.new (cast_at self.old) }
+    {
+        self.advance();
+        self.sign(Sign::Open)?;
+        let (text, value) = self.text()?;
+        self.word("AS")?;
+        let kind = self.kind()?;
+        self.sign(Sign::Close)?;
+        match value {
+            Some(value) => Ok(value),
+            None => {
+                self.refused = first_kind(self.refused, kind);
+                Ok(Value::Str(text))
+            }
+        }
+    }
+
+    // static = text | number | TRUE | FALSE | $name | CAST(text AS kind)
+    pub(crate) fn constant(&mut self) -> Result<Value, SqlFault>
+        ensures { Reads result self.new (static_at self.old) }
+    {
+        if self.is_word("CAST") {
+            let value = self.cast()?;
+            return Ok(value);
+        }
+        let value = self.literal()?;
+        Ok(value)
+    }
+}

@@ -1,0 +1,176 @@
+// A query from its text.
+ghost use Rattle.std.specs.Prelude.{◌≡◌, length};
+ghost use Rattle.sql_parse.specs.Grammar.{IsAnswer, IsParsed, end_at, froms_at, is_whole, no_pieces, query_at, rest_at, selected_at, whole_at};
+ghost use Rattle.sql_parse.specs.Reading.{Gives, Reads, ReadsAs, paired};
+ghost use Rattle.sql_parse.specs.Trees.{asked_of, rest_of};
+
+use crate::cursor::Cursor;
+use crate::piece::Placed;
+use crate::pieces::pieces_of;
+use crate::sources::Sources;
+use crate::{Column, Condition, Order, Query, SqlFault};
+use jr_path::{List, Name};
+use jr_value::{Kind, Value};
+use std::alloc::Global;
+
+impl<'a> Cursor<'a> {
+    fn is_over(&self) -> bool
+        ensures { result ≡ no_pieces self.now.pieces }
+    {
+        self.pieces.is_empty()
+    }
+
+    // Nothing is left.
+    fn end(&self) -> Result<(), SqlFault>
+        ensures { Gives result (end_at self.now) }
+    {
+        if self.is_over() {
+            Ok(())
+        } else {
+            Err(self.fault())
+        }
+    }
+
+    // Whether the list of selectors is whole here.
+    fn is_whole(&self) -> bool
+        ensures { result ≡ is_whole self.now.pieces }
+    {
+        self.is_over() || self.is_word("WHERE") || self.is_word("ORDER")
+    }
+
+    // The list of selectors is whole here.
+    fn whole(&self) -> Result<(), SqlFault>
+        ensures { Gives result (whole_at self.now) }
+    {
+        if self.is_whole() {
+            Ok(())
+        } else {
+            Err(self.fault())
+        }
+    }
+
+    // columns FROM selector {join}, as far as the selectors
+    fn froms(&mut self, alloc: Global) -> Result<Sources, SqlFault>
+        ensures { Reads result self.new (froms_at self.old) }
+    {
+        let bare = self.skim_columns()?;
+        self.word("FROM")?;
+        let sources = self.sources(alloc, bare)?;
+        self.whole()?;
+        Ok(sources)
+    }
+
+    // What follows here, to be read once more.
+    fn again(&self) -> Cursor<'a>
+        ensures { result ≡ self.now }
+    {
+        Cursor {
+            pieces: self.pieces,
+            stop: self.stop,
+            refused: self.refused,
+        }
+    }
+
+    // SELECT columns FROM selector {join}. The names in the columns mean something only once the selectors are known,
+    // so the columns are read twice.
+    #[tactic(auto, unfolding(crate::specs::Grammar::selected_at))]
+    fn selected(&mut self, alloc: Global) -> Result<(Sources, List<Column>), SqlFault>
+        ensures { Reads result self.new (selected_at self.old) }
+    {
+        self.word("SELECT")?;
+        let mut again = self.again();
+        let sources = self.froms(alloc)?;
+        let columns = again.columns(alloc, sources.names.as_slice())?;
+        Ok((sources, columns))
+    }
+
+    // [WHERE or] [ORDER BY order {, order}], and the end
+    #[tactic(auto, unfolding(crate::specs::Grammar::rest_at))]
+    fn rest(
+        &mut self,
+        alloc: Global,
+        names: &[Name],
+    ) -> Result<(Option<Condition>, List<Order>), SqlFault>
+        ensures { ReadsAs rest_of result self.new (rest_at names.now self.old) }
+    {
+        let filter = self.filter(alloc, names)?;
+        let orders = self.orders(alloc, names);
+        let (filter, orders) = both(filter, orders)?;
+        let end = self.end();
+        let ((filter, orders), ()) = both((filter, orders), end)?;
+        Ok((filter, orders))
+    }
+
+    // query = SELECT columns FROM selector {join} [WHERE or] [ORDER BY order {, order}]
+    fn query(&mut self, alloc: Global) -> Result<Query, SqlFault>
+        ensures { ReadsAs asked_of result self.new (query_at self.old) }
+    {
+        let (sources, columns) = self.selected(alloc)?;
+        let (filter, orders) = self.rest(alloc, sources.names.as_slice())?;
+        Ok(Query {
+            types: sources.types,
+            joins: sources.joins,
+            columns,
+            filter,
+            orders,
+        })
+    }
+
+    // The kind of the first CAST whose text has no value of that kind.
+    fn refused(&self) -> Option<Kind>
+        ensures { result ≡ self.now.refused }
+    {
+        self.refused
+    }
+}
+
+// A value, and what a result has beside it.
+fn both<A: Drop, B>(value: A, outcome: Result<B, SqlFault>) -> Result<(A, B), SqlFault>
+    ensures { result ≡ paired value outcome }
+{
+    match outcome {
+        Ok(other) => Ok((value, other)),
+        Err(fault) => Err(fault),
+    }
+}
+
+// The query of these pieces, in a text of this length.
+fn query_of(alloc: Global, pieces: &[Placed], stop: usize) -> Result<Query, SqlFault>
+    ensures { IsAnswer pieces.now stop result }
+{
+    let mut cursor = Cursor {
+        pieces,
+        stop,
+        refused: None,
+    };
+    let query = cursor.query(alloc)?;
+    match cursor.refused() {
+        Some(kind) => Err(SqlFault::Cast(kind, Kind::Str)),
+        None => Ok(query),
+    }
+}
+
+/// Reads a query of JCR-SQL2 (JSR 283, 6.7): `SELECT columns FROM selector {join} [WHERE condition] [ORDER BY orders]`,
+/// with the values of its bind variables.
+///
+/// `InvalidQuery` has the offset of the first byte of the first token that can't stand there, or the text's length at
+/// its end. A name of a selector that isn't declared, a property without a selector's name where there are several,
+/// a bind variable without a value and a word or a bracketed text that is no name are such tokens. In a join's condition
+/// the selectors up to its own are declared. A fault of the columns' names counts once the selectors that it rests on
+/// are read. `Cast`, with the kind and STRING, names the first CAST whose text has no value of its kind; it comes only
+/// where the text is in the grammar.
+pub fn parse(alloc: Global, text: &str, vars: &[(Name, Value)]) -> Result<Query, SqlFault>
+    ensures { IsParsed text.now vars.now result }
+{
+    let pieces = pieces_of(alloc, text, vars)?;
+    query_of(alloc, pieces.as_slice(), text.len())
+}
+
+impl Query {
+    /// The node types of the selectors, in order.
+    pub fn selector_types(&self) -> &[Name]
+        ensures { result.now ≡ self.now.types }
+    {
+        self.types.as_slice()
+    }
+}

@@ -1,0 +1,106 @@
+// Queries, as trees of the grammar.
+use jr_path::{List, Name, Path};
+use jr_value::Value;
+
+/// A query of JCR-SQL2 (JSR 283, 6.7 Abstract Query Model). Selectors are named by their place in the query, from 0.
+#[derive(Drop)]
+pub struct Query {
+    /// The node type of each selector, in order; at least one.
+    pub types: List<Name>,
+    /// The join of each selector but the first, in order.
+    pub joins: List<Join>,
+    /// The columns, at least one; `*` stands here as one column of each selector's node.
+    pub columns: List<Column>,
+    /// What is asked of a row, where anything is.
+    pub filter: Option<Condition>,
+    /// By what rows are ordered, the first first.
+    pub orders: List<Order>,
+}
+
+/// How a selector is joined to those before it.
+#[derive(Drop)]
+pub struct Join {
+    pub kind: JoinKind,
+    pub on: On,
+}
+
+#[derive(Clone, Copy, Debug, PartialEq, Eq)]
+pub enum JoinKind {
+    Inner,
+    LeftOuter,
+    RightOuter,
+}
+
+/// When two nodes are joined. Of two selectors the first is the same node as, the child of or a descendant of the second.
+#[derive(Drop)]
+pub enum On {
+    Equal(PropertyOf, PropertyOf),
+    Same(u32, u32),
+    Child(u32, u32),
+    Descendant(u32, u32),
+}
+
+/// A property of the node of a selector.
+#[derive(Drop)]
+pub struct PropertyOf {
+    pub selector: u32,
+    pub name: Name,
+}
+
+/// A column of the result.
+#[derive(Drop)]
+pub enum Column {
+    /// The path of the node of a selector.
+    Node(u32),
+    Property(PropertyOf),
+}
+
+/// What is asked of a row.
+#[derive(Drop)]
+pub enum Condition {
+    Not(Box<Condition>),
+    And(Box<Condition>, Box<Condition>),
+    Or(Box<Condition>, Box<Condition>),
+    /// The node has the property.
+    Has(PropertyOf),
+    Compare(Operand, Operator, Value),
+    /// The node of a selector is the one at a path, a child of it, or a descendant of it.
+    Same(u32, Path),
+    Child(u32, Path),
+    Descendant(u32, Path),
+}
+
+#[derive(Clone, Copy, Debug, PartialEq, Eq)]
+pub enum Operator {
+    Equal,
+    Unequal,
+    Less,
+    AtMost,
+    Greater,
+    AtLeast,
+    Like,
+}
+
+/// What a comparison or an order looks at.
+#[derive(Drop)]
+pub enum Operand {
+    Property(PropertyOf),
+    Length(PropertyOf),
+    Name(u32),
+    LocalName(u32),
+    Lower(Box<Operand>),
+    Upper(Box<Operand>),
+}
+
+/// An order of rows by an operand.
+#[derive(Drop)]
+pub struct Order {
+    pub operand: Operand,
+    pub direction: Direction,
+}
+
+#[derive(Clone, Copy, Debug, PartialEq, Eq)]
+pub enum Direction {
+    Ascending,
+    Descending,
+}
