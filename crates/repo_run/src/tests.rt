@@ -44,11 +44,11 @@ fn statuses_and_what_is_written(rt: HostRuntime) -> Result<(), Fail> {
         ("Steps", FIRST, &[0], &[], Status::Words, "bad words\n"),
         (
             "steps",
-            "{}",
+            r#"{"sessions":[{"commands":[["set","/","a b:c",1]]}]}"#,
             &[],
             &[],
             Status::Script,
-            "bad script 0 \"\"\n",
+            "bad script 6 \"/sessions/0/commands/0/2\"\n",
         ),
         ("steps", FIRST, &[2], &[], Status::ReadFault, "read fault\n"),
         ("steps", FIRST, &[2], &[0], Status::WriteFault, ""),
