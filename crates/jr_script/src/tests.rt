@@ -266,7 +266,7 @@ fn nodes_of_a_tree(rt: HostRuntime) -> Result<(), Fail> {
         for session in script.sessions.inner() {
             for command in session.commands.inner() {
                 let text = paths(alloc, command)?;
-                assert_eq!(rt; text.as_str(), "/x /x /x/a /x/a/c /x/a- /x/b ");
+                assert_eq!(rt; text.as_str(), "/x / /a /a/c /a- /b ");
             }
         }
     }
