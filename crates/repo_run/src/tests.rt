@@ -195,7 +195,7 @@ fn replies_follow_from_the_journal(rt: HostRuntime) -> Result<(), Fail> {
             sessions: List::new(alloc),
             events: List::new(alloc),
         };
-        let mut replies = 0;
+        let mut replies: usize = 0;
         for event in world.journal().events.inner() {
             if let Event::Said(session, _, text) = event {
                 let found = match eval(alloc, &law, &before, *session)? {
@@ -203,7 +203,7 @@ fn replies_follow_from_the_journal(rt: HostRuntime) -> Result<(), Fail> {
                     None => String::from_str(alloc, "nothing")?,
                 };
                 assert_eq!(rt; found.as_str(), text.as_str());
-                replies += 1;
+                replies = replies.wrapping_add(1);
             }
             before.events.push(event.copy()?)?;
         }
