@@ -58,6 +58,6 @@ pub record IsWhole (p : Shown) (seen : Seen) : Type 0 where
 
 -- what a reading step leaves: a walk that goes on, or the whole tree
 abbrev pub HasRead : Shown → Sight → Type 0
-HasRead p sight.Unread = p.work ≡ Idle
+HasRead p sight.Unread = ⊥
 HasRead p (sight.Reading walk) = Reads p walk
 HasRead p (sight.Seen seen) = IsWhole p seen
