@@ -1,2 +1,10 @@
 pub mod Lawful
 pub mod Without
+mod Others
+mod Waiting
+mod Walking
+mod Reading
+mod Saying
+mod Committing
+mod Trees
+mod Turning

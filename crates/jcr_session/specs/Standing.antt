@@ -1,5 +1,5 @@
 -- Where a session stands between its turns, and what a turn makes of that.
-use Rattle.std.specs.Prelude.{◌≡◌, ◌⊎◌, ◌≤◌, ℕ, ◌+◌, Bool, true, false, cond, ◌&&◌, ⊤, List, [], ◌∷◌, length, slice_get, reverse, Option, None, Some, IsTrue, IsFalse}
+use Rattle.std.specs.Prelude.{◌≡◌, ◌≢◌, ◌⊎◌, ◌≤◌, ℕ, ◌+◌, ◌++◌, Bool, true, false, cond, ◌&&◌, ⊤, List, [], ◌∷◌, length, slice_get, reverse, Option, None, Some, IsTrue, IsFalse}
 use Rattle.std.specs.Option.{option_map_or}
 use Rattle.jr_path.specs.declared.path.Item.{Item}
 use Rattle.jr_path.specs.declared.text.Text.{Text}
@@ -9,19 +9,27 @@ use Rattle.jr_rev.specs.Vectors.{sees}
 use Rattle.jr_tree.specs.Trees.{IsTree, Nodes}
 use Rattle.jr_tree.specs.Edits.{changes}
 use Rattle.oak_machine.specs.declared.event.Event.TheVariants as event
+use Rattle.oak_machine.specs.declared.event.StepKind.{StepKind}
+use Rattle.oak_machine.specs.declared.event.StepKind.TheVariants as kind
 use Rattle.oak_machine.specs.History.{History, Past}
+use Rattle.oak_machine.specs.Marks.{marks_for}
 use Rattle.oak_machine.specs.Commits.{is_committed, is_ended, refusal_of}
-use Rattle.oak_machine.specs.Laws.{after, is_revision_of}
+use Rattle.oak_machine.specs.Laws.{AreOthers, after, is_revision_of}
 use Rattle.oak_machine.specs.Runs.{AreNodes, IsRun}
 use Rattle.oak_machine.specs.Sessions.{base_of, drawn_since, has_login, is_drawing, next_index, refreshed_since}
 use Rattle.oak_machine.specs.Steps.{is_appended_by}
 use Rattle.oak_port.specs.Ports.{Awaiting, Deciding, Grows, HasRoom, Idle, Shown, Undoing, Work, Writing}
 use Rattle.oak_port.specs.declared.task.CommitEnd.{CommitEnd}
 use Rattle.oak_port.specs.declared.task.CommitEnd.TheVariants as commit
+use Rattle.oak_port.specs.declared.task.StepOut.{StepOut}
+use Rattle.oak_port.specs.declared.task.StepOut.TheVariants as out
+use Rattle.oak_port.specs.declared.task.TaskEnd.TheVariants as end
 use Rattle.jcr_trans.specs.declared.command.Command.{Command}
 use Rattle.jcr_trans.specs.declared.command.Command.TheVariants as command
+use Rattle.jcr_trans.specs.Texts.{answer_text, memory_text}
+use Rattle.jcr_trans.specs.Views.{answered, view_after}
 use Rattle.jcr_trans.specs.Commands.{Built, Saves, Refreshes, ShowsBase, built}
-use Rattle.core_law.specs.Law.{may_save}
+use Rattle.core_law.specs.Law.{SaysBy, has_few_nodes, may_save}
 use Rattle.core_law.specs.State.{Orders, base_tree, command_at, pending_of}
 use Rattle.core_law.specs.Turns.{IsOver, IsTurn}
 use Rattle.jcr_session.specs.declared.law.JcrLaw.{JcrLaw}
@@ -29,6 +37,8 @@ use Rattle.jcr_session.specs.declared.run.Due.{Due}
 use Rattle.jcr_session.specs.declared.run.Due.TheVariants as due
 use Rattle.jcr_session.specs.declared.run.Phase.{Phase}
 use Rattle.jcr_session.specs.declared.run.Phase.TheVariants as phase
+use Rattle.jcr_session.specs.declared.run.Plan.{Plan}
+use Rattle.jcr_session.specs.declared.run.Plan.TheVariants as plan
 use Rattle.jcr_session.specs.declared.run.SessionRun.{SessionRun}
 use Rattle.jcr_session.specs.declared.sight.Sight.{Sight}
 use Rattle.jcr_session.specs.declared.sight.Sight.TheVariants as sight
@@ -205,3 +215,67 @@ pub record IsSame (old new : SessionRun) : Type 0 where
 pub record IsRefused (p : Shown) (run : SessionRun) : Type 0 where
   pub idle : p.work ≡ Idle
   pub between : IsTrue (is_between run.phase)
+
+-- ---- a reply
+
+-- what the session sees once the text is said
+abbrev pub SeesThen : Orders → Past → ℕ → ℕ → Text → Sight → Type 0
+SeesThen law past s i text sight.Unread = IsTurn law (event.Said s i text ∷ past) s (base_tree past s) (base_tree past s)
+SeesThen law past s i text (sight.Seen seen) = IsTurn law (event.Said s i text ∷ past) s seen.base seen.view
+SeesThen law past s i text (sight.Reading walk) = ⊥
+
+-- the text may be said now as the reply to the next command; and whatever others add before, the session then stands before the command after it
+pub record MayAnswer (law : JcrLaw) (p : Shown) (run : SessionRun) (text : Text) : Type 0 where
+  pub inside : IsIn law p
+  pub session : p.session ≡ run.session
+  pub few : length run.commands ≤ 10000
+  pub commands : (i : ℕ) → command_at law.sessions run.session i ≡ slice_get run.commands i
+  pub index : run.index ≡ next_index p.history.past run.session
+  pub idle : p.work ≡ Idle
+  pub says : SaysBy law.sessions p.history p.session run.index text
+  pub then : (added : Past) → IsRun (starts_of law) (says_of law) (after added p.history) → AreOthers p.session added p.history.past → SeesThen law.sessions (added ++ p.history.past) p.session run.index text run.sight
+
+-- ---- what the session's own functions find
+
+-- a reading or view command, or one that isn't built, is answered by the view and changes it; or memory was refused, and the view stays
+abbrev pub IsReply : Command → Nodes → Nodes → Text → Type 0
+IsReply c old new text = ((text ≡ answer_text (answered c old)) × (new ≡ view_after c old)) ⊎ ((text ≡ memory_text) × (new ≡ old))
+
+-- the reply to the next command by the view
+abbrev pub RepliesBy : Option Command → Sight → Sight → Text → Type 0
+RepliesBy (Some c) (sight.Seen old) (sight.Seen new) text = (new.base ≡ old.base) × IsReply c old.view new.view text
+RepliesBy _ _ _ text = ⊥
+
+abbrev pub HasSeen : SessionRun → SessionRun → Text → Type 0
+HasSeen old new text = RepliesBy (slice_get old.commands old.index) old.sight new.sight text
+
+-- what a save comes to: nothing is pending, the view has too many nodes, or what is pending is committed with its marks
+abbrev pub IsPlanFor : Nodes → Nodes → Plan → Type 0
+IsPlanFor base view plan.Nothing = changes base view ≡ []
+IsPlanFor base view plan.TooMany = (changes base view ≢ []) × IsFalse (has_few_nodes view)
+IsPlanFor base view (plan.Commit edit marks) = (changes base view ≢ []) × IsTrue (has_few_nodes view) × (edit.writes ≡ changes base view) × (marks ≡ marks_for [] (changes base view))
+
+abbrev pub IsPlanOf : Sight → Plan → Type 0
+IsPlanOf (sight.Seen seen) plan = IsPlanFor seen.base seen.view plan
+IsPlanOf _ plan = ⊥
+
+-- its commit has ended
+abbrev pub HasEnded : Phase → Type 0
+HasEnded (phase.Saved e) = ⊤
+HasEnded _ = ⊥
+
+-- the kind of the step with which a commit ended
+abbrev pub kind_of_end : CommitEnd → StepKind
+kind_of_end (commit.Committed r) = kind.Pin
+kind_of_end _ = kind.Finish
+
+-- the turn of a commit, and where the session stands, by what a step answered
+abbrev pub turn_by : StepOut → Turn
+turn_by (out.Went k) = turn.Stepped k
+turn_by (out.Wait q) = turn.Waiting q
+turn_by (out.Ready (end.Commit e)) = turn.Stepped (kind_of_end e)
+turn_by _ = turn.Memory
+
+abbrev pub phase_by : StepOut → Phase → Phase
+phase_by (out.Ready (end.Commit e)) now = phase.Saved e
+phase_by _ now = now

@@ -1,16 +1,15 @@
 // A session's turns: what it asks of its world, one counted step after another.
-ghost use Rattle.std.specs.Prelude.{◌≡◌, ◌≤◌, ◌<◌, ◌⊎◌, IfOk, OnOk, OnErr, IsTrue, IsFalse, None, Some, length, string_bytes};
-ghost use Rattle.std.specs.Option.{option_copied};
-ghost use Rattle.jcr_trans.specs.declared.command.Command.TheVariants as command;
-ghost use Rattle.jcr_trans.specs.Commands.{is_plain};
-ghost use Rattle.jcr_trans.specs.Texts.{answer_text};
-ghost use Rattle.jr_tree.specs.Edits.{changes};
-ghost use Rattle.oak_machine.specs.Marks.{marks_for};
-ghost use Rattle.oak_port.specs.Ports.{Idle, Waits};
-ghost use Rattle.core_law.specs.Law.{SaysBy, has_few_nodes, may_save};
-ghost use Rattle.jcr_session.specs.Sights.{IsIn, says_of, starts_of};
-ghost use Rattle.jcr_session.specs.Standing.{HasTurned, IsNew, IsRefused, IsSame, Stands, due_for, is_unread};
+ghost use Rattle.std.specs.Prelude.{◌≡◌, ◌≤◌, ◌∷◌, [], IfOk, IfSome, OnErr, IsTrue, IsFalse, length, string_bytes};
+ghost use Rattle.jr_tree.specs.declared.shared.Datum.TheVariants as datum;
+ghost use Rattle.oak_port.specs.Ports.{HasRoom, Waits};
+ghost use Rattle.oak_port.specs.declared.task.StepOut.TheVariants as out;
+ghost use Rattle.oak_port.specs.declared.task.TaskEnd.TheVariants as end;
+ghost use Rattle.jcr_trans.specs.Answers.{Refused};
+ghost use Rattle.jcr_trans.specs.Texts.{answer_text, memory_text};
+ghost use Rattle.jcr_session.specs.Sights.{says_of, starts_of};
+ghost use Rattle.jcr_session.specs.Standing.{HasEnded, HasSeen, HasTurned, IsNew, IsPlanFor, IsPlanOf, IsRefused, IsReply, IsSame, MayAnswer, Stands, due_for, is_unread, kind_of_end, phase_by, turn_by};
 ghost use Rattle.jcr_session.specs.declared.run.Due.TheVariants as due;
+ghost use Rattle.jcr_session.specs.declared.run.Phase.TheVariants as phase;
 
 use crate::law::JcrLaw;
 use crate::next::may_save;
@@ -21,7 +20,7 @@ use jcr_trans::{
     Command, null_reply, refusal_text, revision_reply, run, too_many_reply, unsupported_reply, vector_reply,
 };
 use jr_path::{DeepCopy, Item, List};
-use jr_rev::{RevVec, Revision};
+use jr_rev::{Pin, RevVec, Revision};
 use jr_tree::{Datum, Edit, Refusal, changes};
 use oak_clash::MarkAt;
 use oak_machine::StepKind;
@@ -141,7 +140,12 @@ impl SessionRun {
     }
 
     // Makes exactly one counted step, or none where the session waits or has ended.
-    fn counted<P: Port<L = JcrLaw>>(&mut self, port: &mut P) -> Turn {
+    fn counted<P: Port<L = JcrLaw>>(&mut self, port: &mut P) -> Turn
+        requires stands { Stands (P.law port.old) (P.shown port.old) self.old }
+        requires read { IsFalse (is_unread self.old) }
+        ensures law { P.law port.new ≡ P.law port.old }
+        ensures turned { HasTurned (P.law port.old) (P.shown port.old) (P.shown port.new) self.old self.new result }
+    {
         match &self.phase {
             Phase::Outside => self.log_in(port),
             Phase::Between => self.go_on(port),
@@ -222,7 +226,13 @@ impl SessionRun {
     }
 
     // The next command.
-    fn go_on<P: Port<L = JcrLaw>>(&mut self, port: &mut P) -> Turn {
+    fn go_on<P: Port<L = JcrLaw>>(&mut self, port: &mut P) -> Turn
+        requires stands { Stands (P.law port.old) (P.shown port.old) self.old }
+        requires between { self.old.phase ≡ phase.Between }
+        requires read { IsFalse (is_unread self.old) }
+        ensures law { P.law port.new ≡ P.law port.old }
+        ensures turned { HasTurned (P.law port.old) (P.shown port.old) (P.shown port.new) self.old self.new result }
+    {
         match self.due() {
             Due::Leave => self.leave(port),
             Due::ShowBase => self.show_base(port),
@@ -234,7 +244,14 @@ impl SessionRun {
     }
 
     // Leaves.
-    fn leave<P: Port<L = JcrLaw>>(&mut self, port: &mut P) -> Turn {
+    fn leave<P: Port<L = JcrLaw>>(&mut self, port: &mut P) -> Turn
+        requires stands { Stands (P.law port.old) (P.shown port.old) self.old }
+        requires between { self.old.phase ≡ phase.Between }
+        requires read { IsFalse (is_unread self.old) }
+        requires next { due_for self.old ≡ due.Leave }
+        ensures law { P.law port.new ≡ P.law port.old }
+        ensures turned { HasTurned (P.law port.old) (P.shown port.old) (P.shown port.new) self.old self.new result }
+    {
         let Ok(()) = port.start(Task::End) else {
             return Turn::Memory;
         };
@@ -248,7 +265,14 @@ impl SessionRun {
     }
 
     // Shows the base.
-    fn show_base<P: Port<L = JcrLaw>>(&mut self, port: &mut P) -> Turn {
+    fn show_base<P: Port<L = JcrLaw>>(&mut self, port: &mut P) -> Turn
+        requires stands { Stands (P.law port.old) (P.shown port.old) self.old }
+        requires between { self.old.phase ≡ phase.Between }
+        requires read { IsFalse (is_unread self.old) }
+        requires next { due_for self.old ≡ due.ShowBase }
+        ensures law { P.law port.new ≡ P.law port.old }
+        ensures turned { HasTurned (P.law port.old) (P.shown port.old) (P.shown port.new) self.old self.new result }
+    {
         let Some(pin) = port.pin() else {
             return Turn::Memory;
         };
@@ -259,7 +283,14 @@ impl SessionRun {
     }
 
     // Refuses the command, which this session may not make.
-    fn refuse<P: Port<L = JcrLaw>>(&mut self, port: &mut P) -> Turn {
+    fn refuse<P: Port<L = JcrLaw>>(&mut self, port: &mut P) -> Turn
+        requires stands { Stands (P.law port.old) (P.shown port.old) self.old }
+        requires between { self.old.phase ≡ phase.Between }
+        requires read { IsFalse (is_unread self.old) }
+        requires next { due_for self.old ≡ due.Refuse }
+        ensures law { P.law port.new ≡ P.law port.old }
+        ensures turned { HasTurned (P.law port.old) (P.shown port.old) (P.shown port.new) self.old self.new result }
+    {
         match unsupported_reply(self.alloc, &Command::Save) {
             Ok(text) => self.say(port, text.as_str()),
             Err(AllocError) => self.say_memory(port),
@@ -267,22 +298,34 @@ impl SessionRun {
     }
 
     // Moves the base to the head. What was pending is dropped, and the tree there isn't read yet.
-    fn refresh<P: Port<L = JcrLaw>>(&mut self, port: &mut P) -> Turn {
+    fn refresh<P: Port<L = JcrLaw>>(&mut self, port: &mut P) -> Turn
+        requires stands { Stands (P.law port.old) (P.shown port.old) self.old }
+        requires between { self.old.phase ≡ phase.Between }
+        requires read { IsFalse (is_unread self.old) }
+        requires next { due_for self.old ≡ due.Refresh }
+        ensures law { P.law port.new ≡ P.law port.old }
+        ensures turned { HasTurned (P.law port.old) (P.shown port.old) (P.shown port.new) self.old self.new result }
+    {
         let Ok(()) = port.start(Task::Refresh) else {
             return self.say_memory(port);
         };
-        match port.step() {
-            StepOut::Ready(TaskEnd::Pinned(pin)) => {
+        match pinned(port.step()) {
+            Some(pin) => {
                 self.phase = Phase::Refreshed(pin.base);
                 self.sight = Sight::Unread;
                 Turn::Stepped(StepKind::Pin)
             }
-            _ => self.say_memory(port),
+            None => self.say_memory(port),
         }
     }
 
     // Shows the vector to which the base moved.
-    fn say_vector<P: Port<L = JcrLaw>>(&mut self, port: &mut P, vector: RevVec) -> Turn {
+    fn say_vector<P: Port<L = JcrLaw>>(&mut self, port: &mut P, vector: RevVec) -> Turn
+        requires stands { Stands (P.law port.old) (P.shown port.old) self.old }
+        requires refreshed { self.old.phase ≡ phase.Refreshed vector }
+        ensures law { P.law port.new ≡ P.law port.old }
+        ensures turned { HasTurned (P.law port.old) (P.shown port.old) (P.shown port.new) self.old self.new result }
+    {
         match vector_reply(self.alloc, &vector) {
             Ok(text) => self.say(port, text.as_str()),
             Err(AllocError) => Turn::Memory,
@@ -290,7 +333,14 @@ impl SessionRun {
     }
 
     // Answers by the view.
-    fn see<P: Port<L = JcrLaw>>(&mut self, port: &mut P) -> Turn {
+    fn see<P: Port<L = JcrLaw>>(&mut self, port: &mut P) -> Turn
+        requires stands { Stands (P.law port.old) (P.shown port.old) self.old }
+        requires between { self.old.phase ≡ phase.Between }
+        requires read { IsFalse (is_unread self.old) }
+        requires next { due_for self.old ≡ due.See }
+        ensures law { P.law port.new ≡ P.law port.old }
+        ensures turned { HasTurned (P.law port.old) (P.shown port.old) (P.shown port.new) self.old self.new result }
+    {
         match self.seen_reply() {
             Ok(text) => self.say(port, text.as_str()),
             Err(AllocError) => self.say_memory(port),
@@ -298,7 +348,11 @@ impl SessionRun {
     }
 
     // The reply by the view.
-    fn seen_reply(&mut self) -> Result<String, AllocError> {
+    fn seen_reply(&mut self) -> Result<String, AllocError>
+        ensures same { IsSame self.old self.new }
+        ensures text { IfOk result (λ text. HasSeen self.old self.new (string_bytes text)) }
+        ensures err { OnErr result (self.new.sight ≡ self.old.sight) }
+    {
         let SessionRun {
             alloc,
             commands,
@@ -313,7 +367,14 @@ impl SessionRun {
     }
 
     // Commits what is pending, where there is something and the tree after it has few nodes.
-    fn save<P: Port<L = JcrLaw>>(&mut self, port: &mut P) -> Turn {
+    fn save<P: Port<L = JcrLaw>>(&mut self, port: &mut P) -> Turn
+        requires stands { Stands (P.law port.old) (P.shown port.old) self.old }
+        requires between { self.old.phase ≡ phase.Between }
+        requires read { IsFalse (is_unread self.old) }
+        requires next { due_for self.old ≡ due.Save }
+        ensures law { P.law port.new ≡ P.law port.old }
+        ensures turned { HasTurned (P.law port.old) (P.shown port.old) (P.shown port.new) self.old self.new result }
+    {
         match self.plan() {
             Ok(Plan::Nothing) => match null_reply(self.alloc) {
                 Ok(text) => self.say(port, text.as_str()),
@@ -329,7 +390,9 @@ impl SessionRun {
     }
 
     // What a save comes to.
-    fn plan(&self) -> Result<Plan, AllocError> {
+    fn plan(&self) -> Result<Plan, AllocError>
+        ensures { IfOk result (IsPlanOf self.now.sight) }
+    {
         match &self.sight {
             Sight::Seen(seen) => plan_of(self.alloc, seen),
             _ => Err(AllocError),
@@ -359,7 +422,13 @@ impl SessionRun {
     }
 
     // Makes a step of a commit. Where memory is refused, the commit turns to undoing, and makes a step of that.
-    fn commit_on<P: Port<L = JcrLaw>>(&mut self, port: &mut P) -> Turn {
+    #[tactic(auto, using(crate::proofs::Turning::commit_once, crate::proofs::Turning::commit_twice, crate::proofs::Turning::commit_busy, crate::proofs::Turning::refused_busy))]
+    fn commit_on<P: Port<L = JcrLaw>>(&mut self, port: &mut P) -> Turn
+        requires stands { Stands (P.law port.old) (P.shown port.old) self.old }
+        requires saving { self.old.phase ≡ phase.Saving }
+        ensures law { P.law port.new ≡ P.law port.old }
+        ensures turned { HasTurned (P.law port.old) (P.shown port.old) (P.shown port.new) self.old self.new result }
+    {
         match port.step() {
             StepOut::Memory => {
                 let answer = port.step();
@@ -370,7 +439,10 @@ impl SessionRun {
     }
 
     // What a step of a commit answered.
-    fn committed_on(&mut self, answer: StepOut) -> Turn {
+    fn committed_on(&mut self, answer: StepOut) -> Turn
+        ensures turn { result ≡ turn_by answer }
+        ensures run { self.new ≡ record self.old { phase = phase_by answer self.old.phase } }
+    {
         match answer {
             StepOut::Went(kind) => Turn::Stepped(kind),
             StepOut::Wait(earlier) => Turn::Waiting(earlier),
@@ -384,7 +456,12 @@ impl SessionRun {
     }
 
     // Answers a save whose commit has ended.
-    fn say_end<P: Port<L = JcrLaw>>(&mut self, port: &mut P) -> Turn {
+    fn say_end<P: Port<L = JcrLaw>>(&mut self, port: &mut P) -> Turn
+        requires stands { Stands (P.law port.old) (P.shown port.old) self.old }
+        requires saved { HasEnded self.old.phase }
+        ensures law { P.law port.new ≡ P.law port.old }
+        ensures turned { HasTurned (P.law port.old) (P.shown port.old) (P.shown port.new) self.old self.new result }
+    {
         match mem::replace(&mut self.phase, Phase::Between) {
             Phase::Saved(CommitEnd::Committed(r)) => {
                 self.sight = Sight::Unread;
@@ -404,12 +481,21 @@ impl SessionRun {
     }
 
     // Says the reply where memory was refused.
-    fn say_memory<P: Port<L = JcrLaw>>(&mut self, port: &mut P) -> Turn {
+    fn say_memory<P: Port<L = JcrLaw>>(&mut self, port: &mut P) -> Turn
+        requires answer { MayAnswer (P.law port.old) (P.shown port.old) self.old memory_text }
+        ensures law { P.law port.new ≡ P.law port.old }
+        ensures turned { HasTurned (P.law port.old) (P.shown port.old) (P.shown port.new) self.old self.new result }
+    {
         self.say(port, MEMORY_REPLY)
     }
 
     // Says a reply.
-    fn say<P: Port<L = JcrLaw>>(&mut self, port: &mut P, text: &str) -> Turn {
+    #[tactic(auto, using(crate::proofs::Turning::may_idle, crate::proofs::Turning::answer_later, crate::proofs::Turning::said_later, crate::proofs::Turning::room_kept))]
+    fn say<P: Port<L = JcrLaw>>(&mut self, port: &mut P, text: &str) -> Turn
+        requires answer { MayAnswer (P.law port.old) (P.shown port.old) self.old text.now }
+        ensures law { P.law port.new ≡ P.law port.old }
+        ensures turned { HasTurned (P.law port.old) (P.shown port.old) (P.shown port.new) self.old self.new result }
+    {
         let Ok(()) = port.reserve_say(text.len()) else {
             return Turn::Memory;
         };
@@ -417,7 +503,14 @@ impl SessionRun {
     }
 
     // Says a reply, or that memory was refused, for which there is a place.
-    fn say_or_memory<P: Port<L = JcrLaw>>(&mut self, port: &mut P, text: &str) -> Turn {
+    #[tactic(auto, using(crate::proofs::Turning::may_idle, crate::proofs::Turning::answer_later, crate::proofs::Turning::said_later, crate::proofs::Turning::room_kept, crate::proofs::Turning::room_stays))]
+    fn say_or_memory<P: Port<L = JcrLaw>>(&mut self, port: &mut P, text: &str) -> Turn
+        requires answer { MayAnswer (P.law port.old) (P.shown port.old) self.old text.now }
+        requires memory { MayAnswer (P.law port.old) (P.shown port.old) self.old memory_text }
+        requires room { HasRoom (P.shown port.old).room 40 }
+        ensures law { P.law port.new ≡ P.law port.old }
+        ensures turned { HasTurned (P.law port.old) (P.shown port.old) (P.shown port.new) self.old self.new result }
+    {
         let Ok(()) = port.reserve_say(text.len()) else {
             return self.say_kept(port, MEMORY_REPLY);
         };
@@ -425,12 +518,28 @@ impl SessionRun {
     }
 
     // Says a reply for which there is a place.
-    fn say_kept<P: Port<L = JcrLaw>>(&mut self, port: &mut P, text: &str) -> Turn {
+    #[tactic(auto, using(crate::proofs::Turning::index_small, crate::proofs::Turning::may_index, crate::proofs::Turning::may_idle, crate::proofs::Turning::may_says, crate::proofs::Turning::said_kept))]
+    fn say_kept<P: Port<L = JcrLaw>>(&mut self, port: &mut P, text: &str) -> Turn
+        requires answer { MayAnswer (P.law port.old) (P.shown port.old) self.old text.now }
+        requires room { HasRoom (P.shown port.old).room (length text.now) }
+        ensures law { P.law port.new ≡ P.law port.old }
+        ensures turned { HasTurned (P.law port.old) (P.shown port.old) (P.shown port.new) self.old self.new result }
+    {
         let index = self.index;
         port.say(index, text);
         self.index = index + 1;
         self.phase = Phase::Between;
         Turn::Said(index)
+    }
+}
+
+// The pin with which a task ended.
+fn pinned(answer: StepOut) -> Option<Pin>
+    ensures some { IfSome result (λ pin. answer ≡ out.Ready (end.Pinned pin)) }
+{
+    match answer {
+        StepOut::Ready(TaskEnd::Pinned(pin)) => Some(pin),
+        _ => None,
     }
 }
 
@@ -445,7 +554,9 @@ enum Plan {
     Commit(Edit, List<MarkAt>),
 }
 
-fn plan_of(alloc: Global, seen: &Seen) -> Result<Plan, AllocError> {
+fn plan_of(alloc: Global, seen: &Seen) -> Result<Plan, AllocError>
+    ensures { IfOk result (IsPlanFor seen.now.base seen.now.view) }
+{
     let edit = changes(&seen.base, &seen.view)?;
     if edit.writes.is_empty() {
         return Ok(Plan::Nothing);
@@ -458,7 +569,9 @@ fn plan_of(alloc: Global, seen: &Seen) -> Result<Plan, AllocError> {
 }
 
 // The kind of the step that ended a commit.
-fn last_kind(end: &CommitEnd) -> StepKind {
+fn last_kind(end: &CommitEnd) -> StepKind
+    ensures { result ≡ kind_of_end end.now }
+{
     match end {
         CommitEnd::Committed(_) => StepKind::Pin,
         _ => StepKind::Finish,
@@ -466,7 +579,11 @@ fn last_kind(end: &CommitEnd) -> StepKind {
 }
 
 // The reply to a reading or view command, or to one that isn't built; it changes the view.
-fn reply_of(alloc: Global, command: &Command, seen: &mut Seen) -> Result<String, AllocError> {
+fn reply_of(alloc: Global, command: &Command, seen: &mut Seen) -> Result<String, AllocError>
+    ensures base { seen.new.base ≡ seen.old.base }
+    ensures text { IfOk result (λ text. IsReply command.now seen.old.view seen.new.view (string_bytes text)) }
+    ensures err { OnErr result (seen.new.view ≡ seen.old.view) }
+{
     match run(alloc, &mut seen.view, command) {
         Ok(text) => Ok(text),
         Err(refusal) => refusal_text(alloc, &refusal),
@@ -474,7 +591,9 @@ fn reply_of(alloc: Global, command: &Command, seen: &mut Seen) -> Result<String,
 }
 
 // The reply of a save that was refused for a clash.
-fn clash_reply(alloc: Global, item: Item, other: Revision) -> Result<String, AllocError> {
+fn clash_reply(alloc: Global, item: Item, other: Revision) -> Result<String, AllocError>
+    ensures { IfOk result (λ text. string_bytes text ≡ answer_text (Refused 10 (datum.Item item ∷ datum.Revision other ∷ []))) }
+{
     let mut parts = List::new(alloc);
     parts.push(Datum::Item(item))?;
     parts.push(Datum::Revision(other))?;

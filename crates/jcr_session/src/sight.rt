@@ -79,6 +79,7 @@ pub(crate) fn read_on<P: Port<L = JcrLaw>>(port: &mut P, walk: Walk) -> Result<S
 }
 
 // Begins to read the node at a path.
+#[tactic(auto, using(crate::proofs::Reading::in_started, crate::proofs::Reading::in_refused, crate::proofs::Reading::node_started, crate::proofs::Reading::beside))]
 fn fetch_node<P: Port<L = JcrLaw>>(
     port: &mut P,
     tree: Tree,
