@@ -8,3 +8,5 @@ mod Saying
 mod Committing
 mod Trees
 mod Turning
+mod Next
+mod Living

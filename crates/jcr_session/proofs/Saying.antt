@@ -132,10 +132,10 @@ module _ (law : JcrLaw) (old new : Shown) (run : SessionRun) (text : Text) (may 
       inside_before = in_then law old before_shown old.work old.room (record { others = done.others; grows = record { grown = refl; theirs = done.grows.theirs; run = before }; session = refl; work_is = refl; room_is = refl }) may.inside.nodes may.inside.run may.inside
 
       inside_said : IsIn law (record old { history = record old.history { past = said } })
-      inside_said = record { nodes = inside_before.nodes; run = whole; login = inside_before.login; stays = inside_before.stays; tree = inside_before.tree }
+      inside_said = record { nodes = inside_before.nodes; run = whole; login = inside_before.login; stays = inside_before.stays; detached = inside_before.detached; tree = inside_before.tree }
 
       inside_now : IsIn law new
-      inside_now = let y = moved (λ h s. IsIn law (record old { history = h; session = s })) inside_said in record { nodes = y.nodes; run = y.run; login = y.login; stays = y.stays; tree = y.tree }
+      inside_now = let y = moved (λ h s. IsIn law (record old { history = h; session = s })) inside_said in record { nodes = y.nodes; run = y.run; login = y.login; stays = y.stays; detached = y.detached; tree = y.tree }
 
       seen : (x : Sight) → SeesThen law.sessions (done.others ++ old.history.past) old.session run.index text x → Sees law new then_run x
       seen sight.Unread h = (done.work, moved (λ h s. IsTurn law.sessions h.past s (base_tree h.past s) (base_tree h.past s)) h)

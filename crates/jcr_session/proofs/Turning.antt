@@ -15,7 +15,7 @@ use Rattle.oak_machine.specs.declared.event.StepKind.TheVariants as kind
 use Rattle.oak_machine.specs.History.{History, Past}
 use Rattle.oak_machine.specs.Laws.{AreOthers, after}
 use Rattle.oak_machine.specs.Runs.{AreNodes, IsRun}
-use Rattle.oak_machine.specs.Sessions.{has_left, has_login, is_login_of, next_index}
+use Rattle.oak_machine.specs.Sessions.{has_left, has_login, is_attached, is_login_of, next_index}
 use Rattle.oak_machine.specs.Steps.{is_appended_by}
 use Rattle.oak_machine.proofs.Stays.{any_later}
 use Rattle.oak_port.specs.Ports.{Answers, AreOfStep, Awaiting, Deciding, Grows, HasRoom, Idle, IsFinish, Makes, Shown, Starting, Steps, Undoing, Waits, Work, Writing, WritesOn}
@@ -85,19 +85,20 @@ record IsQuiet (s : ℕ) (e : Past) : Type 0 where
   pub left : (q : Past) → has_left (e ++ q) s ≡ has_left q s
   pub base : (q : Past) → base_tree (e ++ q) s ≡ base_tree q s
   pub next : (q : Past) → next_index (e ++ q) s ≡ next_index q s
+  pub attached : (q : Past) → is_attached (e ++ q) s ≡ is_attached q s
 
 quiet_by : (s : ℕ) (e f : Past) → e ≡ f → IsQuiet s f → IsQuiet s e
 quiet_by s e f same quiet = subst (λ (p : Past). IsQuiet s p) (sym same) quiet
 
 quiet_finish : (s : ℕ) (r : Revision) (e : Past) → IsFinish r e → IsQuiet s e
-quiet_finish s r e (inl same) = quiet_by s e (event.End r ∷ []) same record { left = λ q. refl; base = λ q. refl; next = λ q. refl }
-quiet_finish s r e (inr (k, v, same)) = quiet_by s e (event.Head k v ∷ event.End r ∷ []) same record { left = λ q. refl; base = λ q. refl; next = λ q. refl }
+quiet_finish s r e (inl same) = quiet_by s e (event.End r ∷ []) same record { left = λ q. refl; base = λ q. refl; next = λ q. refl; attached = λ q. refl }
+quiet_finish s r e (inr (k, v, same)) = quiet_by s e (event.Head k v ∷ event.End r ∷ []) same record { left = λ q. refl; base = λ q. refl; next = λ q. refl; attached = λ q. refl }
 
 quiet_write : (s : ℕ) (r : Revision) (k : StepKind) (e : Past) (now : Work) → WritesOn s r k e now → IsQuiet s e
-quiet_write s r k e now (inl (a, same, work)) = quiet_by s e (event.Went s kind.Write ∷ []) same record { left = λ q. refl; base = λ q. refl; next = λ q. refl }
-quiet_write s r k e now (inr (inl (a, same, work))) = quiet_by s e (event.Went s kind.Mark ∷ []) same record { left = λ q. refl; base = λ q. refl; next = λ q. refl }
-quiet_write s r k e now (inr (inr (inl (a, same, work)))) = quiet_by s e (event.Commit r ∷ []) same record { left = λ q. refl; base = λ q. refl; next = λ q. refl }
-quiet_write s r k e now (inr (inr (inr (item, o, same, work)))) = quiet_by s e (event.Refuse r item o ∷ []) same record { left = λ q. refl; base = λ q. refl; next = λ q. refl }
+quiet_write s r k e now (inl (a, same, work)) = quiet_by s e (event.Went s kind.Write ∷ []) same record { left = λ q. refl; base = λ q. refl; next = λ q. refl; attached = λ q. refl }
+quiet_write s r k e now (inr (inl (a, same, work))) = quiet_by s e (event.Went s kind.Mark ∷ []) same record { left = λ q. refl; base = λ q. refl; next = λ q. refl; attached = λ q. refl }
+quiet_write s r k e now (inr (inr (inl (a, same, work)))) = quiet_by s e (event.Commit r ∷ []) same record { left = λ q. refl; base = λ q. refl; next = λ q. refl; attached = λ q. refl }
+quiet_write s r k e now (inr (inr (inr (item, o, same, work)))) = quiet_by s e (event.Refuse r item o ∷ []) same record { left = λ q. refl; base = λ q. refl; next = λ q. refl; attached = λ q. refl }
 
 -- ---- a step
 
@@ -128,6 +129,7 @@ module _ (law : JcrLaw) (old new : Shown) (answer : StepOut) (run : SessionRun) 
     run = steps.grows.run;
     login = moved (λ h s. has_login h.past s ≡ true) (any_later (is_login_of old.session) steps.own moment.past inside_moment.login);
     stays = moved (λ h s. has_left h.past s ≡ false) (quiet.left moment.past ∙ inside_moment.stays);
+    detached = moved (λ h s. is_attached h.past s ≡ false) (quiet.attached moment.past ∙ inside_moment.detached);
     tree = moved (λ h s. IsTree (base_tree h.past s)) (subst IsTree (sym (quiet.base moment.past)) inside_moment.tree);
   }
 
@@ -183,9 +185,13 @@ module _ (law : JcrLaw) (old new : Shown) (answer : StepOut) (run : SessionRun) 
       run = steps.grows.run;
       login = moved (λ h s. has_login h.past s ≡ true) login_now;
       stays = moved (λ h s. has_left h.past s ≡ false) (subst (λ (own : Past). has_left (own ++ moment.past) old.session ≡ false) (sym same) inside_moment.stays);
+      detached = moved (λ h s. is_attached h.past s ≡ false) (subst (λ (own : Past). is_attached (own ++ moment.past) old.session ≡ false) (sym same) (ap (λ b. cond b false (is_attached moment.past old.session)) mine));
       tree = moved (λ h s. IsTree (base_tree h.past s)) (base_is_tree law (after steps.own moment) old.session inside.nodes run_new login_now);
     }
       where
+        mine : (old.session == old.session) ≡ true
+        mine = grind (arith, nat_tests)
+
         login_now : has_login (steps.own ++ moment.past) old.session ≡ true
         login_now = any_later (is_login_of old.session) steps.own moment.past inside_moment.login
 
@@ -206,7 +212,7 @@ module _ (law : JcrLaw) (old new : Shown) (answer : StepOut) (run : SessionRun) 
     step_by (Writing r) (out.Wait q) seen same is committing m told = absurd m
     step_by (Writing r) out.Memory seen same is committing m told = tt
     step_by (Undoing r e) (out.Went k) seen same is committing (a, own, work) told =
-        let quiet = quiet_by old.session steps.own (event.Went old.session kind.Undo ∷ []) own record { left = λ q. refl; base = λ q. refl; next = λ q. refl } in
+        let quiet = quiet_by old.session steps.own (event.Went old.session kind.Undo ∷ []) own record { left = λ q. refl; base = λ q. refl; next = λ q. refl; attached = λ q. refl } in
         turned_quiet phase.Saving (turn.Stepped k) told (quiet.next moment.past) (goes_on seen same is quiet (committing_undo law.sessions moment.past old.session r e steps.own new.work seen.base seen.view (still seen.base seen.view (Undoing r e) committing) own work))
     step_by (Undoing r e) (out.Ready (end.Commit f)) seen same is committing (end_is, finish, idle) told =
         let quiet = quiet_finish old.session r steps.own finish in
@@ -229,7 +235,7 @@ module _ (law : JcrLaw) (old new : Shown) (answer : StepOut) (run : SessionRun) 
     step_by (Deciding r) (out.Wait q) seen same is committing m told = absurd m
     step_by (Deciding r) out.Memory seen same is committing m told = tt
     step_by (Awaiting r) (out.Wait q) seen same is committing (own, work) told =
-        let quiet = quiet_by old.session steps.own [] own record { left = λ q. refl; base = λ q. refl; next = λ q. refl } in
+        let quiet = quiet_by old.session steps.own [] own record { left = λ q. refl; base = λ q. refl; next = λ q. refl; attached = λ q. refl } in
         turned_quiet phase.Saving (turn.Waiting q) own (quiet.next moment.past)
         (goes_on seen same is quiet (subst (λ (w : Work). IsCommitting law.sessions (steps.own ++ moment.past) old.session seen.base seen.view w) (sym work)
         (subst (λ (e : Past). IsCommitting law.sessions (e ++ moment.past) old.session seen.base seen.view (Awaiting r)) (sym own) (still seen.base seen.view (Awaiting r) committing))))
@@ -265,7 +271,7 @@ module _ (law : JcrLaw) (old new : Shown) (answer : StepOut) (run : SessionRun) 
     refused_by : (work : Work) (seen : Seen) → run.sight ≡ sight.Seen seen → IsSaving law old run → IsCommitting law.sessions old.history.past old.session seen.base seen.view work
         → Makes moment old.session work out.Memory steps.own new.work → Stands law new (record run { phase = phase.Saving }) × (steps.own ≡ [])
     refused_by (Writing r) seen same is committing (own, work) =
-        let quiet = quiet_by old.session steps.own [] own record { left = λ q. refl; base = λ q. refl; next = λ q. refl } in (
+        let quiet = quiet_by old.session steps.own [] own record { left = λ q. refl; base = λ q. refl; next = λ q. refl; attached = λ q. refl } in (
           stands_quiet phase.Saving (quiet.next moment.past)
           (goes_on seen same is quiet (subst (λ (w : Work). IsCommitting law.sessions (steps.own ++ moment.past) old.session seen.base seen.view w) (sym work)
           (subst (λ (e : Past). IsCommitting law.sessions (e ++ moment.past) old.session seen.base seen.view (Undoing r commit.Memory)) (sym own)

@@ -1,5 +1,6 @@
 -- While others add events, a session stands where it stood.
 use Rattle.std.proofs.Common.{◌≡◌, inl, inr, ℕ, Bool, true, false, cond, Some, None, Option, List, [], ◌∷◌, ◌++◌, is_some, refl, sym, ap, ◌∙◌, subst}
+use Rattle.std.specs.Prelude.{◌==◌}
 use Rattle.std.specs.Option.{option_map_or}
 use Rattle.std.specs.List.{list_any}
 use mathlib.Core.Bool.{false≢true}
@@ -14,8 +15,8 @@ use Rattle.oak_machine.specs.History.{History, Past}
 use Rattle.oak_machine.specs.Commits.{is_commit_of, is_committed, is_ended, is_end_of, refusal_of}
 use Rattle.oak_machine.specs.Laws.{AreOthers, Says, Starts, after, is_event_of, is_revision_of}
 use Rattle.oak_machine.specs.Runs.{AreNodes, IsRun, IsRunOf}
-use Rattle.oak_machine.specs.Sessions.{base_of, drawn_since, has_left, has_login, is_drawing, is_end_of_session, is_login_of, next_index, refreshed_since}
-use Rattle.oak_machine.proofs.Induction.{neither}
+use Rattle.oak_machine.specs.Sessions.{base_of, drawn_since, has_left, has_login, is_attached, is_drawing, is_end_of_session, is_login_of, next_index, refreshed_since}
+use Rattle.oak_machine.proofs.Induction.{neither, other}
 use Rattle.oak_machine.proofs.Stays.{any_later}
 use Rattle.oak_port.specs.Ports.{Awaiting, Deciding, Grows, HasRoom, Idle, Shown, Starting, Undoing, Waits, Work, Writing}
 use Rattle.oak_port.specs.declared.task.CommitEnd.{CommitEnd}
@@ -45,7 +46,7 @@ use Rattle.jcr_session.proofs.Others.{append_assoc, last_others, others_both, re
 
 -- ---- whether it is in
 
-login_stays : (whole added past : Past) (s : ℕ) → list_any (is_event_of whole s) added ≡ false → has_login past s ≡ false → has_login (added ++ past) s ≡ false
+pub login_stays : (whole added past : Past) (s : ℕ) → list_any (is_event_of whole s) added ≡ false → has_login past s ≡ false → has_login (added ++ past) s ≡ false
 login_stays whole [] past s others h = h
 login_stays whole (event.Login t v ∷ added) past s others h = let n = neither _ _ others in ap (λ b. b || has_login (added ++ past) s) n.0 ∙ login_stays whole added past s n.1 h
 login_stays whole (e ∷ added) past s others h = login_stays whole added past s (neither (is_event_of whole s e) _ others).1 h
@@ -54,6 +55,13 @@ left_stays : (whole added past : Past) (s : ℕ) → list_any (is_event_of whole
 left_stays whole [] past s others h = h
 left_stays whole (event.Went t kind.End ∷ added) past s others h = let n = neither _ _ others in ap (λ b. b || has_left (added ++ past) s) n.0 ∙ left_stays whole added past s n.1 h
 left_stays whole (e ∷ added) past s others h = left_stays whole added past s (neither (is_event_of whole s e) _ others).1 h
+
+attached_stays : (whole added past : Past) (s : ℕ) → list_any (is_event_of whole s) added ≡ false → is_attached past s ≡ false → is_attached (added ++ past) s ≡ false
+attached_stays whole [] past s others h = h
+attached_stays whole (event.Login t v ∷ added) past s others h = let n = neither _ _ others in other (t == s) _ _ _ n.0 (attached_stays whole added past s n.1 h)
+attached_stays whole (event.Refresh t v ∷ added) past s others h = let n = neither _ _ others in other (t == s) _ _ _ n.0 (attached_stays whole added past s n.1 h)
+attached_stays whole (event.Attach t id ∷ added) past s others h = let n = neither _ _ others in other (t == s) _ _ _ n.0 (attached_stays whole added past s n.1 h)
+attached_stays whole (e ∷ added) past s others h = attached_stays whole added past s (neither (is_event_of whole s e) _ others).1 h
 
 -- ---- by pasts
 
@@ -136,5 +144,6 @@ module _ (law : JcrLaw) (old new : Shown) (work : Work) (room : Option ℕ) (wai
       run = waits.grows.run;
       login = ap (λ (h : History). has_login h.past new.session) same ∙ (ap (has_login (added ++ old.history.past)) waits.session ∙ any_later (is_login_of old.session) added old.history.past inside.login);
       stays = ap (λ (h : History). has_left h.past new.session) same ∙ (ap (has_left (added ++ old.history.past)) waits.session ∙ left_stays (added ++ old.history.past) added old.history.past old.session waits.grows.theirs inside.stays);
+      detached = ap (λ (h : History). is_attached h.past new.session) same ∙ (ap (is_attached (added ++ old.history.past)) waits.session ∙ attached_stays (added ++ old.history.past) added old.history.past old.session waits.grows.theirs inside.detached);
       tree = subst IsTree (sym tree_then) inside.tree;
     }

@@ -8,7 +8,7 @@ use Rattle.jr_tree.specs.declared.tree.Node.{Node}
 use Rattle.jr_tree.specs.Trees.{IsTree, Nodes, node_at}
 use Rattle.oak_machine.specs.Laws.{Says, Starts}
 use Rattle.oak_machine.specs.Runs.{AreNodes, IsRun}
-use Rattle.oak_machine.specs.Sessions.{has_left, has_login}
+use Rattle.oak_machine.specs.Sessions.{has_left, has_login, is_attached}
 use Rattle.oak_port.specs.Ports.{Idle, Shown, Starting, Work}
 use Rattle.oak_port.specs.declared.task.Task.TheVariants as task
 use Rattle.core_law.specs.Law.{MayStart, SaysBy}
@@ -27,12 +27,13 @@ starts_of law = λ h s edit marks. MayStart law.sessions h s edit marks
 abbrev pub says_of : JcrLaw → Says
 says_of law = λ h s i text. SaysBy law.sessions h s i text
 
--- the history is a run by the law, in which the session has logged in and hasn't left, and reads a tree at its base
+-- the history is a run by the law, in which the session has logged in, hasn't left and isn't attached, and reads a tree at its base
 pub record IsIn (law : JcrLaw) (p : Shown) : Type 0 where
   pub nodes : AreNodes p.history.clusters p.history.sessions
   pub run : IsRun (starts_of law) (says_of law) p.history
   pub login : IsTrue (has_login p.history.past p.session)
   pub stays : IsFalse (has_left p.history.past p.session)
+  pub detached : IsFalse (is_attached p.history.past p.session)
   pub tree : IsTree (base_tree p.history.past p.session)
 
 -- what is read of a tree is in order and the tree's, and each other node of the tree stands at or below a path that is left

@@ -208,8 +208,10 @@ impl SessionRun {
     }
 
     // Logs in.
+    #[tactic(auto, using(crate::proofs::Living::outside_idle, crate::proofs::Living::outside_begins, crate::proofs::Living::logged_in))]
     fn log_in<P: Port<L = JcrLaw>>(&mut self, port: &mut P) -> Turn
         requires stands { Stands (P.law port.old) (P.shown port.old) self.old }
+        requires outside { self.old.phase ≡ phase.Outside }
         ensures law { P.law port.new ≡ P.law port.old }
         ensures turned { HasTurned (P.law port.old) (P.shown port.old) (P.shown port.new) self.old self.new result }
     {
@@ -283,6 +285,7 @@ impl SessionRun {
     }
 
     // Refuses the command, which this session may not make.
+    #[tactic(auto, using(crate::proofs::Next::forgo_refuse, crate::proofs::Next::refuse_save))]
     fn refuse<P: Port<L = JcrLaw>>(&mut self, port: &mut P) -> Turn
         requires stands { Stands (P.law port.old) (P.shown port.old) self.old }
         requires between { self.old.phase ≡ phase.Between }
