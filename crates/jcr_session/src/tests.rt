@@ -25,7 +25,7 @@ enum Step {
 
 // The first session saves, and the second one follows it.
 const STEPS: [Step; 24] = [
-    Step::Waits(0),
+    Step::Waits(1),
     Step::Login(0),
     Step::Login(1),
     Step::Says(1, r#"ok "r0-0-1,r0-0-2""#),
