@@ -10,3 +10,5 @@ mod Trees
 mod Turning
 mod Next
 mod Living
+mod Starting
+mod Ending

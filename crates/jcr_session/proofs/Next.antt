@@ -42,7 +42,7 @@ due_number due.Refuse = 3
 due_number due.Save = 4
 due_number due.See = 5
 
-apart : {A : Type 0} (a b : Due) → Rattle.std.specs.Prelude.nat_eq (due_number a) (due_number b) ≡ false → a ≡ b → A
+pub apart : {A : Type 0} (a b : Due) → Rattle.std.specs.Prelude.nat_eq (due_number a) (due_number b) ≡ false → a ≡ b → A
 apart a b other same = absurd (false≢true (sym other ∙ (ap (λ d. Rattle.std.specs.Prelude.nat_eq (due_number d) (due_number b)) same ∙ itself (due_number b))))
   where
     itself : (n : ℕ) → Rattle.std.specs.Prelude.nat_eq n n ≡ true
@@ -73,7 +73,7 @@ head_by Saves s h = saves_due (may_save s) due.ShowBase h (apart due.Save due.Sh
 head_by Refreshes s h = apart due.Refresh due.ShowBase refl h
 head_by ShowsBase s h = refl
 
-refresh_by : (b : Built) (s : ℕ) → due_by b s ≡ due.Refresh → refreshes_by b ≡ true
+pub refresh_by : (b : Built) (s : ℕ) → due_by b s ≡ due.Refresh → refreshes_by b ≡ true
 refresh_by (Adds p) s h = apart due.See due.Refresh refl h
 refresh_by (Sets p n x) s h = apart due.See due.Refresh refl h
 refresh_by (Gets p) s h = apart due.See due.Refresh refl h
@@ -94,7 +94,7 @@ save_by d want which other Saves s h = (refl, which (may_save s) h)
 save_by d want which other Refreshes s h = absurd ((other due.Refresh h).1 refl)
 save_by d want which other ShowsBase s h = absurd ((other due.ShowBase h).2 refl)
 
-save_is : (b : Built) (s : ℕ) → due_by b s ≡ due.Save → (saves_by b ≡ true) × (may_save s ≡ true)
+pub save_is : (b : Built) (s : ℕ) → due_by b s ≡ due.Save → (saves_by b ≡ true) × (may_save s ≡ true)
 save_is = save_by due.Save true which (λ x h. (λ k. apart due.See due.Save refl (sym k ∙ h), λ k. apart due.Refresh due.Save refl (sym k ∙ h), λ k. apart due.ShowBase due.Save refl (sym k ∙ h)))
   where
     which : (b : Bool) → cond b due.Save due.Refuse ≡ due.Save → b ≡ true
@@ -119,7 +119,7 @@ next_is commands i s d h some = by (slice_get commands i) refl h
 -- ---- where the session stands between two commands
 
 module _ (law : JcrLaw) (p : Shown) (run : SessionRun) (stands : Stands law p run) (between : run.phase ≡ phase.Between) (read : is_unread run ≡ false) where
-  sees : IsIn law p × Sees law p run run.sight
+  pub sees : IsIn law p × Sees law p run run.sight
   sees = subst (λ (f : Phase). StandsAt law p run f) between stands.at
 
   pub idle_between : p.work ≡ Idle
@@ -132,7 +132,7 @@ module _ (law : JcrLaw) (p : Shown) (run : SessionRun) (stands : Stands law p ru
           ∙ (ap (λ (x : Sight). cond (is_seen x) false (is_between run.phase && needs_tree (due_for run))) is
           ∙ (ap (λ (f : Phase). is_between f && needs_tree (due_for run)) between ∙ h.1))))
 
-  between_at : (d : Due) → due_for run ≡ d → (due.Leave ≡ d → ⊥) → (c : Command) × IsBetween law p run c × (due_by (built c) run.session ≡ d)
+  pub between_at : (d : Due) → due_for run ≡ d → (due.Leave ≡ d → ⊥) → (c : Command) × IsBetween law p run c × (due_by (built c) run.session ≡ d)
   between_at d h some = let c = next_is run.commands run.index run.session d h some in (c.0, record { stands = stands; between = between; idle = idle_between; command = c.1 }, c.2)
 
   pub forgo_head : due_for run ≡ due.ShowBase → MayAnswer law p run memory_text

@@ -246,6 +246,7 @@ impl SessionRun {
     }
 
     // Leaves.
+    #[tactic(auto, using(crate::proofs::Next::idle_between, crate::proofs::Starting::leave_begins, crate::proofs::Starting::left))]
     fn leave<P: Port<L = JcrLaw>>(&mut self, port: &mut P) -> Turn
         requires stands { Stands (P.law port.old) (P.shown port.old) self.old }
         requires between { self.old.phase ≡ phase.Between }
@@ -301,6 +302,7 @@ impl SessionRun {
     }
 
     // Moves the base to the head. What was pending is dropped, and the tree there isn't read yet.
+    #[tactic(auto, using(crate::proofs::Next::idle_between, crate::proofs::Next::forgo_refresh, crate::proofs::Starting::refresh_begins, crate::proofs::Starting::moves_base, crate::proofs::Turning::answer_later, crate::proofs::Turning::said_later))]
     fn refresh<P: Port<L = JcrLaw>>(&mut self, port: &mut P) -> Turn
         requires stands { Stands (P.law port.old) (P.shown port.old) self.old }
         requires between { self.old.phase ≡ phase.Between }
@@ -323,6 +325,7 @@ impl SessionRun {
     }
 
     // Shows the vector to which the base moved.
+    #[tactic(auto, using(crate::proofs::Ending::shows_vector))]
     fn say_vector<P: Port<L = JcrLaw>>(&mut self, port: &mut P, vector: RevVec) -> Turn
         requires stands { Stands (P.law port.old) (P.shown port.old) self.old }
         requires refreshed { self.old.phase ≡ phase.Refreshed vector }
