@@ -74,7 +74,7 @@ module _ (law : Orders) (past : Past) (s : ℕ) (r : Revision) where
   ended_end e (inr (k, v, same)) = subst (λ (p : Past). is_ended (p ++ past) r ≡ true) (sym same) ended
 
   over_end : (e : Past) (base view : Nodes) → IsFinish r e → HasDrawn law past s r → HasView law past s base view → is_committed past r ≡ false → IsOver law (e ++ past) s base view
-  over_end e base view finish has view_is open = by finish
+  over_end e base view finish has view_is unmade = by finish
     where
       over : (p : Past) → is_drawing (p ++ past) s ≡ false → base ≡ Rattle.core_law.specs.State.base_tree (p ++ past) s → Rattle.core_law.specs.State.pending_of law (p ++ past) s ≡ Rattle.jr_tree.specs.Edits.changes base view
           → drawn_since (p ++ past) s ≡ drawn_since past s → is_committed (p ++ past) r ≡ is_committed past r → IsOver law (p ++ past) s base view
@@ -84,7 +84,7 @@ module _ (law : Orders) (past : Past) (s : ℕ) (r : Revision) where
         from = view_is.from;
         to = view_is.to;
         idle = idle;
-        uncommitted = ap (λ (o : Option Revision). option_map_or (is_committed (p ++ past)) o false) (drawn ∙ has.drawn) ∙ (same ∙ open);
+        uncommitted = ap (λ (o : Option Revision). option_map_or (is_committed (p ++ past)) o false) (drawn ∙ has.drawn) ∙ (same ∙ unmade);
       }
 
       by : IsFinish r e → IsOver law (e ++ past) s base view
@@ -119,18 +119,18 @@ module _ (law : Orders) (past : Past) (s : ℕ) (r : Revision) where
   -- ---- the steps
 
   pub committing_write : (k : StepKind) (e : Past) (now : Work) (base view : Nodes) → IsCommitting law past s base view (Writing r) → WritesOn s r k e now → IsCommitting law (e ++ past) s base view now
-  committing_write k e now base view (has, view_is, open) (inl (a, same, work)) =
-      subst (λ (w : Work). IsCommitting law (e ++ past) s base view w) (sym work) (subst (λ (p : Past). IsCommitting law (p ++ past) s base view (Writing r)) (sym same) (drawn_went kind.Write has, view_went kind.Write base view view_is, open))
-  committing_write k e now base view (has, view_is, open) (inr (inl (a, same, work))) =
-      subst (λ (w : Work). IsCommitting law (e ++ past) s base view w) (sym work) (subst (λ (p : Past). IsCommitting law (p ++ past) s base view (Writing r)) (sym same) (drawn_went kind.Mark has, view_went kind.Mark base view view_is, open))
-  committing_write k e now base view (has, view_is, open) (inr (inr (inl (a, same, work)))) =
+  committing_write k e now base view (has, view_is, unmade) (inl (a, same, work)) =
+      subst (λ (w : Work). IsCommitting law (e ++ past) s base view w) (sym work) (subst (λ (p : Past). IsCommitting law (p ++ past) s base view (Writing r)) (sym same) (drawn_went kind.Write has, view_went kind.Write base view view_is, unmade))
+  committing_write k e now base view (has, view_is, unmade) (inr (inl (a, same, work))) =
+      subst (λ (w : Work). IsCommitting law (e ++ past) s base view w) (sym work) (subst (λ (p : Past). IsCommitting law (p ++ past) s base view (Writing r)) (sym same) (drawn_went kind.Mark has, view_went kind.Mark base view view_is, unmade))
+  committing_write k e now base view (has, view_is, unmade) (inr (inr (inl (a, same, work)))) =
       subst (λ (w : Work). IsCommitting law (e ++ past) s base view w) (sym work) (subst (λ (p : Past). IsCommitting law (p ++ past) s base view (Deciding r)) (sym same) (drawn_commit has, made))
-  committing_write k e now base view (has, view_is, open) (inr (inr (inr (item, o, same, work)))) =
-      subst (λ (w : Work). IsCommitting law (e ++ past) s base view w) (sym work) (subst (λ (p : Past). IsCommitting law (p ++ past) s base view (Undoing r (commit.Clash item o))) (sym same) (drawn_refuse item o has, view_refuse item o base view view_is, open, refused item o))
+  committing_write k e now base view (has, view_is, unmade) (inr (inr (inr (item, o, same, work)))) =
+      subst (λ (w : Work). IsCommitting law (e ++ past) s base view w) (sym work) (subst (λ (p : Past). IsCommitting law (p ++ past) s base view (Undoing r (commit.Clash item o))) (sym same) (drawn_refuse item o has, view_refuse item o base view view_is, unmade, refused item o))
 
   pub committing_undo : (f : CommitEnd) (e : Past) (now : Work) (base view : Nodes) → IsCommitting law past s base view (Undoing r f) → (e ≡ event.Went s kind.Undo ∷ []) → now ≡ Undoing r f → IsCommitting law (e ++ past) s base view now
-  committing_undo f e now base view (has, view_is, open, told) same work =
-      subst (λ (w : Work). IsCommitting law (e ++ past) s base view w) (sym work) (subst (λ (p : Past). IsCommitting law (p ++ past) s base view (Undoing r f)) (sym same) (drawn_went kind.Undo has, view_went kind.Undo base view view_is, open, told_went f told))
+  committing_undo f e now base view (has, view_is, unmade, told) same work =
+      subst (λ (w : Work). IsCommitting law (e ++ past) s base view w) (sym work) (subst (λ (p : Past). IsCommitting law (p ++ past) s base view (Undoing r f)) (sym same) (drawn_went kind.Undo has, view_went kind.Undo base view view_is, unmade, told_went f told))
     where
       told_went : (f : CommitEnd) → IsToldEnd past r f → IsToldEnd (event.Went s kind.Undo ∷ past) r f
       told_went (commit.Clash item o) h = h
@@ -142,9 +142,9 @@ module _ (law : Orders) (past : Past) (s : ℕ) (r : Revision) where
       subst (λ (w : Work). IsCommitting law (e ++ past) s base view w) (sym work) (drawn_end e finish has, made_end e finish at, ended_end e finish)
 
   pub committed_undone : (f : CommitEnd) (e : Past) (base view : Nodes) → IsCommitting law past s base view (Undoing r f) → IsFinish r e → HasCommitted law (e ++ past) s base view f
-  committed_undone (commit.Clash item o) e base view (has, view_is, open, told) finish = (r, since_end e finish has.drawn, ended_end e finish, told_end e item o finish told, over_end e base view finish has view_is open)
-  committed_undone commit.Memory e base view (has, view_is, open, told) finish = over_end e base view finish has view_is open
-  committed_undone (commit.Committed q) e base view (has, view_is, open, told) finish = absurd told
+  committed_undone (commit.Clash item o) e base view (has, view_is, unmade, told) finish = (r, since_end e finish has.drawn, ended_end e finish, told_end e item o finish told, over_end e base view finish has view_is unmade)
+  committed_undone commit.Memory e base view (has, view_is, unmade, told) finish = over_end e base view finish has view_is unmade
+  committed_undone (commit.Committed q) e base view (has, view_is, unmade, told) finish = absurd told
 
   pub committed_moved : (v : RevVec) (e : Past) (base view : Nodes) → IsCommitting law past s base view (Awaiting r) → sees v r ≡ true → e ≡ event.Refresh s v ∷ [] → HasCommitted law (e ++ past) s base view (commit.Committed r)
   committed_moved v e base view (has, at, end) seen same = subst (λ (p : Past). HasCommitted law (p ++ past) s base view (commit.Committed r)) (sym same)
@@ -153,7 +153,7 @@ module _ (law : Orders) (past : Past) (s : ℕ) (r : Revision) where
   -- ---- its draw
 
   pub committing_drawn : (d : Rattle.oak_machine.specs.declared.event.Draw.Draw.Draw) (base view : Nodes) → d.session ≡ s → d.revision ≡ r → is_drawing past s ≡ false → HasView law past s base view → is_committed past r ≡ false → IsCommitting law (event.Draw d ∷ past) s base view (Writing r)
-  committing_drawn d base view session revision idle view_is open = (
+  committing_drawn d base view session revision idle view_is unmade = (
       record {
         drawn = ap (λ b. cond b (Some d.revision) (drawn_since past s)) mine ∙ ap (λ (x : Revision). Some x) revision;
         theirs = ap (λ b. option_map_or (λ f. f.session == s) (cond b (Some d) (Rattle.oak_machine.specs.Commits.draw_of past r)) false) (subst (λ (x : Revision). is_same r x ≡ true) (sym revision) (same_itself r)) ∙ mine;
@@ -163,7 +163,7 @@ module _ (law : Orders) (past : Past) (s : ℕ) (r : Revision) where
             ∙ among_more past (event.End r ∷ event.Draw d ∷ past) (λ q h. right (is_same q r) h) s past idle);
       },
       record { base_is = view_is.base_is; pending = view_is.pending; from = view_is.from; to = view_is.to },
-      open,
+      unmade,
     )
     where
       mine : (d.session == s) ≡ true

@@ -51,7 +51,7 @@ module _ (law : JcrLaw) (p : Shown) (run : SessionRun) (stands : Stands law p ru
       index = stands.index;
       idle = at_refreshed.1.idle;
       says = says_refreshed law.sessions p.history p.session run.index [] [] v command_is at_refreshed.1.moved;
-      then = λ added later others. subst (λ (x : Sight). SeesThen law.sessions (added ++ p.history.past) p.session run.index (answer_text (ShowsVector v)) x) (sym at_refreshed.1.unread)
+      leaves = λ added later others. subst (λ (x : Sight). SeesThen law.sessions (added ++ p.history.past) p.session run.index (answer_text (ShowsVector v)) x) (sym at_refreshed.1.unread)
           (turn_refreshed law.sessions (added ++ p.history.past) p.session run.index v (base_tree (added ++ p.history.past) p.session) command_is refl
           (idle_stays (added ++ p.history.past) added p.history.past p.session others at_refreshed.1.still)
           (subst IsTree (sym (tree_still law p.history.clusters p.history.sessions at_refreshed.0.nodes p.session added p.history.past at_refreshed.0.run later others)) at_refreshed.0.tree));
@@ -94,7 +94,7 @@ module _ (law : JcrLaw) (p : Shown) (run : SessionRun) (stands : Stands law p ru
           index = stands.index;
           idle = here.3;
           says = says_saved law.sessions p.history p.session run.index [] [] r c.0 save_is c.1 c.2 c.3 c.4 c.5;
-          then = λ added later others.
+          leaves = λ added later others.
               turn_saved law.sessions (added ++ p.history.past) p.session run.index r (base_tree (added ++ p.history.past) p.session) save_is refl
               (idle_stays (added ++ p.history.past) added p.history.past p.session others c.6)
               (subst IsTree (sym (tree_still law p.history.clusters p.history.sessions inside.nodes p.session added p.history.past inside.run later others)) inside.tree);
@@ -111,7 +111,7 @@ module _ (law : JcrLaw) (p : Shown) (run : SessionRun) (stands : Stands law p ru
         index = stands.index;
         idle = here.3;
         says = says_memory law.sessions p.history p.session run.index here.0.base here.0.view command.Save over save_is;
-        then = λ added later others. subst (λ (x : Sight). SeesThen law.sessions (added ++ p.history.past) p.session run.index memory_text x) (sym here.1)
+        leaves = λ added later others. subst (λ (x : Sight). SeesThen law.sessions (added ++ p.history.past) p.session run.index memory_text x) (sym here.1)
             (turn_memory law.sessions (after added p.history) p.session run.index here.0.base here.0.view (over_then here.0.base here.0.view over added later others));
       }
 
@@ -125,7 +125,7 @@ module _ (law : JcrLaw) (p : Shown) (run : SessionRun) (stands : Stands law p ru
           index = stands.index;
           idle = here.3;
           says = (command.Save, Refused 10 (datum.Item item ∷ datum.Revision o ∷ []), save_is, refl, clashed c.0 o item c.1 c.2 c.3);
-          then = λ added later others. subst (λ (x : Sight). SeesThen law.sessions (added ++ p.history.past) p.session run.index (answer_text (Refused 10 (datum.Item item ∷ datum.Revision o ∷ []))) x) (sym here.1)
+          leaves = λ added later others. subst (λ (x : Sight). SeesThen law.sessions (added ++ p.history.past) p.session run.index (answer_text (Refused 10 (datum.Item item ∷ datum.Revision o ∷ []))) x) (sym here.1)
               (turn_refused law.sessions (added ++ p.history.past) p.session run.index (answer_text (Refused 10 (datum.Item item ∷ datum.Revision o ∷ []))) here.0.base here.0.view
               (over_then here.0.base here.0.view c.4 added later others) refl);
         }

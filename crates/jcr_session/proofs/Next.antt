@@ -182,7 +182,7 @@ may_like law p run like text may session commands index sight_is =
     let b : MayAnswer law p (record run { session = like.session; commands = like.commands }) text = subst (λ (cs : List Command). MayAnswer law p (record run { session = like.session; commands = cs }) text) (sym commands) a in
     let c : MayAnswer law p (record run { session = like.session; commands = like.commands; index = like.index }) text = subst (λ i. MayAnswer law p (record run { session = like.session; commands = like.commands; index = i }) text) (sym index) b in
     let d : MayAnswer law p (record run { session = like.session; commands = like.commands; index = like.index; sight = like.sight }) text = subst (λ (x : Sight). MayAnswer law p (record run { session = like.session; commands = like.commands; index = like.index; sight = x }) text) (sym sight_is) c in
-    record { inside = d.inside; session = d.session; few = d.few; commands = d.commands; index = d.index; idle = d.idle; says = d.says; then = d.then }
+    record { inside = d.inside; session = d.session; few = d.few; commands = d.commands; index = d.index; idle = d.idle; says = d.says; leaves = d.leaves }
 
 -- a turn by its index alone
 pub turned_like : (law : JcrLaw) (old new : Shown) (run like now : SessionRun) (t : Turn) → like.index ≡ run.index → HasTurned law old new like now t → HasTurned law old new run now t

@@ -1,6 +1,5 @@
 -- What the calls of a reading step leave: the session is in, others alone added events, and the walk reads the tree at the session's base.
 use Rattle.std.proofs.Common.{◌≡◌, inl, inr, ℕ, Bool, true, false, Some, None, Option, List, [], ◌∷◌, ◌++◌, is_some, map, refl, sym, ap, ◌∙◌, subst}
-use Rattle.std.specs.Prelude.{◌×◌}
 use Rattle.std.specs.BTreeMap.{insert_entry}
 use Rattle.jr_path.specs.Names.{path_cmp}
 use Rattle.jr_path.specs.declared.name.Name.{Name}

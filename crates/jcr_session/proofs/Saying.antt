@@ -60,7 +60,7 @@ module _ (law : JcrLaw) (old new : Shown) (run : SessionRun) (text : Text) (may 
     index = may.index ∙ sym (moved (λ h s. next_index h.past run.session ≡ next_index old.history.past run.session) (subst (λ s. next_index (waits.others ++ old.history.past) s ≡ next_index old.history.past s) may.session (next_stays (waits.others ++ old.history.past) waits.others old.history.past old.session waits.grows.theirs)));
     idle = waits.work_is;
     says = moved (λ h s. SaysBy law.sessions h s run.index text) (says_last law.sessions old.history waits.others old.session run.index text may.inside.nodes may.inside.run later waits.grows.theirs may.says);
-    then = λ more run_more others. moved_then more run_more others;
+    leaves = λ more run_more others. moved_then more run_more others;
   }
     where
       moved : (F : History → ℕ → Type 0) → F (after waits.others old.history) old.session → F new.history new.session
@@ -78,7 +78,7 @@ module _ (law : JcrLaw) (old new : Shown) (run : SessionRun) (text : Text) (may 
           let others_now = back (λ h s. AreOthers s more h.past) others in
           moved (λ h s. SeesThen law.sessions (more ++ h.past) s run.index text run.sight)
           (subst (λ (p : Past). SeesThen law.sessions p old.session run.index text run.sight) (append_assoc more waits.others old.history.past)
-          (may.then (more ++ waits.others)
+          (may.leaves (more ++ waits.others)
           (subst (λ (h : History). IsRun (starts_of law) (says_of law) h) (after_both more waits.others old.history) run_now)
           (others_both old.history.clusters old.history.sessions may.inside.nodes (starts_of law) (says_of law) old.session more waits.others old.history.past run_now later waits.grows.theirs others_now)))
 
@@ -99,7 +99,7 @@ module _ (law : JcrLaw) (old new : Shown) (run : SessionRun) (text : Text) (may 
       few = may.few;
       commands = may.commands;
       index = sym (moved (λ h s. next_index h.past run.session ≡ run.index + 1) counted);
-      at = (inside_now, seen run.sight (may.then done.others before done.grows.theirs));
+      at = (inside_now, seen run.sight (may.leaves done.others before done.grows.theirs));
     };
   }
     where
@@ -215,7 +215,7 @@ module _ (law : JcrLaw) (p : Shown) (run : SessionRun) (c : Command) (is : IsBet
     index = is.stands.index;
     idle = is.idle;
     says = says;
-    then = sees_same law p p.session inside_is run run.index text step run.sight at_between.1 not_reading;
+    leaves = sees_same law p p.session inside_is run run.index text step run.sight at_between.1 not_reading;
   }
 
   pub forgoes : MayAnswer law p run memory_text
@@ -252,7 +252,7 @@ module _ (law : JcrLaw) (p : Shown) (run : SessionRun) (c : Command) (is : IsBet
     index = is.stands.index;
     idle = is.idle;
     says = says_view law.sessions p.history p.session run.index seen.base seen.view c turn_is.over (command_is law p run c is) plain;
-    then = λ added later others. turn_view law.sessions (after added p.history) p.session run.index seen.base seen.view c
+    leaves = λ added later others. turn_view law.sessions (after added p.history) p.session run.index seen.base seen.view c
         (turn_then law p p.session (inside_is law p run c is) added later others seen.base seen.view turn_is) (command_is law p run c is) plain;
   }
 
@@ -271,7 +271,7 @@ module _ (law : JcrLaw) (p : Shown) (run : SessionRun) (c : Command) (is : IsBet
       index = is.stands.index;
       idle = is.idle;
       says = says;
-      then = λ added later others. subst (λ (x : Sight). SeesThen law.sessions (added ++ p.history.past) p.session run.index text x) (sym sees)
+      leaves = λ added later others. subst (λ (x : Sight). SeesThen law.sessions (added ++ p.history.past) p.session run.index text x) (sym sees)
           (step (after added p.history) (turn_then law p p.session (inside_is law p run c is) added later others seen.base seen.view turn_is));
     }
 

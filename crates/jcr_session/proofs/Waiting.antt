@@ -102,8 +102,8 @@ module _ (law : JcrLaw) (clusters : ℕ) (sessions : List ℕ) (nodes : AreNodes
   told_still r (commit.Committed q) has h = h
 
   pub committing_still : (base view : Nodes) (work : Work) → IsCommitting law.sessions past s base view work → IsCommitting law.sessions (added ++ past) s base view work
-  committing_still base view (Writing r) (has, view_is, open) = (drawn_still r has, view_still base view view_is, open_still r has open)
-  committing_still base view (Undoing r e) (has, view_is, open, told) = (drawn_still r has, view_still base view view_is, open_still r has open, told_still r e has told)
+  committing_still base view (Writing r) (has, view_is, unmade) = (drawn_still r has, view_still base view view_is, open_still r has unmade)
+  committing_still base view (Undoing r e) (has, view_is, unmade, told) = (drawn_still r has, view_still base view view_is, open_still r has unmade, told_still r e has told)
   committing_still base view (Deciding r) (has, made) = (drawn_still r has, any_later (is_commit_of r) added past made)
   committing_still base view (Awaiting r) (has, made, ended) = (drawn_still r has, any_later (is_commit_of r) added past made, any_later (is_end_of r) added past ended)
   committing_still base view Idle h = h

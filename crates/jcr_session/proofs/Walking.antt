@@ -7,6 +7,7 @@ use Rattle.std.specs.Cmp.{IsEquivalence}
 use Rattle.std.specs.BTreeMap.{insert_entry}
 use Rattle.std.specs.List.{list_all, list_any, filter_map}
 use Rattle.std.specs.FinMap.{is_sorted}
+use Rattle.std.proofs.lemmas.Bool.{ne_eqb}
 use Rattle.std.proofs.lemmas.Cmp.{eq_by_cmp_equiv}
 use mathlib.Core.Bool.{false≢true}
 use Rattle.jr_path.specs.Names.{last_name, name_cmp, parent_of, path_cmp, is_under}
@@ -40,8 +41,10 @@ tree_parent g (e ∷ t) h q is =
     ] refl is
 
 take_behind : (p more : Path) (k : ℕ) → take (length p + k) (p ++ more) ≡ p ++ take k more
-take_behind [] more k = refl
-take_behind (n ∷ p) more k = ap (λ (l : Path). n ∷ l) (take_behind p more k)
+take_behind [] more k = let e : length [] + k ≡ k = omega arith in ap (λ m. take m more) e
+take_behind (n ∷ p) more k =
+    let e : length (n ∷ p) + k ≡ suc (length p + k) = omega arith in
+    ap (λ m. take m (n ∷ (p ++ more))) e ∙ ap (λ (l : Path). n ∷ l) (take_behind p more k)
 
 length_both : (p q : Path) → length (p ++ q) ≡ length p + length q
 length_both [] q = refl
@@ -54,8 +57,11 @@ length_taken (n ∷ p) (suc k) h = let e : length (take k p) ≡ k = length_take
 
 parent_below : (p more : Path) (k : ℕ) → length more ≡ suc k → parent_of (p ++ more) ≡ Some (p ++ take k more)
 parent_below p more k h =
-    let e : length (p ++ more) ≡ suc (length p + k) = length_both p more ∙ let f : length more ≡ suc k = h in omega arith in
-    ap (λ n. cond (n == 0) None (Some (take (n - 1) (p ++ more)))) e ∙ ap (λ (q : Path). Some q) (take_behind p more k)
+    let e : length (p ++ more) ≡ length p + length more = length_both p more in
+    let some : length (p ++ more) ≡ 0 → ⊥ = λ none. absurd (omega arith) in
+    let less : length (p ++ more) - 1 ≡ length p + k = omega arith in
+    ap (λ b. cond b None (Some (take (length (p ++ more) - 1) (p ++ more)))) (ne_eqb (length (p ++ more)) 0 some)
+    ∙ (ap (λ n. Some (take n (p ++ more))) less ∙ ap (λ (q : Path). Some q) (take_behind p more k))
 
 module _ (t : Nodes) (tree : IsTree t) (p : Path) where
   -- where a node stands, each one above it does
@@ -121,7 +127,7 @@ module _ (t : Nodes) (tree : IsTree t) (read : Nodes) where
   part_begins = record {
     order = refl;
     theirs = λ p node h. absurd (false≢true (ap is_some h));
-    covered = λ p h. inr refl;
+    covered = λ p h. inr (ap (λ b. b || false) ((below_is_prefix p []).1 (p, refl)));
   }
 
   -- no node stands at a path: nothing is left there

@@ -233,7 +233,7 @@ pub record MayAnswer (law : JcrLaw) (p : Shown) (run : SessionRun) (text : Text)
   pub index : run.index ≡ next_index p.history.past run.session
   pub idle : p.work ≡ Idle
   pub says : SaysBy law.sessions p.history p.session run.index text
-  pub then : (added : Past) → IsRun (starts_of law) (says_of law) (after added p.history) → AreOthers p.session added p.history.past → SeesThen law.sessions (added ++ p.history.past) p.session run.index text run.sight
+  pub leaves : (added : Past) → IsRun (starts_of law) (says_of law) (after added p.history) → AreOthers p.session added p.history.past → SeesThen law.sessions (added ++ p.history.past) p.session run.index text run.sight
 
 -- ---- what the session's own functions find
 
