@@ -154,17 +154,17 @@ module _ (law : Orders) (past : Past) (s : ℕ) (r : Revision) where
 
   pub committing_drawn : (d : Rattle.oak_machine.specs.declared.event.Draw.Draw.Draw) (base view : Nodes) → d.session ≡ s → d.revision ≡ r → is_drawing past s ≡ false → HasView law past s base view → is_committed past r ≡ false → IsCommitting law (event.Draw d ∷ past) s base view (Writing r)
   committing_drawn d base view session revision idle view_is unmade = (
-      record {
-        drawn = ap (λ b. cond b (Some d.revision) (drawn_since past s)) mine ∙ ap (λ (x : Revision). Some x) revision;
-        theirs = ap (λ b. option_map_or (λ f. f.session == s) (cond b (Some d) (Rattle.oak_machine.specs.Commits.draw_of past r)) false) (subst (λ (x : Revision). is_same r x ≡ true) (sym revision) (same_itself r)) ∙ mine;
-        last =
-            ap (λ b. (d.session == s && not b) || is_drawing_among (event.End r ∷ event.Draw d ∷ past) past s) (ap (λ b. b || is_ended past d.revision) (subst (λ (x : Revision). is_same x r ≡ true) (sym revision) (same_itself r)))
-            ∙ (ap (λ b. b || is_drawing_among (event.End r ∷ event.Draw d ∷ past) past s) (nothing (d.session == s))
-            ∙ among_more past (event.End r ∷ event.Draw d ∷ past) (λ q h. right (is_same q r) h) s past idle);
-      },
-      record { base_is = view_is.base_is; pending = view_is.pending; from = view_is.from; to = view_is.to },
-      unmade,
-    )
+    record {
+      drawn = ap (λ b. cond b (Some d.revision) (drawn_since past s)) mine ∙ ap (λ (x : Revision). Some x) revision;
+      theirs = ap (λ b. option_map_or (λ f. f.session == s) (cond b (Some d) (Rattle.oak_machine.specs.Commits.draw_of past r)) false) (subst (λ (x : Revision). is_same r x ≡ true) (sym revision) (same_itself r)) ∙ mine;
+      last =
+          ap (λ b. (d.session == s && not b) || is_drawing_among (event.End r ∷ event.Draw d ∷ past) past s) (ap (λ b. b || is_ended past d.revision) (subst (λ (x : Revision). is_same x r ≡ true) (sym revision) (same_itself r)))
+          ∙ (ap (λ b. b || is_drawing_among (event.End r ∷ event.Draw d ∷ past) past s) (nothing (d.session == s))
+          ∙ among_more past (event.End r ∷ event.Draw d ∷ past) (λ q h. right (is_same q r) h) s past idle);
+    },
+    record { base_is = view_is.base_is; pending = view_is.pending; from = view_is.from; to = view_is.to },
+    unmade,
+  )
     where
       mine : (d.session == s) ≡ true
       mine = ap (λ n. n == s) session ∙ own s

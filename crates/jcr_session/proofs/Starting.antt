@@ -218,12 +218,14 @@ module _ (law : JcrLaw) (old mid new : Shown) (room : Option ℕ) (run : Session
         grows = steps.grows;
         tells = of_step law old mid new task.Refresh (out.Ready (end.Pinned pin)) room inside_old waits steps;
         stands = stands_by law old mid new task.Refresh (out.Ready (end.Pinned pin)) room inside_old waits steps run stands (record run { phase = phase.Refreshed pin.base; sight = sight.Unread }) refl refl refl
-            (subst (λ (e : Past). next_index (e ++ behind) mid.session ≡ next_index behind mid.session) (sym made_refresh.0) refl)
-            (inside_moved, record {
-              idle = made_refresh.1;
-              moved = by_moved (λ h n. refreshed_since h.past n ≡ Some pin.base) (ap (λ b. cond b (Some pin.base) (refreshed_since behind mid.session)) (own mid.session));
-              unread = refl;
-              refreshing = refreshing_is;
-              still = by_moved (λ h n. is_drawing h.past n ≡ false) (among_same behind (event.Refresh mid.session pin.base) (λ r. refl) behind mid.session ∙ idle_behind);
-            });
+            (subst (λ (e : Past). next_index (e ++ behind) mid.session ≡ next_index behind mid.session) (sym made_refresh.0) refl) (
+              inside_moved,
+              record {
+                idle = made_refresh.1;
+                moved = by_moved (λ h n. refreshed_since h.past n ≡ Some pin.base) (ap (λ b. cond b (Some pin.base) (refreshed_since behind mid.session)) (own mid.session));
+                unread = refl;
+                refreshing = refreshing_is;
+                still = by_moved (λ h n. is_drawing h.past n ≡ false) (among_same behind (event.Refresh mid.session pin.base) (λ r. refl) behind mid.session ∙ idle_behind);
+              },
+            );
       }))

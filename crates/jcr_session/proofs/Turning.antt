@@ -273,9 +273,9 @@ module _ (law : JcrLaw) (old new : Shown) (answer : StepOut) (run : SessionRun) 
     refused_by (Writing r) seen same is committing (own, work) =
         let quiet = quiet_by old.session steps.own [] own record { left = λ q. refl; base = λ q. refl; next = λ q. refl; attached = λ q. refl } in (
           stands_quiet phase.Saving (quiet.next moment.past)
-          (goes_on seen same is quiet (subst (λ (w : Work). IsCommitting law.sessions (steps.own ++ moment.past) old.session seen.base seen.view w) (sym work)
-          (subst (λ (e : Past). IsCommitting law.sessions (e ++ moment.past) old.session seen.base seen.view (Undoing r commit.Memory)) (sym own)
-          (let c = still seen.base seen.view (Writing r) committing in (c.0, c.1, c.2, tt))))),
+              (goes_on seen same is quiet (subst (λ (w : Work). IsCommitting law.sessions (steps.own ++ moment.past) old.session seen.base seen.view w) (sym work)
+              (subst (λ (e : Past). IsCommitting law.sessions (e ++ moment.past) old.session seen.base seen.view (Undoing r commit.Memory)) (sym own)
+              (let c = still seen.base seen.view (Writing r) committing in (c.0, c.1, c.2, tt))))),
           own,
         )
     refused_by (Undoing r e) seen same is committing m = absurd m

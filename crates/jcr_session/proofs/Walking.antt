@@ -105,8 +105,8 @@ listed p q n under (e ∷ t) is = by (eq_by_cmp path_cmp (p ++ n ∷ []) e.0) re
     by : (b : Bool) → eq_by_cmp path_cmp (p ++ n ∷ []) e.0 ≡ b → is_some (cond b (Some e.1) (node_at t (p ++ n ∷ []))) ≡ true → list_any (is_under q) (map (λ m. p ++ m ∷ []) (children_of (e ∷ t) p)) ≡ true
     by true same k =
         let here : cond (is_child_of p e.0) (last_name e.0) None ≡ Some n =
-            subst (λ (r : Path). cond (is_child_of p r) (last_name r) None ≡ Some n) (same_path (p ++ n ∷ []) e.0 same)
-            (ap (λ b. cond b (last_name (p ++ n ∷ [])) None) (child_below p n) ∙ last_below p n) in
+        subst (λ (r : Path). cond (is_child_of p r) (last_name r) None ≡ Some n) (same_path (p ++ n ∷ []) e.0 same)
+        (ap (λ b. cond b (last_name (p ++ n ∷ [])) None) (child_below p n) ∙ last_below p n) in
         ap (λ (o : Option Name). list_any (is_under q) (map (λ m. p ++ m ∷ []) (Rattle.std.specs.List.cons_option o (children_of t p)))) here
         ∙ ap (λ b. b || list_any (is_under q) (map (λ m. p ++ m ∷ []) (children_of t p))) under
     by false same k = later k (cond (is_child_of p e.0) (last_name e.0) None)

@@ -17,7 +17,8 @@ use crate::sight::{Seen, Sight, read_first, read_on};
 use crate::turn::Turn;
 use jcr_plan::marks_of;
 use jcr_trans::{
-    Command, null_reply, refusal_text, revision_reply, run, too_many_reply, unsupported_reply, vector_reply,
+    Command, null_reply, refusal_text, revision_reply, run, too_many_reply, unsupported_reply,
+    vector_reply,
 };
 use jr_path::{DeepCopy, Item, List};
 use jr_rev::{Pin, RevVec, Revision};

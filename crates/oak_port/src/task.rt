@@ -27,10 +27,7 @@ pub enum Task {
 pub enum CommitEnd {
     Committed(Revision),
     /// It was refused for another commit that it clashes with in its item.
-    Clash {
-        item: Item,
-        other: Revision,
-    },
+    Clash { item: Item, other: Revision },
     /// Memory was refused before the commit point.
     Memory,
 }
