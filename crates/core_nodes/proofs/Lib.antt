@@ -1,0 +1,8 @@
+pub mod Events
+pub mod Lists
+pub mod Memories
+pub mod Pasts
+pub mod Pins
+pub mod Times
+pub mod Vectors
+pub mod Waits
