@@ -3,6 +3,7 @@ pub mod Lists
 pub mod Memories
 pub mod Pasts
 pub mod Pins
+mod Rows
 pub mod Times
 pub mod Vectors
 pub mod Waits

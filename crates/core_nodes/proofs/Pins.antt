@@ -1,5 +1,5 @@
 -- The pins of a memory, and those of the sessions by the past.
-use Rattle.std.proofs.Common.{◌≡◌, ◌≢◌, ℕ, ◌<◌, Bool, true, false, cond, not, ◌&&◌, ◌||◌, Option, Some, None, List, [], ◌∷◌, is_some, refl, sym, ap, subst, ◌∙◌, arith}
+use Rattle.std.proofs.Common.{◌≡◌, ◌↔◌, ℕ, ◌<◌, Bool, true, false, cond, not, ◌&&◌, ◌||◌, Option, Some, None, List, [], ◌∷◌, is_some, refl, sym, ap, subst, ◌∙◌, arith}
 use Rattle.std.specs.Prelude.{◌==◌, slice_get, unwrap_or}
 use Rattle.std.specs.BTreeMap.{is_at, insert_entry}
 use Rattle.std.specs.List.{AllByRecursion}
@@ -25,7 +25,7 @@ use Rattle.oak_machine.specs.Sessions.{base_of, has_left, has_login}
 use Rattle.oak_node.specs.Memory.{NodeState}
 use Rattle.oak_node.specs.Pins.{pin_of, pin_now, with_pin, without_pin}
 use Rattle.core_heads.proofs.Orders.{not_both, same_itself, same_number}
-use Rattle.core_nodes.specs.Nodes.{ArePinsOf, IsMemoryOf, is_of_node, leaves_pins, moved_pin, session_pin}
+use Rattle.core_nodes.specs.Nodes.{ArePinsOf, IsMemoryOf, IsPinned, is_of_node, leaves_pins, moved_pin, session_pin}
 use Rattle.core_nodes.proofs.Pasts.{not_true}
 
 -- ---- entries by their numbers
@@ -193,3 +193,49 @@ module _ (clusters : ℕ) (past : Past) where
 -- the pin at the head
 pub now_is : (clusters : ℕ) (past : Past) (k : ℕ) (s : NodeState) → IsMemoryOf clusters past k s → (v : RevVec) → v ≡ Rattle.oak_machine.specs.Heads.head_of clusters past k → pin_now s ≡ record { base = v; sweep = start clusters }
 now_is clusters past k s is v head = ap (λ (w : RevVec). record { base = w; sweep = s.sweep }) (is.head ∙ sym head) ∙ ap (λ (w : RevVec). record { base = v; sweep = w }) is.sweep
+
+-- ---- who is pinned
+
+module _ (clusters : ℕ) (sessions : List ℕ) (past : Past) (k : ℕ) (s : NodeState) (are : ArePinsOf clusters sessions past k s) (owner : ℕ) (pin : Pin) where
+  abbrev at_base : RevVec → Pin
+  at_base v = record { base = v; sweep = start clusters }
+
+  pinned : pin_of s owner ≡ Some pin → IsPinned clusters sessions past k owner pin
+  pinned h = by (slice_get sessions owner) refl (has_login past owner) refl (has_left past owner) refl (base_of past owner) refl (sym (are owner) ∙ h)
+    where
+      at : (m : ℕ) (v : RevVec) → slice_get sessions owner ≡ Some m → has_login past owner ≡ true → has_left past owner ≡ false → base_of past owner ≡ Some v → (c : Bool) → (m == k) ≡ c → cond c (Some (at_base v)) None ≡ Some pin → IsPinned clusters sessions past k owner pin
+      at m v of login stays base true same h =
+          let it : at_base v ≡ pin = ap (λ o. unwrap_or o pin) h in
+          record {
+            node = of ∙ ap Some (same_number m k same);
+            login = login;
+            stays = stays;
+            base = base ∙ ap (λ (p : Pin). Some p.base) it;
+            sweep = sym (ap (λ (p : Pin). p.sweep) it);
+          }
+      at m v of login stays base false same h = absurd (false≢true (ap is_some h))
+
+      none : (c : Bool) → cond {A = Option Pin} c None None ≡ Some pin → ⊥
+      none true h = false≢true (ap is_some h)
+      none false h = false≢true (ap is_some h)
+
+      by : (o : Option ℕ) → slice_get sessions owner ≡ o → (a : Bool) → has_login past owner ≡ a → (b : Bool) → has_left past owner ≡ b → (w : Option RevVec) → base_of past owner ≡ w → cond (option_map_or (λ m. m == k) o false) (cond (a && not b) (option_map at_base w) None) None ≡ Some pin → IsPinned clusters sessions past k owner pin
+      by None of a login b left w base h = absurd (false≢true (ap is_some h))
+      by (Some m) of false login b left w base h = absurd (none (m == k) h)
+      by (Some m) of true login true left w base h = absurd (none (m == k) h)
+      by (Some m) of true login false left None base h = absurd (none (m == k) h)
+      by (Some m) of true login false left (Some v) base h = at m v of login left base (m == k) refl h
+
+  has_pin : IsPinned clusters sessions past k owner pin → pin_of s owner ≡ Some pin
+  has_pin p =
+      are owner
+      ∙ (ap (λ o. cond (option_map_or (λ m. m == k) o false) (session_pin clusters past owner) None) p.node
+      ∙ (ap (λ b. cond b (session_pin clusters past owner) None) (same_itself k)
+      ∙ (ap (λ a. cond (a && not (has_left past owner)) (option_map at_base (base_of past owner)) None) p.login
+      ∙ (ap (λ b. cond (not b) (option_map at_base (base_of past owner)) None) p.stays
+      ∙ (ap (option_map at_base) p.base
+      ∙ ap (λ (w : RevVec). Some (record { base = pin.base; sweep = w })) (sym p.sweep))))))
+
+  -- the pins are those of the sessions that have come and not left, at their bases
+  pub pinned_is : (pin_of s owner ≡ Some pin) ↔ IsPinned clusters sessions past k owner pin
+  pinned_is = (pinned, has_pin)

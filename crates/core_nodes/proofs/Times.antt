@@ -115,6 +115,9 @@ module _ (clusters : ℕ) (sessions : List ℕ) (nodes : AreNodes clusters sessi
         let l = is.last in
         omega arith
 
--- and there are no more draws than events
-pub draws_most : (past : Past) → draws_made past ≤ length past
-draws_most past = count_by-le-length is_draw past
+    -- nor one that is greater than the number of events
+    pub known_events : (past : Past) → IsRunOf starts says clusters sessions past → (k : ℕ) (s : NodeState) → IsNode clusters k → IsMemoryOf clusters past k s → known_time s ≤ length past
+    known_events past run k s node is =
+        let a = known_most past run k s node is in
+        let b : draws_made past ≤ length past = count_by-le-length is_draw past in
+        omega arith

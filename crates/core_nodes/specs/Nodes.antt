@@ -1,5 +1,5 @@
 -- What the memories of the cluster nodes are by the journal.
-use Rattle.std.specs.Prelude.{◌≡◌, ℕ, Bool, true, false, cond, not, ◌&&◌, ◌==◌, List, map, filter, reverse, slice_get, Option, None, Some, IsTrue}
+use Rattle.std.specs.Prelude.{◌≡◌, ℕ, Bool, true, false, cond, not, ◌&&◌, ◌==◌, List, map, filter, reverse, slice_get, Option, None, Some, IsTrue, IsFalse}
 use Rattle.std.specs.List.{count_by}
 use Rattle.std.specs.Option.{option_map, option_map_or}
 use Rattle.jr_rev.specs.declared.revision.Revision.{Revision}
@@ -92,6 +92,14 @@ session_pin clusters past s = cond (has_login past s && not (has_left past s)) (
 -- the pins of the memory of cluster node k are those of its sessions by the past
 abbrev pub ArePinsOf : ℕ → List ℕ → Past → ℕ → NodeState → Type 0
 ArePinsOf clusters sessions past k s = (owner : ℕ) → pin_of s owner ≡ cond (is_of_node sessions k owner) (session_pin clusters past owner) None
+
+-- the session is of cluster node k, has come and not left, and this pin is at its base
+pub record IsPinned (clusters : ℕ) (sessions : List ℕ) (past : Past) (k s : ℕ) (pin : Pin) : Type 0 where
+  pub node : slice_get sessions s ≡ Some k
+  pub login : IsTrue (has_login past s)
+  pub stays : IsFalse (has_left past s)
+  pub base : base_of past s ≡ Some pin.base
+  pub sweep : pin.sweep ≡ start clusters
 
 -- the session whose pin the event moves
 abbrev pub moved_pin : Event → Option ℕ

@@ -20,8 +20,8 @@ ghost use Rattle.oak_node.specs.declared.memory.Awaits.{Awaits};
 ghost use Rattle.oak_node.specs.Heads.{HasEnded, IsAwaited, IsInFlight, finished, known_time, next_draw, with_draw};
 ghost use Rattle.oak_node.specs.Memory.{NodeState, begun, own_entry};
 ghost use Rattle.oak_node.specs.Notes.{with_note, without_seen};
-ghost use Rattle.oak_node.specs.Pins.{pin_now, with_pin, without_pin};
-ghost use Rattle.core_nodes.specs.Nodes.{ArePinsOf, IsAboveOf, IsAwaitedAt, IsMemoryOf, draws_made, leaves_memory, leaves_pins};
+ghost use Rattle.oak_node.specs.Pins.{pin_now, pin_of, with_pin, without_pin};
+ghost use Rattle.core_nodes.specs.Nodes.{ArePinsOf, IsAboveOf, IsAwaitedAt, IsMemoryOf, IsPinned, draws_made, leaves_memory, leaves_pins};
 
 use oak_machine::Law;
 
@@ -43,10 +43,12 @@ pub fn memories_follow_the_journal<L: Law>(law: &L)
     ensures unpinned { (clusters : ℕ) (past : Past) (k : ℕ) (s : NodeState) (owner : ℕ) → IsMemoryOf clusters past k s → IsMemoryOf clusters past k (without_pin s owner) }
 {}
 
-/// The pins of a cluster node are those of its sessions: a login, and a refresh of a session that hasn't left, pin the
-/// session at the head, and its end unpins it. Other events, draws, ends and notes leave the pins.
+/// The pins of a cluster node are those of its sessions that have come and not left, each at its base. A login, and a
+/// refresh of a session that hasn't left, pin the session at the head, and its end unpins it. Events that move no base
+/// of the node's sessions leave the pins; so do draws, ends and notes.
 pub fn pins_follow_the_journal<L: Law>(law: &L)
     ensures begun { (clusters : ℕ) (sessions : List ℕ) (k : ℕ) → ArePinsOf clusters sessions [] k (begun k (start clusters)) }
+    ensures pinned { (clusters : ℕ) (sessions : List ℕ) (past : Past) (k : ℕ) (s : NodeState) (owner : ℕ) (pin : Pin) → ArePinsOf clusters sessions past k s → (pin_of s owner ≡ Some pin) ↔ IsPinned clusters sessions past k owner pin }
     ensures login { (clusters : ℕ) (sessions : List ℕ) (past : Past) (k : ℕ) (s : NodeState) (session : ℕ) (v : RevVec) → AreNodes clusters sessions → IsRunOf (L.may_start law.now) (L.may_say law.now) clusters sessions (event.Login session v ∷ past) → slice_get sessions session ≡ Some k → IsMemoryOf clusters past k s → ArePinsOf clusters sessions past k s → ArePinsOf clusters sessions (event.Login session v ∷ past) k (with_pin s session (pin_now s)) }
     ensures refresh { (clusters : ℕ) (sessions : List ℕ) (past : Past) (k : ℕ) (s : NodeState) (session : ℕ) (v : RevVec) → AreNodes clusters sessions → IsRunOf (L.may_start law.now) (L.may_say law.now) clusters sessions (event.Refresh session v ∷ past) → slice_get sessions session ≡ Some k → IsFalse (has_left past session) → IsMemoryOf clusters past k s → ArePinsOf clusters sessions past k s → ArePinsOf clusters sessions (event.Refresh session v ∷ past) k (with_pin s session (pin_now s)) }
     ensures left { (clusters : ℕ) (sessions : List ℕ) (past : Past) (k : ℕ) (s : NodeState) (session : ℕ) → IsMemoryOf clusters past k s → ArePinsOf clusters sessions past k s → ArePinsOf clusters sessions (event.Went session kind.End ∷ past) k (without_pin s session) }
@@ -66,8 +68,8 @@ pub fn waiting_follows_the_journal<L: Law>(law: &L)
     ensures awaited { (clusters : ℕ) (sessions : List ℕ) (past : Past) (k : ℕ) (s : NodeState) (r : Revision) (answer : Awaits) → AreNodes clusters sessions → IsRunOf (L.may_start law.now) (L.may_say law.now) clusters sessions past → IsNode clusters k → IsMemoryOf clusters past k s → IsAwaited s r answer ↔ IsAwaitedAt clusters past k r answer }
 {}
 
-/// No cluster node knows a time that is greater than the number of draws, so of events.
+/// No cluster node knows a time that is greater than the number of draws so far, nor than that of events.
 pub fn times_are_counted<L: Law>(law: &L)
     ensures draws { (clusters : ℕ) (sessions : List ℕ) (past : Past) (k : ℕ) (s : NodeState) → AreNodes clusters sessions → IsRunOf (L.may_start law.now) (L.may_say law.now) clusters sessions past → IsNode clusters k → IsMemoryOf clusters past k s → known_time s ≤ draws_made past }
-    ensures events { (past : Past) → draws_made past ≤ length past }
+    ensures events { (clusters : ℕ) (sessions : List ℕ) (past : Past) (k : ℕ) (s : NodeState) → AreNodes clusters sessions → IsRunOf (L.may_start law.now) (L.may_say law.now) clusters sessions past → IsNode clusters k → IsMemoryOf clusters past k s → known_time s ≤ length past }
 {}

@@ -1,10 +1,13 @@
 -- By the events of a run.
 use Rattle.core_nodes.proofs.pins_follow_the_journal.Goals as goal
 use Rattle.core_nodes.proofs.Events.{begun_pins, leave_run, login_run, refresh_run}
-use Rattle.core_nodes.proofs.Pins.{pins_kept}
+use Rattle.core_nodes.proofs.Pins.{pinned_is, pins_kept}
 
 pub returns-clause-begun : goal.returns-clause-begun
 returns-clause-begun g c = begun_pins
+
+pub returns-clause-pinned : goal.returns-clause-pinned
+returns-clause-pinned g c = λ clusters sessions past k s owner pin are. pinned_is clusters sessions past k s are owner pin
 
 pub returns-clause-login : goal.returns-clause-login
 returns-clause-login g c = λ clusters sessions past k s session v nodes run of is are. login_run (g.L.Law.may_start c.args.law.now) (g.L.Law.may_say c.args.law.now) clusters sessions nodes past k s is are session v run of
