@@ -18,7 +18,7 @@ pub mod Readers
 pub mod Lives
 pub mod Commits
 pub mod Draws
-pub mod Reads
+pub mod Loads
 pub mod Begins
 pub mod Begun
 pub mod Others

@@ -25,16 +25,16 @@ use Rattle.core_world.proofs.Flights.{same_number}
 -- ---- a pin of a session
 
 -- the session has logged in and hasn't left, and the pin is at its base
-pub record IsPinned (clusters : ℕ) (past : Past) (s : ℕ) (pin : Pin) : Type 0 where
+pub record HasPin (clusters : ℕ) (past : Past) (s : ℕ) (pin : Pin) : Type 0 where
   pub login : has_login past s ≡ true
   pub stays : has_left past s ≡ false
   pub base : base_of past s ≡ Some pin.base
   pub sweep : pin.sweep ≡ start clusters
 
-pub pinned_is : (clusters : ℕ) (past : Past) (s : ℕ) (pin : Pin) → session_pin clusters past s ≡ Some pin → IsPinned clusters past s pin
+pub pinned_is : (clusters : ℕ) (past : Past) (s : ℕ) (pin : Pin) → session_pin clusters past s ≡ Some pin → HasPin clusters past s pin
 pinned_is clusters past s pin h = by (has_login past s) (has_left past s) (base_of past s) refl refl refl h
   where
-    by : (a b : Bool) (o : Option RevVec) → has_login past s ≡ a → has_left past s ≡ b → base_of past s ≡ o → cond (a && not b) (option_map (λ v. record { base = v; sweep = start clusters }) o) None ≡ Some pin → IsPinned clusters past s pin
+    by : (a b : Bool) (o : Option RevVec) → has_login past s ≡ a → has_left past s ≡ b → base_of past s ≡ o → cond (a && not b) (option_map (λ v. record { base = v; sweep = start clusters }) o) None ≡ Some pin → HasPin clusters past s pin
     by false b o l m n k = absurd (false≢true (ap is_some k))
     by true true o l m n k = absurd (false≢true (ap is_some k))
     by true false None l m n k = absurd (false≢true (ap is_some k))

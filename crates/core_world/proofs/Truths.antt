@@ -37,14 +37,14 @@ use Rattle.core_world.specs.Kept.{IsFreeOf, IsKept}
 use Rattle.core_world.specs.States.{State, core_in, memory_at, memory_of, nodes_in}
 use Rattle.core_world.proofs.Draws.{its_pin}
 use Rattle.core_world.proofs.Lives.{told}
-use Rattle.core_world.proofs.Reads.{start_in_use}
-use Rattle.core_world.proofs.Readers.{IsPinned, pinned_is}
+use Rattle.core_world.proofs.Loads.{start_in_use}
+use Rattle.core_world.proofs.Readers.{HasPin, pinned_is}
 
 module _ (starts : Starts) (says : Says) (proper : StartsProper starts) (w : State) (kept : IsKept starts says w) where
   -- ---- pins
 
   module _ (s : ℕ) (there : is_some (slice_get w.sessions s) ≡ true) (pin : Pin) (has_pin : pin_of (memory_of w s) s ≡ Some pin) where
-    pinned : IsPinned w.clusters w.past s pin
+    pinned : HasPin w.clusters w.past s pin
     pinned = pinned_is w.clusters w.past s pin (sym (its_pin starts says proper w kept s there) ∙ has_pin)
 
     held : IsHeld w.past pin.base

@@ -1,6 +1,6 @@
 -- By what a world keeps.
 use Rattle.core_world.proofs.pins_show_the_tree.Goals as goal
-use Rattle.core_world.proofs.Reads.{children_given, node_given}
+use Rattle.core_world.proofs.Loads.{children_given, node_given}
 use Rattle.core_world.proofs.Truths.{pin_closed, pin_settled, pin_shows, time_known}
 
 pub returns-clause-settled : goal.returns-clause-settled

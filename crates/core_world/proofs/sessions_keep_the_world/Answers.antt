@@ -2,7 +2,7 @@
 use Rattle.core_world.proofs.sessions_keep_the_world.Goals as goal
 use Rattle.core_world.proofs.Begun.{start_kept}
 use Rattle.core_world.proofs.Lives.{leave_keeps, login_keeps, refresh_keeps, said_keeps, went_keeps}
-use Rattle.core_world.proofs.Reads.{gone_keeps, list_keeps, load_keeps, read_keeps}
+use Rattle.core_world.proofs.Loads.{gone_keeps, list_keeps, load_keeps, read_keeps}
 
 pub returns-clause-start : goal.returns-clause-start
 returns-clause-start g c = λ clusters sessions nodes. start_kept (g.L.Law.may_start c.args.law.now) (g.L.Law.may_say c.args.law.now) clusters sessions nodes
