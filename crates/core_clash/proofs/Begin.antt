@@ -1,9 +1,9 @@
 -- A draw that may follow a run may begin.
-use Rattle.std.proofs.Common.{◌≡◌, ◌⊎◌, inl, inr, ℕ, Bool, true, false, List, [], ◌∷◌, ◌++◌, refl, sym, ap, subst, ◌∙◌, fold}
-use Rattle.std.specs.List.{filter, flat_map}
+use Rattle.std.proofs.Common.{◌≡◌, ◌⊎◌, inl, inr, ℕ, true, false, List, [], ◌∷◌, ◌++◌, refl, sym, ap, subst, ◌∙◌, fold}
+use Rattle.std.specs.List.{flat_map}
 use Rattle.std.specs.Map.{keys_of}
 use Rattle.std.specs.BTreeMap.{insert_entry}
-use Rattle.std.specs.Ordering.{is_eq, match_ordering, ordering_then}
+use Rattle.std.specs.Ordering.{is_eq, ordering_then}
 use Rattle.std.specs.declared.cmp.Ordering.{Ordering}
 use Rattle.std.specs.declared.cmp.Ordering.TheVariants.{Less, Equal, Greater}
 use mathlib.Core.Bool.{false≢true}
@@ -85,11 +85,11 @@ with_from k (m ∷ ms) es h = by (with_from k ms (insert_entry mark_at_cmp es m 
 writes_to : (k : MarkAt) (ws : List Write) (es : Marked) → In k (flat_map marks_of_write ws) ⊎ In k (keys_of es) → In k (keys_of (fold (λ es w. with_marks es (marks_of_write w)) es ws))
 writes_to k [] es (inl h) = absurd h
 writes_to k [] es (inr h) = h
-writes_to k (w ∷ ws) es (inl h) = by (In-append k (marks_of_write w) (flat_map marks_of_write ws) h)
+writes_to k (w ∷ ws) es (inl h) = writes_to k ws (with_marks es (marks_of_write w)) (by (In-append k (marks_of_write w) (flat_map marks_of_write ws) h))
   where
-    by : In k (marks_of_write w) ⊎ In k (flat_map marks_of_write ws) → In k (keys_of (fold (λ es w. with_marks es (marks_of_write w)) (with_marks es (marks_of_write w)) ws))
-    by (inl i) = writes_to k ws (with_marks es (marks_of_write w)) (inr (with_to k (marks_of_write w) es (inl i)))
-    by (inr i) = writes_to k ws (with_marks es (marks_of_write w)) (inl i)
+    by : In k (marks_of_write w) ⊎ In k (flat_map marks_of_write ws) → In k (flat_map marks_of_write ws) ⊎ In k (keys_of (with_marks es (marks_of_write w)))
+    by (inl i) = inr (with_to k (marks_of_write w) es (inl i))
+    by (inr i) = inl i
 writes_to k (w ∷ ws) es (inr h) = writes_to k ws (with_marks es (marks_of_write w)) (inr (with_to k (marks_of_write w) es (inr h)))
 
 writes_from : (k : MarkAt) (ws : List Write) (es : Marked) → In k (keys_of (fold (λ es w. with_marks es (marks_of_write w)) es ws)) → In k (flat_map marks_of_write ws) ⊎ In k (keys_of es)

@@ -4,12 +4,10 @@ use Rattle.std.specs.List.{flat_map}
 use Rattle.std.specs.Option.{option_map_or}
 use Rattle.std.specs.Ordering.{eq_by_cmp}
 use mathlib.Core.Bool.{false≢true}
-use Rattle.std.proofs.lemmas.Cmp.{nat_list_cmp_total}
 use Rattle.std.specs.FinMap.{is_sorted}
 use Rattle.jr_path.specs.Names.{name_cmp, path_cmp, parent_of}
 use Rattle.jr_path.specs.declared.name.Name.{Name}
 use Rattle.jr_path.specs.declared.path.Path.{Path}
-use Rattle.jr_path.specs.declared.path.DocId.TheVariants as id
 use Rattle.jr_path.proofs.Maps.{lookup-insert_entry}
 use Rattle.jr_value.specs.declared.value.Property.{Property}
 use Rattle.jr_rev.specs.declared.revision.Revision.{Revision}
@@ -28,7 +26,7 @@ use Rattle.oak_doc.specs.Updates.{of_revision, with_revision, values_of_property
 use Rattle.oak_machine.specs.Laws.{is_of_item, is_of_item_mark}
 use Rattle.oak_machine.specs.Marks.{marks_of_write}
 use Rattle.oak_commit.specs.Writing.{entry_of, entries_at, rooting, marking_of, markings_at, write_op}
-use Rattle.oak_commit.specs.Clashing.{has, has_mark, noted, collision}
+use Rattle.oak_commit.specs.Clashing.{has, has_mark}
 use Rattle.core_read.proofs.Updates.{own_with, values_with, some_not_empty, sorted_with}
 use Rattle.core_clash.specs.Views.{In, mark_at, NamesItems, AreOrdered}
 use Rattle.core_clash.specs.Core.{is_path}
@@ -336,11 +334,11 @@ module _ (r : Revision) (p : Path) where
 
 left_first : (m : Mark) (cs ds : List Change) → In m (flat_map left_by cs) → In m (flat_map left_by (cs ++ ds))
 left_first m [] ds h = absurd h
-left_first m (c ∷ cs) ds h = by (In-append m (left_by c) (flat_map left_by cs) h)
+left_first m (c ∷ cs) ds h = by (λ k. left_first m cs ds k) (In-append m (left_by c) (flat_map left_by cs) h)
   where
-    by : In m (left_by c) ⊎ In m (flat_map left_by cs) → In m (left_by c ++ flat_map left_by (cs ++ ds))
-    by (inl k) = In-left m (left_by c) _ k
-    by (inr k) = In-right m (left_by c) _ (left_first m cs ds k)
+    by : (In m (flat_map left_by cs) → In m (flat_map left_by (cs ++ ds))) → In m (left_by c) ⊎ In m (flat_map left_by cs) → In m (left_by c ++ flat_map left_by (cs ++ ds))
+    by rest (inl k) = In-left m (left_by c) (flat_map left_by (cs ++ ds)) k
+    by rest (inr k) = In-right m (left_by c) (flat_map left_by (cs ++ ds)) (rest k)
 
 left_second : (m : Mark) (cs ds : List Change) → In m (flat_map left_by ds) → In m (flat_map left_by (cs ++ ds))
 left_second m [] ds h = h
@@ -348,15 +346,15 @@ left_second m (c ∷ cs) ds h = In-right m (left_by c) _ (left_second m cs ds h)
 
 left_either : (m : Mark) (cs ds : List Change) → In m (flat_map left_by (cs ++ ds)) → In m (flat_map left_by cs) ⊎ In m (flat_map left_by ds)
 left_either m [] ds h = inr h
-left_either m (c ∷ cs) ds h = by (In-append m (left_by c) (flat_map left_by (cs ++ ds)) h)
+left_either m (c ∷ cs) ds h = by (λ k. left_either m cs ds k) (In-append m (left_by c) (flat_map left_by (cs ++ ds)) h)
   where
     more : In m (flat_map left_by cs) ⊎ In m (flat_map left_by ds) → In m (left_by c ++ flat_map left_by cs) ⊎ In m (flat_map left_by ds)
-    more (inl k) = inl (In-right m (left_by c) _ k)
+    more (inl k) = inl (In-right m (left_by c) (flat_map left_by cs) k)
     more (inr k) = inr k
 
-    by : In m (left_by c) ⊎ In m (flat_map left_by (cs ++ ds)) → In m (left_by c ++ flat_map left_by cs) ⊎ In m (flat_map left_by ds)
-    by (inl k) = inl (In-left m (left_by c) _ k)
-    by (inr k) = more (left_either m cs ds k)
+    by : (In m (flat_map left_by (cs ++ ds)) → In m (flat_map left_by cs) ⊎ In m (flat_map left_by ds)) → In m (left_by c) ⊎ In m (flat_map left_by (cs ++ ds)) → In m (left_by c ++ flat_map left_by cs) ⊎ In m (flat_map left_by ds)
+    by rest (inl k) = inl (In-left m (left_by c) (flat_map left_by cs) k)
+    by rest (inr k) = more (rest k)
 
 -- the marks of items that a write has at p
 module _ (r : Revision) (p : Path) where
@@ -411,22 +409,22 @@ module _ (r : Revision) (p : Path) where
 
   entries_to : (m : Mark) (ws : List Write) → is_of_item_mark m ≡ true → In (mark_at p m) (flat_map marks_of_write ws) → In m (flat_map left_by (entries_at r p ws))
   entries_to m [] item h = absurd h
-  entries_to m (w ∷ ws) item h = by (In-append (mark_at p m) (marks_of_write w) (flat_map marks_of_write ws) h)
+  entries_to m (w ∷ ws) item h = by (λ k. entries_to m ws item k) (In-append (mark_at p m) (marks_of_write w) (flat_map marks_of_write ws) h)
     where
-      by : In (mark_at p m) (marks_of_write w) ⊎ In (mark_at p m) (flat_map marks_of_write ws) → In m (flat_map left_by (entry_of r p w ++ entries_at r p ws))
-      by (inl k) = left_first m (entry_of r p w) (entries_at r p ws) (entry_to m w item k)
-      by (inr k) = left_second m (entry_of r p w) (entries_at r p ws) (entries_to m ws item k)
+      by : (In (mark_at p m) (flat_map marks_of_write ws) → In m (flat_map left_by (entries_at r p ws))) → In (mark_at p m) (marks_of_write w) ⊎ In (mark_at p m) (flat_map marks_of_write ws) → In m (flat_map left_by (entry_of r p w ++ entries_at r p ws))
+      by rest (inl k) = left_first m (entry_of r p w) (entries_at r p ws) (entry_to m w item k)
+      by rest (inr k) = left_second m (entry_of r p w) (entries_at r p ws) (rest k)
 
   entries_from : (m : Mark) (ws : List Write) → In m (flat_map left_by (entries_at r p ws)) → (is_of_item_mark m ≡ true) × In (mark_at p m) (flat_map marks_of_write ws)
   entries_from m [] h = absurd h
-  entries_from m (w ∷ ws) h = by (left_either m (entry_of r p w) (entries_at r p ws) h)
+  entries_from m (w ∷ ws) h = by (λ k. entries_from m ws k) (left_either m (entry_of r p w) (entries_at r p ws) h)
     where
       more : (is_of_item_mark m ≡ true) × In (mark_at p m) (flat_map marks_of_write ws) → (is_of_item_mark m ≡ true) × In (mark_at p m) (marks_of_write w ++ flat_map marks_of_write ws)
-      more k = (k.0, In-right (mark_at p m) (marks_of_write w) _ k.1)
+      more k = (k.0, In-right (mark_at p m) (marks_of_write w) (flat_map marks_of_write ws) k.1)
 
-      by : In m (flat_map left_by (entry_of r p w)) ⊎ In m (flat_map left_by (entries_at r p ws)) → (is_of_item_mark m ≡ true) × In (mark_at p m) (marks_of_write w ++ flat_map marks_of_write ws)
-      by (inl k) = (entry_item m w k, In-left (mark_at p m) (marks_of_write w) _ (entry_from m w k))
-      by (inr k) = more (entries_from m ws k)
+      by : (In m (flat_map left_by (entries_at r p ws)) → (is_of_item_mark m ≡ true) × In (mark_at p m) (flat_map marks_of_write ws)) → In m (flat_map left_by (entry_of r p w)) ⊎ In m (flat_map left_by (entries_at r p ws)) → (is_of_item_mark m ≡ true) × In (mark_at p m) (marks_of_write w ++ flat_map marks_of_write ws)
+      by rest (inl k) = (entry_item m w k, In-left (mark_at p m) (marks_of_write w) (flat_map marks_of_write ws) (entry_from m w k))
+      by rest (inr k) = more (rest k)
 
   -- a mark of no item is noted as it is
   marking_to : (m k : Mark) → is_of_item_mark m ≡ false → m ≡ k → In m (flat_map left_by (marking_of r k))
@@ -450,11 +448,11 @@ module _ (r : Revision) (p : Path) where
 
   markings_from : (m : Mark) (ks : List Mark) → In m (flat_map left_by (flat_map (marking_of r) ks)) → In m ks
   markings_from m [] h = absurd h
-  markings_from m (k ∷ ks) h = by (left_either m (marking_of r k) (flat_map (marking_of r) ks) h)
+  markings_from m (k ∷ ks) h = by (λ i. markings_from m ks i) (left_either m (marking_of r k) (flat_map (marking_of r) ks) h)
     where
-      by : In m (flat_map left_by (marking_of r k)) ⊎ In m (flat_map left_by (flat_map (marking_of r) ks)) → In m (k ∷ ks)
-      by (inl i) = inl (marking_from m k i)
-      by (inr i) = inr (markings_from m ks i)
+      by : (In m (flat_map left_by (flat_map (marking_of r) ks)) → In m ks) → In m (flat_map left_by (marking_of r k)) ⊎ In m (flat_map left_by (flat_map (marking_of r) ks)) → In m (k ∷ ks)
+      by rest (inl i) = inl (marking_from m k i)
+      by rest (inr i) = inr (rest i)
 
   root_none : (m : Mark) (root : Path) → In m (flat_map left_by (rooting r p root)) → ⊥
   root_none m root h = by (eq_by_cmp path_cmp p root) h

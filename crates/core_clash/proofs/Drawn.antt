@@ -12,12 +12,12 @@ use Rattle.oak_machine.specs.declared.event.Draw.{Draw}
 use Rattle.oak_machine.specs.declared.event.Event.TheVariants as event
 use Rattle.oak_machine.specs.Commits.{draw_of, marks_of, is_drawn, is_refused, is_in_flight, is_in_base}
 use Rattle.oak_commit.specs.Clashing.{Met, marked, collision, Writer}
-use Rattle.core_clash.specs.Views.{In, Once, mark_at}
+use Rattle.core_clash.specs.Views.{In, Once, mark_at, NamesItems}
 use Rattle.core_clash.specs.Core.{Core}
-use Rattle.core_clash.specs.Sound.{Sound, IsListed, Noticed, Stands, IsOf}
+use Rattle.core_clash.specs.Sound.{Sound, IsListed, Noticed, Stands, IsOf, IsRooted, IsWriterOf}
 use Rattle.core_clash.specs.Core.{Core, root_of, MayBegin, after_draw}
 use Rattle.core_clash.specs.Sound.{Sound, IsListed, Noticed, Stands, IsOf, IsDue, Cause}
-use Rattle.core_clash.proofs.Basics.{not_both, decide, is_same_self, at_writer, writer_mine, writer_other}
+use Rattle.core_clash.proofs.Basics.{not_both, decide, is_same_self, at_writer, writer_mine, writer_other, some_is}
 use Rattle.core_clash.proofs.Pasts.{cause_later, refusal_later, due_later, live_drawn, marks_drawn, still_drawn}
 
 module _ (s : Core) (d : Draw) (left : List Path) where
@@ -99,7 +99,7 @@ module _ (s : Core) (d : Draw) (left : List Path) where
 
     unrooted : (o : Revision) (q : Path) → IsWriterOf s q o → IsWriterOf t q o
     unrooted o q (inl e) = inl e
-    unrooted o q (inr h) = (subst (λ (v : Writer). In q v.written) (sym (writer_other s.writers r w o (old o h.1))) h.0, still o h.1)
+    unrooted o q (inr h) = inr (subst (λ (v : Writer). In q v.written) (sym (writer_other s.writers r w o (old o h.1))) h.0, still o h.1)
 
     once : (o : Revision) → Once ((t.writers o).written ++ (t.writers o).left)
     once o = at_writer (λ x v. Once (v.written ++ v.left)) s.writers r w o may.once (λ f. sound.once o)

@@ -11,7 +11,7 @@ use Rattle.oak_machine.specs.Commits.{is_committed, is_refused, is_ended, is_in_
 use Rattle.oak_commit.specs.Clashing.{Met, noted, collision, Writer}
 use Rattle.core_clash.specs.Views.{In}
 use Rattle.core_clash.specs.Core.{Core, Docs, with_writer, root_of, IsDone, MayMark}
-use Rattle.core_clash.specs.Sound.{Sound, IsListed, Noticed, Stands, IsWhole, IsOf, IsDue, Cause}
+use Rattle.core_clash.specs.Sound.{Sound, IsListed, Noticed, Stands, IsWhole, IsOf, IsDue, Cause, IsWriterOf}
 use Rattle.core_clash.proofs.Basics.{test, not_both, at_writer, or_right, some_of}
 use Rattle.core_clash.proofs.Pasts.{cause_later, refusal_later, due_later, live_now, in_flight}
 use Rattle.core_clash.proofs.Effects.{Marks}

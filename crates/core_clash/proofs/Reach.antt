@@ -14,6 +14,7 @@ use Rattle.oak_machine.specs.declared.event.Event.{Event}
 use Rattle.oak_machine.specs.declared.event.Event.TheVariants as event
 use Rattle.oak_commit.specs.Writing.{last_op}
 use Rattle.oak_commit.specs.Clashing.{Met, noted, collision, mark_op}
+use Rattle.oak_machine.specs.Commits.{marks_of}
 use Rattle.core_clash.specs.Core.{Core, Docs, root_of, MayMark, MayLast, after_mark, after_last, marked_by, lasted_by, after_event, is_quiet}
 use Rattle.core_clash.specs.Sound.{Sound}
 use Rattle.core_clash.specs.Steps.{Step, draw, write, mark, last, want, undo, finish, other, IsStart, at_start, Reached, begun, more, EndsWell}

@@ -13,7 +13,7 @@ use Rattle.oak_machine.specs.Commits.{is_drawn, is_committed, is_refused, is_end
 use Rattle.oak_commit.specs.Clashing.{Met, Writer}
 use Rattle.core_clash.specs.Views.{In}
 use Rattle.core_clash.specs.Core.{Core, undoing_from, refusing, IsGoing}
-use Rattle.core_clash.specs.Sound.{Sound, IsListed, HasCause, Noticed, Stands, IsWhole, IsOf, IsDue, Cause}
+use Rattle.core_clash.specs.Sound.{Sound, IsListed, HasCause, Noticed, Stands, IsWhole, IsOf, IsDue, Cause, IsWriterOf}
 use Rattle.core_clash.proofs.Basics.{is_same_self, not_both, decide, same_revision, at_writer, writer_mine, writer_other, or_left, or_right, or_cases}
 use Rattle.core_clash.proofs.Pasts.{cause_later, refusal_later, due_later}
 

@@ -20,7 +20,7 @@ use Rattle.oak_commit.specs.Writing.{write_op, last_op}
 use Rattle.oak_commit.specs.Clashing.{Met, marked, noted, collision, found, mark_op}
 use Rattle.core_clash.specs.Views.{In, mark_at}
 use Rattle.core_clash.specs.Core.{Core, docs_after, with_document, with_writer, root_of, IsGoing, IsDone, MayWrite, MayMark, MayLast, after_write, after_mark, after_last, marked_by, lasted_by}
-use Rattle.core_clash.specs.Sound.{Sound, Cause, Noticed, Stands, IsOf}
+use Rattle.core_clash.specs.Sound.{Sound, Cause, Noticed, Stands, IsOf, IsRooted}
 use Rattle.core_clash.proofs.Basics.{test, not_both, none_in}
 use Rattle.core_clash.proofs.Pasts.{in_flight}
 use Rattle.core_clash.proofs.Apart.{clash_from, apart_at_last}

@@ -1,5 +1,5 @@
 -- The undoing of a document leaves no entry of its revision, and each of others.
-use Rattle.std.proofs.Common.{◌≡◌, ℕ, Bool, true, false, cond, not, nat_eq, length, ◌⊎◌, inl, inr, Some, None, Option, List, [], ◌∷◌, refl, sym, ap, subst, ◌∙◌, is_some}
+use Rattle.std.proofs.Common.{◌≡◌, ℕ, true, false, cond, not, nat_eq, length, ◌⊎◌, inl, inr, Some, None, Option, List, [], ◌∷◌, refl, sym, ap, subst, ◌∙◌, is_some}
 use mathlib.Core.Bool.{false≢true}
 use Rattle.std.specs.FinMap.{is_sorted}
 use Rattle.std.specs.FinMap.Entries.{below_all}
@@ -13,7 +13,7 @@ use Rattle.jr_rev.specs.Revisions.{is_same}
 use Rattle.oak_clash.specs.declared.mark.Mark.{Mark}
 use Rattle.oak_clash.specs.declared.mark.Mark.TheVariants.{Exists, Guard, Touch, Prop}
 use Rattle.oak_doc.specs.declared.document.Document.{Document}
-use Rattle.oak_doc.specs.Updates.{of_revision, without_revision, props_without_revision, updated, after_changes, Props}
+use Rattle.oak_doc.specs.Updates.{without_revision, props_without_revision, updated, after_changes, Props}
 use Rattle.oak_commit.specs.Clashing.{has, has_mark, marked, noted, collision, undo_op}
 use Rattle.core_read.specs.Holds.{root_entry}
 use Rattle.core_read.proofs.Entries.{first, second, both}

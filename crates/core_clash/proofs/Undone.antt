@@ -11,9 +11,10 @@ use Rattle.oak_machine.specs.declared.event.Event.TheVariants as event
 use Rattle.oak_machine.specs.declared.event.StepKind.TheVariants as kind
 use Rattle.oak_machine.specs.Commits.{marks_of, is_committed, is_refused, is_ended}
 use Rattle.oak_commit.specs.Clashing.{Met, marked, noted, Writer}
+use Rattle.core_read.specs.Holds.{root_entry}
 use Rattle.core_clash.specs.Views.{In, Once, mark_at}
 use Rattle.core_clash.specs.Core.{Core, Docs, with_writer, root_of, MayUndo}
-use Rattle.core_clash.specs.Sound.{Sound, IsListed, Noticed, Stands, IsWhole, IsOf, IsDue}
+use Rattle.core_clash.specs.Sound.{Sound, IsListed, Noticed, Stands, IsWhole, IsOf, IsDue, IsRooted, IsWriterOf}
 use Rattle.core_clash.proofs.Basics.{not_both, decide, other_revision, at_writer, writer_mine, writer_other, In-left}
 use Rattle.core_clash.proofs.Pasts.{cause_later, refusal_later, due_later}
 use Rattle.core_clash.proofs.Effects.{Undoes}

@@ -78,7 +78,7 @@ rooted_there : (doc : Option Document) (i : DocId) (o : Revision) (root : Path) 
 rooted_there None i o root h = absurd (false≢true (ap (λ (x : Option DocId). is_some x) h))
 rooted_there (Some d) i o root h = sym (some_is h)
 
-rooted_still : (doc : Option Document) (i : DocId) (e : Document) (o : Revision) (root : Path) → e.id ≡ (document_of doc i).id → of_revision e.commit_root o ≡ of_revision (document_of doc i).commit_root o → IsRooted doc o root → IsRooted (Some e) o root
+pub rooted_still : (doc : Option Document) (i : DocId) (e : Document) (o : Revision) (root : Path) → e.id ≡ (document_of doc i).id → of_revision e.commit_root o ≡ of_revision (document_of doc i).commit_root o → IsRooted doc o root → IsRooted (Some e) o root
 rooted_still doc i e o root name same h = ap (λ x. Some x) (root_moved (document_of doc i) e o name same ∙ rooted_there doc i o root h)
 
 -- a write is made always

@@ -11,7 +11,7 @@ use Rattle.oak_machine.specs.Commits.{is_committed, is_refused, is_ended}
 use Rattle.oak_commit.specs.Clashing.{Met, Writer}
 use Rattle.core_clash.specs.Views.{In}
 use Rattle.core_clash.specs.Core.{Core, undoing_from, after_want, IsGoing}
-use Rattle.core_clash.specs.Sound.{Sound, IsListed, Noticed, Stands, IsWhole, IsOf, IsDue}
+use Rattle.core_clash.specs.Sound.{Sound, IsListed, Noticed, Stands, IsWhole, IsOf, IsDue, IsWriterOf}
 use Rattle.core_clash.proofs.Basics.{not_both, decide, at_writer, writer_mine, writer_other}
 
 module _ (s : Core) (d : Draw) where

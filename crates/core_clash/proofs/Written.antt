@@ -7,18 +7,20 @@ use Rattle.jr_rev.specs.Revisions.{is_same}
 use Rattle.jr_rev.specs.Vectors.{sees, start_of}
 use Rattle.oak_clash.specs.declared.mark.Mark.{Mark}
 use Rattle.oak_clash.specs.declared.mark.Mark.TheVariants.{Exists, Guard, Touch, Prop}
-use Rattle.oak_clash.specs.Clashes.{clash}
+use Rattle.oak_clash.specs.Clashes.{clash, commit_root}
 use Rattle.oak_machine.specs.declared.event.Draw.{Draw}
 use Rattle.oak_machine.specs.declared.event.Event.TheVariants as event
 use Rattle.oak_machine.specs.declared.event.StepKind.TheVariants as kind
 use Rattle.oak_machine.specs.Commits.{marks_of, is_drawn, is_committed, is_refused, is_ended, is_in_flight, is_in_base}
 use Rattle.std.proofs.lemmas.Cmp.{eq_by_cmp_equiv, nat_list_cmp_total}
 use Rattle.oak_commit.specs.Clashing.{Met, marked, collision, Writer}
+use Rattle.core_read.specs.Holds.{root_entry}
+use Rattle.oak_clash.specs.declared.mark.MarkAt.{MarkAt}
 use Rattle.core_clash.specs.Views.{In, Once, mark_at}
 use Rattle.core_clash.specs.Core.{Core, Docs, with_writer, root_of, IsDone, MayWrite}
-use Rattle.core_clash.specs.Sound.{Sound, IsListed, Noticed, Stands, IsWhole, IsOf, IsDue, Cause}
-use Rattle.core_clash.proofs.Basics.{test, not_both, decide, at_writer, writer_mine, writer_other, none_in, In-left, In-right, In-append, and_true, or_left, or_right}
-use Rattle.core_clash.proofs.Pasts.{cause_later, refusal_later, due_later, live_now, marks_drawn}
+use Rattle.core_clash.specs.Sound.{Sound, IsListed, Noticed, Stands, IsWhole, IsOf, IsDue, Cause, IsRooted, IsWriterOf}
+use Rattle.core_clash.proofs.Basics.{test, not_both, decide, at_writer, writer_mine, writer_other, none_in, In-left, In-right, In-append, and_true, or_left, or_right, once_apart, other_revision}
+use Rattle.core_clash.proofs.Pasts.{cause_later, refusal_later, due_later, live_now, marks_drawn, in_flight}
 use Rattle.core_clash.proofs.Effects.{Writes, Meeting, IsMet, AreMarksOf}
 
 pub clash_swap : (m n : Mark) → clash m n ≡ true → clash n m ≡ true

@@ -1,28 +1,17 @@
 -- The core: documents, the past and the committers, and each kind of step of a commit.
-use Rattle.std.specs.Prelude.{◌≡◌, ℕ, ◌+◌, Bool, true, false, cond, ◌&&◌, ◌⊎◌, List, [], ◌∷◌, ◌++◌, map, length, Option, None, Some, Result, Ok, Err}
+use Rattle.std.specs.Prelude.{◌≡◌, ℕ, ◌+◌, Bool, true, false, cond, ◌⊎◌, List, [], ◌∷◌, ◌++◌, Option, Some, Result, Ok, Err}
 use Rattle.std.specs.Ordering.{eq_by_cmp}
-use Rattle.std.specs.List.{list_any}
-use Rattle.jr_path.specs.Names.{name_cmp, path_cmp}
-use Rattle.jr_path.specs.declared.name.Name.{Name}
+use Rattle.jr_path.specs.Names.{path_cmp}
 use Rattle.jr_path.specs.declared.path.Path.{Path}
-use Rattle.jr_path.specs.declared.path.DocId.TheVariants as id
-use Rattle.jr_value.specs.declared.value.Property.{Property}
 use Rattle.jr_rev.specs.declared.revision.Revision.{Revision}
 use Rattle.jr_rev.specs.Revisions.{is_same}
 use Rattle.jr_rev.specs.Vectors.{start_of}
-use Rattle.jr_tree.specs.declared.edit.Write.{Write}
-use Rattle.jr_tree.specs.declared.edit.Write.TheVariants as write
 use Rattle.oak_clash.specs.declared.mark.Mark.{Mark}
-use Rattle.oak_clash.specs.declared.mark.Mark.TheVariants.{Exists, Guard, Touch, Prop}
-use Rattle.oak_clash.specs.Clashes.{marks_at, commit_root}
+use Rattle.oak_clash.specs.Clashes.{commit_root}
 use Rattle.oak_doc.specs.declared.document.Document.{Document}
-use Rattle.oak_doc.specs.declared.update.UpdateOp.{UpdateOp}
 use Rattle.oak_doc.specs.declared.update.OpFault.{OpFault}
 use Rattle.oak_doc.specs.declared.update.OpFault.TheVariants as fault
 use Rattle.oak_doc.specs.declared.update.Kept.TheVariants as kept
-use Rattle.oak_doc.specs.declared.update.Change.{Change}
-use Rattle.oak_doc.specs.declared.update.Change.TheVariants as change
-use Rattle.oak_doc.specs.declared.update.Cond.TheVariants.{NoCollision, NotCommitted}
 use Rattle.oak_doc.specs.Updates.{updated}
 use Rattle.oak_commit.specs.Writing.{write_op, last_op}
 use Rattle.oak_commit.specs.Clashing.{Met, found, mark_op, undo_op, Writer}
