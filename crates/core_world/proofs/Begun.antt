@@ -1,7 +1,7 @@
 -- The world before any step is kept.
-use Rattle.std.proofs.Common.{◌≡◌, ℕ, ◌+◌, ◌-◌, ◌≤◌, ◌<◌, Bool, true, false, Some, None, Option, List, [], ◌∷◌, length, map, is_some, refl, sym, ap, subst, ◌∙◌, arith}
+use Rattle.std.proofs.Common.{◌≡◌, ℕ, zero, suc, ◌+◌, ◌-◌, ◌≤◌, ◌<◌, Bool, true, false, Some, None, Option, List, [], ◌∷◌, length, map, is_some, refl, sym, ap, subst, ◌∙◌, arith}
 use Rattle.std.proofs.Math.ListN.{get_or}
-use Rattle.std.proofs.lemmas.Option.{unwrap_or-slice_get}
+use Rattle.std.proofs.lemmas.List.FromFn.{length-map-range_with_len}
 use Rattle.std.specs.List.{range_with_len}
 use mathlib.Core.Bool.{false≢true}
 use Rattle.jr_rev.specs.declared.revision.Revision.{Revision}
@@ -22,10 +22,6 @@ use Rattle.core_world.proofs.Memories.{read_at}
 -- the memories of the start
 abbrev all_begun : ℕ → ℕ → ℕ → List NodeState
 all_begun clusters first count = map (λ k. begun k (start clusters)) (range_with_len first count)
-
-counted : (clusters first count : ℕ) → length (all_begun clusters first count) ≡ count
-counted clusters first zero = refl
-counted clusters first (suc count) = ap (λ n. n + 1) (counted clusters (first + 1) count)
 
 place : (clusters first count i : ℕ) (d : NodeState) → i < count → get_or (all_begun clusters first count) i d ≡ begun (first + i) (start clusters)
 place clusters first zero i d h = absurd (none i h)
@@ -53,7 +49,7 @@ start_kept starts says clusters sessions nodes = record {
   };
   working = record { idle = λ s h. refl; stays = λ s x h. absurd (false≢true (ap is_some h)) };
   memories = record {
-    counted = counted clusters 1 clusters;
+    counted = length-map-range_with_len (λ k. begun k (start clusters)) 1 clusters;
     memory = λ k node. subst (λ (m : NodeState). IsMemoryOf clusters [] k m) (sym (begun_at clusters k node)) (begun_is clusters sessions nodes k node);
     pins = λ k node. subst (λ (m : NodeState). ArePinsOf clusters sessions [] k m) (sym (begun_at clusters k node)) (begun_pins clusters sessions k);
   };

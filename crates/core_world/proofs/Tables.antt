@@ -21,6 +21,8 @@ use Rattle.oak_read.specs.Meaning.{documents_in}
 use Rattle.oak_store.specs.Tables.{Table, after_undo, found, next_number, with_document}
 use Rattle.core_read.specs.Holds.{IsWrite}
 use Rattle.core_read.proofs.Entries.{exactly}
+use Rattle.core_clash.specs.Core.{with_document as with_node}
+use Rattle.core_world.specs.States.{nodes_in}
 
 -- ---- ids
 
@@ -61,7 +63,7 @@ put_at es i d j = cond (eq_by_cmp id_cmp j i) (Some d) (documents_in es j)
 pub put_is : (t : Table) (i : DocId) (d : Document) (n : ℕ) (j : DocId) → documents_in (with_document t i d n).documents j ≡ put_at t.documents i d j
 put_is t i d n j = lookup-insert_entry id_cmp id_total j i d t.documents
 
-pub put_node : (t : Table) (p : Path) (d : Document) (n : ℕ) → (λ (q : Path). documents_in (with_document t (id.Node p) d n).documents (id.Node q)) ≡ (λ (q : Path). cond (eq_by_cmp path_cmp q p) (Some d) (documents_in t.documents (id.Node q)))
+pub put_node : (t : Table) (p : Path) (d : Document) (n : ℕ) → nodes_in (with_document t (id.Node p) d n) ≡ with_node (nodes_in t) p d
 put_node t p d n = fun_ext (λ q. put_is t (id.Node p) d n (id.Node q) ∙ ap (λ b. cond b (Some d) (documents_in t.documents (id.Node q))) (same_node q p))
 
 pub put_write : (t : Table) (p : Path) (d : Document) (n : ℕ) → IsWrite (documents_in t.documents) (documents_in (with_document t (id.Node p) d n).documents) p d
@@ -106,7 +108,7 @@ module _ (t : Table) (p : Path) (r : Revision) where
   pub undo_at : (d : Document) → found t (id.Node p) ≡ Some d → (i : DocId) → documents_in (after_undo t (id.Node p) r).documents i ≡ put_at t.documents (id.Node p) (undone d r (next_number t)) i
   undo_at d is i = ap (λ (es : List (DocId × Document)). documents_in es i) (undo_table d is) ∙ set_at i (id.Node p) (undone d r (next_number t)) t.documents (ap is_some is)
 
-  pub undo_node : (d : Document) → found t (id.Node p) ≡ Some d → (λ (q : Path). documents_in (after_undo t (id.Node p) r).documents (id.Node q)) ≡ (λ (q : Path). cond (eq_by_cmp path_cmp q p) (Some (undone d r (next_number t))) (documents_in t.documents (id.Node q)))
+  pub undo_node : (d : Document) → found t (id.Node p) ≡ Some d → nodes_in (after_undo t (id.Node p) r) ≡ with_node (nodes_in t) p (undone d r (next_number t))
   undo_node d is = fun_ext (λ q. undo_at d is (id.Node q) ∙ ap (λ b. cond b (Some (undone d r (next_number t))) (documents_in t.documents (id.Node q))) (same_node q p))
 
   pub undo_write : (d : Document) → found t (id.Node p) ≡ Some d → IsWrite (documents_in t.documents) (documents_in (after_undo t (id.Node p) r).documents) p (undone d r (next_number t))

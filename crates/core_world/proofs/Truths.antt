@@ -32,7 +32,7 @@ use Rattle.core_clash.specs.Sound.{HasCause}
 use Rattle.core_clash.proofs.Basics.{not_both, some_of, test}
 use Rattle.core_clash.proofs.Complete.{complete, meets_clashing}
 use Rattle.core_clash.proofs.Steps.{no_unseen_clash, undone_whole}
-use Rattle.core_nodes.proofs.Times.{draws_most, known_most}
+use Rattle.core_nodes.proofs.Times.{known_events}
 use Rattle.core_world.specs.Kept.{IsFreeOf, IsKept}
 use Rattle.core_world.specs.States.{State, core_in, memory_at, memory_of, nodes_in}
 use Rattle.core_world.proofs.Draws.{its_pin}
@@ -116,10 +116,4 @@ module _ (starts : Starts) (says : Says) (proper : StartsProper starts) (w : Sta
   -- ---- times
 
   pub time_known : (k : ℕ) → IsNode w.clusters k → known_time (memory_at w.memories k) ≤ length w.past
-  time_known k node =
-      let a = known_most w.clusters w.sessions kept.nodes starts says w.past kept.run k (memory_at w.memories k) node (kept.memories.memory k node) in
-      let b = draws_most w.past in
-      most (known_time (memory_at w.memories k)) _ (length w.past) a b
-    where
-      most : (a b c : ℕ) → a ≤ b → b ≤ c → a ≤ c
-      most a b c h k = omega arith
+  time_known k node = known_events w.clusters w.sessions kept.nodes starts says w.past kept.run k (memory_at w.memories k) node (kept.memories.memory k node)

@@ -3,40 +3,40 @@ use Rattle.core_world.proofs.sessions_leave_others.Goals as goal
 use Rattle.core_world.proofs.Others.{draw_others, finish_others, last_others, leave_others, login_others, mark_others, reader_others, refresh_others, said_others, undo_others, want_others, went_others, write_others}
 
 pub returns-clause-login : goal.returns-clause-login
-returns-clause-login g c = login_others
+returns-clause-login c = login_others
 
 pub returns-clause-refresh : goal.returns-clause-refresh
-returns-clause-refresh g c = refresh_others
+returns-clause-refresh c = refresh_others
 
 pub returns-clause-leave : goal.returns-clause-leave
-returns-clause-leave g c = leave_others
+returns-clause-leave c = leave_others
 
 pub returns-clause-said : goal.returns-clause-said
-returns-clause-said g c = said_others
+returns-clause-said c = said_others
 
 pub returns-clause-went : goal.returns-clause-went
-returns-clause-went g c = went_others
+returns-clause-went c = went_others
 
 pub returns-clause-reader : goal.returns-clause-reader
-returns-clause-reader g c = reader_others
+returns-clause-reader c = reader_others
 
 pub returns-clause-draw : goal.returns-clause-draw
-returns-clause-draw g c = draw_others
+returns-clause-draw c = draw_others
 
 pub returns-clause-write : goal.returns-clause-write
-returns-clause-write g c = write_others
+returns-clause-write c = write_others
 
 pub returns-clause-mark : goal.returns-clause-mark
-returns-clause-mark g c = mark_others
+returns-clause-mark c = mark_others
 
 pub returns-clause-last : goal.returns-clause-last
-returns-clause-last g c = last_others
+returns-clause-last c = last_others
 
 pub returns-clause-want : goal.returns-clause-want
-returns-clause-want g c = want_others
+returns-clause-want c = want_others
 
 pub returns-clause-undo : goal.returns-clause-undo
-returns-clause-undo g c = undo_others
+returns-clause-undo c = undo_others
 
 pub returns-clause-finish : goal.returns-clause-finish
-returns-clause-finish g c = finish_others
+returns-clause-finish c = finish_others
