@@ -1,44 +1,68 @@
 -- What is true of each world that is kept.
-use Rattle.std.proofs.Common.{◌≡◌, ◌⊎◌, inl, inr, ℕ, ◌≤◌, Bool, true, false, not, ◌&&◌, Some, None, Option, List, length, is_some, refl, sym, ap, subst, ◌∙◌, arith}
+use Rattle.std.proofs.Common.{◌≡◌, ◌⊎◌, inl, inr, ℕ, ◌≤◌, Bool, true, false, not, ◌&&◌, cond, Some, None, Option, List, [], ◌∷◌, length, is_some, refl, sym, ap, subst, ◌∙◌, arith}
 use Rattle.std.specs.Prelude.{slice_get}
-use Rattle.std.specs.Option.{option_map}
+use Rattle.std.specs.Option.{option_map, option_map_or, unwrap_or}
 use mathlib.Core.Bool.{false≢true}
 use Rattle.jr_path.specs.declared.path.Path.{Path}
 use Rattle.jr_rev.specs.declared.revision.Revision.{Revision}
 use Rattle.jr_rev.specs.declared.vector.Pin.{Pin}
 use Rattle.jr_rev.specs.declared.vector.RevVec.{RevVec}
-use Rattle.jr_rev.specs.Revisions.{is_before}
-use Rattle.jr_rev.specs.Vectors.{start, start_of}
+use Rattle.jr_rev.specs.Revisions.{is_before, is_same}
+use Rattle.jr_rev.specs.Vectors.{sees, start, start_of}
 use Rattle.jr_tree.specs.declared.tree.Node.{Node}
 use Rattle.jr_tree.specs.Trees.{node_at}
 use Rattle.oak_clash.specs.declared.mark.Mark.{Mark}
-use Rattle.oak_commit.specs.Clashing.{has, has_mark, marked}
+use Rattle.oak_clash.specs.Clashes.{commit_root}
+use Rattle.oak_commit.specs.Clashing.{Met, Writer, found, has, has_mark, marked}
 use Rattle.oak_doc.specs.declared.document.Document.{Document}
 use Rattle.oak_machine.specs.declared.event.Draw.{Draw}
+use Rattle.oak_machine.specs.declared.event.Event.{Event}
+use Rattle.oak_machine.specs.declared.event.Event.TheVariants as event
+use Rattle.oak_machine.specs.History.{Past}
 use Rattle.oak_machine.specs.Commits.{IsClosed, IsSettled, are_clashing, draw_of, is_committed, is_drawn, is_ended, is_in_base, is_in_flight, is_refused, tree_at}
 use Rattle.oak_machine.specs.Laws.{Says, Starts, StartsProper}
-use Rattle.oak_machine.specs.Runs.{IsNode}
-use Rattle.oak_node.specs.Heads.{known_time}
+use Rattle.oak_machine.specs.Runs.{AreNodes, IsNode, IsRunOf}
+use Rattle.oak_machine.specs.Sessions.{base_of, has_left, has_login}
+use Rattle.oak_node.specs.Heads.{IsInFlight, known_time}
 use Rattle.oak_node.specs.Pins.{pin_of}
 use Rattle.oak_read.specs.Meaning.{documents_in, found_node}
 use Rattle.core_read.specs.Holds.{edit_of, root_entry, the_start}
 use Rattle.core_read.specs.Told.{IsInUse}
 use Rattle.core_read.proofs.Reading.{reading}
-use Rattle.core_read.proofs.Told.{no_edit}
+use Rattle.core_read.proofs.Told.{base_is as base_sees, no_edit}
 use Rattle.core_read.proofs.Vectors.{time_before}
 use Rattle.core_heads.specs.Sound.{IsHeld}
-use Rattle.core_heads.proofs.Runs.{closed_run, held_in_use, held_settled, sound_run}
-use Rattle.core_clash.specs.Sound.{HasCause}
-use Rattle.core_clash.proofs.Basics.{not_both, some_of, test}
+use Rattle.core_heads.proofs.Runs.{closed_run, fresh_run, held_in_use, held_settled, sound_run}
+use Rattle.core_clash.specs.Core.{root_of}
+use Rattle.core_clash.specs.Sessions.{IsTheirs, Running}
+use Rattle.core_clash.specs.Sound.{HasCause, IsRooted}
+use Rattle.core_clash.specs.Views.{In}
+use Rattle.core_clash.proofs.Basics.{not_both, same_revision, some_of, test}
 use Rattle.core_clash.proofs.Complete.{complete, meets_clashing}
-use Rattle.core_clash.proofs.Steps.{no_unseen_clash, undone_whole}
+use Rattle.core_clash.proofs.Meetings.{meeting}
+use Rattle.core_clash.proofs.Pasts.{in_flight}
+use Rattle.core_clash.proofs.Steps.{no_unseen_clash, told_root, undone_whole}
 use Rattle.core_nodes.proofs.Times.{known_events}
+use Rattle.core_nodes.proofs.Waits.{flying_is}
 use Rattle.core_world.specs.Kept.{IsFreeOf, IsKept}
-use Rattle.core_world.specs.States.{State, core_in, memory_at, memory_of, nodes_in}
-use Rattle.core_world.proofs.Draws.{its_pin}
-use Rattle.core_world.proofs.Lives.{told}
+use Rattle.core_world.specs.States.{State, base_in, core_in, memory_at, memory_of, nodes_in}
+use Rattle.core_world.proofs.Commits.{on_its_node}
+use Rattle.core_world.proofs.Draws.{base_is, its_pin}
+use Rattle.core_world.proofs.Lives.{session_there, told}
 use Rattle.core_world.proofs.Loads.{start_in_use}
-use Rattle.core_world.proofs.Readers.{HasPin, pinned_is}
+use Rattle.core_world.proofs.Readers.{HasPin, pinned_is, session_pinned}
+
+-- the commit root of a drawn revision stays, whatever follows
+pub root_stays : (starts : Starts) (says : Says) (clusters : ℕ) (sessions : List ℕ) → AreNodes clusters sessions → (e : Event) (past : Past) (r : Revision) → IsRunOf starts says clusters sessions (e ∷ past) → is_drawn past r ≡ true → root_of (e ∷ past) r ≡ root_of past r
+root_stays starts says clusters sessions nodes (event.Draw d) past r run drawn = by (is_same r d.revision) refl
+  where
+    fresh : draw_of past d.revision ≡ None
+    fresh = (fresh_run clusters sessions nodes starts says d past run).fresh
+
+    by : (b : Bool) → is_same r d.revision ≡ b → commit_root (option_map_or (λ (e : Draw). e.marks) (cond b (Some d) (draw_of past r)) []) ≡ root_of past r
+    by false h = refl
+    by true h = absurd (false≢true (sym (ap (λ (o : Option Draw). is_some o) (ap (draw_of past) (same_revision r d.revision h) ∙ fresh)) ∙ drawn))
+root_stays starts says clusters sessions nodes e past r run drawn = refl
 
 module _ (starts : Starts) (says : Says) (proper : StartsProper starts) (w : State) (kept : IsKept starts says w) where
   -- ---- pins
@@ -59,6 +83,45 @@ module _ (starts : Starts) (says : Says) (proper : StartsProper starts) (w : Sta
     pub pin_shows : (p : Path) → found_node (documents_in w.table.documents) pin.sweep pin.base p ≡ option_map (λ node. node.props) (node_at (tree_at w.past pin.base) p)
     pin_shows p = reading (documents_in w.table.documents) w.past pin.sweep pin.base kept.committing.holds (told starts says proper w kept) (held_in_use w.past pin.base held)
         (subst (λ (v : RevVec). IsInUse w.past v) (sym pinned.sweep) (start_in_use starts says proper w kept)) p
+
+  -- a session that is there has a pin, at its base
+  pub pin_there : (s : ℕ) → has_login w.past s ≡ true → has_left w.past s ≡ false → (pin_of (memory_of w s) s ≡ Some (record { base = base_in w s; sweep = start w.clusters })) × (base_of w.past s ≡ Some (base_in w s))
+  pin_there s login stays =
+      let base = base_is starts says proper w kept s login stays in
+      (its_pin starts says proper w kept s (session_there starts says proper w kept s login) ∙ session_pinned w.clusters w.past s (base_in w s) login stays base, base)
+
+  -- ---- committers
+
+  module _ (s : ℕ) (x : Running) (here : w.running s ≡ Some x) where
+    mine : IsTheirs w.past kept.committing.writers s x
+    mine = kept.committing.theirs s x here
+
+    on : slice_get w.sessions s ≡ Some x.draw.revision.cluster
+    on = on_its_node starts says proper w kept s x here
+
+    -- its revision is in flight by the memory of its node
+    pub flies_there : IsInFlight (memory_of w s) x.draw.revision
+    flies_there =
+        let k = x.draw.revision.cluster in
+        let node : IsNode w.clusters k = kept.nodes.node s k on in
+        let flying = in_flight w.past x.draw.revision x.draw mine.draw mine.unended in
+        subst (λ (j : ℕ). IsInFlight (memory_at w.memories j) x.draw.revision) (sym (ap (λ o. unwrap_or o 0) on))
+        ((flying_is w.clusters w.sessions kept.nodes w.past (sound_run w.clusters w.sessions kept.nodes starts says w.past kept.run) k node (memory_at w.memories k) (kept.memories.memory k node) x.draw.revision).1 (refl, flying))
+
+    -- what it is to mark was drawn
+    pub due_drawn : (f : Met) → In f x.writer.due → is_drawn w.past f.other ≡ true
+    due_drawn f h = (kept.committing.sound.due x.draw.revision f (subst (λ (v : Writer). In f v.due) (sym mine.writer) h)).cause.other
+
+    -- the base of its draw sees the start
+    sees_start : sees x.draw.base (start_of 1) ≡ true
+    sees_start = sym (base_sees w.past x.draw.revision x.draw mine.draw (start_of 1)) ∙ kept.committing.sound.start x.draw.revision (ap (λ (o : Option Draw). is_some o) mine.draw)
+
+    -- the document in which it meets another tells the other's commit root
+    pub met_rooted : (p : Path) (f : Met) → In f (found x.draw.base x.draw.revision p x.draw.marks (nodes_in w.table p)) → IsRooted (nodes_in w.table p) f.other (root_of w.past f.other)
+    met_rooted p f h =
+        let met = (meeting x.draw.base x.draw.revision p x.draw.marks (nodes_in w.table p)).each f h in
+        told_root (core_in w.past w.table kept.committing.writers) f.other p met.mark.0 kept.committing.sound
+        (λ e. false≢true (sym met.outside ∙ (ap (sees x.draw.base) e ∙ sees_start))) met.mark.1
 
   -- ---- commits
 

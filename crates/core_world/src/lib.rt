@@ -8,30 +8,34 @@ ghost use Rattle.jr_path.specs.declared.path.Path.{Path};
 ghost use Rattle.jr_path.specs.declared.text.Text.{Text};
 ghost use Rattle.jr_rev.specs.declared.revision.Revision.{Revision};
 ghost use Rattle.jr_rev.specs.declared.vector.Pin.{Pin};
+ghost use Rattle.jr_rev.specs.Vectors.{start};
 ghost use Rattle.jr_tree.specs.declared.edit.Edit.{Edit};
 ghost use Rattle.jr_tree.specs.Trees.{node_at};
 ghost use Rattle.oak_clash.specs.declared.mark.MarkAt.{MarkAt};
-ghost use Rattle.oak_commit.specs.Clashing.{Met};
+ghost use Rattle.oak_commit.specs.Clashing.{Met, found};
 ghost use Rattle.oak_doc.specs.declared.document.Document.{Document};
+ghost use Rattle.oak_machine.specs.declared.event.Event.{Event};
 ghost use Rattle.oak_machine.specs.declared.event.StepKind.{StepKind};
 ghost use Rattle.oak_machine.specs.declared.event.StepKind.TheVariants as kind;
 ghost use Rattle.oak_machine.specs.Commits.{IsClosed, IsSettled, are_clashing, is_committed, is_drawn, is_ended, is_in_base, is_refused, tree_at};
-ghost use Rattle.oak_machine.specs.Runs.{AreNodes, IsNode};
-ghost use Rattle.oak_machine.specs.Sessions.{has_left, has_login, next_index};
+ghost use Rattle.oak_machine.specs.Runs.{AreNodes, IsNode, IsRunOf};
+ghost use Rattle.oak_machine.specs.Sessions.{base_of, has_left, has_login, next_index};
 ghost use Rattle.oak_machine.specs.Steps.{is_kind};
-ghost use Rattle.oak_node.specs.Heads.{known_time};
+ghost use Rattle.oak_node.specs.Heads.{IsInFlight, known_time};
 ghost use Rattle.oak_node.specs.Pins.{pin_of};
 ghost use Rattle.oak_read.specs.declared.reader.Reader.{Reader};
 ghost use Rattle.oak_read.specs.declared.reader.ReadOut.{ReadOut};
 ghost use Rattle.oak_read.specs.declared.reader.Step.TheVariants as step;
 ghost use Rattle.oak_read.specs.Meaning.{documents_in, found_node};
 ghost use Rattle.oak_read.specs.Reading.{IsTable, answer, children_reader, due, fed, node_reader};
+ghost use Rattle.core_clash.specs.Core.{root_of};
 ghost use Rattle.core_clash.specs.Sessions.{Running};
-ghost use Rattle.core_clash.specs.Sound.{HasCause};
+ghost use Rattle.core_clash.specs.Sound.{HasCause, IsRooted};
+ghost use Rattle.core_clash.specs.Views.{In};
 ghost use Rattle.core_watch.specs.Standing.{AreChildrenOf, IsNodeOf, path_read};
 ghost use Rattle.core_world.specs.Kept.{IsFreeOf, IsKept};
 ghost use Rattle.core_world.specs.Start.{start_state};
-ghost use Rattle.core_world.specs.States.{State, history_in, memory_at, memory_of, nodes_in};
+ghost use Rattle.core_world.specs.States.{State, base_in, history_in, memory_at, memory_of, nodes_in};
 ghost use Rattle.core_world.specs.Steps.{IsThrough, LeavesOthers, after_draw, after_finish, after_last, after_leave, after_login, after_mark, after_refresh, after_said, after_undoing, after_want, after_went, after_write, with_reader};
 
 use oak_machine::Law;
@@ -65,10 +69,20 @@ pub fn commits_keep_the_world<L: Law>(law: &L)
     ensures finish { (w : State) (s : ℕ) (x : Running) → IsKept (L.may_start law.now) (L.may_say law.now) w → w.running s ≡ Some x → IsThrough x → IsKept (L.may_start law.now) (L.may_say law.now) (after_finish w s x) }
 {}
 
-/// The base of each session's pin is settled and closed, and at it the documents show at each path the node of the tree that
+/// What the calls of a committer ask for: its revision is in flight by the memory of its node, the document in which it
+/// meets another tells the other's commit root, and what it is to mark was drawn. The commit root of a drawn revision stays.
+pub fn committers_find_what_they_need<L: Law>(law: &L)
+    ensures flies { (w : State) (s : ℕ) (x : Running) → IsKept (L.may_start law.now) (L.may_say law.now) w → w.running s ≡ Some x → IsInFlight (memory_of w s) x.draw.revision }
+    ensures met { (w : State) (s : ℕ) (x : Running) (p : Path) (f : Met) → IsKept (L.may_start law.now) (L.may_say law.now) w → w.running s ≡ Some x → In f (found x.draw.base x.draw.revision p x.draw.marks (nodes_in w.table p)) → IsRooted (nodes_in w.table p) f.other (root_of w.past f.other) }
+    ensures due { (w : State) (s : ℕ) (x : Running) (f : Met) → IsKept (L.may_start law.now) (L.may_say law.now) w → w.running s ≡ Some x → In f x.writer.due → IsTrue (is_drawn w.past f.other) }
+    ensures roots { (w : State) (e : Event) (r : Revision) → AreNodes w.clusters w.sessions → IsRunOf (L.may_start law.now) (L.may_say law.now) w.clusters w.sessions (e ∷ w.past) → IsTrue (is_drawn w.past r) → root_of (e ∷ w.past) r ≡ root_of w.past r }
+{}
+
+/// A session that has logged in and hasn't left has a pin, at its base. The base of each session's pin is settled and closed, and at it the documents show at each path the node of the tree that
 /// the journal has there. A reader that is done gives that tree's node, or the names of its children. No node knows a time
 /// that is greater than the number of events.
 pub fn pins_show_the_tree<L: Law>(law: &L)
+    ensures pinned { (w : State) (s : ℕ) → IsKept (L.may_start law.now) (L.may_say law.now) w → IsTrue (has_login w.past s) → IsFalse (has_left w.past s) → (pin_of (memory_of w s) s ≡ Some (record { base = base_in w s; sweep = start w.clusters })) × (base_of w.past s ≡ Some (base_in w s)) }
     ensures settled { (w : State) (s : ℕ) (pin : Pin) → IsKept (L.may_start law.now) (L.may_say law.now) w → IsTrue (is_some (slice_get w.sessions s)) → pin_of (memory_of w s) s ≡ Some pin → IsSettled w.past pin.base }
     ensures closed { (w : State) (s : ℕ) (pin : Pin) → IsKept (L.may_start law.now) (L.may_say law.now) w → IsTrue (is_some (slice_get w.sessions s)) → pin_of (memory_of w s) s ≡ Some pin → IsClosed w.past pin.base }
     ensures shown { (w : State) (s : ℕ) (pin : Pin) (p : Path) → IsKept (L.may_start law.now) (L.may_say law.now) w → IsTrue (is_some (slice_get w.sessions s)) → pin_of (memory_of w s) s ≡ Some pin → found_node (documents_in w.table.documents) pin.sweep pin.base p ≡ option_map (λ node. node.props) (node_at (tree_at w.past pin.base) p) }

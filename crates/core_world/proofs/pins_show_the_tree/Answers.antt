@@ -1,7 +1,10 @@
 -- By what a world keeps.
 use Rattle.core_world.proofs.pins_show_the_tree.Goals as goal
 use Rattle.core_world.proofs.Loads.{children_given, node_given}
-use Rattle.core_world.proofs.Truths.{pin_closed, pin_settled, pin_shows, time_known}
+use Rattle.core_world.proofs.Truths.{pin_closed, pin_settled, pin_shows, pin_there, time_known}
+
+pub returns-clause-pinned : goal.returns-clause-pinned
+returns-clause-pinned g c = λ w s kept login stays. pin_there (g.L.Law.may_start c.args.law.now) (g.L.Law.may_say c.args.law.now) (g.L.Law.proper c.args.law.now) w kept s login stays
 
 pub returns-clause-settled : goal.returns-clause-settled
 returns-clause-settled g c = λ w s pin kept there has. pin_settled (g.L.Law.may_start c.args.law.now) (g.L.Law.may_say c.args.law.now) (g.L.Law.proper c.args.law.now) w kept s there pin has
