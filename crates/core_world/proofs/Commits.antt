@@ -1,8 +1,7 @@
 -- The steps of a commit keep the world.
-use Rattle.std.proofs.Common.{◌≡◌, ◌⊎◌, inl, inr, ℕ, Bool, true, false, cond, not, ◌&&◌, ◌||◌, Some, None, Option, Ok, Err, Result, List, [], ◌∷◌, ◌++◌, is_some, refl, sym, ap, subst, ◌∙◌}
+use Rattle.std.proofs.Common.{◌≡◌, ◌⊎◌, inl, inr, ℕ, true, false, not, ◌||◌, Some, None, Option, Ok, Err, Result, List, [], ◌∷◌, ◌++◌, is_some, refl, sym, ap, subst, ◌∙◌}
 use Rattle.std.specs.Prelude.{◌==◌, slice_get}
-use Rattle.std.specs.Option.{option_map_or, unwrap_or}
-use mathlib.Core.Bool.{false≢true}
+use Rattle.std.specs.Option.{option_map_or}
 use Rattle.jr_path.specs.declared.path.Path.{Path}
 use Rattle.jr_path.specs.declared.path.Item.{Item}
 use Rattle.jr_path.specs.declared.path.DocId.TheVariants as id
@@ -22,10 +21,9 @@ use Rattle.oak_machine.specs.declared.event.Draw.{Draw}
 use Rattle.oak_machine.specs.declared.event.Event.{Event}
 use Rattle.oak_machine.specs.declared.event.Event.TheVariants as event
 use Rattle.oak_machine.specs.declared.event.StepKind.TheVariants as kind
-use Rattle.oak_machine.specs.History.{Past}
-use Rattle.oak_machine.specs.Commits.{is_commit_of, marks_of}
+use Rattle.oak_machine.specs.Commits.{marks_of}
 use Rattle.oak_machine.specs.Laws.{Says, Starts, StartsProper}
-use Rattle.oak_machine.specs.Runs.{IsRunOf, MayFollow, MayRefuse}
+use Rattle.oak_machine.specs.Runs.{MayFollow, MayRefuse}
 use Rattle.oak_machine.specs.Sessions.{has_left, has_login, is_attached, is_drawing, is_end_of_session}
 use Rattle.oak_read.specs.declared.reader.Reader.{Reader}
 use Rattle.oak_read.specs.Meaning.{documents_in}
@@ -40,7 +38,7 @@ use Rattle.core_clash.proofs.Updates.{last_is, mark_is}
 use Rattle.core_nodes.specs.Nodes.{is_of_node, leaves_memory, moved_pin}
 use Rattle.core_watch.specs.Copies.{IsSteady}
 use Rattle.core_world.specs.States.{State, core_in, history_in, nodes_in, with_session}
-use Rattle.core_world.specs.Steps.{after_last, after_mark, after_undoing, after_update, after_want, after_write, goes_on, lasted_by, marked_by, refused}
+use Rattle.core_world.specs.Steps.{after_last, after_mark, after_undoing, after_update, after_want, after_write, lasted_by, marked_by, refused}
 use Rattle.core_world.specs.Kept.{AreAtWork, AreCommitting, IsKept}
 use Rattle.core_world.proofs.Committers.{at_idle, at_session}
 use Rattle.core_world.proofs.Flights.{draws_nothing, still_idle}

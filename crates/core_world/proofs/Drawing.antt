@@ -1,11 +1,8 @@
 -- A session draws a revision.
-use Rattle.std.proofs.Common.{◌≡◌, ℕ, Bool, true, false, cond, Some, None, Option, List, [], ◌∷◌, is_some, refl, sym, ap, subst, ◌∙◌}
-use Rattle.std.specs.Prelude.{◌==◌}
+use Rattle.std.proofs.Common.{◌≡◌, ℕ, Bool, true, false, cond, Some, None, Option, List, ◌∷◌, is_some, refl, sym, ap, ◌∙◌}
 use mathlib.Core.Bool.{false≢true}
-use Rattle.jr_path.specs.declared.path.Path.{Path}
 use Rattle.jr_rev.specs.declared.revision.Revision.{Revision}
 use Rattle.jr_rev.specs.Revisions.{is_before, is_same}
-use Rattle.oak_commit.specs.Clashing.{Writer}
 use Rattle.oak_machine.specs.declared.event.Draw.{Draw}
 use Rattle.oak_machine.specs.declared.event.Event.TheVariants as event
 use Rattle.oak_machine.specs.History.{Past}
@@ -82,15 +79,15 @@ module _ (starts : Starts) (says : Says) (proper : StartsProper starts) (cluster
   theirs = at_session (IsTheirs later (with_writer a.writers d.revision (beginning d).writer)) running d.session (beginning d)
       (record { session = refl; draw = drawn_now; unended = unended; committed = uncommitted; writer = writer_mine a.writers d.revision (beginning d).writer })
       (λ q y f h.
-          let its = a.theirs q y h in
-          let apart = other y.draw.revision y.draw its.draw in
-          record {
-            session = its.session;
-            draw = ap (λ b. cond b (Some d) (draw_of past y.draw.revision)) apart ∙ its.draw;
-            unended = its.unended;
-            committed = its.committed;
-            writer = writer_other a.writers d.revision (beginning d).writer y.draw.revision apart ∙ its.writer;
-          })
+      let its = a.theirs q y h in
+      let apart = other y.draw.revision y.draw its.draw in
+      record {
+        session = its.session;
+        draw = ap (λ b. cond b (Some d) (draw_of past y.draw.revision)) apart ∙ its.draw;
+        unended = its.unended;
+        committed = its.committed;
+        writer = writer_other a.writers d.revision (beginning d).writer y.draw.revision apart ∙ its.writer;
+      })
 
   pub draw_commits : AreCommitting later t (with_session running d.session (Some (beginning d)))
   draw_commits = record {

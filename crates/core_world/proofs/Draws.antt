@@ -1,15 +1,13 @@
 -- The draw of a commit, and the end of its revision, keep the world.
-use Rattle.std.proofs.Common.{◌≡◌, ◌⊎◌, inl, inr, ℕ, ◌+◌, ◌≤◌, Bool, true, false, cond, not, ◌&&◌, ◌||◌, Some, None, Option, List, [], ◌∷◌, is_some, refl, sym, ap, subst, ◌∙◌}
+use Rattle.std.proofs.Common.{◌≡◌, ℕ, ◌≤◌, Bool, true, false, cond, ◌||◌, Some, None, Option, List, [], ◌∷◌, is_some, refl, sym, ap, subst, ◌∙◌}
 use Rattle.std.specs.Prelude.{◌==◌, slice_get}
 use Rattle.std.specs.Option.{option_map_or, unwrap_or}
 use mathlib.Core.Bool.{false≢true}
 use Rattle.jr_path.specs.declared.path.Path.{Path}
-use Rattle.jr_path.specs.declared.text.Text.{Text}
 use Rattle.jr_rev.specs.declared.revision.Revision.{Revision}
 use Rattle.jr_rev.specs.declared.vector.Pin.{Pin}
 use Rattle.jr_rev.specs.declared.vector.RevVec.{RevVec}
 use Rattle.jr_rev.specs.Revisions.{is_before}
-use Rattle.jr_rev.specs.Vectors.{start}
 use Rattle.jr_tree.specs.declared.edit.Edit.{Edit}
 use Rattle.oak_clash.specs.declared.mark.MarkAt.{MarkAt}
 use Rattle.oak_machine.specs.declared.event.Draw.{Draw}
@@ -22,17 +20,16 @@ use Rattle.oak_machine.specs.Sessions.{base_of, has_left, has_login, is_attached
 use Rattle.oak_node.specs.Heads.{finished, next_draw, with_draw}
 use Rattle.oak_node.specs.Memory.{NodeState, own_entry}
 use Rattle.oak_node.specs.Pins.{pin_of}
-use Rattle.oak_read.specs.declared.reader.Reader.{Reader}
 use Rattle.core_clash.specs.Sessions.{IsTheirs, Running}
-use Rattle.core_nodes.specs.Nodes.{is_of_node, session_pin}
+use Rattle.core_nodes.specs.Nodes.{session_pin}
 use Rattle.core_nodes.proofs.Events.{next_is}
 use Rattle.core_world.specs.States.{State, base_in, history_in, memory_at, memory_of, node_of, with_memory, with_session}
-use Rattle.core_world.specs.Steps.{IsThrough, after_draw, after_finish, after_notes, beginning, draw_in, memories_with, moved_head}
-use Rattle.core_world.specs.Kept.{AreAtWork, AreCommitting, AreMemories, AreReading, IsKept}
+use Rattle.core_world.specs.Steps.{IsThrough, after_draw, after_finish, after_notes, beginning, draw_in, memories_with}
+use Rattle.core_world.specs.Kept.{AreAtWork, AreMemories, IsKept}
 use Rattle.core_world.proofs.Committers.{at_idle, at_idle_now, at_others, at_session}
 use Rattle.core_world.proofs.Commits.{drawn, its, on_its_node}
 use Rattle.core_world.proofs.Drawing.{draw_commits}
-use Rattle.core_world.proofs.Finishing.{finish_commits, may_finish, quiet_commits}
+use Rattle.core_world.proofs.Finishing.{finish_commits, quiet_commits}
 use Rattle.core_world.proofs.Flights.{drawn_idle, ended_idle, number_itself, still_idle}
 use Rattle.core_world.proofs.Lives.{its_node, on_node, session_there, told}
 use Rattle.core_world.proofs.Memories.{aside, draw_memories, end_memories, set_here}

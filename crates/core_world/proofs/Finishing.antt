@@ -1,9 +1,7 @@
 -- A revision ends, with its committer; and events that touch no committer.
-use Rattle.std.proofs.Common.{◌≡◌, ◌⊎◌, inl, inr, ℕ, Bool, true, false, cond, ◌||◌, Some, None, Option, List, [], ◌∷◌, is_some, refl, sym, ap, subst, ◌∙◌}
-use Rattle.std.specs.List.{list_any}
+use Rattle.std.proofs.Common.{◌≡◌, inl, inr, ℕ, true, false, ◌||◌, Some, None, Option, List, ◌∷◌, refl, sym, ap, ◌∙◌}
 use mathlib.Core.Bool.{false≢true}
 use Rattle.jr_path.specs.declared.path.Path.{Path}
-use Rattle.jr_path.specs.declared.path.DocId.TheVariants as id
 use Rattle.jr_rev.specs.declared.revision.Revision.{Revision}
 use Rattle.oak_commit.specs.Clashing.{Writer, noted}
 use Rattle.oak_doc.specs.declared.document.Document.{Document}
@@ -67,9 +65,9 @@ module _ (past : Past) (t : Table) (running : ℕ → Option Running) (a : AreCo
     theirs : (q : ℕ) (y : Running) → with_session running s None q ≡ Some y → IsTheirs later a.writers q y
     theirs = at_others (IsTheirs later a.writers) running s
         (λ q y f h.
-            let its = a.theirs q y h in
-            let other = of_others past a.writers s q x y (mine past t running a told s x here) its f in
-            record { session = its.session; draw = its.draw; unended = ap (λ b. b || is_ended past y.draw.revision) other ∙ its.unended; committed = its.committed; writer = its.writer })
+        let its = a.theirs q y h in
+        let other = of_others past a.writers s q x y (mine past t running a told s x here) its f in
+        record { session = its.session; draw = its.draw; unended = ap (λ b. b || is_ended past y.draw.revision) other ∙ its.unended; committed = its.committed; writer = its.writer })
 
     pub finish_commits : AreCommitting later t (with_session running s None)
     finish_commits = record {

@@ -1,11 +1,9 @@
 -- A committer commits.
-use Rattle.std.proofs.Common.{◌≡◌, ◌⊎◌, inl, inr, ℕ, Bool, true, false, cond, ◌||◌, Some, None, Option, List, [], ◌∷◌, is_some, refl, sym, ap, subst, ◌∙◌}
+use Rattle.std.proofs.Common.{◌≡◌, ◌⊎◌, inl, inr, ℕ, true, false, ◌||◌, Some, Option, List, [], ◌∷◌, is_some, refl, sym, ap, subst, ◌∙◌}
 use Rattle.std.specs.List.{list_any}
 use Rattle.jr_path.specs.declared.path.Path.{Path}
 use Rattle.jr_path.specs.declared.path.DocId.TheVariants as id
-use Rattle.jr_path.specs.declared.name.Name.{Name}
 use Rattle.jr_rev.specs.declared.revision.Revision.{Revision}
-use Rattle.jr_rev.specs.Revisions.{is_same}
 use Rattle.oak_clash.specs.declared.mark.Mark.{Mark}
 use Rattle.oak_clash.specs.declared.mark.Mark.TheVariants.{Exists, Prop}
 use Rattle.oak_clash.specs.declared.mark.MarkAt.{MarkAt}
@@ -114,9 +112,9 @@ module _ (past : Past) (t : Table) (running : ℕ → Option Running) (a : AreCo
     theirs = at_session (IsTheirs later a.writers) running s _
         (let m = mine past t running a told s x here in record { session = m.session; draw = m.draw; unended = m.unended; committed = ap (λ b. b || is_committed past r) (is_same_self r); writer = m.writer })
         (λ q y f h.
-            let its = a.theirs q y h in
-            let other = of_others past a.writers s q x y (mine past t running a told s x here) its f in
-            record { session = its.session; draw = its.draw; unended = its.unended; committed = ap (λ b. b || is_committed past y.draw.revision) other ∙ its.committed; writer = its.writer })
+        let its = a.theirs q y h in
+        let other = of_others past a.writers s q x y (mine past t running a told s x here) its f in
+        record { session = its.session; draw = its.draw; unended = its.unended; committed = ap (λ b. b || is_committed past y.draw.revision) other ∙ its.committed; writer = its.writer })
 
     pub last_commits : AreCommitting later now (with_session running s (Some (record { draw = x.draw; writer = x.writer; committed = true })))
     last_commits = record {

@@ -23,3 +23,4 @@ pub mod Begins
 pub mod Begun
 pub mod Others
 pub mod Truths
+mod Rows

@@ -1,17 +1,13 @@
 -- What each world may count on, and the steps that touch no document.
-use Rattle.std.proofs.Common.{◌≡◌, ◌⊎◌, inl, inr, ℕ, Bool, true, false, cond, not, ◌&&◌, ◌||◌, Some, None, Option, List, [], ◌∷◌, is_some, refl, sym, ap, subst, ◌∙◌}
+use Rattle.std.proofs.Common.{◌≡◌, ℕ, Bool, true, false, cond, not, ◌||◌, Some, None, Option, ◌∷◌, is_some, refl, sym, ap, ◌∙◌}
 use Rattle.std.specs.Prelude.{◌==◌, slice_get}
-use Rattle.std.specs.Option.{option_map_or, unwrap_or}
+use Rattle.std.specs.Option.{option_map_or}
 use mathlib.Core.Bool.{false≢true}
 use Rattle.jr_path.specs.declared.text.Text.{Text}
-use Rattle.jr_rev.specs.declared.revision.Revision.{Revision}
-use Rattle.jr_rev.specs.declared.vector.Pin.{Pin}
-use Rattle.jr_rev.specs.declared.vector.RevVec.{RevVec}
 use Rattle.oak_machine.specs.declared.event.Event.{Event}
 use Rattle.oak_machine.specs.declared.event.Event.TheVariants as event
 use Rattle.oak_machine.specs.declared.event.StepKind.{StepKind}
 use Rattle.oak_machine.specs.declared.event.StepKind.TheVariants as kind
-use Rattle.oak_machine.specs.History.{Past}
 use Rattle.oak_machine.specs.Heads.{head_of}
 use Rattle.oak_machine.specs.Laws.{Says, Starts, StartsProper}
 use Rattle.oak_machine.specs.Runs.{IsNode, IsRunOf}
@@ -22,14 +18,14 @@ use Rattle.core_read.specs.Told.{IsTold}
 use Rattle.core_heads.proofs.Runs.{told_past}
 use Rattle.core_clash.specs.Sessions.{Running}
 use Rattle.core_nodes.specs.Nodes.{moved_pin}
-use Rattle.core_world.specs.States.{State, history_in, memory_at, memory_of, node_of}
+use Rattle.core_world.specs.States.{State, history_in, memory_of, node_of}
 use Rattle.core_world.specs.Steps.{after_leave, after_login, after_refresh, after_said, after_went}
 use Rattle.core_world.specs.Kept.{IsKept}
 use Rattle.core_world.proofs.Finishing.{quiet_commits}
 use Rattle.core_world.proofs.Flights.{same_number, still_idle}
 use Rattle.core_world.proofs.Logged.{login_node, some_number}
 use Rattle.core_world.proofs.Memories.{aside, leave_memories, login_memories, refresh_memories}
-use Rattle.core_world.proofs.Readers.{moves_pin_of, pin_reads, pinned_is, quiet_reads}
+use Rattle.core_world.proofs.Readers.{pin_reads, pinned_is, quiet_reads}
 
 pub chosen_false : (b c : Bool) → c ≡ false → cond b false c ≡ false
 chosen_false true c h = refl

@@ -1,5 +1,5 @@
 -- A reader is made, is fed, or is taken away; and what it gives.
-use Rattle.std.proofs.Common.{◌≡◌, ℕ, ◌≤◌, Bool, true, false, not, ◌&&◌, Some, None, Option, List, ◌∷◌, is_some, refl, sym, ap, subst, ◌∙◌, arith}
+use Rattle.std.proofs.Common.{◌≡◌, ℕ, ◌≤◌, Bool, true, false, not, ◌&&◌, Some, None, Option, is_some, refl, sym, ap, subst, ◌∙◌, arith}
 use Rattle.std.specs.Prelude.{slice_get}
 use Rattle.std.specs.Option.{option_map_or}
 use Rattle.std.specs.declared.alloc.Global.{Global}
@@ -10,7 +10,6 @@ use Rattle.jr_rev.specs.declared.vector.Pin.{Pin}
 use Rattle.jr_rev.specs.declared.vector.RevVec.{RevVec}
 use Rattle.jr_rev.specs.Vectors.{sees, start}
 use Rattle.oak_machine.specs.declared.event.Draw.{Draw}
-use Rattle.oak_machine.specs.History.{Past}
 use Rattle.oak_machine.specs.Commits.{draw_of, is_ended, is_in_base, is_in_flight, tree_at}
 use Rattle.oak_machine.specs.Laws.{Says, Starts, StartsProper}
 use Rattle.oak_node.specs.Pins.{pin_of}
@@ -19,7 +18,7 @@ use Rattle.oak_read.specs.declared.reader.ReadOut.{ReadOut}
 use Rattle.oak_read.specs.declared.reader.Step.TheVariants as step
 use Rattle.oak_read.specs.Meaning.{documents_in}
 use Rattle.oak_read.specs.Reading.{IsTable, answer, children_reader, due, fed, node_reader}
-use Rattle.core_read.specs.Holds.{IsSwept, edit_of}
+use Rattle.core_read.specs.Holds.{IsSwept}
 use Rattle.core_read.specs.Told.{IsInUse}
 use Rattle.core_heads.proofs.Entries.{start_begun, start_sees}
 use Rattle.core_heads.proofs.Orders.{at_most_time}

@@ -1,10 +1,9 @@
 -- What a run says of a session that has logged in, and of a draw.
-use Rattle.std.proofs.Common.{◌≡◌, ℕ, Bool, true, false, cond, ◌||◌, Some, None, Option, List, [], ◌∷◌, is_some, refl, sym, ap, subst, ◌∙◌}
+use Rattle.std.proofs.Common.{◌≡◌, ℕ, Bool, true, false, cond, ◌||◌, Some, None, Option, List, [], ◌∷◌, is_some, refl, sym, ap, subst}
 use Rattle.std.specs.Prelude.{◌==◌, slice_get}
 use Rattle.std.specs.Option.{unwrap_or}
 use mathlib.Core.Bool.{false≢true}
 use Rattle.jr_rev.specs.declared.revision.Revision.{Revision}
-use Rattle.jr_rev.specs.declared.vector.RevVec.{RevVec}
 use Rattle.jr_rev.specs.Revisions.{is_same}
 use Rattle.oak_machine.specs.declared.event.Draw.{Draw}
 use Rattle.oak_machine.specs.declared.event.Event.{Event}
@@ -13,7 +12,7 @@ use Rattle.oak_machine.specs.History.{Past}
 use Rattle.oak_machine.specs.Commits.{draw_of}
 use Rattle.oak_machine.specs.Laws.{Says, Starts}
 use Rattle.oak_machine.specs.Runs.{IsRunOf}
-use Rattle.oak_machine.specs.Sessions.{base_of, has_login, is_login_of}
+use Rattle.oak_machine.specs.Sessions.{has_login, is_login_of}
 use Rattle.core_clash.proofs.Basics.{or_right, same_revision, some_is}
 use Rattle.core_world.proofs.Flights.{same_number}
 

@@ -1,12 +1,10 @@
 -- The memories of all cluster nodes, after a step on one of them.
-use Rattle.std.proofs.Common.{◌≡◌, ℕ, ◌-◌, ◌≤◌, ◌<◌, Bool, true, false, cond, not, Some, None, Option, List, [], ◌∷◌, length, is_some, refl, sym, ap, subst, ◌∙◌, arith}
+use Rattle.std.proofs.Common.{◌≡◌, ℕ, ◌-◌, ◌≤◌, Bool, true, false, not, Some, List, [], ◌∷◌, length, refl, sym, ap, subst, ◌∙◌, arith}
 use Rattle.std.proofs.Math.ListN.{get_or}
 use Rattle.std.proofs.lemmas.List.{get_or-set_same, get_or-set_other, length-set}
 use Rattle.std.proofs.lemmas.Option.{unwrap_or-slice_get}
-use Rattle.std.specs.Prelude.{◌==◌, ◌≢◌, slice_get, slice_set}
-use Rattle.std.specs.List.{fold}
-use Rattle.std.specs.Option.{option_map_or, unwrap_or}
-use Rattle.std.proofs.lemmas.Bool.Decides.{nat_tests}
+use Rattle.std.specs.Prelude.{◌==◌, ◌≢◌, slice_get}
+use Rattle.std.specs.Option.{option_map_or}
 use Rattle.jr_path.specs.declared.path.Path.{Path}
 use Rattle.jr_rev.specs.declared.revision.Revision.{Revision}
 use Rattle.jr_rev.specs.declared.vector.RevVec.{RevVec}
@@ -21,9 +19,9 @@ use Rattle.oak_machine.specs.Runs.{AreNodes, IsNode, IsRunOf}
 use Rattle.oak_machine.specs.Sessions.{has_left}
 use Rattle.oak_node.specs.Heads.{finished, next_draw, with_draw}
 use Rattle.oak_node.specs.Memory.{NodeState, begun}
-use Rattle.oak_node.specs.Pins.{pin_now, with_pin, without_pin}
+use Rattle.oak_node.specs.Pins.{pin_now, without_pin}
 use Rattle.oak_node.proofs.Places.{insert_sorted, remove_sorted}
-use Rattle.core_nodes.specs.Nodes.{ArePinsOf, IsMemoryOf, is_of_node, leaves_memory, leaves_pins, moved_pin}
+use Rattle.core_nodes.specs.Nodes.{ArePinsOf, IsMemoryOf, is_of_node, leaves_memory, leaves_pins}
 use Rattle.core_nodes.proofs.Events.{apart_run, draw_run, end_run, leave_run, login_run, notes_kept, refresh_run}
 use Rattle.core_nodes.proofs.Pins.{pins_kept}
 use Rattle.core_world.specs.States.{memory_at, with_memory}

@@ -1,5 +1,5 @@
 -- The steps of one session leave the committers and the readers of the others.
-use Rattle.std.proofs.Common.{◌≡◌, ℕ, Bool, true, false, cond, Some, None, Option, Ok, Err, Result, List, refl, ap}
+use Rattle.std.proofs.Common.{◌≡◌, ℕ, false, cond, Option, Ok, Err, Result, List, refl, ap}
 use Rattle.std.specs.Prelude.{◌==◌}
 use Rattle.jr_path.specs.declared.path.Path.{Path}
 use Rattle.jr_path.specs.declared.text.Text.{Text}

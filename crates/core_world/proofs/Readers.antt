@@ -1,23 +1,22 @@
 -- The readers of all sessions, after a step of one.
-use Rattle.std.proofs.Common.{◌≡◌, ℕ, Bool, true, false, cond, not, ◌&&◌, Some, None, Option, List, ◌∷◌, is_some, refl, sym, ap, subst, ◌∙◌}
+use Rattle.std.proofs.Common.{◌≡◌, ℕ, Bool, true, false, cond, not, ◌&&◌, Some, None, Option, ◌∷◌, is_some, refl, sym, ap, ◌∙◌}
 use Rattle.std.specs.Prelude.{◌==◌}
 use Rattle.std.specs.Option.{option_map, option_map_or, unwrap_or}
 use mathlib.Core.Bool.{false≢true}
 use Rattle.jr_rev.specs.declared.revision.Revision.{Revision}
 use Rattle.jr_rev.specs.declared.vector.Pin.{Pin}
 use Rattle.jr_rev.specs.declared.vector.RevVec.{RevVec}
-use Rattle.jr_rev.specs.Vectors.{sees, start}
+use Rattle.jr_rev.specs.Vectors.{start}
 use Rattle.oak_machine.specs.declared.event.Event.{Event}
 use Rattle.oak_machine.specs.History.{Past}
 use Rattle.oak_machine.specs.Commits.{is_commit_of}
 use Rattle.oak_machine.specs.Sessions.{base_of, has_left, has_login}
 use Rattle.oak_read.specs.declared.reader.Reader.{Reader}
-use Rattle.oak_read.specs.Meaning.{Documents, documents_in}
+use Rattle.oak_read.specs.Meaning.{documents_in}
 use Rattle.oak_store.specs.Tables.{Table}
 use Rattle.core_nodes.specs.Nodes.{moved_pin, session_pin}
 use Rattle.core_nodes.proofs.Pins.{pin_left}
 use Rattle.core_watch.specs.Copies.{IsSteady}
-use Rattle.core_watch.specs.Standing.{IsReading}
 use Rattle.core_watch.proofs.Steady.{event_steady, lasts}
 use Rattle.core_world.specs.Kept.{AreReading}
 use Rattle.core_world.proofs.Flights.{same_number}

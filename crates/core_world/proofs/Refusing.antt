@@ -1,5 +1,5 @@
 -- A committer is refused, or wants memory, and turns to undoing.
-use Rattle.std.proofs.Common.{◌≡◌, ℕ, Bool, true, false, Some, Option, List, [], ◌∷◌, refl, sym, ap, subst, ◌∙◌}
+use Rattle.std.proofs.Common.{◌≡◌, ℕ, true, false, Some, Option, List, [], ◌∷◌, refl, sym, ap}
 use Rattle.jr_path.specs.declared.path.Path.{Path}
 use Rattle.jr_path.specs.declared.path.Item.{Item}
 use Rattle.jr_rev.specs.declared.revision.Revision.{Revision}

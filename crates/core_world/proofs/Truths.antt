@@ -9,11 +9,9 @@ use Rattle.jr_rev.specs.declared.vector.Pin.{Pin}
 use Rattle.jr_rev.specs.declared.vector.RevVec.{RevVec}
 use Rattle.jr_rev.specs.Revisions.{is_before, is_same}
 use Rattle.jr_rev.specs.Vectors.{sees, start, start_of}
-use Rattle.jr_tree.specs.declared.tree.Node.{Node}
 use Rattle.jr_tree.specs.Trees.{node_at}
-use Rattle.oak_clash.specs.declared.mark.Mark.{Mark}
 use Rattle.oak_clash.specs.Clashes.{commit_root}
-use Rattle.oak_commit.specs.Clashing.{Met, Writer, found, has, has_mark, marked}
+use Rattle.oak_commit.specs.Clashing.{Met, Writer, found, marked}
 use Rattle.oak_doc.specs.declared.document.Document.{Document}
 use Rattle.oak_machine.specs.declared.event.Draw.{Draw}
 use Rattle.oak_machine.specs.declared.event.Event.{Event}

@@ -1,7 +1,6 @@
 -- A committer undoes a document.
-use Rattle.std.proofs.Common.{◌≡◌, inl, inr, ℕ, Bool, true, false, cond, not, ◌&&◌, ◌||◌, Some, None, Option, Ok, Err, List, [], ◌∷◌, ◌++◌, is_some, refl, sym, ap, subst, ◌∙◌}
+use Rattle.std.proofs.Common.{◌≡◌, ℕ, Bool, true, false, cond, not, ◌&&◌, Some, None, Option, List, ◌∷◌, ◌++◌, refl, sym, ap, subst, ◌∙◌}
 use Rattle.std.specs.Ordering.{eq_by_cmp}
-use Rattle.std.specs.List.{list_any}
 use mathlib.Core.Bool.{false≢true}
 use Rattle.jr_path.specs.Names.{path_cmp}
 use Rattle.jr_path.specs.declared.path.Path.{Path}
@@ -18,7 +17,7 @@ use Rattle.oak_machine.specs.declared.event.Draw.{Draw}
 use Rattle.oak_machine.specs.declared.event.Event.TheVariants as event
 use Rattle.oak_machine.specs.declared.event.StepKind.TheVariants as kind
 use Rattle.oak_machine.specs.History.{Past}
-use Rattle.oak_machine.specs.Commits.{draw_of, is_committed}
+use Rattle.oak_machine.specs.Commits.{draw_of}
 use Rattle.oak_read.specs.Meaning.{Documents, documents_in}
 use Rattle.oak_store.specs.Tables.{Table, after_undo, next_number}
 use Rattle.core_read.specs.Committing.{IsPartly, IsUnwritten}
@@ -41,7 +40,7 @@ use Rattle.core_world.specs.States.{core_in, nodes_in, with_session}
 use Rattle.core_world.specs.Steps.{paths_to_write}
 use Rattle.core_world.specs.Kept.{AreCommitting}
 use Rattle.core_world.proofs.Committers.{at_session, theirs_step}
-use Rattle.core_world.proofs.Progress.{among_less, is_among, partly_same, progress_with}
+use Rattle.core_world.proofs.Progress.{among_less, is_among, progress_with}
 use Rattle.core_world.proofs.Tables.{undo_node, undo_none, undo_write}
 use Rattle.core_world.proofs.Working.{flies, mine, partly_by, pending, world_of}
 

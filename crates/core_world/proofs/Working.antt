@@ -1,5 +1,5 @@
 -- What a committer at work may count on.
-use Rattle.std.proofs.Common.{◌≡◌, ℕ, Bool, true, false, Some, None, Option, List, [], refl, sym, ap, subst, ◌∙◌}
+use Rattle.std.proofs.Common.{◌≡◌, ℕ, true, false, Some, None, Option, [], ap, subst, ◌∙◌}
 use Rattle.std.specs.Option.{option_map_or}
 use Rattle.jr_path.specs.declared.path.Path.{Path}
 use Rattle.jr_rev.specs.declared.revision.Revision.{Revision}
@@ -8,7 +8,7 @@ use Rattle.oak_clash.specs.Clashes.{commit_root}
 use Rattle.oak_commit.specs.Clashing.{Writer}
 use Rattle.oak_machine.specs.declared.event.Draw.{Draw}
 use Rattle.oak_machine.specs.History.{Past}
-use Rattle.oak_machine.specs.Commits.{draw_of, is_committed, is_in_flight, marks_of}
+use Rattle.oak_machine.specs.Commits.{draw_of, is_in_flight}
 use Rattle.oak_read.specs.Meaning.{Documents, documents_in}
 use Rattle.oak_store.specs.Tables.{Table}
 use Rattle.core_read.specs.Committing.{IsPartly}
@@ -16,7 +16,7 @@ use Rattle.core_read.specs.Holds.{edit_of, the_start}
 use Rattle.core_read.specs.Told.{IsTold}
 use Rattle.core_read.specs.World.{IsWorld, Progress}
 use Rattle.core_read.proofs.Told.{no_edit}
-use Rattle.core_clash.specs.Core.{Core, IsGoing, root_of}
+use Rattle.core_clash.specs.Core.{IsGoing, root_of}
 use Rattle.core_clash.specs.Sessions.{IsTheirs, Running}
 use Rattle.core_clash.proofs.Pasts.{in_flight}
 use Rattle.core_world.specs.States.{core_in}

@@ -1,5 +1,5 @@
 -- What each world keeps: the journal is a run, the documents hold what it tells, the committers are sound, the memories are those of the journal, and the readers read.
-use Rattle.std.specs.Prelude.{◌≡◌, ℕ, Bool, List, length, Option, None, Some, IsTrue, IsFalse}
+use Rattle.std.specs.Prelude.{◌≡◌, ℕ, Bool, List, length, Option, None, Some, IsFalse}
 use Rattle.std.specs.Ordering.{eq_by_cmp}
 use Rattle.std.specs.List.{list_any}
 use Rattle.jr_path.specs.Names.{path_cmp}

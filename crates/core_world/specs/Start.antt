@@ -1,5 +1,5 @@
 -- A world before any step.
-use Rattle.std.specs.Prelude.{◌≡◌, ℕ, List, [], ◌∷◌, length, map, None, Some, codes, false}
+use Rattle.std.specs.Prelude.{ℕ, List, [], ◌∷◌, length, map, None, Some, codes, false}
 use Rattle.std.specs.List.{range_with_len}
 use Rattle.jr_path.specs.declared.path.Path.{Path}
 use Rattle.jr_path.specs.declared.name.Name.{Name}
