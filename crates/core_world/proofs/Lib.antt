@@ -23,4 +23,5 @@ pub mod Begins
 pub mod Begun
 pub mod Others
 pub mod Truths
-mod Rows
+pub mod Rows
+mod Chain
