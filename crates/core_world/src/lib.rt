@@ -36,7 +36,7 @@ ghost use Rattle.core_watch.specs.Standing.{AreChildrenOf, IsNodeOf, path_read};
 ghost use Rattle.core_world.specs.Kept.{IsFreeOf, IsKept};
 ghost use Rattle.core_world.specs.Start.{start_state};
 ghost use Rattle.core_world.specs.States.{State, base_in, history_in, memory_at, memory_of, nodes_in};
-ghost use Rattle.core_world.specs.Steps.{IsThrough, LeavesOthers, after_draw, after_finish, after_last, after_leave, after_login, after_mark, after_refresh, after_said, after_undoing, after_want, after_went, after_write, with_reader};
+ghost use Rattle.core_world.specs.Steps.{IsThrough, LeavesOthers, after_draw, after_finish, after_last, after_leave, after_login, after_mark, after_refresh, after_said, after_undoing, after_want, after_went, after_write, after_write_in_want, with_reader};
 
 use oak_machine::Law;
 
@@ -56,12 +56,13 @@ pub fn sessions_keep_the_world<L: Law>(law: &L)
     ensures gone { (w : State) (s : ℕ) → IsKept (L.may_start law.now) (L.may_say law.now) w → IsKept (L.may_start law.now) (L.may_say law.now) (with_reader w s None) }
 {}
 
-/// Each step of a commit keeps the world: the draw of an edit that the law lets start; the write of the next document, and
-/// the mark of the next collision, of a committer that neither has committed nor undoes; its last write, where nothing is
+/// Each step of a commit keeps the world: the draw of an edit that the law lets start; the write of the next document, also
+/// where memory is then refused for what is met there, and the mark of the next collision, of a committer that neither has committed nor undoes; its last write, where nothing is
 /// left; its turn to undoing for want of memory; the undoing of a document; and the end of its revision.
 pub fn commits_keep_the_world<L: Law>(law: &L)
     ensures draw { (w : State) (s : ℕ) (edit : Edit) (marks : List MarkAt) (paths : List Path) → IsKept (L.may_start law.now) (L.may_say law.now) w → IsTrue (has_login w.past s) → IsFalse (has_left w.past s) → w.running s ≡ None → L.may_start law.now (history_in w) s edit marks → IsKept (L.may_start law.now) (L.may_say law.now) (after_draw w s edit marks paths) }
     ensures write { (w : State) (s : ℕ) (x : Running) (p : Path) (rest : List Path) → IsKept (L.may_start law.now) (L.may_say law.now) w → w.running s ≡ Some x → IsFalse x.committed → IsFalse x.writer.undoing → x.writer.due ≡ [] → x.writer.left ≡ p ∷ rest → IsKept (L.may_start law.now) (L.may_say law.now) (after_write w s x p rest) }
+    ensures write_in_want { (w : State) (s : ℕ) (x : Running) (p : Path) (rest : List Path) → IsKept (L.may_start law.now) (L.may_say law.now) w → w.running s ≡ Some x → IsFalse x.committed → IsFalse x.writer.undoing → x.writer.due ≡ [] → x.writer.left ≡ p ∷ rest → IsKept (L.may_start law.now) (L.may_say law.now) (after_write_in_want w s x p rest) }
     ensures mark { (w : State) (s : ℕ) (x : Running) (f : Met) (rest : List Met) → IsKept (L.may_start law.now) (L.may_say law.now) w → w.running s ≡ Some x → IsFalse x.committed → IsFalse x.writer.undoing → x.writer.due ≡ f ∷ rest → IsKept (L.may_start law.now) (L.may_say law.now) (after_mark w s x f rest) }
     ensures last { (w : State) (s : ℕ) (x : Running) → IsKept (L.may_start law.now) (L.may_say law.now) w → w.running s ≡ Some x → IsFalse x.committed → IsFalse x.writer.undoing → x.writer.due ≡ [] → x.writer.left ≡ [] → IsKept (L.may_start law.now) (L.may_say law.now) (after_last w s x) }
     ensures want { (w : State) (s : ℕ) (x : Running) → IsKept (L.may_start law.now) (L.may_say law.now) w → w.running s ≡ Some x → IsFalse x.committed → IsFalse x.writer.undoing → IsKept (L.may_start law.now) (L.may_say law.now) (after_want w s x) }
@@ -111,6 +112,7 @@ pub fn sessions_leave_others()
     ensures reader { (w : State) (s : ℕ) (r : Option Reader) → LeavesOthers s w (with_reader w s r) }
     ensures draw { (w : State) (s : ℕ) (edit : Edit) (marks : List MarkAt) (paths : List Path) → LeavesOthers s w (after_draw w s edit marks paths) }
     ensures write { (w : State) (s : ℕ) (x : Running) (p : Path) (rest : List Path) → LeavesOthers s w (after_write w s x p rest) }
+    ensures write_in_want { (w : State) (s : ℕ) (x : Running) (p : Path) (rest : List Path) → LeavesOthers s w (after_write_in_want w s x p rest) }
     ensures mark { (w : State) (s : ℕ) (x : Running) (f : Met) (rest : List Met) → LeavesOthers s w (after_mark w s x f rest) }
     ensures last { (w : State) (s : ℕ) (x : Running) → LeavesOthers s w (after_last w s x) }
     ensures want { (w : State) (s : ℕ) (x : Running) → LeavesOthers s w (after_want w s x) }
