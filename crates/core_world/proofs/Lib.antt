@@ -22,6 +22,7 @@ pub mod Loads
 pub mod Begins
 pub mod Begun
 pub mod Others
+pub mod Tabled
 pub mod Truths
 pub mod Rows
 mod Chain
