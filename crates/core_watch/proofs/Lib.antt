@@ -8,3 +8,4 @@ pub mod Feeding
 pub mod Steady
 pub mod Moments
 pub mod Ending
+pub mod Worlds

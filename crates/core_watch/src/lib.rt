@@ -1,7 +1,8 @@
 //! Readers of documents that change meanwhile: what comes between their steps changes nothing of what they give.
 #![tactic(auto)]
 
-ghost use Rattle.std.specs.Prelude.{◌≡◌, ◌≤◌, ◌⊎◌, List, [], ◌∷◌, Option, None, Some, IsTrue, IsFalse, length};
+ghost use Rattle.std.specs.Prelude.{◌≡◌, ◌≤◌, ◌⊎◌, ℕ, List, [], ◌∷◌, Option, None, Some, IsTrue, IsFalse, length};
+ghost use Rattle.std.specs.List.{list_all};
 ghost use Rattle.std.specs.declared.alloc.Global.{Global};
 ghost use Rattle.std.specs.declared.cmp.Ordering.TheVariants.{Less};
 ghost use Rattle.jr_path.specs.Ids.{id_cmp};
@@ -11,7 +12,12 @@ ghost use Rattle.jr_path.specs.declared.path.DocId.TheVariants as id;
 ghost use Rattle.jr_rev.specs.declared.revision.Revision.{Revision};
 ghost use Rattle.jr_rev.specs.declared.vector.Pin.{Pin};
 ghost use Rattle.jr_rev.specs.declared.vector.RevVec.{RevVec};
+ghost use Rattle.oak_clash.specs.Clashes.{commit_root};
 ghost use Rattle.oak_doc.specs.declared.document.Document.{Document};
+ghost use Rattle.oak_doc.specs.declared.update.Change.{Change};
+ghost use Rattle.oak_doc.specs.declared.update.Change.TheVariants as change;
+ghost use Rattle.oak_doc.specs.declared.update.UpdateOp.{UpdateOp};
+ghost use Rattle.oak_doc.specs.Updates.{after_changes};
 ghost use Rattle.oak_doc.specs.declared.asks.Reply.{Reply};
 ghost use Rattle.oak_read.specs.Meaning.{Documents, documents_in};
 ghost use Rattle.oak_read.specs.Reading.{IsTable, answer, due, fed, node_reader, children_reader};
@@ -24,8 +30,11 @@ ghost use Rattle.oak_machine.specs.declared.event.Event.TheVariants as event;
 ghost use Rattle.oak_machine.specs.History.{Past};
 ghost use Rattle.oak_machine.specs.Commits.{draw_of, is_commit_of, is_in_flight, tree_at};
 ghost use Rattle.oak_machine.specs.Runs.{MayCommit};
-ghost use Rattle.core_read.specs.Holds.{has_revision, Holds, IsSameAt, IsSameBut, IsSwept, IsWrite};
+ghost use Rattle.core_read.specs.Committing.{is_marking, IsWriteOp};
+ghost use Rattle.core_read.specs.Holds.{edit_of, has_revision, Holds, IsSameAt, IsSameBut, IsSwept, IsWrite};
 ghost use Rattle.core_read.specs.Told.{IsInUse, IsTold};
+ghost use Rattle.core_read.specs.World.{IsWorld, Progress};
+ghost use Rattle.core_read.specs.Writes.{IsOrderedDocument};
 ghost use Rattle.core_watch.specs.Copies.{IsSteady};
 ghost use Rattle.core_watch.specs.Standing.{path_read, AreChildrenOf, IsNodeOf, IsReading};
 ghost use Rattle.core_watch.specs.Moments.{after_moments, answered, AreSteady, IsDone, IsFor, Moment, roots_left};
@@ -59,6 +68,15 @@ pub fn steps_are_steady()
     ensures others { (v : RevVec) (ds now : Documents) (past : Past) → ((x : Path) → now (id.Node x) ≡ ds (id.Node x)) → IsSteady v ds now past past }
     ensures last { (v : RevVec) (ds now : Documents) (past : Past) (r : Revision) (drawn : Draw) (p : Path) (d : Document) → IsTold past → IsInUse past v → MayCommit past r → draw_of past r ≡ Some drawn → IsWrite ds now p d → IsSameBut r p (ds (id.Node p)) d → IsSteady v ds now past (event.Commit r ∷ past) }
     ensures calm { (v : RevVec) (ds : Documents) (past : Past) (e : Event) → ((r : Revision) → IsFalse (is_commit_of r e)) → IsSteady v ds ds past (e ∷ past) }
+{}
+
+/// So the steps of a world, by the updates that committers make, change nothing that a vector in use sees: a write of a
+/// document, an undo, marks, and the last write with its Commit.
+pub fn worlds_are_steady()
+    ensures write { (v : RevVec) (ds now : Documents) (past : Past) (done : Progress) (r : Revision) (drawn : Draw) (p : Path) (marks : List Change) (op : UpdateOp) (number : ℕ) → IsWorld ds past done → IsInUse past v → draw_of past r ≡ Some drawn → IsTrue (is_in_flight past r) → edit_of past r ≡ None → IsWriteOp op r drawn.edit.writes (commit_root drawn.marks) p marks → IsFalse (done r p) → IsWrite ds now p (after_changes (ds (id.Node p)) op number) → IsSteady v ds now past past }
+    ensures undo { (v : RevVec) (ds now : Documents) (past : Past) (done : Progress) (r : Revision) (p : Path) (d : Document) (op : UpdateOp) (number : ℕ) → IsWorld ds past done → IsInUse past v → IsTrue (is_in_flight past r) → ds (id.Node p) ≡ Some d → IsOrderedDocument d → op.changes ≡ change.Undo r ∷ [] → IsWrite ds now p (after_changes (Some d) op number) → IsSteady v ds now past past }
+    ensures mark { (v : RevVec) (ds now : Documents) (past : Past) (done : Progress) (p : Path) (op : UpdateOp) (number : ℕ) → IsWorld ds past done → op.id ≡ id.Node p → IsTrue (list_all is_marking op.changes) → IsWrite ds now p (after_changes (ds (id.Node p)) op number) → IsSteady v ds now past past }
+    ensures last { (v : RevVec) (ds now : Documents) (past : Past) (done : Progress) (r : Revision) (drawn : Draw) (op : UpdateOp) (number : ℕ) → IsWorld ds past done → IsInUse past v → draw_of past r ≡ Some drawn → MayCommit past r → op.id ≡ id.Node (commit_root drawn.marks) → op.changes ≡ change.Revisions r ∷ [] → IsWrite ds now (commit_root drawn.marks) (after_changes (ds (id.Node (commit_root drawn.marks))) op number) → IsSteady v ds now past (event.Commit r ∷ past) }
 {}
 
 /// A reader of a node is done after its first answer and one for each commit root that is left then, whatever these
