@@ -120,11 +120,11 @@ module _ (a : Global) (pin : Pin) (p q : Path) (names : List Name) (known : Know
       previous (Some left) = refl
 
 -- the document behind that of the last child is that of the next one, or it is done
-pub next_rises : (m : Moment) (r : Reader) → IsTable m.table → r.step ≡ step.Next → IsDone (answered r m).step ⊎ (id_cmp (id.Node r.at) (id.Node (answered r m).at) ≡ Less)
+pub next_rises : (m : Moment) (r : Reader) → IsTable m.table → r.step ≡ step.Next → IsDone (answered r m).step ⊎ ((id_cmp (id.Node r.at) (id.Node (answered r m).at) ≡ Less) × (is_some (documents_in m.table (id.Node (answered r m).at)) ≡ true))
 next_rises m r is next = by r.alloc r.pin r.parent r.at r.known r.names r.step next
   where
     Rises : Path → Reader → Type 0
-    Rises at r' = IsDone r'.step ⊎ (id_cmp (id.Node at) (id.Node r'.at) ≡ Less)
+    Rises at r' = IsDone r'.step ⊎ ((id_cmp (id.Node at) (id.Node r'.at) ≡ Less) × (is_some (documents_in m.table (id.Node r'.at)) ≡ true))
 
     by : (a : Global) (pin : Pin) (parent : Option Path) (at : Path) (known : Known) (names : List Name) (s : Step) → s ≡ step.Next
         → Rises at (answered (record { alloc = a; pin = pin; parent = parent; at = at; known = known; names = names; step = s }) m)
@@ -153,5 +153,5 @@ next_rises m r is next = by r.alloc r.pin r.parent r.at r.known r.names r.step n
               where
                 at_node : (b : Bool) → Rises at (option_map_or (λ q'. settled (noted (record { alloc = a; pin = pin; parent = Some p; at = q'; known = known; names = names; step = step.Next }) (id.Node q) (Some e.1))) (cond b (Some q) None) (ended (record { alloc = a; pin = pin; parent = Some p; at = at; known = known; names = names; step = step.Next })))
                 at_node false = inl tt
-                at_node true = inr (subst (λ (z : Path). id_cmp (id.Node at) (id.Node z) ≡ Less) (sym (stays_at a pin p q names (with_known known (id.Node q) (Some e.1)) step.Next))
-                    (subst (λ (x : DocId). id_cmp (id.Node at) x ≡ Less) same found.above))
+                at_node true = inr (subst (λ (z : Path). (id_cmp (id.Node at) (id.Node z) ≡ Less) × (is_some (documents_in m.table (id.Node z)) ≡ true)) (sym (stays_at a pin p q names (with_known known (id.Node q) (Some e.1)) step.Next))
+                    (subst (λ (x : DocId). (id_cmp (id.Node at) x ≡ Less) × (is_some (documents_in m.table x) ≡ true)) same (found.above, ap is_some found.found)))

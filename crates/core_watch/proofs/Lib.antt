@@ -9,3 +9,4 @@ pub mod Steady
 pub mod Moments
 pub mod Ending
 pub mod Worlds
+pub mod Finite

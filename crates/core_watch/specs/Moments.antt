@@ -1,6 +1,8 @@
 -- Readers that are answered step by step, while documents and journal go on between their steps.
-use Rattle.std.specs.Prelude.{◌≡◌, ℕ, suc, List, [], ◌∷◌, length, Option}
-use Rattle.std.specs.List.{fold}
+use Rattle.std.specs.Prelude.{◌≡◌, ℕ, zero, suc, List, [], ◌∷◌, length, Option, is_some, IsTrue}
+use Rattle.std.specs.Ordering.{eq_by_cmp}
+use Rattle.std.specs.List.{fold, list_any}
+use Rattle.jr_path.specs.Ids.{id_cmp}
 use Rattle.jr_path.specs.declared.path.Path.{Path}
 use Rattle.jr_path.specs.declared.path.DocId.{DocId}
 use Rattle.jr_rev.specs.declared.vector.Pin.{Pin}
@@ -56,3 +58,13 @@ roots_left _ = 0
 abbrev pub IsDone : Step → Type 0
 IsDone (step.Done o) = Unit {0}
 IsDone _ = ⊥
+
+-- the first n of moments without end
+abbrev pub first_of : ℕ → (ℕ → Moment) → List Moment
+first_of zero f = []
+first_of (suc n) f = f 0 ∷ first_of n (λ i. f (suc i))
+
+-- at a moment the documents are in store order, and each has one of these ids
+pub record HasIdsAmong (ids : List DocId) (m : Moment) : Type 0 where
+  pub ordered : IsTable m.table
+  pub among : (x : DocId) → IsTrue (is_some (documents_in m.table x)) → IsTrue (list_any (eq_by_cmp id_cmp x) ids)

@@ -1,7 +1,7 @@
 //! Readers of documents that change meanwhile: what comes between their steps changes nothing of what they give.
 #![tactic(auto)]
 
-ghost use Rattle.std.specs.Prelude.{◌≡◌, ◌≤◌, ◌⊎◌, ℕ, List, [], ◌∷◌, Option, None, Some, IsTrue, IsFalse, length};
+ghost use Rattle.std.specs.Prelude.{◌≡◌, ◌≤◌, ◌⊎◌, ℕ, List, [], ◌∷◌, Option, None, Some, IsTrue, IsFalse, is_some, length};
 ghost use Rattle.std.specs.List.{list_all};
 ghost use Rattle.std.specs.declared.alloc.Global.{Global};
 ghost use Rattle.std.specs.declared.cmp.Ordering.TheVariants.{Less};
@@ -37,7 +37,7 @@ ghost use Rattle.core_read.specs.World.{IsWorld, Progress};
 ghost use Rattle.core_read.specs.Writes.{IsOrderedDocument};
 ghost use Rattle.core_watch.specs.Copies.{IsSteady};
 ghost use Rattle.core_watch.specs.Standing.{path_read, AreChildrenOf, IsNodeOf, IsReading};
-ghost use Rattle.core_watch.specs.Moments.{after_moments, answered, AreSteady, IsDone, IsFor, Moment, roots_left};
+ghost use Rattle.core_watch.specs.Moments.{after_moments, answered, AreSteady, first_of, HasIdsAmong, IsDone, IsFor, Moment, roots_left};
 
 /// Whatever comes between its steps, a reader that is done gives the node, or the names of the children, of the tree that
 /// the journal has at its pin's base: where at each step the documents hold what the journal tells, the base is in use,
@@ -79,9 +79,11 @@ pub fn worlds_are_steady()
     ensures last { (v : RevVec) (ds now : Documents) (past : Past) (done : Progress) (r : Revision) (drawn : Draw) (op : UpdateOp) (number : ℕ) → IsWorld ds past done → IsInUse past v → draw_of past r ≡ Some drawn → MayCommit past r → op.id ≡ id.Node (commit_root drawn.marks) → op.changes ≡ change.Revisions r ∷ [] → IsWrite ds now (commit_root drawn.marks) (after_changes (ds (id.Node (commit_root drawn.marks))) op number) → IsSteady v ds now past (event.Commit r ∷ past) }
 {}
 
-/// A reader of a node is done after its first answer and one for each commit root that is left then, whatever these
-/// answers are. A reader of children goes forward: the document behind that of a child is that of a later one, or it is done.
+/// Any reader ends, whatever comes between its steps, as long as the documents that come have finitely many ids. One of a
+/// node is done after its first answer and one for each commit root that is left then. One of children goes forward: the
+/// document that it takes next is there, behind that of the child before, or it is done.
 pub fn readers_end()
+    ensures ends { (ids : List DocId) (f : ℕ → Moment) (r : Reader) → ((i : ℕ) → HasIdsAmong ids (f i)) → (n : ℕ) × IsDone (after_moments (first_of n f) r).step }
     ensures node { (a : Global) (pin : Pin) (p : Path) (m k : Moment) (ms : List Moment) → AreSteady pin m (k ∷ []) → roots_left (answered (node_reader a pin p) k).step ≤ length ms → IsDone (after_moments (k ∷ ms) (node_reader a pin p)).step }
-    ensures rises { (m : Moment) (r : Reader) → IsTable m.table → r.step ≡ step.Next → IsDone (answered r m).step ⊎ (id_cmp (id.Node r.at) (id.Node (answered r m).at) ≡ Less) }
+    ensures rises { (m : Moment) (r : Reader) → IsTable m.table → r.step ≡ step.Next → IsDone (answered r m).step ⊎ ((id_cmp (id.Node r.at) (id.Node (answered r m).at) ≡ Less) × IsTrue (is_some (documents_in m.table (id.Node (answered r m).at)))) }
 {}
