@@ -10,6 +10,7 @@ use Rattle.oak_doc.specs.declared.document.Document.{Document}
 use Rattle.oak_read.specs.Meaning.{documents_in}
 use Rattle.oak_read.specs.Reading.{IsTable, answer, due, fed}
 use Rattle.oak_read.specs.declared.reader.Reader.{Reader}
+use Rattle.oak_read.specs.declared.reader.ReadOut.{ReadOut}
 use Rattle.oak_read.specs.declared.reader.Step.{Step}
 use Rattle.oak_read.specs.declared.reader.Step.TheVariants as step
 use Rattle.oak_machine.specs.History.{Past}
@@ -68,3 +69,7 @@ first_of (suc n) f = f 0 ∷ first_of n (λ i. f (suc i))
 pub record HasIdsAmong (ids : List DocId) (m : Moment) : Type 0 where
   pub ordered : IsTable m.table
   pub among : (x : DocId) → IsTrue (is_some (documents_in m.table x)) → IsTrue (list_any (eq_by_cmp id_cmp x) ids)
+
+-- after some of moments without end a reader is done, and gives one of these
+abbrev pub EndsWith : (ReadOut → Type 0) → (ℕ → Moment) → Reader → Type 0
+EndsWith P f r = (n : ℕ) × (o : ReadOut) × ((after_moments (first_of n f) r).step ≡ step.Done o) × P o

@@ -37,14 +37,17 @@ ghost use Rattle.core_read.specs.World.{IsWorld, Progress};
 ghost use Rattle.core_read.specs.Writes.{IsOrderedDocument};
 ghost use Rattle.core_watch.specs.Copies.{IsSteady};
 ghost use Rattle.core_watch.specs.Standing.{path_read, AreChildrenOf, IsNodeOf, IsReading};
-ghost use Rattle.core_watch.specs.Moments.{after_moments, answered, AreSteady, first_of, HasIdsAmong, IsDone, IsFor, Moment, roots_left};
+ghost use Rattle.core_watch.specs.Moments.{after_moments, answered, AreSteady, EndsWith, first_of, HasIdsAmong, IsDone, IsFor, Moment, roots_left};
 
-/// Whatever comes between its steps, a reader that is done gives the node, or the names of the children, of the tree that
-/// the journal has at its pin's base: where at each step the documents hold what the journal tells, the base is in use,
-/// and from one step to the next nothing changes that the base sees.
+/// Whatever comes between its steps, a reader ends with the node, or the names of the children, of the tree that the
+/// journal has at its pin's base: where at each step the documents hold what the journal tells, the base is in use, and
+/// from one step to the next nothing changes that the base sees. That it ends needs that the documents that come have
+/// finitely many ids; what it gives where it is done doesn't.
 pub fn readers_read_the_tree()
-    ensures node { (a : Global) (pin : Pin) (p : Path) (m : Moment) (ms : List Moment) (o : ReadOut) → AreSteady pin m ms → (after_moments ms (node_reader a pin p)).step ≡ step.Done o → IsNodeOf (tree_at m.past pin.base) p o }
-    ensures children { (a : Global) (pin : Pin) (p : Path) (m : Moment) (ms : List Moment) (o : ReadOut) → AreSteady pin m ms → (after_moments ms (children_reader a pin p)).step ≡ step.Done o → AreChildrenOf (tree_at m.past pin.base) p o }
+    ensures node { (ids : List DocId) (a : Global) (pin : Pin) (p : Path) (m : Moment) (f : ℕ → Moment) → ((n : ℕ) → AreSteady pin m (first_of n f)) → ((i : ℕ) → HasIdsAmong ids (f i)) → EndsWith (IsNodeOf (tree_at m.past pin.base) p) f (node_reader a pin p) }
+    ensures children { (ids : List DocId) (a : Global) (pin : Pin) (p : Path) (m : Moment) (f : ℕ → Moment) → ((n : ℕ) → AreSteady pin m (first_of n f)) → ((i : ℕ) → HasIdsAmong ids (f i)) → EndsWith (AreChildrenOf (tree_at m.past pin.base) p) f (children_reader a pin p) }
+    ensures node_done { (a : Global) (pin : Pin) (p : Path) (m : Moment) (ms : List Moment) (o : ReadOut) → AreSteady pin m ms → (after_moments ms (node_reader a pin p)).step ≡ step.Done o → IsNodeOf (tree_at m.past pin.base) p o }
+    ensures children_done { (a : Global) (pin : Pin) (p : Path) (m : Moment) (ms : List Moment) (o : ReadOut) → AreSteady pin m ms → (after_moments ms (children_reader a pin p)).step ≡ step.Done o → AreChildrenOf (tree_at m.past pin.base) p o }
 {}
 
 /// The same, a step at a time: a reader begins to read the tree, reads on over each answer of the documents and over each
