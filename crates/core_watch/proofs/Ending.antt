@@ -1,11 +1,10 @@
 -- When a reader ends: a node's after its commit roots, and that of children goes forward from document to document.
-use Rattle.std.proofs.Common.{◌≡◌, ℕ, ◌≤◌, zero, suc, arith, length, ◌⊎◌, inl, inr, Bool, true, false, cond, Some, None, Option, List, [], ◌∷◌, refl, sym, ap, ◌∙◌, subst}
-use Rattle.std.specs.Prelude.{is_some, is_none, slice_get}
+use Rattle.std.proofs.Common.{◌≡◌, ◌≤◌, suc, arith, length, ◌⊎◌, inl, inr, Bool, true, false, cond, Some, None, Option, List, [], ◌∷◌, refl, sym, ap, ◌∙◌, subst}
+use Rattle.std.specs.Prelude.{is_some, slice_get}
 use Rattle.std.specs.Option.{option_map, option_map_or}
 use Rattle.std.specs.declared.alloc.Global.{Global}
 use Rattle.std.specs.declared.cmp.Ordering.TheVariants.{Less}
 use Rattle.std.proofs.lemmas.List.Elements.{recursion_from_All}
-use mathlib.Core.Bool.{false≢true}
 use Rattle.jr_path.specs.Ids.{id_cmp}
 use Rattle.jr_path.specs.declared.name.Name.{Name}
 use Rattle.jr_path.specs.declared.path.Path.{Path}
@@ -14,10 +13,9 @@ use Rattle.jr_path.specs.declared.path.DocId.TheVariants as id
 use Rattle.jr_rev.specs.declared.vector.Pin.{Pin}
 use Rattle.jr_tree.specs.Trees.{Nodes, is_child_of}
 use Rattle.oak_doc.specs.declared.document.Document.{Document}
-use Rattle.oak_doc.specs.declared.asks.Reply.TheVariants as reply
 use Rattle.oak_read.specs.Meaning.{documents_in}
 use Rattle.oak_read.specs.Wanted.{Known, Ids, left_of, previous_wanted, roots_wanted}
-use Rattle.oak_read.specs.Reading.{IsTable, answer, due, fed, fed_main, fed_next, child_at, ended, noted, settled, on_main, on_previous, on_roots, with_known, node_reader}
+use Rattle.oak_read.specs.Reading.{IsTable, answer, due, fed_main, fed_next, child_at, ended, noted, settled, on_main, on_previous, on_roots, with_known, node_reader}
 use Rattle.oak_read.specs.declared.wanted.Left.{Left}
 use Rattle.oak_read.specs.declared.reader.Reader.{Reader}
 use Rattle.oak_read.specs.declared.reader.Step.{Step}

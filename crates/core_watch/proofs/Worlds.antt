@@ -1,5 +1,5 @@
 -- The steps of a world are steady: those of committers, and marks.
-use Rattle.std.proofs.Common.{◌≡◌, ℕ, Bool, true, false, Some, None, List, [], ◌∷◌, Option, refl, sym, ap, ◌∙◌, subst}
+use Rattle.std.proofs.Common.{◌≡◌, ℕ, true, false, Some, None, List, [], ◌∷◌, Option, sym, ap, subst}
 use Rattle.std.specs.List.{fold, list_all}
 use Rattle.jr_path.specs.declared.path.Path.{Path}
 use Rattle.jr_path.specs.declared.path.DocId.TheVariants as id
