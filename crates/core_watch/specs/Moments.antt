@@ -56,6 +56,7 @@ abbrev pub roots_left : Step → ℕ
 roots_left (step.Roots left) = suc (length left.rest)
 roots_left _ = 0
 
+-- a reader is done
 abbrev pub IsDone : Step → Type 0
 IsDone (step.Done o) = Unit {0}
 IsDone _ = ⊥

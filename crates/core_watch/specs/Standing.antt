@@ -69,11 +69,12 @@ pub record HasBegun (p : Path) (at : Path) (names : List Name) : Type 0 where
   pub least : at ≡ p ++ codes "!" ∷ []
   pub none : names ≡ []
 
--- what a reader gives is the node of a tree at a path, or the names of the children there
+-- what a reader gives is the node of a tree at a path
 abbrev pub IsNodeOf : Nodes → Path → ReadOut → Type 0
 IsNodeOf tree p (out.Node n) = option_map (λ n. n.props) n ≡ option_map (λ n. n.props) (node_at tree p)
 IsNodeOf tree p (out.Children ns) = ⊥
 
+-- it is the names of the children of a path in a tree, in order
 abbrev pub AreChildrenOf : Nodes → Path → ReadOut → Type 0
 AreChildrenOf tree p (out.Node n) = ⊥
 AreChildrenOf tree p (out.Children ns) = ns ≡ children_of tree p
