@@ -1,12 +1,11 @@
 -- The memories of a run, event by event.
-use Rattle.std.proofs.Common.{◌≡◌, ◌≢◌, ◌↔◌, ℕ, zero, suc, ◌+◌, ◌≤◌, Bool, true, false, cond, not, ◌⊎◌, inl, inr, Option, Some, None, List, [], ◌∷◌, is_some, refl, sym, ap, subst, ◌∙◌, arith}
+use Rattle.std.proofs.Common.{◌≡◌, ◌≢◌, ◌↔◌, ℕ, zero, suc, ◌+◌, ◌≤◌, Bool, true, false, cond, Option, Some, None, List, [], ◌∷◌, is_some, refl, sym, ap, subst, ◌∙◌, arith}
 use Rattle.std.specs.Prelude.{◌==◌, max, nat_le, slice_get, unwrap_or}
 use Rattle.std.specs.List.Sorted.{IsStrictlySortedBy}
 use Rattle.std.specs.Map.{keys_of}
 use Rattle.std.specs.Ordering.{nat_cmp}
 use Rattle.std.proofs.lemmas.Bool.Decides.{nat_tests}
 use Rattle.std.specs.Option.{IsSomeAnd}
-use mathlib.Core.Bool.{false≢true}
 use Rattle.jr_rev.specs.declared.revision.Revision.{Revision}
 use Rattle.jr_rev.specs.declared.vector.Pin.{Pin}
 use Rattle.jr_rev.specs.declared.vector.RevVec.{RevVec}
@@ -17,22 +16,22 @@ use Rattle.oak_machine.specs.declared.event.Event.{Event}
 use Rattle.oak_machine.specs.declared.event.Event.TheVariants as event
 use Rattle.oak_machine.specs.declared.event.StepKind.TheVariants as kind
 use Rattle.oak_machine.specs.History.{Past}
-use Rattle.oak_machine.specs.Commits.{draw_of, is_drawn, is_ended, is_in_flight}
+use Rattle.oak_machine.specs.Commits.{draw_of, is_drawn, is_ended}
 use Rattle.oak_machine.specs.Heads.{head_of, last_draw_time, last_in, local}
 use Rattle.oak_machine.specs.Laws.{Says, Starts}
 use Rattle.oak_machine.specs.Runs.{AreNodes, IsNode, IsRunOf}
 use Rattle.oak_machine.specs.Sessions.{has_left, has_login}
 use Rattle.oak_node.specs.declared.pending.Note.{Note}
 use Rattle.oak_node.specs.Heads.{IsInFlight, finished, greatest_time, next_draw, with_draw}
-use Rattle.oak_node.specs.Memory.{NodeState, IsMemory, begun, own_entry}
+use Rattle.oak_node.specs.Memory.{NodeState, begun, own_entry}
 use Rattle.oak_node.specs.Pins.{pin_now, with_pin, without_pin}
 use Rattle.oak_node.proofs.Kept.{pins_memory, start_memory}
 use Rattle.oak_node.proofs.Owns.{with_entry_same}
 use Rattle.core_read.proofs.Latest.{at_most_both, before_itself, not_before}
 use Rattle.core_heads.specs.Sound.{IsSound}
 use Rattle.core_heads.proofs.Later.{IsLater}
-use Rattle.core_heads.proofs.Locals.{local_cluster, some_of}
-use Rattle.core_heads.proofs.Orders.{and_both, not_both, same_itself, same_number}
+use Rattle.core_heads.proofs.Locals.{some_of}
+use Rattle.core_heads.proofs.Orders.{and_both, not_both, same_itself}
 use Rattle.core_heads.proofs.Runs.{fresh_run, sound_run}
 use Rattle.core_heads.proofs.Steps.{later_draw, later_end}
 use Rattle.core_nodes.specs.Nodes.{ArePinsOf, IsMemoryOf, is_of_node, leaves_memory, session_pin}

@@ -1,6 +1,6 @@
 -- Each event leaves each memory that of the past.
-use Rattle.std.proofs.Common.{◌≡◌, ℕ, ◌+◌, ◌<◌, ◌≤◌, Bool, true, false, cond, not, ◌&&◌, ◌||◌, ◌⊎◌, inl, inr, Option, Some, List, [], ◌∷◌, ◌++◌, length, map, filter, fold, reverse, refl, sym, ap, subst, ◌∙◌, arith}
-use Rattle.std.specs.Prelude.{◌==◌, max, unwrap_or}
+use Rattle.std.proofs.Common.{◌≡◌, ℕ, ◌+◌, ◌<◌, Bool, true, false, cond, not, ◌&&◌, ◌||◌, ◌⊎◌, inl, inr, Option, Some, List, [], ◌∷◌, ◌++◌, map, filter, fold, reverse, refl, sym, ap, subst, ◌∙◌, arith}
+use Rattle.std.specs.Prelude.{◌==◌, unwrap_or}
 use Rattle.std.specs.List.{list_all}
 use mathlib.Core.Bool.{false≢true}
 use mathlib.Core.List.{reverse-cons}
@@ -11,26 +11,25 @@ use Rattle.jr_rev.specs.declared.vector.RevVec.{RevVec}
 use Rattle.jr_rev.specs.Revisions.{is_at_most, is_before, is_same}
 use Rattle.jr_rev.specs.Vectors.{entry, start_of, with_entry}
 use Rattle.oak_machine.specs.declared.event.Draw.{Draw}
-use Rattle.oak_machine.specs.declared.event.Event.{Event}
 use Rattle.oak_machine.specs.declared.event.Event.TheVariants as event
 use Rattle.oak_machine.specs.History.{Past}
-use Rattle.oak_machine.specs.Commits.{is_drawn, is_ended, is_in_flight}
+use Rattle.oak_machine.specs.Commits.{is_drawn, is_ended}
 use Rattle.oak_machine.specs.Heads.{draws_by, greater_of, head_of, last_draw_time, last_in, local}
 use Rattle.oak_machine.specs.Runs.{AreNodes, IsNode}
 use Rattle.oak_node.specs.declared.drawn.Drawn.{Drawn}
-use Rattle.oak_node.specs.Heads.{finished, flying_in, greatest_time, known_time, local_from, next_draw, with_draw, with_end}
-use Rattle.oak_node.specs.Memory.{NodeState, IsMemory, own_entry, revisions_in}
+use Rattle.oak_node.specs.Heads.{finished, known_time, local_from, next_draw, with_draw, with_end}
+use Rattle.oak_node.specs.Memory.{NodeState, own_entry, revisions_in}
 use Rattle.oak_node.proofs.Kept.{draw_memory, finish_memory}
-use Rattle.core_read.proofs.Latest.{at_most_both, at_most_trans, before_itself, not_before, same_revision}
+use Rattle.core_read.proofs.Latest.{at_most_both, at_most_trans, not_before, same_revision}
 use Rattle.core_read.proofs.Vectors.{time_before}
 use Rattle.core_heads.specs.Sound.{IsIn, IsSound}
 use Rattle.core_heads.proofs.Later.{IsLater}
 use Rattle.core_heads.proofs.Locals.{IsSettledDraw, local_cluster, local_each, local_first, local_is}
-use Rattle.core_heads.proofs.Orders.{all_in, and_both, and_true, filter_in, fold_each, fold_first, fold_has, in_all, in_filter, not_both, same_itself, same_number}
+use Rattle.core_heads.proofs.Orders.{all_in, and_both, and_true, filter_in, fold_each, fold_first, fold_has, in_all, in_filter, same_itself}
 use Rattle.core_heads.proofs.Steps.{later_end}
 use Rattle.core_nodes.specs.Nodes.{IsMemoryOf, as_drawn, drawn_above, revisions_above}
 use Rattle.core_nodes.proofs.Lists.{ended_drawn, filter_drawn, filter_twice, flying_of_drawn, revisions_of_drawn, same_drawn}
-use Rattle.core_nodes.proofs.Pasts.{above_in, at_most_before, drawn_local, ended_local, in_above, local_before, local_time, not_false, not_true}
+use Rattle.core_nodes.proofs.Pasts.{above_in, at_most_before, drawn_local, ended_local, in_above, local_before, local_time}
 use Rattle.core_nodes.proofs.Vectors.{entry_set, with_again}
 
 module _ (clusters : ℕ) (sessions : List ℕ) (nodes : AreNodes clusters sessions) (past : Past) (sound : IsSound clusters sessions past) where

@@ -1,5 +1,5 @@
 -- What a memory keeps above its own entry, and what a revision that has ended awaits.
-use Rattle.std.proofs.Common.{◌≡◌, ◌↔◌, ℕ, Bool, true, false, not, ◌&&◌, ◌⊎◌, inl, inr, List, map, refl, sym, ap, subst, ◌∙◌}
+use Rattle.std.proofs.Common.{◌≡◌, ◌↔◌, ℕ, Bool, true, false, ◌⊎◌, inl, inr, List, map, refl, sym, ap, subst, ◌∙◌}
 use Rattle.std.specs.Prelude.{Contains}
 use Rattle.jr_rev.specs.declared.revision.Revision.{Revision}
 use Rattle.jr_rev.specs.declared.vector.RevVec.{RevVec}
@@ -17,7 +17,7 @@ use Rattle.oak_node.specs.Memory.{NodeState, own_entry}
 use Rattle.core_read.proofs.Latest.{not_before}
 use Rattle.core_heads.specs.Sound.{IsSound}
 use Rattle.core_heads.proofs.Orders.{and_both, and_true}
-use Rattle.core_nodes.specs.Nodes.{AwaitsFlight, IsAboveOf, IsAwaitedAt, IsMemoryOf, as_drawn, revisions_above}
+use Rattle.core_nodes.specs.Nodes.{IsAboveOf, IsAwaitedAt, IsMemoryOf, as_drawn, revisions_above}
 use Rattle.core_nodes.proofs.Lists.{drawn_has, has_drawn}
 use Rattle.core_nodes.proofs.Memories.{own_is}
 use Rattle.core_nodes.proofs.Pasts.{above_in, in_above, local_before, not_false, not_true}

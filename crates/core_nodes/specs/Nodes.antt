@@ -56,6 +56,7 @@ leaves_memory k (event.End r) = not (r.cluster == k)
 leaves_memory k (event.In m v) = not (m == k)
 leaves_memory k _ = true
 
+-- the event is a draw
 abbrev pub is_draw : Event → Bool
 is_draw (event.Draw d) = true
 is_draw _ = false

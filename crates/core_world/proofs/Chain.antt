@@ -1,17 +1,14 @@
 -- From the start a commit can be made whole: each step's premises can be met.
-use Rattle.std.proofs.Common.{◌≡◌, inl, inr, ℕ, zero, suc, Bool, true, false, Some, None, Option, List, [], ◌∷◌, is_some, refl, sym, ap, subst, ◌∙◌, arith}
+use Rattle.std.proofs.Common.{◌≡◌, inl, inr, ℕ, zero, suc, Some, [], ◌∷◌, is_some, refl, ap, arith}
 use Rattle.std.specs.Prelude.{slice_get}
 use Rattle.std.specs.Option.{unwrap_or}
 use mathlib.Core.Bool.{false≢true}
-use Rattle.jr_path.specs.declared.path.Path.{Path}
 use Rattle.jr_rev.specs.declared.vector.RevVec.{RevVec}
-use Rattle.jr_rev.specs.Vectors.{start}
 use Rattle.jr_tree.specs.Edits.{IsProper}
 use Rattle.oak_clash.specs.Clashes.{marked_paths}
 use Rattle.oak_machine.specs.Commits.{tree_at}
-use Rattle.oak_machine.specs.Laws.{AreOfWrites, HasBase, Says, Starts, StartsProper}
+use Rattle.oak_machine.specs.Laws.{AreOfWrites, HasBase, Starts, StartsProper}
 use Rattle.oak_machine.specs.Runs.{AreNodes, IsNode, any_said}
-use Rattle.oak_machine.specs.Sessions.{base_of}
 use Rattle.core_world.specs.Kept.{IsKept}
 use Rattle.core_world.specs.States.{State}
 use Rattle.core_world.specs.Steps.{after_leave, after_refresh}

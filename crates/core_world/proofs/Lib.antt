@@ -23,6 +23,7 @@ pub mod Begins
 pub mod Begun
 pub mod Others
 pub mod Tabled
+pub mod Named
 pub mod Truths
 pub mod Rows
 mod Chain

@@ -1,20 +1,17 @@
 -- The documents stay in store order, each under its id, with names by the grammar.
-use Rattle.std.proofs.Common.{◌≡◌, inl, inr, ℕ, ◌≤◌, Bool, true, false, cond, not, ◌&&◌, Some, None, Option, Ok, Err, Result, List, [], ◌∷◌, ◌++◌, length, is_some, is_none, refl, sym, ap, subst, ◌∙◌, arith, fold}
-use Rattle.std.specs.Prelude.{codes}
-use Rattle.std.specs.List.{All, AllByRecursion, last_or}
+use Rattle.std.proofs.Common.{◌≡◌, ℕ, Bool, true, false, cond, not, ◌&&◌, Some, None, Option, Ok, Err, Result, List, [], ◌∷◌, is_none, refl, sym, ap, subst, ◌∙◌, fold}
+use Rattle.std.specs.List.{All, AllByRecursion}
 use Rattle.std.specs.List.Sorted.{IsStrictlySortedBy}
 use Rattle.std.specs.Map.{keys_of, lookup, set_value}
-use Rattle.std.specs.Option.{option_map_or, unwrap_or}
+use Rattle.std.specs.Option.{option_map_or}
 use Rattle.std.specs.Ordering.{eq_by_cmp, match_ordering, ordering_reverse}
 use Rattle.std.specs.BTreeMap.{insert_entry, is_at}
 use Rattle.std.specs.declared.cmp.Ordering.{Ordering}
 use Rattle.std.specs.declared.cmp.Ordering.TheVariants.{Less, Equal, Greater}
 use Rattle.std.proofs.lemmas.List.Elements.{All-from_recursion, recursion_from_All}
 use Rattle.std.proofs.lemmas.Map.{keys-set_value}
-use mathlib.Core.Bool.{false≢true}
 use Rattle.jr_path.specs.Grammar.{IsName}
 use Rattle.jr_path.specs.Ids.{id_cmp}
-use Rattle.jr_path.specs.declared.path.Path.{Path}
 use Rattle.jr_path.specs.declared.path.DocId.{DocId}
 use Rattle.jr_path.specs.declared.path.DocId.TheVariants as id
 use Rattle.jr_path.proofs.Orders.{id_exact, id_total}
@@ -32,10 +29,10 @@ use Rattle.oak_doc.specs.declared.update.Field.TheVariants as field
 use Rattle.oak_doc.specs.declared.update.OpFault.{OpFault}
 use Rattle.oak_doc.specs.declared.update.OpFault.TheVariants as fault
 use Rattle.oak_doc.specs.declared.update.Kept.TheVariants as kept
-use Rattle.oak_doc.specs.Updates.{after_changes, changed, document_of, is_met, pruned, refusal, undone, updated}
+use Rattle.oak_doc.specs.Updates.{after_changes, changed, document_of, is_met, pruned, refusal, undone}
 use Rattle.oak_read.specs.Meaning.{path_of}
 use Rattle.oak_read.specs.Reading.{IsTable}
-use Rattle.oak_store.specs.Tables.{Table, after_undo, found, next_number, with_document}
+use Rattle.oak_store.specs.Tables.{Table, after_undo, found, next_number}
 use Rattle.core_clash.specs.Core.{root_of}
 use Rattle.core_clash.specs.Sessions.{Running}
 use Rattle.core_watch.proofs.Behind.{each_found}
