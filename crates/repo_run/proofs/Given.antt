@@ -199,9 +199,10 @@ module _ (options : List RowOption) (name : List ℕ) (g : Given) (words rest : 
 
   pub once : is_some r ≡ false → (b : Bool) → IsTrue b ↔ AreOnce options rest → IsTrue b ↔ AreOnce options words
   unfolding IsDistinct
-  once none b k =
-      (λ t. let m = k.0 t in ((name, g) ∷ m.0, (rest, p, x, m.1), (apart name m.0 (sym (says m.0 m.1) ∙ is_none r none), m.2)),
-        λ w. let m = behind w in k.1 (m.0, m.1, m.3))
+  once none b k = (
+    λ t. let m = k.0 t in ((name, g) ∷ m.0, (rest, p, x, m.1), (apart name m.0 (sym (says m.0 m.1) ∙ is_none r none), m.2)),
+    λ w. let m = behind w in k.1 (m.0, m.1, m.3),
+  )
 
 -- ---- what words give
 
@@ -235,11 +236,14 @@ module _ (options : List WordOption) (words : List (List ℕ)) where
   Met n = (given : List (List ℕ × Given)) → AreGiven (map row_option options) given words → (k : ℕ) (d : WordOption) → k < n → IsTrue (get_or options k d).required → IsSome (lookup (bytes_eq (get_or options k d).name.now) given)
 
   pub spelled : (n : ℕ) → length options ≤ n → AreOnce (map row_option options) words → Met n → (given : List (List ℕ × Given)) × AreOptions (map row_option options) given words
-  spelled n is k met = (k.0, record {
-    each = k.1;
-    once = k.2;
-    needed = all_met (λ (o : RowOption). IsTrue o.required → IsSome (lookup (bytes_eq o.name) k.0)) options (λ j d h. met k.0 k.1 j d (omega (arith, h, is)));
-  })
+  spelled n is k met = (
+    k.0,
+    record {
+      each = k.1;
+      once = k.2;
+      needed = all_met (λ (o : RowOption). IsTrue o.required → IsSome (lookup (bytes_eq o.name) k.0)) options (λ j d h. met k.0 k.1 j d (omega (arith, h, is)));
+    },
+  )
 
   pub not_spelled : (k : ℕ) (d : WordOption) (b : Bool) → k < length options → b ≡ false → ((given : List (List ℕ × Given)) → AreGiven (map row_option options) given words → IsTrue b ↔ (IsTrue (get_or options k d).required → IsSome (lookup (bytes_eq (get_or options k d).name.now) given))) → (given : List (List ℕ × Given)) → AreOptions (map row_option options) given words → ⊥
   not_spelled k d b h is says given s =
@@ -264,12 +268,15 @@ module _ (table : List Row) (words : List (List ℕ)) (command : List ℕ) (behi
       none (given, subst (λ (w : List (List ℕ)). AreOptions (map row_option o.options.now) given w) rest s)
 
   pub is_row : (o : Row) → Some o ≡ find (λ (r : Row). bytes_eq r.command.now command) table → ((given : List (List ℕ × Given)) × AreOptions (map row_option o.options.now) given behind) → (given : List (List ℕ × Given)) × IsRow (map table_row table) (table_row o) given words
-  is_row o f s = let e : command ≡ o.command.now = sym (bytes_eq-true _ _ (find_passes (λ (r : Row). bytes_eq r.command.now command) table o (sym f))) in (s.0, record {
-    rest = behind;
-    command = is ∙ ap (λ (c : List ℕ). c ∷ behind) e;
-    first = ap (λ (c : List ℕ). find (λ (r : TableRow). bytes_eq r.command c) (map table_row table)) (sym e) ∙ find_row command table ∙ ap (option_map table_row) (sym f);
-    options = s.1;
-  })
+  is_row o f s = let e : command ≡ o.command.now = sym (bytes_eq-true _ _ (find_passes (λ (r : Row). bytes_eq r.command.now command) table o (sym f))) in (
+    s.0,
+    record {
+      rest = behind;
+      command = is ∙ ap (λ (c : List ℕ). c ∷ behind) e;
+      first = ap (λ (c : List ℕ). find (λ (r : TableRow). bytes_eq r.command c) (map table_row table)) (sym e) ∙ find_row command table ∙ ap (option_map table_row) (sym f);
+      options = s.1;
+    },
+  )
 
 -- ---- the program's table
 
@@ -282,16 +289,18 @@ nothing_given [] words are = are
 nothing_given (g ∷ more) words are = absurd (cc are.1.named)
 
 pub steps_alone : (words : List (List ℕ)) → Means words Steps ↔ (words ≡ codes "steps" ∷ [])
-steps_alone words =
-    (λ m.
+unfolding IsDistinct
+steps_alone words = (
+  λ m.
       let r = m.2 in
       let row : m.0 ≡ steps = the_row (bytes_eq (codes "steps") m.0.command) steps m.0 r.first in
       let o : AreOptions [] m.1 r.rest = subst (λ (i : TableRow). AreOptions i.options m.1 r.rest) row r.options in
       r.command ∙ ap (λ (i : TableRow). i.command ∷ r.rest) row ∙ ap (λ (rest : List (List ℕ)). codes "steps" ∷ rest) (nothing_given m.1 r.rest o.each),
-      λ e. (steps, [], record { rest = []; command = e; first = refl; options = record { each = refl; once = none; needed = tt } }, refl))
+  λ e. (steps, [], record { rest = []; command = e; first = refl; options = record { each = refl; once = none; needed = tt } }, refl),
+)
   where
     steps : TableRow
     steps = record { command = codes "steps"; meaning = Steps; options = [] }
+
     none : IsDistinct bytes_eq (keys_of (let g : List (List ℕ × Given) = [] in g))
-    unfolding IsDistinct
     none = tt
