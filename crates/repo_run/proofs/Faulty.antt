@@ -11,6 +11,7 @@ use Rattle.repo_run.specs.Statuses.{fault_line, status_of}
 use Rattle.repo_run.specs.declared.status.Unrun.{Unrun}
 use Rattle.repo_run.specs.declared.status.Unrun.TheVariants as unrun
 use Rattle.repo_run.specs.Words.{Means}
+use Rattle.repo_run.specs.declared.words.Words.{Words}
 use Rattle.repo_run.specs.declared.words.Words.TheVariants.{Steps}
 use mathlib.Core.Bool.{false≢true}
 
@@ -37,6 +38,10 @@ module _ (c : Call) (none : c.left ≡ None) where
   unrun_ends unrun.ReadFault result cause told = lined unrun.ReadFault result tt cause (λ f. f) told
   unrun_ends unrun.TooLong result cause told = lined unrun.TooLong result tt cause (λ f. f) told
   unrun_ends unrun.Memory result cause told = refused result cause.0 told
+
+-- the one meaning that words can have is `steps`
+pub means_steps : (words : List (List ℕ)) (meaning : Words) → Means words meaning → Means words Steps
+means_steps words Steps means = means
 
 -- no script came of a source, where the words have a meaning
 pub unread_cause : (c : Call) (why : Unrun) → Means c.words Steps → IsUnread c.source c.source_now why → IsCause c why
