@@ -8,7 +8,7 @@ mod Saying
 mod Committing
 mod Trees
 mod Turning
-mod Next
+mod Replying
 mod Living
 mod Starting
 mod Ending
