@@ -1,0 +1,7 @@
+pub mod Marks
+pub mod Moves
+pub mod Parents
+pub mod Whole
+pub mod Commits
+pub mod Sights
+pub mod Merged
