@@ -7,6 +7,7 @@ use Rattle.std.specs.List.{list_any}
 use Rattle.std.proofs.lemmas.Cmp.{eq_by_cmp_equiv}
 use mathlib.Core.Bool.{false≢true}
 use Rattle.jr_path.specs.Names.{path_cmp}
+use Rattle.jr_path.specs.declared.path.Path.{Path}
 use Rattle.jr_path.proofs.Maps.{path_total}
 use Rattle.jr_rev.specs.declared.revision.Revision.{Revision}
 use Rattle.jr_rev.specs.Revisions.{revision_cmp, is_before, is_same}
@@ -21,16 +22,16 @@ use Rattle.oak_machine.specs.declared.event.Event.TheVariants as event
 use Rattle.oak_machine.specs.History.{Past}
 use Rattle.oak_machine.specs.Commits.{draw_of, committed_edits, is_drawn, is_committed, is_ended, is_in_base, are_clashing, marks_of}
 use Rattle.oak_machine.specs.Laws.{Starts, Says, StartsProper}
-use Rattle.oak_machine.specs.Runs.{IsRunOf, AreNodes}
+use Rattle.oak_machine.specs.Runs.{IsRunOf, AreNodes, MayCommit}
 use Rattle.core_read.specs.Holds.{edit_of, the_start, start_writes}
 use Rattle.core_read.specs.Told.{Covers, IsTold}
 use Rattle.core_read.proofs.Entries.{first, second, both}
 use Rattle.core_read.proofs.Falling.{not_both}
 use Rattle.core_read.proofs.Latest.{same_revision, before_itself}
-use Rattle.core_read.proofs.Told.{edit_committed, marks_is}
+use Rattle.core_read.proofs.Told.{edit_committed}
 use Rattle.core_heads.proofs.Runs.{fresh_run, told_past}
-use Rattle.core_merge.specs.Parents.{MarkParents, StartsMarkingParents, ApartAbove}
-use Rattle.core_merge.proofs.Marks.{apart_above}
+use Rattle.core_merge.specs.Parents.{moves, MarkParents, StartsMarkingParents, ApartAbove}
+use Rattle.core_merge.proofs.Marks.{apart_above, no_both_move}
 use Rattle.core_merge.proofs.Parents.{AreApartAbove}
 
 -- ---- which of two draws is asked makes no difference
@@ -119,6 +120,9 @@ module _ (clusters : ℕ) (sessions : List ℕ) (nodes : AreNodes clusters sessi
           (sym (ap (λ (x : Option Draw). option_map_or (λ d. sees d.base r) x false) theirs) ∙ t))
   unseen_apart (e ∷ past) run r o c k other s t = unseen_apart past run.1 r o c k other s t
 
+  marks_is : (past : Past) (r : Revision) (d : Draw) → draw_of past r ≡ Some d → marks_of past r ≡ d.marks
+  marks_is past r d drawn = ap (λ (x : Option Draw). option_map_or (λ d. d.marks) x []) drawn
+
   -- each draw has marked the parents of the nodes that it adds or removes
   marked_draws : StartsMarkingParents starts → (past : Past) → IsRunOf starts says clusters sessions past → (r : Revision) (d : Draw) → draw_of past r ≡ Some d → MarkParents d.marks d.edit.writes
   marked_draws marking [] run r d h = absurd (false≢true (ap is_some h))
@@ -128,6 +132,27 @@ module _ (clusters : ℕ) (sessions : List ℕ) (nodes : AreNodes clusters sessi
       by true k rest = subst (λ (x : Draw). MarkParents x.marks x.edit.writes) (ap (λ o. unwrap_or o e) k) (marking _ e.session e.edit e.marks run.0.lawful)
       by false k rest = rest k
   marked_draws marking (e ∷ past) run r d h = marked_draws marking past run.1 r d h
+
+  -- what is committed adds or removes no node that a commit of a greater revision did
+  pub apart_moves : StartsProper starts → (past : Past) → IsRunOf starts says clusters sessions past → (r : Revision) (dr : Draw) → draw_of past r ≡ Some dr → MayCommit past r
+      → (q : Revision) (us : List Write) → edit_of past q ≡ Some us → is_before r q ≡ true → (p : Path) → moves p dr.edit.writes ≡ true → moves p us ≡ true → ⊥
+  apart_moves proper past run r dr drawn may q us e before p m k = by (eq_by_cmp revision_cmp q the_start) refl
+    where
+      told : IsTold past
+      told = told_past clusters sessions nodes starts says proper past run
+
+      unseen : (b : Bool) → is_in_base past r q ≡ b → b ≡ false
+      unseen true h = absurd (false≢true (sym (not_both r q before) ∙ (told.draws r dr drawn).ready.rises q h))
+      unseen false h = refl
+
+      by : (b : Bool) → eq_by_cmp revision_cmp q the_start ≡ b → ⊥
+      by true h = false≢true (sym (not_both r the_start (subst (λ (x : Revision). is_before r x ≡ true) (same_revision q the_start h) before)) ∙ (told.draws r dr drawn).after)
+      by false h =
+          let d = told.edits q us e h in
+          let done : is_committed past q ≡ true = edit_committed past q (sym (ap (λ b. is_some (cond b (Some start_writes) (of_revision (committed_edits past) q))) h) ∙ ap is_some e) in
+          let clear : clashing dr.marks (d.0).marks ≡ false =
+          sym (ap (λ (ms : List MarkAt). clashing ms (marks_of past q)) (marks_is past r dr drawn) ∙ ap (clashing dr.marks) (marks_is past q d.0 d.1)) ∙ may.apart q done (unseen _ refl) in
+          no_both_move dr.marks (d.0).marks dr.edit.writes us (told.draws r dr drawn).covers (subst (λ (xs : List Write). Covers (d.0).marks xs) d.2 (told.draws q d.0 d.1).covers) clear p m k
 
   module _ (proper : StartsProper starts) (marking : StartsMarkingParents starts) (past : Past) (run : IsRunOf starts says clusters sessions past) where
     told : IsTold past

@@ -4,4 +4,6 @@ pub mod Parents
 pub mod Whole
 pub mod Commits
 pub mod Sights
+pub mod Order
 pub mod Merged
+mod Rows

@@ -71,6 +71,10 @@ apart_above ms os ws us c d m n none = record {
   above = λ p q up h. unwritten _ (λ k. false≢true (sym none ∙ meet_left ms os q (c.node q k) (n p q up h)));
 }
 
+-- they add or remove no node both
+pub no_both_move : (ms os : List MarkAt) (ws us : List Write) → Covers ms ws → Covers os us → clashing ms os ≡ false → (p : Path) → moves p ws ≡ true → moves p us ≡ true → ⊥
+no_both_move ms os ws us c d none p h k = false≢true (sym none ∙ meet_left ms os p (c.node p h) (any_in (λ (o : MarkAt). eq_by_cmp path_cmp p o.path) (record { path = p; mark = Exists }) os (d.node p k) (path_ties.refl p)))
+
 -- ---- the marks of an edit
 
 unlike : (o : Ordering) (G : Type 0) → is_eq o ≡ false → o ≡ Equal → G

@@ -30,10 +30,11 @@ abbrev pub there : Past → Sight → Path → Bool
 there past s p = is_some (node_at (tree_of s (falling past)) p)
 
 module _ (past : Past) (sound : IsSoundPast past) where
-  abbrev moving : Sight → Path → Revision → Option Bool
+  -- what a commit that is seen leaves of the node
+  abbrev pub moving : Sight → Path → Revision → Option Bool
   moving s p r = writing (here_of p) s (of_revision (falling past) r) r
 
-  moving_is : (s : Sight) (p : Path) (r : Revision) → moving s p r ≡ cond (s r) (option_and_then (written (here_of p)) (edit_of past r)) None
+  pub moving_is : (s : Sight) (p : Path) (r : Revision) → moving s p r ≡ cond (s r) (option_and_then (written (here_of p)) (edit_of past r)) None
   moving_is s p r = ap (λ o. cond (s r) (option_and_then (written (here_of p)) o) None) (found_falling past sound.begun r)
 
   pub moving_at : (s : Sight) (p : Path) (r : Revision) (ws : List Write) → edit_of past r ≡ Some ws → s r ≡ true → moving s p r ≡ written (here_of p) ws

@@ -56,10 +56,10 @@ module _ (past : Past) (sound : IsSoundPast past) where
   base_closed r ws e = λ o us f h q k. (sound.sound r ws e).ready.closed o us f h q k
 
   module _ (r : Revision) (ws : List Write) (e : edit_of past r ≡ Some ws) where
-    abbrev base_tree : Nodes
+    abbrev pub base_tree : Nodes
     base_tree = tree_of (is_in_base past r) (falling past)
 
-    proper : IsProper base_tree ws
+    pub proper : IsProper base_tree ws
     proper = (sound.sound r ws e).ready.proper
 
     -- what is there after a commit, on the tree of its base

@@ -19,6 +19,8 @@ use Rattle.core_read.specs.Commits.{Sight, last, tree_of}
 use Rattle.core_read.specs.Holds.{falling, the_start, start_writes, IsSoundPast, IsClosedSight}
 use Rattle.core_read.proofs.Entries.{first, second, both, none_below}
 use Rattle.core_read.proofs.Latest.{IsLast}
+use Rattle.core_read.proofs.AtPath.{InOrder}
+use Rattle.core_read.proofs.EditLaw.{IsOrderly}
 use Rattle.core_read.proofs.Trees.{Tells}
 use Rattle.core_read.proofs.Falling.{tells_falling}
 use Rattle.core_merge.proofs.Moves.{IsLastMove, there, moving, moving_at, last_is, to_move, there_is}
@@ -34,9 +36,15 @@ all_entries test (e ∷ t) s f = both _ _
       | false ↦ λ k. h
     ]) refl)))
 
-module _ (past : Past) (sound : IsSoundPast past) (apart : AreApartAbove past) (s : Sight) (closed : IsClosedSight past s) (begun : s the_start ≡ true) where
-  tells : Tells (tree_of s (falling past)) s (falling past)
-  tells = tells_falling past sound s closed
+-- a tree in order that has the nodes that are seen
+pub record Shows (past : Past) (s : Sight) (t : Nodes) : Type 0 where
+  pub order : InOrder t
+  pub orderly : (p : Path) → IsOrderly (node_at t p)
+  pub node : (p : Path) → is_some (node_at t p) ≡ there past s p
+
+module _ (past : Past) (sound : IsSoundPast past) (s : Sight) (closed : IsClosedSight past s) where
+  pub tree_shows : Shows past s (tree_of s (falling past))
+  tree_shows = let tells : Tells (tree_of s (falling past)) s (falling past) = tells_falling past sound s closed in record { order = tells.order; orderly = tells.orderly; node = λ p. refl }
 
   -- a commit leaves the root there
   root_left : (b : Bool) → IsLastMove past s [] b → b ≡ true
@@ -44,21 +52,21 @@ module _ (past : Past) (sound : IsSoundPast past) (apart : AreApartAbove past) (
       sym (ap (λ o. unwrap_or o (there past (is_in_base past w.revision) [])) w.moved)
       ∙ (sym (left_by past sound w.revision w.writes w.is []) ∙ (proper past sound w.revision w.writes w.is).tree.root)
 
-  root_seen : there past s [] ≡ true
-  root_seen = there_is past sound s closed [] ∙ by (last (here_of []) s (falling past)) (last_is past sound s [])
+  root_seen : s the_start ≡ true → there past s [] ≡ true
+  root_seen begun = there_is past sound s closed [] ∙ by (last (here_of []) s (falling past)) (last_is past sound s [])
     where
       by : (o : Option Bool) → IsLast (moving past sound s []) o → unwrap_or o false ≡ true
       by None l = absurd (false≢true (sym (ap is_some (l the_start)) ∙ ap is_some (moving_at past sound s [] the_start start_writes refl begun)))
       by (Some b) l = root_left b (to_move past sound s [] b l)
 
-  pub whole : IsTree (tree_of s (falling past))
-  whole = record {
-    paths = tells.order;
-    names = all_entries (λ e. is_sorted name_cmp e.1.props) (tree_of s (falling past)) tells.order (λ p node h. tells.orderly p node h);
-    root = root_seen;
-    parents = all_entries (λ e. has_parent (tree_of s (falling past)) e.0) (tree_of s (falling past)) tells.order (λ p node h. by p (ap is_some h) (parent_of p) refl);
+  pub whole : AreApartAbove past → s the_start ≡ true → (t : Nodes) → Shows past s t → IsTree t
+  whole apart begun t shows = record {
+    paths = shows.order;
+    names = all_entries (λ e. is_sorted name_cmp e.1.props) t shows.order (λ p node h. shows.orderly p node h);
+    root = shows.node [] ∙ root_seen begun;
+    parents = all_entries (λ e. has_parent t e.0) t shows.order (λ p node h. by p (sym (shows.node p) ∙ ap is_some h) (parent_of p) refl);
   }
     where
-      by : (p : Path) → there past s p ≡ true → (o : Option Path) → parent_of p ≡ o → option_map_or (λ q. there past s q) o true ≡ true
+      by : (p : Path) → there past s p ≡ true → (o : Option Path) → parent_of p ≡ o → option_map_or (λ q. is_some (node_at t q)) o true ≡ true
       by p h None up = refl
-      by p h (Some q) up = parent_seen past sound apart s closed p q up h
+      by p h (Some q) up = shows.node q ∙ parent_seen past sound apart s closed p q up h

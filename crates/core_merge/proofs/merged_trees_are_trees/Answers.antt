@@ -5,6 +5,7 @@ use Rattle.oak_machine.specs.Commits.{is_in_base}
 use Rattle.core_heads.proofs.Runs.{closed_run, head_run, sound_run}
 use Rattle.core_merge.proofs.Commits.{unseen_apart}
 use Rattle.core_merge.proofs.Merged.{base_tree_merged, edit_proper, tree_merged}
+use Rattle.core_merge.proofs.Order.{tree_in_order}
 use Rattle.core_merge.proofs.merged_trees_are_trees.Goals as goal
 
 pub returns-clause-closed : goal.returns-clause-closed
@@ -34,6 +35,10 @@ returns-clause-draws g c = λ h r d nodes run marking drawn. (
     base_tree_merged h.clusters h.sessions nodes (g.L.Law.may_start c.args.law.now) (g.L.Law.may_say c.args.law.now) (g.L.Law.proper c.args.law.now) marking h.past run r d drawn,
     edit_proper h.clusters h.sessions nodes (g.L.Law.may_start c.args.law.now) (g.L.Law.may_say c.args.law.now) (g.L.Law.proper c.args.law.now) marking h.past run r d drawn,
   )
+
+pub returns-clause-order : goal.returns-clause-order
+returns-clause-order g c = λ h nodes run marking.
+    tree_in_order h.clusters h.sessions nodes (g.L.Law.may_start c.args.law.now) (g.L.Law.may_say c.args.law.now) (g.L.Law.proper c.args.law.now) marking h.past run
 
 one_sees : (a b c : Bool) → (a ≡ false → b ≡ false → c ≡ false) → c ≡ true → (a ≡ true) ⊎ (b ≡ true)
 one_sees true b c f h = inl refl
