@@ -1,5 +1,5 @@
 -- In a run no two commits clash unseen, so each leaves alone the parents of what the other added or removed.
-use Rattle.std.proofs.Common.{◌≡◌, ◌⊎◌, inl, inr, ℕ, Bool, true, false, cond, not, ◌&&◌, ◌||◌, Some, None, Option, List, [], ◌∷◌, refl, sym, ap, ◌∙◌, subst, is_some}
+use Rattle.std.proofs.Common.{◌≡◌, ℕ, Bool, true, false, cond, not, ◌&&◌, ◌||◌, Some, Option, List, [], ◌∷◌, refl, sym, ap, ◌∙◌, subst, is_some}
 use Rattle.std.specs.Cmp.{IsEquivalence}
 use Rattle.std.specs.Option.{option_map_or, unwrap_or}
 use Rattle.std.specs.Ordering.{eq_by_cmp}
@@ -25,7 +25,6 @@ use Rattle.oak_machine.specs.Laws.{Starts, Says, StartsProper}
 use Rattle.oak_machine.specs.Runs.{IsRunOf, AreNodes, MayCommit}
 use Rattle.core_read.specs.Holds.{edit_of, the_start, start_writes}
 use Rattle.core_read.specs.Told.{Covers, IsTold}
-use Rattle.core_read.proofs.Entries.{first, second, both}
 use Rattle.core_read.proofs.Falling.{not_both}
 use Rattle.core_read.proofs.Latest.{same_revision, before_itself}
 use Rattle.core_read.proofs.Told.{edit_committed}
@@ -66,7 +65,7 @@ pub clashing-symm : (ms os : List MarkAt) → clashing ms os ≡ clashing os ms
 clashing-symm ms os =
     any_turned (λ (m o : MarkAt). eq_by_cmp path_cmp m.path o.path && clash m.mark o.mark) ms os
     ∙ any_same _ _ os (λ o. any_same (λ (m : MarkAt). eq_by_cmp path_cmp m.path o.path && clash m.mark o.mark) (λ (m : MarkAt). eq_by_cmp path_cmp o.path m.path && clash o.mark m.mark) ms
-        (λ m. ap (λ b. b && clash m.mark o.mark) (path_ties.symm m.path o.path) ∙ ap (λ b. eq_by_cmp path_cmp o.path m.path && b) (clash-symm m.mark o.mark)))
+    (λ m. ap (λ b. b && clash m.mark o.mark) (path_ties.symm m.path o.path) ∙ ap (λ b. eq_by_cmp path_cmp o.path m.path && b) (clash-symm m.mark o.mark)))
 
 -- ---- along a run
 
@@ -116,8 +115,8 @@ module _ (clusters : ℕ) (sessions : List ℕ) (nodes : AreNodes clusters sessi
       ap (λ (x : Option Draw). clashing (option_map_or (λ d. d.marks) x []) (marks_of (event.Draw d ∷ past) o)) mine
       ∙ (ap (λ (x : Option Draw). clashing (marks_of past r) (option_map_or (λ d. d.marks) x [])) theirs
       ∙ unseen_apart past run.1 r o c k other
-          (sym (ap (λ (x : Option Draw). option_map_or (λ d. sees d.base o) x false) mine) ∙ s)
-          (sym (ap (λ (x : Option Draw). option_map_or (λ d. sees d.base r) x false) theirs) ∙ t))
+      (sym (ap (λ (x : Option Draw). option_map_or (λ d. sees d.base o) x false) mine) ∙ s)
+      (sym (ap (λ (x : Option Draw). option_map_or (λ d. sees d.base r) x false) theirs) ∙ t))
   unseen_apart (e ∷ past) run r o c k other s t = unseen_apart past run.1 r o c k other s t
 
   marks_is : (past : Past) (r : Revision) (d : Draw) → draw_of past r ≡ Some d → marks_of past r ≡ d.marks

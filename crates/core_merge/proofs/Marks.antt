@@ -24,7 +24,7 @@ use Rattle.oak_clash.proofs.Marks.{clash-symm}
 use Rattle.oak_machine.specs.Marks.{Marked, marks_for, marks_of_node, marks_of_write, mark_cmp, mark_at_cmp, with_marks}
 use Rattle.core_read.specs.Items.{here_of, written}
 use Rattle.core_read.specs.Told.{Covers, IsIn}
-use Rattle.core_read.proofs.Entries.{both, exactly}
+use Rattle.core_read.proofs.Entries.{both}
 use Rattle.core_merge.specs.Parents.{moves, is_marked, MarkParents, ApartAbove}
 
 or_right : (a b : Bool) → b ≡ true → (a || b) ≡ true

@@ -1,12 +1,12 @@
 -- A reader sees a node as the last commit that it sees among those that add or remove the node left it.
-use Rattle.std.proofs.Common.{◌≡◌, Bool, true, false, cond, Some, None, Option, List, [], ◌∷◌, refl, sym, ap, ◌∙◌, is_some}
-use Rattle.std.specs.Option.{option_and_then, option_map_or, unwrap_or}
+use Rattle.std.proofs.Common.{◌≡◌, Bool, true, false, cond, Some, None, Option, List, refl, sym, ap, ◌∙◌, is_some}
+use Rattle.std.specs.Option.{option_and_then, unwrap_or}
 use mathlib.Core.Bool.{false≢true}
 use Rattle.jr_path.specs.declared.path.Path.{Path}
 use Rattle.jr_rev.specs.declared.revision.Revision.{Revision}
 use Rattle.jr_rev.specs.Revisions.{is_at_most}
 use Rattle.jr_tree.specs.declared.edit.Write.{Write}
-use Rattle.jr_tree.specs.Trees.{Nodes, node_at}
+use Rattle.jr_tree.specs.Trees.{node_at}
 use Rattle.oak_doc.specs.Updates.{of_revision}
 use Rattle.oak_machine.specs.History.{Past}
 use Rattle.core_read.specs.Items.{here_of, written}

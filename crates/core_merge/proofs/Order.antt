@@ -10,30 +10,27 @@ use Rattle.jr_rev.specs.Revisions.{revision_cmp, is_before, is_at_most}
 use Rattle.jr_rev.proofs.Order.{revision_total}
 use Rattle.jr_tree.specs.declared.edit.Write.{Write}
 use Rattle.jr_tree.specs.Trees.{Nodes, node_at, IsTree}
-use Rattle.jr_tree.specs.Edits.{applied, IsProper}
-use Rattle.oak_clash.specs.declared.mark.MarkAt.{MarkAt}
-use Rattle.oak_clash.specs.Clashes.{clashing}
+use Rattle.jr_tree.specs.Edits.{applied}
 use Rattle.oak_machine.specs.declared.event.Draw.{Draw}
 use Rattle.oak_machine.specs.declared.event.Event.TheVariants as event
 use Rattle.oak_machine.specs.History.{Past}
-use Rattle.oak_machine.specs.Commits.{draw_of, is_committed, is_in_base, marks_of}
+use Rattle.oak_machine.specs.Commits.{draw_of}
 use Rattle.oak_machine.specs.Laws.{Starts, Says, StartsProper}
 use Rattle.oak_machine.specs.Runs.{IsRunOf, AreNodes, MayCommit}
 use Rattle.core_read.specs.Items.{here_of, written}
-use Rattle.core_read.specs.Commits.{Sight, last}
-use Rattle.core_read.specs.Holds.{edit_of, falling, the_start, IsClosedSight}
+use Rattle.core_read.specs.Commits.{Sight}
+use Rattle.core_read.specs.Holds.{edit_of, IsClosedSight}
 use Rattle.core_read.specs.Told.{IsTold, IsGoodDraw}
 use Rattle.core_read.proofs.AtPath.{order-applied, node_at-applied}
 use Rattle.core_read.proofs.Committed.{committed, split}
 use Rattle.core_read.proofs.EditLaw.{IsOrderly, Orderly-comes, Orderly-fills, has_applied}
-use Rattle.core_read.proofs.Falling.{not_both}
-use Rattle.core_read.proofs.Latest.{IsLast, only, same_revision, at_most_itself, before_itself, not_before}
+use Rattle.core_read.proofs.Latest.{only, same_revision, at_most_itself, not_before}
 use Rattle.core_read.proofs.Told.{pending}
 use Rattle.core_heads.proofs.Runs.{told_past}
 use Rattle.core_merge.specs.Orders.{tree_by_commits}
 use Rattle.core_merge.specs.Parents.{moves, StartsMarkingParents}
 use Rattle.core_merge.proofs.Commits.{apart_edits, apart_moves}
-use Rattle.core_merge.proofs.Moves.{IsLastMove, there, moving, moving_is, last_is, there_is, moved_there}
+use Rattle.core_merge.proofs.Moves.{there, moving, moving_is, last_is, there_is, moved_there}
 use Rattle.core_merge.proofs.Whole.{Shows, tree_shows, whole}
 
 -- all is seen

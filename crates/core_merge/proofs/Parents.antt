@@ -1,5 +1,5 @@
 -- In the tree that a closed reader sees each node has its parent.
-use Rattle.std.proofs.Common.{◌≡◌, Bool, true, false, cond, ◌&&◌, Some, None, Option, List, [], ◌∷◌, refl, sym, ap, ◌∙◌, subst, is_some}
+use Rattle.std.proofs.Common.{◌≡◌, Bool, true, false, cond, Some, None, Option, List, [], ◌∷◌, refl, sym, ap, ◌∙◌, subst, is_some}
 use Rattle.std.specs.Option.{option_map_or, unwrap_or}
 use Rattle.std.specs.Ordering.{eq_by_cmp}
 use Rattle.std.specs.List.{list_all}
@@ -21,7 +21,7 @@ use Rattle.core_read.proofs.Entries.{first, second}
 use Rattle.core_read.proofs.Latest.{at_most_both, before_at_most, before_itself, not_before}
 use Rattle.core_read.proofs.EditLaw.{has_applied}
 use Rattle.core_read.proofs.Falling.{tells_falling}
-use Rattle.core_merge.specs.Parents.{moves, ApartAbove}
+use Rattle.core_merge.specs.Parents.{ApartAbove}
 use Rattle.core_merge.proofs.Moves.{IsLastMove, there, moved_there, there_moved, gone_moved}
 
 -- what all paths of a tree pass, a path that is found passes

@@ -1,9 +1,7 @@
 -- What a vector sees beside the start, which each tree begins with.
-use Rattle.std.proofs.Common.{◌≡◌, Bool, true, false, cond, ◌||◌, Some, None, Option, List, [], ◌∷◌, refl, sym, ap, ◌∙◌, subst, is_some}
-use Rattle.std.specs.declared.cmp.Ordering.{Ordering}
-use Rattle.std.specs.declared.cmp.Ordering.TheVariants.{Less, Equal, Greater}
+use Rattle.std.proofs.Common.{◌≡◌, Bool, true, false, cond, ◌||◌, Some, None, Option, [], ◌∷◌, refl, sym, ap, ◌∙◌, subst, is_some}
 use Rattle.std.specs.Option.{option_map_or}
-use Rattle.std.specs.Ordering.{is_eq, is_lt, eq_by_cmp}
+use Rattle.std.specs.Ordering.{eq_by_cmp}
 use Rattle.std.specs.FinMap.Entries.{below_all}
 use Rattle.std.specs.List.{filter, fold}
 use mathlib.Core.Bool.{false≢true}
@@ -11,14 +9,13 @@ use Rattle.jr_rev.specs.declared.revision.Revision.{Revision}
 use Rattle.jr_rev.specs.declared.vector.RevVec.{RevVec}
 use Rattle.jr_rev.specs.Revisions.{revision_cmp, is_before}
 use Rattle.jr_rev.specs.Vectors.{sees}
-use Rattle.jr_tree.specs.declared.edit.Write.{Write}
 use Rattle.jr_tree.specs.Edits.{applied}
 use Rattle.oak_doc.specs.Updates.{of_revision}
 use Rattle.oak_machine.specs.declared.event.Draw.{Draw}
 use Rattle.oak_machine.specs.History.{Past}
 use Rattle.oak_machine.specs.Commits.{draw_of, committed_edits, is_committed, is_in_base, tree_at, IsClosed}
 use Rattle.core_read.specs.Commits.{Commits, Sight, tree_of}
-use Rattle.core_read.specs.Holds.{edits, edit_of, falling, the_start, start_writes, IsClosedSight}
+use Rattle.core_read.specs.Holds.{edits, falling, the_start, start_writes, IsClosedSight}
 use Rattle.core_read.specs.Told.{IsTold}
 use Rattle.core_read.proofs.Entries.{first, second}
 use Rattle.core_read.proofs.Falling.{tree_onto}

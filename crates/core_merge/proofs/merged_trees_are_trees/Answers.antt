@@ -32,9 +32,9 @@ returns-clause-kept g c = λ h id v nodes run marking is.
 
 pub returns-clause-draws : goal.returns-clause-draws
 returns-clause-draws g c = λ h r d nodes run marking drawn. (
-    base_tree_merged h.clusters h.sessions nodes (g.L.Law.may_start c.args.law.now) (g.L.Law.may_say c.args.law.now) (g.L.Law.proper c.args.law.now) marking h.past run r d drawn,
-    edit_proper h.clusters h.sessions nodes (g.L.Law.may_start c.args.law.now) (g.L.Law.may_say c.args.law.now) (g.L.Law.proper c.args.law.now) marking h.past run r d drawn,
-  )
+  base_tree_merged h.clusters h.sessions nodes (g.L.Law.may_start c.args.law.now) (g.L.Law.may_say c.args.law.now) (g.L.Law.proper c.args.law.now) marking h.past run r d drawn,
+  edit_proper h.clusters h.sessions nodes (g.L.Law.may_start c.args.law.now) (g.L.Law.may_say c.args.law.now) (g.L.Law.proper c.args.law.now) marking h.past run r d drawn,
+)
 
 pub returns-clause-order : goal.returns-clause-order
 returns-clause-order g c = λ h nodes run marking.
