@@ -1,13 +1,12 @@
--- In a run no two commits clash unseen, so each leaves alone the parents of what the other added or removed.
-use Rattle.std.proofs.Common.{◌≡◌, ℕ, Bool, true, false, cond, not, ◌&&◌, ◌||◌, Some, Option, List, [], ◌∷◌, refl, sym, ap, ◌∙◌, subst, is_some}
+-- In a run no two commits clash unseen, so commits of which neither base sees the other are independent.
+use Rattle.std.proofs.Common.{◌≡◌, ℕ, Bool, true, false, cond, not, ◌&&◌, ◌||◌, Some, None, Option, List, [], ◌∷◌, refl, sym, ap, ◌∙◌, subst, is_some}
 use Rattle.std.specs.Cmp.{IsEquivalence}
-use Rattle.std.specs.Option.{option_map_or, unwrap_or}
+use Rattle.std.specs.Option.{option_map, option_map_or, unwrap_or}
 use Rattle.std.specs.Ordering.{eq_by_cmp}
 use Rattle.std.specs.List.{list_any}
 use Rattle.std.proofs.lemmas.Cmp.{eq_by_cmp_equiv}
 use mathlib.Core.Bool.{false≢true}
 use Rattle.jr_path.specs.Names.{path_cmp}
-use Rattle.jr_path.specs.declared.path.Path.{Path}
 use Rattle.jr_path.proofs.Maps.{path_total}
 use Rattle.jr_rev.specs.declared.revision.Revision.{Revision}
 use Rattle.jr_rev.specs.Revisions.{revision_cmp, is_before, is_same}
@@ -24,14 +23,14 @@ use Rattle.oak_machine.specs.Commits.{draw_of, committed_edits, is_drawn, is_com
 use Rattle.oak_machine.specs.Laws.{Starts, Says, StartsProper}
 use Rattle.oak_machine.specs.Runs.{IsRunOf, AreNodes, MayCommit}
 use Rattle.core_read.specs.Holds.{edit_of, the_start, start_writes}
-use Rattle.core_read.specs.Told.{Covers, IsTold}
+use Rattle.core_read.specs.Told.{IsTold}
+use Rattle.core_read.proofs.Committed.{committed as committed_now}
 use Rattle.core_read.proofs.Falling.{not_both}
 use Rattle.core_read.proofs.Latest.{same_revision, before_itself}
-use Rattle.core_read.proofs.Told.{edit_committed}
+use Rattle.core_read.proofs.Told.{edit_committed, pending}
 use Rattle.core_heads.proofs.Runs.{fresh_run, told_past}
-use Rattle.core_merge.specs.Parents.{moves, MarkParents, StartsMarkingParents, ApartAbove}
-use Rattle.core_merge.proofs.Marks.{apart_above, no_both_move}
-use Rattle.core_merge.proofs.Parents.{AreApartAbove}
+use Rattle.core_merge.specs.Independent.{MarkParents, StartsMarkingParents, AreIndependent, AreMergeable}
+use Rattle.core_merge.proofs.Marks.{independent_marks}
 
 -- ---- which of two draws is asked makes no difference
 
@@ -132,26 +131,23 @@ module _ (clusters : ℕ) (sessions : List ℕ) (nodes : AreNodes clusters sessi
       by false k rest = rest k
   marked_draws marking (e ∷ past) run r d h = marked_draws marking past run.1 r d h
 
-  -- what is committed adds or removes no node that a commit of a greater revision did
-  pub apart_moves : StartsProper starts → (past : Past) → IsRunOf starts says clusters sessions past → (r : Revision) (dr : Draw) → draw_of past r ≡ Some dr → MayCommit past r
-      → (q : Revision) (us : List Write) → edit_of past q ≡ Some us → is_before r q ≡ true → (p : Path) → moves p dr.edit.writes ≡ true → moves p us ≡ true → ⊥
-  apart_moves proper past run r dr drawn may q us e before p m k = by (eq_by_cmp revision_cmp q the_start) refl
+  -- the edit of what is committed is that of its draw
+  pub committed_edit : StartsProper starts → (past : Past) → IsRunOf starts says clusters sessions past → (r : Revision) (d : Draw) → is_committed past r ≡ true → draw_of past r ≡ Some d → edit_of past r ≡ Some d.edit.writes
+  committed_edit proper [] run r d c h = absurd (false≢true c)
+  committed_edit proper (event.Commit x ∷ past) run r d c h = by (draw_of past x) refl (λ k. committed_edit proper past run.1 r d k h)
     where
       told : IsTold past
-      told = told_past clusters sessions nodes starts says proper past run
+      told = told_past clusters sessions nodes starts says proper past run.1
 
-      unseen : (b : Bool) → is_in_base past r q ≡ b → b ≡ false
-      unseen true h = absurd (false≢true (sym (not_both r q before) ∙ (told.draws r dr drawn).ready.rises q h))
-      unseen false h = refl
+      at_other : (b : Bool) → is_same r x ≡ b → (e : Draw) → draw_of past x ≡ Some e → (b || is_committed past r) ≡ true → (is_committed past r ≡ true → edit_of past r ≡ Some d.edit.writes) → cond b (Some e.edit.writes) (edit_of past r) ≡ Some d.edit.writes
+      at_other true k e is c rest = ap (λ (o : Option Draw). option_map (λ (d : Draw). d.edit.writes) o) (sym is ∙ (ap (draw_of past) (sym (same_revision r x k)) ∙ h))
+      at_other false k e is c rest = rest c
 
-      by : (b : Bool) → eq_by_cmp revision_cmp q the_start ≡ b → ⊥
-      by true h = false≢true (sym (not_both r the_start (subst (λ (x : Revision). is_before r x ≡ true) (same_revision q the_start h) before)) ∙ (told.draws r dr drawn).after)
-      by false h =
-          let d = told.edits q us e h in
-          let done : is_committed past q ≡ true = edit_committed past q (sym (ap (λ b. is_some (cond b (Some start_writes) (of_revision (committed_edits past) q))) h) ∙ ap is_some e) in
-          let clear : clashing dr.marks (d.0).marks ≡ false =
-          sym (ap (λ (ms : List MarkAt). clashing ms (marks_of past q)) (marks_is past r dr drawn) ∙ ap (clashing dr.marks) (marks_is past q d.0 d.1)) ∙ may.apart q done (unseen _ refl) in
-          no_both_move dr.marks (d.0).marks dr.edit.writes us (told.draws r dr drawn).covers (subst (λ (xs : List Write). Covers (d.0).marks xs) d.2 (told.draws q d.0 d.1).covers) clear p m k
+      by : (o : Option Draw) → draw_of past x ≡ o → (is_committed past r ≡ true → edit_of past r ≡ Some d.edit.writes) → edit_of (event.Commit x ∷ past) r ≡ Some d.edit.writes
+      by None e rest = absurd (false≢true (sym (ap is_some e) ∙ drawn (is_drawn past x) (is_ended past x) run.0.open_.in_flight))
+      by (Some e) is rest = committed_now past x e (pending past x e told run.0 is) (told.draws x e is).after is r ∙ at_other (is_same r x) refl e is c rest
+  committed_edit proper (event.Draw e ∷ past) run r d c h = committed_edit proper past run.1 r d c (sym (draw_kept past e run r c) ∙ h)
+  committed_edit proper (e ∷ past) run r d c h = committed_edit proper past run.1 r d c h
 
   module _ (proper : StartsProper starts) (marking : StartsMarkingParents starts) (past : Past) (run : IsRunOf starts says clusters sessions past) where
     told : IsTold past
@@ -159,6 +155,24 @@ module _ (clusters : ℕ) (sessions : List ℕ) (nodes : AreNodes clusters sessi
 
     committed : (o : Revision) (us : List Write) → edit_of past o ≡ Some us → eq_by_cmp revision_cmp o the_start ≡ false → is_committed past o ≡ true
     committed o us e not_start = edit_committed past o (sym (ap (λ b. is_some (cond b (Some start_writes) (of_revision (committed_edits past) o))) not_start) ∙ ap is_some e)
+
+    -- draws that don't clash are independent
+    independent : (r o : Revision) (d e : Draw) → draw_of past r ≡ Some d → draw_of past o ≡ Some e → are_clashing past r o ≡ false → AreIndependent d.edit.writes e.edit.writes
+    independent r o d e h k clear = independent_marks d.marks e.marks d.edit.writes e.edit.writes (told.draws r d h).covers (told.draws o e k).covers (marked_draws marking past run r d h) (marked_draws marking past run o e k)
+        (sym (ap (λ (ms : List MarkAt). clashing ms (marks_of past o)) (marks_is past r d h) ∙ ap (clashing d.marks) (marks_is past o e k)) ∙ clear)
+
+    -- two commits of which neither base sees the other
+    pub independent_commits : (r o : Revision) (d e : Draw) → is_committed past r ≡ true → is_committed past o ≡ true → draw_of past r ≡ Some d → draw_of past o ≡ Some e → (r ≡ o → ⊥)
+        → is_in_base past r o ≡ false → is_in_base past o r ≡ false → AreIndependent d.edit.writes e.edit.writes
+    independent_commits r o d e c k h l other s t = independent r o d e h l (unseen_apart past run r o c k other s t)
+
+    -- what may be committed, with each commit that its base doesn't see
+    pub independent_of : (r : Revision) (d : Draw) → draw_of past r ≡ Some d → MayCommit past r → (o : Revision) (us : List Write) → edit_of past o ≡ Some us → is_in_base past r o ≡ false → AreIndependent d.edit.writes us
+    independent_of r d drawn may o us e unseen = by (eq_by_cmp revision_cmp o the_start) refl
+      where
+        by : (b : Bool) → eq_by_cmp revision_cmp o the_start ≡ b → AreIndependent d.edit.writes us
+        by true k = absurd (false≢true (sym unseen ∙ subst (λ (x : Revision). is_in_base past r x ≡ true) (sym (same_revision o the_start k)) (told.draws r d drawn).begins))
+        by false k = let c = told.edits o us e k in subst (λ (xs : List Write). AreIndependent d.edit.writes xs) c.2 (independent r o d c.0 drawn c.1 (may.apart o (committed o us e k) unseen))
 
     -- nothing is before the start
     after_start : (o : Revision) (us : List Write) → edit_of past o ≡ Some us → is_before o the_start ≡ true → ⊥
@@ -168,8 +182,8 @@ module _ (clusters : ℕ) (sessions : List ℕ) (nodes : AreNodes clusters sessi
         by true k = false≢true (sym (before_itself the_start) ∙ subst (λ (x : Revision). is_before x the_start ≡ true) (same_revision o the_start k) h)
         by false k = let d = told.edits o us e k in false≢true (sym (not_both o the_start h) ∙ (told.draws o d.0 d.1).after)
 
-    pub apart_edits : AreApartAbove past
-    apart_edits r o ws us e f before unseen = by (eq_by_cmp revision_cmp r the_start) refl (eq_by_cmp revision_cmp o the_start) refl
+    pub mergeable : AreMergeable past
+    mergeable r o ws us e f before unseen = by (eq_by_cmp revision_cmp r the_start) refl (eq_by_cmp revision_cmp o the_start) refl
       where
         other : r ≡ o → ⊥
         other same = false≢true (sym (before_itself o) ∙ subst (λ (x : Revision). is_before o x ≡ true) same before)
@@ -179,14 +193,11 @@ module _ (clusters : ℕ) (sessions : List ℕ) (nodes : AreNodes clusters sessi
         unseen_back true h = absurd (false≢true (sym (not_both o r before) ∙ (told.sound.sound o us f).ready.rises r h))
         unseen_back false h = refl
 
-        by : (a : Bool) → eq_by_cmp revision_cmp r the_start ≡ a → (b : Bool) → eq_by_cmp revision_cmp o the_start ≡ b → ApartAbove ws us
+        by : (a : Bool) → eq_by_cmp revision_cmp r the_start ≡ a → (b : Bool) → eq_by_cmp revision_cmp o the_start ≡ b → AreIndependent ws us
         by true h b k = absurd (after_start o us f (subst (λ (x : Revision). is_before o x ≡ true) (same_revision r the_start h) before))
         by false h true k = let d = told.edits r ws e h in absurd (false≢true (sym unseen ∙ subst (λ (x : Revision). is_in_base past r x ≡ true) (sym (same_revision o the_start k)) (told.draws r d.0 d.1).begins))
         by false h false k =
             let d = told.edits r ws e h in
             let c = told.edits o us f k in
-            let clear : clashing (d.0).marks (c.0).marks ≡ false =
-            sym (ap (λ (ms : List MarkAt). clashing ms (marks_of past o)) (marks_is past r d.0 d.1) ∙ ap (clashing (d.0).marks) (marks_is past o c.0 c.1))
-            ∙ unseen_apart past run r o (committed r ws e h) (committed o us f k) other unseen (unseen_back _ refl) in
-            subst (λ (xs : List Write). ApartAbove xs us) d.2 (subst (λ (xs : List Write). ApartAbove (d.0).edit.writes xs) c.2
-            (apart_above (d.0).marks (c.0).marks (d.0).edit.writes (c.0).edit.writes (told.draws r d.0 d.1).covers (told.draws o c.0 c.1).covers (marked_draws marking past run r d.0 d.1) (marked_draws marking past run o c.0 c.1) clear))
+            subst (λ (xs : List Write). AreIndependent xs us) d.2 (subst (λ (xs : List Write). AreIndependent (d.0).edit.writes xs) c.2
+            (independent_commits r o d.0 c.0 (committed r ws e h) (committed o us f k) d.1 c.1 other unseen (unseen_back _ refl)))

@@ -1,7 +1,8 @@
 pub mod Marks
-pub mod Moves
+pub mod Seen
 pub mod Parents
 pub mod Whole
+pub mod More
 pub mod Commits
 pub mod Sights
 pub mod Order

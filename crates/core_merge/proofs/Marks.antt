@@ -1,4 +1,4 @@
--- Edits whose marks don't clash leave the parents of each other's nodes alone; and the marks of an edit mark these parents.
+-- Edits whose marks don't clash are independent; and the marks of an edit mark the parents of the nodes that it adds or removes.
 use Rattle.std.proofs.Common.{◌≡◌, ◌⊎◌, inl, inr, Bool, true, false, cond, ◌&&◌, ◌||◌, Some, None, Option, List, [], ◌∷◌, refl, sym, ap, ◌∙◌, subst, is_some}
 use Rattle.std.specs.declared.cmp.Ordering.{Ordering}
 use Rattle.std.specs.declared.cmp.Ordering.TheVariants.{Less, Equal, Greater}
@@ -8,16 +8,17 @@ use Rattle.std.specs.Ordering.{is_eq, eq_by_cmp, match_ordering, ordering_then}
 use Rattle.std.specs.Map.{keys_of}
 use Rattle.std.specs.BTreeMap.{insert_entry}
 use Rattle.std.specs.List.{fold, list_any}
-use Rattle.std.proofs.lemmas.Cmp.{eq_by_cmp_equiv}
+use Rattle.std.proofs.lemmas.Cmp.{eq_by_cmp_equiv, nat_list_cmp_total}
 use mathlib.Core.Bool.{false≢true}
-use Rattle.jr_path.specs.Names.{path_cmp, parent_of}
+use Rattle.jr_path.specs.Names.{name_cmp, path_cmp, parent_of}
 use Rattle.jr_path.specs.declared.path.Path.{Path}
 use Rattle.jr_path.proofs.Maps.{path_total, path_exact}
 use Rattle.jr_tree.specs.declared.edit.Write.{Write}
 use Rattle.jr_tree.specs.declared.edit.Write.TheVariants.{Here, Gone, Put, Unset}
 use Rattle.jr_tree.specs.Trees.{Nodes}
 use Rattle.jr_tree.proofs.Pointwise.{same_path}
-use Rattle.oak_clash.specs.declared.mark.Mark.TheVariants.{Exists, Touch}
+use Rattle.oak_clash.specs.declared.mark.Mark.{Mark}
+use Rattle.oak_clash.specs.declared.mark.Mark.TheVariants.{Exists, Prop, Touch}
 use Rattle.oak_clash.specs.declared.mark.MarkAt.{MarkAt}
 use Rattle.oak_clash.specs.Clashes.{clash, clashing}
 use Rattle.oak_clash.proofs.Marks.{clash-symm}
@@ -25,7 +26,7 @@ use Rattle.oak_machine.specs.Marks.{Marked, marks_for, marks_of_node, marks_of_w
 use Rattle.core_read.specs.Items.{here_of, written}
 use Rattle.core_read.specs.Told.{Covers, IsIn}
 use Rattle.core_read.proofs.Entries.{both}
-use Rattle.core_merge.specs.Parents.{moves, is_marked, MarkParents, ApartAbove}
+use Rattle.core_merge.specs.Independent.{moves, is_marked, MarkParents, AreIndependent}
 
 or_right : (a b : Bool) → b ≡ true → (a || b) ≡ true
 or_right true b h = refl
@@ -50,7 +51,15 @@ any_each f g (x ∷ xs) to h = either (f x) (list_any f xs) (g x) (list_any g xs
 path_ties : IsEquivalence (eq_by_cmp path_cmp)
 path_ties = eq_by_cmp_equiv path_total
 
+name_ties : IsEquivalence (eq_by_cmp name_cmp)
+name_ties = eq_by_cmp_equiv nat_list_cmp_total
+
 -- ---- marks that don't clash
+
+-- marks of one path that clash
+meet : (ms os : List MarkAt) (p : Path) (a b : Mark) → IsIn (record { path = p; mark = a }) ms → IsIn (record { path = p; mark = b }) os → clash a b ≡ true → clashing ms os ≡ true
+meet ms os p a b h k c = any_in (λ (m : MarkAt). list_any (λ (o : MarkAt). eq_by_cmp path_cmp m.path o.path && clash m.mark o.mark) os) (record { path = p; mark = a }) ms h
+    (any_in (λ (o : MarkAt). eq_by_cmp path_cmp p o.path && clash a o.mark) (record { path = p; mark = b }) os k (both _ _ (path_ties.refl p) c))
 
 -- a node that the one adds or removes has a mark of the other
 meet_left : (ms os : List MarkAt) (q : Path) → IsIn (record { path = q; mark = Exists }) ms → is_marked q os ≡ true → clashing ms os ≡ true
@@ -65,15 +74,15 @@ unwritten : {X : Type 0} (o : Option X) → (is_some o ≡ true → ⊥) → o �
 unwritten None h = refl
 unwritten (Some x) h = absurd (h refl)
 
-pub apart_above : (ms os : List MarkAt) (ws us : List Write) → Covers ms ws → Covers os us → MarkParents ms ws → MarkParents os us → clashing ms os ≡ false → ApartAbove ws us
-apart_above ms os ws us c d m n none = record {
+pub independent_marks : (ms os : List MarkAt) (ws us : List Write) → Covers ms ws → Covers os us → MarkParents ms ws → MarkParents os us → clashing ms os ≡ false → AreIndependent ws us
+independent_marks ms os ws us c d m n none = record {
+  nodes = λ p h. unwritten _ (λ k. false≢true (sym none ∙ meet ms os p Exists Exists (c.node p h) (d.node p k) refl));
+  props = λ p l h. unwritten _ (λ k. false≢true (sym none ∙ meet ms os p (Prop l) (Prop l) (c.prop p l h) (d.prop p l k) (name_ties.refl l)));
+  moved = λ p l h. unwritten _ (λ k. false≢true (sym none ∙ meet ms os p Exists (Prop l) (c.node p h) (d.prop p l k) refl));
+  changed = λ p l h. unwritten _ (λ k. false≢true (sym none ∙ meet ms os p (Prop l) Exists (c.prop p l h) (d.node p k) refl));
   below = λ p q up h. unwritten _ (λ k. false≢true (sym none ∙ meet_right ms os q (m p q up h) (d.node q k)));
   above = λ p q up h. unwritten _ (λ k. false≢true (sym none ∙ meet_left ms os q (c.node q k) (n p q up h)));
 }
-
--- they add or remove no node both
-pub no_both_move : (ms os : List MarkAt) (ws us : List Write) → Covers ms ws → Covers os us → clashing ms os ≡ false → (p : Path) → moves p ws ≡ true → moves p us ≡ true → ⊥
-no_both_move ms os ws us c d none p h k = false≢true (sym none ∙ meet_left ms os p (c.node p h) (any_in (λ (o : MarkAt). eq_by_cmp path_cmp p o.path) (record { path = p; mark = Exists }) os (d.node p k) (path_ties.refl p)))
 
 -- ---- the marks of an edit
 

@@ -21,8 +21,8 @@ use Rattle.core_read.proofs.Entries.{first, second}
 use Rattle.core_read.proofs.Latest.{at_most_both, before_at_most, before_itself, not_before}
 use Rattle.core_read.proofs.EditLaw.{has_applied}
 use Rattle.core_read.proofs.Falling.{tells_falling}
-use Rattle.core_merge.specs.Parents.{ApartAbove}
-use Rattle.core_merge.proofs.Moves.{IsLastMove, there, moved_there, there_moved, gone_moved}
+use Rattle.core_merge.specs.Independent.{AreMergeable}
+use Rattle.core_merge.proofs.Seen.{IsLastMove, there, moved_there, there_moved, gone_moved}
 
 -- what all paths of a tree pass, a path that is found passes
 found_passes : (test : Path → Bool) (p : Path) (t : Nodes) → list_all (λ e. test e.0) t ≡ true → is_some (node_at t p) ≡ true → test p ≡ true
@@ -69,14 +69,10 @@ module _ (past : Past) (sound : IsSoundPast past) where
     pub parent_left : (p q : Path) → parent_of p ≡ Some q → unwrap_or (written (here_of p) ws) (there past (is_in_base past r) p) ≡ true → unwrap_or (written (here_of q) ws) (there past (is_in_base past r) q) ≡ true
     parent_left p q up h = sym (left_by q) ∙ parent_there (applied base_tree ws) proper.tree p q up (left_by p ∙ h)
 
--- each commit leaves alone the parents of what an earlier one outside its base added or removed, and the other way round
-abbrev pub AreApartAbove : Past → Type 0
-AreApartAbove past = (r o : Revision) (ws us : List Write) → edit_of past r ≡ Some ws → edit_of past o ≡ Some us → is_before o r ≡ true → is_in_base past r o ≡ false → ApartAbove ws us
-
-module _ (past : Past) (sound : IsSoundPast past) (apart : AreApartAbove past) (s : Sight) (closed : IsClosedSight past s) (p q : Path) (up : parent_of p ≡ Some q) (here : there past s p ≡ true) (none : there past s q ≡ false) where
+module _ (past : Past) (sound : IsSoundPast past) (apart : AreMergeable past) (s : Sight) (closed : IsClosedSight past s) (p q : Path) (up : parent_of p ≡ Some q) (here : there past s p ≡ true) (none : there past s q ≡ false) where
   -- the commit that added the node
   added : IsLastMove past s p true
-  added = there_moved past sound s closed p here
+  added = there_moved past sound s p closed here
 
   -- it stands in the way of a later removal of the parent
   not_later : (gone : IsLastMove past s q false) → is_before added.revision gone.revision ≡ true → ⊥
@@ -86,26 +82,26 @@ module _ (past : Past) (sound : IsSoundPast past) (apart : AreApartAbove past) (
       of_base = is_in_base past gone.revision
 
       in_base : of_base added.revision ≡ true → there past of_base p ≡ true
-      in_base u = moved_there past sound (is_in_base past gone.revision) (base_closed past sound gone.revision gone.writes gone.is) p true (record {
+      in_base u = moved_there past sound (is_in_base past gone.revision) p (base_closed past sound gone.revision gone.writes gone.is) true (record {
         revision = added.revision;
         writes = added.writes;
         is = added.is;
         seen = u;
-        moved = added.moved;
+        wrote = added.wrote;
         last = λ x us f h m. added.last x us f (closed gone.revision gone.writes gone.is gone.seen x h) m;
       })
 
       kept : (o : Option Bool) → written (here_of p) gone.writes ≡ o → there past (is_in_base past gone.revision) p ≡ true → ⊥
       kept None e h =
           let left = parent_left past sound gone.revision gone.writes gone.is p q up (ap (λ o. unwrap_or o (there past (is_in_base past gone.revision) p)) e ∙ h) in
-          false≢true (sym (ap (λ o. unwrap_or o (there past (is_in_base past gone.revision) q)) gone.moved) ∙ left)
+          false≢true (sym (ap (λ o. unwrap_or o (there past (is_in_base past gone.revision) q)) gone.wrote) ∙ left)
       kept (Some b) e h = not_after added.revision gone.revision later (added.last gone.revision gone.writes gone.is gone.seen (ap is_some e))
 
       by : (b : Bool) → is_in_base past gone.revision added.revision ≡ b → ⊥
       by true u = kept (written (here_of p) gone.writes) refl (in_base u)
       by false u =
-          let none : written (here_of q) gone.writes ≡ None = (apart gone.revision added.revision gone.writes added.writes gone.is added.is later u).above p q up (ap is_some added.moved) in
-          false≢true (sym (ap is_some none) ∙ ap is_some gone.moved)
+          let none : written (here_of q) gone.writes ≡ None = (apart gone.revision added.revision gone.writes added.writes gone.is added.is later u).above p q up (ap is_some added.wrote) in
+          false≢true (sym (ap is_some none) ∙ ap is_some gone.wrote)
 
   -- a removal of the parent is the addition, or was before it
   gone_before : (gone : IsLastMove past s q false) → is_at_most gone.revision added.revision ≡ true
@@ -126,37 +122,37 @@ module _ (past : Past) (sound : IsSoundPast past) (apart : AreApartAbove past) (
       seen = closed added.revision added.writes added.is added.seen begun.revision begun.seen
 
       earlier : is_before gone.revision added.revision ≡ true
-      earlier = before_of gone.revision added.revision (gone_before gone) (λ same. false≢true (ap is_some (sym silent) ∙ (ap is_some (sym (one_way past q gone.revision added.revision gone.writes added.writes same gone.is added.is)) ∙ ap is_some gone.moved)))
+      earlier = before_of gone.revision added.revision (gone_before gone) (λ same. false≢true (ap is_some (sym silent) ∙ (ap is_some (sym (one_way past q gone.revision added.revision gone.writes added.writes same gone.is added.is)) ∙ ap is_some gone.wrote)))
 
       by : (b : Bool) → is_in_base past added.revision gone.revision ≡ b → ⊥
       by false u =
-          let none : written (here_of q) gone.writes ≡ None = (apart added.revision gone.revision added.writes gone.writes added.is gone.is earlier u).below p q up (ap is_some added.moved) in
-          false≢true (sym (ap is_some none) ∙ ap is_some gone.moved)
+          let none : written (here_of q) gone.writes ≡ None = (apart added.revision gone.revision added.writes gone.writes added.is gone.is earlier u).below p q up (ap is_some added.wrote) in
+          false≢true (sym (ap is_some none) ∙ ap is_some gone.wrote)
       by true u =
           let same : begun.revision ≡ gone.revision = at_most_both begun.revision gone.revision
-          (gone.last begun.revision begun.writes begun.is seen (ap is_some begun.moved))
-          (begun.last gone.revision gone.writes gone.is u (ap is_some gone.moved)) in
-          true_false _ begun.moved (one_way past q begun.revision gone.revision begun.writes gone.writes same begun.is gone.is ∙ gone.moved)
+          (gone.last begun.revision begun.writes begun.is seen (ap is_some begun.wrote))
+          (begun.last gone.revision gone.writes gone.is u (ap is_some gone.wrote)) in
+          true_false _ begun.wrote (one_way past q begun.revision gone.revision begun.writes gone.writes same begun.is gone.is ∙ gone.wrote)
 
   no_orphan : ⊥
   no_orphan = by (written (here_of q) added.writes) refl
     where
       left : unwrap_or (written (here_of q) added.writes) (there past (is_in_base past added.revision) q) ≡ true
-      left = parent_left past sound added.revision added.writes added.is p q up (ap (λ o. unwrap_or o (there past (is_in_base past added.revision) p)) added.moved)
+      left = parent_left past sound added.revision added.writes added.is p q up (ap (λ o. unwrap_or o (there past (is_in_base past added.revision) p)) added.wrote)
 
       by : (o : Option Bool) → written (here_of q) added.writes ≡ o → ⊥
       by (Some false) e = false≢true (sym (ap (λ o. unwrap_or o (there past (is_in_base past added.revision) q)) e) ∙ left)
       by (Some true) e =
-          let gone : IsLastMove past s q false = gone_moved past sound s closed q none added.revision added.writes added.is added.seen (ap is_some e) in
+          let gone : IsLastMove past s q false = gone_moved past sound s q closed none added.revision added.writes added.is added.seen (ap is_some e) in
           let same : added.revision ≡ gone.revision = at_most_both added.revision gone.revision (gone.last added.revision added.writes added.is added.seen (ap is_some e)) (gone_before gone) in
-          true_false _ e (one_way past q added.revision gone.revision added.writes gone.writes same added.is gone.is ∙ gone.moved)
+          true_false _ e (one_way past q added.revision gone.revision added.writes gone.writes same added.is gone.is ∙ gone.wrote)
       by None e =
           let at_base : there past (is_in_base past added.revision) q ≡ true = sym (ap (λ o. unwrap_or o (there past (is_in_base past added.revision) q)) e) ∙ left in
-          let begun : IsLastMove past (is_in_base past added.revision) q true = there_moved past sound (is_in_base past added.revision) (base_closed past sound added.revision added.writes added.is) q at_base in
-          not_between e begun (gone_moved past sound s closed q none begun.revision begun.writes begun.is (closed added.revision added.writes added.is added.seen begun.revision begun.seen) (ap is_some begun.moved))
+          let begun : IsLastMove past (is_in_base past added.revision) q true = there_moved past sound (is_in_base past added.revision) q (base_closed past sound added.revision added.writes added.is) at_base in
+          not_between e begun (gone_moved past sound s q closed none begun.revision begun.writes begun.is (closed added.revision added.writes added.is added.seen begun.revision begun.seen) (ap is_some begun.wrote))
 
 -- the parent of a node that is seen is seen
-pub parent_seen : (past : Past) → IsSoundPast past → AreApartAbove past → (s : Sight) → IsClosedSight past s → (p q : Path) → parent_of p ≡ Some q → there past s p ≡ true → there past s q ≡ true
+pub parent_seen : (past : Past) → IsSoundPast past → AreMergeable past → (s : Sight) → IsClosedSight past s → (p q : Path) → parent_of p ≡ Some q → there past s p ≡ true → there past s q ≡ true
 parent_seen past sound apart s closed p q up here = by (there past s q) refl
   where
     by : (b : Bool) → there past s q ≡ b → b ≡ true

@@ -1,29 +1,23 @@
 -- Why the parents have to be marked: without it two commits, each of a proper edit with its other marks, leave a node without its parent.
-use Rattle.std.proofs.Common.{◌≡◌, ℕ, zero, suc, Bool, true, false, ◌||◌, Some, List, [], ◌∷◌, is_some, refl, sym, ap, ◌∙◌, subst, arith}
-use Rattle.std.specs.Prelude.{slice_get, codes}
-use Rattle.std.specs.Option.{option_map_or, unwrap_or}
-use Rattle.std.specs.List.{filter}
+use Rattle.std.proofs.Common.{◌≡◌, ℕ, true, false, [], ◌∷◌, is_some, refl, ap, subst}
+use Rattle.std.specs.Prelude.{codes}
+use Rattle.std.specs.Option.{option_map_or}
 use mathlib.Core.Bool.{false≢true}
 use Rattle.jr_path.specs.declared.path.Path.{Path}
 use Rattle.jr_rev.specs.declared.revision.Revision.{Revision}
-use Rattle.jr_rev.specs.declared.vector.RevVec.{RevVec}
-use Rattle.jr_rev.specs.Vectors.{Entries, sees, start, with_entry}
-use Rattle.jr_tree.specs.declared.edit.Edit.{Edit}
+use Rattle.jr_rev.specs.Vectors.{Entries, start, with_entry}
 use Rattle.jr_tree.specs.declared.edit.Write.{Write}
 use Rattle.jr_tree.specs.declared.edit.Write.TheVariants.{Here, Gone}
 use Rattle.jr_tree.specs.Trees.{Nodes, initial_tree, node_at, IsTree}
 use Rattle.jr_tree.specs.Edits.{IsProper}
 use Rattle.oak_clash.specs.declared.mark.Mark.TheVariants.{Exists}
-use Rattle.oak_clash.specs.declared.mark.MarkAt.{MarkAt}
 use Rattle.oak_machine.specs.declared.event.Draw.{Draw}
 use Rattle.oak_machine.specs.declared.event.Event.TheVariants as event
-use Rattle.oak_machine.specs.History.{History, Past}
+use Rattle.oak_machine.specs.History.{Past}
 use Rattle.oak_machine.specs.Commits.{tree_at}
 use Rattle.oak_machine.specs.Heads.{head_of}
-use Rattle.oak_machine.specs.Laws.{Starts, StartsProper, AreOfWrites, is_of_item}
-use Rattle.oak_machine.specs.Marks.{marks_for}
-use Rattle.oak_machine.specs.Runs.{AreNodes, IsNode, IsRunOf, any_said}
-use Rattle.oak_machine.specs.Tests.{is_apart_among}
+use Rattle.oak_machine.specs.Laws.{Starts, StartsProper, AreOfWrites}
+use Rattle.oak_machine.specs.Runs.{IsRunOf, any_said}
 use Rattle.oak_machine.proofs.Deciding.{apart_decided}
 use Rattle.core_law.specs.State.{base_tree}
 

@@ -1,7 +1,7 @@
 -- What a closed reader sees is a tree.
 use Rattle.std.proofs.Common.{◌≡◌, Bool, true, false, cond, Some, None, Option, [], ◌∷◌, refl, sym, ap, ◌∙◌, subst, is_some}
 use Rattle.std.specs.Cmp.{tied_itself}
-use Rattle.std.specs.Option.{option_map_or, unwrap_or}
+use Rattle.std.specs.Option.{option_and_then, option_map_or, unwrap_or}
 use Rattle.std.specs.Ordering.{is_eq, eq_by_cmp}
 use Rattle.std.specs.FinMap.{is_sorted}
 use Rattle.std.specs.List.{list_all}
@@ -14,17 +14,16 @@ use Rattle.jr_tree.specs.Trees.{Nodes, node_at, has_parent, IsTree}
 use Rattle.jr_tree.proofs.Pointwise.{same_path}
 use Rattle.oak_machine.specs.History.{Past}
 use Rattle.oak_machine.specs.Commits.{is_in_base}
-use Rattle.core_read.specs.Items.{here_of}
+use Rattle.core_read.specs.Items.{here_of, written}
 use Rattle.core_read.specs.Commits.{Sight, last, tree_of}
 use Rattle.core_read.specs.Holds.{falling, the_start, start_writes, IsSoundPast, IsClosedSight}
 use Rattle.core_read.proofs.Entries.{first, second, both, none_below}
 use Rattle.core_read.proofs.Latest.{IsLast}
-use Rattle.core_read.proofs.AtPath.{InOrder}
-use Rattle.core_read.proofs.EditLaw.{IsOrderly}
 use Rattle.core_read.proofs.Trees.{Tells}
 use Rattle.core_read.proofs.Falling.{tells_falling}
-use Rattle.core_merge.proofs.Moves.{IsLastMove, there, moving, moving_at, last_is, to_move, there_is}
-use Rattle.core_merge.proofs.Parents.{AreApartAbove, left_by, parent_seen, proper}
+use Rattle.core_merge.specs.Independent.{AreMergeable}
+use Rattle.core_merge.proofs.Seen.{IsLastMove, write_seen, last_seen, there, there_is, to_move, to_seen}
+use Rattle.core_merge.proofs.Parents.{left_by, parent_seen, proper}
 
 -- what holds of each node that is found holds of each entry
 all_entries : (test : Path × Node → Bool) (t : Nodes) → is_sorted path_cmp t ≡ true → ((p : Path) (node : Node) → node_at t p ≡ Some node → test (p, node) ≡ true) → list_all test t ≡ true
@@ -36,37 +35,35 @@ all_entries test (e ∷ t) s f = both _ _
       | false ↦ λ k. h
     ]) refl)))
 
--- a tree in order that has the nodes that are seen
-pub record Shows (past : Past) (s : Sight) (t : Nodes) : Type 0 where
-  pub order : InOrder t
-  pub orderly : (p : Path) → IsOrderly (node_at t p)
-  pub node : (p : Path) → is_some (node_at t p) ≡ there past s p
-
-module _ (past : Past) (sound : IsSoundPast past) (s : Sight) (closed : IsClosedSight past s) where
-  pub tree_shows : Shows past s (tree_of s (falling past))
-  tree_shows = let tells : Tells (tree_of s (falling past)) s (falling past) = tells_falling past sound s closed in record { order = tells.order; orderly = tells.orderly; node = λ p. refl }
-
+module _ (past : Past) (sound : IsSoundPast past) (mergeable : AreMergeable past) (s : Sight) (closed : IsClosedSight past s) (begun : s the_start ≡ true) where
   -- a commit leaves the root there
   root_left : (b : Bool) → IsLastMove past s [] b → b ≡ true
   root_left b w =
-      sym (ap (λ o. unwrap_or o (there past (is_in_base past w.revision) [])) w.moved)
+      sym (ap (λ o. unwrap_or o (there past (is_in_base past w.revision) [])) w.wrote)
       ∙ (sym (left_by past sound w.revision w.writes w.is []) ∙ (proper past sound w.revision w.writes w.is).tree.root)
 
-  root_seen : s the_start ≡ true → there past s [] ≡ true
-  root_seen begun = there_is past sound s closed [] ∙ by (last (here_of []) s (falling past)) (last_is past sound s [])
+  root_seen : there past s [] ≡ true
+  root_seen = there_is past sound s [] closed ∙ by (last (here_of []) s (falling past)) (last_seen (here_of []) past sound s)
     where
-      by : (o : Option Bool) → IsLast (moving past sound s []) o → unwrap_or o false ≡ true
-      by None l = absurd (false≢true (sym (ap is_some (l the_start)) ∙ ap is_some (moving_at past sound s [] the_start start_writes refl begun)))
+      by : (o : Option Bool) → IsLast (write_seen (here_of []) past s) o → unwrap_or o false ≡ true
+      by None l = absurd (false≢true (sym (ap is_some (l the_start)) ∙ ap is_some (ap (option_and_then (written (here_of []))) (to_seen past s the_start start_writes refl begun))))
       by (Some b) l = root_left b (to_move past sound s [] b l)
 
-  pub whole : AreApartAbove past → s the_start ≡ true → (t : Nodes) → Shows past s t → IsTree t
-  whole apart begun t shows = record {
-    paths = shows.order;
-    names = all_entries (λ e. is_sorted name_cmp e.1.props) t shows.order (λ p node h. shows.orderly p node h);
-    root = shows.node [] ∙ root_seen begun;
-    parents = all_entries (λ e. has_parent t e.0) t shows.order (λ p node h. by p (sym (shows.node p) ∙ ap is_some h) (parent_of p) refl);
+  -- a tree that has what is seen
+  pub whole : (t : Nodes) → Tells t s (falling past) → IsTree t
+  whole t tells = record {
+    paths = tells.order;
+    names = all_entries (λ e. is_sorted name_cmp e.1.props) t tells.order (λ p node h. tells.orderly p node h);
+    root = is_there [] ∙ root_seen;
+    parents = all_entries (λ e. has_parent t e.0) t tells.order (λ p node h. by p (sym (is_there p) ∙ ap is_some h) (parent_of p) refl);
   }
     where
+      is_there : (p : Path) → is_some (node_at t p) ≡ there past s p
+      is_there p = tells.node p ∙ sym (there_is past sound s p closed)
+
       by : (p : Path) → there past s p ≡ true → (o : Option Path) → parent_of p ≡ o → option_map_or (λ q. is_some (node_at t q)) o true ≡ true
       by p h None up = refl
-      by p h (Some q) up = shows.node q ∙ parent_seen past sound apart s closed p q up h
+      by p h (Some q) up = is_there q ∙ parent_seen past sound mergeable s closed p q up h
+
+  pub seen_tree : IsTree (tree_of s (falling past))
+  seen_tree = whole (tree_of s (falling past)) (tells_falling past sound s closed)

@@ -1,2 +1,2 @@
+pub mod Independent
 pub mod Orders
-pub mod Parents

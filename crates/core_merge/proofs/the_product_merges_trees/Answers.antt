@@ -3,7 +3,6 @@ use Rattle.core_heads.proofs.Runs.{closed_run, sound_run}
 use Rattle.core_law.proofs.Lasting.{proper_starts}
 use Rattle.core_law.specs.Law.{MayStart, SaysBy}
 use Rattle.core_merge.proofs.Merged.{law_marks_parents, tree_merged}
-use Rattle.core_merge.proofs.Order.{tree_in_order}
 use Rattle.core_merge.proofs.the_product_merges_trees.Goals as goal
 
 pub returns-clause-law : goal.returns-clause-law
@@ -12,10 +11,6 @@ returns-clause-law c = law_marks_parents
 pub returns-clause-closed : goal.returns-clause-closed
 returns-clause-closed c = λ law h v nodes run closed.
     tree_merged h.clusters h.sessions nodes (λ h s edit marks. MayStart law h s edit marks) (λ h s i text. SaysBy law h s i text) (proper_starts law) (law_marks_parents law) h.past run v closed
-
-pub returns-clause-order : goal.returns-clause-order
-returns-clause-order c = λ law h nodes run.
-    tree_in_order h.clusters h.sessions nodes (λ h s edit marks. MayStart law h s edit marks) (λ h s i text. SaysBy law h s i text) (proper_starts law) (law_marks_parents law) h.past run
 
 pub returns-clause-bases : goal.returns-clause-bases
 returns-clause-bases c = λ law h s v nodes run is.
