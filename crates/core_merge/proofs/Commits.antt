@@ -24,7 +24,7 @@ use Rattle.oak_machine.specs.Laws.{Starts, Says, StartsProper}
 use Rattle.oak_machine.specs.Runs.{IsRunOf, AreNodes, MayCommit}
 use Rattle.core_read.specs.Holds.{edit_of, the_start, start_writes}
 use Rattle.core_read.specs.Told.{IsTold}
-use Rattle.core_read.proofs.Committed.{committed as committed_now}
+use Rattle.core_read.proofs.Committed.{committed}
 use Rattle.core_read.proofs.Falling.{not_both}
 use Rattle.core_read.proofs.Latest.{same_revision, before_itself}
 use Rattle.core_read.proofs.Told.{edit_committed, pending}
@@ -145,7 +145,7 @@ module _ (clusters : ℕ) (sessions : List ℕ) (nodes : AreNodes clusters sessi
 
       by : (o : Option Draw) → draw_of past x ≡ o → (is_committed past r ≡ true → edit_of past r ≡ Some d.edit.writes) → edit_of (event.Commit x ∷ past) r ≡ Some d.edit.writes
       by None e rest = absurd (false≢true (sym (ap is_some e) ∙ drawn (is_drawn past x) (is_ended past x) run.0.open_.in_flight))
-      by (Some e) is rest = committed_now past x e (pending past x e told run.0 is) (told.draws x e is).after is r ∙ at_other (is_same r x) refl e is c rest
+      by (Some e) is rest = committed past x e (pending past x e told run.0 is) (told.draws x e is).after is r ∙ at_other (is_same r x) refl e is c rest
   committed_edit proper (event.Draw e ∷ past) run r d c h = committed_edit proper past run.1 r d c (sym (draw_kept past e run r c) ∙ h)
   committed_edit proper (e ∷ past) run r d c h = committed_edit proper past run.1 r d c h
 
@@ -153,8 +153,8 @@ module _ (clusters : ℕ) (sessions : List ℕ) (nodes : AreNodes clusters sessi
     told : IsTold past
     told = told_past clusters sessions nodes starts says proper past run
 
-    committed : (o : Revision) (us : List Write) → edit_of past o ≡ Some us → eq_by_cmp revision_cmp o the_start ≡ false → is_committed past o ≡ true
-    committed o us e not_start = edit_committed past o (sym (ap (λ b. is_some (cond b (Some start_writes) (of_revision (committed_edits past) o))) not_start) ∙ ap is_some e)
+    pub committed_is : (o : Revision) (us : List Write) → edit_of past o ≡ Some us → eq_by_cmp revision_cmp o the_start ≡ false → is_committed past o ≡ true
+    committed_is o us e not_start = edit_committed past o (sym (ap (λ b. is_some (cond b (Some start_writes) (of_revision (committed_edits past) o))) not_start) ∙ ap is_some e)
 
     -- draws that don't clash are independent
     independent : (r o : Revision) (d e : Draw) → draw_of past r ≡ Some d → draw_of past o ≡ Some e → are_clashing past r o ≡ false → AreIndependent d.edit.writes e.edit.writes
@@ -172,7 +172,7 @@ module _ (clusters : ℕ) (sessions : List ℕ) (nodes : AreNodes clusters sessi
       where
         by : (b : Bool) → eq_by_cmp revision_cmp o the_start ≡ b → AreIndependent d.edit.writes us
         by true k = absurd (false≢true (sym unseen ∙ subst (λ (x : Revision). is_in_base past r x ≡ true) (sym (same_revision o the_start k)) (told.draws r d drawn).begins))
-        by false k = let c = told.edits o us e k in subst (λ (xs : List Write). AreIndependent d.edit.writes xs) c.2 (independent r o d c.0 drawn c.1 (may.apart o (committed o us e k) unseen))
+        by false k = let c = told.edits o us e k in subst (λ (xs : List Write). AreIndependent d.edit.writes xs) c.2 (independent r o d c.0 drawn c.1 (may.apart o (committed_is o us e k) unseen))
 
     -- nothing is before the start
     after_start : (o : Revision) (us : List Write) → edit_of past o ≡ Some us → is_before o the_start ≡ true → ⊥
@@ -200,4 +200,4 @@ module _ (clusters : ℕ) (sessions : List ℕ) (nodes : AreNodes clusters sessi
             let d = told.edits r ws e h in
             let c = told.edits o us f k in
             subst (λ (xs : List Write). AreIndependent xs us) d.2 (subst (λ (xs : List Write). AreIndependent (d.0).edit.writes xs) c.2
-            (independent_commits r o d.0 c.0 (committed r ws e h) (committed o us f k) d.1 c.1 other unseen (unseen_back _ refl)))
+            (independent_commits r o d.0 c.0 (committed_is r ws e h) (committed_is o us f k) d.1 c.1 other unseen (unseen_back _ refl)))

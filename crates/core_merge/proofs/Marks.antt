@@ -26,7 +26,7 @@ use Rattle.oak_machine.specs.Marks.{Marked, marks_for, marks_of_node, marks_of_w
 use Rattle.core_read.specs.Items.{here_of, written}
 use Rattle.core_read.specs.Told.{Covers, IsIn}
 use Rattle.core_read.proofs.Entries.{both}
-use Rattle.core_merge.specs.Independent.{moves, is_marked, MarkParents, AreIndependent}
+use Rattle.core_merge.specs.Independent.{writes_node, is_marked, MarkParents, AreIndependent}
 
 or_right : (a b : Bool) → b ≡ true → (a || b) ≡ true
 or_right true b h = refl
@@ -70,18 +70,18 @@ meet_right : (ms os : List MarkAt) (q : Path) → is_marked q ms ≡ true → Is
 meet_right ms os q k h = any_each (λ (m : MarkAt). eq_by_cmp path_cmp q m.path) (λ (m : MarkAt). list_any (λ (o : MarkAt). eq_by_cmp path_cmp m.path o.path && clash m.mark o.mark) os) ms
     (λ m t. any_in (λ (o : MarkAt). eq_by_cmp path_cmp m.path o.path && clash m.mark o.mark) (record { path = q; mark = Exists }) os h (both _ _ (sym (path_ties.symm q m.path) ∙ t) (clash-symm m.mark Exists))) k
 
-unwritten : {X : Type 0} (o : Option X) → (is_some o ≡ true → ⊥) → o ≡ None
-unwritten None h = refl
-unwritten (Some x) h = absurd (h refl)
+not_true : (b : Bool) → (b ≡ true → ⊥) → b ≡ false
+not_true false h = refl
+not_true true h = absurd (h refl)
 
 pub independent_marks : (ms os : List MarkAt) (ws us : List Write) → Covers ms ws → Covers os us → MarkParents ms ws → MarkParents os us → clashing ms os ≡ false → AreIndependent ws us
 independent_marks ms os ws us c d m n none = record {
-  nodes = λ p h. unwritten _ (λ k. false≢true (sym none ∙ meet ms os p Exists Exists (c.node p h) (d.node p k) refl));
-  props = λ p l h. unwritten _ (λ k. false≢true (sym none ∙ meet ms os p (Prop l) (Prop l) (c.prop p l h) (d.prop p l k) (name_ties.refl l)));
-  moved = λ p l h. unwritten _ (λ k. false≢true (sym none ∙ meet ms os p Exists (Prop l) (c.node p h) (d.prop p l k) refl));
-  changed = λ p l h. unwritten _ (λ k. false≢true (sym none ∙ meet ms os p (Prop l) Exists (c.prop p l h) (d.node p k) refl));
-  below = λ p q up h. unwritten _ (λ k. false≢true (sym none ∙ meet_right ms os q (m p q up h) (d.node q k)));
-  above = λ p q up h. unwritten _ (λ k. false≢true (sym none ∙ meet_left ms os q (c.node q k) (n p q up h)));
+  nodes = λ p h. not_true _ (λ k. false≢true (sym none ∙ meet ms os p Exists Exists (c.node p h) (d.node p k) refl));
+  properties = λ p l h. not_true _ (λ k. false≢true (sym none ∙ meet ms os p (Prop l) (Prop l) (c.prop p l h) (d.prop p l k) (name_ties.refl l)));
+  of_node = λ p l h. not_true _ (λ k. false≢true (sym none ∙ meet ms os p Exists (Prop l) (c.node p h) (d.prop p l k) refl));
+  of_property = λ p l h. not_true _ (λ k. false≢true (sym none ∙ meet ms os p (Prop l) Exists (c.prop p l h) (d.node p k) refl));
+  below = λ p q up h. not_true _ (λ k. false≢true (sym none ∙ meet_right ms os q (m p q up h) (d.node q k)));
+  above = λ p q up h. not_true _ (λ k. false≢true (sym none ∙ meet_left ms os q (c.node q k) (n p q up h)));
 }
 
 -- ---- the marks of an edit
@@ -146,7 +146,7 @@ write_marks p q up (Gone r) h = node_marks p q r up (same_path p r (passes _ fal
 write_marks p q up (Put r m x) h = absurd (false≢true h)
 write_marks p q up (Unset r m) h = absurd (false≢true h)
 
-writes_mark : (p q : Path) (ws : List Write) → parent_of p ≡ Some q → moves p ws ≡ true → list_any (λ w. is_marked q (marks_of_write w)) ws ≡ true
+writes_mark : (p q : Path) (ws : List Write) → parent_of p ≡ Some q → writes_node p ws ≡ true → list_any (λ w. is_marked q (marks_of_write w)) ws ≡ true
 writes_mark p q [] up h = absurd (false≢true h)
 writes_mark p q (w ∷ ws) up h =
     (elim (written (here_of p) ws) as (λ o. (is_some o ≡ true → list_any (λ w. is_marked q (marks_of_write w)) ws ≡ true) → is_some (option_or o (here_of p w)) ≡ true → (is_marked q (marks_of_write w) || list_any (λ w. is_marked q (marks_of_write w)) ws) ≡ true) [

@@ -35,7 +35,7 @@ use Rattle.core_read.proofs.Falling.{not_both, tells_falling}
 use Rattle.core_read.proofs.Latest.{IsLast, only, last_moved, same_revision, at_most_itself, not_before}
 use Rattle.core_read.proofs.Proper.{gone_writes, proper_fits}
 use Rattle.core_read.proofs.Trees.{Tells}
-use Rattle.core_merge.specs.Independent.{changes, moves, AreIndependent}
+use Rattle.core_merge.specs.Independent.{writes_property, writes_node, AreIndependent}
 use Rattle.core_merge.proofs.Seen.{edit_seen, from_seen, last_seen, write_seen}
 
 -- ---- writes of an edit
@@ -71,17 +71,21 @@ same_name n = ap is_eq (tied_itself nat_list_cmp_total n)
 same_item : (p : Path) (n : Name) → (eq_by_cmp path_cmp p p && eq_by_cmp name_cmp n n) ≡ true
 same_item p n = both _ _ (same_path p) (same_name n)
 
-moves_here : (p : Path) (ws : List Write) → IsIn (Here p) ws → moves p ws ≡ true
-moves_here p ws i = is_written (here_of p) (Here p) ws i (passes _ true (same_path p))
+node_of_here : (p : Path) (ws : List Write) → IsIn (Here p) ws → writes_node p ws ≡ true
+node_of_here p ws i = is_written (here_of p) (Here p) ws i (passes _ true (same_path p))
 
-moves_gone : (p : Path) (ws : List Write) → IsIn (Gone p) ws → moves p ws ≡ true
-moves_gone p ws i = is_written (here_of p) (Gone p) ws i (passes _ false (same_path p))
+node_of_gone : (p : Path) (ws : List Write) → IsIn (Gone p) ws → writes_node p ws ≡ true
+node_of_gone p ws i = is_written (here_of p) (Gone p) ws i (passes _ false (same_path p))
 
-changes_put : (p : Path) (n : Name) (x : Property) (ws : List Write) → IsIn (Put p n x) ws → changes p n ws ≡ true
-changes_put p n x ws i = is_written (put_of p n) (Put p n x) ws i (passes _ (Some x) (same_item p n))
+property_of_put : (p : Path) (n : Name) (x : Property) (ws : List Write) → IsIn (Put p n x) ws → writes_property p n ws ≡ true
+property_of_put p n x ws i = is_written (put_of p n) (Put p n x) ws i (passes _ (Some x) (same_item p n))
 
-changes_unset : (p : Path) (n : Name) (ws : List Write) → IsIn (Unset p n) ws → changes p n ws ≡ true
-changes_unset p n ws i = is_written (put_of p n) (Unset p n) ws i (passes _ None (same_item p n))
+property_of_unset : (p : Path) (n : Name) (ws : List Write) → IsIn (Unset p n) ws → writes_property p n ws ≡ true
+property_of_unset p n ws i = is_written (put_of p n) (Unset p n) ws i (passes _ None (same_item p n))
+
+none_of : {X : Type 0} (o : Option X) → is_some o ≡ false → o ≡ None
+none_of None h = refl
+none_of (Some x) h = absurd (false≢true (sym h))
 
 none_alike : {X : Type 0} (a b : Option X) → is_some a ≡ is_some b → is_none a ≡ is_none b
 none_alike None None h = refl
@@ -121,7 +125,7 @@ module _ (past : Past) (sound : IsSoundPast past) (s base : Sight) (closed : IsC
   at_base = tells_falling past sound base closed
 
   -- what no edit of which it is independent writes is as at the base
-  same_last : {X : Type 0} (f : Write → Option X) → ((us : List Write) → AreIndependent ws us → written f us ≡ None) → last f s (falling past) ≡ last f base (falling past)
+  same_last : {X : Type 0} (f : Write → Option X) → ((us : List Write) → AreIndependent ws us → is_some (written f us) ≡ false) → last f s (falling past) ≡ last f base (falling past)
   same_last f silent = only (write_seen f past s) (write_seen f past base) (λ q. by q (s q) refl (base q) refl (edit_of past q) refl) _ _ (last_seen f past sound s) (last_seen f past sound base)
     where
       by : (q : Revision) (a : Bool) → s q ≡ a → (b : Bool) → base q ≡ b → (o : Option (List Write)) → edit_of past q ≡ o → option_and_then (written f) (cond a o None) ≡ option_and_then (written f) (cond b o None)
@@ -129,12 +133,12 @@ module _ (past : Past) (sound : IsSoundPast past) (s base : Sight) (closed : IsC
       by q false h false k o l = refl
       by q false h true k o l = absurd (false≢true (sym h ∙ wider q k))
       by q true h false k None l = refl
-      by q true h false k (Some us) l = silent us (apart q us l h k)
+      by q true h false k (Some us) l = none_of _ (silent us (apart q us l h k))
 
-  same_node : (p : Path) → ((us : List Write) → AreIndependent ws us → written (here_of p) us ≡ None) → is_some (node_at t p) ≡ is_some (node_at before p)
+  same_node : (p : Path) → ((us : List Write) → AreIndependent ws us → writes_node p us ≡ false) → is_some (node_at t p) ≡ is_some (node_at before p)
   same_node p silent = tells.node p ∙ (ap (λ o. unwrap_or o false) (same_last (here_of p) silent) ∙ sym (at_base.node p))
 
-  same_prop : (p : Path) (n : Name) → ((us : List Write) → AreIndependent ws us → written (put_of p n) us ≡ None) → property_at t p n ≡ property_at before p n
+  same_prop : (p : Path) (n : Name) → ((us : List Write) → AreIndependent ws us → writes_property p n us ≡ false) → property_at t p n ≡ property_at before p n
   same_prop p n silent = tells.prop p n ∙ (ap (λ o. unwrap_or o None) (same_last (put_of p n) silent) ∙ sym (at_base.prop p n))
 
   fits_base : Fits before ws
@@ -143,21 +147,21 @@ module _ (past : Past) (sound : IsSoundPast past) (s base : Sight) (closed : IsC
   pub fits : Fits t ws
   fits = record {
     once = proper.once;
-    put = λ p n x h. ap (unwrap_or (written (here_of p) ws)) (same_node p (λ us i. i.changed p n (ap is_some h))) ∙ fits_base.put p n x h;
-    gone = λ p n g h. fits_base.gone p n g (sym (ap is_some (same_prop p n (λ us i. i.moved p n (gone_writes p ws g)))) ∙ h);
+    put = λ p n x h. ap (unwrap_or (written (here_of p) ws)) (same_node p (λ us i. i.of_property p n (ap is_some h))) ∙ fits_base.put p n x h;
+    gone = λ p n g h. fits_base.gone p n g (sym (ap is_some (same_prop p n (λ us i. i.of_node p n (gone_writes p ws g)))) ∙ h);
   }
 
-  same_node_after : (p : Path) → moves p ws ≡ true → is_some (node_at (applied t ws) p) ≡ is_some (node_at (applied before ws) p)
+  same_node_after : (p : Path) → writes_node p ws ≡ true → is_some (node_at (applied t ws) p) ≡ is_some (node_at (applied before ws) p)
   same_node_after p m = has_applied t ws tells.order proper.once p ∙ (ap (unwrap_or (written (here_of p) ws)) (same_node p (λ us i. i.nodes p m)) ∙ sym (has_applied before ws at_base.order proper.once p))
 
-  same_prop_after : (p : Path) (n : Name) → changes p n ws ≡ true → property_at (applied t ws) p n ≡ property_at (applied before ws) p n
+  same_prop_after : (p : Path) (n : Name) → writes_property p n ws ≡ true → property_at (applied t ws) p n ≡ property_at (applied before ws) p n
   same_prop_after p n m =
       property_applied t ws tells.order tells.orderly fits p n
-      ∙ (ap (unwrap_or (written (put_of p n) ws)) (same_prop p n (λ us i. i.props p n m)) ∙ sym (property_applied before ws at_base.order at_base.orderly fits_base p n))
+      ∙ (ap (unwrap_or (written (put_of p n) ws)) (same_prop p n (λ us i. i.properties p n m)) ∙ sym (property_applied before ws at_base.order at_base.orderly fits_base p n))
 
   -- the node that it removes has the properties that it has at the base
-  same_properties : (p : Path) → moves p ws ≡ true → properties_at t p ≡ properties_at before p
-  same_properties p m = by (node_at t p) refl (node_at before p) refl (same_node p (λ us i. i.nodes p m)) (λ n. same_prop p n (λ us i. i.moved p n m))
+  same_properties : (p : Path) → writes_node p ws ≡ true → properties_at t p ≡ properties_at before p
+  same_properties p m = by (node_at t p) refl (node_at before p) refl (same_node p (λ us i. i.nodes p m)) (λ n. same_prop p n (λ us i. i.of_node p n m))
     where
       by : (a : Option Node) → node_at t p ≡ a → (b : Option Node) → node_at before p ≡ b → is_some a ≡ is_some b
           → ((n : Name) → option_and_then (λ (node : Node). lookup (is_at (name_cmp n)) node.props) a ≡ option_and_then (λ (node : Node). lookup (is_at (name_cmp n)) node.props) b)
@@ -169,23 +173,23 @@ module _ (past : Past) (sound : IsSoundPast past) (s base : Sight) (closed : IsC
 
   same_change : (w : Write) → IsIn w ws → is_change t (applied t ws) w ≡ is_change before (applied before ws) w
   same_change (Here p) i =
-      let m : moves p ws ≡ true = moves_here p ws i in
+      let m : writes_node p ws ≡ true = node_of_here p ws i in
       ap (λ b. b && is_some (node_at (applied t ws) p)) (none_alike _ _ (same_node p (λ us d. d.nodes p m))) ∙ ap (λ b. is_none (node_at before p) && b) (same_node_after p m)
   same_change (Gone p) i =
-      let m : moves p ws ≡ true = moves_gone p ws i in
+      let m : writes_node p ws ≡ true = node_of_gone p ws i in
       ap (λ b. b && is_none (node_at (applied t ws) p)) (same_node p (λ us d. d.nodes p m)) ∙ ap (λ b. is_some (node_at before p) && b) (none_alike _ _ (same_node_after p m))
   same_change (Put p n x) i =
-      let m : changes p n ws ≡ true = changes_put p n x ws i in
-      ap (λ (o : Option Property). not (option_map_or (same_property x) o false) && option_map_or (same_property x) (property_at (applied t ws) p n) false) (same_prop p n (λ us d. d.props p n m))
+      let m : writes_property p n ws ≡ true = property_of_put p n x ws i in
+      ap (λ (o : Option Property). not (option_map_or (same_property x) o false) && option_map_or (same_property x) (property_at (applied t ws) p n) false) (same_prop p n (λ us d. d.properties p n m))
       ∙ ap (λ (o : Option Property). not (option_map_or (same_property x) (property_at before p n) false) && option_map_or (same_property x) o false) (same_prop_after p n m)
   same_change (Unset p n) i =
-      let m : changes p n ws ≡ true = changes_unset p n ws i in
-      ap (λ (o : Option Property). is_some o && is_none (property_at (applied t ws) p n)) (same_prop p n (λ us d. d.props p n m))
+      let m : writes_property p n ws ≡ true = property_of_unset p n ws i in
+      ap (λ (o : Option Property). is_some o && is_none (property_at (applied t ws) p n)) (same_prop p n (λ us d. d.properties p n m))
       ∙ ap (λ (o : Option Property). is_some (property_at before p n) && is_none o) (same_prop_after p n m)
 
   same_emptied : (w : Write) → IsIn w ws → is_emptied t ws w ≡ is_emptied before ws w
   same_emptied (Here p) i = refl
-  same_emptied (Gone p) i = ap (λ (es : List (Name × Property)). list_all (λ e. list_any (is_unset_of p e.0) ws) es) (same_properties p (moves_gone p ws i))
+  same_emptied (Gone p) i = ap (λ (es : List (Name × Property)). list_all (λ e. list_any (is_unset_of p e.0) ws) es) (same_properties p (node_of_gone p ws i))
   same_emptied (Put p n x) i = refl
   same_emptied (Unset p n) i = refl
 
@@ -202,16 +206,16 @@ module _ (past : Past) (sound : IsSoundPast past) (s base : Sight) (closed : IsC
       (with_r : (q : Revision) → edit_seen later wide q ≡ cond (eq_by_cmp revision_cmp q r) (Some ws) (edit_seen past s q))
       (not_yet : edit_seen past s r ≡ None)
       (rises : (q : Revision) → base q ≡ true → is_before q r ≡ true) where
-    greatest : {X : Type 0} (f : Write → Option X) → ((us : List Write) → AreIndependent ws us → is_some (written f ws) ≡ true → written f us ≡ None)
+    greatest : {X : Type 0} (f : Write → Option X) → ((us : List Write) → AreIndependent ws us → is_some (written f ws) ≡ true → is_some (written f us) ≡ false)
         → is_some (written f ws) ≡ true → (q : Revision) → is_some (write_seen f past s q) ≡ true → is_at_most q r ≡ true
     greatest f silent m q h = from_seen f past s q _ refl (λ o. is_some o ≡ true → is_at_most q r ≡ true) (λ k. absurd (false≢true k)) (λ us e seen k. by us e seen k (is_before r q) refl (base q) refl) h
       where
         by : (us : List Write) → edit_of past q ≡ Some us → s q ≡ true → is_some (written f us) ≡ true → (b : Bool) → is_before r q ≡ b → (c : Bool) → base q ≡ c → is_at_most q r ≡ true
         by us e seen k false l c o = not_before r q l
         by us e seen k true l true o = absurd (false≢true (sym (not_both r q l) ∙ rises q o))
-        by us e seen k true l false o = absurd (false≢true (sym (ap is_some (silent us (apart q us e seen o) m)) ∙ k))
+        by us e seen k true l false o = absurd (false≢true (sym (silent us (apart q us e seen o) m) ∙ k))
 
-    last_with : {X : Type 0} (f : Write → Option X) → ((us : List Write) → AreIndependent ws us → is_some (written f ws) ≡ true → written f us ≡ None) → last f wide (falling later) ≡ option_or (written f ws) (last f s (falling past))
+    last_with : {X : Type 0} (f : Write → Option X) → ((us : List Write) → AreIndependent ws us → is_some (written f ws) ≡ true → is_some (written f us) ≡ false) → last f wide (falling later) ≡ option_or (written f ws) (last f s (falling past))
     last_with f silent = only (write_seen f later wide) (write_seen f later wide) (λ q. refl) _ _ (last_seen f later now wide)
         (last_more (write_seen f past s) (write_seen f later wide) r (written f ws) (λ q. ap (option_and_then (written f)) (with_r q) ∙ by q (eq_by_cmp revision_cmp q r)) (ap (option_and_then (written f)) not_yet) (greatest f silent) _ (last_seen f past sound s))
       where
@@ -224,5 +228,5 @@ module _ (past : Past) (sound : IsSoundPast past) (s base : Sight) (closed : IsC
       order = order-applied t ws tells.order;
       orderly = Orderly-applied t ws tells.order tells.orderly fits;
       node = λ p. has_applied t ws tells.order proper.once p ∙ (ap (unwrap_or (written (here_of p) ws)) (tells.node p) ∙ (or_last (written (here_of p) ws) (last (here_of p) s (falling past)) false ∙ ap (λ o. unwrap_or o false) (sym (last_with (here_of p) (λ us i m. i.nodes p m)))));
-      prop = λ p n. property_applied t ws tells.order tells.orderly fits p n ∙ (ap (unwrap_or (written (put_of p n) ws)) (tells.prop p n) ∙ (or_last (written (put_of p n) ws) (last (put_of p n) s (falling past)) None ∙ ap (λ o. unwrap_or o None) (sym (last_with (put_of p n) (λ us i m. i.props p n m)))));
+      prop = λ p n. property_applied t ws tells.order tells.orderly fits p n ∙ (ap (unwrap_or (written (put_of p n) ws)) (tells.prop p n) ∙ (or_last (written (put_of p n) ws) (last (put_of p n) s (falling past)) None ∙ ap (λ o. unwrap_or o None) (sym (last_with (put_of p n) (λ us i m. i.properties p n m)))));
     }

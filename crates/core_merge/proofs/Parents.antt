@@ -21,8 +21,8 @@ use Rattle.core_read.proofs.Entries.{first, second}
 use Rattle.core_read.proofs.Latest.{at_most_both, before_at_most, before_itself, not_before}
 use Rattle.core_read.proofs.EditLaw.{has_applied}
 use Rattle.core_read.proofs.Falling.{tells_falling}
-use Rattle.core_merge.specs.Independent.{AreMergeable}
-use Rattle.core_merge.proofs.Seen.{IsLastMove, there, moved_there, there_moved, gone_moved}
+use Rattle.core_merge.specs.Independent.{writes_node, AreMergeable}
+use Rattle.core_merge.proofs.Seen.{IsLastWriter, there, last_there, added_last, removed_last}
 
 -- what all paths of a tree pass, a path that is found passes
 found_passes : (test : Path → Bool) (p : Path) (t : Nodes) → list_all (λ e. test e.0) t ≡ true → is_some (node_at t p) ≡ true → test p ≡ true
@@ -71,18 +71,18 @@ module _ (past : Past) (sound : IsSoundPast past) where
 
 module _ (past : Past) (sound : IsSoundPast past) (apart : AreMergeable past) (s : Sight) (closed : IsClosedSight past s) (p q : Path) (up : parent_of p ≡ Some q) (here : there past s p ≡ true) (none : there past s q ≡ false) where
   -- the commit that added the node
-  added : IsLastMove past s p true
-  added = there_moved past sound s p closed here
+  added : IsLastWriter past s p true
+  added = added_last past sound s p closed here
 
   -- it stands in the way of a later removal of the parent
-  not_later : (gone : IsLastMove past s q false) → is_before added.revision gone.revision ≡ true → ⊥
+  not_later : (gone : IsLastWriter past s q false) → is_before added.revision gone.revision ≡ true → ⊥
   not_later gone later = by (is_in_base past gone.revision added.revision) refl
     where
       of_base : Sight
       of_base = is_in_base past gone.revision
 
       in_base : of_base added.revision ≡ true → there past of_base p ≡ true
-      in_base u = moved_there past sound (is_in_base past gone.revision) p (base_closed past sound gone.revision gone.writes gone.is) true (record {
+      in_base u = last_there past sound (is_in_base past gone.revision) p (base_closed past sound gone.revision gone.writes gone.is) true (record {
         revision = added.revision;
         writes = added.writes;
         is = added.is;
@@ -100,11 +100,11 @@ module _ (past : Past) (sound : IsSoundPast past) (apart : AreMergeable past) (s
       by : (b : Bool) → is_in_base past gone.revision added.revision ≡ b → ⊥
       by true u = kept (written (here_of p) gone.writes) refl (in_base u)
       by false u =
-          let none : written (here_of q) gone.writes ≡ None = (apart gone.revision added.revision gone.writes added.writes gone.is added.is later u).above p q up (ap is_some added.wrote) in
-          false≢true (sym (ap is_some none) ∙ ap is_some gone.wrote)
+          let none : writes_node q gone.writes ≡ false = (apart gone.revision added.revision gone.writes added.writes gone.is added.is later u).above p q up (ap is_some added.wrote) in
+          false≢true (sym none ∙ ap is_some gone.wrote)
 
   -- a removal of the parent is the addition, or was before it
-  gone_before : (gone : IsLastMove past s q false) → is_at_most gone.revision added.revision ≡ true
+  gone_before : (gone : IsLastWriter past s q false) → is_at_most gone.revision added.revision ≡ true
   gone_before gone = by (is_before added.revision gone.revision) refl
     where
       by : (b : Bool) → is_before added.revision gone.revision ≡ b → is_at_most gone.revision added.revision ≡ true
@@ -115,7 +115,7 @@ module _ (past : Past) (sound : IsSoundPast past) (apart : AreMergeable past) (s
   true_false o h k = false≢true (sym (ap (λ o. unwrap_or o false) k) ∙ ap (λ o. unwrap_or o false) h)
 
   -- where the addition found the parent, the removal came between, unseen by it
-  not_between : written (here_of q) added.writes ≡ None → (begun : IsLastMove past (is_in_base past added.revision) q true) → (gone : IsLastMove past s q false) → ⊥
+  not_between : written (here_of q) added.writes ≡ None → (begun : IsLastWriter past (is_in_base past added.revision) q true) → (gone : IsLastWriter past s q false) → ⊥
   not_between silent begun gone = by (is_in_base past added.revision gone.revision) refl
     where
       seen : s begun.revision ≡ true
@@ -126,8 +126,8 @@ module _ (past : Past) (sound : IsSoundPast past) (apart : AreMergeable past) (s
 
       by : (b : Bool) → is_in_base past added.revision gone.revision ≡ b → ⊥
       by false u =
-          let none : written (here_of q) gone.writes ≡ None = (apart added.revision gone.revision added.writes gone.writes added.is gone.is earlier u).below p q up (ap is_some added.wrote) in
-          false≢true (sym (ap is_some none) ∙ ap is_some gone.wrote)
+          let none : writes_node q gone.writes ≡ false = (apart added.revision gone.revision added.writes gone.writes added.is gone.is earlier u).below p q up (ap is_some added.wrote) in
+          false≢true (sym none ∙ ap is_some gone.wrote)
       by true u =
           let same : begun.revision ≡ gone.revision = at_most_both begun.revision gone.revision
           (gone.last begun.revision begun.writes begun.is seen (ap is_some begun.wrote))
@@ -143,13 +143,13 @@ module _ (past : Past) (sound : IsSoundPast past) (apart : AreMergeable past) (s
       by : (o : Option Bool) → written (here_of q) added.writes ≡ o → ⊥
       by (Some false) e = false≢true (sym (ap (λ o. unwrap_or o (there past (is_in_base past added.revision) q)) e) ∙ left)
       by (Some true) e =
-          let gone : IsLastMove past s q false = gone_moved past sound s q closed none added.revision added.writes added.is added.seen (ap is_some e) in
+          let gone : IsLastWriter past s q false = removed_last past sound s q closed none added.revision added.writes added.is added.seen (ap is_some e) in
           let same : added.revision ≡ gone.revision = at_most_both added.revision gone.revision (gone.last added.revision added.writes added.is added.seen (ap is_some e)) (gone_before gone) in
           true_false _ e (one_way past q added.revision gone.revision added.writes gone.writes same added.is gone.is ∙ gone.wrote)
       by None e =
           let at_base : there past (is_in_base past added.revision) q ≡ true = sym (ap (λ o. unwrap_or o (there past (is_in_base past added.revision) q)) e) ∙ left in
-          let begun : IsLastMove past (is_in_base past added.revision) q true = there_moved past sound (is_in_base past added.revision) q (base_closed past sound added.revision added.writes added.is) at_base in
-          not_between e begun (gone_moved past sound s q closed none begun.revision begun.writes begun.is (closed added.revision added.writes added.is added.seen begun.revision begun.seen) (ap is_some begun.wrote))
+          let begun : IsLastWriter past (is_in_base past added.revision) q true = added_last past sound (is_in_base past added.revision) q (base_closed past sound added.revision added.writes added.is) at_base in
+          not_between e begun (removed_last past sound s q closed none begun.revision begun.writes begun.is (closed added.revision added.writes added.is added.seen begun.revision begun.seen) (ap is_some begun.wrote))
 
 -- the parent of a node that is seen is seen
 pub parent_seen : (past : Past) → IsSoundPast past → AreMergeable past → (s : Sight) → IsClosedSight past s → (p q : Path) → parent_of p ≡ Some q → there past s p ≡ true → there past s q ≡ true

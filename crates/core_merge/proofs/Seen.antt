@@ -14,7 +14,7 @@ use Rattle.core_read.specs.Commits.{Sight, last, tree_of}
 use Rattle.core_read.specs.Holds.{edit_of, falling, IsSoundPast, IsClosedSight}
 use Rattle.core_read.proofs.Latest.{IsLast, only, writing, last_last, last_moved}
 use Rattle.core_read.proofs.Falling.{falling_falls, found_falling, tells_falling}
-use Rattle.core_merge.specs.Independent.{moves}
+use Rattle.core_merge.specs.Independent.{writes_node}
 
 -- the edit of a revision that is seen
 abbrev pub edit_seen : Past → Sight → Revision → Option (List Write)
@@ -45,13 +45,13 @@ from_seen f past s r o h G none some = by (s r) refl (edit_of past r) refl h
     by true k (Some ws) l m = subst G m (some ws l k)
 
 -- the last commit that is seen and adds or removes the node at p: it leaves the node there, or not
-pub record IsLastMove (past : Past) (s : Sight) (p : Path) (left : Bool) : Type 0 where
+pub record IsLastWriter (past : Past) (s : Sight) (p : Path) (left : Bool) : Type 0 where
   pub revision : Revision
   pub writes : List Write
   pub is : edit_of past revision ≡ Some writes
   pub seen : s revision ≡ true
   pub wrote : written (here_of p) writes ≡ Some left
-  pub last : (q : Revision) (us : List Write) → edit_of past q ≡ Some us → s q ≡ true → moves p us ≡ true → is_at_most q revision ≡ true
+  pub last : (q : Revision) (us : List Write) → edit_of past q ≡ Some us → s q ≡ true → writes_node p us ≡ true → is_at_most q revision ≡ true
 
 -- whether the node at p is seen
 abbrev pub there : Past → Sight → Path → Bool
@@ -61,39 +61,39 @@ module _ (past : Past) (sound : IsSoundPast past) (s : Sight) (p : Path) where
   written_at : (r : Revision) (ws : List Write) → edit_of past r ≡ Some ws → s r ≡ true → write_seen (here_of p) past s r ≡ written (here_of p) ws
   written_at r ws e h = ap (option_and_then (written (here_of p))) (to_seen past s r ws e h)
 
-  pub to_move : (left : Bool) → IsLast (write_seen (here_of p) past s) (Some left) → IsLastMove past s p left
-  to_move left l = by (s l.0) refl (edit_of past l.0) refl l.1
+  pub to_last : (left : Bool) → IsLast (write_seen (here_of p) past s) (Some left) → IsLastWriter past s p left
+  to_last left l = by (s l.0) refl (edit_of past l.0) refl l.1
     where
-      by : (b : Bool) → s l.0 ≡ b → (o : Option (List Write)) → edit_of past l.0 ≡ o → option_and_then (written (here_of p)) (cond b o None) ≡ Some left → IsLastMove past s p left
+      by : (b : Bool) → s l.0 ≡ b → (o : Option (List Write)) → edit_of past l.0 ≡ o → option_and_then (written (here_of p)) (cond b o None) ≡ Some left → IsLastWriter past s p left
       by false h o e k = absurd (false≢true (ap is_some k))
       by true h None e k = absurd (false≢true (ap is_some k))
       by true h (Some ws) e k = record { revision = l.0; writes = ws; is = e; seen = h; wrote = k; last = λ q us f g m. l.2 q (ap is_some (written_at q us f g) ∙ m) }
 
-  from_move : (left : Bool) → IsLastMove past s p left → last (here_of p) s (falling past) ≡ Some left
-  from_move left w = only (write_seen (here_of p) past s) (write_seen (here_of p) past s) (λ r. refl) _ (Some left) (last_seen (here_of p) past sound s)
+  from_last : (left : Bool) → IsLastWriter past s p left → last (here_of p) s (falling past) ≡ Some left
+  from_last left w = only (write_seen (here_of p) past s) (write_seen (here_of p) past s) (λ r. refl) _ (Some left) (last_seen (here_of p) past sound s)
       (w.revision, written_at w.revision w.writes w.is w.seen ∙ w.wrote, λ q h. from_seen (here_of p) past s q _ refl (λ o. is_some o ≡ true → is_at_most q w.revision ≡ true) (λ k. absurd (false≢true k)) (λ us e k m. w.last q us e k m) h)
 
   module _ (closed : IsClosedSight past s) where
     pub there_is : there past s p ≡ unwrap_or (last (here_of p) s (falling past)) false
     there_is = (tells_falling past sound s closed).node p
 
-    pub moved_there : (left : Bool) → IsLastMove past s p left → there past s p ≡ left
-    moved_there left w = there_is ∙ ap (λ o. unwrap_or o false) (from_move left w)
+    pub last_there : (left : Bool) → IsLastWriter past s p left → there past s p ≡ left
+    last_there left w = there_is ∙ ap (λ o. unwrap_or o false) (from_last left w)
 
     -- a node that is seen was added last
-    pub there_moved : there past s p ≡ true → IsLastMove past s p true
-    there_moved h = by (last (here_of p) s (falling past)) (last_seen (here_of p) past sound s) (sym there_is ∙ h)
+    pub added_last : there past s p ≡ true → IsLastWriter past s p true
+    added_last h = by (last (here_of p) s (falling past)) (last_seen (here_of p) past sound s) (sym there_is ∙ h)
       where
-        by : (o : Option Bool) → IsLast (write_seen (here_of p) past s) o → unwrap_or o false ≡ true → IsLastMove past s p true
+        by : (o : Option Bool) → IsLast (write_seen (here_of p) past s) o → unwrap_or o false ≡ true → IsLastWriter past s p true
         by None l k = absurd (false≢true k)
         by (Some false) l k = absurd (false≢true k)
-        by (Some true) l k = to_move true l
+        by (Some true) l k = to_last true l
 
     -- a node that isn't seen, though a commit that is seen adds or removes it, was removed last
-    pub gone_moved : there past s p ≡ false → (r : Revision) (ws : List Write) → edit_of past r ≡ Some ws → s r ≡ true → moves p ws ≡ true → IsLastMove past s p false
-    gone_moved h r ws e seen m = by (last (here_of p) s (falling past)) (last_seen (here_of p) past sound s) (sym there_is ∙ h)
+    pub removed_last : there past s p ≡ false → (r : Revision) (ws : List Write) → edit_of past r ≡ Some ws → s r ≡ true → writes_node p ws ≡ true → IsLastWriter past s p false
+    removed_last h r ws e seen m = by (last (here_of p) s (falling past)) (last_seen (here_of p) past sound s) (sym there_is ∙ h)
       where
-        by : (o : Option Bool) → IsLast (write_seen (here_of p) past s) o → unwrap_or o false ≡ false → IsLastMove past s p false
+        by : (o : Option Bool) → IsLast (write_seen (here_of p) past s) o → unwrap_or o false ≡ false → IsLastWriter past s p false
         by None l k = absurd (false≢true (sym (ap is_some (l r)) ∙ (ap is_some (written_at r ws e seen) ∙ m)))
-        by (Some false) l k = to_move false l
+        by (Some false) l k = to_last false l
         by (Some true) l k = absurd (false≢true (sym k))

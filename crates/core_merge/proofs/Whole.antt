@@ -22,7 +22,7 @@ use Rattle.core_read.proofs.Latest.{IsLast}
 use Rattle.core_read.proofs.Trees.{Tells}
 use Rattle.core_read.proofs.Falling.{tells_falling}
 use Rattle.core_merge.specs.Independent.{AreMergeable}
-use Rattle.core_merge.proofs.Seen.{IsLastMove, write_seen, last_seen, there, there_is, to_move, to_seen}
+use Rattle.core_merge.proofs.Seen.{IsLastWriter, write_seen, last_seen, there, there_is, to_last, to_seen}
 use Rattle.core_merge.proofs.Parents.{left_by, parent_seen, proper}
 
 -- what holds of each node that is found holds of each entry
@@ -37,7 +37,7 @@ all_entries test (e ∷ t) s f = both _ _
 
 module _ (past : Past) (sound : IsSoundPast past) (mergeable : AreMergeable past) (s : Sight) (closed : IsClosedSight past s) (begun : s the_start ≡ true) where
   -- a commit leaves the root there
-  root_left : (b : Bool) → IsLastMove past s [] b → b ≡ true
+  root_left : (b : Bool) → IsLastWriter past s [] b → b ≡ true
   root_left b w =
       sym (ap (λ o. unwrap_or o (there past (is_in_base past w.revision) [])) w.wrote)
       ∙ (sym (left_by past sound w.revision w.writes w.is []) ∙ (proper past sound w.revision w.writes w.is).tree.root)
@@ -47,7 +47,7 @@ module _ (past : Past) (sound : IsSoundPast past) (mergeable : AreMergeable past
     where
       by : (o : Option Bool) → IsLast (write_seen (here_of []) past s) o → unwrap_or o false ≡ true
       by None l = absurd (false≢true (sym (ap is_some (l the_start)) ∙ ap is_some (ap (option_and_then (written (here_of []))) (to_seen past s the_start start_writes refl begun))))
-      by (Some b) l = root_left b (to_move past sound s [] b l)
+      by (Some b) l = root_left b (to_last past sound s [] b l)
 
   -- a tree that has what is seen
   pub whole : (t : Nodes) → Tells t s (falling past) → IsTree t

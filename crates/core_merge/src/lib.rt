@@ -23,14 +23,17 @@ ghost use Rattle.core_merge.specs.Orders.{tree_by_commits};
 use oak_machine::Law;
 
 /// In each run by a law whose edits mark the parents of the nodes that they add or remove, what a closed vector sees is a
-/// tree. So it is at each node's head, at the base of each session and at each checkpoint. All commits, in the order in
-/// which they were made, leave a tree too.
+/// tree. So it is at each node's head, at the base of each session and of each draw, and at each checkpoint. All commits, in
+/// the order in which they were made, leave a tree too, and a closed vector that sees them all sees that tree: their order
+/// doesn't matter.
 pub fn merged_trees_are_trees<L: Law>(law: &L)
     ensures closed { (h : History) (v : RevVec) → IsMergingRun (L.may_start law.now) (L.may_say law.now) h → IsClosed h.past v → IsTree (tree_at h.past v) }
     ensures heads { (h : History) (k : ℕ) → IsMergingRun (L.may_start law.now) (L.may_say law.now) h → IsNode h.clusters k → IsTree (tree_at h.past (head_of h.clusters h.past k)) }
     ensures bases { (h : History) (s : ℕ) (v : RevVec) → IsMergingRun (L.may_start law.now) (L.may_say law.now) h → base_of h.past s ≡ Some v → IsTree (tree_at h.past v) }
     ensures kept { (h : History) (id : Text) (v : RevVec) → IsMergingRun (L.may_start law.now) (L.may_say law.now) h → last_checkpoint h.past id ≡ Some v → IsTree (tree_at h.past v) }
+    ensures draws { (h : History) (r : Revision) (d : Draw) → IsMergingRun (L.may_start law.now) (L.may_say law.now) h → draw_of h.past r ≡ Some d → IsTree (tree_at h.past d.base) }
     ensures order { (h : History) → IsMergingRun (L.may_start law.now) (L.may_say law.now) h → IsTree (tree_by_commits h.past) }
+    ensures same { (h : History) (v : RevVec) → IsMergingRun (L.may_start law.now) (L.may_say law.now) h → IsClosed h.past v → ((r : Revision) → IsTrue (is_committed h.past r) → IsTrue (sees v r)) → tree_at h.past v ≡ tree_by_commits h.past }
 {}
 
 /// There each edit is proper wherever it is applied: on the tree at its base, on the tree of what a closed vector that

@@ -1,7 +1,7 @@
 -- By the merging theorem, and what runs say of heads, bases and checkpoints.
 use Rattle.core_heads.proofs.Runs.{closed_run, head_run, sound_run}
-use Rattle.core_merge.proofs.Merged.{tree_merged}
-use Rattle.core_merge.proofs.Order.{tree_in_order}
+use Rattle.core_merge.proofs.Merged.{base_tree_merged, tree_merged}
+use Rattle.core_merge.proofs.Order.{order_is_same, tree_in_order}
 use Rattle.core_merge.proofs.merged_trees_are_trees.Goals as goal
 
 pub returns-clause-closed : goal.returns-clause-closed
@@ -29,3 +29,11 @@ returns-clause-kept g c = λ h id v m is.
 pub returns-clause-order : goal.returns-clause-order
 returns-clause-order g c = λ h m.
     tree_in_order h.clusters h.sessions m.nodes (g.L.Law.may_start c.args.law.now) (g.L.Law.may_say c.args.law.now) (g.L.Law.proper c.args.law.now) m.marking h.past m.run
+
+pub returns-clause-draws : goal.returns-clause-draws
+returns-clause-draws g c = λ h r d m drawn.
+    base_tree_merged h.clusters h.sessions m.nodes (g.L.Law.may_start c.args.law.now) (g.L.Law.may_say c.args.law.now) (g.L.Law.proper c.args.law.now) m.marking h.past m.run r d drawn
+
+pub returns-clause-same : goal.returns-clause-same
+returns-clause-same g c = λ h v m closed each.
+    order_is_same h.clusters h.sessions m.nodes (g.L.Law.may_start c.args.law.now) (g.L.Law.may_say c.args.law.now) (g.L.Law.proper c.args.law.now) m.marking h.past m.run v closed each
