@@ -126,7 +126,7 @@ module _ (law : JcrLaw) (old mid new : Shown) (run : SessionRun) (stands : Stand
   login_now = ap (λ b. b || has_login q s) (own s)
 
   tree_now : IsTree (base_tree logged.past s)
-  tree_now = base_is_tree law logged s nodes_mid run_logged login_now
+  tree_now = base_is_tree law logged s nodes_mid run_logged
 
   inside_now : IsIn law new
   inside_now = record {

@@ -217,7 +217,7 @@ module _ (law : JcrLaw) (old mid new : Shown) (room : Option ℕ) (run : Session
     login = by_moved (λ h n. has_login h.past n ≡ true) inside_then.login;
     stays = by_moved (λ h n. has_left h.past n ≡ false) inside_then.stays;
     detached = by_moved (λ h n. is_attached h.past n ≡ false) (ap (λ b. cond b false (is_attached behind mid.session)) (own mid.session));
-    tree = by_moved (λ h n. IsTree (base_tree h.past n)) (base_is_tree law moved_history mid.session inside_then.nodes run_moved inside_then.login);
+    tree = by_moved (λ h n. IsTree (base_tree h.past n)) (base_is_tree law moved_history mid.session inside_then.nodes run_moved);
   }
 
   refreshing_is : command_at law.sessions run.session run.index ≡ Some (command.Refresh false)

@@ -220,7 +220,7 @@ module _ (law : JcrLaw) (old new : Shown) (answer : StepOut) (run : SessionRun) 
     login = moved (λ h s. has_login h.past s ≡ true) login_then;
     stays = moved (λ h s. has_left h.past s ≡ false) (quiet.left moment.past ∙ inside_moment.stays);
     detached = moved (λ h s. is_attached h.past s ≡ false) (quiet.attached moment.past ∙ inside_moment.detached);
-    tree = moved (λ h s. IsTree (base_tree h.past s)) (base_is_tree law (after steps.own moment) old.session inside.nodes run_new login_then);
+    tree = moved (λ h s. IsTree (base_tree h.past s)) (base_is_tree law (after steps.own moment) old.session inside.nodes run_new);
   }
 
   stands_quiet : (f : Phase) → next_index (steps.own ++ moment.past) old.session ≡ next_index moment.past old.session → StandsAt law new (record run { phase = f }) f → Stands law new (record run { phase = f })
@@ -278,7 +278,7 @@ module _ (law : JcrLaw) (old new : Shown) (answer : StepOut) (run : SessionRun) 
       login = moved (λ h s. has_login h.past s ≡ true) login_then;
       stays = moved (λ h s. has_left h.past s ≡ false) (subst (λ (own : Past). has_left (own ++ moment.past) old.session ≡ false) (sym same) inside_moment.stays);
       detached = moved (λ h s. is_attached h.past s ≡ false) (subst (λ (own : Past). is_attached (own ++ moment.past) old.session ≡ false) (sym same) (ap (λ b. cond b false (is_attached moment.past old.session)) mine));
-      tree = moved (λ h s. IsTree (base_tree h.past s)) (base_is_tree law (after steps.own moment) old.session inside.nodes run_new login_then);
+      tree = moved (λ h s. IsTree (base_tree h.past s)) (base_is_tree law (after steps.own moment) old.session inside.nodes run_new);
     }
       where
         mine : (old.session == old.session) ≡ true
