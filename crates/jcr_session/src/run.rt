@@ -1,12 +1,12 @@
 // A session's turns: what it asks of its world, one counted step after another.
 ghost use Rattle.std.specs.Prelude.{◌≡◌, ◌≤◌, ◌∷◌, [], IfOk, IfSome, OnErr, IsTrue, IsFalse, length, string_bytes};
 ghost use Rattle.jr_tree.specs.declared.shared.Datum.TheVariants as datum;
-ghost use Rattle.oak_port.specs.Ports.{HasRoom, Waits};
+ghost use Rattle.oak_port.specs.Ports.{HasRoom};
 ghost use Rattle.oak_port.specs.declared.task.StepOut.TheVariants as out;
 ghost use Rattle.oak_port.specs.declared.task.TaskEnd.TheVariants as end;
 ghost use Rattle.jcr_trans.specs.Answers.{Refused};
 ghost use Rattle.jcr_trans.specs.Texts.{answer_text, memory_text};
-ghost use Rattle.jcr_session.specs.Sights.{says_of, starts_of};
+ghost use Rattle.jcr_session.specs.Sights.{IsBeside};
 ghost use Rattle.jcr_session.specs.Standing.{HasEnded, HasSeen, HasTurned, IsNew, IsPlanFor, IsPlanOf, IsRefused, IsReply, IsSame, MayAnswer, Stands, due_for, is_unread, kind_of_end, phase_by, turn_by};
 ghost use Rattle.jcr_session.specs.declared.run.Due.TheVariants as due;
 ghost use Rattle.jcr_session.specs.declared.run.Phase.TheVariants as phase;
@@ -112,9 +112,10 @@ impl SessionRun {
         ensures law { P.law port.new ≡ P.law port.old }
         ensures stands { Stands (P.law port.old) (P.shown port.new) self.new }
         ensures same { IsSame self.old self.new }
-        ensures beside { Waits (starts_of (P.law port.old)) (says_of (P.law port.old)) (P.shown port.old) (P.shown port.new) (P.shown port.new).work (P.shown port.old).room }
+        ensures beside { IsBeside (P.law port.old) (P.shown port.old) (P.shown port.new) }
+        ensures still { IsFalse (is_unread self.old) → P.shown port.new ≡ P.shown port.old }
         ensures done { IfOk result (λ made. made ≡ is_unread self.old) }
-        ensures err { OnErr result (IsRefused (P.shown port.new) self.new) }
+        ensures err { OnErr result (IsTrue (is_unread self.old) × IsRefused (P.shown port.new) self.new) }
     {
         if !self.is_unread() {
             return Ok(false);
@@ -165,9 +166,10 @@ impl SessionRun {
         ensures law { P.law port.new ≡ P.law port.old }
         ensures stands { Stands (P.law port.old) (P.shown port.new) self.new }
         ensures same { IsSame self.old self.new }
-        ensures beside { Waits (starts_of (P.law port.old)) (says_of (P.law port.old)) (P.shown port.old) (P.shown port.new) (P.shown port.new).work (P.shown port.old).room }
+        ensures beside { IsBeside (P.law port.old) (P.shown port.old) (P.shown port.new) }
+        ensures still { IsFalse (is_unread self.old) → P.shown port.new ≡ P.shown port.old }
         ensures ok { IfOk result (λ done. IsTrue done → IsFalse (is_unread self.new)) }
-        ensures err { OnErr result (IsRefused (P.shown port.new) self.new) }
+        ensures err { OnErr result (IsTrue (is_unread self.old) × IsRefused (P.shown port.new) self.new) }
     {
         for _ in 0..u64::MAX {
             if !self.read(port)? {
@@ -577,8 +579,8 @@ impl SessionRun {
 fn pinned(answer: StepOut) -> Option<Pin>
     ensures some { IfSome result (λ pin. answer ≡ out.Ready (end.Pinned pin)) }
 {
-    match answer {
-        StepOut::Ready(TaskEnd::Pinned(pin)) => Some(pin),
+    match &answer {
+        StepOut::Ready(TaskEnd::Pinned(pin)) => Some(*pin),
         _ => None,
     }
 }
