@@ -479,6 +479,15 @@ module _ (law : JcrLaw) (old : Shown) (run : SessionRun) (text : Text) (may : Ma
   pub said_later : (mid new : Shown) (room : Option ℕ) (now : SessionRun) (t : Turn) → Waits (starts_of law) (says_of law) old mid old.work room → HasTurned law mid new run now t → HasTurned law old new run now t
   said_later mid new room now t waits turned = has_turned_later law old mid new run now t may.inside.nodes (kept waits.work_is (waits.same_due refl)) (by_waits law old mid old.work room waits) turned
 
+-- where nothing was being done, and is not now
+module _ (law : JcrLaw) (old new : Shown) (room : Option ℕ) (waits : Waits (starts_of law) (says_of law) old new Idle room) (run : SessionRun) where
+  pub answer_idle : (text : Text) → MayAnswer law old run text → MayAnswer law new run text
+  answer_idle text may = answer_waits law old new run text may (by_waits law old new Idle room waits) waits.work_is
+
+  pub said_idle : (last : Shown) (now : SessionRun) (t : Turn) (text : Text) → MayAnswer law old run text → HasTurned law new last run now t → HasTurned law old last run now t
+  said_idle last now t text may turned =
+      has_turned_later law old new last run now t may.inside.nodes (free (ap is_writing waits.work_is) (ap is_awaiting may.idle)) (by_waits law old new Idle room waits) turned
+
 pub room_kept : (starts : _) (says : _) (old new : Shown) (work : Work) (n : ℕ) → Waits starts says old new work (Some n) → HasRoom new.room n
 room_kept starts says old new work n waits = subst (λ (x : Option ℕ). HasRoom x n) (sym waits.room_is) (let h : n ≤ n = omega arith in h)
 

@@ -4,6 +4,7 @@ use Rattle.std.specs.Option.{option_map_or}
 use Rattle.jr_path.specs.declared.path.Item.{Item}
 use Rattle.jr_path.specs.declared.text.Text.{Text}
 use Rattle.jr_rev.specs.declared.revision.Revision.{Revision}
+use Rattle.jr_rev.specs.declared.vector.Pin.{Pin}
 use Rattle.jr_rev.specs.declared.vector.RevVec.{RevVec}
 use Rattle.jr_rev.specs.Vectors.{sees}
 use Rattle.jr_tree.specs.Trees.{IsTree, Nodes}
@@ -46,7 +47,7 @@ use Rattle.jcr_session.specs.declared.sight.Sight.{Sight}
 use Rattle.jcr_session.specs.declared.sight.Sight.TheVariants as sight
 use Rattle.jcr_session.specs.declared.turn.Turn.{Turn}
 use Rattle.jcr_session.specs.declared.turn.Turn.TheVariants as turn
-use Rattle.jcr_session.specs.Sights.{IsIn, Reads, says_of, starts_of}
+use Rattle.jcr_session.specs.Sights.{IsBeside, IsIn, Reads, says_of, starts_of}
 
 -- ---- the next command
 
@@ -276,6 +277,13 @@ pub record IsSame (old new : SessionRun) : Type 0 where
   pub index : new.index ≡ old.index
   pub phase : new.phase ≡ old.phase
 
+-- reading steps: the session stands where it stood with what was read by now; none were made where none is due
+pub record HasLooked (law : JcrLaw) (old new : Shown) (run now : SessionRun) : Type 0 where
+  pub stands : Stands law new now
+  pub same : IsSame run now
+  pub beside : IsBeside law old new
+  pub still : IsFalse (is_unread run) → (new ≡ old) × (now ≡ run)
+
 -- memory was refused for reading: nothing is being read, and the next command needs the tree
 pub record IsRefused (p : Shown) (run : SessionRun) : Type 0 where
   pub idle : p.work ≡ Idle
@@ -345,3 +353,8 @@ turn_by _ = turn.Memory
 abbrev pub phase_by : StepOut → Phase → Phase
 phase_by (out.Ready (end.Commit e)) now = phase.Saved e
 phase_by _ now = now
+
+-- the pin with which a step's answer ends a task
+abbrev pub pinned_by : StepOut → Option Pin
+pinned_by (out.Ready (end.Pinned pin)) = Some pin
+pinned_by _ = None

@@ -6,8 +6,7 @@ ghost use Rattle.oak_port.specs.declared.task.StepOut.TheVariants as out;
 ghost use Rattle.oak_port.specs.declared.task.TaskEnd.TheVariants as end;
 ghost use Rattle.jcr_trans.specs.Answers.{Refused};
 ghost use Rattle.jcr_trans.specs.Texts.{answer_text, memory_text};
-ghost use Rattle.jcr_session.specs.Sights.{IsBeside};
-ghost use Rattle.jcr_session.specs.Standing.{HasEnded, HasSeen, HasTurned, IsNew, IsPlanFor, IsPlanOf, IsRefused, IsReply, IsSame, MayAnswer, Stands, due_for, is_unread, kind_of_end, phase_by, turn_by};
+ghost use Rattle.jcr_session.specs.Standing.{HasEnded, HasLooked, HasSeen, HasTurned, IsNew, IsPlanFor, IsPlanOf, IsRefused, IsReply, IsSame, MayAnswer, Stands, due_for, is_unread, kind_of_end, phase_by, pinned_by, turn_by};
 ghost use Rattle.jcr_session.specs.declared.run.Due.TheVariants as due;
 ghost use Rattle.jcr_session.specs.declared.run.Phase.TheVariants as phase;
 ghost use Rattle.jcr_session.specs.declared.run.Plan.TheVariants as plan;
@@ -110,10 +109,7 @@ impl SessionRun {
     pub fn read<P: Port<L = JcrLaw>>(&mut self, port: &mut P) -> Result<bool, AllocError>
         requires stands { Stands (P.law port.old) (P.shown port.old) self.old }
         ensures law { P.law port.new ≡ P.law port.old }
-        ensures stands { Stands (P.law port.old) (P.shown port.new) self.new }
-        ensures same { IsSame self.old self.new }
-        ensures beside { IsBeside (P.law port.old) (P.shown port.old) (P.shown port.new) }
-        ensures still { IsFalse (is_unread self.old) → P.shown port.new ≡ P.shown port.old }
+        ensures looked { HasLooked (P.law port.old) (P.shown port.old) (P.shown port.new) self.old self.new }
         ensures done { IfOk result (λ made. made ≡ is_unread self.old) }
         ensures err { OnErr result (IsTrue (is_unread self.old) × IsRefused (P.shown port.new) self.new) }
     {
@@ -164,10 +160,7 @@ impl SessionRun {
     fn read_all<P: Port<L = JcrLaw>>(&mut self, port: &mut P) -> Result<bool, AllocError>
         requires stands { Stands (P.law port.old) (P.shown port.old) self.old }
         ensures law { P.law port.new ≡ P.law port.old }
-        ensures stands { Stands (P.law port.old) (P.shown port.new) self.new }
-        ensures same { IsSame self.old self.new }
-        ensures beside { IsBeside (P.law port.old) (P.shown port.old) (P.shown port.new) }
-        ensures still { IsFalse (is_unread self.old) → P.shown port.new ≡ P.shown port.old }
+        ensures looked { HasLooked (P.law port.old) (P.shown port.old) (P.shown port.new) self.old self.new }
         ensures ok { IfOk result (λ done. IsTrue done → IsFalse (is_unread self.new)) }
         ensures err { OnErr result (IsTrue (is_unread self.old) × IsRefused (P.shown port.new) self.new) }
     {
@@ -442,7 +435,8 @@ impl SessionRun {
                 self.phase = Phase::Saving;
                 Turn::Stepped(StepKind::Draw)
             }
-            _ => self.say_kept(port, MEMORY_REPLY),
+            StepOut::Memory => self.say_kept(port, MEMORY_REPLY),
+            _ => Turn::Memory,
         }
     }
 
@@ -577,10 +571,10 @@ impl SessionRun {
 
 // The pin with which a task ended.
 fn pinned(answer: StepOut) -> Option<Pin>
-    ensures some { IfSome result (λ pin. answer ≡ out.Ready (end.Pinned pin)) }
+    ensures { result ≡ pinned_by answer }
 {
-    match &answer {
-        StepOut::Ready(TaskEnd::Pinned(pin)) => Some(*pin),
+    match answer {
+        StepOut::Ready(TaskEnd::Pinned(pin)) => Some(pin),
         _ => None,
     }
 }

@@ -60,7 +60,7 @@ pub(crate) enum Listed {
     Refused,
 }
 
-fn loaded(answer: StepOut) -> Loaded
+fn load_came(answer: StepOut) -> Loaded
     ensures { result ≡ loaded_by answer }
 {
     match answer {
@@ -70,7 +70,7 @@ fn loaded(answer: StepOut) -> Loaded
     }
 }
 
-fn listed(answer: StepOut) -> Listed
+fn list_came(answer: StepOut) -> Listed
     ensures { result ≡ listed_by answer }
 {
     match answer {
@@ -204,7 +204,7 @@ fn read_node<P: Port<L = JcrLaw>>(
     ensures ok { IfOk result (HasRead (P.shown port.new)) }
     ensures err { OnErr result ((P.shown port.new).work ≡ Idle) }
 {
-    match loaded(port.step()) {
+    match load_came(port.step()) {
         Loaded::Going => Ok(Sight::Reading(Walk {
             tree,
             left,
@@ -236,7 +236,7 @@ fn read_names<P: Port<L = JcrLaw>>(
     ensures ok { IfOk result (HasRead (P.shown port.new)) }
     ensures err { OnErr result ((P.shown port.new).work ≡ Idle) }
 {
-    match listed(port.step()) {
+    match list_came(port.step()) {
         Listed::Going => Ok(Sight::Reading(Walk {
             tree,
             left,
