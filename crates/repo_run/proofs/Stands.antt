@@ -369,10 +369,11 @@ module _ (w : WorldOf JcrLaw) (base view : Nodes) (i : ℕ) (stands : Stands w b
       where
         by_call : (ids : List DocId) × (reverse new.events ≡ after_call (starts_of w.law) (says_of w.law) (proper_of w.law) w.journal.sessions w.journal.events w.table edit marks w.node kept pin.0 pin.1 start_one ids) → IsOver w.law.sessions (reverse new.events) 0 base view × (next_index (reverse new.events) 0 ≡ next_index past 0)
         by_call (ids, same) =
-            let like = like_steps w.law.sessions kind.Undo ids (added (steps_of kind.Write ids) drawn_now) drawn_now (like_steps w.law.sessions kind.Write ids drawn_now drawn_now (like_itself w.law.sessions 0 drawn_now)) in
+            let undone = like_steps w.law.sessions kind.Undo ids (added (steps_of kind.Write ids) drawn_now) drawn_now (like_steps w.law.sessions kind.Write ids drawn_now drawn_now (like_itself w.law.sessions 0 drawn_now)) in
+            let like = like_aside w.law.sessions 0 _ drawn_now (like_aside w.law.sessions 0 _ drawn_now undone (event.End (revision_at (w.node.last_time + 1))) refl) (event.Head 1 head) refl in
             let resting = subst (λ (p : Past). IsKept (starts_of w.law) (says_of w.law) w.journal.sessions p new.table new.node) same called_lawful.kept in (
               subst (λ (p : Past). IsOver w.law.sessions p 0 base view) (sym same)
-                  (over_after_call w.law.sessions 0 past (revision_at (w.node.last_time + 1)) pin.0.base head edit marks (added (steps_of kind.Undo ids) (added (steps_of kind.Write ids) drawn_now)) like base view stands.turn.over fresh
+                  (over_after_call w.law.sessions 0 past (revision_at (w.node.last_time + 1)) pin.0.base head edit marks (after_call (starts_of w.law) (says_of w.law) (proper_of w.law) w.journal.sessions w.journal.events w.table edit marks w.node kept pin.0 pin.1 start_one ids) like base view stands.turn.over fresh
                   (resting.rest.drawing (after_call (starts_of w.law) (says_of w.law) (proper_of w.law) w.journal.sessions w.journal.events w.table edit marks w.node kept pin.0 pin.1 start_one ids) (λ r h. h))),
               ap (λ (p : Past). next_index p 0) same ∙ (next_steps kind.Undo ids (added (steps_of kind.Write ids) drawn_now) ∙ next_steps kind.Write ids drawn_now),
             )
