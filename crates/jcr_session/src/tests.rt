@@ -98,7 +98,12 @@ fn revision(time: u64) -> Revision
 }
 
 // The next reply of a session, or nothing.
-fn reply(alloc: Global, law: &JcrLaw, journal: &Journal, session: u32) -> Result<String, AllocError> {
+fn reply(
+    alloc: Global,
+    law: &JcrLaw,
+    journal: &Journal,
+    session: u32,
+) -> Result<String, AllocError> {
     match eval(alloc, law, journal, session)? {
         Some(text) => Ok(text),
         None => String::from_str(alloc, "nothing"),
@@ -142,7 +147,9 @@ fn replies_of_two_sessions(rt: HostRuntime) -> Result<(), Fail> {
                 let found = reply(alloc, &law, &journal, session)?;
                 assert_eq!(rt; found.as_str(), want, "at {step:?}");
                 if let Some(index) = said.get_mut(session as usize) {
-                    journal.events.push(Event::Said(session, *index, Text::of(found)))?;
+                    journal
+                        .events
+                        .push(Event::Said(session, *index, Text::of(found)))?;
                     *index = index.wrapping_add(1);
                 }
             }

@@ -15,7 +15,8 @@ ghost use Rattle.repo_run.specs.Loads.{with_shown};
 use jcr_plan::marks_of;
 use jcr_session::JcrLaw;
 use jcr_trans::{
-    Command, memory_reply, null_reply, refusal_text, revision_reply, run, too_many_reply, vector_reply,
+    Command, memory_reply, null_reply, refusal_text, revision_reply, run, too_many_reply,
+    vector_reply,
 };
 use jr_path::{DeepCopy, DocId, List, Text};
 use jr_script::Script;
