@@ -9,13 +9,14 @@ ghost use Rattle.repo_run.specs.Headline.{HasRun};
 ghost use Rattle.repo_run.specs.Stands.{IsBegun, IsNext};
 ghost use Rattle.oak_machine.specs.Marks.{marks_for};
 ghost use Rattle.oak_node.specs.Pins.{pin_of};
-ghost use Rattle.repo_run.specs.Turns.{Answers, AnswersSave, IsSeen, IsSessionRun, IsShown, IsSmall, RunsScript, law_of, state};
+ghost use Rattle.repo_run.specs.Turns.{Answers, AnswersRefresh, AnswersSave, IsBaseShown, IsSeen, IsSessionRun, IsShown, IsSmall, RunsScript, law_of, state};
 ghost use Rattle.repo_run.specs.Loads.{with_shown};
 
 use jcr_plan::marks_of;
 use jcr_session::JcrLaw;
 use jcr_trans::{
     Command, memory_reply, null_reply, refusal_text, revision_reply, run, too_many_reply,
+    vector_reply,
 };
 use jr_path::{DeepCopy, DocId, List, Text};
 use jr_script::Script;
@@ -112,6 +113,8 @@ impl Session {
     {
         match command {
             Command::Save => self.save(alloc, world),
+            Command::Refresh(false) => self.refresh(alloc, world),
+            Command::Head => base_reply(alloc, world),
             _ => self.see(alloc, command),
         }
     }
@@ -125,6 +128,20 @@ impl Session {
             Ok(text) => Ok(text),
             Err(refusal) => refusal_text(alloc, &refusal),
         }
+    }
+
+    // Moves the base to the head of the cluster node, and drops the pending edits.
+    fn refresh(&mut self, alloc: Global, world: &mut World<JcrLaw>) -> Result<String, AllocError>
+        requires { IsSome (pin_of world.old.node 0) }
+        ensures answer { IfOk result (λ text. AnswersRefresh (state world.old self.old.base self.old.view) (state world.new self.new.base self.new.view) (string_bytes text)) }
+        ensures pinned { OnOk result (IsSome (pin_of world.new.node 0)) }
+    {
+        let Ok(pin) = world.refresh() else {
+            return memory_reply(alloc);
+        };
+        let moved = Session::new(alloc, world)?;
+        *self = moved;
+        vector_reply(alloc, &pin.base)
     }
 
     // Commits what the view changes; nothing where it changes nothing.
@@ -178,6 +195,18 @@ impl Session {
         let edit = changes(&self.base, &self.view)?;
         let marks = marks_of(alloc, &edit)?;
         Ok((edit, marks))
+    }
+}
+
+// The reply that shows the base of the session. It answers want of memory itself.
+fn base_reply(alloc: Global, world: &World<JcrLaw>) -> Result<String, AllocError>
+    requires { IsSome (pin_of world.now.node 0) }
+    ensures { IfOk result (λ text. IsBaseShown world.now (string_bytes text)) }
+{
+    let base = world.pin().unwrap().base;
+    match vector_reply(alloc, &base) {
+        Ok(text) => Ok(text),
+        Err(AllocError) => memory_reply(alloc),
     }
 }
 
