@@ -15,5 +15,5 @@ mod Ending
 mod Looking
 mod Answering
 mod Drawing
-mod Staying
+pub mod Staying
 mod Lengths

@@ -24,11 +24,11 @@ use Rattle.jcr_session.specs.declared.turn.Turn.TheVariants as turn
 use Rattle.jcr_session.specs.Sights.{HasRead, IsBeside, IsFetching, IsIn, Looks, says_of, starts_of}
 use Rattle.jcr_session.specs.declared.sight.Fetch.{Fetch}
 use Rattle.jcr_session.specs.declared.sight.Fetch.TheVariants as fetch
-use Rattle.jcr_session.specs.Standing.{HasLooked, HasTurned, IsRefused, IsSame, MayAnswer, Sees, Stands, StandsAt, due_by, due_for, due_of, is_between, is_seen, is_unread, is_writing, needs_tree}
+use Rattle.jcr_session.specs.Standing.{HasLooked, HasTurned, IsTurned, IsRefused, IsSame, MayAnswer, Sees, Stands, StandsAt, due_by, due_for, due_of, is_between, is_seen, is_unread, is_writing, needs_tree}
 use Rattle.jcr_session.proofs.Replying.{apart, idle_between, next_is, turned_like}
 use Rattle.jcr_session.proofs.Reading.{beside_both, beside_itself, nobody}
 use Rattle.jcr_session.proofs.Saying.{IsBetween, forgoes}
-use Rattle.jcr_session.proofs.Turning.{Link, free, has_turned_later, is_awaiting, kept}
+use Rattle.jcr_session.proofs.Turning.{Link, free, has_turned_later, is_awaiting, kept, never_ends}
 use Rattle.jcr_session.proofs.Waiting.{next_beside, tree_beside, turn_beside}
 
 -- ---- a session that doesn't see the tree which its next command needs
@@ -201,16 +201,28 @@ link_read law a b run like old now same read still = by (is_unread run) refl
   where
     by : (x : Bool) → is_unread run ≡ x → Link a b
     by false h = kept (ap (λ (p : Shown). p.work) (still h)) (ap (λ (p : Shown). p.due) (still h))
-    by true h = free (ap is_writing (idle_between law b like now (same.phase ∙ (unread_is run.sight run.phase (due_for run) h).1) read)) (looks_unawaited a run.sight (unread_looks law a run old h))
+    by true h =
+        let idle = idle_between law b like now (same.phase ∙ (unread_is run.sight run.phase (due_for run) h).1) read in
+        free (ap is_writing idle) (ap is_awaiting idle) (looks_unawaited a run.sight (unread_looks law a run old h))
+
+-- no reading step is due for a session that has ended
+ends_read : (law : JcrLaw) (a b c : Shown) (run like now : SessionRun) → HasLooked law a b run like → IsTurned law b c run now turn.Ended → b ≡ a
+ends_read law a b c run like now looked turned = by (is_unread run) refl
+  where
+    by : (x : Bool) → is_unread run ≡ x → b ≡ a
+    by false h = (looked.still h).0
+    by true h = never_ends law b c run now (subst (λ (f : Phase). StandsAt law b like f) (looked.same.phase ∙ (unread_is run.sight run.phase (due_for run) h).1) looked.stands.at).0 turned
 
 pub turned_behind : (law : JcrLaw) (a b c : Shown) (run like now : SessionRun) (t : Turn) → Stands law a run → HasLooked law a b run like → is_unread like ≡ false → HasTurned law b c like now t → HasTurned law a c run now t
 turned_behind law a b c run like now t old looked read turned =
-    has_turned_later law a b c run now t old.nodes (link_read law a b run like old looked.stands looked.same read (λ h. (looked.still h).0)) looked.beside (turned_like law b c run like now t looked.same.index turned)
+    has_turned_later law a b c run now t old.nodes (link_read law a b run like old looked.stands looked.same read (λ h. (looked.still h).0)) looked.beside (ends_read law a b c run like now looked)
+    (turned_like law b c run like now t looked.same.session looked.same.commands looked.same.index turned)
 
 -- where memory was refused for reading, and the command is answered so
 pub forgone_behind : (law : JcrLaw) (a b c : Shown) (run like now : SessionRun) (t : Turn) → Stands law a run → HasLooked law a b run like → is_unread run ≡ true → IsRefused b like → HasTurned law b c like now t → HasTurned law a c run now t
 forgone_behind law a b c run like now t old looked unread refused turned =
-    has_turned_later law a b c run now t old.nodes (free (ap is_writing refused.idle) (looks_unawaited a run.sight (unread_looks law a run old unread))) looked.beside (turned_like law b c run like now t looked.same.index turned)
+    has_turned_later law a b c run now t old.nodes (free (ap is_writing refused.idle) (ap is_awaiting refused.idle) (looks_unawaited a run.sight (unread_looks law a run old unread))) looked.beside (ends_read law a b c run like now looked)
+    (turned_like law b c run like now t looked.same.session looked.same.commands looked.same.index turned)
 
 -- a session that has left makes no step
 pub over_ends : (law : JcrLaw) (p : Shown) (run : SessionRun) → Stands law p run → run.phase ≡ phase.Over → HasTurned law p p run run turn.Ended
@@ -221,6 +233,7 @@ over_ends law p run stands over = let gone = subst (λ (f : Phase). StandsAt law
   beside = refl;
   alone = nobody p.beside.seats;
   tells = refl;
-  made = (gone.left, gone.all);
+  made = (refl, gone.left, gone.all);
+  same = (refl, refl);
   stands = stands;
 }

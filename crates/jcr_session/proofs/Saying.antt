@@ -99,6 +99,7 @@ module _ (law : JcrLaw) (old new : Shown) (run : SessionRun) (text : Text) (may 
     beside = done.beside;
     alone = done.alone;
     tells = (refl, text, refl);
+    same = (refl, refl);
     made = record {
       stays = inside_before.stays;
       seen = subst (λ (w : Work). IsSeenFor (after done.others old.history) w) (sym may.idle) tt;

@@ -55,7 +55,7 @@ use Rattle.jcr_session.proofs.Replying.{between_at, forgo_refresh, idle_between,
 use Rattle.jcr_session.proofs.Lawful.{some_is}
 use Rattle.jcr_session.proofs.Saying.{IsBetween, answer_waits}
 use Rattle.jcr_session.proofs.Trees.{base_is_tree}
-use Rattle.jcr_session.proofs.Turning.{free, has_turned_later, is_awaiting, plain_step, turned_later}
+use Rattle.jcr_session.proofs.Turning.{free, has_turned_later, is_awaiting, never_ends, not_ended, plain_step, turned_later}
 use Rattle.jcr_session.proofs.Waiting.{by_waits, in_beside, in_then, turn_still, tree_still}
 
 own : (s : ℕ) → (s == s) ≡ true
@@ -157,7 +157,7 @@ left law old mid new room run now t stands between read next waits steps is told
     let moment = inside_moment law old mid new task.End (out.Ready end.Ended) room inside waits steps in
     subst (λ (x : Turn). HasTurned law old new run now x) (sym told)
     (subst (λ (x : SessionRun). HasTurned law old new run x (turn.Stepped kind.End)) (sym is)
-    (turned_later law old mid new run (record run { phase = phase.Over }) (turn.Stepped kind.End) stands.nodes (free (ap is_writing waits.work_is) (ap is_awaiting (idle_between law old run stands between read))) (by_waits law old mid (Starting task.End) room waits)
+    (turned_later law old mid new run (record run { phase = phase.Over }) (turn.Stepped kind.End) stands.nodes (free (ap is_writing waits.work_is) (ap is_awaiting waits.work_is) (ap is_awaiting (idle_between law old run stands between read))) (by_waits law old mid (Starting task.End) room waits) (not_ended (turn.Stepped kind.End) refl)
     record {
       others = steps.others;
       own = steps.own;
@@ -166,6 +166,7 @@ left law old mid new room run now t stands between read next waits steps is told
       alone = steps.alone;
       tells = (of_step law old mid new task.End (out.Ready end.Ended) room inside waits steps, inl (event.Went mid.session kind.End, m.0, refl));
       made = plain_step (after steps.others mid.history) mid new steps.own (event.Went mid.session kind.End ∷ []) m.0 moment.stays (ap is_awaiting waits.work_is) refl tt;
+      same = (refl, refl);
       stands = stands_by law old mid new task.End (out.Ready end.Ended) room inside waits steps run stands (record run { phase = phase.Over }) refl refl refl
           (subst (λ (e : Past). next_index (e ++ (steps.others ++ mid.history.past)) mid.session ≡ next_index (steps.others ++ mid.history.past) mid.session) (sym m.0) refl)
           record {
@@ -235,7 +236,7 @@ module _ (law : JcrLaw) (old mid new : Shown) (room : Option ℕ) (run : Session
   moves_base now t is told =
       subst (λ (x : Turn). HasTurned law old new run now x) (sym told)
       (subst (λ (x : SessionRun). HasTurned law old new run x (turn.Stepped kind.Pin)) (sym is)
-      (turned_later law old mid new run (record run { phase = phase.Refreshed pin.base; sight = sight.Unread }) (turn.Stepped kind.Pin) stands.nodes (free (ap is_writing waits.work_is) (ap is_awaiting (idle_between law old run stands between read))) (by_waits law old mid (Starting task.Refresh) room waits)
+      (turned_later law old mid new run (record run { phase = phase.Refreshed pin.base; sight = sight.Unread }) (turn.Stepped kind.Pin) stands.nodes (free (ap is_writing waits.work_is) (ap is_awaiting waits.work_is) (ap is_awaiting (idle_between law old run stands between read))) (by_waits law old mid (Starting task.Refresh) room waits) (not_ended (turn.Stepped kind.Pin) refl)
       record {
         others = steps.others;
         own = steps.own;
@@ -244,6 +245,7 @@ module _ (law : JcrLaw) (old mid new : Shown) (room : Option ℕ) (run : Session
         alone = steps.alone;
         tells = (of_step law old mid new task.Refresh (out.Ready (end.Pinned pin)) room inside_old waits steps, inl (event.Refresh mid.session pin.base, made_refresh.0, refl));
         made = plain_step (after steps.others mid.history) mid new steps.own (event.Refresh mid.session pin.base ∷ []) made_refresh.0 inside_then.stays (ap is_awaiting waits.work_is) refl tt;
+        same = (refl, refl);
         stands = stands_by law old mid new task.Refresh (out.Ready (end.Pinned pin)) room inside_old waits steps run stands (record run { phase = phase.Refreshed pin.base; sight = sight.Unread }) refl refl refl
             (subst (λ (e : Past). next_index (e ++ behind) mid.session ≡ next_index behind mid.session) (sym made_refresh.0) refl) (
               inside_moved,
@@ -305,4 +307,5 @@ module _ (law : JcrLaw) (old mid new : Shown) (room : Option ℕ) (run : Session
   refresh_stops = answer_waits law old new run memory_text (forgo_refresh law old run stands between read next) refused_beside refused_step.1
 
   pub refresh_stopped : (last : Shown) (now : SessionRun) (t : Turn) → HasTurned law new last run now t → HasTurned law old last run now t
-  refresh_stopped last now t turned = has_turned_later law old new last run now t stands.nodes (free (ap is_writing refused_step.1) (ap is_awaiting (idle_between law old run stands between read))) refused_beside turned
+  refresh_stopped last now t turned = has_turned_later law old new last run now t stands.nodes (free (ap is_writing refused_step.1) (ap is_awaiting refused_step.1) (ap is_awaiting (idle_between law old run stands between read))) refused_beside
+      (never_ends law new last run now (in_beside law old new refused_beside stands.nodes stands.run_is (inside_of law old run stands between))) turned

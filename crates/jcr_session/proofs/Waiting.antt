@@ -51,7 +51,7 @@ login_stays whole [] past s others h = h
 login_stays whole (event.Login t v ∷ added) past s others h = let n = neither _ _ others in ap (λ b. b || has_login (added ++ past) s) n.0 ∙ login_stays whole added past s n.1 h
 login_stays whole (e ∷ added) past s others h = login_stays whole added past s (neither (is_event_of whole s e) _ others).1 h
 
-left_stays : (whole added past : Past) (s : ℕ) → list_any (is_event_of whole s) added ≡ false → has_left past s ≡ false → has_left (added ++ past) s ≡ false
+pub left_stays : (whole added past : Past) (s : ℕ) → list_any (is_event_of whole s) added ≡ false → has_left past s ≡ false → has_left (added ++ past) s ≡ false
 left_stays whole [] past s others h = h
 left_stays whole (event.Went t kind.End ∷ added) past s others h = let n = neither _ _ others in ap (λ b. b || has_left (added ++ past) s) n.0 ∙ left_stays whole added past s n.1 h
 left_stays whole (e ∷ added) past s others h = left_stays whole added past s (neither (is_event_of whole s e) _ others).1 h

@@ -242,8 +242,8 @@ pub record IsUnseen (h : History) (s : ℕ) (r : Revision) : Type 0 where
 abbrev pub IsMade : History → Shown → Shown → SessionRun → Past → Turn → Type 0
 IsMade h old new now own (turn.Stepped k) = IsStep h old new own
 IsMade h old new now own (turn.Said j) = IsStep h old new own
-IsMade h old new now own (turn.Waiting q) = (r : Revision) × IsUnseen h old.session r
-IsMade h old new now own turn.Ended = IsTrue (has_left h.past old.session) × (now.index ≡ length now.commands)
+IsMade h old new now own (turn.Waiting q) = (r : Revision) × (old.work ≡ Awaiting r) × (new.work ≡ Awaiting r) × IsUnseen h old.session r
+IsMade h old new now own turn.Ended = (new ≡ old) × IsTrue (has_left h.past old.session) × (now.index ≡ length now.commands)
 IsMade h old new now own turn.Memory = ⊥
 
 -- events of others were added, none where nobody else steps the world, and then those of the turn; the session stands where the history says
@@ -255,6 +255,7 @@ pub record IsTurned (law : JcrLaw) (old new : Shown) (run now : SessionRun) (ans
   pub alone : IfSome old.beside.seats (λ seats. others ≡ [])
   pub tells : Tells (after others old.history) old.session run.index answer own
   pub made : IsMade (after others old.history) old new now own answer
+  pub same : (now.session ≡ run.session) × (now.commands ≡ run.commands)
   pub stands : Stands law new now
 
 -- memory was refused, and the run ends; or the turn was made

@@ -2,6 +2,7 @@
 ghost use Rattle.std.specs.Prelude.{◌≡◌, ◌≤◌, ◌∷◌, [], IfOk, IfSome, OnErr, IsTrue, IsFalse, length, string_bytes};
 ghost use Rattle.jr_tree.specs.declared.shared.Datum.TheVariants as datum;
 ghost use Rattle.oak_port.specs.Ports.{HasRoom};
+ghost use Rattle.oak_port.specs.declared.task.CommitEnd.TheVariants as commit;
 ghost use Rattle.oak_port.specs.declared.task.StepOut.TheVariants as out;
 ghost use Rattle.oak_port.specs.declared.task.TaskEnd.TheVariants as end;
 ghost use Rattle.jcr_trans.specs.Answers.{Refused};
@@ -482,20 +483,46 @@ impl SessionRun {
         ensures turned { HasTurned (P.law port.old) (P.shown port.old) (P.shown port.new) self.old self.new result }
     {
         match mem::replace(&mut self.phase, Phase::Between) {
-            Phase::Saved(CommitEnd::Committed(r)) => {
-                self.sight = Sight::Unread;
-                match revision_reply(self.alloc, &r) {
-                    Ok(text) => self.say_kept(port, text.as_str()),
-                    Err(AllocError) => Turn::Memory,
-                }
-            }
-            Phase::Saved(CommitEnd::Clash { item, other }) => {
-                match clash_reply(self.alloc, item, other) {
-                    Ok(text) => self.say_or_memory(port, text.as_str()),
-                    Err(AllocError) => self.say_kept(port, MEMORY_REPLY),
-                }
-            }
-            _ => self.say_kept(port, MEMORY_REPLY),
+            Phase::Saved(end) => self.say_saved(port, end),
+            _ => Turn::Memory,
+        }
+    }
+
+    // Answers a save whose commit has ended so.
+    fn say_saved<P: Port<L = JcrLaw>>(&mut self, port: &mut P, end: CommitEnd) -> Turn
+        requires stands { Stands (P.law port.old) (P.shown port.old) (record self.old { phase = phase.Saved end }) }
+        ensures law { P.law port.new ≡ P.law port.old }
+        ensures turned { HasTurned (P.law port.old) (P.shown port.old) (P.shown port.new) self.old self.new result }
+    {
+        match end {
+            CommitEnd::Committed(r) => self.say_revision(port, r),
+            CommitEnd::Clash { item, other } => self.say_clash(port, item, other),
+            CommitEnd::Memory => self.say_kept(port, MEMORY_REPLY),
+        }
+    }
+
+    // Answers a save with its revision. The tree at the base that sees it isn't read yet.
+    fn say_revision<P: Port<L = JcrLaw>>(&mut self, port: &mut P, r: Revision) -> Turn
+        requires stands { Stands (P.law port.old) (P.shown port.old) (record self.old { phase = phase.Saved (commit.Committed r) }) }
+        ensures law { P.law port.new ≡ P.law port.old }
+        ensures turned { HasTurned (P.law port.old) (P.shown port.old) (P.shown port.new) self.old self.new result }
+    {
+        self.sight = Sight::Unread;
+        match revision_reply(self.alloc, &r) {
+            Ok(text) => self.say_kept(port, text.as_str()),
+            Err(AllocError) => Turn::Memory,
+        }
+    }
+
+    // Answers a save with the clash for which it was refused, or that memory was refused for that.
+    fn say_clash<P: Port<L = JcrLaw>>(&mut self, port: &mut P, item: Item, other: Revision) -> Turn
+        requires stands { Stands (P.law port.old) (P.shown port.old) (record self.old { phase = phase.Saved (commit.Clash item other) }) }
+        ensures law { P.law port.new ≡ P.law port.old }
+        ensures turned { HasTurned (P.law port.old) (P.shown port.old) (P.shown port.new) self.old self.new result }
+    {
+        match clash_reply(self.alloc, item, other) {
+            Ok(text) => self.say_or_memory(port, text.as_str()),
+            Err(AllocError) => self.say_kept(port, MEMORY_REPLY),
         }
     }
 
