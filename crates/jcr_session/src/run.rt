@@ -614,8 +614,8 @@ impl SessionRun {
 fn pinned(answer: StepOut) -> Option<Pin>
     ensures { result ≡ pinned_by answer }
 {
-    match answer {
-        StepOut::Ready(TaskEnd::Pinned(pin)) => Some(pin),
+    match &answer {
+        StepOut::Ready(TaskEnd::Pinned(pin)) => Some(*pin),
         _ => None,
     }
 }
