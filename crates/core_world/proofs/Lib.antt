@@ -1,0 +1,26 @@
+pub mod Tables
+pub mod Flights
+pub mod Committers
+pub mod Ids
+pub mod Paths
+pub mod Progress
+pub mod Working
+pub mod Writing
+pub mod Refusing
+pub mod Marking
+pub mod Lasting
+pub mod Undoing
+pub mod Drawing
+pub mod Finishing
+pub mod Logged
+pub mod Memories
+pub mod Readers
+pub mod Lives
+pub mod Commits
+pub mod Draws
+pub mod Loads
+pub mod Begins
+pub mod Begun
+pub mod Others
+pub mod Truths
+mod Rows
