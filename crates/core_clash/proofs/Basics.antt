@@ -157,8 +157,3 @@ pub is_in : {X : Type 0} (x : X) (xs : List X) → In x xs → IsIn x xs
 is_in x [] h = h
 is_in x (y ∷ ys) (inl e) = inl (sym e)
 is_in x (y ∷ ys) (inr h) = inr (is_in x ys h)
-
-pub in_is : {X : Type 0} (x : X) (xs : List X) → IsIn x xs → In x xs
-in_is x [] h = h
-in_is x (y ∷ ys) (inl e) = inl (sym e)
-in_is x (y ∷ ys) (inr h) = inr (in_is x ys h)

@@ -119,16 +119,9 @@ names_items t edit ms are k item = (to, from)
     from h = (In-from_filter is_of_item k ms (subst (λ (xs : List MarkAt). In k xs) (sym are) (In-filter is_of_item k (marks_for t edit.writes) (writes_to k edit.writes [] (inl h)) item))).0
 
 pub may_begin : (clusters : ℕ) (sessions : List ℕ) → AreNodes clusters sessions → (starts : Starts) (says : Says) → StartsProper starts → (s : Core) (d : Draw) (left : List Path) → IsRunOf starts says clusters sessions (event.Draw d ∷ s.past) → ((p : Path) (m : Mark) → In (mark_at p m) d.marks → In p left) → Once left → MayBegin s d left
-may_begin clusters sessions nodes starts says proper s d left run covers once =
-    let b = begins_run clusters sessions nodes starts says d s.past run in
-    record {
-      fresh = b.fresh;
-      later = b.later;
-      itself = b.itself;
-      settled = b.settled;
-      start = b.start;
-      started = b.started;
-      covers = covers;
-      once = once;
-      entries = names_items (tree_at s.past d.base) d.edit d.marks (proper _ d.session d.edit d.marks d.base run.0.base run.0.lawful).1;
-    }
+may_begin clusters sessions nodes starts says proper s d left run covers once = record {
+  begins = begins_run clusters sessions nodes starts says d s.past run;
+  covers = covers;
+  once = once;
+  entries = names_items (tree_at s.past d.base) d.edit d.marks (proper _ d.session d.edit d.marks d.base run.0.base run.0.lawful).1;
+}

@@ -36,7 +36,7 @@ module _ (s : Core) (d : Draw) (left : List Path) where
     old o h = by (decide o r)
       where
         by : (o ≡ r) ⊎ (is_same o r ≡ false) → is_same o r ≡ false
-        by (inl e) = not_both (is_drawn s.past r) (rw e at h) may.fresh
+        by (inl e) = not_both (is_drawn s.past r) (rw e at h) may.begins.fresh
         by (inr f) = f
 
     -- and its draw stays
@@ -62,16 +62,16 @@ module _ (s : Core) (d : Draw) (left : List Path) where
     settled a o h = by (decide a r) (decide o r)
       where
         by : (a ≡ r) ⊎ (is_same a r ≡ false) → (o ≡ r) ⊎ (is_same o r ≡ false) → is_in_base t.past a o ≡ false
-        by (inl e) (inl k) = rw (e, k) may.itself
-        by (inl e) (inr k) = rw e (may.settled o (rw (stays o k) at h))
-        by (inr f) (inl k) = base_stays a o f ∙ (rw k (may.later a))
+        by (inl e) (inl k) = rw (e, k) may.begins.itself
+        by (inl e) (inr k) = rw e (may.begins.settled o (rw (stays o k) at h))
+        by (inr f) (inl k) = base_stays a o f ∙ (rw k (may.begins.later a))
         by (inr f) (inr k) = base_stays a o f ∙ sound.settled a o (rw (stays o k) at h)
 
     start : (o : Revision) → is_drawn t.past o ≡ true → is_in_base t.past o (start_of 1) ≡ true
     start o h = by (decide o r)
       where
         by : (o ≡ r) ⊎ (is_same o r ≡ false) → is_in_base t.past o (start_of 1) ≡ true
-        by (inl e) = rw e may.start
+        by (inl e) = rw e may.begins.start
         by (inr f) = base_stays o (start_of 1) f ∙ sound.start o (rw (stays o f) at h)
 
     entries : (o : Revision) (q : Path) (m : Mark) → In q (t.writers o).written → In (mark_at q m) (marks_of t.past o) → marked (s.docs q) o m ≡ true

@@ -171,9 +171,6 @@ module _ (base : RevVec) (r : Revision) (p : Path) (ms : List MarkAt) (doc : Opt
     from = λ m h. In-marks_at p m os (are.1 m (In-from_marks_in doc o m h));
   }
 
-  same_back : (xs ys : List Mark) → Same xs ys → Same ys xs
-  same_back xs ys s = record { to = s.from; from = s.to }
-
   meets_at : (xs ys : List MarkAt) (item : Item) → item.path ≡ p → met_among p (marks_at p xs) (marks_at p ys) ≡ Some item → Meets xs ys item
   meets_at xs ys item e h = subst (λ (q : Path). met_among q (marks_at q xs) (marks_at q ys) ≡ Some item) (sym e) h
 

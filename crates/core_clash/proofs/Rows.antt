@@ -150,7 +150,7 @@ abbrev z5 : Core
 z5 = after_finish z4 (both 2 0)
 
 reached_1 : Reached z1
-reached_1 = more begun_there (draw (both 2 0) (a ∷ b ∷ []) (record { fresh = refl; later = λ r. refl; itself = refl; settled = λ o h. absurd (false≢true h); start = refl; started = not_start; covers = covers; once = (apart, (λ h. h, tt)); entries = λ m item. (λ h. h, λ h. h) }))
+reached_1 = more begun_there (draw (both 2 0) (a ∷ b ∷ []) (record { begins = record { fresh = refl; later = λ r. refl; itself = refl; settled = λ o h. absurd (false≢true h); start = refl; started = not_start }; covers = covers; once = (apart, (λ h. h, tt)); entries = λ m item. (λ h. h, λ h. h) }))
 
 reached_2 : Reached z2
 reached_2 = more reached_1 (write (both 2 0) a (b ∷ []) (record { going = record { draw = refl; unended = refl; uncommitted = refl; going = refl }; unmet = refl; next = refl }))

@@ -1,9 +1,9 @@
 -- Each step keeps what holds; each commit and each refusal may follow.
-use Rattle.std.proofs.Common.{◌≡◌, ◌+◌, true, false, ◌⊎◌, inl, inr, Some, Ok, Err, Result, List, [], ◌∷◌, ◌++◌, refl, sym, subst, is_some}
+use Rattle.std.proofs.Common.{◌≡◌, ◌+◌, true, false, ◌⊎◌, inl, inr, Some, Ok, Err, Result, List, [], ◌∷◌, ◌++◌, refl, sym, subst, ◌∙◌, is_some}
 use Rattle.jr_path.specs.declared.path.Path.{Path}
 use Rattle.jr_path.specs.declared.path.Item.{Item}
 use Rattle.jr_rev.specs.declared.revision.Revision.{Revision}
-use Rattle.jr_rev.specs.Vectors.{start_of}
+use Rattle.jr_rev.specs.Vectors.{sees, start_of}
 use Rattle.oak_clash.specs.declared.mark.Mark.{Mark}
 use Rattle.oak_doc.specs.declared.document.Document.{Document}
 use Rattle.oak_doc.specs.declared.update.OpFault.{OpFault}
@@ -14,7 +14,7 @@ use Rattle.oak_doc.specs.Updates.{updated, after_changes}
 use Rattle.oak_machine.specs.declared.event.Draw.{Draw}
 use Rattle.oak_machine.specs.declared.event.Event.TheVariants as event
 use Rattle.oak_machine.specs.declared.event.StepKind.TheVariants as kind
-use Rattle.oak_machine.specs.Commits.{is_committed, is_refused, is_ended, is_in_base, are_clashing, marks_of}
+use Rattle.oak_machine.specs.Commits.{is_committed, is_drawn, is_refused, is_ended, is_in_base, are_clashing, marks_of}
 use Rattle.oak_machine.specs.Runs.{IsOpen, MayCommit, MayRefuse}
 use Rattle.oak_commit.specs.Writing.{write_op, last_op}
 use Rattle.oak_commit.specs.Clashing.{Met, marked, noted, collision, found, mark_op}
@@ -123,3 +123,18 @@ told_root s r p m sound other h = by (sound.origin r p m h)
     by : IsOf s p r m → IsRooted (s.docs p) r (root_of s.past r)
     by (inl e) = absurd (other e)
     by (inr k) = sound.rooted r p m k.0 k.1
+
+-- the document that a committer writes next tells the commit root of each whom it meets there
+pub found_root : (s : Core) (d : Draw) (p : Path) (rest : List Path) (f : Met) → Sound s → MayWrite s d p rest → In f (found d.base d.revision p d.marks (s.docs p)) → IsRooted (s.docs p) f.other (root_of s.past f.other)
+found_root s d p rest f sound may h =
+    let met = (meeting d.base d.revision p d.marks (s.docs p)).each f h in
+    told_root s f.other p met.mark.0 sound (λ e. not_both (sees d.base (start_of 1)) seen (subst (λ (x : Revision). sees d.base x ≡ false) e met.outside)) met.mark.1
+  where
+    drawn : is_drawn s.past d.revision ≡ true
+    drawn = rw may.going.draw refl
+
+    base_is : is_in_base s.past d.revision (start_of 1) ≡ sees d.base (start_of 1)
+    base_is = rw may.going.draw refl
+
+    seen : sees d.base (start_of 1) ≡ true
+    seen = sym base_is ∙ sound.start d.revision drawn

@@ -5,7 +5,6 @@ use Rattle.jr_path.specs.Names.{path_cmp}
 use Rattle.jr_path.specs.declared.path.Path.{Path}
 use Rattle.jr_rev.specs.declared.revision.Revision.{Revision}
 use Rattle.jr_rev.specs.Revisions.{is_same}
-use Rattle.jr_rev.specs.Vectors.{start_of}
 use Rattle.oak_clash.specs.declared.mark.Mark.{Mark}
 use Rattle.oak_clash.specs.Clashes.{commit_root}
 use Rattle.oak_doc.specs.declared.document.Document.{Document}
@@ -20,7 +19,8 @@ use Rattle.oak_machine.specs.declared.event.Event.{Event}
 use Rattle.oak_machine.specs.declared.event.Event.TheVariants as event
 use Rattle.oak_machine.specs.declared.event.StepKind.TheVariants as kind
 use Rattle.oak_machine.specs.History.{Past}
-use Rattle.oak_machine.specs.Commits.{draw_of, marks_of, is_drawn, is_committed, is_ended, is_in_flight, is_in_base}
+use Rattle.oak_machine.specs.Commits.{draw_of, marks_of, is_committed, is_ended}
+use Rattle.core_heads.specs.Sound.{Begins}
 use Rattle.core_clash.specs.Views.{In, Once, mark_at, NamesItems}
 
 -- the documents of the nodes, by path
@@ -58,14 +58,9 @@ pub record IsGoing (s : Core) (d : Draw) : Type 0 where
   pub uncommitted : is_committed s.past d.revision ≡ false
   pub going : (s.writers d.revision).undoing ≡ false
 
--- a new revision, later than all that any base sees; a base that sees the start and nothing in flight; a list of all marked documents; and marks of items that are those of the edit
+-- a new revision that no base sees, at a base that sees the start and nothing in flight; a list of all its marked documents, each once; and marks of items that are those of the edit
 pub record MayBegin (s : Core) (d : Draw) (left : List Path) : Type 0 where
-  pub fresh : is_drawn s.past d.revision ≡ false
-  pub later : (r : Revision) → is_in_base s.past r d.revision ≡ false
-  pub itself : is_in_base (event.Draw d ∷ s.past) d.revision d.revision ≡ false
-  pub settled : (o : Revision) → is_in_flight s.past o ≡ true → is_in_base (event.Draw d ∷ s.past) d.revision o ≡ false
-  pub start : is_in_base (event.Draw d ∷ s.past) d.revision (start_of 1) ≡ true
-  pub started : d.revision ≡ start_of 1 → ⊥
+  pub begins : Begins s.past d
   pub covers : (p : Path) (m : Mark) → In (mark_at p m) d.marks → In p left
   pub once : Once left
   pub entries : NamesItems d.marks d.edit.writes

@@ -7,9 +7,9 @@ ghost use Rattle.oak_machine.specs.declared.event.Draw.{Draw};
 ghost use Rattle.oak_machine.specs.declared.event.Event.TheVariants as event;
 ghost use Rattle.oak_machine.specs.Commits.{is_drawn, is_committed, is_ended, is_in_base, are_clashing};
 ghost use Rattle.oak_machine.specs.Runs.{IsRunOf, AreNodes};
-ghost use Rattle.oak_commit.specs.Clashing.{marked};
+ghost use Rattle.oak_commit.specs.Clashing.{found, marked};
 ghost use Rattle.core_clash.specs.Views.{In, Once, mark_at};
-ghost use Rattle.core_clash.specs.Core.{Core, MayBegin, root_of};
+ghost use Rattle.core_clash.specs.Core.{Core, MayBegin, MayWrite, root_of};
 ghost use Rattle.core_clash.specs.Sound.{IsRooted};
 ghost use Rattle.core_clash.specs.Steps.{Reached, EndsWell};
 
@@ -35,10 +35,15 @@ pub fn what_is_refused_leaves_no_mark()
     ensures { (s : Core) (r p m : _) → Reached s → (r ≡ start_of 1 → ⊥) → is_ended s.past r ≡ true → is_committed s.past r ≡ false → marked (s.docs p) r m ≡ false }
 {}
 
-/// A document that has a mark of a revision tells the commit root of its draw, so a committer finds the commit root of
-/// whom it meets in the document alone.
+/// A document that has a mark of a revision tells the commit root of its draw.
 pub fn a_marked_document_tells_the_commit_root()
     ensures { (s : Core) (r p m : _) → Reached s → (r ≡ start_of 1 → ⊥) → marked (s.docs p) r m ≡ true → IsRooted (s.docs p) r (root_of s.past r) }
+{}
+
+/// The document that a committer writes next tells the commit root of each whom it meets there, so it finds the root in
+/// the document alone.
+pub fn who_is_met_is_told_with_its_commit_root()
+    ensures { (s : Core) (d : Draw) (p : _) (rest : List _) (f : _) → Reached s → MayWrite s d p rest → In f (found d.base d.revision p d.marks (s.docs p)) → IsRooted (s.docs p) f.other (root_of s.past f.other) }
 {}
 
 /// A draw that may follow a run may begin, with a list of all its marked documents, each once.

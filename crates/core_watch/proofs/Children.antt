@@ -1,13 +1,12 @@
 -- The names of the children of a path in a tree: they rise, and which of them come before a document or up to it.
-use Rattle.std.proofs.Common.{◌≡◌, ◌+◌, length, Bool, true, false, cond, ◌&&◌, ◌||◌, Some, None, Option, List, [], ◌∷◌, ◌++◌, refl, sym, ap, ◌∙◌, subst, is_some}
+use Rattle.std.proofs.Common.{◌≡◌, ◌+◌, length, Bool, true, false, cond, ◌||◌, Some, None, Option, List, [], ◌∷◌, ◌++◌, refl, sym, ap, ◌∙◌, is_some}
 use Rattle.std.specs.Prelude.{option_to_list, codes}
 use Rattle.std.specs.declared.cmp.Ordering.{Ordering}
 use Rattle.std.specs.declared.cmp.Ordering.TheVariants.{Less, Equal, Greater}
 use Rattle.std.specs.Ordering.{eq_by_cmp, is_eq, is_lt, is_le, nat_cmp, ordering_then, ordering_reverse}
-use Rattle.std.specs.Cmp.Lexicographic.{slice_cmp}
 use Rattle.std.specs.FinMap.{is_sorted}
 use Rattle.std.specs.FinMap.Entries.{below_all}
-use Rattle.std.specs.List.{AllByRecursion, filter, filter_map, list_any, cons_option}
+use Rattle.std.specs.List.{AllByRecursion, filter, list_any, cons_option}
 use Rattle.std.proofs.lemmas.Cmp.{nat_cmp_total, nat_list_cmp_total, tied_itself}
 use mathlib.Core.Bool.{false≢true}
 use Rattle.jr_path.specs.Ids.{id_cmp, joined}
@@ -15,12 +14,12 @@ use Rattle.jr_path.specs.Names.{name_cmp, path_cmp, last_name}
 use Rattle.jr_path.specs.declared.name.Name.{Name}
 use Rattle.jr_path.specs.declared.path.Path.{Path}
 use Rattle.jr_path.specs.declared.path.DocId.TheVariants as id
-use Rattle.jr_path.proofs.Maps.{name_exact, path_total}
+use Rattle.jr_path.proofs.Maps.{name_exact}
 use Rattle.jr_tree.specs.declared.tree.Node.{Node}
 use Rattle.jr_tree.specs.Trees.{Nodes, node_at, is_child_of, children_of}
 use Rattle.jr_tree.proofs.Pointwise.{same_path}
 use Rattle.oak_read.proofs.Below.{child_path, longer, own_child, own_name, same_front, joined-child}
-use Rattle.core_read.proofs.Entries.{exactly, is_less, first, second}
+use Rattle.core_read.proofs.Entries.{is_less, first, second}
 use Rattle.core_watch.specs.Standing.{children_to}
 
 -- ---- two children are as their names

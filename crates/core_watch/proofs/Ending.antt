@@ -1,11 +1,10 @@
 -- When a reader ends: a node's after its commit roots, and that of children goes forward from document to document.
-use Rattle.std.proofs.Common.{◌≡◌, ℕ, ◌≤◌, zero, suc, arith, length, ◌⊎◌, inl, inr, Bool, true, false, cond, Some, None, Option, List, [], ◌∷◌, refl, sym, ap, ◌∙◌, subst}
-use Rattle.std.specs.Prelude.{is_some, is_none, slice_get}
+use Rattle.std.proofs.Common.{◌≡◌, ◌≤◌, suc, arith, length, ◌⊎◌, inl, inr, Bool, true, false, cond, Some, None, Option, List, [], ◌∷◌, refl, sym, ap, ◌∙◌, subst}
+use Rattle.std.specs.Prelude.{is_some, slice_get}
 use Rattle.std.specs.Option.{option_map, option_map_or}
 use Rattle.std.specs.declared.alloc.Global.{Global}
 use Rattle.std.specs.declared.cmp.Ordering.TheVariants.{Less}
 use Rattle.std.proofs.lemmas.List.Elements.{recursion_from_All}
-use mathlib.Core.Bool.{false≢true}
 use Rattle.jr_path.specs.Ids.{id_cmp}
 use Rattle.jr_path.specs.declared.name.Name.{Name}
 use Rattle.jr_path.specs.declared.path.Path.{Path}
@@ -14,10 +13,9 @@ use Rattle.jr_path.specs.declared.path.DocId.TheVariants as id
 use Rattle.jr_rev.specs.declared.vector.Pin.{Pin}
 use Rattle.jr_tree.specs.Trees.{Nodes, is_child_of}
 use Rattle.oak_doc.specs.declared.document.Document.{Document}
-use Rattle.oak_doc.specs.declared.asks.Reply.TheVariants as reply
 use Rattle.oak_read.specs.Meaning.{documents_in}
 use Rattle.oak_read.specs.Wanted.{Known, Ids, left_of, previous_wanted, roots_wanted}
-use Rattle.oak_read.specs.Reading.{IsTable, answer, due, fed, fed_main, fed_next, child_at, ended, noted, settled, on_main, on_previous, on_roots, with_known, node_reader}
+use Rattle.oak_read.specs.Reading.{IsTable, answer, due, fed_main, fed_next, child_at, ended, noted, settled, on_main, on_previous, on_roots, with_known, node_reader}
 use Rattle.oak_read.specs.declared.wanted.Left.{Left}
 use Rattle.oak_read.specs.declared.reader.Reader.{Reader}
 use Rattle.oak_read.specs.declared.reader.Step.{Step}
@@ -120,11 +118,11 @@ module _ (a : Global) (pin : Pin) (p q : Path) (names : List Name) (known : Know
       previous (Some left) = refl
 
 -- the document behind that of the last child is that of the next one, or it is done
-pub next_rises : (m : Moment) (r : Reader) → IsTable m.table → r.step ≡ step.Next → IsDone (answered r m).step ⊎ (id_cmp (id.Node r.at) (id.Node (answered r m).at) ≡ Less)
+pub next_rises : (m : Moment) (r : Reader) → IsTable m.table → r.step ≡ step.Next → IsDone (answered r m).step ⊎ ((id_cmp (id.Node r.at) (id.Node (answered r m).at) ≡ Less) × (is_some (documents_in m.table (id.Node (answered r m).at)) ≡ true))
 next_rises m r is next = by r.alloc r.pin r.parent r.at r.known r.names r.step next
   where
     Rises : Path → Reader → Type 0
-    Rises at r' = IsDone r'.step ⊎ (id_cmp (id.Node at) (id.Node r'.at) ≡ Less)
+    Rises at r' = IsDone r'.step ⊎ ((id_cmp (id.Node at) (id.Node r'.at) ≡ Less) × (is_some (documents_in m.table (id.Node r'.at)) ≡ true))
 
     by : (a : Global) (pin : Pin) (parent : Option Path) (at : Path) (known : Known) (names : List Name) (s : Step) → s ≡ step.Next
         → Rises at (answered (record { alloc = a; pin = pin; parent = parent; at = at; known = known; names = names; step = s }) m)
@@ -153,5 +151,5 @@ next_rises m r is next = by r.alloc r.pin r.parent r.at r.known r.names r.step n
               where
                 at_node : (b : Bool) → Rises at (option_map_or (λ q'. settled (noted (record { alloc = a; pin = pin; parent = Some p; at = q'; known = known; names = names; step = step.Next }) (id.Node q) (Some e.1))) (cond b (Some q) None) (ended (record { alloc = a; pin = pin; parent = Some p; at = at; known = known; names = names; step = step.Next })))
                 at_node false = inl tt
-                at_node true = inr (subst (λ (z : Path). id_cmp (id.Node at) (id.Node z) ≡ Less) (sym (stays_at a pin p q names (with_known known (id.Node q) (Some e.1)) step.Next))
-                    (subst (λ (x : DocId). id_cmp (id.Node at) x ≡ Less) same found.above))
+                at_node true = inr (subst (λ (z : Path). (id_cmp (id.Node at) (id.Node z) ≡ Less) × (is_some (documents_in m.table (id.Node z)) ≡ true)) (sym (stays_at a pin p q names (with_known known (id.Node q) (Some e.1)) step.Next))
+                    (subst (λ (x : DocId). (id_cmp (id.Node at) x ≡ Less) × (is_some (documents_in m.table x) ≡ true)) same (found.above, ap is_some found.found)))

@@ -1,13 +1,13 @@
 -- A reader that reads the tree at its base reads it after the documents' answer, too.
-use Rattle.std.proofs.Common.{◌≡◌, ◌-◌, ◌<◌, length, get_or, suc, arith, ◌⊎◌, inl, inr, Bool, true, false, cond, ◌&&◌, ◌||◌, Some, None, Option, List, [], ◌∷◌, ◌++◌, refl, sym, ap, ◌∙◌, subst, is_some}
+use Rattle.std.proofs.Common.{◌≡◌, ◌-◌, ◌<◌, length, get_or, suc, arith, Bool, true, false, cond, ◌&&◌, ◌||◌, Some, None, Option, List, [], ◌∷◌, ◌++◌, refl, sym, ap, ◌∙◌, subst, is_some}
 use Rattle.std.specs.Prelude.{All, codes, is_none, map, option_to_list, slice_get}
 use Rattle.std.specs.Option.{option_map, option_map_or, option_or}
 use Rattle.std.specs.declared.cmp.Ordering.{Ordering}
 use Rattle.std.specs.declared.cmp.Ordering.TheVariants.{Less, Equal, Greater}
 use Rattle.std.specs.declared.alloc.Global.{Global}
-use Rattle.std.specs.Ordering.{eq_by_cmp, is_eq, is_lt, is_le, ordering_reverse}
+use Rattle.std.specs.Ordering.{eq_by_cmp, is_lt, is_le, ordering_reverse}
 use Rattle.std.specs.FinMap.{is_sorted}
-use Rattle.std.specs.List.{AllByRecursion, filter_map}
+use Rattle.std.specs.List.{AllByRecursion}
 use Rattle.std.specs.Map.{lookup}
 use Rattle.std.specs.BTreeMap.{is_at}
 use Rattle.std.proofs.lemmas.List.Elements.{recursion_from_All}
@@ -20,23 +20,20 @@ use Rattle.jr_path.specs.declared.name.Name.{Name}
 use Rattle.jr_path.specs.declared.path.Path.{Path}
 use Rattle.jr_path.specs.declared.path.DocId.{DocId}
 use Rattle.jr_path.specs.declared.path.DocId.TheVariants as id
-use Rattle.jr_path.proofs.Maps.{name_exact}
 use Rattle.jr_path.proofs.Orders.{id_total, id_exact}
 use Rattle.jr_path.proofs.Pieces.{AllNoSlash, all_no_slash, names_from_all}
 use Rattle.jr_value.specs.declared.value.Property.{Property}
 use Rattle.jr_rev.specs.declared.vector.Pin.{Pin}
-use Rattle.jr_rev.specs.declared.vector.RevVec.{RevVec}
 use Rattle.jr_rev.specs.declared.revision.Revision.{Revision}
 use Rattle.jr_rev.specs.Vectors.{sees}
 use Rattle.jr_tree.specs.declared.tree.Node.{Node}
-use Rattle.jr_tree.specs.Trees.{Nodes, node_at, is_child_of, children_of}
+use Rattle.jr_tree.specs.Trees.{Nodes, node_at, is_child_of}
 use Rattle.oak_doc.specs.declared.document.Document.{Document}
 use Rattle.oak_read.specs.Meaning.{Documents, documents_in, path_of, commit_root_of, child_found, found_node}
 use Rattle.oak_read.specs.Wanted.{Known, Ids, unknown, listed, previous_wanted, roots_wanted, left_of}
 use Rattle.oak_read.specs.Reading.{IsTable, answer, child_at, due, ended, fed, fed_main, fed_next, noted, on_main, on_previous, on_roots, settled, with_known}
 use Rattle.oak_read.specs.declared.wanted.Left.{Left}
 use Rattle.oak_read.specs.declared.reader.Reader.{Reader}
-use Rattle.oak_read.specs.declared.reader.ReadOut.TheVariants as out
 use Rattle.oak_read.specs.declared.reader.Step.{Step}
 use Rattle.oak_read.specs.declared.reader.Step.TheVariants as step
 use Rattle.oak_read.proofs.Agreeing.{none_found}
@@ -45,14 +42,14 @@ use Rattle.oak_read.proofs.Ranges.{child_between, none_before}
 use Rattle.oak_read.proofs.Walking.{same_id}
 use Rattle.oak_machine.specs.History.{Past}
 use Rattle.oak_machine.specs.Commits.{tree_at}
-use Rattle.core_read.specs.Commits.{tree_of}
-use Rattle.core_read.specs.Holds.{has_revision, falling, Holds, IsSwept}
+use Rattle.core_read.specs.Holds.{has_revision, Holds, IsSwept}
 use Rattle.core_read.specs.Told.{IsTold, IsInUse}
+use Rattle.core_read.proofs.Entries.{first as first_part, second as second_part}
 use Rattle.core_read.proofs.Falling.{tells_falling, tree_falling}
 use Rattle.core_watch.specs.Copies.{IsCopy}
-use Rattle.core_watch.specs.Standing.{HasEntry, is_known_or_left, IsRooted, children_to, HasNames, HasBegun, IsOnWay, Stands, IsReading}
+use Rattle.core_watch.specs.Standing.{HasEntry, is_known_or_left, IsRooted, AreCopies, children_to, HasNames, HasBegun, IsOnWay, Stands, IsReading}
 use Rattle.core_watch.proofs.Rooted.{root_says, own_copy, known_alike, known_same, means}
-use Rattle.core_watch.proofs.Left.{rooted_from, noted_at, still_known, same_known, now_known}
+use Rattle.core_watch.proofs.Left.{rooted_from, noted_at, noted_rising, still_known, still_unknown, same_known, now_known}
 use Rattle.core_watch.proofs.Children.{child_order, one_more_child, no_children, all_children, same_children}
 use Rattle.core_watch.proofs.Behind.{Entries, behind, has, each_found, IsNext, next_is, nothing_behind}
 
@@ -102,7 +99,7 @@ module _ (table : Entries) (is : IsTable table) (past : Past) (a : Global) (pin 
   tree = tree_at past pin.base
 
   abbrev Copies : Known → Type 0
-  Copies known = (p : Path) (d : Document) → documents_in known (id.Node p) ≡ Some d → IsCopy (documents_in table) pin.base p d
+  Copies known = AreCopies (documents_in table) pin.base known
 
   abbrev reader : Option Path → Path → Known → List Name → Step → Reader
   reader parent at known names s = record { alloc = a; pin = pin; parent = parent; at = at; known = known; names = names; step = s }
@@ -137,12 +134,12 @@ module _ (table : Entries) (is : IsTable table) (past : Past) (a : Global) (pin 
   roots_read : (parent : Option Path) (at : Path) (known : Known) (names : List Name) (s : Step) → Copies known → IsRooted pin.sweep pin.base known [] (is_none parent) at → IsOnWay is_lt tree parent at names → Reads (on_roots (reader parent at known names s))
   roots_read None at known names s copies rooted way = record {
     copies = copies;
-    stands = back (found_node (documents_in known) pin.sweep pin.base at) ∙ (known_same (documents_in table) past pin.sweep pin.base holds held swept known copies true at rooted refl ∙ meaning at);
+    stands = back (found_node (documents_in known) pin.sweep pin.base at) ∙ (known_same (documents_in table) past pin.sweep pin.base holds held swept known copies.each true at rooted refl ∙ meaning at);
   }
   roots_read (Some p) at known names s copies rooted way = record { copies = copies; stands = record { child = way.child; so_far = named (child_name p at way.child) } }
     where
       there : is_some (found_node (documents_in known) pin.sweep pin.base at) ≡ is_some (node_at tree at)
-      there = known_alike (documents_in table) past pin.sweep pin.base holds held swept known copies false at rooted ∙ (ap is_some (meaning at) ∙ is_some_map (λ n. n.props) (node_at tree at))
+      there = known_alike (documents_in table) past pin.sweep pin.base holds held swept known copies.each false at rooted ∙ (ap is_some (meaning at) ∙ is_some_map (λ n. n.props) (node_at tree at))
 
       named : (m : Name) × (at ≡ p ++ m ∷ []) → names ++ option_to_list (child_found (documents_in known) pin.sweep pin.base p (id.Node at)) ≡ children_to is_le tree p at
       named one =
@@ -169,25 +166,25 @@ module _ (table : Entries) (is : IsTable table) (past : Past) (a : Global) (pin 
   main_read : (parent : Option Path) (at : Path) (known : Known) (names : List Name) (s : Step) → Copies known → (c : Document) → documents_in known (id.Node at) ≡ Some c → IsOnWay is_lt tree parent at names → Reads (on_main (reader parent at known names s))
   main_read parent at known names s copies c there way =
       subst (λ (ids : Ids). Reads (option_map_or (λ left. record (reader parent at known names s) { step = step.Previous left }) (left_of ids) (on_previous (reader parent at known names s)))) (sym none_listed)
-      (goes_on parent at known names s (roots_wanted pin.sweep pin.base known (is_none parent) at) copies (rooted_from pin.sweep pin.base known (is_none parent) at c there (copies at c there).whole) way)
+      (goes_on parent at known names s (roots_wanted pin.sweep pin.base known (is_none parent) at) copies (rooted_from pin.sweep pin.base known (is_none parent) at c there (copies.each at c there).whole) way)
     where
       none_listed : previous_wanted known at ≡ []
       none_listed =
           ap (λ (o : Option Document). option_map_or (λ d. unknown known (listed at d)) o []) there
-          ∙ ap (λ prev. unknown known (map (λ e. id.Prev e.number at) prev)) (copies at c there).whole
+          ∙ ap (λ prev. unknown known (map (λ e. id.Prev e.number at) prev)) (copies.each at c there).whole
 
   -- ---- a document is noted
 
   copies_noted : (known : Known) → Copies known → (y : DocId) → Copies (with_known known y (documents_in table y))
-  copies_noted known copies y p d h = by (eq_by_cmp id_cmp (id.Node p) y) refl (sym (noted_at known y (documents_in table y) (id.Node p)) ∙ h)
+  copies_noted known copies y = record { rising = noted_rising known y (documents_in table y) copies.rising; each = λ p d h. at p d (eq_by_cmp id_cmp (id.Node p) y) refl (sym (noted_at known y (documents_in table y) (id.Node p)) ∙ h) }
     where
-      newest : (o : Option Document) → documents_in known (id.Node p) ≡ o → option_or o (documents_in table (id.Node p)) ≡ Some d → IsCopy (documents_in table) pin.base p d
-      newest (Some c) e k = copies p d (e ∙ k)
-      newest None e k = own_copy (documents_in table) past pin.sweep pin.base holds held swept p d k
+      newest : (p : Path) (d : Document) (o : Option Document) → documents_in known (id.Node p) ≡ o → option_or o (documents_in table (id.Node p)) ≡ Some d → IsCopy (documents_in table) pin.base p d
+      newest p d (Some c) e k = copies.each p d (e ∙ k)
+      newest p d None e k = own_copy (documents_in table) past pin.sweep pin.base holds held swept p d k
 
-      by : (b : Bool) → eq_by_cmp id_cmp (id.Node p) y ≡ b → cond b (option_or (documents_in known y) (documents_in table y)) (documents_in known (id.Node p)) ≡ Some d → IsCopy (documents_in table) pin.base p d
-      by true e k = newest (documents_in known (id.Node p)) refl (ap (λ (z : DocId). option_or (documents_in known z) (documents_in table z)) (same_id (id.Node p) y e) ∙ k)
-      by false e k = copies p d k
+      at : (p : Path) (d : Document) (b : Bool) → eq_by_cmp id_cmp (id.Node p) y ≡ b → cond b (option_or (documents_in known y) (documents_in table y)) (documents_in known (id.Node p)) ≡ Some d → IsCopy (documents_in table) pin.base p d
+      at p d true e k = newest p d (documents_in known (id.Node p)) refl (ap (λ (z : DocId). option_or (documents_in known z) (documents_in table z)) (same_id (id.Node p) y e) ∙ k)
+      at p d false e k = copies.each p d k
 
   -- the document of the node is there: it is noted
   node_noted : (parent : Option Path) (at : Path) (known : Known) (names : List Name) (s : Step) → Copies known → (d : Document) → documents_in table (id.Node at) ≡ Some d → IsOnWay is_lt tree parent at names
@@ -338,6 +335,8 @@ module _ (table : Entries) (is : IsTable table) (past : Past) (a : Global) (pin 
     document = rooted.document;
     there = same_known known first (documents_in table first) (id.Node at) rooted.document rooted.there;
     roots = λ q seen unswept entry. by q seen unswept entry (is_some (documents_in known (commit_root_of rooted.document q))) refl (eq_by_cmp id_cmp (commit_root_of rooted.document q) first) refl (rooted.roots q seen unswept entry);
+    rising = second_part _ _ rooted.rising;
+    unknown = still_unknown known first (documents_in table first) rest (first_part _ _ rooted.rising) (second_part _ _ rooted.unknown);
   }
     where
       or_first : (a b : Bool) → a ≡ true → (a || b) ≡ true
@@ -361,7 +360,7 @@ module _ (table : Entries) (is : IsTable table) (past : Past) (a : Global) (pin 
           let same : commit_root_of rooted.document q ≡ first = same_id (commit_root_of rooted.document q) first is_first in
           or_first _ _ (subst (λ (x : DocId). is_some (documents_in (with_known known x (documents_in table x)) (commit_root_of rooted.document q)) ≡ true) same
           (now_known known (commit_root_of rooted.document q) (documents_in table (commit_root_of rooted.document q))
-          (there_by (documents_in table (commit_root_of rooted.document q)) q (root_says (documents_in table) past pin.sweep pin.base holds held swept at rooted.document (copies at rooted.document rooted.there) q seen unswept whole entry))))
+          (there_by (documents_in table (commit_root_of rooted.document q)) q (root_says (documents_in table) past pin.sweep pin.base holds held swept at rooted.document (copies.each at rooted.document rooted.there) q seen unswept whole entry))))
       by q seen unswept entry false is_known false is_first h = or_else (is_some (documents_in (with_known known first (documents_in table first)) (commit_root_of rooted.document q))) _ h
 
   feed_roots : (parent : Option Path) (at : Path) (known : Known) (names : List Name) (left : Left) → Copies known → IsRooted pin.sweep pin.base known ((left.first, tt) ∷ left.rest) (is_none parent) at → IsOnWay is_lt tree parent at names

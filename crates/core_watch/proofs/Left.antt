@@ -1,11 +1,15 @@
 -- Which ids a reader is left to read, and what it knows once a document is noted.
 use Rattle.std.proofs.Common.{◌≡◌, ◌⊎◌, inl, inr, Bool, true, false, cond, not, ◌&&◌, ◌||◌, Some, None, Option, List, [], ◌∷◌, ◌++◌, refl, sym, ap, ◌∙◌, subst, is_some}
-use Rattle.std.specs.Prelude.{map}
+use Rattle.std.specs.Prelude.{is_none, map}
+use Rattle.std.specs.declared.cmp.Ordering.{Ordering}
+use Rattle.std.specs.declared.cmp.Ordering.TheVariants.{Less, Equal, Greater}
 use Rattle.std.specs.Option.{option_map, option_map_or, option_or, unwrap_or}
-use Rattle.std.specs.Ordering.{eq_by_cmp}
+use Rattle.std.specs.Ordering.{eq_by_cmp, is_eq, match_ordering, ordering_reverse}
+use Rattle.std.specs.FinMap.{is_sorted}
+use Rattle.std.specs.FinMap.Entries.{below_all}
 use Rattle.std.specs.Map.{lookup, keys_of}
 use Rattle.std.specs.BTreeMap.{is_at, insert_entry}
-use Rattle.std.specs.List.{filter, filter_map, flat_map, fold, list_any}
+use Rattle.std.specs.List.{filter, filter_map, flat_map, fold, list_all, list_any}
 use mathlib.Core.Bool.{false≢true}
 use Rattle.jr_path.specs.Ids.{id_cmp}
 use Rattle.jr_path.specs.Names.{name_cmp}
@@ -26,7 +30,7 @@ use Rattle.oak_read.specs.Shown.{with_previous}
 use Rattle.oak_read.specs.Wanted.{Known, Ids, with_unknown, unknown, asked_roots, property_roots, roots_of, roots_wanted}
 use Rattle.oak_read.specs.Reading.{with_known}
 use Rattle.oak_read.proofs.Walking.{same_id, own_id}
-use Rattle.core_read.specs.Holds.{here_entry}
+use Rattle.core_read.proofs.Entries.{both, first, is_less, second, sorted_insert}
 use Rattle.core_read.proofs.Latest.{same_revision}
 use Rattle.core_watch.specs.Standing.{HasEntry, is_known_or_left, IsRooted}
 
@@ -140,6 +144,47 @@ module _ (t v : RevVec) (d : Document) (q : Revision) (seen : sees v q ≡ true)
   among_roots whole (inr some) = any_back is_root (asked_roots t v d (keys_of d.deleted)) _
       (subst (λ (b : Bool). list_any is_root (cond b (property_roots t v d d.props) []) ≡ true) (sym some.1) (among_properties some.0 d.props some.2))
 
+-- ---- what is left stands in order, and isn't known
+
+module _ (known : Known) where
+  abbrev AreUnknown : Ids → Type 0
+  AreUnknown ids = list_all (λ e. is_none (documents_in known e.0)) ids ≡ true
+
+  none_of : (o : Option Document) → is_some o ≡ false → is_none o ≡ true
+  none_of None h = refl
+  none_of (Some d) h = absurd (false≢true (sym h))
+
+  unknown_more : (x : DocId) (ids : Ids) → is_none (documents_in known x) ≡ true → AreUnknown ids → AreUnknown (insert_entry id_cmp ids x tt)
+  unknown_more x [] none h = both _ _ none refl
+  unknown_more x (e ∷ ids) none h = by (id_cmp x e.0) (unknown_more x ids none (second _ _ h))
+    where
+      by : (o : Ordering) → AreUnknown (insert_entry id_cmp ids x tt) → AreUnknown (match_ordering o ((x, tt) ∷ e ∷ ids) ((e.0, tt) ∷ ids) (e ∷ insert_entry id_cmp ids x tt))
+      by Less rest = both _ _ none h
+      by Equal rest = h
+      by Greater rest = both _ _ (first _ _ h) rest
+
+  one_unknown : (x : DocId) (ids : Ids) → AreUnknown ids → AreUnknown (with_unknown known ids x)
+  one_unknown x ids h = by (is_some (lookup (is_at (id_cmp x)) known)) refl
+    where
+      by : (b : Bool) → is_some (lookup (is_at (id_cmp x)) known) ≡ b → AreUnknown (cond b ids (insert_entry id_cmp ids x tt))
+      by true e = h
+      by false e = unknown_more x ids (none_of (documents_in known x) e) h
+
+  all_unknown : (xs : List DocId) (ids : Ids) → AreUnknown ids → AreUnknown (fold (with_unknown known) ids xs)
+  all_unknown [] ids h = h
+  all_unknown (x ∷ xs) ids h = all_unknown xs (with_unknown known ids x) (one_unknown x ids h)
+
+  one_rising : (x : DocId) (ids : Ids) → is_sorted id_cmp ids ≡ true → is_sorted id_cmp (with_unknown known ids x) ≡ true
+  one_rising x ids h = by (is_some (lookup (is_at (id_cmp x)) known))
+    where
+      by : (b : Bool) → is_sorted id_cmp (cond b ids (insert_entry id_cmp ids x tt)) ≡ true
+      by true = h
+      by false = sorted_insert id_cmp id_total x tt ids h
+
+  all_rising : (xs : List DocId) (ids : Ids) → is_sorted id_cmp ids ≡ true → is_sorted id_cmp (fold (with_unknown known) ids xs) ≡ true
+  all_rising [] ids h = h
+  all_rising (x ∷ xs) ids h = all_rising xs (with_unknown known ids x) (one_rising x ids h)
+
 -- what is wanted by a document that is known is left
 pub rooted_from : (t v : RevVec) (known : Known) (whole : Bool) (p : Path) (d : Document) → documents_in known (id.Node p) ≡ Some d → d.prev ≡ [] → IsRooted t v known (roots_wanted t v known whole p) whole p
 rooted_from t v known whole p d there alone = record {
@@ -147,6 +192,8 @@ rooted_from t v known whole p d there alone = record {
   there = there;
   roots = λ q seen unswept entry. subst (λ (ids : Ids). is_known_or_left known ids (commit_root_of d q) ≡ true) (sym wanted_is)
       (unknown_left known (commit_root_of d q) (flat_map (roots_of t v whole) (d ∷ [])) [] (any_front (is_root t v d q seen unswept) (roots_of t v whole d) [] (among_roots t v d q seen unswept whole entry)));
+  rising = ap (is_sorted id_cmp) wanted_is ∙ all_rising known (flat_map (roots_of t v whole) (d ∷ [])) [] refl;
+  unknown = ap (list_all (λ e. is_none (documents_in known e.0))) wanted_is ∙ all_unknown known (flat_map (roots_of t v whole) (d ∷ [])) [] refl;
 }
   where
     wanted_is : roots_wanted t v known whole p ≡ unknown known (flat_map (roots_of t v whole) (d ∷ []))
@@ -184,12 +231,12 @@ noted_at known y o x = by o
 pub still_known : (known : Known) (y : DocId) (o : Option Document) (x : DocId) → is_some (documents_in known x) ≡ true → is_some (documents_in (with_known known y o) x) ≡ true
 still_known known y o x h = ap is_some (noted_at known y o x) ∙ by (eq_by_cmp id_cmp x y) refl
   where
-    first : (a b : Option Document) → is_some a ≡ true → is_some (option_or a b) ≡ true
-    first None b h = absurd (false≢true h)
-    first (Some d) b h = refl
+    kept : (a b : Option Document) → is_some a ≡ true → is_some (option_or a b) ≡ true
+    kept None b h = absurd (false≢true h)
+    kept (Some d) b h = refl
 
     by : (c : Bool) → eq_by_cmp id_cmp x y ≡ c → is_some (cond c (option_or (documents_in known y) o) (documents_in known x)) ≡ true
-    by true e = first (documents_in known y) o (ap (λ z. is_some (documents_in known z)) (sym (same_id x y e)) ∙ h)
+    by true e = kept (documents_in known y) o (ap (λ z. is_some (documents_in known z)) (sym (same_id x y e)) ∙ h)
     by false e = h
 
 pub same_known : (known : Known) (y : DocId) (o : Option Document) (x : DocId) (d : Document) → documents_in known x ≡ Some d → documents_in (with_known known y o) x ≡ Some d
@@ -201,8 +248,27 @@ same_known known y o x d h = noted_at known y o x ∙ by (eq_by_cmp id_cmp x y) 
 
 -- the document that was found is known
 pub now_known : (known : Known) (y : DocId) (o : Option Document) → is_some o ≡ true → is_some (documents_in (with_known known y o) y) ≡ true
-now_known known y o h = ap is_some (noted_at known y o y) ∙ (ap (λ c. is_some (cond c (option_or (documents_in known y) o) (documents_in known y))) (own_id y) ∙ second (documents_in known y) o h)
+now_known known y o h = ap is_some (noted_at known y o y) ∙ (ap (λ c. is_some (cond c (option_or (documents_in known y) o) (documents_in known y))) (own_id y) ∙ found (documents_in known y) o h)
   where
-    second : (a b : Option Document) → is_some b ≡ true → is_some (option_or a b) ≡ true
-    second None b h = h
-    second (Some d) b h = refl
+    found : (a b : Option Document) → is_some b ≡ true → is_some (option_or a b) ≡ true
+    found None b h = h
+    found (Some d) b h = refl
+
+-- what is known stays in order
+pub noted_rising : (known : Known) (y : DocId) (o : Option Document) → is_sorted id_cmp known ≡ true → is_sorted id_cmp (with_known known y o) ≡ true
+noted_rising known y None h = h
+noted_rising known y (Some d) h = by (is_some (documents_in known y))
+  where
+    by : (b : Bool) → is_sorted id_cmp (cond b known (insert_entry id_cmp known y d)) ≡ true
+    by true = h
+    by false = sorted_insert id_cmp id_total y d known h
+
+-- of ids behind the one that is noted none is known yet
+pub still_unknown : (known : Known) (y : DocId) (o : Option Document) (ids : Ids) → below_all id_cmp y ids ≡ true → list_all (λ e. is_none (documents_in known e.0)) ids ≡ true → list_all (λ e. is_none (documents_in (with_known known y o) e.0)) ids ≡ true
+still_unknown known y o [] below h = refl
+still_unknown known y o (e ∷ ids) below h = both _ _
+    (ap is_none (noted_at known y o e.0 ∙ ap (λ b. cond b (option_or (documents_in known y) o) (documents_in known e.0)) other) ∙ first _ _ h)
+    (still_unknown known y o ids (second _ _ below) (second _ _ h))
+  where
+    other : eq_by_cmp id_cmp e.0 y ≡ false
+    other = ap is_eq (id_total.antisymm e.0 y ∙ ap ordering_reverse (is_less (id_cmp y e.0) (first _ _ below)))

@@ -8,3 +8,5 @@ pub mod Feeding
 pub mod Steady
 pub mod Moments
 pub mod Ending
+pub mod Worlds
+pub mod Finite

@@ -1,5 +1,5 @@
 -- What a vector in use sees of documents that hold a past is committed by commit roots that are there; so copies mean the tree.
-use Rattle.std.proofs.Common.{◌≡◌, ◌⊎◌, inl, inr, Bool, true, false, ◌||◌, Some, None, Option, List, [], refl, sym, ap, ◌∙◌, subst, is_some}
+use Rattle.std.proofs.Common.{◌≡◌, inl, inr, Bool, true, false, ◌||◌, Some, None, Option, List, [], refl, sym, ap, ◌∙◌, subst, is_some}
 use Rattle.std.specs.Option.{option_map}
 use Rattle.std.specs.Ordering.{eq_by_cmp}
 use mathlib.Core.Bool.{false≢true}
@@ -14,7 +14,6 @@ use Rattle.jr_rev.specs.Vectors.{sees}
 use Rattle.jr_tree.specs.declared.edit.Write.{Write}
 use Rattle.jr_tree.specs.Trees.{node_at}
 use Rattle.oak_doc.specs.declared.document.Document.{Document}
-use Rattle.oak_doc.specs.Updates.{of_revision}
 use Rattle.oak_read.specs.Meaning.{Documents, documents_in, commit_root_of, is_committed, found_node}
 use Rattle.oak_read.specs.Wanted.{Known}
 use Rattle.oak_machine.specs.History.{Past}
@@ -25,9 +24,9 @@ use Rattle.core_read.specs.Holds.{edit_of, the_start, is_at_path, here_entry, pr
 use Rattle.core_read.specs.Told.{IsTold, IsInUse}
 use Rattle.core_read.proofs.Latest.{same_revision}
 use Rattle.core_read.proofs.Found.{writes_there, here_there, put_there, found}
-use Rattle.core_read.proofs.Steps.{commit_root_at, same_root, root_path}
+use Rattle.core_read.proofs.Steps.{commit_root_at, same_root}
 use Rattle.core_watch.specs.Copies.{IsAlike, IsCopy}
-use Rattle.core_watch.specs.Standing.{HasEntry, is_known_or_left, IsRooted}
+use Rattle.core_watch.specs.Standing.{HasEntry, IsRooted}
 use Rattle.core_watch.proofs.Alike.{found_alike, found_same, none_found}
 
 or_first : (a b : Bool) → a ≡ true → (a || b) ≡ true

@@ -1,5 +1,5 @@
 -- Which steps change nothing that a vector sees, and that a reader reads on over them.
-use Rattle.std.proofs.Common.{◌≡◌, Bool, true, false, Some, None, Option, List, [], ◌∷◌, refl, sym, ap, ◌∙◌, subst}
+use Rattle.std.proofs.Common.{◌≡◌, Bool, true, false, Some, None, Option, List, ◌∷◌, refl, sym, ap, ◌∙◌, subst}
 use Rattle.std.specs.Prelude.{is_some}
 use Rattle.std.specs.Ordering.{eq_by_cmp, is_eq}
 use Rattle.std.specs.Option.{unwrap_or}
@@ -103,26 +103,29 @@ event_steady v ds past e none = record { alike = λ p. alike_itself v (ds (id.No
 -- ---- a reader
 
 pub begins_node : (ds : Documents) (past : Past) (a : Global) (pin : Pin) (p : Path) → IsReading ds past (node_reader a pin p)
-begins_node ds past a pin p = record { copies = λ q d h. absurd (false≢true (ap is_some h)); stands = tt }
+begins_node ds past a pin p = record { copies = record { rising = refl; each = λ q d h. absurd (false≢true (ap is_some h)) }; stands = tt }
 
 pub begins_children : (ds : Documents) (past : Past) (a : Global) (pin : Pin) (p : Path) → IsReading ds past (children_reader a pin p)
-begins_children ds past a pin p = record { copies = λ q d h. absurd (false≢true (ap is_some h)); stands = record { least = refl; none = refl } }
+begins_children ds past a pin p = record { copies = record { rising = refl; each = λ q d h. absurd (false≢true (ap is_some h)) }; stands = record { least = refl; none = refl } }
 
 pub lasts : (ds now : Documents) (past later : Past) (r : Reader) → IsSteady r.pin.base ds now past later → IsReading ds past r → IsReading now later r
 lasts ds now past later r steady reading = record {
-  copies = λ p d h.
-      let c : IsCopy ds r.pin.base p d = reading.copies p d h in
-      let s : IsAlike r.pin.base (now (id.Node p)) (ds (id.Node p)) = steady.alike p in
-      record {
-        alike = record {
-          here = λ q k. c.alike.here q k ∙ sym (s.here q k);
-          prop = λ n q k. c.alike.prop n q k ∙ sym (s.prop n q k);
-          root = λ q k. c.alike.root q k ∙ sym (s.root q k);
-          said = λ q k. c.alike.said q k ∙ sym (s.said q k);
+  copies = record {
+    rising = reading.copies.rising;
+    each = λ p d h.
+        let c : IsCopy ds r.pin.base p d = reading.copies.each p d h in
+        let s : IsAlike r.pin.base (now (id.Node p)) (ds (id.Node p)) = steady.alike p in
+        record {
+          alike = record {
+            here = λ q k. c.alike.here q k ∙ sym (s.here q k);
+            prop = λ n q k. c.alike.prop n q k ∙ sym (s.prop n q k);
+            root = λ q k. c.alike.root q k ∙ sym (s.root q k);
+            said = λ q k. c.alike.said q k ∙ sym (s.said q k);
+          };
+          whole = c.whole;
+          named = c.named;
         };
-        whole = c.whole;
-        named = c.named;
-      };
+  };
   stands = subst (λ (t : Nodes). Stands t r.pin r.parent r.at r.known r.names r.step) (sym steady.tree) reading.stands;
 }
 

@@ -1,6 +1,8 @@
 -- Readers that are answered step by step, while documents and journal go on between their steps.
-use Rattle.std.specs.Prelude.{◌≡◌, ℕ, suc, List, [], ◌∷◌, length, Option}
-use Rattle.std.specs.List.{fold}
+use Rattle.std.specs.Prelude.{◌≡◌, ℕ, zero, suc, List, [], ◌∷◌, length, Option, is_some, IsTrue}
+use Rattle.std.specs.Ordering.{eq_by_cmp}
+use Rattle.std.specs.List.{fold, list_any}
+use Rattle.jr_path.specs.Ids.{id_cmp}
 use Rattle.jr_path.specs.declared.path.Path.{Path}
 use Rattle.jr_path.specs.declared.path.DocId.{DocId}
 use Rattle.jr_rev.specs.declared.vector.Pin.{Pin}
@@ -8,6 +10,7 @@ use Rattle.oak_doc.specs.declared.document.Document.{Document}
 use Rattle.oak_read.specs.Meaning.{documents_in}
 use Rattle.oak_read.specs.Reading.{IsTable, answer, due, fed}
 use Rattle.oak_read.specs.declared.reader.Reader.{Reader}
+use Rattle.oak_read.specs.declared.reader.ReadOut.{ReadOut}
 use Rattle.oak_read.specs.declared.reader.Step.{Step}
 use Rattle.oak_read.specs.declared.reader.Step.TheVariants as step
 use Rattle.oak_machine.specs.History.{Past}
@@ -53,6 +56,21 @@ abbrev pub roots_left : Step → ℕ
 roots_left (step.Roots left) = suc (length left.rest)
 roots_left _ = 0
 
+-- a reader is done
 abbrev pub IsDone : Step → Type 0
 IsDone (step.Done o) = Unit {0}
 IsDone _ = ⊥
+
+-- the first n of moments without end
+abbrev pub first_of : ℕ → (ℕ → Moment) → List Moment
+first_of zero f = []
+first_of (suc n) f = f 0 ∷ first_of n (λ i. f (suc i))
+
+-- at a moment the documents are in store order, and each has one of these ids
+pub record HasIdsAmong (ids : List DocId) (m : Moment) : Type 0 where
+  pub ordered : IsTable m.table
+  pub among : (x : DocId) → IsTrue (is_some (documents_in m.table x)) → IsTrue (list_any (eq_by_cmp id_cmp x) ids)
+
+-- after some of moments without end a reader is done, and gives one of these
+abbrev pub EndsWith : (ReadOut → Type 0) → (ℕ → Moment) → Reader → Type 0
+EndsWith P f r = (n : ℕ) × (o : ReadOut) × ((after_moments (first_of n f) r).step ≡ step.Done o) × P o

@@ -5,7 +5,8 @@ use Rattle.std.specs.declared.cmp.Ordering.{Ordering}
 use Rattle.std.specs.Ordering.{is_le, is_lt}
 use Rattle.std.specs.Map.{lookup}
 use Rattle.std.specs.BTreeMap.{is_at}
-use Rattle.std.specs.List.{filter}
+use Rattle.std.specs.FinMap.{is_sorted}
+use Rattle.std.specs.List.{filter, list_all}
 use Rattle.jr_path.specs.Ids.{id_cmp}
 use Rattle.jr_path.specs.declared.name.Name.{Name}
 use Rattle.jr_path.specs.declared.path.Path.{Path}
@@ -41,11 +42,13 @@ HasEntry whole d q = IsTrue (is_some (here_entry (Some d) q)) ⊎ ((n : Name) ×
 abbrev pub is_known_or_left : Known → Ids → DocId → Bool
 is_known_or_left known left x = is_some (documents_in known x) || is_some (lookup (is_at (id_cmp x)) left)
 
--- the node's document is known, and of its entries that v sees and t doesn't each commit root is known or left
+-- the node's document is known, and of its entries that v sees and t doesn't each commit root is known or left; what is left stands in store order, and isn't known
 pub record IsRooted (t v : RevVec) (known : Known) (left : Ids) (whole : Bool) (p : Path) : Type 0 where
   pub document : Document
   pub there : documents_in known (id.Node p) ≡ Some document
   pub roots : (q : Revision) → IsTrue (sees v q) → IsFalse (sees t q) → HasEntry whole document q → IsTrue (is_known_or_left known left (commit_root_of document q))
+  pub rising : IsTrue (is_sorted id_cmp left)
+  pub unknown : IsTrue (list_all (λ e. is_none (documents_in known e.0)) left)
 
 -- the names of the children of p, of those whose documents stand so to that of the node at q
 abbrev pub children_to : (Ordering → Bool) → Nodes → Path → Path → List Name
@@ -66,11 +69,12 @@ pub record HasBegun (p : Path) (at : Path) (names : List Name) : Type 0 where
   pub least : at ≡ p ++ codes "!" ∷ []
   pub none : names ≡ []
 
--- what a reader gives is the node of a tree at a path, or the names of the children there
+-- what a reader gives is the node of a tree at a path
 abbrev pub IsNodeOf : Nodes → Path → ReadOut → Type 0
 IsNodeOf tree p (out.Node n) = option_map (λ n. n.props) n ≡ option_map (λ n. n.props) (node_at tree p)
 IsNodeOf tree p (out.Children ns) = ⊥
 
+-- it is the names of the children of a path in a tree, in order
 abbrev pub AreChildrenOf : Nodes → Path → ReadOut → Type 0
 AreChildrenOf tree p (out.Node n) = ⊥
 AreChildrenOf tree p (out.Children ns) = ns ≡ children_of tree p
@@ -86,7 +90,12 @@ Stands tree pin parent at known names (step.Roots left) = IsRooted pin.sweep pin
 Stands tree pin None at known names (step.Done o) = IsNodeOf tree at o
 Stands tree pin (Some p) at known names (step.Done o) = AreChildrenOf tree p o
 
+-- what is known are copies of documents, in store order
+pub record AreCopies (ds : Documents) (v : RevVec) (known : Known) : Type 0 where
+  pub rising : IsTrue (is_sorted id_cmp known)
+  pub each : (p : Path) (d : Document) → documents_in known (id.Node p) ≡ Some d → IsCopy ds v p d
+
 -- a reader of a node or of children reads the tree at its base: what it knows are copies of documents, and it stands where its step says
 pub record IsReading (ds : Documents) (past : Past) (r : Reader) : Type 0 where
-  pub copies : (p : Path) (d : Document) → documents_in r.known (id.Node p) ≡ Some d → IsCopy ds r.pin.base p d
+  pub copies : AreCopies ds r.pin.base r.known
   pub stands : Stands (tree_at past r.pin.base) r.pin r.parent r.at r.known r.names r.step

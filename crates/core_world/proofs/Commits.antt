@@ -1,5 +1,5 @@
 -- The steps of a commit keep the world.
-use Rattle.std.proofs.Common.{◌≡◌, ◌⊎◌, inl, inr, ℕ, true, false, not, ◌||◌, Some, None, Option, Ok, Err, Result, List, [], ◌∷◌, ◌++◌, is_some, refl, sym, ap, subst, ◌∙◌}
+use Rattle.std.proofs.Common.{cond, ◌≡◌, ◌⊎◌, inl, inr, ℕ, true, false, not, ◌||◌, Some, None, Option, Ok, Err, Result, List, [], ◌∷◌, ◌++◌, is_some, refl, sym, ap, subst, ◌∙◌}
 use Rattle.std.specs.Prelude.{◌==◌, slice_get}
 use Rattle.std.specs.Option.{option_map_or}
 use Rattle.jr_path.specs.declared.path.Path.{Path}
@@ -38,10 +38,10 @@ use Rattle.core_clash.proofs.Updates.{last_is, mark_is}
 use Rattle.core_nodes.specs.Nodes.{is_of_node, leaves_memory, moved_pin}
 use Rattle.core_watch.specs.Copies.{IsSteady}
 use Rattle.core_world.specs.States.{State, core_in, history_in, nodes_in, with_session}
-use Rattle.core_world.specs.Steps.{after_last, after_mark, after_undoing, after_update, after_want, after_write, lasted_by, marked_by, refused}
+use Rattle.core_world.specs.Steps.{after_last, after_mark, after_undoing, after_update, after_want, after_write, after_write_in_want, lasted_by, marked_by, refused}
 use Rattle.core_world.specs.Kept.{AreAtWork, AreCommitting, IsKept}
-use Rattle.core_world.proofs.Committers.{at_idle, at_session}
-use Rattle.core_world.proofs.Flights.{draws_nothing, still_idle}
+use Rattle.core_world.proofs.Committers.{at_idle, at_session, session_twice}
+use Rattle.core_world.proofs.Flights.{draws_nothing, number_itself, still_idle}
 use Rattle.core_world.proofs.Lasting.{commit_follows, commit_steady, last_commits, may_last}
 use Rattle.core_world.proofs.Lives.{told}
 use Rattle.core_world.proofs.Logged.{IsDrawnBy, drawn_by}
@@ -203,3 +203,19 @@ module _ (starts : Starts) (says : Says) (proper : StartsProper starts) (w : Sta
         (undo_commits w.past w.table w.running kept.committing (told starts says proper w kept) s x here uncommitted undoing p rest next))
         (λ v used. subst (λ (n : ℕ). IsSteady v (documents_in w.table.documents) (documents_in now.documents) w.past (event.Went n kind.Undo ∷ w.past)) its.session
         (undo_steady w.past w.table w.running kept.committing (told starts says proper w kept) s x here uncommitted undoing p rest next v used))
+
+-- a write, and memory refused for what is met there
+module _ (starts : Starts) (says : Says) (proper : StartsProper starts) (w : State) (kept : IsKept starts says w) (s : ℕ) (x : Running) (here : w.running s ≡ Some x) (uncommitted : x.committed ≡ false) (going : x.writer.undoing ≡ false)
+    (p : Path) (rest : List Path) (unmet : x.writer.due ≡ []) (next : x.writer.left ≡ p ∷ rest) where
+  abbrev wrote : Running
+  wrote = record { draw = x.draw; writer = record x.writer { left = rest; written = x.writer.written ++ p ∷ []; due = found x.draw.base x.draw.revision p x.draw.marks (nodes_in w.table p) }; committed = x.committed }
+
+  abbrev wants : Running
+  wants = record { draw = x.draw; writer = record x.writer { left = rest; written = x.writer.written ++ p ∷ []; due = []; undoing = true; wants = true }; committed = x.committed }
+
+  pub write_in_want_keeps : IsKept starts says (after_write_in_want w s x p rest)
+  write_in_want_keeps =
+      let written = write_keeps starts says proper w kept s x here uncommitted going p rest unmet next in
+      let there : (after_write w s x p rest).running s ≡ Some wrote = ap (λ b. cond b (Some wrote) (w.running s)) (number_itself s) in
+      subst (λ (run : ℕ → Option Running). IsKept starts says (record (after_write w s x p rest) { running = run })) (session_twice w.running s (Some wrote) (Some wants))
+      (want_keeps starts says proper (after_write w s x p rest) written s wrote there uncommitted going)

@@ -1,5 +1,6 @@
 -- What each session has, after a change of one session's; and the committers after a step of one.
 use Rattle.std.proofs.Common.{◌≡◌, ℕ, Bool, true, false, cond, ◌⊎◌, inl, inr, Some, None, Option, refl, sym, ap, subst, ◌∙◌, is_some}
+use Rattle.std.proofs.Math.Path.{fun_ext}
 use Rattle.std.specs.Prelude.{◌==◌}
 use mathlib.Core.Bool.{false≢true}
 use Rattle.jr_rev.specs.declared.revision.Revision.{Revision}
@@ -45,6 +46,14 @@ at_idle_now P has s here there q = by (q == s) refl
     by : (b : Bool) → (q == s) ≡ b → cond b None (has q) ≡ None → P q
     by true t h = subst P (sym (same_number q s t)) here
     by false f h = there q f h
+
+-- of two changes of one session the second counts
+pub session_twice : {X : Type 0} (has : ℕ → Option X) (s : ℕ) (x y : Option X) → with_session (with_session has s x) s y ≡ with_session has s y
+session_twice has s x y = fun_ext (λ q. by q (q == s))
+  where
+    by : (q : ℕ) (b : Bool) → cond b y (cond b x (has q)) ≡ cond b y (has q)
+    by q true = refl
+    by q false = refl
 
 -- ---- committers
 

@@ -22,5 +22,8 @@ pub mod Loads
 pub mod Begins
 pub mod Begun
 pub mod Others
+pub mod Tabled
+pub mod Named
 pub mod Truths
-mod Rows
+pub mod Rows
+mod Chain

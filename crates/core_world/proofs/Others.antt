@@ -14,7 +14,7 @@ use Rattle.oak_machine.specs.declared.event.StepKind.{StepKind}
 use Rattle.oak_read.specs.declared.reader.Reader.{Reader}
 use Rattle.core_clash.specs.Sessions.{Running}
 use Rattle.core_world.specs.States.{State, with_session}
-use Rattle.core_world.specs.Steps.{LeavesOthers, after_draw, after_finish, after_last, after_leave, after_login, after_mark, after_refresh, after_said, after_undoing, after_want, after_went, after_write, lasted_by, marked_by, with_reader}
+use Rattle.core_world.specs.Steps.{LeavesOthers, after_draw, after_finish, after_last, after_leave, after_login, after_mark, after_refresh, after_said, after_undoing, after_want, after_went, after_write, after_write_in_want, lasted_by, marked_by, with_reader}
 
 -- the others have what they had
 pub session_other : {X : Type 0} (has : ℕ → Option X) (s : ℕ) (x : Option X) (q : ℕ) → (q == s) ≡ false → with_session has s x q ≡ has q
@@ -43,6 +43,9 @@ draw_others w s edit marks paths q h = (session_other w.running s _ q h, refl)
 
 pub write_others : (w : State) (s : ℕ) (x : Running) (p : Path) (rest : List Path) → LeavesOthers s w (after_write w s x p rest)
 write_others w s x p rest q h = (session_other w.running s _ q h, refl)
+
+pub write_in_want_others : (w : State) (s : ℕ) (x : Running) (p : Path) (rest : List Path) → LeavesOthers s w (after_write_in_want w s x p rest)
+write_in_want_others w s x p rest q h = (session_other w.running s _ q h, refl)
 
 marked_others : (w : State) (s : ℕ) (x : Running) (f : Met) (rest : List Met) (o : Result Document OpFault) → LeavesOthers s w (marked_by w s x f rest o)
 marked_others w s x f rest (Ok d) q h = (session_other w.running s _ q h, refl)

@@ -21,20 +21,20 @@ use Rattle.core_world.specs.Start.{start_state}
 use Rattle.core_world.specs.States.{State}
 use Rattle.core_world.specs.Steps.{after_draw, after_finish, after_last, after_login, after_mark, after_undoing, after_write}
 
-abbrev p : Name
+abbrev pub p : Name
 p = codes "p"
 
-abbrev edit : ℕ → Edit
+abbrev pub edit : ℕ → Edit
 edit n = record { writes = Put [] p (Single (Long (pos n))) ∷ [] }
 
-abbrev marks : List MarkAt
+abbrev pub marks : List MarkAt
 marks = record { path = []; mark = Prop p } ∷ []
 
-abbrev at : ℕ → ℕ → Revision
+abbrev pub at : ℕ → ℕ → Revision
 at t k = record { time = t; counter = 0; cluster = k }
 
 -- the next step of a session's committer
-abbrev next : State → ℕ → State
+abbrev pub next : State → ℕ → State
 next w s = option_map_or (λ x. undoes x x.writer.undoing x.writer.written x.writer.due x.writer.left x.committed) (w.running s) w
   where
     undoes : Running → Bool → List Path → List Met → List Path → Bool → State
@@ -46,17 +46,17 @@ next w s = option_map_or (λ x. undoes x x.writer.undoing x.writer.written x.wri
     undoes x false written [] [] false = after_last w s x
 
 -- both log in, on two cluster nodes, and draw; the second writes first
-abbrev begins : State
+abbrev pub begins : State
 begins = after_login (after_login (start_state 2 (1 ∷ 2 ∷ [])) 0) 1
 
-abbrev drawn : State
+abbrev pub drawn : State
 drawn = after_draw (after_draw begins 0 (edit 1) marks (marked_paths marks)) 1 (edit 2) marks (marked_paths marks)
 
-abbrev wrote : State
+abbrev pub wrote : State
 wrote = next (next drawn 1) 0
 
 -- the first has met the second, marks it, and commits
-abbrev first_done : State
+abbrev pub first_done : State
 first_done = next (next (next wrote 0) 0) 0
 
 first_commits : first_done.past
@@ -64,7 +64,7 @@ first_commits : first_done.past
 first_commits = refl
 
 -- the second finds the mark at its last write, undoes and ends
-abbrev second_done : State
+abbrev pub second_done : State
 second_done = next (next (next first_done 1) 1) 1
 
 second_refused : second_done.past

@@ -123,6 +123,14 @@ after_write w s x p rest = record w {
   running = goes_on w s x (record x.writer { left = rest; written = x.writer.written ++ p ∷ []; due = found x.draw.base x.draw.revision p x.draw.marks (nodes_in w.table p) });
 }
 
+-- the same, but memory is refused for what it meets there: it turns to undoing
+abbrev pub after_write_in_want : State → ℕ → Running → Path → List Path → State
+after_write_in_want w s x p rest = record w {
+  past = event.Went s kind.Write ∷ w.past;
+  table = after_update w.table (write_op x.draw.revision x.draw.edit.writes x.draw.marks p);
+  running = goes_on w s x (record x.writer { left = rest; written = x.writer.written ++ p ∷ []; due = []; undoing = true; wants = true });
+}
+
 -- it is refused with its item and the other revision, and turns to undoing
 abbrev pub refused : State → ℕ → Running → Item → Revision → State
 refused w s x item o = record w {

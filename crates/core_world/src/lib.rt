@@ -3,7 +3,10 @@
 
 ghost use Rattle.std.specs.Prelude.{◌≡◌, ◌⊎◌, ◌∷◌, [], ℕ, ◌≤◌, List, Option, Some, None, length, slice_get, is_some, IsTrue, IsFalse};
 ghost use Rattle.std.specs.Option.{option_map};
+ghost use Rattle.std.specs.List.{All};
 ghost use Rattle.std.specs.declared.alloc.Global.{Global};
+ghost use Rattle.jr_path.specs.Grammar.{IsName};
+ghost use Rattle.jr_path.specs.declared.path.DocId.{DocId};
 ghost use Rattle.jr_path.specs.declared.path.Path.{Path};
 ghost use Rattle.jr_path.specs.declared.text.Text.{Text};
 ghost use Rattle.jr_rev.specs.declared.revision.Revision.{Revision};
@@ -12,8 +15,10 @@ ghost use Rattle.jr_rev.specs.Vectors.{start};
 ghost use Rattle.jr_tree.specs.declared.edit.Edit.{Edit};
 ghost use Rattle.jr_tree.specs.Trees.{node_at};
 ghost use Rattle.oak_clash.specs.declared.mark.MarkAt.{MarkAt};
-ghost use Rattle.oak_commit.specs.Clashing.{Met, found};
+ghost use Rattle.oak_commit.specs.Clashing.{Met, found, mark_op};
+ghost use Rattle.oak_commit.specs.Writing.{last_op};
 ghost use Rattle.oak_doc.specs.declared.document.Document.{Document};
+ghost use Rattle.oak_doc.specs.declared.update.UpdateOp.{UpdateOp};
 ghost use Rattle.oak_machine.specs.declared.event.Event.{Event};
 ghost use Rattle.oak_machine.specs.declared.event.StepKind.{StepKind};
 ghost use Rattle.oak_machine.specs.declared.event.StepKind.TheVariants as kind;
@@ -26,17 +31,18 @@ ghost use Rattle.oak_node.specs.Pins.{pin_of};
 ghost use Rattle.oak_read.specs.declared.reader.Reader.{Reader};
 ghost use Rattle.oak_read.specs.declared.reader.ReadOut.{ReadOut};
 ghost use Rattle.oak_read.specs.declared.reader.Step.TheVariants as step;
-ghost use Rattle.oak_read.specs.Meaning.{documents_in, found_node};
+ghost use Rattle.oak_read.specs.Meaning.{documents_in, found_node, path_of};
 ghost use Rattle.oak_read.specs.Reading.{IsTable, answer, children_reader, due, fed, node_reader};
+ghost use Rattle.oak_store.specs.Tables.{Table, after_undo};
 ghost use Rattle.core_clash.specs.Core.{root_of};
 ghost use Rattle.core_clash.specs.Sessions.{Running};
 ghost use Rattle.core_clash.specs.Sound.{HasCause, IsRooted};
 ghost use Rattle.core_clash.specs.Views.{In};
 ghost use Rattle.core_watch.specs.Standing.{AreChildrenOf, IsNodeOf, path_read};
 ghost use Rattle.core_world.specs.Kept.{IsFreeOf, IsKept};
-ghost use Rattle.core_world.specs.Start.{start_state};
+ghost use Rattle.core_world.specs.Start.{start_state, start_table};
 ghost use Rattle.core_world.specs.States.{State, base_in, history_in, memory_at, memory_of, nodes_in};
-ghost use Rattle.core_world.specs.Steps.{IsThrough, LeavesOthers, after_draw, after_finish, after_last, after_leave, after_login, after_mark, after_refresh, after_said, after_undoing, after_want, after_went, after_write, with_reader};
+ghost use Rattle.core_world.specs.Steps.{IsThrough, LeavesOthers, after_draw, after_finish, after_last, after_leave, after_login, after_mark, after_refresh, after_said, after_undoing, after_update, after_want, after_went, after_write, after_write_in_want, with_reader};
 
 use oak_machine::Law;
 
@@ -56,12 +62,13 @@ pub fn sessions_keep_the_world<L: Law>(law: &L)
     ensures gone { (w : State) (s : ℕ) → IsKept (L.may_start law.now) (L.may_say law.now) w → IsKept (L.may_start law.now) (L.may_say law.now) (with_reader w s None) }
 {}
 
-/// Each step of a commit keeps the world: the draw of an edit that the law lets start; the write of the next document, and
-/// the mark of the next collision, of a committer that neither has committed nor undoes; its last write, where nothing is
+/// Each step of a commit keeps the world: the draw of an edit that the law lets start; the write of the next document, also
+/// where memory is then refused for what is met there, and the mark of the next collision, of a committer that neither has committed nor undoes; its last write, where nothing is
 /// left; its turn to undoing for want of memory; the undoing of a document; and the end of its revision.
 pub fn commits_keep_the_world<L: Law>(law: &L)
     ensures draw { (w : State) (s : ℕ) (edit : Edit) (marks : List MarkAt) (paths : List Path) → IsKept (L.may_start law.now) (L.may_say law.now) w → IsTrue (has_login w.past s) → IsFalse (has_left w.past s) → w.running s ≡ None → L.may_start law.now (history_in w) s edit marks → IsKept (L.may_start law.now) (L.may_say law.now) (after_draw w s edit marks paths) }
     ensures write { (w : State) (s : ℕ) (x : Running) (p : Path) (rest : List Path) → IsKept (L.may_start law.now) (L.may_say law.now) w → w.running s ≡ Some x → IsFalse x.committed → IsFalse x.writer.undoing → x.writer.due ≡ [] → x.writer.left ≡ p ∷ rest → IsKept (L.may_start law.now) (L.may_say law.now) (after_write w s x p rest) }
+    ensures write_in_want { (w : State) (s : ℕ) (x : Running) (p : Path) (rest : List Path) → IsKept (L.may_start law.now) (L.may_say law.now) w → w.running s ≡ Some x → IsFalse x.committed → IsFalse x.writer.undoing → x.writer.due ≡ [] → x.writer.left ≡ p ∷ rest → IsKept (L.may_start law.now) (L.may_say law.now) (after_write_in_want w s x p rest) }
     ensures mark { (w : State) (s : ℕ) (x : Running) (f : Met) (rest : List Met) → IsKept (L.may_start law.now) (L.may_say law.now) w → w.running s ≡ Some x → IsFalse x.committed → IsFalse x.writer.undoing → x.writer.due ≡ f ∷ rest → IsKept (L.may_start law.now) (L.may_say law.now) (after_mark w s x f rest) }
     ensures last { (w : State) (s : ℕ) (x : Running) → IsKept (L.may_start law.now) (L.may_say law.now) w → w.running s ≡ Some x → IsFalse x.committed → IsFalse x.writer.undoing → x.writer.due ≡ [] → x.writer.left ≡ [] → IsKept (L.may_start law.now) (L.may_say law.now) (after_last w s x) }
     ensures want { (w : State) (s : ℕ) (x : Running) → IsKept (L.may_start law.now) (L.may_say law.now) w → w.running s ≡ Some x → IsFalse x.committed → IsFalse x.writer.undoing → IsKept (L.may_start law.now) (L.may_say law.now) (after_want w s x) }
@@ -101,6 +108,16 @@ pub fn no_commits_clash_unseen<L: Law>(law: &L)
     ensures undone { (w : State) (r : Revision) (p : Path) (d : Document) → IsKept (L.may_start law.now) (L.may_say law.now) w → IsTrue (is_ended w.past r) → IsFalse (is_committed w.past r) → nodes_in w.table p ≡ Some d → IsFreeOf r d }
 {}
 
+/// The documents of the start are in store order, each under its id, with names by the grammar; an update at a path of such
+/// names leaves them so, and so does an undoing. A mark is one update, and so is a last write.
+pub fn documents_stay_in_order()
+    ensures start { (clusters sessions : ℕ) → IsTable (start_table clusters sessions).documents }
+    ensures update { (t : Table) (op : UpdateOp) → IsTable t.documents → All IsName (path_of op.id) → IsTable (after_update t op).documents }
+    ensures undo { (t : Table) (i : DocId) (r : Revision) → IsTable t.documents → IsTable (after_undo t i r).documents }
+    ensures mark { (w : State) (s : ℕ) (x : Running) (f : Met) (rest : List Met) → (after_mark w s x f rest).table ≡ after_update w.table (mark_op (root_of w.past f.other) f.other x.draw.revision f.theirs) }
+    ensures last { (w : State) (s : ℕ) (x : Running) → (after_last w s x).table ≡ after_update w.table (last_op x.draw.revision x.draw.marks) }
+{}
+
 /// The steps of a session leave the committers and the readers of the others as they are.
 pub fn sessions_leave_others()
     ensures login { (w : State) (s : ℕ) → LeavesOthers s w (after_login w s) }
@@ -111,6 +128,7 @@ pub fn sessions_leave_others()
     ensures reader { (w : State) (s : ℕ) (r : Option Reader) → LeavesOthers s w (with_reader w s r) }
     ensures draw { (w : State) (s : ℕ) (edit : Edit) (marks : List MarkAt) (paths : List Path) → LeavesOthers s w (after_draw w s edit marks paths) }
     ensures write { (w : State) (s : ℕ) (x : Running) (p : Path) (rest : List Path) → LeavesOthers s w (after_write w s x p rest) }
+    ensures write_in_want { (w : State) (s : ℕ) (x : Running) (p : Path) (rest : List Path) → LeavesOthers s w (after_write_in_want w s x p rest) }
     ensures mark { (w : State) (s : ℕ) (x : Running) (f : Met) (rest : List Met) → LeavesOthers s w (after_mark w s x f rest) }
     ensures last { (w : State) (s : ℕ) (x : Running) → LeavesOthers s w (after_last w s x) }
     ensures want { (w : State) (s : ℕ) (x : Running) → LeavesOthers s w (after_want w s x) }

@@ -1,12 +1,13 @@
 // The committing automaton.
-ghost use Rattle.std.specs.Prelude.{◌≡◌, IfOk, IsTrue, None, OnErr, OnOk, Some, false, length};
-ghost use Rattle.std.specs.Option.{option_copied};
+ghost use Rattle.std.specs.Prelude.{◌≡◌, IfOk, IsTrue, None, OnErr, OnOk, Some, false, length, slice_get};
+ghost use Rattle.std.specs.Option.{option_copied, option_map};
 ghost use Rattle.jr_path.specs.Ids.{names_of};
 ghost use Rattle.oak_commit.specs.Clashing.{mark_op};
-ghost use Rattle.oak_commit.specs.Committing.{advanced, begun, blocked, due_by, due_of, end_due, fed, fed_end, fed_going, fed_undoing, is_past, mark_due, refused, tells_written, undo_due, undo_id, wanting, without_memory};
+ghost use Rattle.oak_commit.specs.Committing.{advanced, begun, blocked, due_by, due_of, end_due, fed, fed_end, fed_going, fed_undoing, is_past, mark_due, refused, tells_written, undo_due, undo_id, wanting, without_memory, written_paths};
+ghost use Rattle.oak_commit.specs.Stages.{end_stage, stage_of, update_stage};
 ghost use Rattle.oak_doc.specs.declared.asks.Ask.TheVariants as ask;
 
-use crate::CommitEnd;
+use crate::{CommitEnd, Stage};
 use crate::met::Due;
 use crate::ops::mark_op;
 use crate::plan::Plan;
@@ -78,6 +79,57 @@ impl Committer {
         })
     }
 
+    /// Which kind of operation is due.
+    pub fn stage(&self) -> Stage
+        ensures { result ≡ stage_of self.now }
+    {
+        match &self.outcome {
+            None => self.update_stage(),
+            Some(CommitEnd::Committed(_)) => self.end_stage(),
+            Some(CommitEnd::Clash { .. } | CommitEnd::Memory) => {
+                if self.undone < self.written {
+                    Stage::Undo
+                } else {
+                    self.end_stage()
+                }
+            }
+        }
+    }
+
+    /// Its revision.
+    pub fn revision(&self) -> Revision
+        ensures { result ≡ self.now.revision }
+    {
+        self.revision
+    }
+
+    /// How many documents it writes.
+    pub fn documents(&self) -> usize
+        ensures { result ≡ length (written_paths self.now.marks) }
+    {
+        self.plan.ids().len()
+    }
+
+    /// Lends its own item of the mark that is due, if one is.
+    pub fn due_item(&self) -> Option<&Item>
+        ensures { option_copied result ≡ option_map (λ f. f.mine) (slice_get self.now.writer.due 0) }
+    {
+        match self.due.first() {
+            Some(due) => Some(&due.mine),
+            None => None,
+        }
+    }
+
+    /// The other revision of the mark that is due, if one is.
+    pub fn due_other(&self) -> Option<Revision>
+        ensures { result ≡ option_map (λ f. f.other) (slice_get self.now.writer.due 0) }
+    {
+        match self.due.first() {
+            Some(due) => Some(due.other),
+            None => None,
+        }
+    }
+
     /// The one operation that is due, or Done. Past the commit point and while it undoes, this takes no memory.
     pub fn next(&self) -> Result<Ask, AllocError>
         ensures ask { IfOk result (λ ask. ask ≡ due_of self.now) }
@@ -139,6 +191,27 @@ impl Committer {
             Some(end) => end,
             None => CommitEnd::Memory,
         }
+    }
+
+    // Which kind of update is due before the commit point, or at it.
+    fn update_stage(&self) -> Stage
+        ensures { result ≡ update_stage self.now }
+    {
+        if !self.due.is_empty() {
+            return Stage::Mark;
+        }
+        if self.written < self.plan.ids().len() {
+            Stage::Write
+        } else {
+            Stage::Last
+        }
+    }
+
+    // What is due behind all updates.
+    fn end_stage(&self) -> Stage
+        ensures { result ≡ end_stage self.now }
+    {
+        if self.ended { Stage::Done } else { Stage::Finish }
     }
 
     // The update that is due before the commit point, or the commit point.

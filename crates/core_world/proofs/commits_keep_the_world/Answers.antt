@@ -1,6 +1,6 @@
 -- Each step by its lemma.
 use Rattle.core_world.proofs.commits_keep_the_world.Goals as goal
-use Rattle.core_world.proofs.Commits.{last_keeps, mark_keeps, undo_keeps, want_keeps, write_keeps}
+use Rattle.core_world.proofs.Commits.{last_keeps, mark_keeps, undo_keeps, want_keeps, write_in_want_keeps, write_keeps}
 use Rattle.core_world.proofs.Draws.{draw_keeps, finish_keeps}
 
 pub returns-clause-draw : goal.returns-clause-draw
@@ -8,6 +8,9 @@ returns-clause-draw g c = λ w s edit marks paths kept login stays none lawful. 
 
 pub returns-clause-write : goal.returns-clause-write
 returns-clause-write g c = λ w s x p rest kept here uncommitted going unmet next. write_keeps (g.L.Law.may_start c.args.law.now) (g.L.Law.may_say c.args.law.now) (g.L.Law.proper c.args.law.now) w kept s x here uncommitted going p rest unmet next
+
+pub returns-clause-write_in_want : goal.returns-clause-write_in_want
+returns-clause-write_in_want g c = λ w s x p rest kept here uncommitted going unmet next. write_in_want_keeps (g.L.Law.may_start c.args.law.now) (g.L.Law.may_say c.args.law.now) (g.L.Law.proper c.args.law.now) w kept s x here uncommitted going p rest unmet next
 
 pub returns-clause-mark : goal.returns-clause-mark
 returns-clause-mark g c = λ w s x f rest kept here uncommitted going next. mark_keeps (g.L.Law.may_start c.args.law.now) (g.L.Law.may_say c.args.law.now) (g.L.Law.proper c.args.law.now) w kept s x here uncommitted going f rest next

@@ -1,6 +1,6 @@
 -- By the form of the steps.
 use Rattle.core_world.proofs.sessions_leave_others.Goals as goal
-use Rattle.core_world.proofs.Others.{draw_others, finish_others, last_others, leave_others, login_others, mark_others, reader_others, refresh_others, said_others, undo_others, want_others, went_others, write_others}
+use Rattle.core_world.proofs.Others.{draw_others, finish_others, last_others, leave_others, login_others, mark_others, reader_others, refresh_others, said_others, undo_others, want_others, went_others, write_in_want_others, write_others}
 
 pub returns-clause-login : goal.returns-clause-login
 returns-clause-login c = login_others
@@ -25,6 +25,9 @@ returns-clause-draw c = draw_others
 
 pub returns-clause-write : goal.returns-clause-write
 returns-clause-write c = write_others
+
+pub returns-clause-write_in_want : goal.returns-clause-write_in_want
+returns-clause-write_in_want c = write_in_want_others
 
 pub returns-clause-mark : goal.returns-clause-mark
 returns-clause-mark c = mark_others
