@@ -1,5 +1,5 @@
 // Events in their order, with places kept for more.
-ghost use Rattle.std.specs.Prelude.{◌≡◌, ◌<◌, ◌≤◌, ◌+◌, ◌-◌, ◌∷◌, ◌++◌, [], OnOk, OnErr, length};
+ghost use Rattle.std.specs.Prelude.{◌≡◌, ◌<◌, ◌≤◌, ◌+◌, ◌∷◌, ◌++◌, [], IfOk, OnOk, OnErr, length};
 
 use crate::Event;
 use jr_path::DeepCopy;
@@ -48,6 +48,13 @@ impl Events {
         self.items.len()
     }
 
+    /// How many places are kept.
+    pub fn places(&self) -> usize
+        ensures { result ≡ self.now.places }
+    {
+        self.places
+    }
+
     pub fn allocator(&self) -> Global {
         *self.items.allocator()
     }
@@ -69,7 +76,8 @@ impl Events {
     /// Keeps so many places no longer.
     pub fn give_back(&mut self, count: usize)
         requires { count ≤ self.old.places }
-        ensures { self.new ≡ record { list = self.old.list; places = self.old.places - count } }
+        ensures list { self.new.list ≡ self.old.list }
+        ensures places { self.new.places + count ≡ self.old.places }
     {
         self.places -= count;
     }
@@ -77,7 +85,8 @@ impl Events {
     /// Appends an event, which takes a kept place. It needs no memory.
     pub fn push_kept(&mut self, event: Event)
         requires { 0 < self.old.places }
-        ensures { self.new ≡ record { list = self.old.list ++ event ∷ []; places = self.old.places - 1 } }
+        ensures list { self.new.list ≡ self.old.list ++ event ∷ [] }
+        ensures places { self.new.places + 1 ≡ self.old.places }
     {
         self.items.push_reserved(event);
         self.places -= 1;
@@ -85,8 +94,9 @@ impl Events {
 
     /// Appends an event. The kept places stay.
     pub fn push(&mut self, event: Event) -> Result<(), AllocError>
-        ensures ok { OnOk result (self.new ≡ record { list = self.old.list ++ event ∷ []; places = self.old.places }) }
-        ensures err { OnErr result (self.new ≡ self.old) }
+        ensures ok { OnOk result (self.new.list ≡ self.old.list ++ event ∷ []) }
+        ensures err { OnErr result (self.new.list ≡ self.old.list) }
+        ensures places { self.new.places ≡ self.old.places }
     {
         self.keep(1)?;
         self.push_kept(event);
@@ -96,14 +106,22 @@ impl Events {
 
 impl DeepCopy for Events {
     fn copy(&self) -> Result<Events, AllocError> {
-        let mut items = Vec::new(*self.items.allocator());
-        for event in &self.items {
-            items.push(event.copy()?)?;
-        }
+        let mut items = copy_all(self.allocator(), self.as_slice())?;
         items.reserve(self.places)?;
         Ok(Events {
             items,
             places: self.places,
         })
     }
+}
+
+// Copies of events.
+fn copy_all(alloc: Global, events: &[Event]) -> Result<Vec<Event>, AllocError>
+    ensures { IfOk result (λ copies. copies.items ≡ events.now) }
+{
+    let mut copies = Vec::new(alloc);
+    for event in events {
+        copies.push(event.copy()?)?;
+    }
+    Ok(copies)
 }

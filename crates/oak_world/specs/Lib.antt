@@ -1,3 +1,4 @@
-pub mod Commits
-pub mod Kept
+pub mod Rooms
+pub mod Parts
 pub mod Worlds
+pub mod Kept
