@@ -90,6 +90,10 @@ module _ (c : Committing) where
 abbrev pub due_of : Committing → Ask
 due_of c = due_by c c.outcome
 
+abbrev pub asks_undo : Ask → Bool
+asks_undo (ask.Undo r) = true
+asks_undo _ = false
+
 -- the id of the first document that is written and not undone
 abbrev pub undo_id : Committing → Option DocId
 undo_id c = option_map id.Node (slice_get c.writer.written 0)

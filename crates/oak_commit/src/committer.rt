@@ -3,7 +3,7 @@ ghost use Rattle.std.specs.Prelude.{◌≡◌, IfOk, IsTrue, None, OnErr, OnOk, 
 ghost use Rattle.std.specs.Option.{option_copied, option_map};
 ghost use Rattle.jr_path.specs.Ids.{names_of};
 ghost use Rattle.oak_commit.specs.Clashing.{mark_op};
-ghost use Rattle.oak_commit.specs.Committing.{advanced, begun, blocked, due_by, due_of, end_due, fed, fed_end, fed_going, fed_undoing, is_past, mark_due, refused, tells_written, undo_due, undo_id, wanting, without_memory, written_paths};
+ghost use Rattle.oak_commit.specs.Committing.{advanced, asks_undo, begun, blocked, due_by, due_of, end_due, fed, fed_end, fed_going, fed_undoing, is_past, mark_due, refused, tells_written, undo_due, undo_id, wanting, without_memory, written_paths};
 ghost use Rattle.oak_commit.specs.Stages.{end_stage, stage_of, update_stage};
 ghost use Rattle.oak_doc.specs.declared.asks.Ask.TheVariants as ask;
 
@@ -144,7 +144,7 @@ impl Committer {
 
     /// Lends the id of the document to undo.
     pub fn undo_id(&self) -> &DocId
-        requires { due_of self.now ≡ ask.Undo self.now.revision }
+        requires { IsTrue (asks_undo (due_of self.now)) }
         ensures { undo_id self.now ≡ Some result.now }
     {
         &self.plan.ids()[self.undone]

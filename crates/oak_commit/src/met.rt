@@ -206,11 +206,18 @@ fn first_met<'a>(mine: &'a [Mark], others: &[Mark]) -> Option<&'a Mark>
     let mut first = None;
     for at in (0..mine.len()).rev() {
         let mark = &mine[at];
-        if others.iter().any(|other| clashes(mark, other)) {
+        if clashes_with(mark, others) {
             first = Some(earlier_of(mark, first));
         }
     }
     first
+}
+
+// Whether a mark clashes with one of the others.
+fn clashes_with(mark: &Mark, others: &[Mark]) -> bool
+    ensures { result ≡ list_any (clash mark.now) others.now }
+{
+    others.iter().any(|other| clashes(mark, other))
 }
 
 // The earlier of a mark and another, if there is one.

@@ -2,3 +2,4 @@ pub mod Rooms
 pub mod Parts
 pub mod Worlds
 pub mod Kept
+pub mod Ports

@@ -3,5 +3,5 @@ use Rattle.oak_commit.specs.Places.{Finds}
 use Rattle.oak_commit.proofs.places.places_of_marks.Given as goal
 
 -- those so far are found
-abbrev pub invariant-loop-mark : goal.invariant-loop-mark
-invariant-loop-mark l = Finds (λ m. m.path) l.marks (take l.at l.marks) l.places
+abbrev pub invariant-loop-at : goal.invariant-loop-at
+invariant-loop-at l = Finds (λ m. m.path) l.marks (take l.at l.marks) l.places

@@ -3,5 +3,5 @@ use Rattle.oak_commit.specs.Places.{Finds, path_of_write}
 use Rattle.oak_commit.proofs.places.places_of_writes.Given as goal
 
 -- those so far are found
-abbrev pub invariant-loop-write : goal.invariant-loop-write
-invariant-loop-write l = Finds path_of_write l.writes (take l.at l.writes) l.places
+abbrev pub invariant-loop-at : goal.invariant-loop-at
+invariant-loop-at l = Finds path_of_write l.writes (take l.at l.writes) l.places
