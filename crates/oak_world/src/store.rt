@@ -1,8 +1,8 @@
 // Updates of the documents, which keep them in store order.
 ghost use Rattle.std.specs.Prelude.{◌≡◌};
 ghost use Rattle.oak_read.specs.Reading.{IsTable};
-ghost use Rattle.oak_store.specs.Tables.{after_undo};
-ghost use Rattle.oak_world.specs.Parts.{HasNames, IsMade};
+ghost use Rattle.oak_store.specs.Tables.{Updates, after_undo};
+ghost use Rattle.oak_world.specs.Parts.{HasNames};
 
 use jr_path::DocId;
 use jr_rev::Revision;
@@ -12,7 +12,7 @@ use oak_store::DocTable;
 // One update of one document. Answers the document before; a refusal changes nothing.
 pub(crate) fn update(table: &mut DocTable, op: &UpdateOp) -> Result<Option<Document>, OpFault>
     requires { IsTable table.old.documents }
-    ensures made { IsMade table.old table.new op.now result }
+    ensures made { Updates table.old table.new op.now result }
     ensures order { IsTable table.new.documents }
 {
     in_grammar(&op.id);
