@@ -137,13 +137,13 @@ pub record IsMarkMade (s : ℕ) (t u : Table) (es fs : List Event) (c d : Commit
 
 pub record IsMarkRefused (t u : Table) (es fs : List Event) (c d : Committing) : Type 0 where
   pub cause : Cond
-  pub kept : Kept
-  pub result : result_of t (op_due c) ≡ Err (fault.Unmet cause kept)
+  pub thing : Kept
+  pub result : result_of t (op_due c) ≡ Err (fault.Unmet cause thing)
   pub table : u ≡ t
   pub refusal : Event
   pub told : refusal_at c refusal
   pub list : fs ≡ es ++ refusal ∷ []
-  pub committer : d ≡ fed c (reply.Unmet cause kept)
+  pub committer : d ≡ fed c (reply.Unmet cause thing)
 
 abbrev pub IsMarked : ℕ → Table → Table → List Event → List Event → Committing → Committing → Type 0
 IsMarked s t u es fs c d = IsMarkMade s t u es fs c d ⊎ IsMarkRefused t u es fs c d
@@ -182,8 +182,8 @@ pub record IsUndone (s : ℕ) (t u : Table) (es fs : List Event) (c d : Committi
   pub committer : d ≡ fed c reply.Undone
 
 -- the parts after the end of r, of cluster node k
-abbrev pub ended : ℕ → Parts → Revision → Parts
-ended k p r = parts p.table (finished p.memory r) (p.list ++ end_events k p.memory r)
+abbrev pub parts_ended : ℕ → Parts → Revision → Parts
+parts_ended k p r = parts p.table (finished p.memory r) (p.list ++ end_events k p.memory r)
 
 -- the update of this kind that is due is made, or answered
 abbrev pub Updates : ℕ → Table → List Event → Committing → Table → List Event → Committing → StepKind → Type 0
@@ -212,13 +212,13 @@ EndsSo c v _ = ⊥
 module _ (s k : ℕ) (p : Parts) (c : Committing) (q : Parts) (v : Work) where
   -- the update that is due is made, or answered
   abbrev pub GoesOn : StepOut → Type 0
-  GoesOn (answers.Went k) = (q.memory ≡ p.memory) × (d : Committing) × (v ≡ work.Commit d) × Updates s p.table p.list c q.table q.list d k
+  GoesOn (answers.Went x) = (q.memory ≡ p.memory) × (d : Committing) × (v ≡ work.Commit d) × Updates s p.table p.list c q.table q.list d x
   GoesOn _ = ⊥
 
   -- a document is undone, or the revision ends
   abbrev pub Ends : StepOut → Type 0
   Ends (answers.Went kind.Undo) = (stage_of c ≡ stage.Undo) × (q.memory ≡ p.memory) × (d : Committing) × (v ≡ work.Commit d) × IsUndone s p.table q.table p.list q.list c d
-  Ends o = (stage_of c ≡ stage.Finish) × (q ≡ ended k p c.revision) × EndsSo c v o
+  Ends o = (stage_of c ≡ stage.Finish) × (q ≡ parts_ended k p c.revision) × EndsSo c v o
 
 -- a step of a commit; where memory is refused for its update it turns to undoing, and takes the first step of that
 abbrev pub CommitsOn : ℕ → ℕ → Parts → Committing → Parts → Work → StepOut → Type 0

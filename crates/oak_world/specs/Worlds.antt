@@ -1,6 +1,6 @@
 -- What contracts see of a world, and what its calls make of it.
 use Rattle.std.specs.Prelude.{◌≡◌, ◌≢◌, ◌⊎◌, ◌<◌, ◌≤◌, ◌+◌, ◌-◌, ◌^◌, ℕ, Bool, min, List, [], ◌∷◌, ◌++◌, length, map, reverse, slice_get, slice_set, Option, Some, None, is_some, IsTrue, IsFalse}
-use Rattle.std.specs.Option.{IsSomeAnd, option_map, unwrap_or}
+use Rattle.std.specs.Option.{IsSomeAnd, unwrap_or}
 use Rattle.std.specs.List.{range_with_len}
 use Rattle.std.specs.declared.alloc.Global.{Global}
 use Rattle.jr_path.specs.declared.path.Path.{Path}
@@ -24,7 +24,8 @@ use Rattle.oak_machine.specs.declared.event.Event.{Event}
 use Rattle.oak_machine.specs.declared.event.Event.TheVariants as event
 use Rattle.oak_machine.specs.declared.event.StepKind.{StepKind}
 use Rattle.oak_machine.specs.declared.event.StepKind.TheVariants as kind
-use Rattle.oak_machine.specs.History.{History}
+use Rattle.oak_machine.specs.declared.event.Journal.{Journal}
+use Rattle.oak_machine.specs.History.{History, history_of}
 use Rattle.oak_machine.specs.Laws.{Says, Starts}
 use Rattle.oak_machine.specs.Sessions.{has_left, has_login, next_index}
 use Rattle.oak_node.specs.Heads.{AwaitsEarlier, next_draw}
@@ -33,7 +34,7 @@ use Rattle.oak_node.specs.Pins.{pin_now, pin_of}
 use Rattle.oak_read.specs.declared.reader.Reader.{Reader}
 use Rattle.oak_read.specs.Reading.{children_reader, due, node_reader}
 use Rattle.oak_doc.specs.declared.asks.Ask.TheVariants as ask
-use Rattle.oak_store.specs.Tables.{Table, found}
+use Rattle.oak_store.specs.Tables.{Table}
 use Rattle.core_clash.specs.Sessions.{Running}
 use Rattle.core_world.specs.Start.{start_table}
 use Rattle.core_world.specs.States.{State, base_in, memory_at, memory_of, with_memory}
@@ -46,7 +47,7 @@ use Rattle.oak_world.specs.declared.task.StepOut.TheVariants as answers
 use Rattle.oak_world.specs.declared.task.Task.{Task}
 use Rattle.oak_world.specs.declared.task.Task.TheVariants as task
 use Rattle.oak_world.specs.declared.task.TaskEnd.TheVariants as ends
-use Rattle.oak_world.specs.Parts.{EndsSo, Parts, Steps, Updates, end_of_reading, parts, read_on}
+use Rattle.oak_world.specs.Parts.{EndsSo, Parts, Steps, end_of_reading, parts, read_on}
 
 -- ---- a world
 
@@ -67,6 +68,10 @@ pub record WorldOf (L : Type 0) : Type 0 where
   pub table : Table
   pub memories : List NodeState
   pub actors : List ActorState
+
+-- what is seen of a world's fields
+abbrev pub shown_world : {L : Type 0} → L → Journal → Table → List NodeState → List Actor → WorldOf L
+shown_world law j t ms actors = record { law = law; history = history_of j; table = t; memories = ms; actors = map shown_actor actors }
 
 -- a session that does nothing
 abbrev pub idle : ActorState
@@ -264,6 +269,15 @@ pub record MaySay (says : Says) (h : History) (reply : Option ℕ) (s i : ℕ) (
   pub next : i ≡ next_index h.past s
   pub lawful : says h s i text
   pub room : IsSomeAnd reply (λ bytes. length text ≤ bytes)
+
+-- one that is named in a schedule takes a step, where it is a session with a task; else nothing is changed
+abbrev pub Turns : {L : Type 0} → WorldOf L → ℕ → WorldOf L → Type 0
+Turns w s v = ((o : StepOut) × StepsIn w s v o) ⊎ ((v ≡ w) × ((slice_get w.history.sessions s ≡ None) ⊎ (kind_due (work_in w.actors s) ≡ None)))
+
+-- those that are named take their turns, one after another
+abbrev pub Plays : {L : Type 0} → WorldOf L → List ℕ → WorldOf L → Type 0
+Plays w [] u = u ≡ w
+Plays {L} w (s ∷ ss) u = (v : WorldOf L) × Turns w s v × Plays v ss u
 
 -- the history with an event more
 abbrev pub with_event : History → Event → History

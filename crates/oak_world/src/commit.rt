@@ -1,16 +1,13 @@
 // The steps of a commit.
-ghost use Rattle.std.specs.Prelude.{◌≡◌, ◌≢◌, ◌<◌, ◌≤◌, ◌+◌, ◌*◌, ◌-◌, ◌^◌, ◌∷◌, ◌++◌, [], IfOk, OnErr, OnOk, IsTrue, None, length};
+ghost use Rattle.std.specs.Prelude.{◌≡◌, ◌<◌, ◌≤◌, ◌+◌, ◌*◌, ◌-◌, ◌^◌, ◌∷◌, ◌++◌, [], IfOk, OnErr, OnOk, length};
 ghost use Rattle.oak_clash.specs.Clashes.{marked_paths};
-ghost use Rattle.oak_commit.specs.Committing.{begun, fed, written_paths};
+ghost use Rattle.oak_commit.specs.Committing.{begun, written_paths};
 ghost use Rattle.oak_commit.specs.Stages.{stage_of};
 ghost use Rattle.oak_commit.specs.declared.stage.Stage.TheVariants as stage;
-ghost use Rattle.oak_doc.specs.declared.asks.Reply.TheVariants as reply;
 ghost use Rattle.oak_machine.specs.declared.event.Event.TheVariants as event;
-ghost use Rattle.oak_machine.specs.declared.event.StepKind.TheVariants as kind;
 ghost use Rattle.oak_node.specs.Heads.{IsInFlight, finished, known_time, next_draw, with_draw};
 ghost use Rattle.oak_node.specs.Notes.{with_notes};
 ghost use Rattle.oak_read.specs.Reading.{IsTable};
-ghost use Rattle.oak_store.specs.Tables.{after_undo};
 ghost use Rattle.oak_world.specs.Parts.{IsLast, IsMarked, IsUndone, IsWritten, base_at, end_events, refusal_at};
 
 use crate::session::base_of;
@@ -86,7 +83,7 @@ pub(crate) fn mark(
     ensures places { events.new.places ≡ events.old.places }
     ensures order { IsTable table.new.documents }
 {
-    let refusal = refusal(committer)?;
+    let refused = refusal(committer)?;
     let Ask::Update(op) = committer.next()? else {
         return Err(AllocError);
     };
@@ -98,7 +95,7 @@ pub(crate) fn mark(
             Ok(())
         }
         Err(OpFault::Unmet(cond, kept)) => {
-            events.push_kept(refusal);
+            events.push_kept(refused);
             let _ = committer.feed(Reply::Unmet(cond, kept));
             Ok(())
         }

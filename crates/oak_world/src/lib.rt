@@ -5,6 +5,7 @@
 mod actor;
 mod commit;
 mod load;
+mod port;
 mod session;
 mod start;
 mod step;
@@ -12,5 +13,6 @@ mod store;
 mod task;
 mod world;
 
+pub use port::{Port, SoloPort};
 pub use task::{StepOut, Task, TaskEnd};
 pub use world::World;

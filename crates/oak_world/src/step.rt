@@ -3,7 +3,7 @@ ghost use Rattle.std.specs.Prelude.{◌≡◌, ◌≢◌, ◌≤◌, ◌+◌, Ma
 ghost use Rattle.oak_read.specs.Reading.{IsTable};
 ghost use Rattle.oak_world.specs.Kept.{IsPlaced};
 ghost use Rattle.oak_world.specs.Worlds.{reads_after, reads_of_load};
-ghost use Rattle.oak_world.specs.Parts.{CanCommit, CanMove, CanStep, CommitsOn, EndsSo, Ends, IsOver, IsTurned, Moves, Steps, Updates, needed, needed_by, parts};
+ghost use Rattle.oak_world.specs.Parts.{CanCommit, CanMove, CanStep, CommitsOn, Ends, EndsSo, IsOver, IsTurned, Moves, Steps, Updates, needed, needed_by, parts};
 
 use crate::actor::{Actor, Work};
 use crate::commit;

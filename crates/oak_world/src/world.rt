@@ -15,7 +15,7 @@ ghost use Rattle.core_world.specs.Kept.{IsKept};
 ghost use Rattle.core_world.specs.States.{memory_of};
 ghost use Rattle.oak_world.specs.declared.actor.Work.{Work};
 ghost use Rattle.oak_world.specs.declared.actor.Work.TheVariants as work;
-ghost use Rattle.oak_world.specs.Worlds.{Begins, IsIdle, Makes, MayBegin, MaySay, StepsIn, actor_in, kind_due, said_in, start_world, state_of, with_reply, with_work, work_in};
+ghost use Rattle.oak_world.specs.Worlds.{Begins, IsIdle, Makes, MayBegin, MaySay, Plays, StepsIn, actor_in, kind_due, said_in, start_world, state_of, with_reply, with_work, work_in};
 
 use crate::actor::{Actor, Room, Work};
 use crate::start::start_documents;
@@ -43,16 +43,14 @@ pub struct World<L: Law> {
 }
 
 impl<L: Law> Model for World<L> {
-    ghost use Rattle.std.specs.Prelude.{map};
-    ghost use Rattle.oak_machine.specs.History.{history_of};
-    ghost use Rattle.oak_world.specs.Worlds.{WorldOf, shown_actor};
+    ghost use Rattle.oak_world.specs.Worlds.{WorldOf, shown_world};
     ghost use Rattle.oak_world.specs.Kept.{ArePlaced, IsWorld};
 
     ghost Value = { WorldOf L };
 
-    ghost view = { λ w. record { law = w.law; history = history_of w.journal; table = w.table; memories = w.memories.items; actors = map shown_actor w.actors.items } };
+    ghost view = { λ w. shown_world w.law w.journal w.table w.memories.items w.actors.items };
 
-    ghost invariant = { λ w. IsWorld (L.may_start w.law) (L.may_say w.law) (record { law = w.law; history = history_of w.journal; table = w.table; memories = w.memories.items; actors = map shown_actor w.actors.items }) × ArePlaced w.actors.items w.journal.events.places };
+    ghost invariant = { λ w. IsWorld (L.may_start w.law) (L.may_say w.law) (shown_world w.law w.journal w.table w.memories.items w.actors.items) × ArePlaced w.actors.items w.journal.events.places };
 }
 
 impl<L: Law + Drop> World<L> {
@@ -200,7 +198,9 @@ impl<L: Law + Drop> World<L> {
     }
 
     /// Steps each session that is named and has a task, one after another.
-    pub fn play(&mut self, schedule: &[u32]) {
+    pub fn play(&mut self, schedule: &[u32])
+        ensures { Plays self.old schedule.now self.new }
+    {
         for actor in schedule {
             if (*actor as usize) < self.actors.len() && self.due(*actor).is_some() {
                 self.step(*actor);
