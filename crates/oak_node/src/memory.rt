@@ -80,10 +80,11 @@ impl NodeMem {
         requires { known_time self.now < 2 ^ 64 - 1 }
         ensures { result ≡ next_draw self.now }
     {
+        let cluster = self.cluster;
         Revision {
             time: greatest_time(&self.head).max(self.last_time) + 1,
             counter: 0,
-            cluster: self.cluster,
+            cluster,
         }
     }
 
