@@ -30,7 +30,7 @@ use Rattle.core_clash.specs.Core.{Docs, MayLast, root_of}
 use Rattle.core_clash.specs.Sessions.{IsTheirs, Running}
 use Rattle.core_clash.specs.Sound.{Sound}
 use Rattle.core_clash.specs.Views.{In, mark_at}
-use Rattle.core_clash.proofs.Basics.{in_is, is_same_self}
+use Rattle.core_clash.proofs.Basics.{is_same_self}
 use Rattle.core_clash.proofs.Committed.{commit_keeps}
 use Rattle.core_clash.proofs.Steps.{may_commit}
 use Rattle.core_clash.proofs.Updates.{notes}
@@ -41,6 +41,7 @@ use Rattle.core_world.specs.Steps.{paths_to_write}
 use Rattle.core_world.specs.Kept.{AreCommitting}
 use Rattle.core_world.proofs.Committers.{at_session, of_others}
 use Rattle.core_world.proofs.Ids.{IsWrittenIn, written_at}
+use Rattle.core_world.proofs.Paths.{in_is}
 use Rattle.core_world.proofs.Progress.{among_in, is_among}
 use Rattle.core_world.proofs.Tables.{put_node, put_write}
 use Rattle.core_world.proofs.Working.{goes, mine, world_of}

@@ -9,12 +9,17 @@ use Rattle.jr_path.specs.declared.path.DocId.TheVariants as id
 use Rattle.oak_clash.specs.declared.mark.Mark.{Mark}
 use Rattle.oak_clash.specs.declared.mark.MarkAt.{MarkAt}
 use Rattle.core_clash.specs.Views.{In, Once, mark_at}
-use Rattle.core_clash.proofs.Basics.{in_is, is_in}
+use Rattle.core_clash.proofs.Basics.{is_in}
 use Rattle.core_read.specs.Commits.{Each}
 use Rattle.core_read.specs.Told.{IsIn}
 use Rattle.core_world.specs.Steps.{paths_to_write}
 use Rattle.core_world.proofs.Ids.{AreDistinct, IsMarked, ids_all, ids_distinct, ids_marked}
 use Rattle.core_world.proofs.Tables.{id_itself}
+
+pub in_is : {X : Type 0} (x : X) (xs : List X) → IsIn x xs → In x xs
+in_is x [] h = h
+in_is x (y ∷ ys) (inl e) = inl (sym e)
+in_is x (y ∷ ys) (inr h) = inr (in_is x ys h)
 
 -- some mark is at p
 pub record HasMark (marks : List MarkAt) (p : Path) : Type 0 where
