@@ -1,1 +1,6 @@
 pub mod Writing
+pub mod Clashing
+pub mod Meeting
+pub mod Places
+pub mod Committing
+pub mod Kept

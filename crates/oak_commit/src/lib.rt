@@ -2,6 +2,13 @@
 //! DocumentNodeStore: commit).
 #![tactic(auto)]
 
+mod committer;
+mod met;
 mod ops;
+mod outcome;
+mod places;
+mod plan;
 
+pub use committer::Committer;
 pub use ops::{last_op, write_of, write_op, written_ids};
+pub use outcome::CommitEnd;
