@@ -1,9 +1,9 @@
 // The committing automaton.
-ghost use Rattle.std.specs.Prelude.{◌≡◌, IfOk, IsTrue, None, OnErr, OnOk, Some, false, length};
+ghost use Rattle.std.specs.Prelude.{◌≡◌, [], IfOk, IsTrue, None, OnErr, OnOk, Some, false, length};
 ghost use Rattle.std.specs.Option.{option_copied};
 ghost use Rattle.jr_path.specs.Ids.{names_of};
 ghost use Rattle.oak_commit.specs.Clashing.{mark_op};
-ghost use Rattle.oak_commit.specs.Committing.{advanced, asks_undo, begun, blocked, due_by, due_of, end_due, fed, fed_end, fed_going, fed_undoing, is_past, mark_due, refused, tells_written, undo_due, undo_id, wanting, without_memory};
+ghost use Rattle.oak_commit.specs.Committing.{advanced, asks_undo, begun, blocked, due_by, due_of, end_due, ended_by, fed, fed_end, fed_going, fed_undoing, is_past, mark_due, refused, tells_written, undo_due, undo_id, wanting, with_undone, without_memory, written_by};
 ghost use Rattle.oak_doc.specs.declared.asks.Ask.TheVariants as ask;
 
 use crate::CommitEnd;
@@ -208,6 +208,17 @@ impl Committer {
             self.due.remove(0);
             return Ok(());
         }
+        self.go_on(before)
+    }
+
+    // A document is written, or the last write is made.
+    fn go_on(&mut self, before: Option<Document>) -> Result<(), AllocError>
+        requires going { self.old.outcome ≡ None }
+        requires marked { self.old.writer.due ≡ [] }
+        ensures ok { OnOk result (self.new ≡ written_by self.old self.old.writer.left before) }
+        ensures err { OnErr result (self.new ≡ wanting (written_by self.old self.old.writer.left before)) }
+        ensures only { OnErr result (IsTrue (tells_written self.old (Reply.Updated before))) }
+    {
         let Some(id) = self.plan.ids().get(self.written) else {
             self.outcome = Some(CommitEnd::Committed(self.revision));
             return Ok(());
@@ -263,14 +274,30 @@ impl Committer {
 
     // A reply while it undoes.
     fn feed_undoing(&mut self, reply: Reply)
-        ensures { self.new ≡ fed_undoing self.old self.old.writer.written reply }
+        ensures { self.new ≡ fed_undoing self.old reply }
+    {
+        match reply {
+            Reply::Undone => self.count_undone(),
+            Reply::Finished => self.end_undone(),
+            _ => {}
+        }
+    }
+
+    // One more document is undone.
+    fn count_undone(&mut self)
+        ensures { self.new ≡ with_undone self.old }
+    {
+        if self.undone < self.written {
+            self.undone += 1;
+        }
+    }
+
+    // It is ended, where all is undone.
+    fn end_undone(&mut self)
+        ensures { self.new ≡ ended_by self.old self.old.writer.written }
     {
         if self.undone == self.written {
-            self.feed_end(reply);
-            return;
-        }
-        if let Reply::Undone = reply {
-            self.undone += 1;
+            self.ended = true;
         }
     }
 
