@@ -3,4 +3,5 @@ pub mod Clashing
 pub mod Meeting
 pub mod Places
 pub mod Committing
+pub mod Stages
 pub mod Kept

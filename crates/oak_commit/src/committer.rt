@@ -1,15 +1,16 @@
 // The committing automaton.
-ghost use Rattle.std.specs.Prelude.{◌≡◌, [], IfOk, IsTrue, None, OnErr, OnOk, Some, false, length};
-ghost use Rattle.std.specs.Option.{option_copied};
+ghost use Rattle.std.specs.Prelude.{◌≡◌, [], IfOk, IsTrue, None, OnErr, OnOk, Some, false, length, slice_get};
+ghost use Rattle.std.specs.Option.{option_copied, option_map};
 ghost use Rattle.jr_path.specs.Ids.{names_of};
 ghost use Rattle.oak_commit.specs.Clashing.{mark_op};
-ghost use Rattle.oak_commit.specs.Committing.{advanced, asks_undo, begun, blocked, due_by, due_of, end_due, ended_by, fed, fed_end, fed_going, fed_undoing, is_past, mark_due, refused, tells_written, undo_due, undo_id, wanting, with_undone, without_memory, written_by};
+ghost use Rattle.oak_commit.specs.Committing.{advanced, asks_undo, begun, blocked, due_by, due_of, end_due, ended_by, fed, fed_end, fed_going, fed_undoing, is_past, mark_due, refused, tells_written, undo_due, undo_id, wanting, with_undone, without_memory, written_by, written_paths};
+ghost use Rattle.oak_commit.specs.Stages.{end_stage, stage_of, undo_stage, update_stage};
 ghost use Rattle.oak_doc.specs.declared.asks.Ask.TheVariants as ask;
 
-use crate::CommitEnd;
 use crate::met::Due;
 use crate::ops::mark_op;
 use crate::plan::Plan;
+use crate::{CommitEnd, Stage};
 use jr_path::{DocId, Item, List};
 use jr_rev::{RevVec, Revision};
 use jr_tree::Edit;
@@ -78,6 +79,51 @@ impl Committer {
         })
     }
 
+    /// Which kind of operation is due.
+    pub fn stage(&self) -> Stage
+        ensures { result ≡ stage_of self.now }
+    {
+        match &self.outcome {
+            None => self.update_stage(),
+            Some(CommitEnd::Committed(_)) => self.end_stage(),
+            Some(CommitEnd::Clash { .. } | CommitEnd::Memory) => self.undo_stage(),
+        }
+    }
+
+    /// Its revision.
+    pub fn revision(&self) -> Revision
+        ensures { result ≡ self.now.revision }
+    {
+        self.revision
+    }
+
+    /// How many documents it writes.
+    pub fn documents(&self) -> usize
+        ensures { result ≡ length (written_paths self.now.marks) }
+    {
+        self.plan.ids().len()
+    }
+
+    /// Lends its own item of the mark that is due, if one is.
+    pub fn due_item(&self) -> Option<&Item>
+        ensures { option_copied result ≡ option_map (λ f. f.mine) (slice_get self.now.writer.due 0) }
+    {
+        match self.due.first() {
+            Some(due) => Some(&due.mine),
+            None => None,
+        }
+    }
+
+    /// The other revision of the mark that is due, if one is.
+    pub fn due_other(&self) -> Option<Revision>
+        ensures { result ≡ option_map (λ f. f.other) (slice_get self.now.writer.due 0) }
+    {
+        match self.due.first() {
+            Some(due) => Some(due.other),
+            None => None,
+        }
+    }
+
     /// The one operation that is due, or Done. Past the commit point and while it undoes, this takes no memory.
     pub fn next(&self) -> Result<Ask, AllocError>
         ensures ask { IfOk result (λ ask. ask ≡ due_of self.now) }
@@ -138,6 +184,37 @@ impl Committer {
         match outcome {
             Some(end) => end,
             None => CommitEnd::Memory,
+        }
+    }
+
+    // Which kind of update is due before the commit point, or at it.
+    fn update_stage(&self) -> Stage
+        ensures { result ≡ update_stage self.now }
+    {
+        if !self.due.is_empty() {
+            return Stage::Mark;
+        }
+        match self.plan.ids().get(self.written) {
+            Some(_) => Stage::Write,
+            None => Stage::Last,
+        }
+    }
+
+    // Which kind is due behind all updates.
+    fn end_stage(&self) -> Stage
+        ensures { result ≡ end_stage self.now }
+    {
+        if self.ended { Stage::Done } else { Stage::Finish }
+    }
+
+    // Which kind is due while it undoes.
+    fn undo_stage(&self) -> Stage
+        ensures { result ≡ undo_stage self.now }
+    {
+        if self.undone < self.written {
+            Stage::Undo
+        } else {
+            self.end_stage()
         }
     }
 
