@@ -14,7 +14,8 @@ use Rattle.oak_world.specs.declared.actor.Actor.{Actor}
 use Rattle.oak_world.specs.declared.actor.Work.{Work}
 use Rattle.oak_world.specs.declared.actor.Work.TheVariants as work
 use Rattle.oak_world.specs.Parts.{needed}
-use Rattle.oak_world.specs.Worlds.{ActorState, HasCome, WorldOf, state_of, work_in}
+use Rattle.oak_world.specs.Worlds.{WorldOf, state_of, work_in}
+use Rattle.oak_world.specs.Steps.{HasCome}
 
 -- the session has come, and the commit hasn't ended; it goes to the commit roots of those that it is to mark
 pub record IsAtWork (h : History) (s : ℕ) (c : Committing) : Type 0 where

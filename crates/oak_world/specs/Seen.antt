@@ -1,0 +1,43 @@
+-- What a session is shown of a world through its port.
+use Rattle.std.specs.Prelude.{ℕ, Option, None, Some}
+use Rattle.jr_path.specs.declared.path.Path.{Path}
+use Rattle.oak_commit.specs.Committing.{Committing}
+use Rattle.oak_commit.specs.declared.outcome.CommitEnd.{CommitEnd}
+use Rattle.oak_commit.specs.declared.outcome.CommitEnd.TheVariants as end
+use Rattle.oak_read.specs.declared.reader.Reader.{Reader}
+use Rattle.core_watch.specs.Standing.{path_read}
+use Rattle.oak_port.specs.declared.task.Task.{Task}
+use Rattle.oak_port.specs.declared.task.Task.TheVariants as task
+use Rattle.oak_port.specs.Ports.{Awaiting, Deciding, Idle, Shown, Starting, Undoing, Work as Shows, Writing}
+use Rattle.oak_world.specs.declared.actor.Work.{Work}
+use Rattle.oak_world.specs.declared.actor.Work.TheVariants as work
+use Rattle.oak_world.specs.Worlds.{ActorState, WorldOf, actor_in}
+
+-- the task of a reader: a list where it has a parent, and else a load
+abbrev pub task_of : Option Path → Path → Task
+task_of None p = task.Load p
+task_of (Some q) p = task.List p
+
+-- a commit that has drawn its revision, by how it ends
+abbrev pub shown_commit : Committing → Shows
+shown_commit c = by c.outcome
+  where
+    by : Option CommitEnd → Shows
+    by None = Writing c.revision
+    by (Some (end.Committed r)) = Deciding c.revision
+    by (Some e) = Undoing c.revision e
+
+-- what is shown of what a session does
+abbrev pub shown_work : Work → Shows
+shown_work work.Rest = Idle
+shown_work work.Login = Starting task.Login
+shown_work work.End = Starting task.End
+shown_work work.Refresh = Starting task.Refresh
+shown_work (work.Read r) = Starting (task_of r.parent (path_read r))
+shown_work (work.Plan edit marks) = Starting (task.Commit edit marks)
+shown_work (work.Commit c) = shown_commit c
+shown_work (work.Move r) = Awaiting r
+
+-- what session s is shown of a world
+abbrev pub shown_to : {L : Type 0} → WorldOf L → ℕ → Shown
+shown_to w s = record { history = w.history; session = s; work = shown_work (actor_in w.actors s).work; room = (actor_in w.actors s).reply }
