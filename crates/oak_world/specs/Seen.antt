@@ -1,5 +1,6 @@
 -- What a session is shown of a world through its port.
-use Rattle.std.specs.Prelude.{ℕ, Option, None, Some}
+use Rattle.std.specs.Prelude.{ℕ, Option, None, Some, map, slice_set}
+use Rattle.std.specs.Borrow.{GName}
 use Rattle.jr_path.specs.declared.path.Path.{Path}
 use Rattle.oak_commit.specs.Committing.{Committing}
 use Rattle.oak_commit.specs.declared.outcome.CommitEnd.{CommitEnd}
@@ -8,10 +9,11 @@ use Rattle.oak_read.specs.declared.reader.Reader.{Reader}
 use Rattle.core_watch.specs.Standing.{path_read}
 use Rattle.oak_port.specs.declared.task.Task.{Task}
 use Rattle.oak_port.specs.declared.task.Task.TheVariants as task
-use Rattle.oak_port.specs.Ports.{Awaiting, Deciding, Idle, Shown, Starting, Undoing, Work as Shows, Writing}
+use Rattle.oak_port.specs.Ports.{Awaiting, Beside, Deciding, Idle, Seat, Shown, Starting, Undoing, Work as Shows, Writing}
 use Rattle.oak_world.specs.declared.actor.Work.{Work}
 use Rattle.oak_world.specs.declared.actor.Work.TheVariants as work
-use Rattle.oak_world.specs.Worlds.{ActorState, WorldOf, actor_in}
+use Rattle.oak_world.specs.Steps.{kind_due}
+use Rattle.oak_world.specs.Worlds.{ActorState, WorldOf, actor_in, work_in}
 
 -- the task of a reader: a list where it has a parent, and else a load
 abbrev pub task_of : Option Path → Path → Task
@@ -38,6 +40,20 @@ shown_work (work.Plan edit marks) = Starting (task.Commit edit marks)
 shown_work (work.Commit c) = shown_commit c
 shown_work (work.Move r) = Awaiting r
 
--- what session s is shown of a world
-abbrev pub shown_to : {L : Type 0} → WorldOf L → ℕ → Shown
-shown_to w s = record { history = w.history; session = s; work = shown_work (actor_in w.actors s).work; room = (actor_in w.actors s).reply }
+-- the seat of a session
+abbrev pub seat_of : ActorState → Seat
+seat_of a = record { work = shown_work a.work; room = a.reply; due = kind_due a.work }
+
+abbrev pub no_seat : Seat
+no_seat = record { work = Idle; room = None; due = None }
+
+-- what session s is shown of a world to which a reference of this name leads
+abbrev pub shown_at : {L : Type 0} → GName → WorldOf L → ℕ → Shown
+shown_at name w s = record {
+  history = w.history;
+  session = s;
+  work = shown_work (work_in w.actors s);
+  room = (actor_in w.actors s).reply;
+  due = kind_due (work_in w.actors s);
+  beside = record { name = name; seats = Some (slice_set (map seat_of w.actors) s no_seat) };
+}

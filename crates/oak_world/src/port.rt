@@ -1,6 +1,6 @@
 // A world as one session sees it.
-ghost use Rattle.std.specs.Prelude.{IsTrue, is_some, slice_get};
-ghost use Rattle.oak_world.specs.Seen.{shown_to};
+ghost use Rattle.std.specs.Prelude.{◌≡◌, IsTrue, is_some, slice_get};
+ghost use Rattle.oak_world.specs.Seen.{shown_at};
 
 use crate::World;
 use jr_rev::Pin;
@@ -20,6 +20,9 @@ impl<'a, L: Law + Drop> SoloPort<'a, L> {
     /// The port of one of the world's sessions.
     pub fn new(world: &'a mut World<L>, actor: u32) -> SoloPort<'a, L>
         requires { IsTrue (is_some (slice_get world.old.history.sessions actor)) }
+        ensures name { result.world.ghost_name ≡ world.entry.ghost_name }
+        ensures world { result.world.now ≡ world.old }
+        ensures session { result.actor ≡ actor }
     {
         SoloPort { world, actor }
     }
@@ -30,7 +33,7 @@ impl<'a, L: Law + Drop> Port for SoloPort<'a, L> {
 
     ghost law = { λ p. p.world.now.law };
 
-    ghost shown = { λ p. shown_to p.world.now p.actor };
+    ghost shown = { λ p. shown_at p.world.ghost_name p.world.now p.actor };
 
     fn start(&mut self, task: Task) -> Result<(), AllocError> {
         self.world.start(self.actor, task)
