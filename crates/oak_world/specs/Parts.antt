@@ -13,7 +13,7 @@ use Rattle.jr_rev.specs.Vectors.{sees}
 use Rattle.jr_tree.specs.declared.edit.Edit.{Edit}
 use Rattle.oak_clash.specs.Clashes.{marked_paths}
 use Rattle.oak_clash.specs.declared.mark.MarkAt.{MarkAt}
-use Rattle.oak_commit.specs.Clashing.{Met, mark_op}
+use Rattle.oak_commit.specs.Clashing.{Met, Writer, mark_op}
 use Rattle.oak_commit.specs.Committing.{Committing, begun, fed, first_path, is_past, wanting}
 use Rattle.oak_commit.specs.Stages.{stage_of}
 use Rattle.oak_commit.specs.Writing.{last_op, write_op}
@@ -285,14 +285,14 @@ Steps s k p work.Rest q v _ = ⊥
 -- ---- places
 
 -- for how many events of a commit places are kept: for each write and its undoing, for the last write or a refusal, for the end with the head, and for the move of the base
+abbrev pub needed_for : Writer → Option CommitEnd → ℕ
+needed_for w None = 2 * length w.left + length w.written + 4
+needed_for w (Some (end.Committed r)) = 3
+needed_for w (Some (end.Clash item o)) = length w.written + 2
+needed_for w (Some end.Memory) = length w.written + 2
+
 abbrev pub needed_by : Committing → ℕ
-needed_by c = by c.outcome
-  where
-    by : Option CommitEnd → ℕ
-    by None = 2 * length c.writer.left + length c.writer.written + 4
-    by (Some (end.Committed r)) = 3
-    by (Some (end.Clash item o)) = length c.writer.written + 2
-    by (Some end.Memory) = length c.writer.written + 2
+needed_by c = needed_for c.writer c.outcome
 
 abbrev pub needed : Work → ℕ
 needed (work.Commit c) = needed_by c

@@ -2,10 +2,9 @@
 use Rattle.std.specs.Prelude.{ℕ, Option, None, Some, map, slice_set}
 use Rattle.std.specs.Borrow.{GName}
 use Rattle.jr_path.specs.declared.path.Path.{Path}
-use Rattle.oak_commit.specs.Committing.{Committing}
+use Rattle.jr_rev.specs.declared.revision.Revision.{Revision}
 use Rattle.oak_commit.specs.declared.outcome.CommitEnd.{CommitEnd}
 use Rattle.oak_commit.specs.declared.outcome.CommitEnd.TheVariants as end
-use Rattle.oak_read.specs.declared.reader.Reader.{Reader}
 use Rattle.core_watch.specs.Standing.{path_read}
 use Rattle.oak_port.specs.declared.task.Task.{Task}
 use Rattle.oak_port.specs.declared.task.Task.TheVariants as task
@@ -21,13 +20,10 @@ task_of None p = task.Load p
 task_of (Some q) p = task.List p
 
 -- a commit that has drawn its revision, by how it ends
-abbrev pub shown_commit : Committing → Shows
-shown_commit c = by c.outcome
-  where
-    by : Option CommitEnd → Shows
-    by None = Writing c.revision
-    by (Some (end.Committed r)) = Deciding c.revision
-    by (Some e) = Undoing c.revision e
+abbrev pub shown_by : Revision → Option CommitEnd → Shows
+shown_by r None = Writing r
+shown_by r (Some (end.Committed o)) = Deciding r
+shown_by r (Some e) = Undoing r e
 
 -- what is shown of what a session does
 abbrev pub shown_work : Work → Shows
@@ -37,7 +33,7 @@ shown_work work.End = Starting task.End
 shown_work work.Refresh = Starting task.Refresh
 shown_work (work.Read r) = Starting (task_of r.parent (path_read r))
 shown_work (work.Plan edit marks) = Starting (task.Commit edit marks)
-shown_work (work.Commit c) = shown_commit c
+shown_work (work.Commit c) = shown_by c.revision c.outcome
 shown_work (work.Move r) = Awaiting r
 
 -- the seat of a session
