@@ -1,5 +1,6 @@
 // A world under a law.
 ghost use Rattle.std.specs.Prelude.{◌≡◌, ◌≢◌, ◌≤◌, Some, IfOk, OnErr, OnOk, IsFalse, IsTrue, is_some, length, map, slice_get};
+ghost use Rattle.std.specs.Borrow.{GName};
 ghost use Rattle.std.specs.List.{range_with_len};
 ghost use Rattle.std.specs.Option.{option_map};
 ghost use Rattle.jr_path.specs.declared.path.Path.{Path};
@@ -11,12 +12,13 @@ ghost use Rattle.oak_machine.specs.Runs.{AreNodes, IsRun};
 ghost use Rattle.oak_machine.specs.Sessions.{base_of, has_left};
 ghost use Rattle.oak_node.specs.Memory.{begun};
 ghost use Rattle.oak_node.specs.Pins.{pin_of};
-ghost use Rattle.oak_port.specs.Ports.{MayBegin};
+ghost use Rattle.oak_port.specs.Ports.{MayBegin, Steps};
 ghost use Rattle.oak_read.specs.Meaning.{documents_in, found_node};
 ghost use Rattle.core_world.specs.Kept.{IsKept};
 ghost use Rattle.core_world.specs.States.{memory_of};
 ghost use Rattle.oak_world.specs.declared.actor.Work.{Work};
 ghost use Rattle.oak_world.specs.declared.actor.Work.TheVariants as work;
+ghost use Rattle.oak_world.specs.Seen.{shown_at};
 ghost use Rattle.oak_world.specs.Steps.{Begins, IsIdle, MaySay, Plays, StepsIn, kind_due};
 ghost use Rattle.oak_world.specs.Worlds.{actor_in, said_in, start_world, state_of, with_reply, with_work, work_in};
 
@@ -98,10 +100,11 @@ impl<L: Law + Drop> World<L> {
         &self.law
     }
 
-    /// The events so far: a run of the machine by the law.
+    /// The events so far: a run of the machine by the law. Each of its sessions has a seat.
     pub fn journal(&self) -> &Journal
         ensures journal { history_of result.now ≡ self.now.history }
         ensures run { IsRun (L.may_start self.now.law) (L.may_say self.now.law) self.now.history }
+        ensures seats { length self.now.actors ≡ length self.now.history.sessions }
     {
         &self.journal
     }
@@ -145,11 +148,12 @@ impl<L: Law + Drop> World<L> {
         Ok(())
     }
 
-    /// One step of a session that has a task.
+    /// One step of a session that has a task. A port tells of it what the second clause says, whatever the reference that leads to the world.
     pub fn step(&mut self, actor: u32) -> StepOut
         requires there { IsTrue (is_some (slice_get self.old.history.sessions actor)) }
         requires busy { work_in self.old.actors actor ≢ work.Rest }
-        ensures { StepsIn self.old actor self.new result }
+        ensures made { StepsIn self.old actor self.new result }
+        ensures seen { (name : GName) → Steps (L.may_start self.old.law) (L.may_say self.old.law) (shown_at name self.old actor) (shown_at name self.new actor) result }
     {
         let node = self.journal.sessions.as_slice()[actor as usize];
         step_actor(
