@@ -6,27 +6,31 @@ use Rattle.std.proofs.Math.ListN.{drop_of_length-le}
 use Rattle.std.proofs.lemmas.List.{take_more, drop-append-le, get_or-map, get_or-take, length-drop, length-map, length-take, length-take-le}
 use Rattle.std.proofs.lemmas.List.Elements.{All-get_or}
 use Rattle.std.proofs.lemmas.Map.Views.{All-keys-insert_entry}
+use Rattle.std.specs.List.{remove}
 use Rattle.std.specs.Map.{keys_of}
 use Rattle.std.specs.BTreeMap.{insert_entry}
 use Rattle.jr_rev.specs.declared.revision.Revision.{Revision}
 use Rattle.jr_rev.specs.declared.vector.RevVec.{RevVec}
 use Rattle.oak_doc.specs.declared.asks.Ask.TheVariants as ask
 use Rattle.oak_doc.specs.declared.asks.MemoryAsk.TheVariants as memory
+use Rattle.oak_doc.specs.declared.asks.Reply.TheVariants as reply
 use Rattle.jr_path.specs.Ids.{id_cmp, names_of}
 use Rattle.jr_path.specs.declared.path.Path.{Path}
 use Rattle.jr_path.specs.declared.path.DocId.{DocId}
 use Rattle.jr_path.specs.declared.path.DocId.TheVariants as id
 use Rattle.oak_clash.specs.declared.mark.MarkAt.{MarkAt}
 use Rattle.oak_doc.specs.declared.document.Document.{Document}
-use Rattle.oak_commit.specs.Clashing.{Met}
-use Rattle.oak_commit.specs.Committing.{Committing, asks_undo, due_by, due_of, ended_by, mark_due, roots_in, undo_due, with_undone, write_due, written_paths}
+use Rattle.oak_commit.specs.Clashing.{Met, found, mark_op}
+use Rattle.oak_commit.specs.Committing.{Committing, advanced_by, asks_undo, due_by, due_of, ended_by, mark_due, roots_in, tells_written, undo_due, wanting, with_undone, write_due, written_by, written_paths}
 use Rattle.oak_commit.specs.Kept.{met_by, shown}
 use Rattle.oak_commit.specs.Places.{Planned}
-use Rattle.oak_commit.specs.Writing.{written_ids}
+use Rattle.oak_commit.specs.Stages.{update_stage, undo_stage}
+use Rattle.oak_commit.specs.Writing.{last_op, write_op, written_ids}
 use Rattle.oak_commit.specs.declared.outcome.CommitEnd.{CommitEnd}
 use Rattle.oak_commit.specs.declared.outcome.CommitEnd.TheVariants as end
 use Rattle.oak_commit.specs.Meeting.{due_in, dues_in}
 use Rattle.oak_commit.specs.declared.met.Due.{Due}
+use Rattle.oak_commit.specs.declared.stage.Stage.TheVariants as stage
 
 dropped : {X : Type 0} (xs : List X) (i : ℕ) (d : X) → i < length xs → drop i xs ≡ get_or xs i d ∷ drop (i + 1) xs
 dropped [] i d h = absurd (omega arith)
@@ -153,3 +157,65 @@ pub dues_roots : (before : Option Document) (fs : List Met) → map (λ d. d.roo
 dues_roots None fs = refl
 dues_roots (Some d) [] = refl
 dues_roots (Some d) (f ∷ fs) = ap (λ (ps : List Path). _ ∷ ps) (dues_roots (Some d) fs)
+
+module _ (r : Revision) (base : RevVec) (plan : Planned) (written undone : ℕ) (outcome : Option CommitEnd) (ended : Bool) where
+  abbrev with_dues : List Due → Committing
+  with_dues dues = shown r base plan written undone dues outcome ended
+
+  -- a mark is due
+  pub mark_first : (dues : List Due) (due : Due) → slice_get dues 0 ≡ Some due → ask.Update (mark_op due.root due.other r due.theirs) ≡ mark_due (with_dues dues) (map met_by dues)
+  mark_first [] due h = cc
+  mark_first (d ∷ ds) due refl = refl
+
+  -- no mark is due, but a document
+  pub write_first : (dues : List Due) (x : DocId) → slice_get dues 0 ≡ None → slice_get (written_ids plan.marks) written ≡ Some x → ask.Update (write_op r plan.edit.writes plan.marks (names_of x)) ≡ mark_due (with_dues dues) (map met_by dues)
+  write_first [] x none there = rw (left_first (written_ids plan.marks) written x there) refl
+  write_first (d ∷ ds) x none there = cc
+
+  -- nothing but the last write is due
+  pub last_first : (dues : List Due) → slice_get dues 0 ≡ None → slice_get (written_ids plan.marks) written ≡ None → ask.Update (last_op r plan.marks) ≡ mark_due (with_dues dues) (map met_by dues)
+  last_first [] none end = rw (left_none (written_ids plan.marks) written end) refl
+  last_first (d ∷ ds) none end = cc
+
+  pub stage_mark : (dues : List Due) → 0 < length dues → stage.Mark ≡ update_stage (with_dues dues)
+  stage_mark [] some = absurd (omega arith)
+  stage_mark (d ∷ ds) some = refl
+
+  pub stage_write : (dues : List Due) (x : DocId) → length dues ≡ 0 → slice_get (written_ids plan.marks) written ≡ Some x → stage.Write ≡ update_stage (with_dues dues)
+  stage_write [] x none there = rw (left_first (written_ids plan.marks) written x there) refl
+  stage_write (d ∷ ds) x none there = cc
+
+  pub stage_last : (dues : List Due) → length dues ≡ 0 → slice_get (written_ids plan.marks) written ≡ None → stage.Last ≡ update_stage (with_dues dues)
+  stage_last [] none end = rw (left_none (written_ids plan.marks) written end) refl
+  stage_last (d ∷ ds) none end = cc
+
+  -- the mark that was due is made
+  pub marked_shown : (dues new : List Due) (before : Option Document) → 0 < length dues → new ≡ remove dues 0 → with_dues new ≡ advanced_by (with_dues dues) (map met_by dues) before
+  marked_shown [] new before some is = absurd (omega arith)
+  marked_shown (d ∷ ds) new before some is = rw is refl
+
+  -- a document is written
+  pub written_shown : (dues new : List Due) (before : Option Document) (x : DocId) → undone ≤ written → slice_get (written_ids plan.marks) written ≡ Some x → new ≡ dues_in before (found base r (names_of x) plan.marks before) → shown r base plan (written + 1) undone new outcome ended ≡ written_by (with_dues dues) (drop written (written_paths plan.marks)) before
+  written_shown dues new before x low there is =
+      rw (left_first (written_ids plan.marks) written x there)
+      (same (written_more (written_ids plan.marks) undone written x low there)
+      (ap (map met_by) is ∙ dues_met before met (none before refl))
+      (ap (map (λ d. d.root)) is ∙ dues_roots before met))
+    where
+      met : List Met
+      met = found base r (names_of x) plan.marks before
+      none : (b : Option Document) → before ≡ b → before ≡ None → met ≡ []
+      none b is e = rw e refl
+      state : List Path → List Met → List Path → Committing
+      state ws fs roots = record (with_dues dues) { writer = record (with_dues dues).writer { left = drop (written + 1) (written_paths plan.marks); written = ws; due = fs }; roots = roots }
+      same : {ws ws' : List Path} {fs fs' : List Met} {roots roots' : List Path} → ws ≡ ws' → fs ≡ fs' → roots ≡ roots' → state ws fs roots ≡ state ws' fs' roots'
+      same refl refl refl = refl
+
+  -- a document is written, but memory is wanted for what is found
+  pub wanting_shown : (dues : List Due) (before : Option Document) (x : DocId) → undone ≤ written → slice_get (written_ids plan.marks) written ≡ Some x → wanting (shown r base plan (written + 1) undone dues outcome ended) ≡ wanting (written_by (with_dues dues) (drop written (written_paths plan.marks)) before)
+  wanting_shown dues before x low there =
+      rw (left_first (written_ids plan.marks) written x there)
+      (ap {A = List Path} {B = Committing} (λ ws. wanting (record (with_dues dues) { writer = record (with_dues dues).writer { left = drop (written + 1) (written_paths plan.marks); written = ws } })) (written_more (written_ids plan.marks) undone written x low there))
+
+  pub tells : (dues : List Due) (before : Option Document) (x : DocId) → outcome ≡ None → map met_by dues ≡ [] → slice_get (written_ids plan.marks) written ≡ Some x → tells_written (with_dues dues) (reply.Updated before) ≡ true
+  tells dues before x going none there = rw (going, none, left_first (written_ids plan.marks) written x there) refl
