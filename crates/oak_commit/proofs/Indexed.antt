@@ -68,6 +68,7 @@ module _ {X : Type 0} (all : List X) where
     where
       same : eq_by_cmp path_cmp p (path x) ≡ true → p ≡ path x
       same h = (tested path_total path_exact p (path x)).0 h
+
       by : (b : Bool) → eq_by_cmp path_cmp p (path x) ≡ b → items_at all (unwrap_or (cond b (Some (places_of places (path x) ++ i ∷ [])) (lookup (is_at (path_cmp p)) places)) []) ≡ of_path path p (take i all) ++ cond b (x ∷ []) []
       by true h =
           filter_map-append (slice_get all) (places_of places (path x)) (i ∷ [])

@@ -171,6 +171,7 @@ module _ (r : Revision) (base : RevVec) (plan : Planned) (written undone : ℕ) 
     where
       met : List Met
       met = found base r (names_of x) plan.marks before
+
       none : (b : Option Document) → before ≡ b → before ≡ None → met ≡ []
       none b is e = rw e refl
 

@@ -1,4 +1,4 @@
-// Two adds of one node, a commit, and memory that is refused.
+// A commit that adds a node which another added too, and memory that is refused.
 use crate::{CommitEnd, Committer};
 use jr_path::{DeepCopy, DocId, List, Path, PathFault};
 use jr_rev::{RevVec, Revision};
@@ -7,6 +7,18 @@ use oak_clash::{Mark, MarkAt};
 use oak_doc::{Ask, Cond, Document, Kept, Reply};
 use std::alloc::{AllocError, Global};
 use std::test::Fail;
+
+// What a store answers: an update of a document that is new, and one of /a, which another added; an update whose
+// condition is false, since the other is committed; memory refused; an undoing; the end.
+#[derive(Clone, Copy)]
+enum Answer {
+    New,
+    Added,
+    Unmet,
+    NoMemory,
+    Undone,
+    Finished,
+}
 
 fn revision(time: u64, cluster: u32) -> Revision {
     Revision {
@@ -30,7 +42,13 @@ fn adding(alloc: Global) -> Result<Committer, PathFault> {
         path: a,
         mark: Mark::Exists,
     })?;
-    let committer = Committer::new(alloc, revision(2, 2), &RevVec::none(), Edit { writes }, marks)?;
+    let committer = Committer::new(
+        alloc,
+        revision(2, 2),
+        &RevVec::none(),
+        Edit { writes },
+        marks,
+    )?;
     Ok(committer)
 }
 
@@ -52,76 +70,80 @@ fn due(alloc: Global, committer: &Committer) -> Result<String, AllocError> {
     }
 }
 
-// What is due before each of some replies, and then.
-fn told(
-    alloc: Global,
-    committer: &mut Committer,
-    replies: Vec<Reply>,
-) -> Result<String, AllocError> {
-    let mut told = String::new(alloc);
-    for reply in replies {
-        told.push_str(due(alloc, committer)?.as_str())?;
-        told.push(' ')?;
-        committer.feed(reply)?;
+fn reply(alloc: Global, answer: Answer) -> Result<Reply, PathFault> {
+    match answer {
+        Answer::New => Ok(Reply::Updated(None)),
+        Answer::Added => Ok(Reply::Updated(Some(added(alloc)?))),
+        Answer::Unmet => Ok(Reply::Unmet(Cond::NotCommitted(revision(1, 1)), Kept::Nothing)),
+        Answer::NoMemory => Ok(Reply::NoMemory),
+        Answer::Undone => Ok(Reply::Undone),
+        Answer::Finished => Ok(Reply::Finished),
     }
-    told.push_str(due(alloc, committer)?.as_str())?;
-    Ok(told)
 }
 
 // How it ended, where nothing is due.
-fn end_of(committer: Committer) -> Result<Option<CommitEnd>, AllocError> {
-    if let Ask::Done = committer.next()? {
-        return Ok(Some(committer.end()));
+fn end_of(committer: Committer) -> Result<&'static str, AllocError> {
+    let Ask::Done = committer.next()? else {
+        return Ok("not ended");
+    };
+    match committer.end() {
+        CommitEnd::Committed(_) => Ok("committed"),
+        CommitEnd::Clash { .. } => Ok("refused"),
+        CommitEnd::Memory => Ok("no memory"),
     }
-    Ok(None)
+}
+
+// What is due before each of some answers, and how it ended.
+fn told(alloc: Global, answers: &[Answer]) -> Result<String, PathFault> {
+    let mut committer = adding(alloc)?;
+    let mut told = String::new(alloc);
+    for answer in answers {
+        told.push_str(due(alloc, &committer)?.as_str())?;
+        told.push(' ')?;
+        committer.feed(reply(alloc, *answer)?)?;
+    }
+    told.push_str(end_of(committer)?)?;
+    Ok(told)
 }
 
 #[test]
-fn the_second_add_is_refused(rt: HostRuntime) -> Result<(), Fail> {
+fn two_adds_of_one_node(rt: HostRuntime) -> Result<(), Fail> {
     let alloc = rt.alloc();
-    let mut committer = adding(alloc)?;
-    let mut replies = Vec::new(alloc);
-    replies.push(Reply::Updated(None))?;
-    replies.push(Reply::Updated(Some(added(alloc)?)))?;
-    replies.push(Reply::Unmet(Cond::NotCommitted(revision(1, 1)), Kept::Nothing))?;
-    replies.push(Reply::Undone)?;
-    replies.push(Reply::Undone)?;
-    replies.push(Reply::Finished)?;
-    let told = told(alloc, &mut committer, replies)?;
-    assert_eq!(rt; told.as_str(), "0:/ 1:/a 0:/ 0:/ 1:/a finish done");
-    let end = end_of(committer)?;
-    assert!(rt; matches!(end, Some(CommitEnd::Clash { other, .. }) if other == revision(1, 1)));
-    Ok(())
-}
-
-#[test]
-fn the_first_mark_commits(rt: HostRuntime) -> Result<(), Fail> {
-    let alloc = rt.alloc();
-    let mut committer = adding(alloc)?;
-    let mut replies = Vec::new(alloc);
-    replies.push(Reply::Updated(None))?;
-    replies.push(Reply::Updated(Some(added(alloc)?)))?;
-    replies.push(Reply::Updated(None))?;
-    replies.push(Reply::Updated(None))?;
-    replies.push(Reply::Finished)?;
-    let told = told(alloc, &mut committer, replies)?;
-    assert_eq!(rt; told.as_str(), "0:/ 1:/a 0:/ 0:/ finish done");
-    let end = end_of(committer)?;
-    assert!(rt; matches!(end, Some(CommitEnd::Committed(r)) if r == revision(2, 2)));
+    let first = [
+        Answer::New,
+        Answer::Added,
+        Answer::New,
+        Answer::New,
+        Answer::Finished,
+    ];
+    let told_first = told(alloc, &first)?;
+    assert_eq!(rt; told_first.as_str(), "0:/ 1:/a 0:/ 0:/ finish committed");
+    let second = [
+        Answer::New,
+        Answer::Added,
+        Answer::Unmet,
+        Answer::Undone,
+        Answer::Undone,
+        Answer::Finished,
+    ];
+    let told_second = told(alloc, &second)?;
+    assert_eq!(rt;
+        told_second.as_str(),
+        "0:/ 1:/a 0:/ 0:/ 1:/a finish refused"
+    );
     Ok(())
 }
 
 #[test]
 fn memory_is_refused_in_the_middle(rt: HostRuntime) -> Result<(), Fail> {
     let alloc = rt.alloc();
-    let mut committer = adding(alloc)?;
-    let mut replies = Vec::new(alloc);
-    replies.push(Reply::Updated(None))?;
-    replies.push(Reply::NoMemory)?;
-    replies.push(Reply::Undone)?;
-    replies.push(Reply::Finished)?;
-    let told = told(alloc, &mut committer, replies)?;
-    assert_eq!(rt; told.as_str(), "0:/ 1:/a 0:/ finish done");
-    assert!(rt; matches!(end_of(committer)?, Some(CommitEnd::Memory)));
+    let answers = [
+        Answer::New,
+        Answer::NoMemory,
+        Answer::Undone,
+        Answer::Finished,
+    ];
+    let told = told(alloc, &answers)?;
+    assert_eq!(rt; told.as_str(), "0:/ 1:/a 0:/ finish no memory");
     Ok(())
 }
