@@ -161,9 +161,11 @@ module _ (c : Committing) where
       by_kept (kept.Entry o item) = refused c item o
       by_kept (kept.Number n) = c
       by_kept kept.Nothing = c
+
       by_left : List Path → Committing
       by_left (p ∷ ps) = c
       by_left [] = by_kept k
+
       by_due : List Met → Committing
       by_due (f ∷ fs) = refused c f.mine f.other
       by_due [] = by_left c.writer.left
