@@ -146,7 +146,7 @@ module _ (starts : Starts) (says : Says) (proper : StartsProper starts) (last : 
   can_by work.Refresh at may places kept short = come_pinned may
   can_by (work.Read r) at may places kept short = tt
   can_by (work.Plan edit marks) at may places kept short = let t : known_time (memory_of (state_of w) s) ≤ length w.history.past = time_known starts says proper (state_of w) is.kept (node_in w.history s) node in omega arith
-  can_by (work.Commit c) at may places kept short = record { flying = flies_there starts says proper (state_of w) is.kept s (running_as s c) (ap (running_of s) at); unended = may.unended; places = kept }
+  can_by (work.Commit c) at may places kept short = record { flying = flies_there starts says proper (state_of w) is.kept s (running_as s c) (ap (running_of s) at); unended = may.unended; kept = kept }
   can_by (work.Move r) at may places kept short = record { ended = moved_ended r may; pinned = come_pinned may.0; place = kept }
 
   pub can_step : (places : ℕ) → needed (work_in w.actors s) ≤ places → length w.history.past < 2 ^ 63 → CanStep s (memory_of (state_of w) s) places (work_in w.actors s)

@@ -305,7 +305,7 @@ needed _ = 0
 pub record CanCommit (m : NodeState) (places : ℕ) (c : Committing) : Type 0 where
   pub flying : IsInFlight m c.revision
   pub unended : c.ended ≡ false
-  pub places : needed_by c ≤ places
+  pub kept : needed_by c ≤ places
 
 -- the revision has ended by the memory, the session is pinned, and a place is kept
 pub record CanMove (s : ℕ) (m : NodeState) (places : ℕ) (r : Revision) : Type 0 where
