@@ -21,13 +21,14 @@ use Rattle.oak_doc.specs.declared.document.Document.{Document}
 use Rattle.oak_doc.specs.declared.update.Cond.{Cond}
 use Rattle.oak_doc.specs.declared.update.Kept.{Kept}
 use Rattle.oak_doc.specs.declared.update.Kept.TheVariants as kept
+use Rattle.oak_doc.specs.declared.update.OpFault.{OpFault}
 use Rattle.oak_doc.specs.declared.update.OpFault.TheVariants as fault
 use Rattle.oak_doc.specs.declared.update.UpdateOp.{UpdateOp}
 use Rattle.oak_machine.specs.declared.event.Event.{Event}
 use Rattle.oak_machine.specs.declared.event.Event.TheVariants as event
 use Rattle.oak_machine.specs.declared.event.StepKind.TheVariants as kind
 use Rattle.oak_store.specs.Tables.{Table, Updates, after_undo, found}
-use Rattle.oak_world.specs.Parts.{IsLast, IsMade, IsMarked, IsUndone, IsWritten, fed_made, op_due, refusal_at, result_of}
+use Rattle.oak_world.specs.Parts.{IsLast, IsMade, IsMarked, IsRefusedBy, IsUndone, IsWritten, fed_made, op_due, refusal_at, result_of}
 use Rattle.oak_world.proofs.Feeding.{op_last, op_mark, op_write}
 use Rattle.oak_world.proofs.Replies.{fed_lasted, fed_marked, fed_undone, fed_unmet, fed_written}
 use Rattle.oak_world.proofs.Stages.{IsLastStage, IsMarkStage, IsUndoStage, IsWriteStage, last_stage, mark_stage, undo_stage, write_stage}
@@ -109,8 +110,15 @@ module _ (s : ℕ) (t u : Table) (es fs : List Event) (c d : Committing) (op : U
   pub last_made : stage_of c ≡ stage.Last → (before : Option Document) → Updates t u op (Ok before) → fs ≡ es ++ event.Commit c.revision ∷ [] → (r : Result Unit AllocError) → OnOk r (d ≡ fed c (reply.Updated before)) → OnErr r (IsTrue (tells_written c (reply.Updated before))) → IsLast t u es fs c d
   last_made h before up list r ok only = let due = last_asks c h in inl (record { made = made due before up; list = list; committer = fed_lasted r c d before h ok only ∙ fed_is due before up })
 
-  pub last_refused : stage_of c ≡ stage.Last → (k : Cond) (o : Revision) (item : Item) → Updates t u op (Err (fault.Unmet k (kept.Entry o item))) → fs ≡ es ++ event.Refuse c.revision item o ∷ [] → (r : Result Unit AllocError) → OnOk r (d ≡ fed c (reply.Unmet k (kept.Entry o item))) → OnErr r (IsTrue (tells_written c (reply.Unmet k (kept.Entry o item)))) → IsLast t u es fs c d
-  last_refused h k o item up list r ok only = let due = last_asks c h in inr (record { cause = k; other = o; item = item; result = unmet_is due k (kept.Entry o item) up; table = up.0; list = list; committer = fed_unmet r c d k (kept.Entry o item) ok only })
+  pub last_refused_by : stage_of c ≡ stage.Last → (f : OpFault) → Updates t u op (Err f) → IsRefusedBy f es fs c d → IsLast t u es fs c d
+  last_refused_by h f up m =
+      let due = last_asks c h in
+      let told : Updates t u op (Err (fault.Unmet m.cause (kept.Entry m.other m.item))) = subst (λ (x : OpFault). Updates t u op (Err x)) m.is up in
+      inr (record { cause = m.cause; other = m.other; item = m.item; result = unmet_is due m.cause (kept.Entry m.other m.item) told; table = told.0; list = m.list; committer = m.committer })
+
+-- the commit is refused for a collision that was told
+pub refused_by : (es fs : List Event) (c d : Committing) (k : Cond) (o : Revision) (item : Item) → fs ≡ es ++ event.Refuse c.revision item o ∷ [] → (r : Result Unit AllocError) → OnOk r (d ≡ fed c (reply.Unmet k (kept.Entry o item))) → OnErr r (IsTrue (tells_written c (reply.Unmet k (kept.Entry o item)))) → IsRefusedBy (fault.Unmet k (kept.Entry o item)) es fs c d
+refused_by es fs c d k o item list r ok only = record { cause = k; other = o; item = item; is = refl; list = list; committer = fed_unmet r c d k (kept.Entry o item) ok only }
 
 -- ---- undoing
 

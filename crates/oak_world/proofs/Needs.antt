@@ -11,7 +11,7 @@ use Rattle.oak_commit.specs.declared.outcome.CommitEnd.TheVariants as end
 use Rattle.oak_commit.specs.declared.stage.Stage.TheVariants as stage
 use Rattle.oak_machine.specs.declared.event.Event.{Event}
 use Rattle.oak_store.specs.Tables.{Table, found}
-use Rattle.oak_world.specs.Parts.{IsLast, IsMarked, IsUndone, IsWritten, committed, marked, needed_by, needed_for, op_due}
+use Rattle.oak_world.specs.Parts.{fed_made, IsLast, IsMarked, IsUndone, IsWritten, committed, marked, needed_by, needed_for, op_due}
 use Rattle.oak_world.proofs.Feeding.{blocked_last, blocked_mark, fed_last, fed_mark, fed_undo, fed_write}
 use Rattle.oak_world.proofs.Stages.{IsLastStage, IsMarkStage, IsUndoStage, IsWriteStage, last_stage, mark_stage, undo_stage, write_stage}
 
@@ -40,7 +40,7 @@ module _ (s : ℕ) (t u : Table) (es fs : List Event) (c d : Committing) where
   pub write_needs : stage_of c ≡ stage.Write → IsWritten s t u es fs c d → needed_by d + 1 ≤ needed_by c
   write_needs h m = by (write_stage c h) m.committer
     where
-      by : IsWriteStage c → (d ≡ Rattle.oak_world.specs.Parts.fed_made t c) ⊎ (d ≡ wanting (Rattle.oak_world.specs.Parts.fed_made t c)) → needed_by d + 1 ≤ needed_by c
+      by : IsWriteStage c → (d ≡ fed_made t c) ⊎ (d ≡ wanting (fed_made t c)) → needed_by d + 1 ≤ needed_by c
       by at (inl e) =
           let now : d ≡ written c at.first at.rest (found t (op_due c).id) = e ∙ fed_write c at.going at.first at.rest at.unmet at.left (found t (op_due c).id) in
           let k : needed_by d ≡ 2 * length at.rest + length (c.writer.written ++ at.first ∷ []) + 4 = ap needed_by now ∙ ap (needed_for (written c at.first at.rest (found t (op_due c).id)).writer) at.going in

@@ -63,7 +63,7 @@ no_places (k ∷ ks) = no_places ks
 
 idle_placed : (sessions : List ℕ) (s : ℕ) (a : Actor) → slice_get (map (λ k. idle_actor) sessions) s ≡ Some a → IsPlaced a
 idle_placed [] s a h = cc
-idle_placed (k ∷ ks) zero a h = subst IsPlaced (let e : Some idle_actor ≡ Some a = h in cc) (omega arith)
+idle_placed (k ∷ ks) zero a h = let same : idle_actor ≡ a = cc in subst IsPlaced same (omega arith)
 idle_placed (k ∷ ks) (suc s) a h = idle_placed ks s a h
 
 pub start_placed : (sessions : List ℕ) → ArePlaced (map (λ k. idle_actor) sessions) 0

@@ -178,6 +178,15 @@ pub record IsLastRefused (t u : Table) (es fs : List Event) (c d : Committing) :
   pub list : fs ≡ es ++ event.Refuse c.revision item other ∷ []
   pub committer : d ≡ fed c (reply.Unmet cause (kept.Entry other item))
 
+-- it is refused by this fault, which tells a collision
+pub record IsRefusedBy (f : OpFault) (es fs : List Event) (c d : Committing) : Type 0 where
+  pub cause : Cond
+  pub other : Revision
+  pub item : Item
+  pub is : f ≡ fault.Unmet cause (kept.Entry other item)
+  pub list : fs ≡ es ++ event.Refuse c.revision item other ∷ []
+  pub committer : d ≡ fed c (reply.Unmet cause (kept.Entry other item))
+
 abbrev pub IsLast : Table → Table → List Event → List Event → Committing → Committing → Type 0
 IsLast t u es fs c d = IsLastMade t u es fs c d ⊎ IsLastRefused t u es fs c d
 

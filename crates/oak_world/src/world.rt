@@ -1,5 +1,5 @@
 // A world under a law.
-ghost use Rattle.std.specs.Prelude.{◌≡◌, ◌≢◌, ◌≤◌, Some, IfOk, OnErr, OnOk, IsFalse, IsTrue, is_some, length, map, slice_get};
+ghost use Rattle.std.specs.Prelude.{◌≡◌, ◌≢◌, ◌≤◌, ◌↔◌, Some, IfOk, OnErr, OnOk, IsFalse, IsSome, IsTrue, is_some, length, map, slice_get};
 ghost use Rattle.std.specs.Borrow.{GName};
 ghost use Rattle.std.specs.List.{range_with_len};
 ghost use Rattle.std.specs.Option.{option_map};
@@ -170,7 +170,8 @@ impl<L: Law + Drop> World<L> {
     /// The kind of the session's next step; None where it has no task. It takes no memory.
     pub fn due(&self, actor: u32) -> Option<StepKind>
         requires { IsTrue (is_some (slice_get self.now.history.sessions actor)) }
-        ensures { result ≡ kind_due (work_in self.now.actors actor) }
+        ensures due { result ≡ kind_due (work_in self.now.actors actor) }
+        ensures busy { IsSome result ↔ (work_in self.now.actors actor ≢ work.Rest) }
     {
         self.actors[actor as usize].work.due()
     }
