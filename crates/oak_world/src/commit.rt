@@ -9,7 +9,7 @@ ghost use Rattle.oak_machine.specs.declared.event.Event.TheVariants as event;
 ghost use Rattle.oak_node.specs.Heads.{IsInFlight, finished, known_time, next_draw, with_draw};
 ghost use Rattle.oak_node.specs.Notes.{with_notes};
 ghost use Rattle.oak_read.specs.Reading.{IsTable};
-ghost use Rattle.oak_world.specs.Parts.{IsLast, IsMarked, IsRefusedBy, IsUndone, IsWritten, base_at, end_events, refusal_at};
+ghost use Rattle.oak_world.specs.Parts.{IsLast, IsMarked, IsRefusedBy, IsUndone, IsWritten, base_at, end_events, needed_by, refusal_at};
 
 use crate::session::base_of;
 use crate::store;
@@ -119,6 +119,7 @@ pub(crate) fn mark(
     requires table { IsTable table.old.documents }
     requires stage { stage_of committer.old ≡ stage.Mark }
     ensures made { OnOk result (IsMarked s table.old table.new events.old.list events.new.list committer.old committer.new) }
+    ensures needs { OnOk result (needed_by committer.new ≤ needed_by committer.old) }
     ensures table { OnErr result (table.new ≡ table.old) }
     ensures list { OnErr result (events.new.list ≡ events.old.list) }
     ensures committer { OnErr result (committer.new ≡ committer.old) }
@@ -147,6 +148,7 @@ fn mark_by(
     requires refusal { refusal_at committer.old (event.Refuse committer.old.revision item other) }
     requires place { 0 < events.old.places }
     ensures made { OnOk result (IsMarked s table.old table.new events.old.list events.new.list committer.old committer.new) }
+    ensures needs { OnOk result (needed_by committer.new ≤ needed_by committer.old) }
     ensures table { OnErr result (table.new ≡ table.old) }
     ensures list { OnErr result (events.new.list ≡ events.old.list) }
     ensures committer { OnErr result (committer.new ≡ committer.old) }
@@ -193,6 +195,7 @@ pub(crate) fn write(
     requires stage { stage_of committer.old ≡ stage.Write }
     requires place { 0 < events.old.places }
     ensures made { OnOk result (IsWritten s table.old table.new events.old.list events.new.list committer.old committer.new) }
+    ensures needs { OnOk result (needed_by committer.new + 1 ≤ needed_by committer.old) }
     ensures place { OnOk result (events.new.places + 1 ≡ events.old.places) }
     ensures table { OnErr result (table.new ≡ table.old) }
     ensures list { OnErr result (events.new.list ≡ events.old.list) }
@@ -222,6 +225,7 @@ pub(crate) fn last(
     requires stage { stage_of committer.old ≡ stage.Last }
     requires place { 0 < events.old.places }
     ensures made { OnOk result (IsLast table.old table.new events.old.list events.new.list committer.old committer.new) }
+    ensures needs { OnOk result (needed_by committer.new + 1 ≤ needed_by committer.old) }
     ensures place { OnOk result (events.new.places + 1 ≡ events.old.places) }
     ensures table { OnErr result (table.new ≡ table.old) }
     ensures list { OnErr result (events.new.list ≡ events.old.list) }
@@ -271,6 +275,7 @@ pub(crate) fn undo(table: &mut DocTable, events: &mut Events, committer: &mut Co
     requires stage { stage_of committer.old ≡ stage.Undo }
     requires place { 0 < events.old.places }
     ensures made { IsUndone s table.old table.new events.old.list events.new.list committer.old committer.new }
+    ensures needs { needed_by committer.new + 1 ≤ needed_by committer.old }
     ensures places { events.new.places + 1 ≡ events.old.places }
     ensures order { IsTable table.new.documents }
 {
