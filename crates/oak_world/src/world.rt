@@ -19,7 +19,7 @@ ghost use Rattle.core_world.specs.States.{memory_of};
 ghost use Rattle.oak_world.specs.declared.actor.Work.{Work};
 ghost use Rattle.oak_world.specs.declared.actor.Work.TheVariants as work;
 ghost use Rattle.oak_world.specs.Seen.{shown_at};
-ghost use Rattle.oak_world.specs.Steps.{Begins, IsIdle, MaySay, Plays, StepsIn, kind_due};
+ghost use Rattle.oak_world.specs.Steps.{Begins, IsIdle, MaySay, Plays, StepsIn, Turns, kind_due};
 ghost use Rattle.oak_world.specs.Worlds.{actor_in, said_in, start_world, state_of, with_reply, with_work, work_in};
 
 use crate::actor::{Actor, Room, Work};
@@ -210,9 +210,19 @@ impl<L: Law + Drop> World<L> {
         ensures { Plays self.old schedule.now self.new }
     {
         for actor in schedule {
-            if (*actor as usize) < self.actors.len() && self.due(*actor).is_some() {
-                self.step(*actor);
-            }
+            self.turn(*actor);
+        }
+    }
+
+    // A step of what is named, where it is a session with a task.
+    fn turn(&mut self, actor: u32)
+        ensures { Turns self.old actor self.new }
+    {
+        if actor as usize >= self.actors.len() {
+            return;
+        }
+        if self.due(actor).is_some() {
+            self.step(actor);
         }
     }
 }
