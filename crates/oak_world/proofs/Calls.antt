@@ -50,7 +50,7 @@ pub actor_shown : (actors : List Actor) (s : ℕ) (a : Actor) → slice_get acto
 actor_shown actors s a here = ap (λ (o : Option ActorState). unwrap_or o idle) (slice_get-map shown_actor actors s ∙ ap (option_map shown_actor) here)
 
 module _ (starts : Starts) (says : Says) (proper : StartsProper starts) (last : StartsLast starts says) {L : Type 0} (law : L) (j : Journal) (t : Table) (ms : List NodeState) (actors : List Actor) (is : IsWorld starts says (shown_world law j t ms actors)) (placed : ArePlaced actors j.events.places)
-  (s k : ℕ) (on : slice_get j.sessions s ≡ Some k) (a : Actor) (here : slice_get actors s ≡ Some a) where
+    (s k : ℕ) (on : slice_get j.sessions s ≡ Some k) (a : Actor) (here : slice_get actors s ≡ Some a) where
   abbrev w : WorldOf L
   w = shown_world law j t ms actors
 

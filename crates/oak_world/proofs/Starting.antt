@@ -83,7 +83,7 @@ seen_idle [] = refl
 seen_idle (k ∷ ks) = ap (λ xs. idle ∷ xs) (seen_idle ks)
 
 module _ {L : Type 0} (law : L) (clusters : ℕ) (sessions numbers : List ℕ) (es : Recorded) (t : Table) (ms : List NodeState) (actors : List Actor) (same : numbers ≡ sessions) (none : es ≡ record { list = []; places = 0 })
-  (table : t ≡ start_table clusters (length sessions)) (memories : ms ≡ map (λ k. begun k (start clusters)) (range_with_len 1 clusters)) (seats : actors ≡ map (λ k. idle_actor) sessions) where
+    (table : t ≡ start_table clusters (length sessions)) (memories : ms ≡ map (λ k. begun k (start clusters)) (range_with_len 1 clusters)) (seats : actors ≡ map (λ k. idle_actor) sessions) where
   abbrev now : WorldOf L
   now = shown_world law (record { clusters = clusters; sessions = numbers; events = es }) t ms actors
 

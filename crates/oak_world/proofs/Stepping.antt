@@ -103,10 +103,12 @@ module _ {L : Type 0} (w : WorldOf L) (s : ℕ) (there : s < length w.actors) (q
     read_makes (answers.Wait o) h = absurd h.1
 
   plan_makes : (edit : Edit) (marks : List MarkAt) → work_in w.actors s ≡ work.Plan edit marks → (o : StepOut) → Steps s node (parts_at w s) (work.Plan edit marks) q v o → Makes s (state_of w) (work.Plan edit marks) now v o
-  plan_makes edit marks here (answers.Went kind.Draw) h =
-      (ap (λ (p : Parts). state_of (with_parts w s p a)) h.0
-      ∙ begins_is w s there (event.Draw (record { revision = next_draw memory; session = s; base = base_at memory s; edit = edit; marks = marks })) (with_notes (next_draw memory) (with_draw memory (next_draw memory)) (marked_paths marks)) a
-      (Some (running_as s (begun (next_draw memory) (base_at memory s) edit marks))) (running_now _ h.1) (ap reading_of here ∙ sym (reading_now _ h.1)), h.1)
+  plan_makes edit marks here (answers.Went kind.Draw) h = (
+    ap (λ (p : Parts). state_of (with_parts w s p a)) h.0
+        ∙ begins_is w s there (event.Draw (record { revision = next_draw memory; session = s; base = base_at memory s; edit = edit; marks = marks })) (with_notes (next_draw memory) (with_draw memory (next_draw memory)) (marked_paths marks)) a
+        (Some (running_as s (begun (next_draw memory) (base_at memory s) edit marks))) (running_now _ h.1) (ap reading_of here ∙ sym (reading_now _ h.1)),
+    h.1,
+  )
   plan_makes edit marks here answers.Memory h = (still (work.Plan edit marks) work.Rest here h.1 refl refl h.0, h.1)
   plan_makes edit marks here _ h = absurd h
 

@@ -359,18 +359,24 @@ module _ (starts : Starts) (says : Says) (proper : StartsProper starts) (w : Sta
     module _ (e : TaskEnd) where
       given : (parent : Option Path) → next.parent ≡ parent → (st : Step) → next.step ≡ st → end_of_reading st ≡ Some e → Tells h s (Starting (task_of parent (path_read r))) (answers.Ready e) [] Idle
       given None is (step.Done (out.Node n)) done gives =
-          subst (λ (x : TaskEnd). Tells h s (Starting (task.Load (path_read r))) (answers.Ready x) [] Idle) (same_end (ends.Node n) e gives)
-          (props_same n (node_at (tree_of w.past s) (path_read r))
-          (node_given starts says proper (with_reader w s (Some next)) read_kept s next next_here (out.Node n) is done
-          ∙ (ap (λ (t : Nodes). option_map (λ m. m.props) (node_at t (path_read next))) tree_is
-          ∙ ap (λ (p : Path). option_map (λ m. m.props) (node_at (tree_of w.past s) p)) for_same.same_path)), refl, refl)
+          subst (λ (x : TaskEnd). Tells h s (Starting (task.Load (path_read r))) (answers.Ready x) [] Idle) (same_end (ends.Node n) e gives) (
+            props_same n (node_at (tree_of w.past s) (path_read r))
+                (node_given starts says proper (with_reader w s (Some next)) read_kept s next next_here (out.Node n) is done
+                ∙ (ap (λ (t : Nodes). option_map (λ m. m.props) (node_at t (path_read next))) tree_is
+                ∙ ap (λ (p : Path). option_map (λ m. m.props) (node_at (tree_of w.past s) p)) for_same.same_path)),
+            refl,
+            refl,
+          )
       given None is (step.Done (out.Children ns)) done gives = absurd (node_given starts says proper (with_reader w s (Some next)) read_kept s next next_here (out.Children ns) is done)
       given (Some p) is (step.Done (out.Node n)) done gives = absurd (children_given starts says proper (with_reader w s (Some next)) read_kept s next next_here p (out.Node n) is done)
       given (Some p) is (step.Done (out.Children ns)) done gives =
-          subst (λ (x : TaskEnd). Tells h s (Starting (task.List (path_read r))) (answers.Ready x) [] Idle) (same_end (ends.Children ns) e gives)
-          (children_given starts says proper (with_reader w s (Some next)) read_kept s next next_here p (out.Children ns) is done
-          ∙ (ap (λ (t : Nodes). children_of t p) tree_is
-          ∙ ap (λ (q : Path). children_of (tree_of w.past s) q) (sym (ap (λ (o : Option Path). unwrap_or o next.at) is) ∙ for_same.same_path)), refl, refl)
+          subst (λ (x : TaskEnd). Tells h s (Starting (task.List (path_read r))) (answers.Ready x) [] Idle) (same_end (ends.Children ns) e gives) (
+            children_given starts says proper (with_reader w s (Some next)) read_kept s next next_here p (out.Children ns) is done
+                ∙ (ap (λ (t : Nodes). children_of t p) tree_is
+                ∙ ap (λ (q : Path). children_of (tree_of w.past s) q) (sym (ap (λ (o : Option Path). unwrap_or o next.at) is) ∙ for_same.same_path)),
+            refl,
+            refl,
+          )
       given parent is st done gives = cc
 
       last_read : (parent : Option Path) (p : Path) → AreOfStep h s (Starting (task_of parent p)) (answers.Ready e) []

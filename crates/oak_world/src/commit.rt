@@ -46,7 +46,13 @@ pub(crate) fn begin(
     let base = base_of(memory, s);
     let revision = memory.next_draw();
     let committer = prepared(alloc, revision, &base, &edit, &marks)?;
-    draw(alloc, memory, events, committer.documents(), marks.as_slice())?;
+    draw(
+        alloc,
+        memory,
+        events,
+        committer.documents(),
+        marks.as_slice(),
+    )?;
     events.push_kept(Event::Draw(Draw {
         revision,
         session: s,

@@ -242,7 +242,13 @@ fn reads_after(reading: bool, out: &StepOut, reads: u64) -> u64
 {
     match out {
         StepOut::Memory => reads,
-        _ => { if reading { reads.saturating_add(1) } else { reads } }
+        _ => {
+            if reading {
+                reads.saturating_add(1)
+            } else {
+                reads
+            }
+        }
     }
 }
 
