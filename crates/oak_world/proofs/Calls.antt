@@ -19,7 +19,7 @@ use Rattle.oak_world.specs.Commits.{IsGivenUp, committed, parts}
 use Rattle.oak_world.specs.Kept.{IsLawful}
 use Rattle.oak_world.specs.Worlds.{IsWorld, start_node, start_table, with_events}
 use Rattle.oak_world.proofs.Begins.{sessions_of}
-use Rattle.oak_world.proofs.Lawful.{commit_lawful, end_lawful, given_lawful, login_lawful, said_lawful, start_lawful}
+use Rattle.oak_world.proofs.Lawful.{commit_lawful, end_lawful, given_lawful, login_lawful, refresh_lawful, said_lawful, start_lawful}
 use Rattle.oak_world.proofs.Whole.{early_world}
 
 -- a world is kept with these events, documents and memory
@@ -44,6 +44,9 @@ module _ (starts : Starts) (says : Says) (proper : StartsProper starts) (j : Jou
 
   pub end_call : (events : List Event) (now : NodeState) → is_some (pin_of s 0) ≡ Rattle.std.proofs.Common.true → events ≡ j.events ++ event.Went 0 kind.End ∷ [] → now ≡ without_pin s 0 → IsKeptWith starts says j events table now
   end_call events now some is end = one_more (event.Went 0 kind.End) events now (without_pin s 0) refl (end_lawful starts says proper j table s lawful some) is end
+
+  pub refresh_call : (events : List Event) (now : NodeState) → is_some (pin_of s 0) ≡ Rattle.std.proofs.Common.true → events ≡ j.events ++ event.Refresh 0 s.head ∷ [] → now ≡ with_pin s 0 (pin_now s) → IsKeptWith starts says j events table now
+  refresh_call events now some is end = one_more (event.Refresh 0 s.head) events now (with_pin s 0 (pin_now s)) refl (refresh_lawful starts says proper j table s lawful some) is end
 
   -- the events stay
   pub still_call : (events : List Event) (now : NodeState) → events ≡ j.events → now ≡ s → IsKeptWith starts says j events table now

@@ -146,6 +146,24 @@ module _ (starts : Starts) (says : Says) (proper : StartsProper starts) (session
           notes = kept.notes;
         }
 
+    -- ---- the base moves
+
+    pub refresh_kept : (pin : Pin) → lookup (is_at (nat_cmp 0)) pins ≡ Some pin → IsKept starts says sessions (event.Refresh 0 (head_at t) ∷ past) table (with_pin (resting t pins notes) 0 (pin_now (resting t pins notes)))
+    refresh_kept pin has =
+        let p = pinned_is past pin (sym kept.pin ∙ has) in record {
+          nodes = kept.nodes;
+          session = λ h. kept.session p.login;
+          run = (record { login = p.login; idle = kept.rest.drawing past (λ q h. h); head = (1, kept.session p.login, sym (head_rest past t kept.rest)) }, kept.run);
+          rest = refresh_at_rest past t kept.rest (head_at t);
+          seen = λ w h. based past (head_at t) w (seen_committed past t kept.rest.committed) h;
+          node = refl;
+          pin = pin_put pins (pin_now (resting t pins notes)) ∙ sym (session_pinned (event.Refresh 0 (head_at t) ∷ past) (head_at t) p.login p.stays refl);
+          alone = alone_put pins (pin_now (resting t pins notes)) kept.alone;
+          holds = quiet_keeps (documents_in table.documents) past (event.Refresh 0 (head_at t)) refl kept.holds;
+          plain = kept.plain;
+          notes = kept.notes;
+        }
+
     -- ---- the draw of a commit
 
     module _ (v : RevVec) (edit : Edit) (marks : List MarkAt) (login : has_login past 0 ≡ true) (stays : has_left past 0 ≡ false) (base : base_of past 0 ≡ Some v) (lawful : starts (history past) 0 edit marks) where

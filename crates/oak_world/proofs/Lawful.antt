@@ -39,7 +39,7 @@ use Rattle.oak_world.specs.Kept.{IsKept, IsLawful, resting}
 use Rattle.oak_world.specs.Worlds.{start_node, start_table, with_events}
 use Rattle.oak_world.proofs.Additions.{added_reverse}
 use Rattle.oak_world.proofs.Begins.{sessions_of, start_kept}
-use Rattle.oak_world.proofs.Keeping.{end_kept, login_kept, pinned_is, said_kept}
+use Rattle.oak_world.proofs.Keeping.{end_kept, login_kept, pinned_is, refresh_kept, said_kept}
 use Rattle.oak_world.proofs.Saves.{commit_keeps, given_keeps, some_pin}
 
 impossible : (n : ℕ) → 1 ≤ n → n ≤ 0 → ⊥
@@ -75,6 +75,13 @@ module _ (starts : Starts) (says : Says) (proper : StartsProper starts) (j : Jou
       one_more (event.Went 0 kind.End) (without_pin s 0)
       (subst (λ (x : NodeState). IsKept starts says j.sessions (event.Went 0 kind.End ∷ past) table (without_pin x 0)) (sym lawful.kept.node)
       (end_kept starts says proper j.sessions past table s.last_time s.pins s.notes at_rest pin.0 pin.1))
+
+  pub refresh_lawful : is_some (pin_of s 0) ≡ true → IsLawful starts says (with_events j (event.Refresh 0 s.head ∷ [])) table (with_pin s 0 (pin_now s))
+  refresh_lawful some =
+      let pin = some_pin (pin_of s 0) some in
+      one_more (event.Refresh 0 s.head) (with_pin s 0 (pin_now s))
+      (subst (λ (x : NodeState). IsKept starts says j.sessions (event.Refresh 0 x.head ∷ past) table (with_pin x 0 (pin_now x))) (sym lawful.kept.node)
+      (refresh_kept starts says proper j.sessions past table s.last_time s.pins s.notes at_rest pin.0 pin.1))
 
   module _ (edit : Edit) (marks : List MarkAt) (some : is_some (pin_of s 0) ≡ true) (law : starts (history_of j) 0 edit marks) where
     law_one : starts (record { clusters = 1; sessions = j.sessions; past = past }) 0 edit marks

@@ -73,3 +73,11 @@ given_place old new edit marks before after (inr off) spare empty larger =
 pub same_place : (old events : List Event) (before after : Vec Event Global) → events ≡ old → vec_capacity after ≡ vec_capacity before → after.items ≡ [] → IsSpare old before → IsSpare events after
 same_place old events before after is same empty spare =
     subst (λ (es : List Event). IsSpare es after) (sym is) (record { empty = empty; place = λ h. let p = spare.place h in omega arith })
+
+-- a move of the base keeps a place
+pub moved_place : (old events : List Event) (v : RevVec) → events ≡ old ++ event.Refresh 0 v ∷ [] → has_place events ≡ true
+moved_place old events v is = ap has_place is ∙ last old (event.Refresh 0 v)
+
+-- where nothing is appended, what there was is kept in a vector that is no smaller
+pub larger_place : (events : List Event) (before after : Vec Event Global) → vec_capacity before ≤ vec_capacity after → after.items ≡ [] → IsSpare events before → IsSpare events after
+larger_place events before after larger empty spare = record { empty = empty; place = λ h. let p = spare.place h in omega arith }

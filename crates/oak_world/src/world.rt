@@ -165,6 +165,26 @@ impl<L: Law + Drop> World<L> {
         Ok(pin)
     }
 
+    /// The session, which is there, moves its base to the node's head: its pin is made anew. A step of the kind Pin (JSR 283, 10.11.4
+    /// Refresh). The reply that follows always finds its place.
+    pub fn refresh(&mut self) -> Result<Pin, AllocError>
+        requires { IsSome (pin_of self.old.node 0) }
+        ensures pinned { IfOk result (λ pin. pin ≡ pin_now self.old.node) }
+        ensures ok { OnOk result (self.new ≡ record self.old {
+          journal = with_events self.old.journal (event.Refresh 0 self.old.node.head ∷ []);
+          node = with_pin self.old.node 0 (pin_now self.old.node);
+        }) }
+        ensures err { OnErr result (self.new ≡ self.old) }
+        ensures place { OnOk result (IsTrue (has_place self.new.journal.events)) }
+    {
+        let mut events = self.journal.events.inner_mut();
+        events.reserve(1)?;
+        self.spare.reserve(events.capacity() + 1)?;
+        let moved = self.node.pin(0)?;
+        events.push_reserved(Event::Refresh(0, moved.base));
+        Ok(moved)
+    }
+
     /// Commits an edit of the session with its marks, which the law lets start. It draws a revision at the session's base, writes each marked node's
     /// document in store order and last the commit root, which commits the revision; then the revision ends and the base
     /// moves to the head. A step for each document, and of the kinds Draw, Last, Finish and Pin (Oak, DocumentNodeStore:

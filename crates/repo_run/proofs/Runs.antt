@@ -1,5 +1,5 @@
 -- The world with which the run of a script ends is lawful, and each command of the script is answered once, in order.
-use Rattle.std.proofs.Common.{◌≡◌, inl, inr, ℕ, suc, zero, ◌+◌, ◌<◌, ◌≤◌, get_or, Bool, true, false, cond, not, Some, None, Option, List, [], ◌∷◌, ◌++◌, is_some, refl, sym, ap, subst, ◌∙◌, arith}
+use Rattle.std.proofs.Common.{◌≡◌, inl, inr, ℕ, suc, zero, ◌+◌, ◌<◌, ◌≤◌, get_or, Bool, true, false, cond, not, ◌||◌, Some, None, Option, List, [], ◌∷◌, ◌++◌, is_some, refl, sym, ap, subst, ◌∙◌, arith}
 use Rattle.std.specs.Prelude.{◌==◌, codes, length, map, reverse, slice_get}
 use Rattle.std.specs.Option.{option_map_or}
 use Rattle.std.specs.List.{filter_map, range_with_len}
@@ -32,20 +32,20 @@ use Rattle.oak_world.proofs.Saves.{some_pin}
 use Rattle.core_heads.proofs.Orders.{same_number}
 use Rattle.jcr_trans.specs.declared.command.Command.{Command}
 use Rattle.jcr_trans.specs.declared.command.Command.TheVariants as command
-use Rattle.jcr_trans.specs.Commands.{saves}
-use Rattle.jcr_trans.proofs.Passing.{only_save}
-use Rattle.jcr_trans.specs.Answers.{ShowsNothing, ShowsRevision}
-use Rattle.jcr_trans.specs.Texts.{answer_text}
-use Rattle.jcr_trans.specs.Views.{over_limit, view_after}
+use Rattle.jcr_trans.specs.Commands.{is_plain, refreshes, saves, shows_base}
+use Rattle.jcr_trans.proofs.Passing.{only_head, only_refresh, only_save}
+use Rattle.jcr_trans.specs.Answers.{ShowsNothing, ShowsRevision, ShowsVector}
+use Rattle.jcr_trans.specs.Texts.{answer_text, memory_text}
+use Rattle.jcr_trans.specs.Views.{too_many_nodes, view_after}
 use Rattle.core_law.proofs.Passing.{next_more}
-use Rattle.core_law.specs.Law.{MayStart, has_few_nodes, is_plain}
+use Rattle.core_law.specs.Law.{MayStart, has_few_nodes}
 use Rattle.core_law.specs.State.{command_at}
 use Rattle.jcr_session.specs.declared.law.JcrLaw.{JcrLaw}
 use Rattle.repo_run.specs.Headline.{FollowsScript, HasRun, index_said}
 use Rattle.repo_run.specs.Stands.{AreFrom, IsBegun, IsLawfulWorld, IsNext, Stands, says_of, starts_of}
-use Rattle.repo_run.specs.Turns.{Answers, AnswersAll, AnswersSave, AnswersView, AreOfOne, memory_text, IsCancelled, IsRefused, IsSaved, IsSeen, IsSessionRun, IsShown, IsSmall, IsTooMany, IsUnchanged, RunsScript, State, first_commands, ended, law_of, logged_in, pending, pending_marks, said, state}
+use Rattle.repo_run.specs.Turns.{Answers, AnswersAll, AnswersHead, AnswersRefresh, AnswersSave, AnswersView, AreOfOne, IsCancelled, IsRefused, IsSaved, IsSeen, IsSessionRun, IsShown, IsSmall, IsTooMany, IsUnchanged, RunsScript, State, first_commands, ended, law_of, logged_in, pending, pending_marks, said, state}
 use Rattle.repo_run.proofs.Pinned.{pinned_by_pin}
-use Rattle.repo_run.proofs.Stands.{MaySayNow, proper_of, say_called, say_many, say_memory, say_saved, say_unchanged, say_view, shown_is, stands_said, start}
+use Rattle.repo_run.proofs.Stands.{MaySayNow, proper_of, say_called, say_head, say_many, say_memory, say_refreshed, say_saved, say_unchanged, say_view, shown_is, stands_said, start}
 
 -- ---- one command
 
@@ -57,7 +57,7 @@ module _ (i : ℕ) (old : State) (stands : Stands old.world old.base old.view i)
   save_says next text is (inl u) =
       (subst (λ (t : Text). MaySayAt next i t) (sym u.reply) (subst (λ (x : State). MaySayAt x i (answer_text ShowsNothing)) (sym u.state) (say_unchanged old.world old.base old.view i stands is u.nothing)), ap (λ (x : State). x.world.law) u.state)
   save_says next text is (inr (inl u)) =
-      (subst (λ (t : Text). MaySayAt next i t) (sym u.reply) (subst (λ (x : State). MaySayAt x i (answer_text (over_limit (codes "nodes") 100000))) (sym u.state) (say_many old.world old.base old.view i stands is u.many)), ap (λ (x : State). x.world.law) u.state)
+      (subst (λ (t : Text). MaySayAt next i t) (sym u.reply) (subst (λ (x : State). MaySayAt x i (answer_text too_many_nodes)) (sym u.state) (say_many old.world old.base old.view i stands is u.many)), ap (λ (x : State). x.world.law) u.state)
   save_says next text is (inr (inr (inl u))) =
       let reply : Text = answer_text (ShowsRevision (next_draw old.world.node)) in (
         subst (λ (t : Text). MaySayAt next i t) (sym u.reply) (subst (λ (v : Nodes). MaySayNow next.world next.base v i reply) (sym u.view)
@@ -85,12 +85,39 @@ module _ (i : ℕ) (old : State) (stands : Stands old.world old.base old.view i)
     ap (λ (w : WorldOf JcrLaw). w.law) a.world,
   )
 
+  refresh_says : (next : State) (text : Text) → command_at old.world.law.sessions 0 i ≡ Some (command.Refresh false) → AnswersRefresh old next text → MaySayAt next i text × (next.world.law ≡ old.world.law)
+  refresh_says next text is (inl u) =
+      let reply : Text = answer_text (ShowsVector old.world.node.head) in (
+        subst (λ (t : Text). MaySayAt next i t) (sym u.reply) (subst (λ (v : Nodes). MaySayNow next.world next.base v i reply) (sym u.view)
+            (subst (λ (w : WorldOf JcrLaw). MaySayNow w next.base next.base i reply) (sym u.world)
+            (say_refreshed old.world old.base old.view i stands is next.base (subst (λ (w : WorldOf JcrLaw). IsShown w next.base) u.world u.base)))),
+        ap (λ (w : WorldOf JcrLaw). w.law) u.world,
+      )
+  refresh_says next text is (inr u) =
+      (subst (λ (t : Text). MaySayAt next i t) (sym u.0) (subst (λ (x : State). MaySayAt x i memory_text) (sym u.1) (say_memory old.world old.base old.view i stands (command.Refresh false) is)), ap (λ (x : State). x.world.law) u.1)
+
+  head_says : (next : State) (text : Text) → command_at old.world.law.sessions 0 i ≡ Some command.Head → AnswersHead old next text → MaySayAt next i text × (next.world.law ≡ old.world.law)
+  head_says next text is a = (
+    subst (λ (x : State). MaySayAt x i text) (sym a.state) (elim a.shown [
+      | inl shown ↦ subst (λ (t : Text). MaySayAt old i t) (sym shown) (say_head old.world old.base old.view i stands is)
+      | inr want ↦ subst (λ (t : Text). MaySayAt old i t) (sym want) (say_memory old.world old.base old.view i stands command.Head is)
+    ]),
+    ap (λ (x : State). x.world.law) a.state,
+  )
+
   pub answer_says : (c : Command) (next : State) (text : Text) → command_at old.world.law.sessions 0 i ≡ Some c → Answers c old next text → MaySayAt next i text × (next.world.law ≡ old.world.law)
-  answer_says c next text is a = by (saves c) refl
+  answer_says c next text is a = by (saves c) (refreshes c) (shows_base c) refl refl refl
     where
-      by : (b : Bool) → saves c ≡ b → MaySayAt next i text × (next.world.law ≡ old.world.law)
-      by true e = save_says next text (subst (λ (d : Command). command_at old.world.law.sessions 0 i ≡ Some d) (only_save c e) is) (a.save e)
-      by false e = view_says c next text is (ap not e) (a.view (ap not e))
+      at : (d : Command) → c ≡ d → command_at old.world.law.sessions 0 i ≡ Some d
+      at d same = subst (λ (d : Command). command_at old.world.law.sessions 0 i ≡ Some d) same is
+
+      by : (s r h : Bool) → saves c ≡ s → refreshes c ≡ r → shows_base c ≡ h → MaySayAt next i text × (next.world.law ≡ old.world.law)
+      by true r h e f g = save_says next text (at command.Save (only_save c e)) (a.save e)
+      by false true h e f g = refresh_says next text (at (command.Refresh false) (only_refresh c f)) (a.refresh f)
+      by false false true e f g = head_says next text (at command.Head (only_head c g)) (a.head g)
+      by false false false e f g =
+          let view : is_plain c ≡ true = ap (λ b. not (b || refreshes c || shows_base c)) e ∙ (ap (λ b. not (b || shows_base c)) f ∙ ap not g) in
+          view_says c next text is view (a.view view)
 
 -- ---- all commands
 
