@@ -42,6 +42,7 @@ is_entry_done script (entry.Write s n) before part = has_written n (part ++ befo
 is_entry_done script (entry.Last s) before part = has_just_said s part || is_resting script (part ++ before) s
 is_entry_done script (entry.Read s) before part = true
 
+-- the part has come to its end by its rule, whatever comes
 abbrev pub is_done : Script → Rule → Past → Past → Bool
 is_done script (by_entry e) before part = is_entry_done script e before part
 is_done script (to_reply s) before part = has_just_said s part

@@ -25,6 +25,7 @@ use Rattle.jr_script.specs.declared.script.Script.{Script}
 abbrev pub history_at : Script → Past → History
 history_at script past = record { clusters = script.clusters; sessions = map (λ x. x.cluster) script.sessions; past = past }
 
+-- the commands of session s; none, where there is no such session
 abbrev pub commands_of : Script → ℕ → List Command
 commands_of script s = option_map_or (λ x. x.commands) (slice_get script.sessions s) []
 
@@ -68,10 +69,12 @@ since_draw [] s = []
 since_draw (event.Draw d ∷ past) s = cond (d.session == s) [] (event.Draw d ∷ since_draw past s)
 since_draw (e ∷ past) s = e ∷ since_draw past s
 
+-- session s wrote a document
 abbrev pub is_write_of : ℕ → Event → Bool
 is_write_of s (event.Went t kind.Write) = t == s
 is_write_of s _ = false
 
+-- session s undid a document
 abbrev pub is_undo_of : ℕ → Event → Bool
 is_undo_of s (event.Went t kind.Undo) = t == s
 is_undo_of s _ = false
@@ -100,10 +103,12 @@ abbrev pub next_of : Past → ℕ → List Event → Option Event
 next_of past s [] = None
 next_of past s (e ∷ later) = cond (is_own past s e) (Some e) (next_of (e ∷ past) s later)
 
+-- a commit by its last write
 abbrev pub is_commit : Event → Bool
 is_commit (event.Commit r) = true
 is_commit _ = false
 
+-- a document that is written, or a collision that is noted
 abbrev pub is_write_or_mark : Event → Bool
 is_write_or_mark (event.Went t kind.Write) = true
 is_write_or_mark (event.Went t kind.Mark) = true
