@@ -10,8 +10,9 @@ use Rattle.repo_run.specs.Headline.{HasRun}
 use Rattle.repo_run.specs.Statuses.{fault_line, status_of}
 use Rattle.repo_run.specs.declared.status.Unrun.{Unrun}
 use Rattle.repo_run.specs.declared.status.Unrun.TheVariants as unrun
-use Rattle.repo_run.specs.Words.{meaning_of}
+use Rattle.repo_run.specs.Words.{Means}
 use Rattle.repo_run.specs.declared.words.Words.{Words}
+use Rattle.repo_run.specs.declared.words.Words.TheVariants.{Steps}
 use mathlib.Core.Bool.{false≢true}
 
 -- ---- no script is run
@@ -26,7 +27,7 @@ module _ (c : Call) (none : c.left ≡ None) where
       (record { fault = t.1; part = subst (λ (o : Option (WorldOf JcrLaw)). IsPart c o) (sym none) (why, line, cause, t.2) })
 
   -- memory was refused
-  refused : (result : Status) → IsSome (meaning_of c.words) → IsRefused c.sink c.sink_now result → EndsWith c result
+  refused : (result : Status) → Means c.words Steps → IsRefused c.sink c.sink_now result → EndsWith c result
   refused result meant told =
       subst (λ (r : Status). EndsWith c r) (sym told.0) (record { meant = meant; ran = subst (λ (o : Option (WorldOf JcrLaw)). IfSome o (HasRunAll c)) (sym none) tt; nothing = told.1 })
 
@@ -38,8 +39,12 @@ module _ (c : Call) (none : c.left ≡ None) where
   unrun_ends unrun.TooLong result cause told = lined unrun.TooLong result tt cause (λ f. f) told
   unrun_ends unrun.Memory result cause told = refused result cause.0 told
 
+-- the one meaning that words can have is `steps`
+pub means_steps : (words : List (List ℕ)) (meaning : Words) → Means words meaning → Means words Steps
+means_steps words Steps means = means
+
 -- no script came of a source, where the words have a meaning
-pub unread_cause : (c : Call) (why : Unrun) → IsSome (meaning_of c.words) → IsUnread c.source c.source_now why → IsCause c why
+pub unread_cause : (c : Call) (why : Unrun) → Means c.words Steps → IsUnread c.source c.source_now why → IsCause c why
 unread_cause c unrun.Words meant unread = absurd unread
 unread_cause c (unrun.Script rule pointer) meant unread = (meant, unread)
 unread_cause c unrun.ReadFault meant unread = (meant, unread)
@@ -52,7 +57,7 @@ unread_cause c unrun.Memory meant unread = (meant, unread)
 pub told_text : (before now : Output) (text same : List ℕ) (answer result : Status) → text ≡ same → Tells before now text answer result → Tells before now same answer result
 told_text before now text same answer result e told = subst (λ (t : List ℕ). Tells before now t answer result) e told
 
-module _ (c : Call) (script : Script) (meant : IsSome (meaning_of c.words)) (read : (bytes : List ℕ) × IsReadWhole c.source c.source_now bytes × Spells bytes script) where
+module _ (c : Call) (script : Script) (meant : Means c.words Steps) (read : (bytes : List ℕ) × IsReadWhole c.source c.source_now bytes × Spells bytes script) where
   run_all : (world : WorldOf JcrLaw) → HasRun script world → HasRunAll c world
   run_all world ran = record { meant = meant; bytes = read.0; read = read.1; script = script; spells = read.2; ran = ran }
 
@@ -73,16 +78,12 @@ module _ (c : Call) (script : Script) (meant : IsSome (meaning_of c.words)) (rea
 
 -- ---- where nothing fails
 
-unmeant : {A : Type 0} (o : Option Words) → IsSome o → IsNone o → A
-unmeant None some none = absurd (false≢true some)
-unmeant (Some w) some none = absurd (false≢true (sym none))
-
 all_bytes : (c : Call) (bytes all : List ℕ) → c.source.left ≡ Some bytes → IsReadWhole c.source c.source_now all → all ≡ bytes
 all_bytes c bytes all is read = subst (λ (o : Option (List ℕ)). IfSome o (λ left. all ≡ left)) is read.all
 
 -- a fault with a line comes of the words, of the bytes, or of a source that failed or gave too many
 calm_fault : (c : Call) (s : Status) (why : Unrun) → s ≡ status_of why → IsCause c why → (bytes : List ℕ) → FailsNowhere c bytes → IsCalm bytes s
-calm_fault c s unrun.Words is cause bytes calm = unmeant (meaning_of c.words) calm.meant cause
+calm_fault c s unrun.Words is cause bytes calm = absurd (cause Steps calm.meant)
 calm_fault c s (unrun.Script rule pointer) is cause bytes calm =
     let unread = cause.1 in subst (λ (r : Status). IsCalm bytes r) (sym is) (rule, pointer, subst (λ (b : List ℕ). BreaksRule b rule pointer) (all_bytes c bytes unread.0 calm.tells unread.1) unread.2)
 calm_fault c s unrun.ReadFault is cause bytes calm = absurd (calm.reads cause.1)

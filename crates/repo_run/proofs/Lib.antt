@@ -1,4 +1,5 @@
 pub mod Faulty
+pub mod Given
 pub mod Kept
 pub mod Loaded
 pub mod Pinned

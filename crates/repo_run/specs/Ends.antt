@@ -1,5 +1,5 @@
 -- How a call ends: what was read, what was written, and why.
-use Rattle.std.specs.Prelude.{◌≡◌, ◌⊎◌, ℕ, ◌≤◌, ◌<◌, ◌+◌, List, Option, None, Some, length, IfSome, IsNone, IsSome, ⊤}
+use Rattle.std.specs.Prelude.{◌≡◌, ◌⊎◌, ℕ, ◌≤◌, ◌<◌, ◌+◌, List, Option, None, Some, length, IfSome, ⊤}
 use Rattle.serde_json.specs.Data.{Data}
 use Rattle.jr_io.specs.Causes.{Rose, RoseBy, RoseExactly}
 use Rattle.jr_io.specs.Told.{Grows, IsDrained}
@@ -15,7 +15,9 @@ use Rattle.repo_run.specs.Headline.{HasRun}
 use Rattle.repo_run.specs.Statuses.{fault_line, script_line, status_of}
 use Rattle.repo_run.specs.declared.status.Unrun.{Unrun}
 use Rattle.repo_run.specs.declared.status.Unrun.TheVariants as unrun
-use Rattle.repo_run.specs.Words.{meaning_of}
+use Rattle.repo_run.specs.Words.{Means}
+use Rattle.repo_run.specs.declared.words.Words.{Words}
+use Rattle.repo_run.specs.declared.words.Words.TheVariants.{Steps}
 
 -- the greatest number of bytes of an input: 16 MiB
 abbrev pub longest : ℕ
@@ -114,7 +116,7 @@ Prints before now (Some world) result =
 
 -- a script was run to its end: the words ask for it, the source was read whole, its bytes are the script, and this is the world that it left
 pub record HasRunAll (c : Call) (world : WorldOf JcrLaw) : Type 0 where
-  pub meant : IsSome (meaning_of c.words)
+  pub meant : Means c.words Steps
   pub bytes : List ℕ
   pub read : IsReadWhole c.source c.source_now bytes
   pub script : Script
@@ -128,8 +130,8 @@ HasLine _ = ⊤
 
 -- why no script is run: the words have no meaning; or they have one, and no script came of the source
 abbrev pub IsCause : Call → Unrun → Type 0
-IsCause c unrun.Words = IsNone (meaning_of c.words)
-IsCause c why = IsSome (meaning_of c.words) × IsUnread c.source c.source_now why
+IsCause c unrun.Words = (meaning : Words) → ¬ Means c.words meaning
+IsCause c why = Means c.words Steps × IsUnread c.source c.source_now why
 
 -- a script was run to its end, its world is left, and the replies of the world's journal are written
 pub record IsDone (c : Call) : Type 0 where
@@ -159,7 +161,7 @@ pub record IsCut (c : Call) : Type 0 where
 
 -- memory was refused, and nothing is written; a world that is left is one with which a script was run to its end
 pub record IsStopped (c : Call) : Type 0 where
-  pub meant : IsSome (meaning_of c.words)
+  pub meant : Means c.words Steps
   pub ran : IfSome c.left (HasRunAll c)
   pub nothing : c.sink_now.written ≡ c.sink.written
 
@@ -181,7 +183,7 @@ IsCalm bytes _ = ⊥
 
 -- the words have a meaning, the source tells its bytes, which aren't too many, and neither end fails
 pub record FailsNowhere (c : Call) (bytes : List ℕ) : Type 0 where
-  pub meant : IsSome (meaning_of c.words)
+  pub meant : Means c.words Steps
   pub tells : c.source.left ≡ Some bytes
   pub short : length bytes ≤ longest
   pub reads : Rose c.source.faults c.source_now.faults → ⊥

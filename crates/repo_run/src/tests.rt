@@ -1,10 +1,12 @@
 use crate::status::Status;
 use crate::top::steps_main;
-use jcr_session::JcrLaw;
+use jcr_session::{JcrLaw, eval};
 use jr_io::{MemSink, MemSource};
+use jr_path::{DeepCopy, List};
 use jr_rev::RevVec;
+use jr_script::read_script;
 use oak_doc::Document;
-use oak_machine::{Event, StepKind};
+use oak_machine::{Event, Journal, StepKind};
 use oak_world::World;
 use std::alloc::{AllocError, Global};
 use std::test::Fail;
@@ -164,4 +166,60 @@ fn documents_of_the_first_example(rt: HostRuntime) -> Result<(), Fail> {
         assert_eq!(rt; name_of(event), step);
     }
     Ok(())
+}
+
+const SCRIPTS: [(&str, usize); 3] = [
+    (FIRST, 5),
+    (
+        r#"{"sessions":[{"commands":[["save"],["add","/b/c"],["add","/b"],["add","/b"],["set","/b","p",1],["save"],["set","/b","p",1],["save"],["get","/b/p"],["get","/b/q"],["list","/c"]]}]}"#,
+        11,
+    ),
+    (
+        r#"{"sessions":[{"commands":[["add","/a"],["save"],["add","/a/b"],["get","/a/b"],["list","/a"],["save"],["set","/a/b","p",7],["list","/"],["get","/a/b/p"],["save"],["save"]]}]}"#,
+        11,
+    ),
+];
+
+// Each reply of the world is the one that the law lets the session say by the journal before it.
+#[test]
+fn replies_follow_from_the_journal(rt: HostRuntime) -> Result<(), Fail> {
+    let alloc = rt.alloc();
+    for (input, commands) in SCRIPTS {
+        let (_, _, left) = run(alloc, "steps", input, &[], &[])?;
+        let Some(world) = left else {
+            return Err(AllocError.into());
+        };
+        let law = law_of(alloc, input)?;
+        let mut before = Journal {
+            clusters: 1,
+            sessions: List::new(alloc),
+            events: List::new(alloc),
+        };
+        let mut replies: usize = 0;
+        for event in world.journal().events.inner() {
+            if let Event::Said(session, _, text) = event {
+                let found = match eval(alloc, &law, &before, *session)? {
+                    Some(found) => found,
+                    None => String::from_str(alloc, "nothing")?,
+                };
+                assert_eq!(rt; found.as_str(), text.as_str());
+                replies = replies.wrapping_add(1);
+            }
+            before.events.push(event.copy()?)?;
+        }
+        assert_eq!(rt; replies, commands);
+    }
+    Ok(())
+}
+
+// The law of a script.
+fn law_of(alloc: Global, input: &str) -> Result<JcrLaw, Fail> {
+    let Ok(script) = read_script(alloc, input.as_bytes()) else {
+        return Err(AllocError.into());
+    };
+    let mut sessions = List::new(alloc);
+    for session in script.sessions.inner() {
+        sessions.push((session.cluster, session.commands.copy()?))?;
+    }
+    Ok(JcrLaw { sessions })
 }

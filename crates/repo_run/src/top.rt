@@ -7,7 +7,7 @@ ghost use Rattle.repo_run.specs.declared.status.Unrun.TheVariants as unrun;
 
 use crate::session::run_steps;
 use crate::status::{Status, Unrun, script_line};
-use crate::words::words_meant;
+use crate::words::{Words, words_meant};
 use jcr_session::JcrLaw;
 use jr_io::{Failed, Sink, Source, read_all, write_all};
 use jr_path::Text;
@@ -47,9 +47,9 @@ pub fn steps_main<S: Source, K: Sink>(
     ensures ends { Ends (call (map string_bytes words.now) (input (S.left source.old) (S.given source.old) (S.fault_count source.old)) (input (S.left source.new) (S.given source.new) (S.fault_count source.new)) (output (K.written sink.old) (K.fault_count sink.old)) (output (K.written sink.new) (K.fault_count sink.new)) left.new) result }
 {
     *left = None;
-    if words_meant(words).is_none() {
+    let Some(Words::Steps) = words_meant(words) else {
         return unrun(alloc, sink, &Unrun::Words);
-    }
+    };
     match script_of(alloc, source) {
         Ok(script) => run_script(alloc, script, sink, left),
         Err(why) => unrun(alloc, sink, &why),

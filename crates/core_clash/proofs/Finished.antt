@@ -1,0 +1,96 @@
+-- An end keeps what holds, and any event that no step of a commit appends.
+use Rattle.std.proofs.Common.{◌≡◌, Bool, true, false, not, ◌||◌, ◌&&◌, ◌⊎◌, inl, inr, refl, sym, subst}
+use mathlib.Core.Bool.{false≢true}
+use Rattle.jr_rev.specs.declared.revision.Revision.{Revision}
+use Rattle.jr_rev.specs.Revisions.{is_same}
+use Rattle.oak_machine.specs.declared.event.Draw.{Draw}
+use Rattle.oak_machine.specs.declared.event.Event.{Event}
+use Rattle.oak_machine.specs.declared.event.Event.TheVariants as event
+use Rattle.oak_machine.specs.Commits.{is_drawn, is_ended}
+use Rattle.core_clash.specs.Core.{Core, IsDone, MayFinish, after_finish, after_event, is_quiet}
+use Rattle.core_clash.specs.Sound.{Sound}
+use Rattle.core_clash.proofs.Basics.{same_revision, or_cases}
+use Rattle.core_clash.proofs.Pasts.{cause_later, refusal_later, due_later}
+
+module _ (s : Core) (d : Draw) where
+  abbrev r : Revision
+  r = d.revision
+
+  abbrev pub t : Core
+  t = after_finish s d
+
+  module _ (sound : Sound s) (may : MayFinish s d) where
+    of_ended : (P : Revision → Type 0) → P r → ((o : Revision) → is_ended s.past o ≡ true → P o) → (o : Revision) → is_ended t.past o ≡ true → P o
+    of_ended P here there o h = by (or_cases (is_same o r) _ h)
+      where
+        by : (is_same o r ≡ true) ⊎ (is_ended s.past o ≡ true) → P o
+        by (inl e) = subst P (sym (same_revision o r e)) here
+        by (inr h) = there o h
+
+    flew : (a b c : Bool) → (a && not (b || c)) ≡ true → (a && not c) ≡ true
+    flew true false c h = h
+    flew true true c h = absurd (false≢true h)
+    flew false b c h = absurd (false≢true h)
+
+    pub finish_keeps : Sound t
+    finish_keeps = record {
+      ordered = sound.ordered;
+      committed_drawn = sound.committed_drawn;
+      refused_drawn = sound.refused_drawn;
+      ended_drawn = of_ended (λ o. is_drawn s.past o ≡ true) (rw may.draw refl) sound.ended_drawn;
+      settled = λ a o h. sound.settled a o (flew (is_drawn s.past o) (is_same o r) (is_ended s.past o) h);
+      start = sound.start;
+      entries = sound.entries;
+      origin = sound.origin;
+      edits = sound.edits;
+      rooted = sound.rooted;
+      unrooted = sound.unrooted;
+      once = sound.once;
+      listed = sound.listed;
+      stopped = sound.stopped;
+      refusal = λ o h. refusal_later _ s.past o refl (λ x k. refl) (sound.refusal o h);
+      covered = sound.covered;
+      refused = sound.refused;
+      ended = of_ended (IsDone s) may.done sound.ended;
+      due = λ o f h. due_later _ s.past o f refl refl (sound.due o f h);
+      caused = λ q x o i h. cause_later _ s.past x i o refl refl (sound.caused q x o i h);
+      status = sound.status;
+      only_committed = sound.only_committed;
+      whole = sound.whole;
+      unmarked = sound.unmarked;
+      noticed = λ a o q m n apart sa so c. sound.noticed a o q m n apart (record { written = sa.written; going = sa.going; mark = sa.mark }) (record { written = so.written; going = so.going; mark = so.mark }) c;
+    }
+
+-- an event that no step of a commit appends keeps what holds
+pub event_keeps : (s : Core) (e : Event) → is_quiet e ≡ true → Sound s → Sound (after_event s e)
+event_keeps s (event.Draw d) q sound = absurd (false≢true q)
+event_keeps s (event.Commit r) q sound = absurd (false≢true q)
+event_keeps s (event.Refuse r item o) q sound = absurd (false≢true q)
+event_keeps s (event.End r) q sound = absurd (false≢true q)
+event_keeps s e q sound = record {
+  ordered = sound.ordered;
+  committed_drawn = sound.committed_drawn;
+  refused_drawn = sound.refused_drawn;
+  ended_drawn = sound.ended_drawn;
+  settled = sound.settled;
+  start = sound.start;
+  entries = sound.entries;
+  origin = sound.origin;
+  edits = sound.edits;
+  rooted = sound.rooted;
+  unrooted = sound.unrooted;
+  once = sound.once;
+  listed = sound.listed;
+  stopped = sound.stopped;
+  refusal = λ o h. refusal_later _ s.past o refl (λ x k. refl) (sound.refusal o h);
+  covered = sound.covered;
+  refused = sound.refused;
+  ended = sound.ended;
+  due = λ o f h. due_later _ s.past o f refl refl (sound.due o f h);
+  caused = λ p x o i h. cause_later _ s.past x i o refl refl (sound.caused p x o i h);
+  status = sound.status;
+  only_committed = sound.only_committed;
+  whole = sound.whole;
+  unmarked = sound.unmarked;
+  noticed = λ a o p m n apart sa so c. sound.noticed a o p m n apart (record { written = sa.written; going = sa.going; mark = sa.mark }) (record { written = so.written; going = so.going; mark = so.mark }) c;
+}

@@ -1,0 +1,23 @@
+pub mod Basics
+pub mod Pasts
+pub mod Effects
+pub mod Apart
+pub mod Written
+pub mod Marked
+pub mod Committed
+pub mod Refused
+pub mod Undone
+pub mod Finished
+pub mod Drawn
+pub mod Documents
+pub mod Updates
+pub mod Firsts
+pub mod Meetings
+pub mod Wanted
+pub mod Steps
+pub mod Undoing
+pub mod Reach
+pub mod Begin
+pub mod Complete
+mod Rows
+pub mod Sessions

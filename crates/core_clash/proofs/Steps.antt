@@ -1,0 +1,140 @@
+-- Each step keeps what holds; each commit and each refusal may follow.
+use Rattle.std.proofs.Common.{◌≡◌, ◌+◌, true, false, ◌⊎◌, inl, inr, Some, Ok, Err, Result, List, [], ◌∷◌, ◌++◌, refl, sym, subst, ◌∙◌, is_some}
+use Rattle.jr_path.specs.declared.path.Path.{Path}
+use Rattle.jr_path.specs.declared.path.Item.{Item}
+use Rattle.jr_rev.specs.declared.revision.Revision.{Revision}
+use Rattle.jr_rev.specs.Vectors.{sees, start_of}
+use Rattle.oak_clash.specs.declared.mark.Mark.{Mark}
+use Rattle.oak_doc.specs.declared.document.Document.{Document}
+use Rattle.oak_doc.specs.declared.update.OpFault.{OpFault}
+use Rattle.oak_doc.specs.declared.update.OpFault.TheVariants as fault
+use Rattle.oak_doc.specs.declared.update.Kept.TheVariants as kept
+use Rattle.oak_doc.specs.declared.update.Cond.TheVariants.{NoCollision}
+use Rattle.oak_doc.specs.Updates.{updated, after_changes}
+use Rattle.oak_machine.specs.declared.event.Draw.{Draw}
+use Rattle.oak_machine.specs.declared.event.Event.TheVariants as event
+use Rattle.oak_machine.specs.declared.event.StepKind.TheVariants as kind
+use Rattle.oak_machine.specs.Commits.{is_committed, is_drawn, is_refused, is_ended, is_in_base, are_clashing, marks_of}
+use Rattle.oak_machine.specs.Runs.{IsOpen, MayCommit, MayRefuse}
+use Rattle.oak_commit.specs.Writing.{write_op, last_op}
+use Rattle.oak_commit.specs.Clashing.{Met, marked, noted, collision, found, mark_op}
+use Rattle.core_clash.specs.Views.{In, mark_at}
+use Rattle.core_clash.specs.Core.{Core, docs_after, with_document, with_writer, root_of, IsGoing, IsDone, MayWrite, MayMark, MayLast, after_write, after_mark, after_last, marked_by, lasted_by}
+use Rattle.core_clash.specs.Sound.{Sound, Cause, Noticed, Stands, IsOf, IsRooted}
+use Rattle.core_clash.proofs.Basics.{test, not_both, none_in}
+use Rattle.core_clash.proofs.Pasts.{in_flight}
+use Rattle.core_clash.proofs.Apart.{clash_from, apart_at_last}
+use Rattle.core_clash.proofs.Updates.{write_is, writes, mark_is, marks, last_is, notes}
+use Rattle.core_clash.proofs.Meetings.{meeting}
+use Rattle.core_clash.proofs.Written.{write_keeps}
+use Rattle.core_clash.proofs.Marked.{mark_keeps}
+use Rattle.core_clash.proofs.Committed.{commit_keeps}
+use Rattle.core_clash.proofs.Refused.{refuse_keeps}
+
+pub write_step : (s : Core) (d : Draw) (p : Path) (rest : List Path) → Sound s → MayWrite s d p rest → Sound (after_write s d p rest)
+write_step s d p rest sound may = subst
+    (λ (x : Result Document OpFault). Sound (record {
+      number = s.number + 1;
+      docs = docs_after s.docs p x;
+      past = event.Went d.session kind.Write ∷ s.past;
+      writers = with_writer s.writers d.revision (record (s.writers d.revision) { left = rest; written = (s.writers d.revision).written ++ p ∷ []; due = found d.base d.revision p d.marks (s.docs p) });
+    }))
+    (sym (write_is (s.docs p) d p (s.number + 1)))
+    (write_keeps s d p rest (s.number + 1) (with_document s.docs p (after_changes (s.docs p) (write_op d.revision d.edit.writes d.marks p) (s.number + 1))) (found d.base d.revision p d.marks (s.docs p)) sound may (writes s.docs d p (s.number + 1) (sound.ordered p) (sound.edits d.revision d may.going.draw)) (meeting d.base d.revision p d.marks (s.docs p)))
+
+pub mark_step : (s : Core) (d : Draw) (f : Met) (rest : List Met) → Sound s → MayMark s d f rest → Sound (after_mark s d f rest)
+mark_step s d f rest sound may = by (mark_is (s.docs (root_of s.past f.other)) s.past d.revision f (s.number + 1))
+  where
+    by : ((noted (s.docs (root_of s.past f.other)) f.other ≡ false) × (updated (s.docs (root_of s.past f.other)) (mark_op (root_of s.past f.other) f.other d.revision f.theirs) (s.number + 1) ≡ Ok (after_changes (s.docs (root_of s.past f.other)) (mark_op (root_of s.past f.other) f.other d.revision f.theirs) (s.number + 1)))) ⊎ ((g : OpFault) × (updated (s.docs (root_of s.past f.other)) (mark_op (root_of s.past f.other) f.other d.revision f.theirs) (s.number + 1) ≡ Err g)) → Sound (after_mark s d f rest)
+    by (inl h) = subst (λ (x : Result Document OpFault). Sound (marked_by s d f rest x)) (sym h.1)
+        (mark_keeps s d f rest (s.number + 1) (with_document s.docs (root_of s.past f.other) (after_changes (s.docs (root_of s.past f.other)) (mark_op (root_of s.past f.other) f.other d.revision f.theirs) (s.number + 1))) sound may (marks s.docs s.past d.revision f (s.number + 1) h.0))
+    by (inr h) = subst (λ (x : Result Document OpFault). Sound (marked_by s d f rest x)) (sym h.1) (refuse_keeps s d f.mine f.other sound may.going (sound.due d.revision f (subst (λ (fs : List Met). In f fs) (sym may.next) (inl refl))).cause)
+
+pub last_step : (s : Core) (d : Draw) → Sound s → MayLast s d → Sound (after_last s d)
+last_step s d sound may = by (last_is (s.docs (root_of s.past d.revision)) s.past d.revision (s.number + 1))
+  where
+    by : ((is_some (collision (s.docs (root_of s.past d.revision)) d.revision) ≡ false) × (updated (s.docs (root_of s.past d.revision)) (last_op d.revision (marks_of s.past d.revision)) (s.number + 1) ≡ Ok (after_changes (s.docs (root_of s.past d.revision)) (last_op d.revision (marks_of s.past d.revision)) (s.number + 1)))) ⊎ ((e : Revision × Item) × (collision (s.docs (root_of s.past d.revision)) d.revision ≡ Some e) × (updated (s.docs (root_of s.past d.revision)) (last_op d.revision (marks_of s.past d.revision)) (s.number + 1) ≡ Err (fault.Unmet (NoCollision d.revision) (kept.Entry e.0 e.1)))) → Sound (after_last s d)
+    by (inl h) = subst (λ (x : Result Document OpFault). Sound (lasted_by s d x)) (sym h.1)
+        (commit_keeps s d (s.number + 1) (with_document s.docs (root_of s.past d.revision) (after_changes (s.docs (root_of s.past d.revision)) (last_op d.revision (marks_of s.past d.revision)) (s.number + 1))) sound may (notes s.docs s.past d.revision (s.number + 1) h.0))
+    by (inr h) = subst (λ (x : Result Document OpFault). Sound (lasted_by s d x)) (sym h.2) (refuse_keeps s d h.0.1 h.0.0 sound may.going (sound.caused (root_of s.past d.revision) d.revision h.0.0 h.0.1 h.1))
+
+-- who goes on is open
+is_open : (s : Core) (d : Draw) → Sound s → IsGoing s d → IsOpen s.past d.revision
+is_open s d sound going = record { in_flight = in_flight s.past d.revision d going.draw going.unended; not_committed = going.uncommitted; not_refused = by (test (is_refused s.past d.revision)) }
+  where
+    by : (is_refused s.past d.revision ≡ true) ⊎ (is_refused s.past d.revision ≡ false) → is_refused s.past d.revision ≡ false
+    by (inl h) = not_both (s.writers d.revision).undoing (sound.refused d.revision h) going.going
+    by (inr f) = f
+
+-- the Commit of a last write may follow
+pub may_commit : (s : Core) (d : Draw) → Sound s → MayLast s d → is_some (collision (s.docs (root_of s.past d.revision)) d.revision) ≡ false → MayCommit s.past d.revision
+may_commit s d sound may free = record { open_ = is_open s d sound may.going; apart = apart_at_last s d sound may free }
+
+by_cause : (s : Core) (d : Draw) (item : Item) (o : Revision) → Sound s → IsGoing s d → Cause s.past d.revision item o → MayRefuse s.past d.revision item o
+by_cause s d item o sound going c = record { open_ = is_open s d sound going; met = c.met; outside = c.outside; live = c.live }
+
+-- the Refuse of a mark may follow
+pub may_refuse_at_mark : (s : Core) (d : Draw) (f : Met) (rest : List Met) → Sound s → MayMark s d f rest → MayRefuse s.past d.revision f.mine f.other
+may_refuse_at_mark s d f rest sound may = by_cause s d f.mine f.other sound may.going (sound.due d.revision f (subst (λ (fs : List Met). In f fs) (sym may.next) (inl refl))).cause
+
+-- the Refuse of a last write may follow
+pub may_refuse_at_last : (s : Core) (d : Draw) (o : Revision) (item : Item) → Sound s → MayLast s d → collision (s.docs (root_of s.past d.revision)) d.revision ≡ Some (o, item) → MayRefuse s.past d.revision item o
+may_refuse_at_last s d o item sound may h = by_cause s d item o sound may.going (sound.caused (root_of s.past d.revision) d.revision o item h)
+
+-- of two committed revisions that clash, the base of one sees the other
+pub no_unseen_clash : (s : Core) (r o : Revision) → Sound s → (r ≡ o → ⊥) → is_committed s.past r ≡ true → is_committed s.past o ≡ true → are_clashing s.past r o ≡ true → (is_in_base s.past r o ≡ true) ⊎ (is_in_base s.past o r ≡ true)
+no_unseen_clash s r o sound apart cr co clashes =
+    let c = clash_from (marks_of s.past r) (marks_of s.past o) clashes in
+    by (sound.noticed r o c.path c.mine c.theirs apart (stands r cr c.path c.mine c.in_mine) (stands o co c.path c.theirs c.in_theirs) c.clashes)
+  where
+    wrote : (x : Revision) (p : Path) → (s.writers x).left ≡ [] → In p (s.writers x).written ⊎ In p (s.writers x).left → In p (s.writers x).written
+    wrote x p none (inl h) = h
+    wrote x p none (inr h) = absurd (none_in p _ none h)
+
+    stands : (x : Revision) → is_committed s.past x ≡ true → (p : Path) (m : Mark) → In (mark_at p m) (marks_of s.past x) → Stands s x p m
+    stands x cx p m h = let w = sound.whole x cx in record { written = wrote x p w.left (sound.covered x p m h w.going); going = w.going; mark = h }
+
+    seen : (a b : Revision) → is_committed s.past a ≡ true → is_committed s.past b ≡ true → Noticed s a b → is_in_base s.past a b ≡ true
+    seen a b ca cb (inl h) = h
+    seen a b ca cb (inr (inl f)) = absurd (none_in f.0 _ (sound.whole a ca).due f.1)
+    seen a b ca cb (inr (inr h)) = not_both _ h (sound.unmarked b cb)
+
+    by : Noticed s r o ⊎ Noticed s o r → (is_in_base s.past r o ≡ true) ⊎ (is_in_base s.past o r ≡ true)
+    by (inl h) = inl (seen r o cr co h)
+    by (inr h) = inr (seen o r co cr h)
+
+-- what ended without a commit has left no mark
+pub undone_whole : (s : Core) (r : Revision) (p : Path) (m : Mark) → Sound s → (r ≡ start_of 1 → ⊥) → is_ended s.past r ≡ true → is_committed s.past r ≡ false → marked (s.docs p) r m ≡ false
+undone_whole s r p m sound drawn ended uncommitted = by (test (marked (s.docs p) r m))
+  where
+    none : IsDone s r → IsOf s p r m → ⊥
+    none (inl c) h = not_both (is_committed s.past r) c uncommitted
+    none (inr u) (inl e) = drawn e
+    none (inr u) (inr h) = none_in p _ u.1 h.0
+
+    by : (marked (s.docs p) r m ≡ true) ⊎ (marked (s.docs p) r m ≡ false) → marked (s.docs p) r m ≡ false
+    by (inl h) = absurd (none (sound.ended r ended) (sound.origin r p m h))
+    by (inr f) = f
+
+-- a document that has a mark of a revision tells its commit root
+pub told_root : (s : Core) (r : Revision) (p : Path) (m : Mark) → Sound s → (r ≡ start_of 1 → ⊥) → marked (s.docs p) r m ≡ true → IsRooted (s.docs p) r (root_of s.past r)
+told_root s r p m sound other h = by (sound.origin r p m h)
+  where
+    by : IsOf s p r m → IsRooted (s.docs p) r (root_of s.past r)
+    by (inl e) = absurd (other e)
+    by (inr k) = sound.rooted r p m k.0 k.1
+
+-- the document that a committer writes next tells the commit root of each whom it meets there
+pub found_root : (s : Core) (d : Draw) (p : Path) (rest : List Path) (f : Met) → Sound s → MayWrite s d p rest → In f (found d.base d.revision p d.marks (s.docs p)) → IsRooted (s.docs p) f.other (root_of s.past f.other)
+found_root s d p rest f sound may h =
+    let met = (meeting d.base d.revision p d.marks (s.docs p)).each f h in
+    told_root s f.other p met.mark.0 sound (λ e. not_both (sees d.base (start_of 1)) seen (subst (λ (x : Revision). sees d.base x ≡ false) e met.outside)) met.mark.1
+  where
+    drawn : is_drawn s.past d.revision ≡ true
+    drawn = rw may.going.draw refl
+
+    base_is : is_in_base s.past d.revision (start_of 1) ≡ sees d.base (start_of 1)
+    base_is = rw may.going.draw refl
+
+    seen : sees d.base (start_of 1) ≡ true
+    seen = sym base_is ∙ sound.start d.revision drawn

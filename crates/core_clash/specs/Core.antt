@@ -1,0 +1,176 @@
+-- The core: documents, the past and the committers, and each kind of step of a commit.
+use Rattle.std.specs.Prelude.{◌≡◌, ℕ, ◌+◌, Bool, true, false, cond, ◌⊎◌, List, [], ◌∷◌, ◌++◌, Option, Some, Result, Ok, Err}
+use Rattle.std.specs.Ordering.{eq_by_cmp}
+use Rattle.jr_path.specs.Names.{path_cmp}
+use Rattle.jr_path.specs.declared.path.Path.{Path}
+use Rattle.jr_rev.specs.declared.revision.Revision.{Revision}
+use Rattle.jr_rev.specs.Revisions.{is_same}
+use Rattle.oak_clash.specs.declared.mark.Mark.{Mark}
+use Rattle.oak_clash.specs.Clashes.{commit_root}
+use Rattle.oak_doc.specs.declared.document.Document.{Document}
+use Rattle.oak_doc.specs.declared.update.OpFault.{OpFault}
+use Rattle.oak_doc.specs.declared.update.OpFault.TheVariants as fault
+use Rattle.oak_doc.specs.declared.update.Kept.TheVariants as kept
+use Rattle.oak_doc.specs.Updates.{updated}
+use Rattle.oak_commit.specs.Writing.{write_op, last_op}
+use Rattle.oak_commit.specs.Clashing.{Met, found, mark_op, undo_op, Writer}
+use Rattle.oak_machine.specs.declared.event.Draw.{Draw}
+use Rattle.oak_machine.specs.declared.event.Event.{Event}
+use Rattle.oak_machine.specs.declared.event.Event.TheVariants as event
+use Rattle.oak_machine.specs.declared.event.StepKind.TheVariants as kind
+use Rattle.oak_machine.specs.History.{Past}
+use Rattle.oak_machine.specs.Commits.{draw_of, marks_of, is_committed, is_ended}
+use Rattle.core_heads.specs.Sound.{Begins}
+use Rattle.core_clash.specs.Views.{In, Once, mark_at, NamesItems}
+
+-- the documents of the nodes, by path
+abbrev pub Docs : Type 0
+Docs = Path → Option Document
+
+-- the number of the last update, the documents, the events so far, and the committer of each drawn revision
+pub record Core : Type 0 where
+  pub number : ℕ
+  pub docs : Docs
+  pub past : Past
+  pub writers : Revision → Writer
+
+abbrev pub is_path : Path → Path → Bool
+is_path = eq_by_cmp path_cmp
+
+abbrev pub with_document : Docs → Path → Document → Docs
+with_document docs p d q = cond (is_path q p) (Some d) (docs q)
+
+-- the documents after an update of one of them
+abbrev pub docs_after : Docs → Path → Result Document OpFault → Docs
+docs_after docs p (Ok d) = with_document docs p d
+docs_after docs p (Err fault) = docs
+
+abbrev pub with_writer : (Revision → Writer) → Revision → Writer → Revision → Writer
+with_writer writers r w q = cond (is_same q r) w (writers q)
+
+abbrev pub root_of : Past → Revision → Path
+root_of past r = commit_root (marks_of past r)
+
+-- in flight, not committed and not undoing
+pub record IsGoing (s : Core) (d : Draw) : Type 0 where
+  pub draw : draw_of s.past d.revision ≡ Some d
+  pub unended : is_ended s.past d.revision ≡ false
+  pub uncommitted : is_committed s.past d.revision ≡ false
+  pub going : (s.writers d.revision).undoing ≡ false
+
+-- a new revision that no base sees, at a base that sees the start and nothing in flight; a list of all its marked documents, each once; and marks of items that are those of the edit
+pub record MayBegin (s : Core) (d : Draw) (left : List Path) : Type 0 where
+  pub begins : Begins s.past d
+  pub covers : (p : Path) (m : Mark) → In (mark_at p m) d.marks → In p left
+  pub once : Once left
+  pub entries : NamesItems d.marks d.edit.writes
+
+abbrev pub after_draw : Core → Draw → List Path → Core
+after_draw s d left = record s {
+  past = event.Draw d ∷ s.past;
+  writers = with_writer s.writers d.revision (record { paths = left; left = left; written = []; due = []; undoing = false; wants = false });
+}
+
+-- no mark to make, and p is the next document
+pub record MayWrite (s : Core) (d : Draw) (p : Path) (rest : List Path) : Type 0 where
+  pub going : IsGoing s d
+  pub unmet : (s.writers d.revision).due ≡ []
+  pub next : (s.writers d.revision).left ≡ p ∷ rest
+
+abbrev pub after_write : Core → Draw → Path → List Path → Core
+after_write s d p rest = record {
+  number = s.number + 1;
+  docs = docs_after s.docs p (updated (s.docs p) (write_op d.revision d.edit.writes d.marks p) (s.number + 1));
+  past = event.Went d.session kind.Write ∷ s.past;
+  writers = with_writer s.writers d.revision (record (s.writers d.revision) { left = rest; written = (s.writers d.revision).written ++ p ∷ []; due = found d.base d.revision p d.marks (s.docs p) });
+}
+
+-- f is the next mark to make
+pub record MayMark (s : Core) (d : Draw) (f : Met) (rest : List Met) : Type 0 where
+  pub going : IsGoing s d
+  pub next : (s.writers d.revision).due ≡ f ∷ rest
+
+-- the committer turns to undoing
+abbrev pub undoing_from : Core → Draw → Writer
+undoing_from s d = record (s.writers d.revision) { due = []; undoing = true }
+
+abbrev pub refusing : Core → Draw → Event → Core
+refusing s d e = record s {
+  past = e ∷ s.past;
+  writers = with_writer s.writers d.revision (undoing_from s d);
+}
+
+abbrev pub marked_by : Core → Draw → Met → List Met → Result Document OpFault → Core
+marked_by s d f rest (Ok doc) = record {
+  number = s.number + 1;
+  docs = with_document s.docs (root_of s.past f.other) doc;
+  past = event.Went d.session kind.Mark ∷ s.past;
+  writers = with_writer s.writers d.revision (record (s.writers d.revision) { due = rest });
+}
+marked_by s d f rest (Err fault) = refusing s d (event.Refuse d.revision f.mine f.other)
+
+-- the mark is made, or the draw is refused with its own item and the other
+abbrev pub after_mark : Core → Draw → Met → List Met → Core
+after_mark s d f rest = marked_by s d f rest (updated (s.docs (root_of s.past f.other)) (mark_op (root_of s.past f.other) f.other d.revision f.theirs) (s.number + 1))
+
+-- no mark to make and no document to write
+pub record MayLast (s : Core) (d : Draw) : Type 0 where
+  pub going : IsGoing s d
+  pub unmet : (s.writers d.revision).due ≡ []
+  pub none_left : (s.writers d.revision).left ≡ []
+
+abbrev pub lasted_by : Core → Draw → Result Document OpFault → Core
+lasted_by s d (Ok doc) = record {
+  number = s.number + 1;
+  docs = with_document s.docs (root_of s.past d.revision) doc;
+  past = event.Commit d.revision ∷ s.past;
+  writers = s.writers;
+}
+lasted_by s d (Err (fault.Unmet c (kept.Entry o item))) = refusing s d (event.Refuse d.revision item o)
+lasted_by s d (Err _) = s
+
+-- the commit point, or the draw is refused with what is kept as its collision
+abbrev pub after_last : Core → Draw → Core
+after_last s d = lasted_by s d (updated (s.docs (root_of s.past d.revision)) (last_op d.revision (marks_of s.past d.revision)) (s.number + 1))
+
+-- want of memory: the committer turns to undoing, with no event
+abbrev pub after_want : Core → Draw → Core
+after_want s d = record s { writers = with_writer s.writers d.revision (record (undoing_from s d) { wants = true }) }
+
+-- undoing, and p is the first document that it wrote and hasn't undone
+pub record MayUndo (s : Core) (d : Draw) (p : Path) (rest : List Path) : Type 0 where
+  pub draw : draw_of s.past d.revision ≡ Some d
+  pub unended : is_ended s.past d.revision ≡ false
+  pub undoing : (s.writers d.revision).undoing ≡ true
+  pub next : (s.writers d.revision).written ≡ p ∷ rest
+
+abbrev pub after_undo : Core → Draw → Path → List Path → Core
+after_undo s d p rest = record {
+  number = s.number + 1;
+  docs = docs_after s.docs p (updated (s.docs p) (undo_op d.revision p) (s.number + 1));
+  past = event.Went d.session kind.Undo ∷ s.past;
+  writers = with_writer s.writers d.revision (record (s.writers d.revision) { written = rest });
+}
+
+-- committed, or undone whole
+abbrev pub IsDone : Core → Revision → Type 0
+IsDone s r = (is_committed s.past r ≡ true) ⊎ (((s.writers r).undoing ≡ true) × ((s.writers r).written ≡ []))
+
+pub record MayFinish (s : Core) (d : Draw) : Type 0 where
+  pub draw : draw_of s.past d.revision ≡ Some d
+  pub unended : is_ended s.past d.revision ≡ false
+  pub done : IsDone s d.revision
+
+abbrev pub after_finish : Core → Draw → Core
+after_finish s d = record s { past = event.End d.revision ∷ s.past }
+
+-- an event that no committer's step but these appends
+abbrev pub is_quiet : Event → Bool
+is_quiet (event.Draw d) = false
+is_quiet (event.Commit r) = false
+is_quiet (event.Refuse r item o) = false
+is_quiet (event.End r) = false
+is_quiet _ = true
+
+abbrev pub after_event : Core → Event → Core
+after_event s e = record s { past = e ∷ s.past }

@@ -1,0 +1,5 @@
+pub mod Views
+pub mod Core
+pub mod Sound
+pub mod Steps
+pub mod Sessions

@@ -1,0 +1,112 @@
+-- What holds of a core after every step.
+use Rattle.std.specs.Prelude.{◌≡◌, true, false, ◌⊎◌, List, [], ◌++◌, Option, Some, is_some}
+use Rattle.std.specs.Option.{option_map}
+use Rattle.jr_path.specs.declared.path.Path.{Path}
+use Rattle.jr_path.specs.declared.path.Item.{Item}
+use Rattle.jr_path.specs.declared.path.DocId.TheVariants as id
+use Rattle.jr_rev.specs.declared.revision.Revision.{Revision}
+use Rattle.jr_rev.specs.Vectors.{start_of}
+use Rattle.oak_clash.specs.declared.mark.Mark.{Mark}
+use Rattle.oak_clash.specs.Clashes.{clash, Meets}
+use Rattle.oak_doc.specs.declared.document.Document.{Document}
+use Rattle.oak_read.specs.Meaning.{commit_root_of}
+use Rattle.oak_machine.specs.declared.event.Draw.{Draw}
+use Rattle.oak_machine.specs.History.{Past}
+use Rattle.oak_machine.specs.Commits.{draw_of, marks_of, is_drawn, is_committed, is_refused, is_ended, is_in_flight, is_in_base}
+use Rattle.oak_machine.specs.Runs.{was_live_beside}
+use Rattle.oak_commit.specs.Clashing.{Met, marked, noted, collision, Writer}
+use Rattle.core_read.specs.Holds.{root_entry}
+use Rattle.core_clash.specs.Views.{In, Once, mark_at, NamesItems, AreOrdered}
+use Rattle.core_clash.specs.Core.{Core, root_of, IsDone}
+
+-- r meets o in its item, outside its base, and o was committed or in flight beside it
+pub record Cause (past : Past) (r : Revision) (item : Item) (o : Revision) : Type 0 where
+  pub other : is_drawn past o ≡ true
+  pub met : Meets (marks_of past r) (marks_of past o) item
+  pub outside : is_in_base past r o ≡ false
+  pub live : was_live_beside past r o ≡ true
+
+-- a mark to make: it causes one's own refusal, and it will cause the other's
+pub record IsDue (past : Past) (r : Revision) (f : Met) : Type 0 where
+  pub cause : Cause past r f.mine f.other
+  pub theirs : Meets (marks_of past f.other) (marks_of past r) f.theirs
+
+-- a mark in the document of p is one of the start, or one that its committer wrote there and hasn't undone
+abbrev pub IsOf : Core → Path → Revision → Mark → Type 0
+IsOf s p r m = (r ≡ start_of 1) ⊎ (In p (s.writers r).written × In (mark_at p m) (marks_of s.past r))
+
+-- the base of r sees o, or r is to mark o, or somebody has marked o
+abbrev pub Noticed : Core → Revision → Revision → Type 0
+Noticed s r o = (is_in_base s.past r o ≡ true) ⊎ ((f : Met) × In f (s.writers r).due × (f.other ≡ o)) ⊎ (is_some (collision (s.docs (root_of s.past o)) o) ≡ true)
+
+-- r is the start, or was drawn, wrote the document of p and hasn't undone it
+abbrev pub IsWriterOf : Core → Path → Revision → Type 0
+IsWriterOf s p r = (r ≡ start_of 1) ⊎ (In p (s.writers r).written × (is_drawn s.past r ≡ true))
+
+-- a document is there, and tells the commit root of r
+abbrev pub IsRooted : Option Document → Revision → Path → Type 0
+IsRooted doc r root = option_map (λ d. commit_root_of d r) doc ≡ Some (id.Node root)
+
+-- r wrote the document of p, doesn't undo, and has this mark there
+pub record Stands (s : Core) (r : Revision) (p : Path) (m : Mark) : Type 0 where
+  pub written : In p (s.writers r).written
+  pub going : (s.writers r).undoing ≡ false
+  pub mark : In (mark_at p m) (marks_of s.past r)
+
+-- a committed revision has written all, has marked all, and doesn't undo
+pub record IsWhole (w : Writer) : Type 0 where
+  pub left : w.left ≡ []
+  pub due : w.due ≡ []
+  pub going : w.undoing ≡ false
+
+-- what is undone, what is written and what is left are the documents in their order; nothing is undone before a refusal
+pub record IsListed (w : Writer) : Type 0 where
+  pub gone : List Path
+  pub all : gone ++ (w.written ++ w.left) ≡ w.paths
+  pub none : w.undoing ≡ false → gone ≡ []
+
+-- a cause for which r was refused
+pub record HasCause (past : Past) (r : Revision) : Type 0 where
+  pub item : Item
+  pub other : Revision
+  pub cause : Cause past r item other
+
+pub record Sound (s : Core) : Type 0 where
+  -- each document has the id of its node, and its properties in order
+  pub ordered : (p : Path) → AreOrdered p (s.docs p)
+  -- the marks of items of each draw are those of its edit
+  pub edits : (r : Revision) (d : Draw) → draw_of s.past r ≡ Some d → NamesItems d.marks d.edit.writes
+  -- what is committed, refused or ended was drawn
+  pub committed_drawn : (r : Revision) → is_committed s.past r ≡ true → is_drawn s.past r ≡ true
+  pub refused_drawn : (r : Revision) → is_refused s.past r ≡ true → is_drawn s.past r ≡ true
+  pub ended_drawn : (r : Revision) → is_ended s.past r ≡ true → is_drawn s.past r ≡ true
+  -- no base sees what is in flight, and each sees the start
+  pub settled : (r o : Revision) → is_in_flight s.past o ≡ true → is_in_base s.past r o ≡ false
+  pub start : (r : Revision) → is_drawn s.past r ≡ true → is_in_base s.past r (start_of 1) ≡ true
+  -- each document that a committer wrote and hasn't undone has its marks, and no other marks are there
+  pub entries : (r : Revision) (p : Path) (m : Mark) → In p (s.writers r).written → In (mark_at p m) (marks_of s.past r) → marked (s.docs p) r m ≡ true
+  pub origin : (r : Revision) (p : Path) (m : Mark) → marked (s.docs p) r m ≡ true → IsOf s p r m
+  -- each marked document that a committer wrote and hasn't undone tells its commit root, and no other document has a note of it
+  pub rooted : (r : Revision) (p : Path) (m : Mark) → In p (s.writers r).written → In (mark_at p m) (marks_of s.past r) → IsRooted (s.docs p) r (root_of s.past r)
+  pub unrooted : (r : Revision) (p : Path) → is_some (root_entry (s.docs p) r) ≡ true → IsWriterOf s p r
+  -- each committer has written exactly the first documents of its list, or has undone exactly the first of those that it wrote
+  pub listed : (r : Revision) → IsListed (s.writers r)
+  -- each document is written once, and each marked one is written or still to be
+  pub once : (r : Revision) → Once ((s.writers r).written ++ (s.writers r).left)
+  pub covered : (r : Revision) (p : Path) (m : Mark) → In (mark_at p m) (marks_of s.past r) → (s.writers r).undoing ≡ false → In p (s.writers r).written ⊎ In p (s.writers r).left
+  -- what is refused undoes; what has ended is committed, or undone whole
+  pub refused : (r : Revision) → is_refused s.past r ≡ true → (s.writers r).undoing ≡ true
+  pub ended : (r : Revision) → is_ended s.past r ≡ true → IsDone s r
+  -- what undoes was refused, by some cause, or wants memory
+  pub stopped : (r : Revision) → (s.writers r).undoing ≡ true → (is_refused s.past r ≡ true) ⊎ ((s.writers r).wants ≡ true)
+  pub refusal : (r : Revision) → is_refused s.past r ≡ true → HasCause s.past r
+  -- each mark to make and each collision has its cause
+  pub due : (r : Revision) (f : Met) → In f (s.writers r).due → IsDue s.past r f
+  pub caused : (p : Path) (r o : Revision) (item : Item) → collision (s.docs p) r ≡ Some (o, item) → Cause s.past r item o
+  -- what is committed is noted on its commit root, and nothing else is; it is whole, and nobody marked it
+  pub status : (r : Revision) → is_committed s.past r ≡ true → noted (s.docs (root_of s.past r)) r ≡ true
+  pub only_committed : (p : Path) (r : Revision) → noted (s.docs p) r ≡ true → (r ≡ start_of 1) ⊎ (is_committed s.past r ≡ true)
+  pub whole : (r : Revision) → is_committed s.past r ≡ true → IsWhole (s.writers r)
+  pub unmarked : (r : Revision) → is_committed s.past r ≡ true → is_some (collision (s.docs (root_of s.past r)) r) ≡ false
+  -- of two committers whose marks clash in a document that both wrote, one noticed the other
+  pub noticed : (r o : Revision) (p : Path) (m n : Mark) → (r ≡ o → ⊥) → Stands s r p m → Stands s o p n → clash m n ≡ true → Noticed s r o ⊎ Noticed s o r

@@ -1,0 +1,56 @@
+-- Every interleaving: the steps of a core, what can be reached by them, and that each commit and refusal may follow.
+use Rattle.std.specs.Prelude.{◌≡◌, ℕ, true, false, List, [], ◌∷◌, None, is_some}
+use Rattle.jr_path.specs.declared.path.Path.{Path}
+use Rattle.jr_rev.specs.declared.revision.Revision.{Revision}
+use Rattle.jr_rev.specs.Vectors.{start_of}
+use Rattle.oak_clash.specs.declared.mark.Mark.{Mark}
+use Rattle.oak_machine.specs.declared.event.Draw.{Draw}
+use Rattle.oak_machine.specs.declared.event.Event.{Event}
+use Rattle.oak_machine.specs.declared.event.Event.TheVariants as event
+use Rattle.oak_machine.specs.History.{Past}
+use Rattle.oak_machine.specs.Commits.{is_in_flight}
+use Rattle.oak_machine.specs.Runs.{MayCommit, MayRefuse}
+use Rattle.oak_commit.specs.Clashing.{Met, marked, noted, collision}
+use Rattle.core_read.specs.Holds.{root_entry}
+use Rattle.core_clash.specs.Views.{AreOrdered}
+use Rattle.core_clash.specs.Core.{Core, Docs, IsGoing, MayBegin, MayWrite, MayMark, MayLast, MayUndo, MayFinish, after_draw, after_write, after_mark, after_last, after_want, after_undo, after_finish, after_event, is_quiet}
+
+-- one step of one committer, or an event of something else
+pub data Step : Core → Core → Type 0 where
+  draw : {s : Core} (d : Draw) (left : List Path) → MayBegin s d left → Step s (after_draw s d left)
+  write : {s : Core} (d : Draw) (p : Path) (rest : List Path) → MayWrite s d p rest → Step s (after_write s d p rest)
+  mark : {s : Core} (d : Draw) (f : Met) (rest : List Met) → MayMark s d f rest → Step s (after_mark s d f rest)
+  last : {s : Core} (d : Draw) → MayLast s d → Step s (after_last s d)
+  want : {s : Core} (d : Draw) → IsGoing s d → Step s (after_want s d)
+  undo : {s : Core} (d : Draw) (p : Path) (rest : List Path) → MayUndo s d p rest → Step s (after_undo s d p rest)
+  finish : {s : Core} (d : Draw) → MayFinish s d → Step s (after_finish s d)
+  other : {s : Core} (e : Event) → is_quiet e ≡ true → Step s (after_event s e)
+
+-- documents in order, with marks, a status and commit roots of the start alone, and no collision
+pub record IsStart (docs : Docs) : Type 0 where
+  pub ordered : (p : Path) → AreOrdered p (docs p)
+  pub marks : (p : Path) (r : Revision) (m : Mark) → marked (docs p) r m ≡ true → r ≡ start_of 1
+  pub notes : (p : Path) (r : Revision) → noted (docs p) r ≡ true → r ≡ start_of 1
+  pub roots : (p : Path) (r : Revision) → is_some (root_entry (docs p) r) ≡ true → r ≡ start_of 1
+  pub collisions : (p : Path) (r : Revision) → collision (docs p) r ≡ None
+
+-- nothing has happened
+abbrev pub at_start : ℕ → Docs → Core
+at_start number docs = record { number = number; docs = docs; past = []; writers = λ r. record { paths = []; left = []; written = []; due = []; undoing = false; wants = false } }
+
+-- what can be reached by steps, in every interleaving
+pub data Reached : Core → Type 0 where
+  begun : (number : ℕ) (docs : Docs) → IsStart docs → Reached (at_start number docs)
+  more : {s t : Core} → Reached s → Step s t → Reached t
+
+-- a commit, a refusal or an end may follow
+abbrev pub MayEnd : Past → Event → Type 0
+MayEnd past (event.Commit r) = MayCommit past r
+MayEnd past (event.Refuse r item o) = MayRefuse past r item o
+MayEnd past (event.End r) = is_in_flight past r ≡ true
+MayEnd past _ = Unit {0}
+
+-- each commit, refusal and end may follow the events before it
+abbrev pub EndsWell : Past → Type 0
+EndsWell [] = Unit {0}
+EndsWell (e ∷ past) = MayEnd past e × EndsWell past

@@ -1,0 +1,9 @@
+pub mod Events
+pub mod Lists
+pub mod Memories
+pub mod Pasts
+pub mod Pins
+mod Rows
+pub mod Times
+pub mod Vectors
+pub mod Waits

@@ -1,0 +1,42 @@
+-- By the events of a run.
+use Rattle.std.specs.Prelude.{filter, not}
+use Rattle.jr_rev.specs.Vectors.{sees}
+use Rattle.oak_node.proofs.Places.{insert_sorted, remove_sorted}
+use Rattle.core_nodes.proofs.memories_follow_the_journal.Goals as goal
+use Rattle.core_nodes.proofs.Events.{apart_run, begun_is, draw_run, end_flies, end_run, moved_run, next_is, notes_kept, pins_kept}
+
+pub returns-clause-begun : goal.returns-clause-begun
+returns-clause-begun g c = λ clusters sessions k nodes node. begun_is clusters sessions nodes k node
+
+pub returns-clause-next : goal.returns-clause-next
+returns-clause-next g c = next_is
+
+pub returns-clause-drawn : goal.returns-clause-drawn
+returns-clause-drawn g c = λ clusters sessions past d s nodes run is. draw_run (g.L.Law.may_start c.args.law.now) (g.L.Law.may_say c.args.law.now) clusters sessions nodes d past run s is
+
+pub returns-clause-flies : goal.returns-clause-flies
+returns-clause-flies g c = λ clusters sessions past r s nodes run is. end_flies (g.L.Law.may_start c.args.law.now) (g.L.Law.may_say c.args.law.now) clusters sessions nodes r past run s is
+
+pub returns-clause-ended : goal.returns-clause-ended
+returns-clause-ended g c = λ clusters sessions past r s nodes run is. end_run (g.L.Law.may_start c.args.law.now) (g.L.Law.may_say c.args.law.now) clusters sessions nodes r past run s is
+
+pub returns-clause-moved : goal.returns-clause-moved
+returns-clause-moved g c = λ clusters sessions past r s nodes run is. moved_run (g.L.Law.may_start c.args.law.now) (g.L.Law.may_say c.args.law.now) clusters sessions nodes r past run s is
+
+pub returns-clause-told : goal.returns-clause-told
+returns-clause-told g c = λ clusters sessions past k s run is. (is.head, run)
+
+pub returns-clause-apart : goal.returns-clause-apart
+returns-clause-apart g c = λ clusters sessions past e k s nodes run leaves is. apart_run (g.L.Law.may_start c.args.law.now) (g.L.Law.may_say c.args.law.now) clusters sessions nodes e past k s run leaves is
+
+pub returns-clause-noted : goal.returns-clause-noted
+returns-clause-noted g c = λ clusters past k s path r is. notes_kept clusters past k s _ is
+
+pub returns-clause-published : goal.returns-clause-published
+returns-clause-published g c = λ clusters past k s is. notes_kept clusters past k s (filter (λ note. not (sees s.head note.revision)) s.notes) is
+
+pub returns-clause-pinned : goal.returns-clause-pinned
+returns-clause-pinned g c = λ clusters past k s owner pin is. pins_kept clusters past k s _ is (insert_sorted owner pin s.pins is.memory.owners)
+
+pub returns-clause-unpinned : goal.returns-clause-unpinned
+returns-clause-unpinned g c = λ clusters past k s owner is. pins_kept clusters past k s _ is (remove_sorted owner s.pins is.memory.owners)

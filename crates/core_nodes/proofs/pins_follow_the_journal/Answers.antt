@@ -1,0 +1,34 @@
+-- By the events of a run.
+use Rattle.core_nodes.proofs.pins_follow_the_journal.Goals as goal
+use Rattle.core_nodes.proofs.Events.{begun_pins, leave_run, login_run, refresh_run}
+use Rattle.core_nodes.proofs.Pins.{pinned_is, pins_kept}
+
+pub returns-clause-begun : goal.returns-clause-begun
+returns-clause-begun g c = begun_pins
+
+pub returns-clause-pinned : goal.returns-clause-pinned
+returns-clause-pinned g c = λ clusters sessions past k s owner pin are. pinned_is clusters sessions past k s are owner pin
+
+pub returns-clause-login : goal.returns-clause-login
+returns-clause-login g c = λ clusters sessions past k s session v nodes run of is are. login_run (g.L.Law.may_start c.args.law.now) (g.L.Law.may_say c.args.law.now) clusters sessions nodes past k s is are session v run of
+
+pub returns-clause-refresh : goal.returns-clause-refresh
+returns-clause-refresh g c = λ clusters sessions past k s session v nodes run of here is are. refresh_run (g.L.Law.may_start c.args.law.now) (g.L.Law.may_say c.args.law.now) clusters sessions nodes past k s is are session v run of here
+
+pub returns-clause-left : goal.returns-clause-left
+returns-clause-left g c = λ clusters sessions past k s session is are. leave_run clusters sessions past k s is are session
+
+pub returns-clause-apart : goal.returns-clause-apart
+returns-clause-apart g c = λ clusters sessions past e k s leaves are. pins_kept clusters sessions past k s are e leaves
+
+pub returns-clause-drawn : goal.returns-clause-drawn
+returns-clause-drawn g c = λ clusters sessions past k s r are. are
+
+pub returns-clause-ended : goal.returns-clause-ended
+returns-clause-ended g c = λ clusters sessions past k s r are. are
+
+pub returns-clause-noted : goal.returns-clause-noted
+returns-clause-noted g c = λ clusters sessions past k s path r are. are
+
+pub returns-clause-published : goal.returns-clause-published
+returns-clause-published g c = λ clusters sessions past k s are. are

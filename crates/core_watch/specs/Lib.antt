@@ -1,0 +1,3 @@
+pub mod Copies
+pub mod Standing
+pub mod Moments

@@ -1,0 +1,76 @@
+-- Readers that are answered step by step, while documents and journal go on between their steps.
+use Rattle.std.specs.Prelude.{◌≡◌, ℕ, zero, suc, List, [], ◌∷◌, length, Option, is_some, IsTrue}
+use Rattle.std.specs.Ordering.{eq_by_cmp}
+use Rattle.std.specs.List.{fold, list_any}
+use Rattle.jr_path.specs.Ids.{id_cmp}
+use Rattle.jr_path.specs.declared.path.Path.{Path}
+use Rattle.jr_path.specs.declared.path.DocId.{DocId}
+use Rattle.jr_rev.specs.declared.vector.Pin.{Pin}
+use Rattle.oak_doc.specs.declared.document.Document.{Document}
+use Rattle.oak_read.specs.Meaning.{documents_in}
+use Rattle.oak_read.specs.Reading.{IsTable, answer, due, fed}
+use Rattle.oak_read.specs.declared.reader.Reader.{Reader}
+use Rattle.oak_read.specs.declared.reader.ReadOut.{ReadOut}
+use Rattle.oak_read.specs.declared.reader.Step.{Step}
+use Rattle.oak_read.specs.declared.reader.Step.TheVariants as step
+use Rattle.oak_machine.specs.History.{Past}
+use Rattle.core_read.specs.Holds.{Holds, IsSwept}
+use Rattle.core_read.specs.Told.{IsTold, IsInUse}
+use Rattle.core_watch.specs.Copies.{IsSteady}
+use Rattle.core_watch.specs.Standing.{path_read}
+
+-- a moment: the documents, and what the journal tells so far
+pub record Moment : Type 0 where
+  pub table : List (DocId × Document)
+  pub past : Past
+
+-- at a moment there can be read at a pin: the documents hold the past, its base is in use, and what its sweep vector sees is done
+pub record IsReadable (pin : Pin) (m : Moment) : Type 0 where
+  pub ordered : IsTable m.table
+  pub holds : Holds (documents_in m.table) m.past
+  pub told : IsTold m.past
+  pub in_use : IsInUse m.past pin.base
+  pub swept : IsSwept m.past pin.sweep
+
+-- behind a moment, at each of some more there can be read at the pin, and from one to the next nothing changes that its base sees
+abbrev pub AreSteady : Pin → Moment → List Moment → Type 0
+AreSteady pin m [] = Unit {0}
+AreSteady pin m (n ∷ ms) = IsSteady pin.base (documents_in m.table) (documents_in n.table) m.past n.past × IsReadable pin n × AreSteady pin n ms
+
+-- a reader after the documents of a moment have answered it
+abbrev pub answered : Reader → Moment → Reader
+answered r m = fed r (answer m.table (due r))
+
+-- a reader after those of each of some moments, one after another
+abbrev pub after_moments : List Moment → Reader → Reader
+after_moments ms r = fold answered r ms
+
+-- a reader at this pin, of the children of a path or of a node, made for the path p
+pub record IsFor (pin : Pin) (parent : Option Path) (p : Path) (r : Reader) : Type 0 where
+  pub same_pin : r.pin ≡ pin
+  pub same_kind : r.parent ≡ parent
+  pub same_path : path_read r ≡ p
+
+-- the commit roots that are left to be read
+abbrev pub roots_left : Step → ℕ
+roots_left (step.Roots left) = suc (length left.rest)
+roots_left _ = 0
+
+-- a reader is done
+abbrev pub IsDone : Step → Type 0
+IsDone (step.Done o) = Unit {0}
+IsDone _ = ⊥
+
+-- the first n of moments without end
+abbrev pub first_of : ℕ → (ℕ → Moment) → List Moment
+first_of zero f = []
+first_of (suc n) f = f 0 ∷ first_of n (λ i. f (suc i))
+
+-- at a moment the documents are in store order, and each has one of these ids
+pub record HasIdsAmong (ids : List DocId) (m : Moment) : Type 0 where
+  pub ordered : IsTable m.table
+  pub among : (x : DocId) → IsTrue (is_some (documents_in m.table x)) → IsTrue (list_any (eq_by_cmp id_cmp x) ids)
+
+-- after some of moments without end a reader is done, and gives one of these
+abbrev pub EndsWith : (ReadOut → Type 0) → (ℕ → Moment) → Reader → Type 0
+EndsWith P f r = (n : ℕ) × (o : ReadOut) × ((after_moments (first_of n f) r).step ≡ step.Done o) × P o

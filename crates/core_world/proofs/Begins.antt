@@ -1,0 +1,170 @@
+-- The documents of the start.
+use Rattle.std.proofs.Common.{◌≡◌, ℕ, Bool, true, false, cond, Some, None, Option, [], ◌∷◌, is_some, refl, sym, ap, subst, ◌∙◌}
+use Rattle.std.specs.Prelude.{codes}
+use Rattle.std.specs.Option.{unwrap_or}
+use Rattle.std.specs.Ordering.{eq_by_cmp}
+use mathlib.Core.Bool.{false≢true}
+use Rattle.jr_path.specs.Ids.{id_cmp}
+use Rattle.jr_path.specs.Names.{name_cmp, path_cmp}
+use Rattle.jr_path.specs.declared.name.Name.{Name}
+use Rattle.jr_path.specs.declared.path.Path.{Path}
+use Rattle.jr_path.specs.declared.path.DocId.TheVariants as id
+use Rattle.jr_rev.specs.declared.revision.Revision.{Revision}
+use Rattle.jr_rev.specs.Revisions.{is_same}
+use Rattle.jr_rev.specs.Vectors.{start, start_of}
+use Rattle.jr_value.specs.declared.value.Property.TheVariants.{Single}
+use Rattle.jr_value.specs.declared.value.Value.TheVariants as value
+use Rattle.oak_clash.specs.declared.mark.Mark.{Mark}
+use Rattle.oak_clash.specs.declared.mark.Mark.TheVariants.{Exists, Guard, Touch, Prop}
+use Rattle.oak_commit.specs.Clashing.{collision, has_mark, marked, noted}
+use Rattle.oak_doc.specs.declared.document.Document.{Document}
+use Rattle.oak_read.specs.Meaning.{Documents, documents_in}
+use Rattle.oak_store.specs.Tables.{by_id}
+use Rattle.core_read.specs.Holds.{Holds, has_revision, here_entry, prop_entry, root_entry, start_writes}
+use Rattle.core_read.specs.Start.{start_document as core_document, start_documents as core_documents, system, versions}
+use Rattle.core_read.proofs.Start.{holds_start}
+use Rattle.oak_doc.specs.Updates.{of_revision}
+use Rattle.core_clash.proofs.Basics.{same_path, same_revision}
+use Rattle.core_clash.specs.Steps.{IsStart}
+use Rattle.core_clash.specs.Views.{AreOrdered}
+use Rattle.core_world.specs.Start.{start_document, start_documents, start_root, start_table}
+use Rattle.core_world.specs.States.{nodes_in}
+use Rattle.core_world.proofs.Tables.{other_node}
+
+-- ---- the documents of the start
+
+abbrev mine : ℕ → ℕ → Documents
+mine c n = documents_in (by_id (start_documents c n))
+
+-- a document has the entries of another, at its path
+pub record IsAlike (p : Path) (a b : Option Document) : Type 0 where
+  pub here : (r : Revision) → here_entry a r ≡ here_entry b r
+  pub prop : (n : Name) (r : Revision) → prop_entry a n r ≡ prop_entry b n r
+  pub root : (r : Revision) → root_entry a r ≡ root_entry b r
+  pub said : (r : Revision) → has_revision a r ≡ has_revision b r
+  pub whole : (d : Document) → a ≡ Some d → d.prev ≡ []
+  pub named : (d : Document) → a ≡ Some d → d.id ≡ id.Node p
+
+from_some : (c d : Document) → Some c ≡ Some d → d ≡ c
+from_some c d h = sym (ap (λ o. unwrap_or o c) h)
+
+-- the one entry of a list is of the start
+one_entry : {X : Type 0} (r : Revision) (x : X) → is_some (of_revision ((start_of 1, x) ∷ []) r) ≡ true → r ≡ start_of 1
+one_entry r x h = by (is_same r (start_of 1)) refl h
+  where
+    by : (b : Bool) → is_same r (start_of 1) ≡ b → is_some (cond b (Some x) None) ≡ true → r ≡ start_of 1
+    by true k h = same_revision r (start_of 1) k
+    by false k h = absurd (false≢true h)
+
+-- so are the marks of a document of the start
+only_start : (p : Path) (type : Name) (number : ℕ) (r : Revision) (m : Mark) → has_mark (start_document p type number) r m ≡ true → r ≡ start_of 1
+only_start p type number r Exists h = one_entry r false h
+only_start p type number r Guard h = absurd (false≢true h)
+only_start p type number r Touch h = absurd (false≢true h)
+only_start p type number r (Prop n) h = by (eq_by_cmp name_cmp n (codes "jcr:primaryType")) h
+  where
+    by : (b : Bool) → is_some (of_revision (unwrap_or (cond b (Some ((start_of 1, Some (Single (value.Name type))) ∷ [])) None) []) r) ≡ true → r ≡ start_of 1
+    by true h = one_entry r _ h
+    by false h = absurd (false≢true h)
+
+module _ (c n : ℕ) where
+  root_alike : IsAlike [] (mine c n (id.Node [])) (core_documents (start c) (id.Node []))
+  root_alike = record {
+    here = λ r. refl;
+    prop = λ n r. refl;
+    root = λ r. refl;
+    said = λ r. refl;
+    whole = λ d h. ap (λ (d : Document). d.prev) (from_some _ d h);
+    named = λ d h. ap (λ (d : Document). d.id) (from_some _ d h);
+  }
+
+  system_alike : IsAlike system (mine c n (id.Node system)) (core_documents (start c) (id.Node system))
+  system_alike = record {
+    here = λ r. refl;
+    prop = λ n r. refl;
+    root = λ r. refl;
+    said = λ r. refl;
+    whole = λ d h. ap (λ (d : Document). d.prev) (from_some _ d h);
+    named = λ d h. ap (λ (d : Document). d.id) (from_some _ d h);
+  }
+
+  versions_alike : IsAlike versions (mine c n (id.Node versions)) (core_documents (start c) (id.Node versions))
+  versions_alike = record {
+    here = λ r. refl;
+    prop = λ n r. refl;
+    root = λ r. refl;
+    said = λ r. refl;
+    whole = λ d h. ap (λ (d : Document). d.prev) (from_some _ d h);
+    named = λ d h. ap (λ (d : Document). d.id) (from_some _ d h);
+  }
+
+  nowhere : (p : Path) (a b : Option Document) → a ≡ None → b ≡ None → IsAlike p a b
+  nowhere p a b h k = record {
+    here = λ r. ap (λ o. here_entry o r) (h ∙ sym k);
+    prop = λ n r. ap (λ o. prop_entry o n r) (h ∙ sym k);
+    root = λ r. ap (λ o. root_entry o r) (h ∙ sym k);
+    said = λ r. ap (λ o. has_revision o r) (h ∙ sym k);
+    whole = λ d e. absurd (false≢true (ap is_some (sym h ∙ e)));
+    named = λ d e. absurd (false≢true (ap is_some (sym h ∙ e)));
+  }
+
+  mine_none : (p : Path) → eq_by_cmp path_cmp p [] ≡ false → eq_by_cmp path_cmp p system ≡ false → eq_by_cmp path_cmp p versions ≡ false → mine c n (id.Node p) ≡ None
+  mine_none p k l m =
+      ap (λ x. cond x (Some (start_root c)) (cond (eq_by_cmp id_cmp (id.Node p) (id.Node system)) (Some (start_document system (codes "rep:system") 2)) (cond (eq_by_cmp id_cmp (id.Node p) (id.Node versions)) (Some (start_document versions (codes "rep:versionStorage") 3)) None))) (other_node p [] k)
+      ∙ (ap (λ x. cond x (Some (start_document system (codes "rep:system") 2)) (cond (eq_by_cmp id_cmp (id.Node p) (id.Node versions)) (Some (start_document versions (codes "rep:versionStorage") 3)) None)) (other_node p system l)
+      ∙ ap (λ x. cond x (Some (start_document versions (codes "rep:versionStorage") 3)) None) (other_node p versions m))
+
+  alike : (p : Path) → IsAlike p (mine c n (id.Node p)) (core_documents (start c) (id.Node p))
+  alike p = by (eq_by_cmp path_cmp p []) refl (eq_by_cmp path_cmp p system) refl (eq_by_cmp path_cmp p versions) refl
+    where
+      core_none : eq_by_cmp path_cmp p [] ≡ false → eq_by_cmp path_cmp p system ≡ false → eq_by_cmp path_cmp p versions ≡ false → core_documents (start c) (id.Node p) ≡ None
+      core_none k l m =
+          ap (λ x. cond x (Some (core_document (start c) p (codes "rep:versionStorage"))) (cond (eq_by_cmp path_cmp p system) (Some (core_document (start c) p (codes "rep:system"))) (cond (eq_by_cmp path_cmp p []) (Some (core_document (start c) p (codes "nt:unstructured"))) None))) m
+          ∙ (ap (λ x. cond x (Some (core_document (start c) p (codes "rep:system"))) (cond (eq_by_cmp path_cmp p []) (Some (core_document (start c) p (codes "nt:unstructured"))) None)) l
+          ∙ ap (λ x. cond x (Some (core_document (start c) p (codes "nt:unstructured"))) None) k)
+
+      by : (a : Bool) → eq_by_cmp path_cmp p [] ≡ a → (b : Bool) → eq_by_cmp path_cmp p system ≡ b → (e : Bool) → eq_by_cmp path_cmp p versions ≡ e → IsAlike p (mine c n (id.Node p)) (core_documents (start c) (id.Node p))
+      by true k b l e m = subst (λ (x : Path). IsAlike x (mine c n (id.Node x)) (core_documents (start c) (id.Node x))) (sym (same_path p [] k)) root_alike
+      by false k true l e m = subst (λ (x : Path). IsAlike x (mine c n (id.Node x)) (core_documents (start c) (id.Node x))) (sym (same_path p system l)) system_alike
+      by false k false l true m = subst (λ (x : Path). IsAlike x (mine c n (id.Node x)) (core_documents (start c) (id.Node x))) (sym (same_path p versions m)) versions_alike
+      by false k false l false m = nowhere p (mine c n (id.Node p)) (core_documents (start c) (id.Node p)) (mine_none p k l m) (core_none k l m)
+
+  pub start_holds : Holds (mine c n) []
+  start_holds =
+      let core = holds_start (start c) in record {
+        node = λ p r ws e. (alike p).here r ∙ core.node p r ws e;
+        prop = λ p m r ws e. (alike p).prop m r ∙ core.prop p m r ws e;
+        rooted = λ p r ws e k at. absurd (false≢true (ap is_some (sym (ap (λ b. cond b (Some start_writes) None) k) ∙ e)));
+        unsaid = λ p r e. (alike p).said r ∙ core.unsaid p r e;
+        no_node = λ p r e f. (alike p).here r ∙ core.no_node p r e f;
+        no_prop = λ p m r e f. (alike p).prop m r ∙ core.no_prop p m r e f;
+        no_root = λ p r e f. (alike p).root r ∙ core.no_root p r e f;
+        whole = λ p d h. (alike p).whole d h;
+        named = λ p d h. (alike p).named d h;
+      }
+
+  -- each document of a node is one of three
+  each_start : (P : Path → Option Document → Type 0) → P [] (Some (start_root c)) → P system (Some (start_document system (codes "rep:system") 2)) → P versions (Some (start_document versions (codes "rep:versionStorage") 3)) → ((p : Path) → P p None) → (p : Path) → P p (mine c n (id.Node p))
+  each_start P root of_system of_versions none p = by (eq_by_cmp path_cmp p []) refl (eq_by_cmp path_cmp p system) refl (eq_by_cmp path_cmp p versions) refl
+    where
+      by : (a : Bool) → eq_by_cmp path_cmp p [] ≡ a → (b : Bool) → eq_by_cmp path_cmp p system ≡ b → (e : Bool) → eq_by_cmp path_cmp p versions ≡ e → P p (mine c n (id.Node p))
+      by true k b l e m = subst (λ (x : Path). P x (mine c n (id.Node x))) (sym (same_path p [] k)) root
+      by false k true l e m = subst (λ (x : Path). P x (mine c n (id.Node x))) (sym (same_path p system l)) of_system
+      by false k false l true m = subst (λ (x : Path). P x (mine c n (id.Node x))) (sym (same_path p versions m)) of_versions
+      by false k false l false m = subst (P p) (sym (mine_none p k l m)) (none p)
+
+  -- the root has more fields, and the same marks
+  only_root : (r : Revision) (m : Mark) → has_mark (start_root c) r m ≡ true → r ≡ start_of 1
+  only_root r Exists h = only_start [] (codes "nt:unstructured") 1 r Exists h
+  only_root r Guard h = absurd (false≢true h)
+  only_root r Touch h = absurd (false≢true h)
+  only_root r (Prop n) h = only_start [] (codes "nt:unstructured") 1 r (Prop n) h
+
+  pub start_is : IsStart (nodes_in (start_table c n))
+  start_is = record {
+    ordered = each_start AreOrdered (refl, record { names = refl }) (refl, record { names = refl }) (refl, record { names = refl }) (λ p. tt);
+    marks = λ p r m. each_start (λ q o. marked o r m ≡ true → r ≡ start_of 1) (only_root r m) (only_start system (codes "rep:system") 2 r m) (only_start versions (codes "rep:versionStorage") 3 r m) (λ q h. absurd (false≢true h)) p;
+    notes = λ p r. each_start (λ q o. noted o r ≡ true → r ≡ start_of 1) (λ h. absurd (false≢true h)) (λ h. absurd (false≢true h)) (λ h. absurd (false≢true h)) (λ q h. absurd (false≢true h)) p;
+    roots = λ p r. each_start (λ q o. is_some (root_entry o r) ≡ true → r ≡ start_of 1) (λ h. absurd (false≢true h)) (λ h. absurd (false≢true h)) (λ h. absurd (false≢true h)) (λ q h. absurd (false≢true h)) p;
+    collisions = λ p r. each_start (λ q o. collision o r ≡ None) refl refl refl (λ q. refl) p;
+  }

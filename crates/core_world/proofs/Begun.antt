@@ -1,0 +1,56 @@
+-- The world before any step is kept.
+use Rattle.std.proofs.Common.{◌≡◌, ℕ, zero, suc, ◌+◌, ◌-◌, ◌<◌, false, List, [], length, map, is_some, refl, sym, ap, subst, ◌∙◌, arith}
+use Rattle.std.proofs.Math.ListN.{get_or}
+use Rattle.std.proofs.lemmas.List.FromFn.{length-map-range_with_len}
+use Rattle.std.specs.List.{range_with_len}
+use mathlib.Core.Bool.{false≢true}
+use Rattle.jr_rev.specs.Vectors.{no_entries, start}
+use Rattle.oak_machine.specs.Laws.{Says, Starts}
+use Rattle.oak_machine.specs.Runs.{AreNodes, IsNode}
+use Rattle.oak_node.specs.Memory.{NodeState, begun}
+use Rattle.core_clash.specs.Steps.{Reached}
+use Rattle.core_clash.proofs.Reach.{reached_sound}
+use Rattle.core_nodes.specs.Nodes.{ArePinsOf, IsMemoryOf}
+use Rattle.core_nodes.proofs.Events.{begun_is, begun_pins}
+use Rattle.core_world.specs.Kept.{IsKept}
+use Rattle.core_world.specs.Start.{start_state, start_table}
+use Rattle.core_world.specs.States.{memory_at, nodes_in}
+use Rattle.core_world.proofs.Begins.{start_holds, start_is}
+use Rattle.core_world.proofs.Memories.{read_at}
+
+-- the memories of the start
+abbrev all_begun : ℕ → ℕ → ℕ → List NodeState
+all_begun clusters first count = map (λ k. begun k (start clusters)) (range_with_len first count)
+
+place : (clusters first count i : ℕ) (d : NodeState) → i < count → get_or (all_begun clusters first count) i d ≡ begun (first + i) (start clusters)
+place clusters first zero i d h = absurd (none i h)
+  where
+    none : (i : ℕ) → i < 0 → ⊥
+    none i h = omega arith
+place clusters first (suc count) zero d h = ap (λ k. begun k (start clusters)) (omega arith)
+place clusters first (suc count) (suc i) d h = place clusters (first + 1) count i d (omega arith) ∙ ap (λ k. begun k (start clusters)) (omega arith)
+
+begun_at : (clusters k : ℕ) → IsNode clusters k → memory_at (all_begun clusters 1 clusters) k ≡ begun k (start clusters)
+begun_at clusters k node = read_at (all_begun clusters 1 clusters) k ∙ (place clusters 1 clusters (k - 1) (begun k no_entries) (let a = node.0 in let b = node.1 in omega arith) ∙ ap (λ j. begun j (start clusters)) (let a = node.0 in omega arith))
+
+pub start_kept : (starts : Starts) (says : Says) (clusters : ℕ) (sessions : List ℕ) → AreNodes clusters sessions → IsKept starts says (start_state clusters sessions)
+start_kept starts says clusters sessions nodes = record {
+  nodes = nodes;
+  run = tt;
+  detached = λ s. refl;
+  committing = record {
+    writers = λ r. record { paths = []; left = []; written = []; due = []; undoing = false; wants = false };
+    sound = reached_sound _ (Rattle.core_clash.specs.Steps.begun 4 (nodes_in (start_table clusters (length sessions))) (start_is clusters (length sessions)));
+    theirs = λ s x h. absurd (false≢true (ap is_some h));
+    listed = λ s x h. absurd (false≢true (ap is_some h));
+    holds = start_holds clusters (length sessions);
+    partly = λ r d h. absurd (false≢true (ap is_some h));
+  };
+  working = record { idle = λ s h. refl; stays = λ s x h. absurd (false≢true (ap is_some h)) };
+  memories = record {
+    counted = length-map-range_with_len (λ k. begun k (start clusters)) 1 clusters;
+    memory = λ k node. subst (λ (m : NodeState). IsMemoryOf clusters [] k m) (sym (begun_at clusters k node)) (begun_is clusters sessions nodes k node);
+    pins = λ k node. subst (λ (m : NodeState). ArePinsOf clusters sessions [] k m) (sym (begun_at clusters k node)) (begun_pins clusters sessions k);
+  };
+  readers = record { reads = λ s r h. absurd (false≢true (ap is_some h)); at_pin = λ s r h. absurd (false≢true (ap is_some h)) };
+}

@@ -1,0 +1,100 @@
+-- A session draws a revision.
+use Rattle.std.proofs.Common.{◌≡◌, ℕ, Bool, true, false, cond, Some, None, Option, List, ◌∷◌, is_some, refl, sym, ap, ◌∙◌}
+use mathlib.Core.Bool.{false≢true}
+use Rattle.jr_rev.specs.declared.revision.Revision.{Revision}
+use Rattle.jr_rev.specs.Revisions.{is_before, is_same}
+use Rattle.oak_machine.specs.declared.event.Draw.{Draw}
+use Rattle.oak_machine.specs.declared.event.Event.TheVariants as event
+use Rattle.oak_machine.specs.History.{Past}
+use Rattle.oak_machine.specs.Commits.{draw_of, is_committed, is_drawn, is_ended}
+use Rattle.oak_machine.specs.Laws.{Says, Starts, StartsProper}
+use Rattle.oak_machine.specs.Runs.{AreNodes, IsRunOf}
+use Rattle.oak_read.specs.Meaning.{documents_in}
+use Rattle.oak_store.specs.Tables.{Table}
+use Rattle.core_read.specs.Holds.{the_start}
+use Rattle.core_read.specs.Told.{IsTold}
+use Rattle.core_read.specs.World.{IsWorld}
+use Rattle.core_read.proofs.Told.{no_edit}
+use Rattle.core_read.proofs.World.{with_progress, world_draw}
+use Rattle.core_heads.proofs.Runs.{fresh_run, told_past}
+use Rattle.core_clash.specs.Core.{MayBegin, with_writer}
+use Rattle.core_clash.specs.Sessions.{IsTheirs, Running}
+use Rattle.core_clash.proofs.Basics.{decide, is_same_self, not_both, writer_mine, writer_other}
+use Rattle.core_clash.proofs.Begin.{may_begin}
+use Rattle.core_clash.proofs.Drawn.{draw_keeps}
+use Rattle.core_world.specs.States.{core_in, with_session}
+use Rattle.core_world.specs.Steps.{beginning, paths_to_write}
+use Rattle.core_world.specs.Kept.{AreCommitting}
+use Rattle.core_world.proofs.Committers.{at_session}
+use Rattle.core_world.proofs.Paths.{mark_path, paths_once}
+use Rattle.core_world.proofs.Progress.{is_among, progress_with}
+use Rattle.core_world.proofs.Working.{partly_by, world_of}
+
+module _ (starts : Starts) (says : Says) (proper : StartsProper starts) (clusters : ℕ) (sessions : List ℕ) (nodes : AreNodes clusters sessions)
+    (past : Past) (t : Table) (running : ℕ → Option Running) (a : AreCommitting past t running) (d : Draw) (run : IsRunOf starts says clusters sessions (event.Draw d ∷ past)) where
+  abbrev later : Past
+  later = event.Draw d ∷ past
+
+  told : IsTold past
+  told = told_past clusters sessions nodes starts says proper past run.1
+
+  told_later : IsTold later
+  told_later = told_past clusters sessions nodes starts says proper later run
+
+  fresh : draw_of past d.revision ≡ None
+  fresh = (fresh_run clusters sessions nodes starts says d past run).fresh
+
+  -- what is told of drawn revisions is not told of this one
+  not_yet : (b : Bool) → (b ≡ true → is_drawn past d.revision ≡ true) → b ≡ false
+  not_yet false f = refl
+  not_yet true f = absurd (false≢true (sym (ap (λ (o : Option Draw). is_some o) fresh) ∙ f refl))
+
+  unended : is_ended past d.revision ≡ false
+  unended = not_yet (is_ended past d.revision) (a.sound.ended_drawn d.revision)
+
+  uncommitted : is_committed past d.revision ≡ false
+  uncommitted = not_yet (is_committed past d.revision) (a.sound.committed_drawn d.revision)
+
+  drawn_now : draw_of later d.revision ≡ Some d
+  drawn_now = ap (λ b. cond b (Some d) (draw_of past d.revision)) (is_same_self d.revision)
+
+  after_start : is_before the_start d.revision ≡ true
+  after_start = (told_later.draws d.revision d drawn_now).after
+
+  may : MayBegin (core_in past t a.writers) d (paths_to_write d.marks)
+  may = may_begin clusters sessions nodes starts says proper (core_in past t a.writers) d (paths_to_write d.marks) run (mark_path d.marks) (paths_once d.marks)
+
+  readable : IsWorld (documents_in t.documents) later (with_progress (λ q. is_among (a.writers q).written) d.revision (λ p. false))
+  readable = world_draw (documents_in t.documents) past _ (world_of past t running a told) d fresh (no_edit past d.revision after_start uncommitted) told_later
+
+  -- a revision that was drawn before is another
+  other : (r : Revision) (e : Draw) → draw_of past r ≡ Some e → is_same r d.revision ≡ false
+  other r e drawn = by (is_same r d.revision) refl
+    where
+      by : (b : Bool) → is_same r d.revision ≡ b → b ≡ false
+      by false k = refl
+      by true k = absurd (false≢true (ap (λ (o : Option Draw). is_some o) (sym fresh ∙ (ap (draw_of past) (sym (Rattle.core_clash.proofs.Basics.same_revision r d.revision k)) ∙ drawn))))
+
+  theirs : (q : ℕ) (y : Running) → with_session running d.session (Some (beginning d)) q ≡ Some y → IsTheirs later (with_writer a.writers d.revision (beginning d).writer) q y
+  theirs = at_session (IsTheirs later (with_writer a.writers d.revision (beginning d).writer)) running d.session (beginning d)
+      (record { session = refl; draw = drawn_now; unended = unended; committed = uncommitted; writer = writer_mine a.writers d.revision (beginning d).writer })
+      (λ q y f h.
+      let its = a.theirs q y h in
+      let apart = other y.draw.revision y.draw its.draw in
+      record {
+        session = its.session;
+        draw = ap (λ b. cond b (Some d) (draw_of past y.draw.revision)) apart ∙ its.draw;
+        unended = its.unended;
+        committed = its.committed;
+        writer = writer_other a.writers d.revision (beginning d).writer y.draw.revision apart ∙ its.writer;
+      })
+
+  pub draw_commits : AreCommitting later t (with_session running d.session (Some (beginning d)))
+  draw_commits = record {
+    writers = with_writer a.writers d.revision (beginning d).writer;
+    sound = draw_keeps (core_in past t a.writers) d (paths_to_write d.marks) a.sound may;
+    theirs = theirs;
+    listed = at_session (λ q (y : Running). y.writer.paths ≡ paths_to_write y.draw.marks) running d.session (beginning d) refl (λ q y f h. a.listed q y h);
+    holds = readable.holds;
+    partly = partly_by (documents_in t.documents) later _ (λ q. is_among (with_writer a.writers d.revision (beginning d).writer q).written) (progress_with a.writers d.revision (beginning d).writer (λ p. false) (λ p. refl)) readable;
+  }

@@ -1,0 +1,209 @@
+-- The draw of a commit, and the end of its revision, keep the world.
+use Rattle.std.proofs.Common.{◌≡◌, ℕ, ◌≤◌, Bool, true, false, cond, ◌||◌, Some, None, Option, List, [], ◌∷◌, is_some, refl, sym, ap, subst, ◌∙◌}
+use Rattle.std.specs.Prelude.{◌==◌, slice_get}
+use Rattle.std.specs.Option.{option_map_or, unwrap_or}
+use mathlib.Core.Bool.{false≢true}
+use Rattle.jr_path.specs.declared.path.Path.{Path}
+use Rattle.jr_rev.specs.declared.revision.Revision.{Revision}
+use Rattle.jr_rev.specs.declared.vector.Pin.{Pin}
+use Rattle.jr_rev.specs.declared.vector.RevVec.{RevVec}
+use Rattle.jr_rev.specs.Revisions.{is_before}
+use Rattle.jr_tree.specs.declared.edit.Edit.{Edit}
+use Rattle.oak_clash.specs.declared.mark.MarkAt.{MarkAt}
+use Rattle.oak_machine.specs.declared.event.Draw.{Draw}
+use Rattle.oak_machine.specs.declared.event.Event.{Event}
+use Rattle.oak_machine.specs.declared.event.Event.TheVariants as event
+use Rattle.oak_machine.specs.History.{Past}
+use Rattle.oak_machine.specs.Laws.{Says, Starts, StartsProper}
+use Rattle.oak_machine.specs.Runs.{IsNode, IsRunOf, MayDraw}
+use Rattle.oak_machine.specs.Sessions.{base_of, has_left, has_login, is_attached, is_drawing}
+use Rattle.oak_node.specs.Heads.{finished, next_draw, with_draw}
+use Rattle.oak_node.specs.Memory.{NodeState, own_entry}
+use Rattle.oak_node.specs.Pins.{pin_of}
+use Rattle.core_clash.specs.Sessions.{IsTheirs, Running}
+use Rattle.core_nodes.specs.Nodes.{session_pin}
+use Rattle.core_nodes.proofs.Events.{next_is}
+use Rattle.core_world.specs.States.{State, base_in, history_in, memory_at, memory_of, node_of, with_memory, with_session}
+use Rattle.core_world.specs.Steps.{IsThrough, after_draw, after_finish, after_notes, beginning, draw_in, memories_with}
+use Rattle.core_world.specs.Kept.{AreAtWork, AreMemories, IsKept}
+use Rattle.core_world.proofs.Committers.{at_idle, at_idle_now, at_others, at_session}
+use Rattle.core_world.proofs.Commits.{drawn, its, on_its_node}
+use Rattle.core_world.proofs.Drawing.{draw_commits}
+use Rattle.core_world.proofs.Finishing.{finish_commits, quiet_commits}
+use Rattle.core_world.proofs.Flights.{drawn_idle, ended_idle, number_itself, still_idle}
+use Rattle.core_world.proofs.Lives.{its_node, on_node, session_there, told}
+use Rattle.core_world.proofs.Memories.{aside, draw_memories, end_memories, set_here}
+use Rattle.core_world.proofs.Readers.{quiet_reads, session_pinned}
+
+-- a session that has logged in and isn't attached has a base
+pub base_there : (past : Past) (s : ℕ) → has_login past s ≡ true → is_attached past s ≡ false → is_some (base_of past s) ≡ true
+base_there [] s login detached = absurd (false≢true login)
+base_there (event.Login t v ∷ past) s login detached = by (λ l d. base_there past s l d) (t == s) login detached
+  where
+    by : (has_login past s ≡ true → is_attached past s ≡ false → is_some (base_of past s) ≡ true) → (b : Bool) → (b || has_login past s) ≡ true → cond b false (is_attached past s) ≡ false → is_some (cond b (Some v) (base_of past s)) ≡ true
+    by rest true l d = refl
+    by rest false l d = rest l d
+base_there (event.Refresh t v ∷ past) s login detached = by (λ d. base_there past s login d) (t == s) detached
+  where
+    by : (is_attached past s ≡ false → is_some (base_of past s) ≡ true) → (b : Bool) → cond b false (is_attached past s) ≡ false → is_some (cond b (Some v) (base_of past s)) ≡ true
+    by rest true d = refl
+    by rest false d = rest d
+base_there (event.Attach t id ∷ past) s login detached = by (λ d. base_there past s login d) (t == s) detached
+  where
+    by : (is_attached past s ≡ false → is_some (base_of past s) ≡ true) → (b : Bool) → cond b true (is_attached past s) ≡ false → is_some (cond b (Rattle.oak_machine.specs.Sessions.last_checkpoint past id) (base_of past s)) ≡ true
+    by rest true d = absurd (false≢true (sym d))
+    by rest false d = rest d
+base_there (e ∷ past) s login detached = base_there past s login detached
+
+some_base : (o : Option RevVec) → is_some o ≡ true → (v : RevVec) × (o ≡ Some v)
+some_base None h = absurd (false≢true h)
+some_base (Some v) h = (v, refl)
+
+module _ (starts : Starts) (says : Says) (proper : StartsProper starts) (w : State) (kept : IsKept starts says w) where
+  -- ---- the pin of a session
+
+  -- a node's memory has the session's pin
+  pub its_pin : (s : ℕ) → is_some (slice_get w.sessions s) ≡ true → pin_of (memory_of w s) s ≡ session_pin w.clusters w.past s
+  its_pin s there =
+      kept.memories.pins (node_of w s) (its_node starts says proper w kept s there) s
+      ∙ ap (λ b. cond b (session_pin w.clusters w.past s) None) (ap (λ o. option_map_or (λ m. m == node_of w s) o false) (on_node starts says proper w kept s there) ∙ number_itself (node_of w s))
+
+  module _ (s : ℕ) (login : has_login w.past s ≡ true) (stays : has_left w.past s ≡ false) where
+    -- the base of the session's pin is its base
+    pub base_is : base_of w.past s ≡ Some (base_in w s)
+    base_is =
+        let v = some_base (base_of w.past s) (base_there w.past s login (kept.detached s)) in
+        v.1 ∙ sym (ap (λ (o : Option Pin). Some (option_map_or (λ (pin : Pin). pin.base) o (memory_of w s).head)) (its_pin s (session_there starts says proper w kept s login) ∙ session_pinned w.clusters w.past s v.0 login stays v.1))
+
+    -- ---- a draw
+
+    module _ (none : w.running s ≡ None) (edit : Edit) (marks : List MarkAt) (lawful : starts (history_in w) s edit marks) where
+      abbrev d : Draw
+      d = draw_in w s edit marks
+
+      there : is_some (slice_get w.sessions s) ≡ true
+      there = session_there starts says proper w kept s login
+
+      node : IsNode w.clusters (node_of w s)
+      node = its_node starts says proper w kept s there
+
+      same_node : d.revision.cluster ≡ node_of w s
+      same_node = (kept.memories.memory (node_of w s) node).cluster
+
+      pub may_draw : MayDraw starts (history_in w) (draw_in w s edit marks)
+      may_draw = record {
+        login = login;
+        detached = kept.detached s;
+        idle = kept.working.idle s none;
+        base = base_is;
+        cluster = on_node starts says proper w kept s there ∙ ap (λ k. Some k) (sym same_node);
+        next = next_is w.clusters w.past (node_of w s) (memory_of w s) (kept.memories.memory (node_of w s) node) ∙ ap (λ k. Rattle.oak_machine.specs.Heads.next_draw w.clusters w.past k) (sym same_node);
+        lawful = lawful;
+      }
+
+      run : IsRunOf starts says w.clusters w.sessions (event.Draw d ∷ w.past)
+      run = (may_draw, kept.run)
+
+      working : AreAtWork (event.Draw d ∷ w.past) (with_session w.running s (Some (beginning d)))
+      working = record {
+        idle = at_idle (λ q. is_drawing (event.Draw d ∷ w.past) q ≡ false) w.running s (beginning d) (λ q f h. drawn_idle d w.past q f (kept.working.idle q h));
+        stays = at_session (λ q (z : Running). has_left w.past q ≡ false) w.running s (beginning d) stays (λ q z f h. kept.working.stays q z h);
+      }
+
+      pub draw_keeps : (paths : List Path) → IsKept starts says (after_draw w s edit marks paths)
+      draw_keeps paths = record {
+        nodes = kept.nodes;
+        run = run;
+        detached = kept.detached;
+        committing = draw_commits starts says proper w.clusters w.sessions kept.nodes w.past w.table w.running kept.committing d run;
+        working = working;
+        memories = subst (λ (k : ℕ). AreMemories w.clusters w.sessions (event.Draw d ∷ w.past) (with_memory w.memories k (after_notes d.revision (with_draw (memory_at w.memories k) d.revision) paths))) same_node
+            (draw_memories starts says w.clusters w.sessions kept.nodes w.past w.memories kept.memories d run (ap (λ k. next_draw (memory_at w.memories k)) (sym same_node)) paths);
+        readers = quiet_reads w.clusters w.past w.table w.reading kept.readers (event.Draw d) (λ q. refl) (λ q r h. refl);
+      }
+
+  -- ---- the end of a revision
+
+  module _ (s : ℕ) (x : Running) (here : w.running s ≡ Some x) (through : IsThrough x) where
+    abbrev r : Revision
+    r = x.draw.revision
+
+    abbrev later : Past
+    later = event.End x.draw.revision ∷ w.past
+
+    abbrev done : NodeState
+    done = finished (memory_of w s) x.draw.revision
+
+    mine : IsTheirs w.past kept.committing.writers s x
+    mine = its starts says proper w kept s x here
+
+    -- its node is that of the session
+    at_node : node_of w s ≡ r.cluster
+    at_node = ap (λ o. unwrap_or o 0) (on_its_node starts says proper w kept s x here)
+
+    its_cluster : IsNode w.clusters r.cluster
+    its_cluster = kept.nodes.node s r.cluster (on_its_node starts says proper w kept s x here)
+
+    run_ended : IsRunOf starts says w.clusters w.sessions later
+    run_ended = (Rattle.core_clash.proofs.Pasts.in_flight w.past r x.draw mine.draw mine.unended, kept.run)
+
+    ended_memories : AreMemories w.clusters w.sessions later (memories_with w s done)
+    ended_memories = subst (λ (k : ℕ). AreMemories w.clusters w.sessions later (with_memory w.memories k (finished (memory_at w.memories k) r))) (sym at_node)
+        (end_memories starts says w.clusters w.sessions kept.nodes w.past w.memories kept.memories r its_cluster run_ended)
+
+    -- no other session's committer ends
+    now_idle : is_drawing later s ≡ false
+    now_idle = subst (λ (n : ℕ). is_drawing later n ≡ false) mine.session (ended_idle starts says w.clusters w.sessions w.past r x.draw kept.run mine.draw mine.unended)
+
+    ended_kept : IsKept starts says (record w { past = event.End x.draw.revision ∷ w.past; memories = memories_with w s (finished (memory_of w s) x.draw.revision); running = with_session w.running s None })
+    ended_kept = record {
+      nodes = kept.nodes;
+      run = run_ended;
+      detached = kept.detached;
+      committing = finish_commits w.past w.table w.running kept.committing (told starts says proper w kept) s x here through;
+      working = record {
+        idle = at_idle_now (λ q. is_drawing later q ≡ false) w.running s now_idle (λ q f h. still_idle (event.End r) w.past q refl (kept.working.idle q h));
+        stays = at_others (λ q (z : Running). has_left w.past q ≡ false) w.running s (λ q z f h. kept.working.stays q z h);
+      };
+      memories = ended_memories;
+      readers = quiet_reads w.clusters w.past w.table w.reading kept.readers (event.End r) (λ q. refl) (λ q y h. refl);
+    }
+
+-- ---- the head moves
+
+-- an event of the head of cluster node k, as its memory has it
+module _ (starts : Starts) (says : Says) (proper : StartsProper starts) (w : State) (kept : IsKept starts says w) (k : ℕ) (node : IsNode w.clusters k) where
+  pub head_keeps : IsKept starts says (record w { past = event.Head k (memory_at w.memories k).head ∷ w.past })
+  head_keeps =
+      let e : Event = event.Head k (memory_at w.memories k).head in
+      let run : IsRunOf starts says w.clusters w.sessions (e ∷ w.past) = ((kept.memories.memory k node).head, kept.run) in
+      record {
+        nodes = kept.nodes;
+        run = run;
+        detached = kept.detached;
+        committing = quiet_commits w.past w.table w.running kept.committing (told starts says proper w kept) e refl;
+        working = record { idle = λ q h. still_idle e w.past q refl (kept.working.idle q h); stays = kept.working.stays };
+        memories = aside starts says w.clusters w.sessions kept.nodes w.past w.memories kept.memories e run (λ j. refl) (λ j. refl);
+        readers = quiet_reads w.clusters w.past w.table w.reading kept.readers e (λ q. refl) (λ q r h. refl);
+      }
+
+module _ (starts : Starts) (says : Says) (proper : StartsProper starts) (w : State) (kept : IsKept starts says w) (s : ℕ) (x : Running) (here : w.running s ≡ Some x) (through : IsThrough x) where
+  abbrev ended : State
+  ended = record w { past = event.End x.draw.revision ∷ w.past; memories = memories_with w s (finished (memory_of w s) x.draw.revision); running = with_session w.running s None }
+
+  kept_ended : IsKept starts says ended
+  kept_ended = ended_kept starts says proper w kept s x here through
+
+  the_node : IsNode w.clusters (node_of w s)
+  the_node = its_node starts says proper w kept s (session_there starts says proper w kept s (Rattle.core_world.proofs.Commits.login starts says proper w kept s x here))
+
+  -- the memory that is set is read
+  set_is : memory_at (memories_with w s (finished (memory_of w s) x.draw.revision)) (node_of w s) ≡ finished (memory_of w s) x.draw.revision
+  set_is = set_here w.memories (node_of w s) (finished (memory_of w s) x.draw.revision) the_node.0 (subst (λ (n : ℕ). node_of w s ≤ n) (sym kept.memories.counted) the_node.1)
+
+  moved_kept : (b : Bool) → IsKept starts says (record ended { past = cond b (event.Head (node_of w s) (finished (memory_of w s) x.draw.revision).head ∷ ended.past) ended.past })
+  moved_kept false = kept_ended
+  moved_kept true = subst (λ (m : NodeState). IsKept starts says (record ended { past = event.Head (node_of w s) m.head ∷ ended.past })) set_is (head_keeps starts says proper ended kept_ended (node_of w s) the_node)
+
+  pub finish_keeps : IsKept starts says (after_finish w s x)
+  finish_keeps = moved_kept (is_before (own_entry (memory_of w s)) (own_entry (finished (memory_of w s) x.draw.revision)))

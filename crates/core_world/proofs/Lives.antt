@@ -1,0 +1,154 @@
+-- What each world may count on, and the steps that touch no document.
+use Rattle.std.proofs.Common.{◌≡◌, ℕ, Bool, true, false, cond, not, ◌||◌, Some, None, Option, ◌∷◌, is_some, refl, sym, ap, ◌∙◌}
+use Rattle.std.specs.Prelude.{◌==◌, slice_get}
+use Rattle.std.specs.Option.{option_map_or}
+use mathlib.Core.Bool.{false≢true}
+use Rattle.jr_path.specs.declared.text.Text.{Text}
+use Rattle.oak_machine.specs.declared.event.Event.{Event}
+use Rattle.oak_machine.specs.declared.event.Event.TheVariants as event
+use Rattle.oak_machine.specs.declared.event.StepKind.{StepKind}
+use Rattle.oak_machine.specs.declared.event.StepKind.TheVariants as kind
+use Rattle.oak_machine.specs.Heads.{head_of}
+use Rattle.oak_machine.specs.Laws.{Says, Starts, StartsProper}
+use Rattle.oak_machine.specs.Runs.{IsNode, IsRunOf}
+use Rattle.oak_machine.specs.Sessions.{has_left, has_login, is_attached, is_end_of_session, next_index}
+use Rattle.oak_machine.specs.Steps.{is_kind}
+use Rattle.oak_read.specs.declared.reader.Reader.{Reader}
+use Rattle.core_read.specs.Told.{IsTold}
+use Rattle.core_heads.proofs.Runs.{told_past}
+use Rattle.core_clash.specs.Sessions.{Running}
+use Rattle.core_nodes.specs.Nodes.{moved_pin}
+use Rattle.core_world.specs.States.{State, history_in, memory_of, node_of}
+use Rattle.core_world.specs.Steps.{after_leave, after_login, after_refresh, after_said, after_went}
+use Rattle.core_world.specs.Kept.{IsKept}
+use Rattle.core_world.proofs.Finishing.{quiet_commits}
+use Rattle.core_world.proofs.Flights.{same_number, still_idle}
+use Rattle.core_world.proofs.Logged.{login_node, some_number}
+use Rattle.core_world.proofs.Memories.{aside, leave_memories, login_memories, refresh_memories}
+use Rattle.core_world.proofs.Readers.{pin_reads, pinned_is, quiet_reads}
+
+pub chosen_false : (b c : Bool) → c ≡ false → cond b false c ≡ false
+chosen_false true c h = refl
+chosen_false false c h = h
+
+-- a step of a kind other than End is no session's end
+pub goes_not : (s : ℕ) (k : StepKind) → is_kind k kind.End ≡ false → (q : ℕ) → is_end_of_session q (event.Went s k) ≡ false
+goes_not s kind.End h q = absurd (false≢true (sym h))
+goes_not s k h q = refl
+
+pub moves_no_pin : (s : ℕ) (k : StepKind) → is_kind k kind.End ≡ false → moved_pin (event.Went s k) ≡ None
+moves_no_pin s kind.End h = absurd (false≢true (sym h))
+moves_no_pin s k h = refl
+
+module _ (starts : Starts) (says : Says) (proper : StartsProper starts) (w : State) (kept : IsKept starts says w) where
+  pub told : IsTold w.past
+  told = told_past w.clusters w.sessions kept.nodes starts says proper w.past kept.run
+
+  -- a session that is there, on its node
+  module _ (s : ℕ) (there : is_some (slice_get w.sessions s) ≡ true) where
+    pub on_node : slice_get w.sessions s ≡ Some (node_of w s)
+    on_node = some_number (slice_get w.sessions s) there
+
+    pub its_node : IsNode w.clusters (node_of w s)
+    its_node = kept.nodes.node s (node_of w s) on_node
+
+    pub its_head : (memory_of w s).head ≡ head_of w.clusters w.past (node_of w s)
+    its_head = (kept.memories.memory (node_of w s) its_node).head
+
+  pub session_there : (s : ℕ) → has_login w.past s ≡ true → is_some (slice_get w.sessions s) ≡ true
+  session_there s login = login_node starts says w.clusters w.sessions w.past s kept.run login
+
+  -- who reads has logged in and hasn't left
+  pub reader_login : (s : ℕ) (r : Reader) → w.reading s ≡ Some r → has_login w.past s ≡ true
+  reader_login s r h = (pinned_is w.clusters w.past s r.pin (kept.readers.at_pin s r h)).login
+
+  no_reader : (s : ℕ) → has_login w.past s ≡ false → w.reading s ≡ None
+  no_reader s new = by (w.reading s) refl
+    where
+      by : (o : Option Reader) → w.reading s ≡ o → o ≡ None
+      by None h = refl
+      by (Some r) h = absurd (false≢true (sym new ∙ reader_login s r h))
+
+  -- ---- login and refresh
+
+  pub login_keeps : (s : ℕ) → is_some (slice_get w.sessions s) ≡ true → has_login w.past s ≡ false → IsKept starts says (after_login w s)
+  login_keeps s there first =
+      let e : Event = event.Login s (memory_of w s).head in
+      let run : IsRunOf starts says w.clusters w.sessions (e ∷ w.past) = (record { first = first; head = (node_of w s, on_node s there, its_head s there) }, kept.run) in
+      record {
+        nodes = kept.nodes;
+        run = run;
+        detached = λ q. chosen_false (s == q) (is_attached w.past q) (kept.detached q);
+        committing = quiet_commits w.past w.table w.running kept.committing told e refl;
+        working = record { idle = λ q h. still_idle e w.past q refl (kept.working.idle q h); stays = kept.working.stays };
+        memories = login_memories starts says w.clusters w.sessions kept.nodes w.past w.memories kept.memories s (node_of w s) (on_node s there) (memory_of w s).head run;
+        readers = pin_reads w.clusters w.past w.table w.reading kept.readers e s (λ q. refl) refl (no_reader s first);
+      }
+
+  pub refresh_keeps : (s : ℕ) → has_login w.past s ≡ true → has_left w.past s ≡ false → w.running s ≡ None → w.reading s ≡ None → IsKept starts says (after_refresh w s)
+  refresh_keeps s login stays none unread =
+      let e : Event = event.Refresh s (memory_of w s).head in
+      let there = session_there s login in
+      let run : IsRunOf starts says w.clusters w.sessions (e ∷ w.past) = (record { login = login; idle = kept.working.idle s none; head = (node_of w s, on_node s there, its_head s there) }, kept.run) in
+      record {
+        nodes = kept.nodes;
+        run = run;
+        detached = λ q. chosen_false (s == q) (is_attached w.past q) (kept.detached q);
+        committing = quiet_commits w.past w.table w.running kept.committing told e refl;
+        working = record { idle = λ q h. still_idle e w.past q refl (kept.working.idle q h); stays = kept.working.stays };
+        memories = refresh_memories starts says w.clusters w.sessions kept.nodes w.past w.memories kept.memories s (node_of w s) (on_node s there) (memory_of w s).head run stays;
+        readers = pin_reads w.clusters w.past w.table w.reading kept.readers e s (λ q. refl) refl unread;
+      }
+
+  -- ---- the end of a session, replies, and other steps
+
+  -- a session at work is another than one that isn't
+  apart_working : (s : ℕ) → w.running s ≡ None → (q : ℕ) (x : Running) → w.running q ≡ Some x → (s == q) ≡ false
+  apart_working s none q x h = by (s == q) refl
+    where
+      by : (b : Bool) → (s == q) ≡ b → b ≡ false
+      by false e = refl
+      by true e = absurd (false≢true (ap (λ (o : Option Running). is_some o) (sym none ∙ (ap w.running (same_number s q e) ∙ h))))
+
+  pub leave_keeps : (s : ℕ) → has_login w.past s ≡ true → has_left w.past s ≡ false → w.running s ≡ None → w.reading s ≡ None → IsKept starts says (after_leave w s)
+  leave_keeps s login stays none unread =
+      let e : Event = event.Went s kind.End in
+      let there = session_there s login in
+      let run : IsRunOf starts says w.clusters w.sessions (e ∷ w.past) = ((login, stays), kept.run) in
+      record {
+        nodes = kept.nodes;
+        run = run;
+        detached = kept.detached;
+        committing = quiet_commits w.past w.table w.running kept.committing told e refl;
+        working = record { idle = λ q h. still_idle e w.past q refl (kept.working.idle q h); stays = λ q x h. ap (λ b. b || has_left w.past q) (apart_working s none q x h) ∙ kept.working.stays q x h };
+        memories = leave_memories starts says w.clusters w.sessions kept.nodes w.past w.memories kept.memories s (node_of w s) (on_node s there) run;
+        readers = pin_reads w.clusters w.past w.table w.reading kept.readers e s (λ q. refl) refl unread;
+      }
+
+  pub said_keeps : (s i : ℕ) (text : Text) → i ≡ next_index w.past s → says (history_in w) s i text → IsKept starts says (after_said w s i text)
+  said_keeps s i text next lawful =
+      let e : Event = event.Said s i text in
+      let run : IsRunOf starts says w.clusters w.sessions (e ∷ w.past) = ((next, lawful), kept.run) in
+      record {
+        nodes = kept.nodes;
+        run = run;
+        detached = kept.detached;
+        committing = quiet_commits w.past w.table w.running kept.committing told e refl;
+        working = record { idle = λ q h. still_idle e w.past q refl (kept.working.idle q h); stays = kept.working.stays };
+        memories = aside starts says w.clusters w.sessions kept.nodes w.past w.memories kept.memories e run (λ j. refl) (λ j. refl);
+        readers = quiet_reads w.clusters w.past w.table w.reading kept.readers e (λ q. refl) (λ q r h. refl);
+      }
+
+  pub went_keeps : (s : ℕ) (k : StepKind) → is_kind k kind.End ≡ false → has_login w.past s ≡ true → has_left w.past s ≡ false → IsKept starts says (after_went w s k)
+  went_keeps s k other login stays =
+      let e : Event = event.Went s k in
+      let run : IsRunOf starts says w.clusters w.sessions (e ∷ w.past) = ((login, stays), kept.run) in
+      record {
+        nodes = kept.nodes;
+        run = run;
+        detached = kept.detached;
+        committing = quiet_commits w.past w.table w.running kept.committing told e refl;
+        working = record { idle = λ q h. still_idle e w.past q refl (kept.working.idle q h); stays = λ q x h. ap (λ b. b || has_left w.past q) (goes_not s k other q) ∙ kept.working.stays q x h };
+        memories = aside starts says w.clusters w.sessions kept.nodes w.past w.memories kept.memories e run (λ j. refl) (λ j. ap (λ o. option_map_or (λ n. not (Rattle.core_nodes.specs.Nodes.is_of_node w.sessions j n)) o true) (moves_no_pin s k other));
+        readers = quiet_reads w.clusters w.past w.table w.reading kept.readers e (λ q. refl) (λ q r h. ap (λ o. option_map_or (λ n. n == q) o false) (moves_no_pin s k other));
+      }

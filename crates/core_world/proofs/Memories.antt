@@ -1,0 +1,149 @@
+-- The memories of all cluster nodes, after a step on one of them.
+use Rattle.std.proofs.Common.{◌≡◌, ℕ, ◌-◌, ◌≤◌, Bool, true, false, not, Some, List, [], ◌∷◌, length, refl, sym, ap, subst, ◌∙◌, arith}
+use Rattle.std.proofs.Math.ListN.{get_or}
+use Rattle.std.proofs.lemmas.List.{get_or-set_same, get_or-set_other, length-set}
+use Rattle.std.proofs.lemmas.Option.{unwrap_or-slice_get}
+use Rattle.std.specs.Prelude.{◌==◌, ◌≢◌, slice_get}
+use Rattle.std.specs.Option.{option_map_or}
+use Rattle.jr_path.specs.declared.path.Path.{Path}
+use Rattle.jr_rev.specs.declared.revision.Revision.{Revision}
+use Rattle.jr_rev.specs.declared.vector.RevVec.{RevVec}
+use Rattle.jr_rev.specs.Vectors.{no_entries}
+use Rattle.oak_machine.specs.declared.event.Draw.{Draw}
+use Rattle.oak_machine.specs.declared.event.Event.{Event}
+use Rattle.oak_machine.specs.declared.event.Event.TheVariants as event
+use Rattle.oak_machine.specs.declared.event.StepKind.TheVariants as kind
+use Rattle.oak_machine.specs.History.{Past}
+use Rattle.oak_machine.specs.Laws.{Says, Starts}
+use Rattle.oak_machine.specs.Runs.{AreNodes, IsNode, IsRunOf}
+use Rattle.oak_machine.specs.Sessions.{has_left}
+use Rattle.oak_node.specs.Heads.{finished, next_draw, with_draw}
+use Rattle.oak_node.specs.Memory.{NodeState, begun}
+use Rattle.oak_node.specs.Pins.{pin_now, without_pin}
+use Rattle.oak_node.proofs.Places.{insert_sorted, remove_sorted}
+use Rattle.core_nodes.specs.Nodes.{ArePinsOf, IsMemoryOf, is_of_node, leaves_memory, leaves_pins}
+use Rattle.core_nodes.proofs.Events.{apart_run, draw_run, end_run, leave_run, login_run, notes_kept, refresh_run}
+use Rattle.core_nodes.proofs.Pins.{pins_kept}
+use Rattle.core_world.specs.States.{memory_at, with_memory}
+use Rattle.core_world.specs.Steps.{after_notes, pinned}
+use Rattle.core_world.specs.Kept.{AreMemories}
+use Rattle.core_world.proofs.Flights.{other_number, same_number}
+
+-- ---- one memory is set
+
+pub read_at : (ms : List NodeState) (k : ℕ) → memory_at ms k ≡ get_or ms (k - 1) (begun k no_entries)
+read_at ms k = unwrap_or-slice_get ms (k - 1) (begun k no_entries)
+
+pub set_here : (ms : List NodeState) (k : ℕ) (m : NodeState) → 1 ≤ k → k ≤ length ms → memory_at (with_memory ms k m) k ≡ m
+set_here ms k m low high = read_at (with_memory ms k m) k ∙ get_or-set_same ms (k - 1) m (begun k no_entries) (omega arith)
+
+apart_places : (j k : ℕ) → 1 ≤ j → 1 ≤ k → (j == k) ≡ false → j - 1 ≢ k - 1
+apart_places j k lj lk h e = other_number j k h (omega arith)
+
+set_there : (ms : List NodeState) (k : ℕ) (m : NodeState) (j : ℕ) → 1 ≤ k → 1 ≤ j → (j == k) ≡ false → memory_at (with_memory ms k m) j ≡ memory_at ms j
+set_there ms k m j lk lj h = read_at (with_memory ms k m) j ∙ (get_or-set_other ms (k - 1) (j - 1) m (begun j no_entries) (apart_places j k lj lk h) ∙ sym (read_at ms j))
+
+-- what holds of the memory that is set and of the others holds of each
+at_memory : (P : ℕ → NodeState → Type 0) (ms : List NodeState) (k : ℕ) (m : NodeState) (j : ℕ) → 1 ≤ k → k ≤ length ms → 1 ≤ j → P k m → ((j == k) ≡ false → P j (memory_at ms j)) → P j (memory_at (with_memory ms k m) j)
+at_memory P ms k m j lk hk lj here there = by (j == k) refl
+  where
+    by : (b : Bool) → (j == k) ≡ b → P j (memory_at (with_memory ms k m) j)
+    by true h = subst (λ (n : ℕ). P n (memory_at (with_memory ms k m) n)) (sym (same_number j k h)) (subst (P k) (sym (set_here ms k m lk hk)) here)
+    by false h = subst (P j) (sym (set_there ms k m j lk lj h)) (there h)
+
+module _ (starts : Starts) (says : Says) (clusters : ℕ) (sessions : List ℕ) (nodes : AreNodes clusters sessions) (past : Past) (ms : List NodeState) (are : AreMemories clusters sessions past ms) where
+  -- a step on the memory of cluster node k
+  step_on : (k : ℕ) → IsNode clusters k → (m : NodeState) (later : Past) → IsMemoryOf clusters later k m → ArePinsOf clusters sessions later k m
+      → ((j : ℕ) → IsNode clusters j → (j == k) ≡ false → IsMemoryOf clusters later j (memory_at ms j))
+      → ((j : ℕ) → IsNode clusters j → (j == k) ≡ false → ArePinsOf clusters sessions later j (memory_at ms j))
+      → AreMemories clusters sessions later (with_memory ms k m)
+  step_on k node m later memory pins memories all_pins = record {
+    counted = length-set ms (k - 1) m ∙ are.counted;
+    memory = λ j of. at_memory (λ i x. IsMemoryOf clusters later i x) ms k m j node.0 within of.0 memory (memories j of);
+    pins = λ j of. at_memory (λ i x. ArePinsOf clusters sessions later i x) ms k m j node.0 within of.0 pins (all_pins j of);
+  }
+    where
+      within : k ≤ length ms
+      within = subst (λ (n : ℕ). k ≤ n) (sym are.counted) node.1
+
+  -- an event that leaves all memories
+  pub aside : (e : Event) → IsRunOf starts says clusters sessions (e ∷ past) → ((j : ℕ) → leaves_memory j e ≡ true) → ((j : ℕ) → leaves_pins sessions j e ≡ true) → AreMemories clusters sessions (e ∷ past) ms
+  aside e run leaves leaves_all = record {
+    counted = are.counted;
+    memory = λ j of. apart_run starts says clusters sessions nodes e past j (memory_at ms j) run (leaves j) (are.memory j of);
+    pins = λ j of. pins_kept clusters sessions past j (memory_at ms j) (are.pins j of) e (leaves_all j);
+  }
+
+  -- ---- the pin of a session
+
+  module _ (s k : ℕ) (on : slice_get sessions s ≡ Some k) where
+    node : IsNode clusters k
+    node = nodes.node s k on
+
+    -- a session of another node is not of this one
+    of_other : (j : ℕ) → (j == k) ≡ false → not (is_of_node sessions j s) ≡ true
+    of_other j h = ap (λ o. not (option_map_or (λ m. m == j) o false)) on ∙ by (k == j) refl
+      where
+        by : (b : Bool) → (k == j) ≡ b → not b ≡ true
+        by false e = refl
+        by true e = absurd (other_number j k h (sym (same_number k j e)))
+
+    pub login_memories : (v : RevVec) → IsRunOf starts says clusters sessions (event.Login s v ∷ past) → AreMemories clusters sessions (event.Login s v ∷ past) (with_memory ms k (pinned (memory_at ms k) s))
+    login_memories v run = step_on k node (pinned (memory_at ms k) s) (event.Login s v ∷ past)
+        (let is = apart_run starts says clusters sessions nodes (event.Login s v) past k (memory_at ms k) run refl (are.memory k node) in
+        Rattle.core_nodes.proofs.Events.pins_kept clusters (event.Login s v ∷ past) k (memory_at ms k) _ is (insert_sorted s (pin_now (memory_at ms k)) (memory_at ms k).pins is.memory.owners))
+        (login_run starts says clusters sessions nodes past k (memory_at ms k) (are.memory k node) (are.pins k node) s v run on)
+        (λ j of h. apart_run starts says clusters sessions nodes (event.Login s v) past j (memory_at ms j) run refl (are.memory j of))
+        (λ j of h. pins_kept clusters sessions past j (memory_at ms j) (are.pins j of) (event.Login s v) (of_other j h))
+
+    pub refresh_memories : (v : RevVec) → IsRunOf starts says clusters sessions (event.Refresh s v ∷ past) → has_left past s ≡ false → AreMemories clusters sessions (event.Refresh s v ∷ past) (with_memory ms k (pinned (memory_at ms k) s))
+    refresh_memories v run stays = step_on k node (pinned (memory_at ms k) s) (event.Refresh s v ∷ past)
+        (let is = apart_run starts says clusters sessions nodes (event.Refresh s v) past k (memory_at ms k) run refl (are.memory k node) in
+        Rattle.core_nodes.proofs.Events.pins_kept clusters (event.Refresh s v ∷ past) k (memory_at ms k) _ is (insert_sorted s (pin_now (memory_at ms k)) (memory_at ms k).pins is.memory.owners))
+        (refresh_run starts says clusters sessions nodes past k (memory_at ms k) (are.memory k node) (are.pins k node) s v run on stays)
+        (λ j of h. apart_run starts says clusters sessions nodes (event.Refresh s v) past j (memory_at ms j) run refl (are.memory j of))
+        (λ j of h. pins_kept clusters sessions past j (memory_at ms j) (are.pins j of) (event.Refresh s v) (of_other j h))
+
+    pub leave_memories : IsRunOf starts says clusters sessions (event.Went s kind.End ∷ past) → AreMemories clusters sessions (event.Went s kind.End ∷ past) (with_memory ms k (without_pin (memory_at ms k) s))
+    leave_memories run = step_on k node (without_pin (memory_at ms k) s) (event.Went s kind.End ∷ past)
+        (let is = apart_run starts says clusters sessions nodes (event.Went s kind.End) past k (memory_at ms k) run refl (are.memory k node) in
+        Rattle.core_nodes.proofs.Events.pins_kept clusters (event.Went s kind.End ∷ past) k (memory_at ms k) _ is (remove_sorted s (memory_at ms k).pins is.memory.owners))
+        (leave_run clusters sessions past k (memory_at ms k) (are.memory k node) (are.pins k node) s)
+        (λ j of h. apart_run starts says clusters sessions nodes (event.Went s kind.End) past j (memory_at ms j) run refl (are.memory j of))
+        (λ j of h. pins_kept clusters sessions past j (memory_at ms j) (are.pins j of) (event.Went s kind.End) (of_other j h))
+
+  -- ---- draws and ends
+
+  notes_memory : (later : Past) (k : ℕ) (r : Revision) (paths : List Path) (m : NodeState) → IsMemoryOf clusters later k m → IsMemoryOf clusters later k (after_notes r m paths)
+  notes_memory later k r [] m is = is
+  notes_memory later k r (p ∷ ps) m is = notes_memory later k r ps _ (notes_kept clusters later k m _ is)
+
+  notes_pins : (later : Past) (k : ℕ) (r : Revision) (paths : List Path) (m : NodeState) → ArePinsOf clusters sessions later k m → ArePinsOf clusters sessions later k (after_notes r m paths)
+  notes_pins later k r [] m has = has
+  notes_pins later k r (p ∷ ps) m has = notes_pins later k r ps _ has
+
+  apart_node : (j k : ℕ) → (j == k) ≡ false → not (k == j) ≡ true
+  apart_node j k h = by (k == j) refl
+    where
+      by : (b : Bool) → (k == j) ≡ b → not b ≡ true
+      by false e = refl
+      by true e = absurd (other_number j k h (sym (same_number k j e)))
+
+  pub draw_memories : (d : Draw) → IsRunOf starts says clusters sessions (event.Draw d ∷ past) → d.revision ≡ next_draw (memory_at ms d.revision.cluster) → (paths : List Path)
+      → AreMemories clusters sessions (event.Draw d ∷ past) (with_memory ms d.revision.cluster (after_notes d.revision (with_draw (memory_at ms d.revision.cluster) d.revision) paths))
+  draw_memories d run next paths =
+      let k = d.revision.cluster in
+      let node : IsNode clusters k = nodes.node d.session k run.0.cluster in
+      step_on k node (after_notes d.revision (with_draw (memory_at ms k) d.revision) paths) (event.Draw d ∷ past)
+      (notes_memory (event.Draw d ∷ past) k d.revision paths _ (subst (λ (r : Revision). IsMemoryOf clusters (event.Draw d ∷ past) k (with_draw (memory_at ms k) r)) (sym next) (draw_run starts says clusters sessions nodes d past run (memory_at ms k) (are.memory k node))))
+      (notes_pins (event.Draw d ∷ past) k d.revision paths _ (pins_kept clusters sessions past k (memory_at ms k) (are.pins k node) (event.Draw d) refl))
+      (λ j of h. apart_run starts says clusters sessions nodes (event.Draw d) past j (memory_at ms j) run (apart_node j k h) (are.memory j of))
+      (λ j of h. pins_kept clusters sessions past j (memory_at ms j) (are.pins j of) (event.Draw d) refl)
+
+  pub end_memories : (r : Revision) → IsNode clusters r.cluster → IsRunOf starts says clusters sessions (event.End r ∷ past) → AreMemories clusters sessions (event.End r ∷ past) (with_memory ms r.cluster (finished (memory_at ms r.cluster) r))
+  end_memories r node run =
+      step_on r.cluster node (finished (memory_at ms r.cluster) r) (event.End r ∷ past)
+      (end_run starts says clusters sessions nodes r past run (memory_at ms r.cluster) (are.memory r.cluster node))
+      (pins_kept clusters sessions past r.cluster (memory_at ms r.cluster) (are.pins r.cluster node) (event.End r) refl)
+      (λ j of h. apart_run starts says clusters sessions nodes (event.End r) past j (memory_at ms j) run (apart_node j r.cluster h) (are.memory j of))
+      (λ j of h. pins_kept clusters sessions past j (memory_at ms j) (are.pins j of) (event.End r) refl)

@@ -1,0 +1,75 @@
+-- The steps of one session leave the committers and the readers of the others.
+use Rattle.std.proofs.Common.{◌≡◌, ℕ, false, cond, Option, Ok, Err, Result, List, refl, ap}
+use Rattle.std.specs.Prelude.{◌==◌}
+use Rattle.jr_path.specs.declared.path.Path.{Path}
+use Rattle.jr_path.specs.declared.text.Text.{Text}
+use Rattle.jr_tree.specs.declared.edit.Edit.{Edit}
+use Rattle.oak_clash.specs.declared.mark.MarkAt.{MarkAt}
+use Rattle.oak_commit.specs.Clashing.{Met}
+use Rattle.oak_doc.specs.declared.document.Document.{Document}
+use Rattle.oak_doc.specs.declared.update.OpFault.{OpFault}
+use Rattle.oak_doc.specs.declared.update.OpFault.TheVariants as fault
+use Rattle.oak_doc.specs.declared.update.Kept.TheVariants as kept
+use Rattle.oak_machine.specs.declared.event.StepKind.{StepKind}
+use Rattle.oak_read.specs.declared.reader.Reader.{Reader}
+use Rattle.core_clash.specs.Sessions.{Running}
+use Rattle.core_world.specs.States.{State, with_session}
+use Rattle.core_world.specs.Steps.{LeavesOthers, after_draw, after_finish, after_last, after_leave, after_login, after_mark, after_refresh, after_said, after_undoing, after_want, after_went, after_write, after_write_in_want, lasted_by, marked_by, with_reader}
+
+-- the others have what they had
+pub session_other : {X : Type 0} (has : ℕ → Option X) (s : ℕ) (x : Option X) (q : ℕ) → (q == s) ≡ false → with_session has s x q ≡ has q
+session_other has s x q h = ap (λ b. cond b x (has q)) h
+
+pub login_others : (w : State) (s : ℕ) → LeavesOthers s w (after_login w s)
+login_others w s q h = (refl, refl)
+
+pub refresh_others : (w : State) (s : ℕ) → LeavesOthers s w (after_refresh w s)
+refresh_others w s q h = (refl, refl)
+
+pub leave_others : (w : State) (s : ℕ) → LeavesOthers s w (after_leave w s)
+leave_others w s q h = (refl, refl)
+
+pub said_others : (w : State) (s i : ℕ) (text : Text) → LeavesOthers s w (after_said w s i text)
+said_others w s i text q h = (refl, refl)
+
+pub went_others : (w : State) (s : ℕ) (k : StepKind) → LeavesOthers s w (after_went w s k)
+went_others w s k q h = (refl, refl)
+
+pub reader_others : (w : State) (s : ℕ) (r : Option Reader) → LeavesOthers s w (with_reader w s r)
+reader_others w s r q h = (refl, session_other w.reading s r q h)
+
+pub draw_others : (w : State) (s : ℕ) (edit : Edit) (marks : List MarkAt) (paths : List Path) → LeavesOthers s w (after_draw w s edit marks paths)
+draw_others w s edit marks paths q h = (session_other w.running s _ q h, refl)
+
+pub write_others : (w : State) (s : ℕ) (x : Running) (p : Path) (rest : List Path) → LeavesOthers s w (after_write w s x p rest)
+write_others w s x p rest q h = (session_other w.running s _ q h, refl)
+
+pub write_in_want_others : (w : State) (s : ℕ) (x : Running) (p : Path) (rest : List Path) → LeavesOthers s w (after_write_in_want w s x p rest)
+write_in_want_others w s x p rest q h = (session_other w.running s _ q h, refl)
+
+marked_others : (w : State) (s : ℕ) (x : Running) (f : Met) (rest : List Met) (o : Result Document OpFault) → LeavesOthers s w (marked_by w s x f rest o)
+marked_others w s x f rest (Ok d) q h = (session_other w.running s _ q h, refl)
+marked_others w s x f rest (Err g) q h = (session_other w.running s _ q h, refl)
+
+pub mark_others : (w : State) (s : ℕ) (x : Running) (f : Met) (rest : List Met) → LeavesOthers s w (after_mark w s x f rest)
+mark_others w s x f rest = marked_others w s x f rest _
+
+lasted_others : (w : State) (s : ℕ) (x : Running) (o : Result Document OpFault) → LeavesOthers s w (lasted_by w s x o)
+lasted_others w s x (Ok d) q h = (session_other w.running s _ q h, refl)
+lasted_others w s x (Err (fault.Unmet c (kept.Entry o item))) q h = (session_other w.running s _ q h, refl)
+lasted_others w s x (Err (fault.Unmet c (kept.Number n))) q h = (refl, refl)
+lasted_others w s x (Err (fault.Unmet c kept.Nothing)) q h = (refl, refl)
+lasted_others w s x (Err fault.Absent) q h = (refl, refl)
+lasted_others w s x (Err fault.Memory) q h = (refl, refl)
+
+pub last_others : (w : State) (s : ℕ) (x : Running) → LeavesOthers s w (after_last w s x)
+last_others w s x = lasted_others w s x _
+
+pub want_others : (w : State) (s : ℕ) (x : Running) → LeavesOthers s w (after_want w s x)
+want_others w s x q h = (session_other w.running s _ q h, refl)
+
+pub undo_others : (w : State) (s : ℕ) (x : Running) (p : Path) (rest : List Path) → LeavesOthers s w (after_undoing w s x p rest)
+undo_others w s x p rest q h = (session_other w.running s _ q h, refl)
+
+pub finish_others : (w : State) (s : ℕ) (x : Running) → LeavesOthers s w (after_finish w s x)
+finish_others w s x q h = (session_other w.running s _ q h, refl)

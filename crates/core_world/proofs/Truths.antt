@@ -1,0 +1,180 @@
+-- What is true of each world that is kept.
+use Rattle.std.proofs.Common.{◌≡◌, ◌⊎◌, inl, inr, ℕ, ◌≤◌, Bool, true, false, not, ◌&&◌, cond, Some, None, Option, List, [], ◌∷◌, length, is_some, refl, sym, ap, subst, ◌∙◌, arith}
+use Rattle.std.specs.Prelude.{slice_get}
+use Rattle.std.specs.Option.{option_map, option_map_or, unwrap_or}
+use mathlib.Core.Bool.{false≢true}
+use Rattle.jr_path.specs.declared.path.Path.{Path}
+use Rattle.jr_rev.specs.declared.revision.Revision.{Revision}
+use Rattle.jr_rev.specs.declared.vector.Pin.{Pin}
+use Rattle.jr_rev.specs.declared.vector.RevVec.{RevVec}
+use Rattle.jr_rev.specs.Revisions.{is_before, is_same}
+use Rattle.jr_rev.specs.Vectors.{sees, start, start_of}
+use Rattle.jr_tree.specs.Trees.{node_at}
+use Rattle.oak_clash.specs.Clashes.{commit_root}
+use Rattle.oak_commit.specs.Clashing.{Met, Writer, found, marked}
+use Rattle.oak_doc.specs.declared.document.Document.{Document}
+use Rattle.oak_machine.specs.declared.event.Draw.{Draw}
+use Rattle.oak_machine.specs.declared.event.Event.{Event}
+use Rattle.oak_machine.specs.declared.event.Event.TheVariants as event
+use Rattle.oak_machine.specs.History.{Past}
+use Rattle.oak_machine.specs.Commits.{IsClosed, IsSettled, are_clashing, draw_of, is_committed, is_drawn, is_ended, is_in_base, is_in_flight, is_refused, tree_at}
+use Rattle.oak_machine.specs.Laws.{Says, Starts, StartsProper}
+use Rattle.oak_machine.specs.Runs.{AreNodes, IsNode, IsRunOf}
+use Rattle.oak_machine.specs.Sessions.{base_of, has_left, has_login}
+use Rattle.oak_node.specs.Heads.{IsInFlight, known_time}
+use Rattle.oak_node.specs.Pins.{pin_of}
+use Rattle.oak_read.specs.Meaning.{documents_in, found_node}
+use Rattle.core_read.specs.Holds.{edit_of, root_entry, the_start}
+use Rattle.core_read.specs.Told.{IsInUse}
+use Rattle.core_read.proofs.Reading.{reading}
+use Rattle.core_read.proofs.Told.{base_is as base_sees, no_edit}
+use Rattle.core_read.proofs.Vectors.{time_before}
+use Rattle.core_heads.specs.Sound.{IsHeld}
+use Rattle.core_heads.proofs.Runs.{closed_run, fresh_run, held_in_use, held_settled, sound_run}
+use Rattle.core_clash.specs.Core.{root_of}
+use Rattle.core_clash.specs.Sessions.{IsTheirs, Running}
+use Rattle.core_clash.specs.Sound.{HasCause, IsRooted}
+use Rattle.core_clash.specs.Views.{In}
+use Rattle.core_clash.proofs.Basics.{not_both, same_revision, some_of, test}
+use Rattle.core_clash.proofs.Complete.{complete, meets_clashing}
+use Rattle.core_clash.proofs.Meetings.{meeting}
+use Rattle.core_clash.proofs.Pasts.{in_flight}
+use Rattle.core_clash.proofs.Steps.{no_unseen_clash, told_root, undone_whole}
+use Rattle.core_nodes.proofs.Times.{known_events}
+use Rattle.core_nodes.proofs.Waits.{flying_is}
+use Rattle.core_world.specs.Kept.{IsFreeOf, IsKept}
+use Rattle.core_world.specs.States.{State, base_in, core_in, memory_at, memory_of, nodes_in}
+use Rattle.core_world.proofs.Commits.{on_its_node}
+use Rattle.core_world.proofs.Draws.{base_is, its_pin}
+use Rattle.core_world.proofs.Lives.{session_there, told}
+use Rattle.core_world.proofs.Loads.{start_in_use}
+use Rattle.core_world.proofs.Readers.{HasPin, pinned_is, session_pinned}
+
+-- the commit root of a drawn revision stays, whatever follows
+pub root_stays : (starts : Starts) (says : Says) (clusters : ℕ) (sessions : List ℕ) → AreNodes clusters sessions → (e : Event) (past : Past) (r : Revision) → IsRunOf starts says clusters sessions (e ∷ past) → is_drawn past r ≡ true → root_of (e ∷ past) r ≡ root_of past r
+root_stays starts says clusters sessions nodes (event.Draw d) past r run drawn = by (is_same r d.revision) refl
+  where
+    fresh : draw_of past d.revision ≡ None
+    fresh = (fresh_run clusters sessions nodes starts says d past run).fresh
+
+    by : (b : Bool) → is_same r d.revision ≡ b → commit_root (option_map_or (λ (e : Draw). e.marks) (cond b (Some d) (draw_of past r)) []) ≡ root_of past r
+    by false h = refl
+    by true h = absurd (false≢true (sym (ap (λ (o : Option Draw). is_some o) (ap (draw_of past) (same_revision r d.revision h) ∙ fresh)) ∙ drawn))
+root_stays starts says clusters sessions nodes e past r run drawn = refl
+
+module _ (starts : Starts) (says : Says) (proper : StartsProper starts) (w : State) (kept : IsKept starts says w) where
+  -- ---- pins
+
+  module _ (s : ℕ) (there : is_some (slice_get w.sessions s) ≡ true) (pin : Pin) (has_pin : pin_of (memory_of w s) s ≡ Some pin) where
+    pinned : HasPin w.clusters w.past s pin
+    pinned = pinned_is w.clusters w.past s pin (sym (its_pin starts says proper w kept s there) ∙ has_pin)
+
+    held : IsHeld w.past pin.base
+    held = (sound_run w.clusters w.sessions kept.nodes starts says w.past kept.run).bases s pin.base pinned.base
+
+    pub pin_settled : IsSettled w.past pin.base
+    pin_settled = held_settled w.past pin.base held
+
+    pub pin_closed : IsClosed w.past pin.base
+    pin_closed = closed_run w.clusters w.sessions kept.nodes starts says w.past kept.run pin.base held
+
+    pub pin_shows : (p : Path) → found_node (documents_in w.table.documents) pin.sweep pin.base p ≡ option_map (λ node. node.props) (node_at (tree_at w.past pin.base) p)
+    pin_shows p = reading (documents_in w.table.documents) w.past pin.sweep pin.base kept.committing.holds (told starts says proper w kept) (held_in_use w.past pin.base held)
+        (subst (λ (v : RevVec). IsInUse w.past v) (sym pinned.sweep) (start_in_use starts says proper w kept)) p
+
+  -- a session that is there has a pin, at its base
+  pub pin_there : (s : ℕ) → has_login w.past s ≡ true → has_left w.past s ≡ false → (pin_of (memory_of w s) s ≡ Some (record { base = base_in w s; sweep = start w.clusters })) × (base_of w.past s ≡ Some (base_in w s))
+  pin_there s login stays =
+      let base = base_is starts says proper w kept s login stays in
+      (its_pin starts says proper w kept s (session_there starts says proper w kept s login) ∙ session_pinned w.clusters w.past s (base_in w s) login stays base, base)
+
+  -- ---- committers
+
+  module _ (s : ℕ) (x : Running) (here : w.running s ≡ Some x) where
+    mine : IsTheirs w.past kept.committing.writers s x
+    mine = kept.committing.theirs s x here
+
+    on : slice_get w.sessions s ≡ Some x.draw.revision.cluster
+    on = on_its_node starts says proper w kept s x here
+
+    -- its revision is in flight by the memory of its node
+    pub flies_there : IsInFlight (memory_of w s) x.draw.revision
+    flies_there =
+        let k = x.draw.revision.cluster in
+        let node : IsNode w.clusters k = kept.nodes.node s k on in
+        let flying = in_flight w.past x.draw.revision x.draw mine.draw mine.unended in
+        subst (λ (j : ℕ). IsInFlight (memory_at w.memories j) x.draw.revision) (sym (ap (λ o. unwrap_or o 0) on))
+        ((flying_is w.clusters w.sessions kept.nodes w.past (sound_run w.clusters w.sessions kept.nodes starts says w.past kept.run) k node (memory_at w.memories k) (kept.memories.memory k node) x.draw.revision).1 (refl, flying))
+
+    -- what it is to mark was drawn
+    pub due_drawn : (f : Met) → In f x.writer.due → is_drawn w.past f.other ≡ true
+    due_drawn f h = (kept.committing.sound.due x.draw.revision f (subst (λ (v : Writer). In f v.due) (sym mine.writer) h)).cause.other
+
+    -- the base of its draw sees the start
+    sees_start : sees x.draw.base (start_of 1) ≡ true
+    sees_start = sym (base_sees w.past x.draw.revision x.draw mine.draw (start_of 1)) ∙ kept.committing.sound.start x.draw.revision (ap (λ (o : Option Draw). is_some o) mine.draw)
+
+    -- the document in which it meets another tells the other's commit root
+    pub met_rooted : (p : Path) (f : Met) → In f (found x.draw.base x.draw.revision p x.draw.marks (nodes_in w.table p)) → IsRooted (nodes_in w.table p) f.other (root_of w.past f.other)
+    met_rooted p f h =
+        let met = (meeting x.draw.base x.draw.revision p x.draw.marks (nodes_in w.table p)).each f h in
+        told_root (core_in w.past w.table kept.committing.writers) f.other p met.mark.0 kept.committing.sound
+        (λ e. false≢true (sym met.outside ∙ (ap (sees x.draw.base) e ∙ sees_start))) met.mark.1
+
+  -- ---- commits
+
+  pub no_clash_unseen : (r o : Revision) → (r ≡ o → ⊥) → is_committed w.past r ≡ true → is_committed w.past o ≡ true → are_clashing w.past r o ≡ true → (is_in_base w.past r o ≡ true) ⊎ (is_in_base w.past o r ≡ true)
+  no_clash_unseen r o apart cr co clash = no_unseen_clash (core_in w.past w.table kept.committing.writers) r o kept.committing.sound apart cr co clash
+
+  pub has_cause : (r : Revision) → is_refused w.past r ≡ true → HasCause w.past r
+  has_cause r h = kept.committing.sound.refusal r h
+
+  pub comes_through : (r : Revision) → is_ended w.past r ≡ true → ((o : Revision) → is_drawn w.past o ≡ true → is_in_base w.past r o ≡ false → are_clashing w.past r o ≡ false) → (is_committed w.past r ≡ true) ⊎ (((kept.committing.writers r).wants ≡ true) × (is_refused w.past r ≡ false))
+  comes_through r ended apart = by (test (kept.committing.writers r).wants)
+    where
+      no_cause : HasCause w.past r → ⊥
+      no_cause h = not_both (are_clashing w.past r h.other) (meets_clashing _ _ h.item h.cause.met) (apart h.other h.cause.other h.cause.outside)
+
+      unrefused : (b : Bool) → is_refused w.past r ≡ b → b ≡ false
+      unrefused false h = refl
+      unrefused true h = absurd (no_cause (has_cause r h))
+
+      by : ((kept.committing.writers r).wants ≡ true) ⊎ ((kept.committing.writers r).wants ≡ false) → (is_committed w.past r ≡ true) ⊎ (((kept.committing.writers r).wants ≡ true) × (is_refused w.past r ≡ false))
+      by (inl h) = inr (h, unrefused (is_refused w.past r) refl)
+      by (inr h) = inl (complete (core_in w.past w.table kept.committing.writers) r kept.committing.sound ended h apart)
+
+  -- what ended without a commit has left nothing
+  module _ (r : Revision) (ended : is_ended w.past r ≡ true) (uncommitted : is_committed w.past r ≡ false) where
+    drawn : (d : Draw) × (draw_of w.past r ≡ Some d)
+    drawn = some_of (draw_of w.past r) (kept.committing.sound.ended_drawn r ended)
+
+    positive : 1 ≤ r.time
+    positive = ((sound_run w.clusters w.sessions kept.nodes starts says w.past kept.run).draws r drawn.0 drawn.1).positive
+
+    after_start : is_before the_start r ≡ true
+    after_start = time_before the_start r (let a = positive in omega arith)
+
+    no_start : r ≡ start_of 1 → ⊥
+    no_start e = let t = ap (λ (x : Revision). x.time) e in let a = positive in omega arith
+
+    none : edit_of w.past r ≡ None
+    none = no_edit w.past r after_start uncommitted
+
+    grounded : is_in_flight w.past r ≡ false
+    grounded = ap (λ b. is_drawn w.past r && not b) ended ∙ and_no (is_drawn w.past r)
+      where
+        and_no : (b : Bool) → (b && false) ≡ false
+        and_no true = refl
+        and_no false = refl
+
+    pub leaves_nothing : (p : Path) (d : Document) → nodes_in w.table p ≡ Some d → IsFreeOf r d
+    leaves_nothing p d is = record {
+      marks = λ m. subst (λ (o : Option Document). marked o r m ≡ false) is (undone_whole (core_in w.past w.table kept.committing.writers) r p m kept.committing.sound no_start ended uncommitted);
+      root = ap (λ (o : Option ℕ). is_some o) (subst (λ (o : Option Document). root_entry o r ≡ None) is (kept.committing.holds.no_root p r none grounded));
+      said = subst (λ (o : Option Document). Rattle.core_read.specs.Holds.has_revision o r ≡ false) is (kept.committing.holds.unsaid p r none);
+    }
+
+  -- ---- times
+
+  pub time_known : (k : ℕ) → IsNode w.clusters k → known_time (memory_at w.memories k) ≤ length w.past
+  time_known k node = known_events w.clusters w.sessions kept.nodes starts says w.past kept.run k (memory_at w.memories k) node (kept.memories.memory k node)

@@ -1,0 +1,69 @@
+-- The state of a world: all but the tasks of its sessions.
+use Rattle.std.specs.Prelude.{ℕ, ◌-◌, cond, ◌==◌, List, slice_get, slice_set, Option}
+use Rattle.std.specs.Option.{option_map_or, unwrap_or}
+use Rattle.jr_path.specs.declared.path.Path.{Path}
+use Rattle.jr_path.specs.declared.path.DocId.TheVariants as id
+use Rattle.jr_rev.specs.declared.revision.Revision.{Revision}
+use Rattle.jr_rev.specs.declared.vector.RevVec.{RevVec}
+use Rattle.jr_rev.specs.Vectors.{no_entries}
+use Rattle.oak_commit.specs.Clashing.{Writer}
+use Rattle.oak_doc.specs.declared.document.Document.{Document}
+use Rattle.oak_machine.specs.History.{History, Past}
+use Rattle.oak_node.specs.Memory.{NodeState, begun}
+use Rattle.oak_node.specs.Pins.{pin_of}
+use Rattle.oak_read.specs.declared.reader.Reader.{Reader}
+use Rattle.oak_read.specs.Meaning.{documents_in}
+use Rattle.oak_store.specs.Tables.{Table}
+use Rattle.core_clash.specs.Core.{Core}
+use Rattle.core_clash.specs.Sessions.{Running}
+
+-- the number of cluster nodes, and the cluster node of each session; the events so far, the newest first; the documents; the memories of the cluster nodes 1, 2 and so on;
+-- of each session the committer at work, from its draw to the end, and the reader of its load or list
+pub record State : Type 0 where
+  pub clusters : ℕ
+  pub sessions : List ℕ
+  pub past : Past
+  pub table : Table
+  pub memories : List NodeState
+  pub running : ℕ → Option Running
+  pub reading : ℕ → Option Reader
+
+-- what the journal of a state tells
+abbrev pub history_in : State → History
+history_in w = record { clusters = w.clusters; sessions = w.sessions; past = w.past }
+
+-- of the sessions, s has this now, and the others have what they had
+abbrev pub with_session : {X : Type 0} → (ℕ → Option X) → ℕ → Option X → ℕ → Option X
+with_session has s x q = cond (q == s) x (has q)
+
+-- ---- documents
+
+-- the documents of the nodes in a table, by their paths
+abbrev pub nodes_in : Table → Path → Option Document
+nodes_in t p = documents_in t.documents (id.Node p)
+
+-- the core of many committers: the documents, the events so far, and the writer of each draw
+abbrev pub core_in : Past → Table → (Revision → Writer) → Core
+core_in past t writers = record { number = t.number; docs = nodes_in t; past = past; writers = writers }
+
+-- ---- memories
+
+-- the memory of cluster node k
+abbrev pub memory_at : List NodeState → ℕ → NodeState
+memory_at memories k = unwrap_or (slice_get memories (k - 1)) (begun k no_entries)
+
+-- the memories, with this one of cluster node k
+abbrev pub with_memory : List NodeState → ℕ → NodeState → List NodeState
+with_memory memories k m = slice_set memories (k - 1) m
+
+-- the cluster node of session s
+abbrev pub node_of : State → ℕ → ℕ
+node_of w s = unwrap_or (slice_get w.sessions s) 0
+
+-- the memory of the cluster node of session s
+abbrev pub memory_of : State → ℕ → NodeState
+memory_of w s = memory_at w.memories (node_of w s)
+
+-- the base of session s: that of its pin
+abbrev pub base_in : State → ℕ → RevVec
+base_in w s = option_map_or (λ pin. pin.base) (pin_of (memory_of w s) s) (memory_of w s).head

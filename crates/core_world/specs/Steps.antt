@@ -1,0 +1,198 @@
+-- The steps of a world, as what each makes of its state.
+use Rattle.std.specs.Prelude.{◌≡◌, ◌⊎◌, ◌==◌, IsFalse, ℕ, true, false, cond, List, [], ◌∷◌, ◌++◌, map, Option, Some, None, Result, Ok, Err}
+use Rattle.std.specs.List.{fold}
+use Rattle.jr_path.specs.declared.path.Path.{Path}
+use Rattle.jr_path.specs.declared.path.Item.{Item}
+use Rattle.jr_path.specs.declared.path.DocId.{DocId}
+use Rattle.jr_path.specs.declared.path.DocId.TheVariants as id
+use Rattle.jr_path.specs.declared.text.Text.{Text}
+use Rattle.jr_path.specs.Ids.{names_of}
+use Rattle.jr_rev.specs.declared.revision.Revision.{Revision}
+use Rattle.jr_rev.specs.Revisions.{is_before}
+use Rattle.jr_tree.specs.declared.edit.Edit.{Edit}
+use Rattle.oak_clash.specs.declared.mark.MarkAt.{MarkAt}
+use Rattle.oak_clash.specs.Clashes.{commit_root}
+use Rattle.oak_commit.specs.Clashing.{Met, Writer, found, mark_op}
+use Rattle.oak_commit.specs.Writing.{last_op, write_op, written_ids}
+use Rattle.oak_doc.specs.declared.document.Document.{Document}
+use Rattle.oak_doc.specs.declared.update.UpdateOp.{UpdateOp}
+use Rattle.oak_doc.specs.declared.update.OpFault.{OpFault}
+use Rattle.oak_doc.specs.declared.update.OpFault.TheVariants as fault
+use Rattle.oak_doc.specs.declared.update.Kept.TheVariants as kept
+use Rattle.oak_doc.specs.Updates.{updated}
+use Rattle.oak_machine.specs.declared.event.Draw.{Draw}
+use Rattle.oak_machine.specs.declared.event.Event.TheVariants as event
+use Rattle.oak_machine.specs.declared.event.StepKind.{StepKind}
+use Rattle.oak_machine.specs.declared.event.StepKind.TheVariants as kind
+use Rattle.oak_machine.specs.History.{Past}
+use Rattle.oak_node.specs.Heads.{finished, next_draw, with_draw}
+use Rattle.oak_node.specs.Memory.{NodeState, own_entry}
+use Rattle.oak_node.specs.Notes.{with_note}
+use Rattle.oak_node.specs.Pins.{pin_now, with_pin, without_pin}
+use Rattle.oak_read.specs.declared.reader.Reader.{Reader}
+use Rattle.oak_store.specs.Tables.{Table, after_undo, next_number, with_document}
+use Rattle.core_clash.specs.Core.{root_of}
+use Rattle.core_clash.specs.Sessions.{Running}
+use Rattle.core_world.specs.States.{State, base_in, memory_of, node_of, nodes_in, with_memory, with_session}
+
+-- ---- documents
+
+-- the table with the document that an update makes, under the next number; a refused update leaves it as it was
+abbrev pub with_result : Table → DocId → Result Document OpFault → Table
+with_result t id (Ok d) = with_document t id d (next_number t)
+with_result t id (Err fault) = t
+
+abbrev pub after_update : Table → UpdateOp → Table
+after_update t op = with_result t op.id (updated (Rattle.oak_store.specs.Tables.found t op.id) op (next_number t))
+
+-- ---- memories
+
+-- the memory with the paths noted with r
+abbrev pub after_notes : Revision → NodeState → List Path → NodeState
+after_notes r m paths = fold (λ m p. with_note m p r) m paths
+
+-- the owner is pinned at the head
+abbrev pub pinned : NodeState → ℕ → NodeState
+pinned m owner = with_pin m owner (pin_now m)
+
+-- the memories, with this one of the cluster node of session s
+abbrev pub memories_with : State → ℕ → NodeState → List NodeState
+memories_with w s m = with_memory w.memories (node_of w s) m
+
+-- ---- sessions
+
+-- session s logs in, and is pinned at its node's head
+abbrev pub after_login : State → ℕ → State
+after_login w s = record w { past = event.Login s (memory_of w s).head ∷ w.past; memories = memories_with w s (pinned (memory_of w s) s) }
+
+-- its pin moves to the head
+abbrev pub after_refresh : State → ℕ → State
+after_refresh w s = record w { past = event.Refresh s (memory_of w s).head ∷ w.past; memories = memories_with w s (pinned (memory_of w s) s) }
+
+-- it leaves, and has no pin any more
+abbrev pub after_leave : State → ℕ → State
+after_leave w s = record w { past = event.Went s kind.End ∷ w.past; memories = memories_with w s (without_pin (memory_of w s) s) }
+
+-- it says its reply of index i
+abbrev pub after_said : State → ℕ → ℕ → Text → State
+after_said w s i text = record w { past = event.Said s i text ∷ w.past }
+
+-- it makes a step of a kind that changes neither documents nor memories
+abbrev pub after_went : State → ℕ → StepKind → State
+after_went w s k = record w { past = event.Went s k ∷ w.past }
+
+-- its reader is this now, or it has none
+abbrev pub with_reader : State → ℕ → Option Reader → State
+with_reader w s r = record w { reading = with_session w.reading s r }
+
+-- ---- a commit
+
+-- the paths of the marked nodes, each once, in the order in which their documents are stored
+abbrev pub paths_to_write : List MarkAt → List Path
+paths_to_write marks = map names_of (written_ids marks)
+
+-- a committer that has written nothing yet
+abbrev pub beginning : Draw → Running
+beginning d = record {
+  draw = d;
+  writer = record { paths = paths_to_write d.marks; left = paths_to_write d.marks; written = []; due = []; undoing = false; wants = false };
+  committed = false;
+}
+
+-- the draw that session s makes for an edit with its marks, at its base
+abbrev pub draw_in : State → ℕ → Edit → List MarkAt → Draw
+draw_in w s edit marks = record { revision = next_draw (memory_of w s); session = s; base = base_in w s; edit = edit; marks = marks }
+
+-- session s draws the next revision of its node, and these of the marked paths are noted with it
+abbrev pub after_draw : State → ℕ → Edit → List MarkAt → List Path → State
+after_draw w s edit marks paths = let d = draw_in w s edit marks in record w {
+  past = event.Draw d ∷ w.past;
+  memories = memories_with w s (after_notes d.revision (with_draw (memory_of w s) d.revision) paths);
+  running = with_session w.running s (Some (beginning d));
+}
+
+-- the committer of session s stands so now
+abbrev pub goes_on : State → ℕ → Running → Writer → ℕ → Option Running
+goes_on w s x writer = with_session w.running s (Some (record { draw = x.draw; writer = writer; committed = x.committed }))
+
+-- the committer x writes the document of p, with `rest` left, and is to mark what it meets there
+abbrev pub after_write : State → ℕ → Running → Path → List Path → State
+after_write w s x p rest = record w {
+  past = event.Went s kind.Write ∷ w.past;
+  table = after_update w.table (write_op x.draw.revision x.draw.edit.writes x.draw.marks p);
+  running = goes_on w s x (record x.writer { left = rest; written = x.writer.written ++ p ∷ []; due = found x.draw.base x.draw.revision p x.draw.marks (nodes_in w.table p) });
+}
+
+-- the same, but memory is refused for what it meets there: it turns to undoing
+abbrev pub after_write_in_want : State → ℕ → Running → Path → List Path → State
+after_write_in_want w s x p rest = record w {
+  past = event.Went s kind.Write ∷ w.past;
+  table = after_update w.table (write_op x.draw.revision x.draw.edit.writes x.draw.marks p);
+  running = goes_on w s x (record x.writer { left = rest; written = x.writer.written ++ p ∷ []; due = []; undoing = true; wants = true });
+}
+
+-- it is refused with its item and the other revision, and turns to undoing
+abbrev pub refused : State → ℕ → Running → Item → Revision → State
+refused w s x item o = record w {
+  past = event.Refuse x.draw.revision item o ∷ w.past;
+  running = goes_on w s x (record x.writer { due = []; undoing = true });
+}
+
+abbrev pub marked_by : State → ℕ → Running → Met → List Met → Result Document OpFault → State
+marked_by w s x f rest (Ok d) = record w {
+  past = event.Went s kind.Mark ∷ w.past;
+  table = with_document w.table (id.Node (root_of w.past f.other)) d (next_number w.table);
+  running = goes_on w s x (record x.writer { due = rest });
+}
+marked_by w s x f rest (Err fault) = refused w s x f.mine f.other
+
+-- it marks the collision f on the commit root of the other, with `rest` to mark still; or the other is committed, and it is refused
+abbrev pub after_mark : State → ℕ → Running → Met → List Met → State
+after_mark w s x f rest = marked_by w s x f rest (updated (nodes_in w.table (root_of w.past f.other)) (mark_op (root_of w.past f.other) f.other x.draw.revision f.theirs) (next_number w.table))
+
+abbrev pub lasted_by : State → ℕ → Running → Result Document OpFault → State
+lasted_by w s x (Ok d) = record w {
+  past = event.Commit x.draw.revision ∷ w.past;
+  table = with_document w.table (id.Node (commit_root x.draw.marks)) d (next_number w.table);
+  running = with_session w.running s (Some (record { draw = x.draw; writer = x.writer; committed = true }));
+}
+lasted_by w s x (Err (fault.Unmet c (kept.Entry o item))) = refused w s x item o
+lasted_by w s x (Err _) = w
+
+-- it commits on its commit root; or somebody marked a collision with it there, and it is refused
+abbrev pub after_last : State → ℕ → Running → State
+after_last w s x = lasted_by w s x (updated (nodes_in w.table (commit_root x.draw.marks)) (last_op x.draw.revision x.draw.marks) (next_number w.table))
+
+-- memory was refused: it turns to undoing
+abbrev pub after_want : State → ℕ → Running → State
+after_want w s x = record w { running = goes_on w s x (record x.writer { due = []; undoing = true; wants = true }) }
+
+-- it undoes the document of p, with `rest` to undo still
+abbrev pub after_undoing : State → ℕ → Running → Path → List Path → State
+after_undoing w s x p rest = record w {
+  past = event.Went s kind.Undo ∷ w.past;
+  table = after_undo w.table (id.Node p) x.draw.revision;
+  running = goes_on w s x (record x.writer { written = rest });
+}
+
+-- the head of cluster node k, where it moves
+abbrev pub moved_head : ℕ → NodeState → NodeState → Past → Past
+moved_head k old new past = cond (is_before (own_entry old) (own_entry new)) (event.Head k new.head ∷ past) past
+
+-- its revision ends, and its committer is gone
+abbrev pub after_finish : State → ℕ → Running → State
+after_finish w s x = let done = finished (memory_of w s) x.draw.revision in record w {
+  past = moved_head (node_of w s) (memory_of w s) done (event.End x.draw.revision ∷ w.past);
+  memories = memories_with w s done;
+  running = with_session w.running s None;
+}
+
+-- it has committed, or has undone all that it wrote
+abbrev pub IsThrough : Running → Type 0
+IsThrough x = (x.committed ≡ true) ⊎ ((x.writer.undoing ≡ true) × (x.writer.written ≡ []))
+
+-- ---- a step is one session's
+
+-- the committers and the readers of the sessions other than s are as they were
+abbrev pub LeavesOthers : ℕ → State → State → Type 0
+LeavesOthers s w u = (q : ℕ) → IsFalse (q == s) → (u.running q ≡ w.running q) × (u.reading q ≡ w.reading q)
