@@ -135,7 +135,7 @@ same_session s w more (entry.Turn t) h = absurd (false≢true (sym (ap is_list h
 same_session s w more (entry.Say t k) h = ap (λ d. number_in (first_in (items_in d))) (sym h)
 same_session s w more (entry.Draw t) h = ap (λ d. number_in (first_in (items_in d))) (sym h)
 same_session s w more (entry.Write t k) h = ap (λ d. number_in (first_in (items_in d))) (sym h)
-same_session s w more (entry.Latt s) h = ap (λ d. number_in (first_in (items_in d))) (sym h)
+same_session s w more (entry.Last t) h = ap (λ d. number_in (first_in (items_in d))) (sym h)
 same_session s w more (entry.Read t) h = ap (λ d. number_in (first_in (items_in d))) (sym h)
 
 same_count : (s : ℕ) (w : List ℕ) (more : Items) (e : Entry) → listed s w more ≡ json_of e → count_of e ≡ count_in more
@@ -143,7 +143,7 @@ same_count s w more (entry.Turn t) h = absurd (false≢true (sym (ap is_list h))
 same_count s w more (entry.Say t k) h = ap (λ d. count_in (rest_in (rest_in (items_in d)))) (sym h)
 same_count s w more (entry.Draw t) h = ap (λ d. count_in (rest_in (rest_in (items_in d)))) (sym h)
 same_count s w more (entry.Write t k) h = ap (λ d. count_in (rest_in (rest_in (items_in d)))) (sym h)
-same_count s w more (entry.Latt s) h = ap (λ d. count_in (rest_in (rest_in (items_in d)))) (sym h)
+same_count s w more (entry.Last t) h = ap (λ d. count_in (rest_in (rest_in (items_in d)))) (sym h)
 same_count s w more (entry.Read t) h = ap (λ d. count_in (rest_in (rest_in (items_in d)))) (sym h)
 
 text_is : (b : Data) (w : List ℕ) → as_str b ≡ Some w → b ≡ string w
