@@ -1,5 +1,5 @@
 -- Which entry JSON is, by its parts.
-use Rattle.std.proofs.Common.{◌≡◌, ◌≢◌, ◌∙◌, ℕ, ◌<◌, ◌≤◌, Bool, true, false, cond, List, [], ◌∷◌, Option, Some, None, ap, arith, bytes_eq, codes, get_or, is_some, length, refl, sym, subst}
+use Rattle.std.proofs.Common.{◌≡◌, ◌≢◌, ◌∙◌, ℕ, ◌-◌, ◌<◌, ◌≤◌, Bool, true, false, cond, List, [], ◌∷◌, Option, Some, None, ap, arith, bytes_eq, codes, drop, get_or, is_some, length, refl, sym, subst, take}
 use Rattle.serde_json.specs.Data.{Data, Items, null, boolean, number, string, array, object, no_items, item, unsigned, negative, float}
 use Rattle.serde_json.specs.Events.{items_len}
 use Rattle.serde_json.specs.Find.{as_number, as_str, as_u64}
@@ -9,6 +9,7 @@ use Rattle.jr_script.specs.Numbers.{IsFound, IsSession, IsWhole, whole}
 use Rattle.jr_script.specs.Schedules.{IsEntry, IsEntryWithin, count_of, json_of, listed, session_named}
 use Rattle.jr_script.specs.declared.script.Entry.{Entry}
 use Rattle.jr_script.specs.declared.script.Entry.TheVariants as entry
+use Rattle.jr_script.proofs.Sessions.{as_many}
 use mathlib.Core.Bool.{false≢true}
 
 -- ---- parts of JSON
@@ -84,20 +85,20 @@ no_entry s w more none e h = none_some e (sym none ∙ ap back h ∙ back_json e
 -- ---- JSON that is no entry
 
 pub no_turn : (sessions : ℕ) (d : Data) → is_list d ≡ false → ((s : ℕ) → IsSession sessions d s → ⊥) → (e : Entry) → IsEntry sessions d e → ⊥
-no_turn sessions d other no (entry.Turn s) p = no s (p.0, p.1.named)
-no_turn sessions d other no (entry.Say s k) p = absurd (false≢true (sym other ∙ ap is_list p.0))
-no_turn sessions d other no (entry.Draw s) p = absurd (false≢true (sym other ∙ ap is_list p.0))
-no_turn sessions d other no (entry.Write s k) p = absurd (false≢true (sym other ∙ ap is_list p.0))
-no_turn sessions d other no (entry.Last s) p = absurd (false≢true (sym other ∙ ap is_list p.0))
-no_turn sessions d other no (entry.Read s) p = absurd (false≢true (sym other ∙ ap is_list p.0))
+no_turn sessions d other never (entry.Turn s) p = never s (p.0, p.1.named)
+no_turn sessions d other never (entry.Say s k) p = absurd (false≢true (sym other ∙ ap is_list p.0))
+no_turn sessions d other never (entry.Draw s) p = absurd (false≢true (sym other ∙ ap is_list p.0))
+no_turn sessions d other never (entry.Write s k) p = absurd (false≢true (sym other ∙ ap is_list p.0))
+no_turn sessions d other never (entry.Last s) p = absurd (false≢true (sym other ∙ ap is_list p.0))
+no_turn sessions d other never (entry.Read s) p = absurd (false≢true (sym other ∙ ap is_list p.0))
 
 pub no_session : (sessions : ℕ) (a : Data) (more : Items) → ((s : ℕ) → IsSession sessions a s → ⊥) → (e : Entry) → IsEntry sessions (array (item a more)) e → ⊥
-no_session sessions a more no (entry.Turn s) p = absurd (false≢true (sym (ap is_list p.0)))
-no_session sessions a more no (entry.Say s k) p = no s (ap (λ d. first_in (items_in d)) p.0, p.1.named)
-no_session sessions a more no (entry.Draw s) p = no s (ap (λ d. first_in (items_in d)) p.0, p.1.named)
-no_session sessions a more no (entry.Write s k) p = no s (ap (λ d. first_in (items_in d)) p.0, p.1.named)
-no_session sessions a more no (entry.Last s) p = no s (ap (λ d. first_in (items_in d)) p.0, p.1.named)
-no_session sessions a more no (entry.Read s) p = no s (ap (λ d. first_in (items_in d)) p.0, p.1.named)
+no_session sessions a more never (entry.Turn s) p = absurd (false≢true (sym (ap is_list p.0)))
+no_session sessions a more never (entry.Say s k) p = never s (ap (λ d. first_in (items_in d)) p.0, p.1.named)
+no_session sessions a more never (entry.Draw s) p = never s (ap (λ d. first_in (items_in d)) p.0, p.1.named)
+no_session sessions a more never (entry.Write s k) p = never s (ap (λ d. first_in (items_in d)) p.0, p.1.named)
+no_session sessions a more never (entry.Last s) p = never s (ap (λ d. first_in (items_in d)) p.0, p.1.named)
+no_session sessions a more never (entry.Read s) p = never s (ap (λ d. first_in (items_in d)) p.0, p.1.named)
 
 pub no_word : (sessions : ℕ) (a b : Data) (more : Items) → as_str b ≡ None → (e : Entry) → IsEntry sessions (array (item a (item b more))) e → ⊥
 no_word sessions a b more none (entry.Turn s) p = absurd (false≢true (sym (ap is_list p.0)))
@@ -108,12 +109,12 @@ no_word sessions a b more none (entry.Last s) p = none_some (codes "last") (sym 
 no_word sessions a b more none (entry.Read s) p = none_some (codes "read") (sym none ∙ ap (λ d. as_str (first_in (rest_in (items_in d)))) p.0)
 
 pub no_count : (sessions : ℕ) (a b c : Data) → ((n : ℕ) → IsWhole 1 1000000 c n → ⊥) → (e : Entry) → IsEntry sessions (array (item a (item b (item c no_items)))) e → ⊥
-no_count sessions a b c no (entry.Turn s) p = absurd (false≢true (sym (ap is_list p.0)))
-no_count sessions a b c no (entry.Say s k) p = no k (ap (λ d. first_in (rest_in (rest_in (items_in d)))) p.0, p.1.some, p.1.few)
-no_count sessions a b c no (entry.Draw s) p = absurd (false≢true (ap (λ d. is_empty (rest_in (rest_in (items_in d)))) p.0))
-no_count sessions a b c no (entry.Write s k) p = no k (ap (λ d. first_in (rest_in (rest_in (items_in d)))) p.0, p.1.some, p.1.few)
-no_count sessions a b c no (entry.Last s) p = absurd (false≢true (ap (λ d. is_empty (rest_in (rest_in (items_in d)))) p.0))
-no_count sessions a b c no (entry.Read s) p = absurd (false≢true (ap (λ d. is_empty (rest_in (rest_in (items_in d)))) p.0))
+no_count sessions a b c never (entry.Turn s) p = absurd (false≢true (sym (ap is_list p.0)))
+no_count sessions a b c never (entry.Say s k) p = never k (ap (λ d. first_in (rest_in (rest_in (items_in d)))) p.0, p.1.some, p.1.few)
+no_count sessions a b c never (entry.Draw s) p = absurd (false≢true (ap (λ d. is_empty (rest_in (rest_in (items_in d)))) p.0))
+no_count sessions a b c never (entry.Write s k) p = never k (ap (λ d. first_in (rest_in (rest_in (items_in d)))) p.0, p.1.some, p.1.few)
+no_count sessions a b c never (entry.Last s) p = absurd (false≢true (ap (λ d. is_empty (rest_in (rest_in (items_in d)))) p.0))
+no_count sessions a b c never (entry.Read s) p = absurd (false≢true (ap (λ d. is_empty (rest_in (rest_in (items_in d)))) p.0))
 
 pub other_length : (sessions : ℕ) (ds : Items) → items_len ds ≢ 2 → items_len ds ≢ 3 → (e : Entry) → IsEntry sessions (array ds) e → ⊥
 other_length sessions ds two three (entry.Turn s) p = absurd (false≢true (sym (ap is_list p.0)))
@@ -122,6 +123,33 @@ other_length sessions ds two three (entry.Draw s) p = two (ap (λ d. items_len (
 other_length sessions ds two three (entry.Write s k) p = three (ap (λ d. items_len (items_in d)) p.0)
 other_length sessions ds two three (entry.Last s) p = two (ap (λ d. items_len (items_in d)) p.0)
 other_length sessions ds two three (entry.Read s) p = two (ap (λ d. items_len (items_in d)) p.0)
+
+not_two : (n m : ℕ) → n ≡ m → m < 2 → n ≢ 2
+not_two n m same short is = omega (arith, same, short, is)
+
+not_three : (n m : ℕ) → n ≡ m → m < 2 → n ≢ 3
+not_three n m same short is = omega (arith, same, short, is)
+
+-- a list of less than two items, or of more than three
+pub short_list : (sessions : ℕ) (vs : List json.Value) → length vs < 2 → (e : Entry) → IsEntry sessions (array (items_view vs)) e → ⊥
+short_list sessions vs short = other_length sessions (items_view vs) (not_two _ _ (as_many vs) short) (not_three _ _ (as_many vs) short)
+
+past_two : (n m : ℕ) → n ≡ m → 4 ≤ m → n ≢ 2
+past_two n m same long is = omega (arith, same, long, is)
+
+past_three : (n m : ℕ) → n ≡ m → 4 ≤ m → n ≢ 3
+past_three n m same long is = omega (arith, same, long, is)
+
+-- at least two items behind the first two
+long_rest : (vs : List json.Value) → 2 ≤ length (take (length vs - 2) (drop 2 vs)) → 4 ≤ length vs
+long_rest [] h = absurd (omega (arith, h))
+long_rest (u ∷ []) h = absurd (omega (arith, h))
+long_rest (u ∷ v ∷ []) h = absurd (omega (arith, h))
+long_rest (u ∷ v ∷ w ∷ []) h = absurd (omega (arith, h))
+long_rest (u ∷ v ∷ w ∷ x ∷ vs) h = omega arith
+
+pub long_list : (sessions : ℕ) (vs : List json.Value) → 2 ≤ length (take (length vs - 2) (drop 2 vs)) → (e : Entry) → IsEntry sessions (array (items_view vs)) e → ⊥
+long_list sessions vs long = other_length sessions (items_view vs) (past_two _ _ (as_many vs) (long_rest vs long)) (past_three _ _ (as_many vs) (long_rest vs long))
 
 -- ---- JSON that is an entry
 
