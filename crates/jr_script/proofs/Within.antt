@@ -137,7 +137,7 @@ script_inside d s h =
     let nodes = optional_holds (IsUpTo 8) (codes "clusters") 1 clusters_of (omega arith, omega arith) (λ e n g. (g.1, g.2)) (get (codes "clusters") d) a.0 a.1 in
     let sessions = member_holds (IsShort 64 (IsSessionWithin a.0)) (codes "sessions") 2 (sessions_of a.0) (few_short (IsSessionWithin a.0) 64 4 (session_of a.0) (session_within a.0 nodes.0)) (get (codes "sessions") d) b.0 b.1 in
     let entries =
-    optional_holds (IsShort 1000000 (IsEntryWithin (length b.0))) (codes "schedule") [] (schedule_of (length b.0)) (omega arith, none_read _) (few_short (IsEntryWithin (length b.0)) 1000000 8 (entry_of (length b.0)) (λ e x g. g.1))
+    optional_holds (IsShort 1000000 (IsEntryWithin (length b.0))) (codes "schedule") [] (schedule_of (length b.0)) (omega arith, none_read (IsEntryWithin (length b.0))) (few_short (IsEntryWithin (length b.0)) 1000000 8 (entry_of (length b.0)) (λ e x g. g.1))
     (get (codes "schedule") d) c.0 c.1 in
     subst IsWithin (sym (same _ _ c.2)) (record { some = nodes.0; nodes = nodes.1; few = sessions.0; sessions = sessions.1; short = entries.0; entries = entries.1 })
 

@@ -1,5 +1,5 @@
 -- A script that is read, and all of which is run, is small.
-use Rattle.std.proofs.Common.{◌≡◌, ◌∙◌, ℕ, ◌+◌, ◌≤◌, Bool, true, false, Some, None, Option, IfSome, List, [], ◌∷◌, arith, length, refl, sym, ap, subst, inl, inr, is_some}
+use Rattle.std.proofs.Common.{◌≡◌, ◌∙◌, ℕ, ◌≤◌, Bool, true, false, Some, None, Option, IfSome, List, [], ◌∷◌, arith, length, refl, sym, ap, subst, inl, inr, is_some}
 use Rattle.std.specs.Prelude.{◌==◌, All, if◌then◌else◌, nat_le}
 use Rattle.std.proofs.lemmas.Bool.Decides.{eqb_tells, leb_tells}
 use Rattle.std.proofs.lemmas.List.Elements.{All-head}
@@ -32,10 +32,7 @@ at_first k some most = omega (arith, some, most)
 few_small : (ss : List SessionScript) → length ss ≤ 1 → All (IsSessionWithin 1) ss → AreOfOne ss × IfSome (first_commands ss) (λ commands. length commands ≤ 10000)
 few_small [] one within = (tt, tt)
 few_small (s ∷ []) one within = let w = All-head (IsSessionWithin 1) s [] within in ((at_first s.cluster w.placed w.near, refl), w.few)
-few_small (s ∷ (t ∷ ss)) one within = absurd (two (length ss) one)
-  where
-    two : (n : ℕ) → 2 + n ≤ 1 → ⊥
-    two n h = omega (arith, h)
+few_small (s ∷ (t ∷ ss)) one within = absurd (omega (arith, one))
 
 within_small : (script : Script) → IsWithin script → unbuilt script ≡ None → IsSmall script
 within_small script within built =

@@ -1,8 +1,5 @@
-use Rattle.jr_work.proofs.Growing.{cut_grows, cut_stays, one_more, part_grows}
+use Rattle.jr_work.proofs.Growing.{cut_grows, cut_stays, one_more}
 use Rattle.jr_work.proofs.cuts_grow.Goals as goal
-
-pub returns-clause-under_way : goal.returns-clause-under_way
-returns-clause-under_way c = part_grows
 
 pub returns-clause-one_more : goal.returns-clause-one_more
 returns-clause-one_more c = one_more
