@@ -43,7 +43,7 @@ use Rattle.core_law.specs.State.{command_at}
 use Rattle.jcr_session.specs.declared.law.JcrLaw.{JcrLaw}
 use Rattle.repo_run.specs.Headline.{FollowsScript, HasRun, index_said}
 use Rattle.repo_run.specs.Stands.{AreFrom, IsBegun, IsLawfulWorld, IsNext, Stands, says_of, starts_of}
-use Rattle.repo_run.specs.Turns.{Answers, AnswersAll, AnswersHead, AnswersRefresh, AnswersSave, AnswersView, AreOfOne, IsSessionRun, IsShown, IsSmall, RunsScript, State, first_commands, ended, law_of, logged_in, pending, pending_marks, said, state, memory_text}
+use Rattle.repo_run.specs.Turns.{Answers, AnswersAll, AnswersHead, AnswersRefresh, AnswersSave, AnswersView, AreOfOne, IsSessionRun, IsShown, IsSmall, RunsScript, State, first_commands, ended, law_of, logged_in, pending, pending_marks, said, state}
 use Rattle.repo_run.proofs.Pinned.{pinned_by_pin}
 use Rattle.repo_run.proofs.Stands.{MaySayNow, proper_of, say_called, say_head, say_many, say_memory, say_refreshed, say_saved, say_unchanged, say_view, shown_is, stands_said, start}
 
