@@ -4,7 +4,6 @@ use Rattle.serde_json.specs.Data.{Data, Items, null, number, string, array, no_i
 use Rattle.serde_json.specs.Events.{items_len}
 use Rattle.serde_json.specs.View.{items_view}
 use Rattle.serde_json.specs.declared.value.Value as json
-use Rattle.jr_script.specs.Numbers.{whole}
 use Rattle.jr_script.specs.Schedules.{IsEntry, json_of}
 use Rattle.jr_script.specs.declared.script.Entry.{Entry}
 use Rattle.jr_script.specs.declared.script.Entry.TheVariants as entry

@@ -105,12 +105,11 @@ module _ (script : Script) where
       → StaysPart script rule (events_of parts) p later → StaysPart script rule (events_of parts) p (later ++ e ∷ [])
   part_waits (by_entry (entry.Last s)) p parts later now e is free stay =
       let done = is_done script (by_entry (entry.Last s)) (events_of parts) p in
-      let some = is_some (next_of (p ++ events_of parts) s later) in
-      (
+      let some = is_some (next_of (p ++ events_of parts) s later) in (
         stay.0,
         ap (λ (b : Bool). done || not b) (next_end is_write_or_mark (p ++ events_of parts) now s later e is)
-        ∙ waits_on done (is_next is_write_or_mark (p ++ events_of parts) s later) (is_own now s e) some (is_write_or_mark e) stay.1
-        (λ held own. free s (ap (λ (b : Bool). (b && not done) && not some) (same_session s) ∙ held) own),
+            ∙ waits_on done (is_next is_write_or_mark (p ++ events_of parts) s later) (is_own now s e) some (is_write_or_mark e) stay.1
+            (λ held own. free s (ap (λ (b : Bool). (b && not done) && not some) (same_session s) ∙ held) own),
       )
   part_waits rule p parts later now e is free stay = tt
 
@@ -123,7 +122,7 @@ module _ (script : Script) where
   stay_grow (p ∷ parts) later now e is free stay = (
     part_waits p.rule p.events parts later now e is (λ s held own. free s (or_first _ _ held) own) stay.0,
     subst (λ (l : List Event). StayParts script parts l) (append_assoc (reverse p.events) later (e ∷ []))
-    (stay_grow parts (reverse p.events ++ later) now e (behind p parts later now is) (free_before p parts later now e free) stay.1),
+        (stay_grow parts (reverse p.events ++ later) now e (behind p parts later now is) (free_before p parts later now e free) stay.1),
   )
 
   -- ---- the part under way

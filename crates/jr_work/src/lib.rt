@@ -3,11 +3,16 @@
 
 ghost use Rattle.std.specs.Prelude.{◌≡◌, ◌++◌, ◌∷◌, ◌&&◌, ◌||◌, not, [], List, ℕ, length, map, reverse, true, false};
 ghost use Rattle.std.specs.List.{range_with_len};
+ghost use Rattle.jr_rev.specs.declared.revision.Revision.{Revision};
+ghost use Rattle.jr_rev.specs.declared.vector.RevVec.{RevVec};
+ghost use Rattle.jr_rev.specs.Vectors.{sees};
 ghost use Rattle.oak_machine.specs.declared.event.Event.{Event};
+ghost use Rattle.oak_machine.specs.declared.event.Event.TheVariants.{End, Head};
 ghost use Rattle.oak_machine.specs.declared.event.Journal.{Journal};
 ghost use Rattle.oak_machine.specs.History.{Past, history_of};
+ghost use Rattle.oak_machine.specs.Heads.{head_of};
 ghost use Rattle.jr_script.specs.declared.script.Script.{Script};
-ghost use Rattle.jr_work.specs.Places.{flying_sessions, is_of_turn, is_own};
+ghost use Rattle.jr_work.specs.Places.{flying_sessions, is_of_turn, is_own, is_waiting};
 ghost use Rattle.jr_work.specs.Parts.{Rule, by_entry, to_end, to_reply, Part, session_of, must_end, is_part, events_of, IsCut};
 ghost use Rattle.jr_work.specs.Growing.{IsUnderWay, KeepsHeld, LookBack, StayParts, is_held, is_steady, leaves_at_last, may_close};
 ghost use Rattle.jr_work.specs.Schedules.{Scheduled, rules_of};
@@ -36,4 +41,11 @@ pub fn schedules_go_on()
 pub fn sessions_are_held()
     ensures event { (script : Script) (s : ℕ) (parts : List Part) (part : Past) (e : Event) → is_held script s parts (reverse (e ∷ part)) ≡ (is_held script s parts (reverse part) && not (is_own (part ++ events_of parts) s e)) }
     ensures part { (script : Script) (s : ℕ) (parts : List Part) (rule : Rule) (part : Past) → is_held script s (record { rule = rule; events = part } ∷ parts) [] ≡ (leaves_at_last script s rule (events_of parts) part || is_held script s parts (reverse part)) }
+{}
+
+/// The end of a commit and the move of the head behind it: they are of one part, where the session doesn't wait behind the
+/// end; and it doesn't where it didn't before, the head then sees what has ended, and each head sees what it saw.
+pub fn ends_move_heads()
+    ensures wakes { (script : Script) (past : Past) (r : Revision) (s : ℕ) → sees (head_of script.clusters (End r ∷ past) r.cluster) r ≡ true → ((q : Revision) → sees (head_of script.clusters past q.cluster) q ≡ true → sees (head_of script.clusters (End r ∷ past) q.cluster) q ≡ true) → is_waiting script past s ≡ false → is_waiting script (End r ∷ past) s ≡ false }
+    ensures follows { (script : Script) (rule : Rule) (before part : Past) (r : Revision) (k : ℕ) (v : RevVec) → must_end script rule before part (End r ∷ []) ≡ false → is_waiting script (End r ∷ (part ++ before)) (session_of rule) ≡ false → must_end script rule before (End r ∷ part) (Head k v ∷ []) ≡ false }
 {}
