@@ -11,7 +11,7 @@ use Rattle.oak_machine.specs.History.{Past}
 use Rattle.jr_script.specs.declared.script.Script.{Script}
 use Rattle.jr_script.specs.declared.script.Entry.TheVariants as entry
 use Rattle.jr_work.specs.Places.{is_own, is_next, next_of, is_of_turn, is_write_or_mark}
-use Rattle.jr_work.specs.Parts.{Rule, by_entry, Part, session_of, is_done, must_end, may_end, goes_on, is_part, events_of, IsCut}
+use Rattle.jr_work.specs.Parts.{Rule, by_entry, Part, session_of, is_done, must_end, goes_on, is_part, events_of, IsCut}
 use Rattle.jr_work.specs.Growing.{IsUnderWay, KeepsHeld, StaysPart, StayParts, is_held, is_steady, leaves_at_last, may_close}
 use Rattle.jr_work.proofs.Growing.{cut_grows, part_grows}
 

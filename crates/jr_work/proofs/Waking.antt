@@ -9,7 +9,6 @@ use Rattle.jr_rev.specs.Revisions.{is_same}
 use Rattle.jr_rev.specs.Vectors.{sees}
 use Rattle.jr_rev.proofs.Order.{same_revision}
 use Rattle.oak_machine.specs.declared.event.Draw.{Draw}
-use Rattle.oak_machine.specs.declared.event.Event.{Event}
 use Rattle.oak_machine.specs.declared.event.Event.TheVariants as event
 use Rattle.oak_machine.specs.History.{Past}
 use Rattle.oak_machine.specs.Commits.{is_committed, is_ended}
@@ -101,10 +100,7 @@ module _ (r : Revision) where
   still_false a false f h = refl
 
   commit_on : (a b j w o v : Bool) → (b ≡ true → a ≡ true) → ((a || j || (w || o)) || false) ≡ false → v ≡ false → ((b || false || (v || o)) || false) ≡ false
-  commit_on true b j w o v f h e = absurd (false≢true (sym (top j w o) ∙ h))
-    where
-      top : (j w o : Bool) → ((true || j || (w || o)) || false) ≡ true
-      top j w o = refl
+  commit_on true b j w o v f h e = absurd (false≢true (sym h))
   commit_on false b true w o v f h e = absurd (false≢true (sym h))
   commit_on false b false true o v f h e = absurd (false≢true (sym h))
   commit_on false b false false true v f h e = absurd (false≢true (sym h))
