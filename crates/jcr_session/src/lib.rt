@@ -6,6 +6,8 @@ mod law;
 mod next;
 mod past;
 mod pending;
+#[cfg(test)]
+mod tests;
 
 pub use law::JcrLaw;
-pub use next::eval;
+pub use next::{eval, may_save};

@@ -1,5 +1,5 @@
 -- What is met in a document, one revision after another.
-use Rattle.std.proofs.Common.{◌≡◌, Bool, List, [], ◌∷◌, ◌++◌, map, Option, Some, None, Bor, refl, ap, ◌∙◌, append-nil, append_assoc, sym}
+use Rattle.std.proofs.Common.{◌≡◌, Bool, List, ◌∷◌, ◌++◌, map, Option, Some, None, Bor, refl, ap, ◌∙◌, append_assoc}
 use Rattle.std.specs.Prelude.{option_to_list}
 use Rattle.std.specs.Option.{option_copied, option_map}
 use Rattle.std.specs.List.{filter_map}

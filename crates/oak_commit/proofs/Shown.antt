@@ -27,7 +27,7 @@ use Rattle.oak_commit.specs.Stages.{undo_stage}
 use Rattle.oak_commit.specs.Writing.{write_op, written_ids}
 use Rattle.oak_commit.specs.declared.outcome.CommitEnd.{CommitEnd}
 use Rattle.oak_commit.specs.declared.outcome.CommitEnd.TheVariants as end
-use Rattle.oak_commit.specs.Meeting.{due_in, dues_in, root_in}
+use Rattle.oak_commit.specs.Meeting.{dues_in, root_in}
 use Rattle.oak_commit.specs.declared.met.Due.{Due}
 use Rattle.oak_commit.specs.declared.stage.Stage.TheVariants as stage
 

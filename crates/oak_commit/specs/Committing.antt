@@ -1,5 +1,5 @@
 -- A committer: what it asks for, and what it keeps after a reply (Oak, DocumentNodeStore: commit).
-use Rattle.std.specs.Prelude.{ℕ, Bool, true, false, cond, List, [], ◌∷◌, ◌++◌, map, take, drop, Option, None, Some, slice_get}
+use Rattle.std.specs.Prelude.{Bool, true, false, cond, List, [], ◌∷◌, ◌++◌, map, drop, Option, None, Some, slice_get}
 use Rattle.std.specs.Option.{option_map}
 use Rattle.jr_path.specs.Ids.{names_of}
 use Rattle.jr_path.specs.declared.path.Path.{Path}

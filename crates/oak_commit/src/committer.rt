@@ -194,9 +194,10 @@ impl Committer {
         if !self.due.is_empty() {
             return Stage::Mark;
         }
-        match self.plan.ids().get(self.written) {
-            Some(_) => Stage::Write,
-            None => Stage::Last,
+        if self.written < self.plan.ids().len() {
+            Stage::Write
+        } else {
+            Stage::Last
         }
     }
 

@@ -1,5 +1,5 @@
 -- The session stays pinned.
-use Rattle.std.proofs.Common.{◌≡◌, ℕ, true, List, [], ◌∷◌, take, inl, inr, refl, sym, ap, ◌∙◌, subst, is_some, IsSome}
+use Rattle.std.proofs.Common.{◌≡◌, Some, ℕ, true, List, [], ◌∷◌, take, inl, inr, refl, sym, ap, ◌∙◌, subst, is_some, IsSome}
 use Rattle.std.specs.Ordering.{nat_cmp}
 use Rattle.std.proofs.lemmas.Cmp.{nat_cmp_total}
 use Rattle.jr_path.specs.declared.path.Path.{Path}
@@ -13,8 +13,11 @@ use Rattle.oak_node.specs.Memory.{NodeState}
 use Rattle.oak_node.specs.Pins.{pin_of, pin_now, with_pin}
 use Rattle.oak_world.specs.Commits.{IsGivenUp, Parts, after_notes, committed, plan_of}
 
+pub pin_after : (s : NodeState) (pin : Pin) → pin_of (with_pin s 0 pin) 0 ≡ Some pin
+pin_after s pin = lookup-insert_entry nat_cmp nat_cmp_total 0 0 pin s.pins
+
 pub pinned_by_pin : (s : NodeState) (pin : Pin) → IsSome (pin_of (with_pin s 0 pin) 0)
-pinned_by_pin s pin = ap is_some (lookup-insert_entry nat_cmp nat_cmp_total 0 0 pin s.pins)
+pinned_by_pin s pin = ap is_some (pin_after s pin)
 
 notes_pins : (r : Revision) (paths : List Path) (s : NodeState) → (after_notes r s paths).pins ≡ s.pins
 notes_pins r [] s = refl

@@ -1,5 +1,5 @@
 -- The world with which the run of a script ends is lawful, and each command of the script is answered once, in order.
-use Rattle.std.proofs.Common.{◌≡◌, inl, inr, ℕ, suc, zero, ◌+◌, ◌<◌, ◌≤◌, get_or, Bool, true, false, cond, not, Some, None, Option, List, [], ◌∷◌, ◌++◌, is_some, refl, sym, ap, subst, ◌∙◌, arith}
+use Rattle.std.proofs.Common.{◌≡◌, inl, inr, ℕ, suc, zero, ◌+◌, ◌<◌, ◌≤◌, get_or, Bool, true, false, cond, not, ◌||◌, Some, None, Option, List, [], ◌∷◌, ◌++◌, is_some, refl, sym, ap, subst, ◌∙◌, arith}
 use Rattle.std.specs.Prelude.{◌==◌, codes, length, map, reverse, slice_get}
 use Rattle.std.specs.Option.{option_map_or}
 use Rattle.std.specs.List.{filter_map, range_with_len}
@@ -32,20 +32,20 @@ use Rattle.oak_world.proofs.Saves.{some_pin}
 use Rattle.core_heads.proofs.Orders.{same_number}
 use Rattle.jcr_trans.specs.declared.command.Command.{Command}
 use Rattle.jcr_trans.specs.declared.command.Command.TheVariants as command
-use Rattle.jcr_trans.specs.Commands.{saves}
-use Rattle.jcr_trans.proofs.Passing.{only_save}
-use Rattle.jcr_trans.specs.Answers.{ShowsNothing, ShowsRevision}
-use Rattle.jcr_trans.specs.Texts.{answer_text}
-use Rattle.jcr_trans.specs.Views.{over_limit, view_after}
+use Rattle.jcr_trans.specs.Commands.{is_plain, refreshes, saves, shows_base}
+use Rattle.jcr_trans.proofs.Passing.{only_head, only_refresh, only_save}
+use Rattle.jcr_trans.specs.Answers.{ShowsNothing, ShowsRevision, ShowsVector}
+use Rattle.jcr_trans.specs.Texts.{answer_text, memory_text}
+use Rattle.jcr_trans.specs.Views.{too_many_nodes, view_after}
 use Rattle.core_law.proofs.Passing.{next_more}
-use Rattle.core_law.specs.Law.{MayStart, has_few_nodes, is_plain}
+use Rattle.core_law.specs.Law.{MayStart, has_few_nodes}
 use Rattle.core_law.specs.State.{command_at}
 use Rattle.jcr_session.specs.declared.law.JcrLaw.{JcrLaw}
 use Rattle.repo_run.specs.Headline.{FollowsScript, HasRun, index_said}
 use Rattle.repo_run.specs.Stands.{AreFrom, IsBegun, IsLawfulWorld, IsNext, Stands, says_of, starts_of}
-use Rattle.repo_run.specs.Turns.{Answers, AnswersAll, AnswersSave, AnswersView, AreOfOne, memory_text, IsCancelled, IsRefused, IsSaved, IsSeen, IsSessionRun, IsShown, IsSmall, IsTooMany, IsUnchanged, RunsScript, State, first_commands, ended, law_of, logged_in, pending, pending_marks, said, state}
+use Rattle.repo_run.specs.Turns.{Answers, AnswersAll, AnswersHead, AnswersRefresh, AnswersSave, AnswersView, AreOfOne, IsSessionRun, IsShown, IsSmall, RunsScript, State, first_commands, ended, law_of, logged_in, pending, pending_marks, said, state}
 use Rattle.repo_run.proofs.Pinned.{pinned_by_pin}
-use Rattle.repo_run.proofs.Stands.{MaySayNow, proper_of, say_called, say_many, say_memory, say_saved, say_unchanged, say_view, shown_is, stands_said, start}
+use Rattle.repo_run.proofs.Stands.{MaySayNow, proper_of, say_called, say_head, say_many, say_memory, say_refreshed, say_saved, say_unchanged, say_view, shown_is, stands_said, start}
 
 -- ---- one command
 
@@ -57,7 +57,7 @@ module _ (i : ℕ) (old : State) (stands : Stands old.world old.base old.view i)
   save_says next text is (inl u) =
       (subst (λ (t : Text). MaySayAt next i t) (sym u.reply) (subst (λ (x : State). MaySayAt x i (answer_text ShowsNothing)) (sym u.state) (say_unchanged old.world old.base old.view i stands is u.nothing)), ap (λ (x : State). x.world.law) u.state)
   save_says next text is (inr (inl u)) =
-      (subst (λ (t : Text). MaySayAt next i t) (sym u.reply) (subst (λ (x : State). MaySayAt x i (answer_text (over_limit (codes "nodes") 100000))) (sym u.state) (say_many old.world old.base old.view i stands is u.many)), ap (λ (x : State). x.world.law) u.state)
+      (subst (λ (t : Text). MaySayAt next i t) (sym u.reply) (subst (λ (x : State). MaySayAt x i (answer_text too_many_nodes)) (sym u.state) (say_many old.world old.base old.view i stands is u.many)), ap (λ (x : State). x.world.law) u.state)
   save_says next text is (inr (inr (inl u))) =
       let reply : Text = answer_text (ShowsRevision (next_draw old.world.node)) in (
         subst (λ (t : Text). MaySayAt next i t) (sym u.reply) (subst (λ (v : Nodes). MaySayNow next.world next.base v i reply) (sym u.view)
@@ -85,12 +85,39 @@ module _ (i : ℕ) (old : State) (stands : Stands old.world old.base old.view i)
     ap (λ (w : WorldOf JcrLaw). w.law) a.world,
   )
 
+  refresh_says : (next : State) (text : Text) → command_at old.world.law.sessions 0 i ≡ Some (command.Refresh false) → AnswersRefresh old next text → MaySayAt next i text × (next.world.law ≡ old.world.law)
+  refresh_says next text is (inl u) =
+      let reply : Text = answer_text (ShowsVector old.world.node.head) in (
+        subst (λ (t : Text). MaySayAt next i t) (sym u.reply) (subst (λ (v : Nodes). MaySayNow next.world next.base v i reply) (sym u.view)
+            (subst (λ (w : WorldOf JcrLaw). MaySayNow w next.base next.base i reply) (sym u.world)
+            (say_refreshed old.world old.base old.view i stands is next.base (subst (λ (w : WorldOf JcrLaw). IsShown w next.base) u.world u.base)))),
+        ap (λ (w : WorldOf JcrLaw). w.law) u.world,
+      )
+  refresh_says next text is (inr u) =
+      (subst (λ (t : Text). MaySayAt next i t) (sym u.0) (subst (λ (x : State). MaySayAt x i memory_text) (sym u.1) (say_memory old.world old.base old.view i stands (command.Refresh false) is)), ap (λ (x : State). x.world.law) u.1)
+
+  head_says : (next : State) (text : Text) → command_at old.world.law.sessions 0 i ≡ Some command.Head → AnswersHead old next text → MaySayAt next i text × (next.world.law ≡ old.world.law)
+  head_says next text is a = (
+    subst (λ (x : State). MaySayAt x i text) (sym a.state) (elim a.shown [
+      | inl shown ↦ subst (λ (t : Text). MaySayAt old i t) (sym shown) (say_head old.world old.base old.view i stands is)
+      | inr want ↦ subst (λ (t : Text). MaySayAt old i t) (sym want) (say_memory old.world old.base old.view i stands command.Head is)
+    ]),
+    ap (λ (x : State). x.world.law) a.state,
+  )
+
   pub answer_says : (c : Command) (next : State) (text : Text) → command_at old.world.law.sessions 0 i ≡ Some c → Answers c old next text → MaySayAt next i text × (next.world.law ≡ old.world.law)
-  answer_says c next text is a = by (saves c) refl
+  answer_says c next text is a = by (saves c) (refreshes c) (shows_base c) refl refl refl
     where
-      by : (b : Bool) → saves c ≡ b → MaySayAt next i text × (next.world.law ≡ old.world.law)
-      by true e = save_says next text (subst (λ (d : Command). command_at old.world.law.sessions 0 i ≡ Some d) (only_save c e) is) (a.save e)
-      by false e = view_says c next text is (ap not e) (a.view (ap not e))
+      at : (d : Command) → c ≡ d → command_at old.world.law.sessions 0 i ≡ Some d
+      at d same = subst (λ (d : Command). command_at old.world.law.sessions 0 i ≡ Some d) same is
+
+      by : (s r h : Bool) → saves c ≡ s → refreshes c ≡ r → shows_base c ≡ h → MaySayAt next i text × (next.world.law ≡ old.world.law)
+      by true r h e f g = save_says next text (at command.Save (only_save c e)) (a.save e)
+      by false true h e f g = refresh_says next text (at (command.Refresh false) (only_refresh c f)) (a.refresh f)
+      by false false true e f g = head_says next text (at command.Head (only_head c g)) (a.head g)
+      by false false false e f g =
+          let view : is_plain c ≡ true = ap (λ b. not (b || refreshes c || shows_base c)) e ∙ (ap (λ b. not (b || shows_base c)) f ∙ ap not g) in
+          view_says c next text is view (a.view view)
 
 -- ---- all commands
 
@@ -206,13 +233,13 @@ pub record Leaves (script : Script) (w : WorldOf JcrLaw) : Type 0 where
   pub follows : FollowsScript script w.journal
 
 module _ (script : Script) (w : WorldOf JcrLaw) where
-  follows_lawful : IsLawfulWorld w → w.law ≡ law_of script → w.journal.sessions ≡ map (λ s. s.cluster) script.sessions
+  follows_lawful : script.clusters ≡ 1 → IsLawfulWorld w → w.law ≡ law_of script → w.journal.sessions ≡ map (λ s. s.cluster) script.sessions
       → ((s : ℕ) (session : SessionScript) → slice_get script.sessions s ≡ Some session → next_index (reverse w.journal.events) s ≡ length session.commands) → Leaves script w
-  follows_lawful lawful law sessions counts = record {
+  follows_lawful node lawful law sessions counts = record {
     lawful = lawful;
     law = law;
     follows = record {
-      clusters = lawful.one;
+      clusters = lawful.one ∙ sym node;
       sessions = sessions;
       run = subst (λ (l : JcrLaw). IsRun (starts_of l) (says_of l) (history_of w.journal)) law (run_is (starts_of w.law) (says_of w.law) (proper_of w.law) w.journal w.table w.node lawful);
       answered = λ s session is.
@@ -225,16 +252,16 @@ no_item : {A X : Type 0} (n : ℕ) (x : X) → slice_get {X = X} [] n ≡ Some x
 no_item n x h = absurd (false≢true (ap is_some h))
 
 -- the run of a script of one session at most, which is of cluster node 1
-pub run_leaves : (script : Script) (w : WorldOf JcrLaw) (sessions : List SessionScript) → script.sessions ≡ sessions → AreOfOne sessions → Rattle.repo_run.specs.Turns.IsRunOf (law_of script) (first_commands sessions) w → Leaves script w
-run_leaves script w [] same one run =
+pub run_leaves : (script : Script) (w : WorldOf JcrLaw) (sessions : List SessionScript) → script.clusters ≡ 1 → script.sessions ≡ sessions → AreOfOne sessions → Rattle.repo_run.specs.Turns.IsRunOf (law_of script) (first_commands sessions) w → Leaves script w
+run_leaves script w [] node same one run =
     subst (λ (x : WorldOf JcrLaw). Leaves script x) (sym run)
-    (follows_lawful script (start_world (law_of script) 0) (start_lawful (starts_of (law_of script)) (says_of (law_of script)) 0) refl (ap (map (λ s. s.cluster)) (sym same))
+    (follows_lawful script (start_world (law_of script) 0) node (start_lawful (starts_of (law_of script)) (says_of (law_of script)) 0) refl (ap (map (λ s. s.cluster)) (sym same))
     (λ s session is. no_item s session (ap (λ (l : List SessionScript). slice_get l s) (sym same) ∙ is)))
-run_leaves script w (session ∷ more) same one run =
+run_leaves script w (session ∷ more) node same one run =
     let alone : script.sessions ≡ session ∷ [] = same ∙ ap (λ (l : List SessionScript). session ∷ l) one.1 in
     let law_is : (law_of script).sessions ≡ (session.cluster, session.commands) ∷ [] = ap (map (λ s. (s.cluster, s.commands))) alone in
     let end = session_lawful (law_of script) session.commands w (are_from (law_of script) session.cluster session.commands session.commands 0 law_is (λ k c h. ap (slice_get session.commands) (zero_and k) ∙ h)) run in
-    follows_lawful script w end.0 end.1 (end.2 ∙ (ap (λ (k : ℕ). k ∷ []) (sym one.0) ∙ ap (map (λ s. s.cluster)) (sym alone)))
+    follows_lawful script w node end.0 end.1 (end.2 ∙ (ap (λ (k : ℕ). k ∷ []) (sym one.0) ∙ ap (map (λ s. s.cluster)) (sym alone)))
     (λ s other is. count s other (ap (λ (l : List SessionScript). slice_get l s) (sym alone) ∙ is) end.3)
   where
     count : (s : ℕ) (other : SessionScript) → slice_get (session ∷ []) s ≡ Some other → next_index (reverse w.journal.events) 0 ≡ length session.commands → next_index (reverse w.journal.events) s ≡ length other.commands
@@ -242,8 +269,8 @@ run_leaves script w (session ∷ more) same one run =
     count (suc s) other is h = no_item s other is
 
 -- a script that is run to its end is followed by the journal
-pub has_run : (script : Script) (w : WorldOf JcrLaw) → IsSmall script.sessions → RunsScript script w → HasRun script w
-has_run script w small run = record { steps = run; follows = (run_leaves script w script.sessions refl small.one run).follows }
+pub has_run : (script : Script) (w : WorldOf JcrLaw) → IsSmall script → RunsScript script w → HasRun script w
+has_run script w small run = record { steps = run; follows = (run_leaves script w script.sessions small.node refl small.one run).follows }
 
 -- ---- what the calls of the world ask
 
@@ -318,7 +345,7 @@ committed_save old w base ws ms text edit marks some few reply made shows = inr 
 })))
 
 -- a world before any step, by the law of a script of one session
-pub begun_from : (script : Script) (law : JcrLaw) (session : SessionScript) (more : List SessionScript) (w : WorldOf JcrLaw) → IsSmall script.sessions → law ≡ law_of script → script.sessions ≡ session ∷ more → w ≡ start_world law 1 → IsBegun w session.commands
+pub begun_from : (script : Script) (law : JcrLaw) (session : SessionScript) (more : List SessionScript) (w : WorldOf JcrLaw) → IsSmall script → law ≡ law_of script → script.sessions ≡ session ∷ more → w ≡ start_world law 1 → IsBegun w session.commands
 begun_from script law session more w small by_script first made =
     let one : AreOfOne (session ∷ more) = subst AreOfOne first small.one in
     let alone : script.sessions ≡ session ∷ [] = first ∙ ap (λ (l : List SessionScript). session ∷ l) one.1 in

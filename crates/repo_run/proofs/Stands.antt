@@ -1,5 +1,5 @@
 -- Each command keeps the world lawful, and leaves its session where the law has it.
-use Rattle.std.proofs.Common.{◌≡◌, ◌≢◌, inl, inr, ℕ, ◌+◌, ◌<◌, true, false, Some, None, Option, List, [], ◌∷◌, ◌++◌, IsSome, refl, sym, ap, subst, ◌∙◌, arith}
+use Rattle.std.proofs.Common.{◌≡◌, ◌≢◌, inl, inr, is_some, ℕ, ◌+◌, ◌<◌, true, false, ◌||◌, Some, None, Option, List, [], ◌∷◌, ◌++◌, IsSome, refl, sym, ap, subst, ◌∙◌, arith}
 use Rattle.std.specs.Prelude.{reverse, slice_get, map}
 use Rattle.std.specs.declared.cmp.Ordering.TheVariants.{Greater}
 use Rattle.std.specs.Ordering.{ordering_reverse}
@@ -20,7 +20,7 @@ use Rattle.jr_rev.proofs.Order.{revision_total}
 use Rattle.jr_tree.specs.declared.edit.Edit.{Edit}
 use Rattle.jr_tree.specs.declared.edit.Write.{Write}
 use Rattle.jr_tree.specs.declared.tree.Node.{Node}
-use Rattle.jr_tree.specs.Trees.{Nodes, initial_tree, node_at}
+use Rattle.jr_tree.specs.Trees.{IsTree, Nodes, initial_tree, node_at}
 use Rattle.jr_tree.specs.Edits.{applied, changes}
 use Rattle.jr_tree.proofs.Entries.{is_less, same_lists}
 use Rattle.jr_tree.proofs.AtPath.{InOrder, order-applied}
@@ -30,39 +30,41 @@ use Rattle.oak_machine.specs.declared.event.Event.TheVariants as event
 use Rattle.oak_machine.specs.declared.event.StepKind.{StepKind}
 use Rattle.oak_machine.specs.declared.event.StepKind.TheVariants as kind
 use Rattle.oak_machine.specs.History.{History, Past, history_of}
-use Rattle.oak_machine.specs.Commits.{committed_edits, is_committed, tree_at}
+use Rattle.oak_machine.specs.Commits.{committed_edits, is_committed, is_ended, tree_at}
 use Rattle.oak_machine.specs.Laws.{StartsProper}
 use Rattle.oak_machine.specs.Marks.{marks_for}
-use Rattle.oak_machine.specs.Sessions.{base_of, is_drawing, next_index}
+use Rattle.oak_machine.specs.Sessions.{base_of, is_drawing, next_index, refreshed_since}
 use Rattle.oak_node.specs.Heads.{next_draw}
-use Rattle.oak_node.specs.Pins.{pin_of}
-use Rattle.oak_world.specs.Commits.{IsGivenUp, Parts, committed, parts_of, steps_of, with_parts}
+use Rattle.oak_node.specs.Pins.{pin_now, pin_of}
+use Rattle.oak_world.specs.Commits.{IsGivenUp, Parts, base_of_session, committed, parts_of, steps_of, with_parts}
 use Rattle.oak_world.specs.Kept.{IsKept, head_at, revision_at}
 use Rattle.oak_world.specs.Worlds.{WorldOf, with_events}
 use Rattle.oak_world.proofs.Additions.{added, added_reverse}
 use Rattle.oak_world.proofs.Flights.{draw_at}
 use Rattle.oak_world.proofs.Keeping.{pinned_is}
-use Rattle.oak_world.proofs.Lawful.{commit_lawful, given_lawful, pin_tree, said_lawful}
+use Rattle.oak_world.proofs.Lawful.{commit_lawful, given_lawful, pin_tree, refresh_lawful, said_lawful}
 use Rattle.oak_world.proofs.Pasts.{after_call, after_commit, called_past, commit_past, next_is}
+use Rattle.oak_world.proofs.Resting.{same_itself}
 use Rattle.oak_world.proofs.Saves.{some_pin}
 use Rattle.core_heads.proofs.Orders.{at_most_time}
 use Rattle.core_read.proofs.Vectors.{time_before}
 use Rattle.jcr_trans.specs.declared.command.Command.{Command}
 use Rattle.jcr_trans.specs.declared.command.Command.TheVariants as command
-use Rattle.jcr_trans.specs.Answers.{ShowsNothing, ShowsRevision}
-use Rattle.jcr_trans.specs.Texts.{answer_text}
-use Rattle.jcr_trans.specs.Views.{answered, over_limit, view_after}
-use Rattle.core_law.specs.Law.{MayStart, SaysBy, has_few_nodes, is_plain, too_many}
+use Rattle.jcr_trans.specs.Answers.{ShowsNothing, ShowsRevision, ShowsVector}
+use Rattle.jcr_trans.specs.Texts.{answer_text, memory_text}
+use Rattle.jcr_trans.specs.Commands.{is_plain}
+use Rattle.jcr_trans.specs.Views.{answered, too_many_nodes, view_after}
+use Rattle.core_law.specs.Law.{MayStart, SaysBy, has_few_nodes}
 use Rattle.core_law.specs.State.{Orders, command_at}
 use Rattle.core_law.specs.Turns.{IsOver, IsTurn}
 use Rattle.core_law.proofs.Lasting.{proper_starts}
 use Rattle.core_law.proofs.Passing.{next_more}
-use Rattle.core_law.proofs.Saves.{IsLike, like_itself, like_went, over_after_call, says_after_save, turn_after_save}
-use Rattle.core_law.proofs.Turns.{may_start, says_memory, says_unchanged, says_view, turn_memory, turn_refused, turn_unchanged, turn_view, view_is}
+use Rattle.core_law.proofs.Saves.{IsLike, like_aside, like_itself, one_tree, over_after_call, says_after_save, turn_after_save}
+use Rattle.core_law.proofs.Turns.{may_start, says_head, says_memory, says_refreshed, says_too_many, says_unchanged, says_view, turn_head, turn_memory, turn_refreshed, turn_too_many, turn_unchanged, turn_view}
 use Rattle.jcr_session.specs.declared.law.JcrLaw.{JcrLaw}
 use Rattle.repo_run.specs.Stands.{IsLawfulWorld, Stands, says_of, starts_of}
-use Rattle.repo_run.specs.Turns.{IsShown, memory_text}
-use Rattle.repo_run.proofs.Pinned.{pinned_by_commit, still_pinned}
+use Rattle.repo_run.specs.Turns.{IsShown, moved}
+use Rattle.repo_run.proofs.Pinned.{pin_after, pinned_by_commit, still_pinned}
 
 pub proper_of : (law : JcrLaw) → StartsProper (starts_of law)
 proper_of law = proper_starts law.sessions
@@ -147,25 +149,85 @@ say_unchanged w base view i stands is none = record {
   one = stands.one;
   next = sym stands.next;
   pinned = stands.pinned;
-  says = says_unchanged w.law.sessions (history_of w.journal) 0 i base view stands.turn is none;
+  says = says_unchanged w.law.sessions (history_of w.journal) 0 i base view refl stands.turn is none;
   turn = turn_unchanged w.law.sessions (history_of w.journal) 0 i base view stands.turn is none;
 }
 
-pub say_many : (w : WorldOf JcrLaw) (base view : Nodes) (i : ℕ) → Stands w base view i → command_at w.law.sessions 0 i ≡ Some command.Save → has_few_nodes view ≡ false → MaySayNow w base view i (answer_text (over_limit (Rattle.std.specs.Prelude.codes "nodes") 100000))
+pub say_many : (w : WorldOf JcrLaw) (base view : Nodes) (i : ℕ) → Stands w base view i → command_at w.law.sessions 0 i ≡ Some command.Save → has_few_nodes view ≡ false → MaySayNow w base view i (answer_text too_many_nodes)
 say_many w base view i stands is many = record {
   lawful = stands.lawful;
   one = stands.one;
   next = sym stands.next;
   pinned = stands.pinned;
-  says = (command.Save, over_limit (Rattle.std.specs.Prelude.codes "nodes") 100000, is, refl, too_many stands.turn.fresh (ap has_few_nodes (view_is w.law.sessions (history_of w.journal) 0 i base view stands.turn.over) ∙ many));
-  turn = turn_refused w.law.sessions (reverse w.journal.events) 0 i (answer_text (over_limit (Rattle.std.specs.Prelude.codes "nodes") 100000)) base view stands.turn.over refl;
+  says = says_too_many w.law.sessions (history_of w.journal) 0 i base view refl stands.turn is many;
+  turn = turn_too_many w.law.sessions (history_of w.journal) 0 i base view stands.turn;
 }
+
+-- ---- the base
+
+-- `head` is answered with the base of the pin
+pub say_head : (w : WorldOf JcrLaw) (base view : Nodes) (i : ℕ) → Stands w base view i → command_at w.law.sessions 0 i ≡ Some command.Head → MaySayNow w base view i (answer_text (ShowsVector (base_of_session w.node)))
+say_head w base view i stands is =
+    let pin = some_pin (pin_of w.node 0) stands.pinned in
+    let shown : base_of_session w.node ≡ pin.0.base = ap (λ (o : Option Pin). option_map_or (λ (p : Pin). p.base) o w.node.head) pin.1 in
+    subst (λ (v : RevVec). MaySayNow w base view i (answer_text (ShowsVector v))) (sym shown)
+    (record {
+      lawful = stands.lawful;
+      one = stands.one;
+      next = sym stands.next;
+      pinned = stands.pinned;
+      says = says_head w.law.sessions (history_of w.journal) 0 i base view pin.0.base is (based w stands.lawful pin.0 pin.1);
+      turn = turn_head w.law.sessions (history_of w.journal) 0 i base view pin.0.base stands.turn is;
+    })
+
+-- a refresh is answered with the head, to which the base moved; the session then stands at the tree there
+module _ (w : WorldOf JcrLaw) (base view : Nodes) (i : ℕ) (stands : Stands w base view i) (is : command_at w.law.sessions 0 i ≡ Some (command.Refresh false)) where
+  abbrev head_now : RevVec
+  head_now = w.node.head
+
+  abbrev moved_past : Past
+  moved_past = event.Refresh 0 head_now ∷ reverse w.journal.events
+
+  past_is : reverse (moved w).journal.events ≡ moved_past
+  past_is = added_reverse w.journal.events (event.Refresh 0 head_now ∷ [])
+
+  moved_lawful : IsLawfulWorld (moved w)
+  moved_lawful = refresh_lawful (starts_of w.law) (says_of w.law) (proper_of w.law) w.journal w.table w.node stands.lawful stands.pinned
+
+  moved_kept : IsKept (starts_of w.law) (says_of w.law) w.journal.sessions moved_past w.table (moved w).node
+  moved_kept = subst (λ (p : Past). IsKept (starts_of w.law) (says_of w.law) w.journal.sessions p w.table (moved w).node) past_is moved_lawful.kept
+
+  moved_pin : pin_of (moved w).node 0 ≡ Some (pin_now w.node)
+  moved_pin = pin_after w.node (pin_now w.node)
+
+  -- the tree at the old base is the tree at the new one, since nobody else commits
+  same_tree : (pin : Pin) → pin_of w.node 0 ≡ Some pin → base ≡ tree_at moved_past head_now
+  same_tree pin has =
+      let old : base_of (reverse w.journal.events) 0 ≡ Some pin.base = based w stands.lawful pin has in
+      stands.turn.over.base_is
+      ∙ (ap (λ (o : Option RevVec). option_map_or (tree_at (reverse w.journal.events)) o initial_tree) old
+      ∙ one_tree moved_past pin.base head_now (stands.lawful.kept.seen pin.base old) (moved_kept.seen head_now refl))
+
+  pub say_refreshed : (t : Nodes) → IsShown (moved w) t → MaySayNow (moved w) t t i (answer_text (ShowsVector w.node.head))
+  say_refreshed t shows =
+      let pin = some_pin (pin_of w.node 0) stands.pinned in
+      let at : t ≡ tree_at moved_past head_now = shown_is (moved w) moved_lawful (pin_now w.node) moved_pin t shows ∙ ap (λ (p : Past). tree_at p head_now) past_is in
+      let tree : IsTree t = subst IsTree (same_tree pin.0 pin.1 ∙ sym at) stands.turn.over.from in
+      record {
+        lawful = moved_lawful;
+        one = stands.one;
+        next = sym stands.next ∙ sym (ap (λ (p : Past). next_index p 0) past_is);
+        pinned = ap is_some moved_pin;
+        says = says_refreshed w.law.sessions (history_of (moved w).journal) 0 i t t head_now is (ap (λ (p : Past). refreshed_since p 0) past_is);
+        turn = subst (λ (p : Past). IsTurn w.law.sessions (event.Said 0 i (answer_text (ShowsVector head_now)) ∷ p) 0 t t) (sym past_is)
+            (turn_refreshed w.law.sessions moved_past 0 i head_now t is at (moved_kept.rest.drawing moved_past (λ r h. h)) tree);
+      }
 
 -- ---- a save
 
-like_steps : (law : Orders) (k : StepKind) (ids : List DocId) (a b : Past) → IsLike law a b → IsLike law (added (steps_of k ids) a) b
+like_steps : (law : Orders) (k : StepKind) (ids : List DocId) (a b : Past) → IsLike law 0 a b → IsLike law 0 (added (steps_of k ids) a) b
 like_steps law k [] a b like = like
-like_steps law k (i ∷ ids) a b like = like_steps law k ids (event.Went 0 k ∷ a) b (like_went law k a b like)
+like_steps law k (i ∷ ids) a b like = like_steps law k ids (event.Went 0 k ∷ a) b (like_aside law 0 a b like (event.Went 0 k) refl)
 
 -- events without a reply leave the next index
 next_steps : (k : StepKind) (ids : List DocId) (past : Past) → next_index (added (steps_of k ids) past) 0 ≡ next_index past 0
@@ -191,7 +253,7 @@ module _ (w : WorldOf JcrLaw) (base view : Nodes) (i : ℕ) (stands : Stands w b
 
   -- the law lets what is pending start
   pub start : MayStart w.law.sessions (history_of w.journal) 0 edit marks
-  start = may_start w.law.sessions (history_of w.journal) 0 i base view stands.turn (ap (command_at w.law.sessions 0) stands.next ∙ is) some few
+  start = may_start w.law.sessions (history_of w.journal) 0 i base view refl stands.turn (ap (command_at w.law.sessions 0) stands.next ∙ is) some few
 
   start_one : MayStart w.law.sessions (record { clusters = 1; sessions = w.journal.sessions; past = past }) 0 edit marks
   start_one = subst (λ (c : ℕ). MayStart w.law.sessions (record { clusters = c; sessions = w.journal.sessions; past = past }) 0 edit marks) stands.lawful.one start
@@ -234,16 +296,37 @@ module _ (w : WorldOf JcrLaw) (base view : Nodes) (i : ℕ) (stands : Stands w b
   saved_kept : IsKept (starts_of w.law) (says_of w.law) w.journal.sessions after saved.table saved.node
   saved_kept = subst (λ (p : Past). IsKept (starts_of w.law) (says_of w.law) w.journal.sessions p saved.table saved.node) saved_past saved_lawful.kept
 
-  like : IsLike w.law.sessions (added (steps_of kind.Write (written_ids marks)) (event.Draw (draw_at w.node.last_time pin.0.base edit marks) ∷ past)) (event.Draw (draw_at w.node.last_time pin.0.base edit marks) ∷ past)
-  like = like_steps w.law.sessions kind.Write (written_ids marks) _ _ (like_itself w.law.sessions (event.Draw (draw_at w.node.last_time pin.0.base edit marks) ∷ past))
+  -- the past at the draw, after the last write, and at the end of the commit
+  abbrev drawn_now : Past
+  drawn_now = event.Draw (draw_at w.node.last_time pin.0.base edit marks) ∷ past
+
+  abbrev written_now : Past
+  written_now = added (steps_of kind.Write (written_ids marks)) drawn_now
+
+  abbrev committed_now : Past
+  committed_now = event.Commit (revision_at (w.node.last_time + 1)) ∷ written_now
+
+  abbrev ended_now : Past
+  ended_now = event.Head 1 head ∷ event.End (revision_at (w.node.last_time + 1)) ∷ committed_now
+
+  like : IsLike w.law.sessions 0 written_now drawn_now
+  like = like_steps w.law.sessions kind.Write (written_ids marks) _ _ (like_itself w.law.sessions 0 drawn_now)
+
+  like_ended : IsLike w.law.sessions 0 ended_now committed_now
+  like_ended =
+      like_aside w.law.sessions 0 _ committed_now
+      (like_aside w.law.sessions 0 committed_now committed_now (like_itself w.law.sessions 0 committed_now) (event.End (revision_at (w.node.last_time + 1))) refl)
+      (event.Head 1 head) refl
+
+  is_ended_now : is_ended after (revision_at (w.node.last_time + 1)) ≡ true
+  is_ended_now = ap (λ b. b || is_ended committed_now (revision_at (w.node.last_time + 1))) (same_itself (revision_at (w.node.last_time + 1)))
 
   idle : is_drawing after 0 ≡ false
   idle = saved_kept.rest.drawing after (λ r h. h)
 
   says_saved : SaysBy w.law.sessions (record { clusters = w.journal.clusters; sessions = w.journal.sessions; past = after }) 0 i (answer_text (ShowsRevision (revision_at (w.node.last_time + 1))))
-  says_saved = says_after_save w.law.sessions past (revision_at (w.node.last_time + 1)) pin.0.base head edit marks
-      (added (steps_of kind.Write (written_ids marks)) (event.Draw (draw_at w.node.last_time pin.0.base edit marks) ∷ past)) like
-      (kept.seen pin.0.base (based w stands.lawful pin.0 pin.1)) (saved_kept.seen head refl) later w.journal.clusters w.journal.sessions start (based w stands.lawful pin.0 pin.1) idle i is
+  says_saved = says_after_save w.law.sessions 0 past (revision_at (w.node.last_time + 1)) pin.0.base head edit marks written_now like ended_now like_ended after (like_itself w.law.sessions 0 after)
+      (kept.seen pin.0.base (based w stands.lawful pin.0 pin.1)) (saved_kept.seen head refl) later w.journal.clusters w.journal.sessions start (based w stands.lawful pin.0 pin.1) is_ended_now idle i is
 
   -- the pin of the session is at the head
   saved_pin : (p : Pin) → pin_of saved.node 0 ≡ Some p → head ≡ p.base
@@ -264,16 +347,12 @@ module _ (w : WorldOf JcrLaw) (base view : Nodes) (i : ℕ) (stands : Stands w b
         next = sym stands.next ∙ (sym (next_steps kind.Write (written_ids marks) (event.Draw (draw_at w.node.last_time pin.0.base edit marks) ∷ past)) ∙ ap (λ (q : Past). next_index q 0) (sym saved_past));
         says = subst (λ (q : Past). SaysBy w.law.sessions (record { clusters = w.journal.clusters; sessions = w.journal.sessions; past = q }) 0 i (answer_text (ShowsRevision (revision_at (w.node.last_time + 1))))) (sym saved_past) says_saved;
         turn = subst (λ (q : Past). IsTurn w.law.sessions (event.Said 0 i (answer_text (ShowsRevision (revision_at (w.node.last_time + 1)))) ∷ q) 0 t t) (sym saved_past)
-            (turn_after_save w.law.sessions past (revision_at (w.node.last_time + 1)) pin.0.base head edit marks
-            (added (steps_of kind.Write (written_ids marks)) (event.Draw (draw_at w.node.last_time pin.0.base edit marks) ∷ past)) like
-            (kept.seen pin.0.base (based w stands.lawful pin.0 pin.1)) (saved_kept.seen head refl) later w.journal.clusters w.journal.sessions start (based w stands.lawful pin.0 pin.1) idle i is t tree);
+            (turn_after_save w.law.sessions 0 past (revision_at (w.node.last_time + 1)) pin.0.base head edit marks written_now like ended_now like_ended after (like_itself w.law.sessions 0 after)
+            (kept.seen pin.0.base (based w stands.lawful pin.0 pin.1)) (saved_kept.seen head refl) later w.journal.clusters w.journal.sessions start (based w stands.lawful pin.0 pin.1) is_ended_now idle i is t tree);
         pinned = pinned_by_commit (parts_of w) edit marks;
       })
 
   -- ---- called off
-
-  abbrev drawn_now : Past
-  drawn_now = event.Draw (draw_at w.node.last_time pin.0.base edit marks) ∷ past
 
   module _ (new : Parts) (given : IsGivenUp (parts_of w) new edit marks) where
     abbrev called : WorldOf JcrLaw
@@ -290,10 +369,11 @@ module _ (w : WorldOf JcrLaw) (base view : Nodes) (i : ℕ) (stands : Stands w b
       where
         by_call : (ids : List DocId) × (reverse new.events ≡ after_call (starts_of w.law) (says_of w.law) (proper_of w.law) w.journal.sessions w.journal.events w.table edit marks w.node kept pin.0 pin.1 start_one ids) → IsOver w.law.sessions (reverse new.events) 0 base view × (next_index (reverse new.events) 0 ≡ next_index past 0)
         by_call (ids, same) =
-            let like = like_steps w.law.sessions kind.Undo ids (added (steps_of kind.Write ids) drawn_now) drawn_now (like_steps w.law.sessions kind.Write ids drawn_now drawn_now (like_itself w.law.sessions drawn_now)) in
+            let undone = like_steps w.law.sessions kind.Undo ids (added (steps_of kind.Write ids) drawn_now) drawn_now (like_steps w.law.sessions kind.Write ids drawn_now drawn_now (like_itself w.law.sessions 0 drawn_now)) in
+            let like = like_aside w.law.sessions 0 _ drawn_now (like_aside w.law.sessions 0 _ drawn_now undone (event.End (revision_at (w.node.last_time + 1))) refl) (event.Head 1 head) refl in
             let resting = subst (λ (p : Past). IsKept (starts_of w.law) (says_of w.law) w.journal.sessions p new.table new.node) same called_lawful.kept in (
               subst (λ (p : Past). IsOver w.law.sessions p 0 base view) (sym same)
-                  (over_after_call w.law.sessions past (revision_at (w.node.last_time + 1)) pin.0.base head edit marks (added (steps_of kind.Undo ids) (added (steps_of kind.Write ids) drawn_now)) like base view stands.turn.over fresh
+                  (over_after_call w.law.sessions 0 past (revision_at (w.node.last_time + 1)) pin.0.base head edit marks (after_call (starts_of w.law) (says_of w.law) (proper_of w.law) w.journal.sessions w.journal.events w.table edit marks w.node kept pin.0 pin.1 start_one ids) like base view stands.turn.over fresh
                   (resting.rest.drawing (after_call (starts_of w.law) (says_of w.law) (proper_of w.law) w.journal.sessions w.journal.events w.table edit marks w.node kept pin.0 pin.1 start_one ids) (λ r h. h))),
               ap (λ (p : Past). next_index p 0) same ∙ (next_steps kind.Undo ids (added (steps_of kind.Write ids) drawn_now) ∙ next_steps kind.Write ids drawn_now),
             )

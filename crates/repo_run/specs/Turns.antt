@@ -1,5 +1,5 @@
 -- What a session's commands do to the world and to the session, and what they answer.
-use Rattle.std.specs.Prelude.{◌≡◌, map, codes, IsTrue, IsFalse, ⊤, ◌≢◌, ◌⊎◌, ℕ, ◌+◌, ◌≤◌, List, [], ◌∷◌, length, Option, Some, None, IfSome}
+use Rattle.std.specs.Prelude.{◌≡◌, map, IsTrue, IsFalse, ⊤, ◌≢◌, ◌⊎◌, ℕ, ◌+◌, ◌≤◌, List, [], ◌∷◌, length, Option, Some, None, IfSome}
 use Rattle.std.specs.Option.{option_map}
 use Rattle.std.specs.FinMap.{is_sorted}
 use Rattle.jr_path.specs.Names.{path_cmp}
@@ -11,18 +11,18 @@ use Rattle.jr_tree.specs.Trees.{Nodes, node_at}
 use Rattle.jr_script.specs.declared.script.Script.{Script}
 use Rattle.jr_script.specs.declared.script.SessionScript.{SessionScript}
 use Rattle.jcr_trans.specs.declared.command.Command.{Command}
-use Rattle.jcr_trans.specs.Commands.{saves}
-use Rattle.jcr_trans.specs.Answers.{Refused, ShowsNothing, ShowsRevision}
-use Rattle.jcr_trans.specs.Texts.{answer_text}
-use Rattle.jcr_trans.specs.Views.{answered, over_limit, view_after}
-use Rattle.core_law.specs.Law.{has_few_nodes, is_plain}
+use Rattle.jcr_trans.specs.Commands.{is_plain, refreshes, saves, shows_base}
+use Rattle.jcr_trans.specs.Answers.{ShowsNothing, ShowsRevision, ShowsVector}
+use Rattle.jcr_trans.specs.Texts.{answer_text, memory_text}
+use Rattle.jcr_trans.specs.Views.{answered, too_many_nodes, view_after}
+use Rattle.core_law.specs.Law.{has_few_nodes}
 use Rattle.oak_clash.specs.declared.mark.MarkAt.{MarkAt}
 use Rattle.oak_machine.specs.declared.event.Event.TheVariants as event
 use Rattle.oak_machine.specs.declared.event.StepKind.TheVariants as kind
 use Rattle.oak_machine.specs.Marks.{marks_for}
 use Rattle.oak_node.specs.Heads.{next_draw}
 use Rattle.oak_node.specs.Pins.{pin_now, with_pin, without_pin}
-use Rattle.oak_world.specs.Commits.{IsGivenUp, committed, parts_of, with_parts}
+use Rattle.oak_world.specs.Commits.{IsGivenUp, base_of_session, committed, parts_of, with_parts}
 use Rattle.oak_world.specs.Worlds.{WorldOf, node_shown, start_world, with_events}
 use Rattle.jcr_session.specs.declared.law.JcrLaw.{JcrLaw}
 
@@ -47,15 +47,15 @@ pending s = record { writes = changes s.base s.view }
 abbrev pub pending_marks : State → List MarkAt
 pending_marks s = marks_for [] (changes s.base s.view)
 
--- the reply where memory was refused
-abbrev pub memory_text : List ℕ
-memory_text = answer_text (Refused 16 [])
-
 -- a reading or view command answers by the view, and changes it, and one that isn't built is refused; or memory was refused, and the view stays
 abbrev pub IsSeen : Command → Nodes → Nodes → Text → Type 0
 IsSeen c old new text =
     ((text ≡ answer_text (answered c old)) × (new ≡ view_after c old))
     ⊎ ((text ≡ memory_text) × (new ≡ old))
+
+-- the text shows the base of the session's pin; or memory was refused
+abbrev pub IsBaseShown : WorldOf JcrLaw → Text → Type 0
+IsBaseShown w text = (text ≡ answer_text (ShowsVector (base_of_session w.node))) ⊎ (text ≡ memory_text)
 
 -- a save with nothing pending changes nothing
 pub record IsUnchanged (old new : State) (text : Text) : Type 0 where
@@ -75,7 +75,7 @@ pub record IsSaved (old new : State) (text : Text) : Type 0 where
 -- a save of a view with too many nodes changes nothing
 pub record IsTooMany (old new : State) (text : Text) : Type 0 where
   pub many : IsFalse (has_few_nodes old.view)
-  pub reply : text ≡ answer_text (over_limit (codes "nodes") 100000)
+  pub reply : text ≡ answer_text too_many_nodes
   pub state : new ≡ old
 
 -- memory was refused before the commit point of a save: the base and what is pending stay
@@ -92,6 +92,27 @@ pub record IsCancelled (old new : State) (text : Text) : Type 0 where
 abbrev pub IsRefused : State → State → Text → Type 0
 IsRefused old new text = (text ≡ memory_text) × (new ≡ old)
 
+-- `head` changes nothing, and shows the session's base; or memory was refused
+pub record AnswersHead (old new : State) (text : Text) : Type 0 where
+  pub shown : IsBaseShown old.world text
+  pub state : new ≡ old
+
+-- the session's base moves to the head of its cluster node; the session then sees the tree there, with nothing pending
+abbrev pub moved : WorldOf JcrLaw → WorldOf JcrLaw
+moved w = record w {
+  journal = with_events w.journal (event.Refresh 0 w.node.head ∷ []);
+  node = with_pin w.node 0 (pin_now w.node);
+}
+
+pub record IsRefreshed (old new : State) (text : Text) : Type 0 where
+  pub world : new.world ≡ moved old.world
+  pub base : IsShown new.world new.base
+  pub view : new.view ≡ new.base
+  pub reply : text ≡ answer_text (ShowsVector old.world.node.head)
+
+abbrev pub AnswersRefresh : State → State → Text → Type 0
+AnswersRefresh old new text = IsRefreshed old new text ⊎ IsRefused old new text
+
 abbrev pub AnswersSave : State → State → Text → Type 0
 AnswersSave old new text = IsUnchanged old new text ⊎ IsTooMany old new text ⊎ IsSaved old new text ⊎ IsCancelled old new text ⊎ IsRefused old new text
 
@@ -104,6 +125,8 @@ pub record AnswersView (c : Command) (old new : State) (text : Text) : Type 0 wh
 -- what a command does and answers
 pub record Answers (c : Command) (old new : State) (text : Text) : Type 0 where
   pub save : IsTrue (saves c) → AnswersSave old new text
+  pub refresh : IsTrue (refreshes c) → AnswersRefresh old new text
+  pub head : IsTrue (shows_base c) → AnswersHead old new text
   pub view : IsTrue (is_plain c) → AnswersView c old new text
 
 -- the state once a reply is said
@@ -161,7 +184,8 @@ abbrev pub AreOfOne : List SessionScript → Type 0
 AreOfOne [] = ⊤
 AreOfOne (s ∷ ss) = (s.cluster ≡ 1) × (ss ≡ [])
 
--- one session at most, of cluster node 1 and at most 10,000 commands
-pub record IsSmall (sessions : List SessionScript) : Type 0 where
-  pub one : AreOfOne sessions
-  pub few : IfSome (first_commands sessions) (λ commands. length commands ≤ 10000)
+-- one cluster node, and one session at most, of that node and at most 10,000 commands
+pub record IsSmall (script : Script) : Type 0 where
+  pub node : script.clusters ≡ 1
+  pub one : AreOfOne script.sessions
+  pub few : IfSome (first_commands script.sessions) (λ commands. length commands ≤ 10000)

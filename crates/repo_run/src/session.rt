@@ -1,25 +1,26 @@
 // A session: the tree at its base, its view, and its commands.
-ghost use Rattle.std.specs.Prelude.{◌≡◌, ◌≢◌, ◌≤◌, ◌↔◌, [], not, IfOk, OnOk, IsSome, IsTrue, codes, length, string_bytes};
+ghost use Rattle.std.specs.Prelude.{◌≡◌, ◌≢◌, ◌≤◌, ◌↔◌, [], not, IfOk, OnOk, IsSome, IsTrue, length, string_bytes};
 ghost use Rattle.std.specs.List.{fold};
 ghost use Rattle.std.specs.Map.{keys_of};
 ghost use Rattle.jr_tree.specs.Edits.{changes};
-ghost use Rattle.jcr_trans.specs.Texts.{answer_text};
-ghost use Rattle.jcr_trans.specs.Views.{over_limit};
 ghost use Rattle.jcr_trans.specs.declared.command.Command.TheVariants as command;
 ghost use Rattle.core_law.specs.Law.{has_few_nodes};
 ghost use Rattle.repo_run.specs.Headline.{HasRun};
 ghost use Rattle.repo_run.specs.Stands.{IsBegun, IsNext};
 ghost use Rattle.oak_machine.specs.Marks.{marks_for};
 ghost use Rattle.oak_node.specs.Pins.{pin_of};
-ghost use Rattle.repo_run.specs.Turns.{Answers, AnswersSave, IsSeen, IsSessionRun, IsShown, IsSmall, RunsScript, law_of, memory_text, state};
+ghost use Rattle.repo_run.specs.Turns.{Answers, AnswersRefresh, AnswersSave, IsBaseShown, IsSeen, IsSessionRun, IsShown, IsSmall, RunsScript, law_of, state};
 ghost use Rattle.repo_run.specs.Loads.{with_shown};
 
 use jcr_plan::marks_of;
 use jcr_session::JcrLaw;
-use jcr_trans::{Command, null_reply, refusal_text, revision_reply, run};
+use jcr_trans::{
+    Command, memory_reply, null_reply, refusal_text, revision_reply, run, too_many_reply,
+    vector_reply,
+};
 use jr_path::{DeepCopy, DocId, List, Text};
 use jr_script::Script;
-use jr_tree::{Datum, Edit, Refusal, Tree, changes};
+use jr_tree::{Edit, Tree, changes};
 use oak_clash::MarkAt;
 use oak_world::World;
 use std::alloc::{AllocError, Global};
@@ -30,7 +31,7 @@ pub const MOST_NODES: usize = 100_000;
 /// Runs a script on one thread, and answers the world with which it ended. Its journal is a run of the machine by the law of the
 /// script, in which each command is answered once, in order.
 pub fn run_steps(alloc: Global, script: Script) -> Result<World<JcrLaw>, AllocError>
-    requires { IsSmall script.sessions }
+    requires { IsSmall script }
     ensures { IfOk result (HasRun script) }
 {
     run_all(alloc, script)
@@ -38,7 +39,7 @@ pub fn run_steps(alloc: Global, script: Script) -> Result<World<JcrLaw>, AllocEr
 
 // Runs a script step by step.
 fn run_all(alloc: Global, script: Script) -> Result<World<JcrLaw>, AllocError>
-    requires { IsSmall script.sessions }
+    requires { IsSmall script }
     ensures { IfOk result (RunsScript script) }
 {
     let law = law_of(alloc, &script)?;
@@ -112,6 +113,8 @@ impl Session {
     {
         match command {
             Command::Save => self.save(alloc, world),
+            Command::Refresh(false) => self.refresh(alloc, world),
+            Command::Head => base_reply(alloc, world),
             _ => self.see(alloc, command),
         }
     }
@@ -125,6 +128,20 @@ impl Session {
             Ok(text) => Ok(text),
             Err(refusal) => refusal_text(alloc, &refusal),
         }
+    }
+
+    // Moves the base to the head of the cluster node, and drops the pending edits.
+    fn refresh(&mut self, alloc: Global, world: &mut World<JcrLaw>) -> Result<String, AllocError>
+        requires { IsSome (pin_of world.old.node 0) }
+        ensures answer { IfOk result (λ text. AnswersRefresh (state world.old self.old.base self.old.view) (state world.new self.new.base self.new.view) (string_bytes text)) }
+        ensures pinned { OnOk result (IsSome (pin_of world.new.node 0)) }
+    {
+        let Ok(pin) = world.refresh() else {
+            return memory_reply(alloc);
+        };
+        let moved = Session::new(alloc, world)?;
+        *self = moved;
+        vector_reply(alloc, &pin.base)
     }
 
     // Commits what the view changes; nothing where it changes nothing.
@@ -181,6 +198,18 @@ impl Session {
     }
 }
 
+// The reply that shows the base of the session. It answers want of memory itself.
+fn base_reply(alloc: Global, world: &World<JcrLaw>) -> Result<String, AllocError>
+    requires { IsSome (pin_of world.now.node 0) }
+    ensures { IfOk result (λ text. IsBaseShown world.now (string_bytes text)) }
+{
+    let base = world.pin().unwrap().base;
+    match vector_reply(alloc, &base) {
+        Ok(text) => Ok(text),
+        Err(AllocError) => memory_reply(alloc),
+    }
+}
+
 // Whether an edit writes nothing.
 fn is_unchanged(edit: &Edit) -> bool
     ensures { IsTrue result ↔ (edit.now.writes ≡ []) }
@@ -193,23 +222,6 @@ fn has_too_many(view: &Tree) -> bool
     ensures { result ≡ not (has_few_nodes view.now) }
 {
     view.len() > MOST_NODES
-}
-
-// The reply where memory was refused.
-fn memory_reply(alloc: Global) -> Result<String, AllocError>
-    ensures { IfOk result (λ text. string_bytes text ≡ memory_text) }
-{
-    refusal_text(alloc, &Refusal::memory(alloc))
-}
-
-// The reply where the tree would have too many nodes.
-fn too_many_reply(alloc: Global) -> Result<String, AllocError>
-    ensures { IfOk result (λ text. string_bytes text ≡ answer_text (over_limit (codes "nodes") 100000)) }
-{
-    let mut parts = List::new(alloc);
-    parts.push(Datum::Text(Text::copy_of(alloc, "nodes")?))?;
-    parts.push(Datum::Number(100_000))?;
-    refusal_text(alloc, &Refusal { number: 15, parts })
 }
 
 // The tree at the session's pin, read from documents: one walk over them in store order.

@@ -17,6 +17,22 @@ const FIRST: &str =
 const REPLIES: &str =
     "0 0 ok\n0 1 ok\n0 2 ok \"r1-0-1\"\n0 3 ok 5\n0 4 ok [\"a\",\"jcr:system\"]\n";
 
+const BASES: &str =
+    r#"{"sessions":[{"commands":[["head"],["add","/a"],["refresh",false],["list","/"],["add","/b"],["save"],["head"],["refresh",false],["list","/"],["refresh",true],["save"]]}]}"#;
+
+const BASES_SHOWN: &str = r#"0 0 ok "r0-0-1"
+0 1 ok
+0 2 ok "r0-0-1"
+0 3 ok ["jcr:system"]
+0 4 ok
+0 5 ok "r1-0-1"
+0 6 ok "r1-0-1"
+0 7 ok "r1-0-1"
+0 8 ok ["b","jcr:system"]
+0 9 no 12 ["refresh"]
+0 10 ok null
+"#;
+
 // The status, the bytes written, and the world that is left, for a word, an input and the calls that fail.
 fn run(
     alloc: Global,
@@ -38,9 +54,42 @@ fn run(
 #[test]
 fn statuses_and_what_is_written(rt: HostRuntime) -> Result<(), Fail> {
     let alloc = rt.alloc();
-    let rows: [(&str, &str, &[u64], &[u64], Status, &str); 8] = [
+    let rows: [(&str, &str, &[u64], &[u64], Status, &str); 13] = [
         ("steps", FIRST, &[], &[], Status::Done, REPLIES),
+        ("steps", BASES, &[], &[], Status::Done, BASES_SHOWN),
         ("steps", r#"{"sessions":[]}"#, &[], &[], Status::Done, ""),
+        (
+            "steps",
+            r#"{"clusters":1,"schedule":[],"sessions":[{"cluster":1,"commands":[]}]}"#,
+            &[],
+            &[],
+            Status::Done,
+            "",
+        ),
+        (
+            "steps",
+            r#"{"clusters":2,"schedule":[0],"sessions":[{"commands":[]},{"commands":[]}]}"#,
+            &[],
+            &[],
+            Status::Script,
+            "bad script 0 \"/clusters\"\n",
+        ),
+        (
+            "steps",
+            r#"{"schedule":[0],"sessions":[{"commands":[]},{"commands":[]}]}"#,
+            &[],
+            &[],
+            Status::Script,
+            "bad script 0 \"/sessions\"\n",
+        ),
+        (
+            "steps",
+            r#"{"schedule":[0],"sessions":[{"commands":[]}]}"#,
+            &[],
+            &[],
+            Status::Script,
+            "bad script 0 \"/schedule\"\n",
+        ),
         ("Steps", FIRST, &[0], &[], Status::Words, "bad words\n"),
         (
             "steps",
@@ -168,7 +217,7 @@ fn documents_of_the_first_example(rt: HostRuntime) -> Result<(), Fail> {
     Ok(())
 }
 
-const SCRIPTS: [(&str, usize); 3] = [
+const SCRIPTS: [(&str, usize); 4] = [
     (FIRST, 5),
     (
         r#"{"sessions":[{"commands":[["save"],["add","/b/c"],["add","/b"],["add","/b"],["set","/b","p",1],["save"],["set","/b","p",1],["save"],["get","/b/p"],["get","/b/q"],["list","/c"]]}]}"#,
@@ -178,6 +227,7 @@ const SCRIPTS: [(&str, usize); 3] = [
         r#"{"sessions":[{"commands":[["add","/a"],["save"],["add","/a/b"],["get","/a/b"],["list","/a"],["save"],["set","/a/b","p",7],["list","/"],["get","/a/b/p"],["save"],["save"]]}]}"#,
         11,
     ),
+    (BASES, 11),
 ];
 
 // Each reply of the world is the one that the law lets the session say by the journal before it.
