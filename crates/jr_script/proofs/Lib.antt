@@ -1,7 +1,4 @@
-pub mod Below
-pub mod Escapes
-pub mod Grammar
-pub mod Lists
-pub mod Readings
+pub mod Entries
 pub mod Sessions
 pub mod Unique
+pub mod Within

@@ -1,7 +1,5 @@
-pub mod Commands
-pub mod Outcomes
-pub mod Pointers
+pub mod Bounds
+pub mod Numbers
+pub mod Schedules
 pub mod Scripts
-pub mod Trees
-pub mod Values
-pub mod Words
+pub mod Unbuilt

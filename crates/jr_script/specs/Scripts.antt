@@ -1,21 +1,24 @@
 -- What a script means, and what an input that is none is answered with.
-use Rattle.std.specs.Prelude.{◌≡◌, ◌⊎◌, ℕ, Bool, true, false, not, ◌&&◌, List, [], ◌∷◌, Option, Some, None, ⊤, codes, is_some, nat_le, IsUtf8}
+use Rattle.std.specs.Prelude.{◌≡◌, ◌⊎◌, ℕ, Bool, true, not, ◌&&◌, List, [], ◌∷◌, Option, Some, None, ⊤, codes, is_some, length, nat_le, IsUtf8}
 use Rattle.std.specs.Str.{bytes_eq}
 use Rattle.std.specs.List.{list_any}
-use Rattle.serde_json.specs.Data.{Data, Items, Members, array, object, no_items, item, no_members, member}
+use Rattle.serde_json.specs.Data.{Data, Items, Members, array, object, no_members, member}
 use Rattle.serde_json.specs.Find.{get}
 use Rattle.serde_json.specs.Events.{items_len}
 use Rattle.serde_json.specs.Read.{read}
 use Rattle.jcr_trans.specs.declared.command.Command.{Command}
-use Rattle.jr_script.specs.declared.fault.Step.TheVariants.{Key, Index}
+use Rattle.jr_args.specs.declared.fault.Step.TheVariants.{Key}
+use Rattle.jr_args.specs.Commands.{command_of}
+use Rattle.jr_args.specs.Outcomes.{Means, Breaks, Reading, guard, is, judged, Then, under}
+use Rattle.jr_args.specs.Pointers.{pointer_text}
+use Rattle.jr_args.specs.Trees.{list_of, optional_of}
+use Rattle.jr_script.specs.Numbers.{IsWhole}
+use Rattle.jr_script.specs.Schedules.{entry_of}
+use Rattle.jr_script.specs.declared.script.Entry.{Entry}
 use Rattle.jr_script.specs.declared.script.Script.{Script}
 use Rattle.jr_script.specs.declared.script.SessionScript.{SessionScript}
 use Rattle.jr_script.specs.declared.script.ScriptFault.{ScriptFault}
 use Rattle.jr_script.specs.declared.script.ScriptFault.TheVariants as fault
-use Rattle.jr_script.specs.Commands.{command_of}
-use Rattle.jr_script.specs.Outcomes.{Means, Breaks, Reading, guard, is, Then, under}
-use Rattle.jr_script.specs.Pointers.{pointer_text}
-use Rattle.jr_script.specs.Trees.{list_of}
 
 -- the bytes are this JSON
 abbrev pub IsJson : List ℕ → Data → Type 0
@@ -31,60 +34,63 @@ abbrev pub member_of : {X : Type 0} → List ℕ → ℕ → (Data → Reading X
 member_of key rule M None = is (Breaks rule [])
 member_of key rule M (Some d) = under (Key key) (M d)
 
--- ---- what isn't read yet: rule 0
+-- a list of at most so many items, each of them read, else this rule is broken
+abbrev pub counted_of : {X : Type 0} → ℕ → ℕ → (Data → Reading X) → Items → Reading (List X)
+counted_of most rule M ds = Then (guard (nat_le (items_len ds) most) rule) (λ _. list_of M 0 ds)
 
+abbrev pub few_of : {X : Type 0} → ℕ → ℕ → (Data → Reading X) → Data → Reading (List X)
+few_of most rule M (array ds) = counted_of most rule M ds
+few_of most rule M _ = is (Breaks rule [])
+
+-- what isn't read yet: rule 0
 abbrev pub absent : List ℕ → Data → Reading ⊤
 absent key d = under (Key key) (guard (not (is_some (get key d))) 0)
 
-abbrev pub no_cluster : Data → Reading ⊤
-no_cluster d = absent (codes "cluster") d
+-- ---- cluster nodes: rule 3
 
--- of a second session it is the session, and the first is looked at before
-abbrev pub no_second : Items → Reading ⊤
-no_second no_items = is (Means tt)
-no_second (item d ds) = under (Index 1) (guard false 0)
-
-abbrev pub one_session : Items → Reading ⊤
-one_session no_items = is (Means tt)
-one_session (item d ds) = Then (under (Index 0) (no_cluster d)) (λ _. no_second ds)
-
-abbrev pub one_at_most : Option Data → Reading ⊤
-one_at_most (Some (array ds)) = under (Key (codes "sessions")) (one_session ds)
-one_at_most _ = is (Means tt)
-
-abbrev pub read_so_far : Data → Reading ⊤
-read_so_far d =
-    Then (absent (codes "clusters") d) (λ _.
-    Then (absent (codes "types") d) (λ _.
-    Then (one_at_most (get (codes "sessions") d)) (λ _.
-    absent (codes "schedule") d)))
+-- one to eight
+abbrev pub clusters_of : Data → Reading ℕ
+clusters_of d = judged (IsWhole 1 8 d) 3
 
 -- ---- sessions: rule 4
 
--- at most 10,000 commands
-abbrev pub counted_of : Items → Reading (List Command)
-counted_of ds = Then (guard (nat_le (items_len ds) 10000) 4) (λ _. list_of command_of 0 ds)
+-- one of the cluster nodes
+abbrev pub cluster_of : ℕ → Data → Reading ℕ
+cluster_of clusters d = judged (IsWhole 1 clusters d) 4
 
 abbrev pub commands_of : Data → Reading (List Command)
-commands_of (array ds) = counted_of ds
-commands_of _ = is (Breaks 4 [])
+commands_of d = few_of 10000 4 command_of d
 
-abbrev pub session_in : Data → Reading SessionScript
-session_in d = Then (member_of (codes "commands") 4 commands_of (get (codes "commands") d)) (λ commands. is (Means (record { cluster = 1; commands = commands })))
+-- the cluster node, which is the first where none is named, and the commands
+abbrev pub session_in : ℕ → Data → Reading SessionScript
+session_in clusters d =
+    Then (optional_of (codes "cluster") 1 (cluster_of clusters) (get (codes "cluster") d)) (λ cluster.
+    Then (member_of (codes "commands") 4 commands_of (get (codes "commands") d)) (λ commands.
+    is (Means (record { cluster = cluster; commands = commands }))))
 
 -- an object with no other keys than `cluster` and `commands`
-abbrev pub session_of : Data → Reading SessionScript
-session_of (object ms) = Then (guard (are_keys (codes "cluster" ∷ codes "commands" ∷ []) ms) 4) (λ _. session_in (object ms))
-session_of _ = is (Breaks 4 [])
+abbrev pub session_of : ℕ → Data → Reading SessionScript
+session_of clusters (object ms) = Then (guard (are_keys (codes "cluster" ∷ codes "commands" ∷ []) ms) 4) (λ _. session_in clusters (object ms))
+session_of clusters _ = is (Breaks 4 [])
 
-abbrev pub sessions_of : Data → Reading (List SessionScript)
-sessions_of (array ds) = list_of session_of 0 ds
-sessions_of _ = is (Breaks 4 [])
+abbrev pub sessions_of : ℕ → Data → Reading (List SessionScript)
+sessions_of clusters d = few_of 64 4 (session_of clusters) d
+
+-- ---- the schedule: rule 8
+
+abbrev pub schedule_of : ℕ → Data → Reading (List Entry)
+schedule_of sessions d = few_of 1000000 8 (entry_of sessions) d
 
 -- ---- the whole: rule 2
 
+-- cluster nodes, of which there is one where none are named, sessions, and a schedule, which may be left out
 abbrev pub script_in : Data → Reading Script
-script_in d = Then (read_so_far d) (λ _. Then (member_of (codes "sessions") 2 sessions_of (get (codes "sessions") d)) (λ sessions. is (Means (record { sessions = sessions }))))
+script_in d =
+    Then (absent (codes "types") d) (λ _.
+    Then (optional_of (codes "clusters") 1 clusters_of (get (codes "clusters") d)) (λ clusters.
+    Then (member_of (codes "sessions") 2 (sessions_of clusters) (get (codes "sessions") d)) (λ sessions.
+    Then (optional_of (codes "schedule") [] (schedule_of (length sessions)) (get (codes "schedule") d)) (λ schedule.
+    is (Means (record { clusters = clusters; sessions = sessions; schedule = schedule }))))))
 
 -- an object with no other keys than these, of which `sessions` is there
 abbrev pub script_of : Data → Reading Script

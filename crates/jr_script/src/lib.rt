@@ -1,18 +1,16 @@
-//! Scripts of sessions from their JSON.
+//! Scripts of sessions and their schedule, from their JSON.
 #![tactic(auto)]
 
-mod arguments;
-mod commands;
-mod fault;
 mod laws;
+mod numbers;
 mod reading;
+mod schedule;
 mod script;
+mod stage;
 #[cfg(test)]
 mod tests;
-mod tree;
-mod values;
-mod word;
 
-pub use laws::scripts_are_unique;
-pub use reading::{MAX_COMMANDS, read_script};
-pub use script::{Script, ScriptFault, SessionScript};
+pub use laws::{scripts_are_unique, scripts_are_within};
+pub use reading::{MAX_CLUSTERS, MAX_COMMANDS, MAX_SESSIONS, read_script};
+pub use script::{Entry, Script, ScriptFault, SessionScript};
+pub use stage::unbuilt;

@@ -1,18 +1,19 @@
 // Scripts from the bytes of their JSON.
-ghost use Rattle.std.specs.Prelude.{◌≡◌, IfErr, IfOk, bytes_eq, codes, map};
+ghost use Rattle.std.specs.Prelude.{◌≡◌, ◌≤◌, [], IfErr, IfOk, bytes_eq, codes, length, map};
 ghost use Rattle.std.specs.List.{list_any};
 ghost use Rattle.serde_json.specs.Data.{Data};
 ghost use Rattle.serde_json.specs.Find.{get};
 ghost use Rattle.serde_json.specs.View.{view, items_view, members_view};
-ghost use Rattle.jr_script.specs.Commands.{command_of};
-ghost use Rattle.jr_script.specs.Outcomes.{Answers};
-ghost use Rattle.jr_script.specs.Scripts.{absent, are_keys, commands_of, counted_of, member_of, one_at_most, one_session, read_so_far, script_in, script_of, session_in, session_of, sessions_of, IsFault, IsJson, IsScript};
-ghost use Rattle.jr_script.specs.Trees.{list_of};
+ghost use Rattle.jr_args.specs.Commands.{command_of};
+ghost use Rattle.jr_args.specs.Outcomes.{Answers};
+ghost use Rattle.jr_args.specs.Trees.{list_of, optional_of};
+ghost use Rattle.jr_script.specs.Scripts.{absent, are_keys, cluster_of, clusters_of, commands_of, counted_of, member_of, schedule_of, script_in, script_of, session_in, session_of, sessions_of, IsFault, IsJson, IsScript};
 
-use crate::commands::command;
-use crate::fault::{Fault, pointer};
-use crate::script::{Script, ScriptFault, SessionScript};
+use crate::numbers::whole;
+use crate::schedule::schedule;
+use crate::script::{Entry, Script, ScriptFault, SessionScript};
 use jcr_trans::Command;
+use jr_args::{Fault, command, pointer};
 use jr_path::{List, Text};
 use serde_json::{Map, Value as Json};
 use std::alloc::Global;
@@ -20,26 +21,38 @@ use std::alloc::Global;
 /// The most commands of a session.
 pub const MAX_COMMANDS: usize = 10000;
 
-// The rules: what isn't read yet, the bytes, the keys of the whole, and the sessions.
+/// The most sessions of a script.
+pub const MAX_SESSIONS: usize = 64;
+
+/// The most cluster nodes of a script.
+pub const MAX_CLUSTERS: u32 = 8;
+
+// The rules: what isn't read yet, the bytes, the keys of the whole, the cluster nodes, and the sessions.
 const NOT_YET: u8 = 0;
 
 const JSON: u8 = 1;
 
 const KEYS: u8 = 2;
 
+const CLUSTERS: u8 = 3;
+
 const SESSIONS: u8 = 4;
 
 /// Reads a script from JSON (RFC 8259). `Bad` has the first rule that is broken, in the order of the rules below and of the
-/// sessions, their commands and the arguments of each, and the JSON Pointer (RFC 6901) of the value that breaks it, or
-/// of its container where it is missing.
+/// sessions, their commands, the arguments of each and the entries, and the JSON Pointer (RFC 6901) of the value that breaks
+/// it, or of its container where it is missing. Of a list that is too long it is the list's.
 ///
 /// 1. The bytes are JSON that serde_json reads; else the pointer is empty. Where a key comes twice the last one counts.
 /// 2. The top is an object with the key `sessions`, and with no other keys than `clusters`, `types` and `schedule`.
-/// 0. `clusters`, `types`, a session's `cluster`, a second session and `schedule` aren't read yet.
-/// 4. `sessions` is a list of objects with the key `commands`, a list of at most 10,000, and no other key than `cluster`.
+/// 0. `types` isn't read yet.
+/// 3. `clusters`, the number of cluster nodes, is a whole number from 1 to 8; 1 where it is left out.
+/// 4. `sessions` is a list of at most 64 objects with the key `commands`, a list of at most 10,000, and no other key than
+///    `cluster`, the number of one of the cluster nodes; 1 where it is left out.
 /// 5. A command is a list of the name of one and its arguments, each of its JSON kind.
 /// 6. Paths and names are in the grammar (JSR 283, 3.2 Names and 3.4 Paths). A path may be too deep or too long.
 /// 7. Values are those that `Property::from_json` reads; a query's variable has one value.
+/// 8. `schedule` is a list of at most 1,000,000 entries: `s`, `[s,"say",n]`, `[s,"draw"]`, `[s,"write",n]`, `[s,"last"]` or
+///    `[s,"read"]`, where s is the number of a session and n a whole number from 1 to 1,000,000; empty where it is left out.
 pub fn read_script(alloc: Global, bytes: &[u8]) -> Result<Script, ScriptFault>
     ensures ok { IfOk result (λ s. (d : Data) × IsJson bytes.now d × IsScript d s) }
     ensures err { IfErr result (IsFault bytes.now) }
@@ -85,22 +98,75 @@ fn script(alloc: Global, json: &Json) -> Result<Script, Fault>
 fn script_in(alloc: Global, json: &Json) -> Result<Script, Fault>
     ensures { Answers (script_in (view json.now)) result }
 {
-    read_so_far(alloc, json)?;
-    let sessions = sessions_in(alloc, json)?;
-    Ok(Script { sessions })
+    absent(alloc, json, "types")?;
+    let clusters = clusters_in(alloc, json)?;
+    let sessions = sessions_in(alloc, json, clusters)?;
+    let schedule = schedule_in(alloc, json, sessions.inner().len())?;
+    Ok(Script {
+        clusters,
+        sessions,
+        schedule,
+    })
 }
 
-fn sessions_in(alloc: Global, json: &Json) -> Result<List<SessionScript>, Fault>
-    ensures { Answers (member_of (codes "sessions") 2 sessions_of (get (codes "sessions") (view json.now))) result }
+// ---- the members of the whole
+
+fn absent(alloc: Global, json: &Json, key: &str) -> Result<(), Fault>
+    ensures { Answers (absent key.now (view json.now)) result }
+{
+    match json.get(key) {
+        None => Ok(()),
+        Some(_) => Err(Fault::here(alloc, NOT_YET).in_member(alloc, key)),
+    }
+}
+
+fn clusters_in(alloc: Global, json: &Json) -> Result<u32, Fault>
+    ensures { Answers (optional_of (codes "clusters") 1 clusters_of (get (codes "clusters") (view json.now))) result }
+{
+    match json.get("clusters") {
+        None => Ok(1),
+        Some(number) => match clusters(alloc, number) {
+            Ok(clusters) => Ok(clusters),
+            Err(fault) => Err(fault.in_member(alloc, "clusters")),
+        },
+    }
+}
+
+fn clusters(alloc: Global, json: &Json) -> Result<u32, Fault>
+    ensures { Answers (clusters_of (view json.now)) result }
+{
+    match whole(json, 1, MAX_CLUSTERS) {
+        Some(clusters) => Ok(clusters),
+        None => Err(Fault::here(alloc, CLUSTERS)),
+    }
+}
+
+fn sessions_in(alloc: Global, json: &Json, clusters: u32) -> Result<List<SessionScript>, Fault>
+    ensures { Answers (member_of (codes "sessions") 2 (sessions_of clusters) (get (codes "sessions") (view json.now))) result }
 {
     match json.get("sessions") {
         None => Err(Fault::here(alloc, KEYS)),
-        Some(list) => match sessions(alloc, list) {
+        Some(list) => match sessions(alloc, list, clusters) {
             Ok(sessions) => Ok(sessions),
             Err(fault) => Err(fault.in_member(alloc, "sessions")),
         },
     }
 }
+
+fn schedule_in(alloc: Global, json: &Json, sessions: usize) -> Result<List<Entry>, Fault>
+    requires { sessions ≤ 64 }
+    ensures { Answers (optional_of (codes "schedule") [] (schedule_of sessions) (get (codes "schedule") (view json.now))) result }
+{
+    match json.get("schedule") {
+        None => Ok(List::new(alloc)),
+        Some(list) => match schedule(alloc, list, sessions) {
+            Ok(entries) => Ok(entries),
+            Err(fault) => Err(fault.in_member(alloc, "schedule")),
+        },
+    }
+}
+
+// ---- keys
 
 // Whether each key is one of these.
 fn are_keys(keys: &[&str], members: &Map<String, Json>) -> bool
@@ -123,67 +189,36 @@ fn is_one_of(keys: &[&str], key: &str) -> bool
     }
 }
 
-// Nothing, where there is nothing that isn't read yet.
-fn read_so_far(alloc: Global, json: &Json) -> Result<(), Fault>
-    ensures { Answers (read_so_far (view json.now)) result }
-{
-    absent(alloc, json, "clusters")?;
-    absent(alloc, json, "types")?;
-    one_at_most(alloc, json)?;
-    absent(alloc, json, "schedule")
-}
+// ---- sessions
 
-fn absent(alloc: Global, json: &Json, key: &str) -> Result<(), Fault>
-    ensures { Answers (absent key.now (view json.now)) result }
-{
-    match json.get(key) {
-        None => Ok(()),
-        Some(_) => Err(Fault::here(alloc, NOT_YET).in_member(alloc, key)),
-    }
-}
-
-fn one_at_most(alloc: Global, json: &Json) -> Result<(), Fault>
-    ensures { Answers (one_at_most (get (codes "sessions") (view json.now))) result }
-{
-    let Some(Json::Array(items)) = json.get("sessions") else {
-        return Ok(());
-    };
-    match one_session(alloc, items) {
-        Ok(()) => Ok(()),
-        Err(fault) => Err(fault.in_member(alloc, "sessions")),
-    }
-}
-
-fn one_session(alloc: Global, items: &[Json]) -> Result<(), Fault>
-    ensures { Answers (one_session (items_view items.now)) result }
-{
-    let [first, ..] = items else {
-        return Ok(());
-    };
-    if let Err(fault) = absent(alloc, first, "cluster") {
-        return Err(fault.in_item(0));
-    }
-    if items.len() > 1 {
-        return Err(Fault::here(alloc, NOT_YET).in_item(1));
-    }
-    Ok(())
-}
-
-fn sessions(alloc: Global, json: &Json) -> Result<List<SessionScript>, Fault>
-    ensures { Answers (sessions_of (view json.now)) result }
+fn sessions(alloc: Global, json: &Json, clusters: u32) -> Result<List<SessionScript>, Fault>
+    ensures { Answers (sessions_of clusters (view json.now)) result }
 {
     match json {
-        Json::Array(items) => session_list(alloc, items),
+        Json::Array(items) => counted_sessions(alloc, items, clusters),
         _ => Err(Fault::here(alloc, SESSIONS)),
     }
 }
 
-fn session_list(alloc: Global, items: &[Json]) -> Result<List<SessionScript>, Fault>
-    ensures { Answers (list_of session_of 0 (items_view items.now)) result }
+fn counted_sessions(
+    alloc: Global,
+    items: &[Json],
+    clusters: u32,
+) -> Result<List<SessionScript>, Fault>
+    ensures { Answers (counted_of 64 4 (session_of clusters) (items_view items.now)) result }
+{
+    if items.len() > MAX_SESSIONS {
+        return Err(Fault::here(alloc, SESSIONS));
+    }
+    session_list(alloc, items, clusters)
+}
+
+fn session_list(alloc: Global, items: &[Json], clusters: u32) -> Result<List<SessionScript>, Fault>
+    ensures { Answers (list_of (session_of clusters) 0 (items_view items.now)) result }
 {
     let mut sessions = Vec::new(alloc);
     for (index, item) in items.iter().enumerate() {
-        match session(alloc, item) {
+        match session(alloc, item, clusters) {
             Ok(session) => sessions.push(session)?,
             Err(fault) => return Err(fault.in_item(index)),
         }
@@ -191,8 +226,8 @@ fn session_list(alloc: Global, items: &[Json]) -> Result<List<SessionScript>, Fa
     Ok(List::of(sessions))
 }
 
-fn session(alloc: Global, json: &Json) -> Result<SessionScript, Fault>
-    ensures { Answers (session_of (view json.now)) result }
+fn session(alloc: Global, json: &Json, clusters: u32) -> Result<SessionScript, Fault>
+    ensures { Answers (session_of clusters (view json.now)) result }
 {
     let Json::Object(members) = json else {
         return Err(Fault::here(alloc, SESSIONS));
@@ -200,17 +235,36 @@ fn session(alloc: Global, json: &Json) -> Result<SessionScript, Fault>
     if !are_keys(&["cluster", "commands"], members) {
         return Err(Fault::here(alloc, SESSIONS));
     }
-    session_in(alloc, json)
+    session_in(alloc, json, clusters)
 }
 
-fn session_in(alloc: Global, json: &Json) -> Result<SessionScript, Fault>
-    ensures { Answers (session_in (view json.now)) result }
+fn session_in(alloc: Global, json: &Json, clusters: u32) -> Result<SessionScript, Fault>
+    ensures { Answers (session_in clusters (view json.now)) result }
 {
+    let cluster = cluster_in(alloc, json, clusters)?;
     let commands = commands_in(alloc, json)?;
-    Ok(SessionScript {
-        cluster: 1,
-        commands,
-    })
+    Ok(SessionScript { cluster, commands })
+}
+
+fn cluster_in(alloc: Global, json: &Json, clusters: u32) -> Result<u32, Fault>
+    ensures { Answers (optional_of (codes "cluster") 1 (cluster_of clusters) (get (codes "cluster") (view json.now))) result }
+{
+    match json.get("cluster") {
+        None => Ok(1),
+        Some(number) => match cluster(alloc, number, clusters) {
+            Ok(cluster) => Ok(cluster),
+            Err(fault) => Err(fault.in_member(alloc, "cluster")),
+        },
+    }
+}
+
+fn cluster(alloc: Global, json: &Json, clusters: u32) -> Result<u32, Fault>
+    ensures { Answers (cluster_of clusters (view json.now)) result }
+{
+    match whole(json, 1, clusters) {
+        Some(cluster) => Ok(cluster),
+        None => Err(Fault::here(alloc, SESSIONS)),
+    }
 }
 
 fn commands_in(alloc: Global, json: &Json) -> Result<List<Command>, Fault>
@@ -229,13 +283,13 @@ fn commands(alloc: Global, json: &Json) -> Result<List<Command>, Fault>
     ensures { Answers (commands_of (view json.now)) result }
 {
     match json {
-        Json::Array(items) => counted(alloc, items),
+        Json::Array(items) => counted_commands(alloc, items),
         _ => Err(Fault::here(alloc, SESSIONS)),
     }
 }
 
-fn counted(alloc: Global, items: &[Json]) -> Result<List<Command>, Fault>
-    ensures { Answers (counted_of (items_view items.now)) result }
+fn counted_commands(alloc: Global, items: &[Json]) -> Result<List<Command>, Fault>
+    ensures { Answers (counted_of 10000 4 command_of (items_view items.now)) result }
 {
     if items.len() > MAX_COMMANDS {
         return Err(Fault::here(alloc, SESSIONS));

@@ -6,10 +6,13 @@ use jcr_trans::Command;
 use jr_path::{List, Text};
 use std::alloc::AllocError;
 
-/// What is run: the sessions, by number from 0 on.
+/// What is run: a number of cluster nodes, 1 to 8; the sessions, by number from 0 on, at most 64; and whose turn it is
+/// when, at most 1,000,000 entries, empty where the sessions just run one after another.
 #[derive(Drop)]
 pub struct Script {
+    pub clusters: u32,
     pub sessions: List<SessionScript>,
+    pub schedule: List<Entry>,
 }
 
 /// A session: the cluster node that it is at, from 1 on, and its commands in order, at most 10,000.
@@ -17,6 +20,24 @@ pub struct Script {
 pub struct SessionScript {
     pub cluster: u32,
     pub commands: List<Command>,
+}
+
+/// An entry of a schedule: turns of the session that is named first, until what the entry waits for has come. A turn makes
+/// one step that counts, where the session can make one. A count, the second number, is 1 to 1,000,000.
+#[derive(Clone, Copy, Debug, PartialEq, Eq)]
+pub enum Entry {
+    /// One turn.
+    Turn(u32),
+    /// Turns until so many more replies are said.
+    Say(u32, u32),
+    /// Turns until the session's commit has drawn its revision.
+    Draw(u32),
+    /// Turns until the session's commit has written so many documents.
+    Write(u32, u32),
+    /// Turns until only the last write of the session's commit is left.
+    Last(u32),
+    /// One reading step, where one is due.
+    Read(u32),
 }
 
 /// Why an input isn't read as a script.

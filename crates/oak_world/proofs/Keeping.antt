@@ -1,353 +1,335 @@
--- Each step keeps the world.
-use Rattle.std.proofs.Common.{◌≡◌, ◌⊎◌, inl, inr, ℕ, ◌+◌, Bool, true, false, cond, not, ◌&&◌, ◌||◌, Some, None, Option, List, [], ◌∷◌, is_some, take, refl, sym, ap, subst, ◌∙◌, arith}
-use Rattle.std.specs.Prelude.{slice_get}
-use Rattle.std.specs.Option.{option_map, unwrap_or}
-use Rattle.std.specs.Ordering.{match_ordering, nat_cmp}
-use Rattle.std.specs.Map.{lookup, remove_entry}
-use Rattle.std.specs.BTreeMap.{insert_entry, is_at}
-use Rattle.std.proofs.lemmas.Cmp.{nat_cmp_total}
+-- What a world keeps after each call for one of its sessions, and what a port tells of it.
 use mathlib.Core.Bool.{false≢true}
+use Rattle.std.proofs.Common.{◌≡◌, ◌≢◌, ◌↔◌, ◌⊎◌, inl, inr, ℕ, zero, suc, ◌+◌, ◌-◌, ◌*◌, ◌^◌, ◌<◌, ◌≤◌, Bool, true, false, cond, ◌||◌, Option, Some, None, List, [], ◌∷◌, ◌++◌, length, map, is_some, refl, sym, ap, subst, ◌∙◌, arith}
+use Rattle.std.specs.Prelude.{◌==◌, slice_get, slice_set, IsSome}
+use Rattle.std.specs.Borrow.{GName}
+use Rattle.std.specs.declared.alloc.Global.{Global}
+use Rattle.std.proofs.lemmas.List.{length-set}
+use Rattle.std.proofs.lemmas.Option.{slice_get_within}
 use Rattle.jr_path.specs.declared.path.Path.{Path}
-use Rattle.jr_path.specs.declared.path.DocId.{DocId}
-use Rattle.jr_path.specs.declared.path.DocId.TheVariants as id
 use Rattle.jr_path.specs.declared.text.Text.{Text}
-use Rattle.jr_path.proofs.Maps.{lookup-insert_entry}
 use Rattle.jr_rev.specs.declared.revision.Revision.{Revision}
 use Rattle.jr_rev.specs.declared.vector.Pin.{Pin}
-use Rattle.jr_rev.specs.declared.vector.RevVec.{RevVec}
-use Rattle.jr_rev.specs.Revisions.{is_same}
-use Rattle.jr_rev.specs.Vectors.{start}
-use Rattle.jr_tree.specs.declared.edit.Edit.{Edit}
-use Rattle.oak_clash.specs.declared.mark.MarkAt.{MarkAt}
-use Rattle.oak_commit.specs.Writing.{last_op, written_ids}
-use Rattle.oak_machine.specs.declared.event.Draw.{Draw}
+use Rattle.oak_commit.specs.Clashing.{Met}
+use Rattle.oak_commit.specs.Committing.{Committing}
+use Rattle.oak_commit.specs.Stages.{stage_of}
+use Rattle.oak_commit.specs.declared.outcome.CommitEnd.{CommitEnd}
+use Rattle.oak_commit.specs.declared.outcome.CommitEnd.TheVariants as end
+use Rattle.oak_commit.specs.declared.stage.Stage.{Stage}
+use Rattle.oak_commit.specs.declared.stage.Stage.TheVariants as stage
+use Rattle.oak_machine.specs.declared.event.Event.{Event}
 use Rattle.oak_machine.specs.declared.event.Event.TheVariants as event
-use Rattle.oak_machine.specs.declared.event.StepKind.TheVariants as kind
+use Rattle.oak_machine.specs.declared.event.StepKind.{StepKind}
 use Rattle.oak_machine.specs.History.{History, Past}
-use Rattle.oak_machine.specs.Commits.{is_committed}
-use Rattle.oak_machine.specs.Laws.{Says, Starts, StartsProper}
-use Rattle.oak_machine.specs.Runs.{IsRunOf, MayDraw}
+use Rattle.oak_machine.specs.Commits.{is_drawn, is_ended}
+use Rattle.oak_machine.specs.Laws.{AreOthers, Says, Starts, StartsProper, after}
+use Rattle.oak_machine.specs.Runs.{IsNode, IsRun, StartsLast}
 use Rattle.oak_machine.specs.Sessions.{base_of, has_left, has_login, next_index}
-use Rattle.oak_node.specs.declared.pending.Note.{Note}
-use Rattle.oak_node.specs.Pins.{pin_now, with_pin, without_pin}
-use Rattle.oak_read.specs.Meaning.{documents_in}
-use Rattle.oak_store.specs.Tables.{Table}
-use Rattle.core_read.specs.Holds.{Holds, edit_of}
-use Rattle.core_read.specs.Told.{IsIn, IsTold}
-use Rattle.core_read.specs.World.{IsWorld}
-use Rattle.core_read.proofs.Committed.{still_none}
-use Rattle.core_read.proofs.Steps.{quiet_keeps}
-use Rattle.core_read.proofs.Told.{no_edit}
-use Rattle.core_read.proofs.Vectors.{time_before}
-use Rattle.core_heads.proofs.Orders.{at_most_time}
-use Rattle.core_read.proofs.World.{with_progress, world_draw, world_end}
-use Rattle.core_heads.proofs.Runs.{fresh_run, told_past}
-use Rattle.oak_world.specs.Commits.{after_undos, after_update, after_writes, plan_of, steps_of}
-use Rattle.oak_world.specs.Kept.{is_noted, IsAlone, IsAtRest, IsKept, head_at, resting, revision_at, session_pin}
-use Rattle.oak_world.proofs.Additions.{added}
-use Rattle.oak_world.proofs.Flights.{based, draw_at, draw_flight, end_flight, flying_draw, head_at_rest, head_rest, later_committed, login_at_rest, next_rest, refresh_at_rest, said_at_rest, seen_committed, went_at_rest}
-use Rattle.oak_world.proofs.Ids.{IsMarked, covered_in, ids_distinct, ids_marked, take_distinct, take_each}
-use Rattle.oak_world.proofs.Resting.{same_itself}
-use Rattle.oak_world.proofs.Writing.{HasCommitted, HasUndone, HasWritten, IsWriting, all_undone, all_written, last_written}
+use Rattle.oak_node.specs.Heads.{HasEnded, known_time}
+use Rattle.oak_node.specs.Memory.{NodeState}
+use Rattle.oak_node.specs.Pins.{pin_of}
+use Rattle.oak_read.specs.declared.reader.Reader.{Reader}
+use Rattle.oak_read.specs.Reading.{IsTable, children_reader, node_reader}
+use Rattle.core_clash.specs.Core.{root_of}
+use Rattle.core_clash.specs.Sessions.{Running}
+use Rattle.core_clash.specs.Views.{In}
+use Rattle.core_heads.proofs.Runs.{sound_run}
+use Rattle.core_nodes.proofs.Pasts.{ended_was_drawn}
+use Rattle.core_nodes.proofs.Waits.{has_ended}
+use Rattle.core_world.specs.Kept.{IsKept}
+use Rattle.core_world.specs.States.{State, memory_at, memory_of, node_of, with_session}
+use Rattle.core_world.specs.Steps.{after_said, with_reader}
+use Rattle.core_world.proofs.Flights.{other_number, same_number}
+use Rattle.core_world.proofs.Lives.{its_node, on_node, said_keeps}
+use Rattle.core_world.proofs.Loads.{list_keeps, load_keeps}
+use Rattle.core_world.proofs.Truths.{due_drawn, flies_there, pin_there, time_known}
+use Rattle.oak_port.specs.declared.task.StepOut.{StepOut}
+use Rattle.oak_port.specs.declared.task.Task.{Task}
+use Rattle.oak_port.specs.declared.task.Task.TheVariants as task
+use Rattle.oak_port.specs.Ports.{Answers, Beside, Idle, Makes as Tells, MayBegin, Seat, Starting, Steps as StepSeen, Waits, Work as Shows}
+use Rattle.oak_world.specs.declared.actor.Work.{Work}
+use Rattle.oak_world.specs.declared.actor.Work.TheVariants as work
+use Rattle.oak_world.specs.Kept.{IsAtWork, IsWorld, May}
+use Rattle.oak_world.specs.Parts.{CanCommit, CanMove, CanStep, needed}
+use Rattle.oak_world.specs.Seen.{no_seat, seat_of, shown_at, shown_by, shown_work}
+use Rattle.oak_world.specs.Steps.{Begins, HasCome, IsIdle, StepsIn, kind_due, kind_of}
+use Rattle.oak_world.specs.Worlds.{ActorState, WorldOf, actor_in, node_in, reading_of, running_as, running_of, said_in, state_of, state_with, with_reply, with_work, work_in}
+use Rattle.oak_world.proofs.States.{actor_other, actor_set, session_same, session_set}
+use Rattle.oak_world.proofs.Stages.{done_stage}
+use Rattle.oak_world.proofs.Staying.{may_last}
+use Rattle.oak_world.proofs.Walking.{IsStepOf, any_step}
 
--- ---- the pin
+-- ---- the seats of the others
 
--- a pin tells that the session is there, and its base
-pub record IsPinned (past : Past) (pin : Pin) : Type 0 where
-  pub login : has_login past 0 ≡ true
-  pub stays : has_left past 0 ≡ false
-  pub base : base_of past 0 ≡ Some pin.base
-  pub sweep : pin.sweep ≡ start 1
+seats_same : {X Y : Type 0} (f : X → Y) (xs : List X) (s : ℕ) (a : X) (d : Y) → slice_set (map f (slice_set xs s a)) s d ≡ slice_set (map f xs) s d
+seats_same f [] s a d = refl
+seats_same f (x ∷ xs) zero a d = refl
+seats_same f (x ∷ xs) (suc s) a d = ap (λ ys. f x ∷ ys) (seats_same f xs s a d)
 
-pub pinned_is : (past : Past) (pin : Pin) → session_pin past ≡ Some pin → IsPinned past pin
-pinned_is past pin h = by (has_login past 0) (has_left past 0) (base_of past 0) refl refl refl h
+-- ---- one session does something else
+
+module _ {L : Type 0} (w : WorldOf L) (s : ℕ) (seat : s < length w.actors) where
+  -- what the session does, where that is set
+  pub set_is : (actors : List ActorState) (a : ActorState) → actors ≡ slice_set w.actors s a → actor_in actors s ≡ a
+  set_is actors a same = ap (λ (xs : List ActorState). actor_in xs s) same ∙ actor_set w.actors s a seat
+
+  others_are : (actors : List ActorState) (a : ActorState) → actors ≡ slice_set w.actors s a → (q : ℕ) → (q == s) ≡ false → actor_in actors q ≡ actor_in w.actors q
+  others_are actors a same q apart = ap (λ (xs : List ActorState). actor_in xs q) same ∙ actor_other w.actors s a q apart
+
+  -- the seats of the others stay
+  beside_same : (name : GName) (v : WorldOf L) (a : ActorState) → v.actors ≡ slice_set w.actors s a → (shown_at name v s).beside ≡ (shown_at name w s).beside
+  beside_same name v a same = ap {B = Beside} (λ (xs : List Seat). record { name = name; seats = Some xs }) (ap (λ (xs : List ActorState). slice_set (map seat_of xs) s no_seat) same ∙ seats_same seat_of w.actors s a no_seat)
+
+  -- what a port tells of a call that adds no event
+  pub waits : (starts : Starts) (says : Says) → IsRun starts says w.history → (name : GName) (v : WorldOf L) (a : ActorState) → v.history ≡ w.history → v.actors ≡ slice_set w.actors s a
+      → (x : Shows) → shown_work a.work ≡ x → (room : Option ℕ) → a.reply ≡ room → (x ≡ shown_work (work_in w.actors s) → kind_due a.work ≡ kind_due (work_in w.actors s)) → Waits starts says (shown_at name w s) (shown_at name v s) x room
+  waits starts says run name v a same actors x shown room reply due = record {
+    others = [];
+    grows = record { grown = same; theirs = refl; run = subst (λ (h : History). IsRun starts says h) (sym same) run };
+    session = refl;
+    work_is = ap (λ (b : ActorState). shown_work b.work) (set_is v.actors a actors) ∙ shown;
+    room_is = ap (λ (b : ActorState). b.reply) (set_is v.actors a actors) ∙ reply;
+    same_due = λ k. ap (λ (b : ActorState). kind_due b.work) (set_is v.actors a actors) ∙ due k;
+    beside = beside_same name v a actors;
+    alone = refl;
+  }
+
+-- what is told where nothing changes
+pub still_waits : (starts : Starts) (says : Says) {L : Type 0} (w : WorldOf L) (s : ℕ) (name : GName) → IsRun starts says w.history → Waits starts says (shown_at name w s) (shown_at name w s) (shown_work (work_in w.actors s)) (actor_in w.actors s).reply
+still_waits starts says w s name run = record {
+  others = [];
+  grows = record { grown = refl; theirs = refl; run = run };
+  session = refl;
+  work_is = refl;
+  room_is = refl;
+  same_due = λ k. refl;
+  beside = refl;
+  alone = refl;
+}
+
+-- a session that is shown to do nothing does nothing
+pub idle_shown : (v : Work) → shown_work v ≡ Idle → v ≡ work.Rest
+idle_shown work.Rest h = refl
+idle_shown work.Login h = cc
+idle_shown work.End h = cc
+idle_shown work.Refresh h = cc
+idle_shown (work.Read r) h = cc
+idle_shown (work.Plan edit marks) h = cc
+idle_shown (work.Commit c) h = absurd (by c.outcome h)
   where
-    by : (a b : Bool) (o : Option RevVec) → has_login past 0 ≡ a → has_left past 0 ≡ b → base_of past 0 ≡ o → cond (a && not b) (option_map (λ v. record { base = v; sweep = start 1 }) o) None ≡ Some pin → IsPinned past pin
-    by false b o l m n k = absurd (false≢true (ap is_some k))
-    by true true o l m n k = absurd (false≢true (ap is_some k))
-    by true false None l m n k = absurd (false≢true (ap is_some k))
-    by true false (Some v) l m n k = let e = ap (λ p. unwrap_or p pin) k in record { login = l; stays = m; base = n ∙ ap (λ (p : Pin). Some p.base) e; sweep = ap (λ (p : Pin). p.sweep) (sym e) }
+    by : (o : Option CommitEnd) → shown_by c.revision o ≡ Idle → ⊥
+    by None k = cc
+    by (Some (end.Committed r)) k = cc
+    by (Some (end.Clash item r)) k = cc
+    by (Some end.Memory) k = cc
+idle_shown (work.Move r) h = cc
 
-pub session_pinned : (past : Past) (v : RevVec) → has_login past 0 ≡ true → has_left past 0 ≡ false → base_of past 0 ≡ Some v → session_pin past ≡ Some (record { base = v; sweep = start 1 })
-session_pinned past v l m b =
-    ap (λ a. cond (a && not (has_left past 0)) (option_map (λ v. record { base = v; sweep = start 1 }) (base_of past 0)) None) l
-    ∙ (ap (λ a. cond (not a) (option_map (λ v. record { base = v; sweep = start 1 }) (base_of past 0)) None) m
-    ∙ ap (option_map (λ v. record { base = v; sweep = start 1 })) b)
+-- what is due of a commit that hasn't ended
+staged : (c : Committing) → c.ended ≡ false → (x : Stage) → stage_of c ≡ x → is_some (kind_of x) ≡ true
+staged c unended stage.Mark e = refl
+staged c unended stage.Write e = refl
+staged c unended stage.Last e = refl
+staged c unended stage.Undo e = refl
+staged c unended stage.Finish e = refl
+staged c unended stage.Done e = let k = done_stage c e in cc
 
-pin_put : (pins : List (ℕ × Pin)) (pin : Pin) → lookup (is_at (nat_cmp 0)) (insert_entry nat_cmp pins 0 pin) ≡ Some pin
-pin_put pins pin = lookup-insert_entry nat_cmp nat_cmp_total 0 0 pin pins
+-- a step is due of each session that does something
+pub busy_due : (starts : Starts) (h : History) (s : ℕ) (v : Work) → May starts h s v → (is_some (kind_due v) ≡ true) ↔ (v ≢ work.Rest)
+busy_due starts h s work.Rest may = (λ k e. absurd (false≢true k), λ busy. absurd (busy refl))
+busy_due starts h s work.Login may = (λ k e. cc, λ busy. refl)
+busy_due starts h s work.End may = (λ k e. cc, λ busy. refl)
+busy_due starts h s work.Refresh may = (λ k e. cc, λ busy. refl)
+busy_due starts h s (work.Read r) may = (λ k e. cc, λ busy. refl)
+busy_due starts h s (work.Plan edit marks) may = (λ k e. cc, λ busy. refl)
+busy_due starts h s (work.Commit c) may = (λ k e. cc, λ busy. staged c may.unended (stage_of c) refl)
+busy_due starts h s (work.Move r) may = (λ k e. cc, λ busy. refl)
 
-alone_put : (pins : List (ℕ × Pin)) (pin : Pin) → IsAlone pins → IsAlone (insert_entry nat_cmp pins 0 pin)
-alone_put [] pin h = (refl, refl)
-alone_put (e ∷ es) pin h = subst (λ (k : ℕ). IsAlone (match_ordering (nat_cmp 0 k) ((0, pin) ∷ e ∷ es) ((k, pin) ∷ es) (e ∷ insert_entry nat_cmp es 0 pin))) (sym h.0) (refl, h.1)
+-- a task that begins
+pub begins_shown : (pin : Option Pin) (t : Task) (v : Work) → Begins pin t v → shown_work v ≡ Starting t
+begins_shown pin task.Login v h = ap shown_work h
+begins_shown pin task.End v h = ap shown_work h
+begins_shown pin task.Refresh v h = ap shown_work h
+begins_shown pin (task.Load p) v h = ap shown_work h.3
+begins_shown pin (task.List p) v h = ap shown_work h.3
+begins_shown pin (task.Commit edit marks) v h = ap shown_work h
 
-pub alone_removed : (pins : List (ℕ × Pin)) → IsAlone pins → remove_entry (is_at (nat_cmp 0)) pins ≡ []
-alone_removed [] h = refl
-alone_removed (e ∷ es) h = subst (λ (k : ℕ). cond (is_at (nat_cmp 0) k) es (e ∷ remove_entry (is_at (nat_cmp 0)) es) ≡ []) (sym h.0) h.1
+module _ (starts : Starts) (says : Says) (proper : StartsProper starts) (last : StartsLast starts says) {L : Type 0} (w : WorldOf L) (is : IsWorld starts says w) (s : ℕ) (there : is_some (slice_get w.history.sessions s) ≡ true) where
+  abbrev does : Work
+  does = work_in w.actors s
 
-module _ (starts : Starts) (says : Says) (proper : StartsProper starts) (sessions : List ℕ) where
-  -- the history
-  abbrev pub history : Past → History
-  history past = record { clusters = 1; sessions = sessions; past = past }
+  pub seat : s < length w.actors
+  seat =
+      let k : s < length w.history.sessions = slice_get_within w.history.sessions s (node_in w.history s) (on_node starts says proper (state_of w) is.kept s there) in
+      subst (λ n. s < n) (sym is.seats) k
 
-  module _ (past : Past) (table : Table) (t : ℕ) (pins : List (ℕ × Pin)) (notes : List Note) (kept : IsKept starts says sessions past table (resting t pins notes)) where
-    -- ---- login, a reply, and the session's end
+  -- what other sessions do, they may still do after events that aren't theirs
+  others_may : (q : ℕ) (own : Past) → AreOthers q own w.history.past → IsRun starts says (after own w.history) → May starts (after own w.history) q (work_in w.actors q)
+  others_may q own others run = may_last starts says last w.history is.kept.nodes is.kept.run q own run others (work_in w.actors q) (λ c at f i. due_drawn starts says proper (state_of w) is.kept q (running_as q c) (ap (running_of q) at) f i) (is.may q)
 
-    pub login_kept : has_login past 0 ≡ false → slice_get sessions 0 ≡ Some 1 → IsKept starts says sessions (event.Login 0 (head_at t) ∷ past) table (with_pin (resting t pins notes) 0 (pin_now (resting t pins notes)))
-    login_kept first on = record {
-      nodes = kept.nodes;
-      session = λ h. on;
-      run = (record { first = first; head = (1, on, sym (head_rest past t kept.rest)) }, kept.run);
-      rest = login_at_rest past t kept.rest (head_at t);
-      seen = λ w h. based past (head_at t) w (seen_committed past t kept.rest.committed) h;
-      node = refl;
-      pin = pin_put pins (pin_now (resting t pins notes)) ∙ sym (session_pinned (event.Login 0 (head_at t) ∷ past) (head_at t) refl here refl);
-      alone = alone_put pins (pin_now (resting t pins notes)) kept.alone;
-      holds = quiet_keeps (documents_in table.documents) past (event.Login 0 (head_at t)) refl kept.holds;
-      plain = kept.plain;
-      notes = kept.notes;
+  -- ---- what a step takes
+
+  come_pinned : HasCome w.history s → IsSome (pin_of (memory_of (state_of w) s) s)
+  come_pinned come = subst (λ (o : Option Pin). IsSome o) (sym (pin_there starts says proper (state_of w) is.kept s come.login come.stays).0) refl
+
+  on : slice_get w.history.sessions s ≡ Some (node_in w.history s)
+  on = on_node starts says proper (state_of w) is.kept s there
+
+  pub node : IsNode w.history.clusters (node_in w.history s)
+  node = its_node starts says proper (state_of w) is.kept s there
+
+  moved_ended : (r : Revision) → May starts w.history s (work.Move r) → HasEnded (memory_of (state_of w) s) r
+  moved_ended r may =
+      has_ended w.history.clusters w.history.sessions is.kept.nodes w.history.past (sound_run w.history.clusters w.history.sessions is.kept.nodes starts says w.history.past is.kept.run) (node_in w.history s) node (memory_of (state_of w) s) (is.kept.memories.memory (node_in w.history s) node) r
+      (let k : Some r.cluster ≡ Some (node_in w.history s) = sym may.2 ∙ on in cc)
+      (ended_was_drawn starts says w.history.clusters w.history.sessions w.history.past is.kept.run r may.1) may.1
+
+  can_by : (v : Work) → work_in w.actors s ≡ v → May starts w.history s v → (places : ℕ) → needed v ≤ places → length w.history.past < 2 ^ 63 → CanStep s (memory_of (state_of w) s) places v
+  can_by work.Rest at may places kept short = tt
+  can_by work.Login at may places kept short = tt
+  can_by work.End at may places kept short = tt
+  can_by work.Refresh at may places kept short = come_pinned may
+  can_by (work.Read r) at may places kept short = tt
+  can_by (work.Plan edit marks) at may places kept short = let t : known_time (memory_of (state_of w) s) ≤ length w.history.past = time_known starts says proper (state_of w) is.kept (node_in w.history s) node in omega arith
+  can_by (work.Commit c) at may places kept short = record { flying = flies_there starts says proper (state_of w) is.kept s (running_as s c) (ap (running_of s) at); unended = may.unended; kept = kept }
+  can_by (work.Move r) at may places kept short = record { ended = moved_ended r may; pinned = come_pinned may.0; place = kept }
+
+  pub can_step : (places : ℕ) → needed (work_in w.actors s) ≤ places → length w.history.past < 2 ^ 63 → CanStep s (memory_of (state_of w) s) places (work_in w.actors s)
+  can_step = can_by (work_in w.actors s) refl (is.may s)
+
+  -- ---- a step
+
+  module _ (u : WorldOf L) (o : StepOut) (m : StepsIn w s u o) where
+    step_is : IsStepOf starts says s (state_of w) (work_in w.actors s) (state_of u) m.does o
+    step_is = any_step starts says proper (state_of w) is.kept s there is.table (work_in w.actors s) refl refl (is.may s) (state_of u) m.does o m.makes
+
+    grown : u.history ≡ after step_is.own w.history
+    grown = step_is.grown
+
+    run_now : IsRun starts says (after step_is.own w.history)
+    run_now = subst (λ (h : History). IsRun starts says h) grown step_is.kept.run
+
+    does_now : work_in u.actors s ≡ m.does
+    does_now = ap (λ (a : ActorState). a.work) (set_is w s seat u.actors _ m.actors)
+
+    may_by : (q : ℕ) (b : Bool) → (q == s) ≡ b → May starts u.history q (work_in u.actors q)
+    may_by q true same = subst (λ (n : ℕ). May starts u.history n (work_in u.actors n)) (sym (same_number q s same))
+        (subst (λ (h : History). May starts h s (work_in u.actors s)) (sym grown) (subst (λ (v : Work). May starts (after step_is.own w.history) s v) (sym does_now) step_is.may))
+    may_by q false apart = subst (λ (h : History). May starts h q (work_in u.actors q)) (sym grown)
+        (subst (λ (v : Work). May starts (after step_is.own w.history) q v) (sym (ap (λ (a : ActorState). a.work) (others_are w s seat u.actors _ m.actors q apart))) (others_may q step_is.own (step_is.apart q apart) run_now))
+
+    pub step_keeps : IsTable u.table.documents → IsWorld starts says u
+    step_keeps table = record {
+      kept = step_is.kept;
+      table = table;
+      seats = ap length m.actors ∙ (length-set w.actors s _ ∙ (is.seats ∙ sym (ap (λ (h : History). length h.sessions) grown)));
+      may = λ q. may_by q (q == s) refl;
     }
-      where
-        by : (b : Bool) → has_left past 0 ≡ b → b ≡ false
-        by false h = refl
-        by true h = absurd (false≢true (sym first ∙ kept.rest.upto.left h))
 
-        here : has_left past 0 ≡ false
-        here = by (has_left past 0) refl
-
-    pub said_kept : (i : ℕ) (text : Text) → i ≡ next_index past 0 → says (history past) 0 i text → IsKept starts says sessions (event.Said 0 i text ∷ past) table (resting t pins notes)
-    said_kept i text next lawful = record {
-      nodes = kept.nodes;
-      session = kept.session;
-      run = ((next, lawful), kept.run);
-      rest = said_at_rest past t kept.rest 0 i text;
-      seen = kept.seen;
-      node = refl;
-      pin = kept.pin;
-      alone = kept.alone;
-      holds = quiet_keeps (documents_in table.documents) past (event.Said 0 i text) refl kept.holds;
-      plain = kept.plain;
-      notes = kept.notes;
+    pub step_seen : (name : GName) → StepSeen starts says (shown_at name w s) (shown_at name u s) o
+    step_seen name = record {
+      others = [];
+      own = step_is.own;
+      grows = record { grown = grown; theirs = refl; run = step_is.kept.run };
+      makes = subst (λ (v : Work). Tells w.history s (shown_work (work_in w.actors s)) o step_is.own (shown_work v)) (sym does_now) step_is.tells;
+      of_step = step_is.of_step;
+      as_due = step_is.as_due;
+      session = refl;
+      room = ap (λ (a : ActorState). a.reply) (set_is w s seat u.actors _ m.actors);
+      beside = beside_same w s seat name u _ m.actors;
+      alone = refl;
     }
 
-    pub end_kept : (pin : Pin) → lookup (is_at (nat_cmp 0)) pins ≡ Some pin → IsKept starts says sessions (event.Went 0 kind.End ∷ past) table (without_pin (resting t pins notes) 0)
-    end_kept pin has =
-        let p = pinned_is past pin (sym kept.pin ∙ has) in record {
-          nodes = kept.nodes;
-          session = λ h. kept.session p.login;
-          run = ((p.login, p.stays), kept.run);
-          rest = went_at_rest past t kept.rest kind.End p.login;
-          seen = kept.seen;
-          node = refl;
-          pin = ap (λ (ps : List (ℕ × Pin)). lookup (is_at (nat_cmp 0)) ps) (alone_removed pins kept.alone) ∙ sym (ap (λ b. cond (b && false) (option_map (λ (v : RevVec). record { base = v; sweep = start 1 }) (base_of past 0)) None) p.login);
-          alone = subst IsAlone (sym (alone_removed pins kept.alone)) tt;
-          holds = quiet_keeps (documents_in table.documents) past (event.Went 0 kind.End) refl kept.holds;
-          plain = kept.plain;
-          notes = kept.notes;
-        }
+  -- ---- other calls
 
-    -- ---- the base moves
+  -- a session does something else, and no event is added
+  set_keeps : (a : ActorState) → IsKept starts says (state_with w.history w.table w.memories (slice_set w.actors s a)) → May starts w.history s a.work → IsWorld starts says (record w { actors = slice_set w.actors s a })
+  set_keeps a kept may = record {
+    kept = kept;
+    table = is.table;
+    seats = length-set w.actors s a ∙ is.seats;
+    may = λ q. by q (q == s) refl;
+  }
+    where
+      by : (q : ℕ) (b : Bool) → (q == s) ≡ b → May starts w.history q (work_in (slice_set w.actors s a) q)
+      by q true same = subst (λ (n : ℕ). May starts w.history n (work_in (slice_set w.actors s a) n)) (sym (same_number q s same)) (subst (λ (b : ActorState). May starts w.history s b.work) (sym (set_is w s seat (slice_set w.actors s a) a refl)) may)
+      by q false apart = subst (λ (b : ActorState). May starts w.history q b.work) (sym (others_are w s seat (slice_set w.actors s a) a refl q apart)) (is.may q)
 
-    pub refresh_kept : (pin : Pin) → lookup (is_at (nat_cmp 0)) pins ≡ Some pin → IsKept starts says sessions (event.Refresh 0 (head_at t) ∷ past) table (with_pin (resting t pins notes) 0 (pin_now (resting t pins notes)))
-    refresh_kept pin has =
-        let p = pinned_is past pin (sym kept.pin ∙ has) in record {
-          nodes = kept.nodes;
-          session = λ h. kept.session p.login;
-          run = (record { login = p.login; idle = kept.rest.drawing past (λ q h. h); head = (1, kept.session p.login, sym (head_rest past t kept.rest)) }, kept.run);
-          rest = refresh_at_rest past t kept.rest (head_at t);
-          seen = λ w h. based past (head_at t) w (seen_committed past t kept.rest.committed) h;
-          node = refl;
-          pin = pin_put pins (pin_now (resting t pins notes)) ∙ sym (session_pinned (event.Refresh 0 (head_at t) ∷ past) (head_at t) p.login p.stays refl);
-          alone = alone_put pins (pin_now (resting t pins notes)) kept.alone;
-          holds = quiet_keeps (documents_in table.documents) past (event.Refresh 0 (head_at t)) refl kept.holds;
-          plain = kept.plain;
-          notes = kept.notes;
-        }
+  -- the state, where the session does this
+  set_state : (a : ActorState) → state_with w.history w.table w.memories (slice_set w.actors s a) ≡ record (state_of w) { running = with_session (state_of w).running s (running_of s a.work); reading = with_session (state_of w).reading s (reading_of a.work) }
+  set_state a =
+      ap (λ (f : ℕ → Option Running). record (state_with w.history w.table w.memories (slice_set w.actors s a)) { running = f }) (session_set running_of w.actors s a seat)
+      ∙ ap (λ (f : ℕ → Option Reader). record (state_of w) { running = with_session (state_of w).running s (running_of s a.work); reading = f }) (session_set (λ q v. reading_of v) w.actors s a seat)
 
-    -- ---- the draw of a commit
+  -- where it has the committer that it had, the state has its reader now
+  reader_state : (a : ActorState) → running_of s (work_in w.actors s) ≡ running_of s a.work → state_with w.history w.table w.memories (slice_set w.actors s a) ≡ with_reader (state_of w) s (reading_of a.work)
+  reader_state a running =
+      set_state a
+      ∙ ap (λ (f : ℕ → Option Running). record (state_of w) { running = f; reading = with_session (state_of w).reading s (reading_of a.work) }) (session_same (state_of w).running s (running_of s a.work) running)
 
-    module _ (v : RevVec) (edit : Edit) (marks : List MarkAt) (login : has_login past 0 ≡ true) (stays : has_left past 0 ≡ false) (base : base_of past 0 ≡ Some v) (lawful : starts (history past) 0 edit marks) where
-      abbrev r : Revision
-      r = revision_at (t + 1)
+  same_state : (a : ActorState) → running_of s (work_in w.actors s) ≡ running_of s a.work → reading_of (work_in w.actors s) ≡ reading_of a.work → state_with w.history w.table w.memories (slice_set w.actors s a) ≡ state_of w
+  same_state a running reading = reader_state a running ∙ ap (λ (f : ℕ → Option Reader). record (state_of w) { reading = f }) (session_same (state_of w).reading s (reading_of a.work) reading)
 
-      abbrev d : Draw
-      d = draw_at t v edit marks
+  pub reply_keeps : (room : Option ℕ) → IsWorld starts says (with_reply w s room)
+  reply_keeps room = set_keeps (record (actor_in w.actors s) { reply = room }) (subst (λ (t : State). IsKept starts says t) (sym (same_state (record (actor_in w.actors s) { reply = room }) refl refl)) is.kept) (is.may s)
 
-      abbrev ds : DocId → Option Rattle.oak_doc.specs.declared.document.Document.Document
-      ds = documents_in table.documents
+  module _ (idle : work_in w.actors s ≡ work.Rest) where
+    abbrev begun : Work → ActorState
+    begun v = record (actor_in w.actors s) { work = v; began = length w.history.past }
 
-      may_draw : MayDraw starts (history past) d
-      may_draw = record {
-        login = login;
-        detached = kept.rest.upto.detached;
-        idle = kept.rest.drawing past (λ q h. h);
-        base = base;
-        cluster = kept.session login;
-        next = sym (next_rest past t kept.rest);
-        lawful = lawful;
-      }
+    -- a task that reads nothing
+    quiet_keeps : (v : Work) → running_of s v ≡ None → reading_of v ≡ None → May starts w.history s v → IsWorld starts says (with_work w s v)
+    quiet_keeps v running reading may = set_keeps (begun v) (subst (λ (t : State). IsKept starts says t) (sym (same_state (begun v) (ap (running_of s) idle ∙ sym running) (ap reading_of idle ∙ sym reading))) is.kept) may
 
-      run_drawn : IsRunOf starts says 1 sessions (event.Draw d ∷ past)
-      run_drawn = (may_draw, kept.run)
+    reads_keeps : (r : Reader) → IsKept starts says (with_reader (state_of w) s (Some r)) → HasCome w.history s → IsWorld starts says (with_work w s (work.Read r))
+    reads_keeps r kept come = set_keeps (begun (work.Read r)) (subst (λ (t : State). IsKept starts says t) (sym (reader_state (begun (work.Read r)) (ap (running_of s) idle))) kept) come
 
-      told : IsTold past
-      told = told_past 1 sessions kept.nodes starts says proper past kept.run
+    pub start_keeps : (t : Task) (v : Work) → MayBegin starts w.history s t → Begins (pin_of (memory_of (state_of w) s) s) t v → IsWorld starts says (with_work w s v)
+    start_keeps task.Login v may h = subst (λ (x : Work). IsWorld starts says (with_work w s x)) (sym h) (quiet_keeps work.Login refl refl may)
+    start_keeps task.End v may h = subst (λ (x : Work). IsWorld starts says (with_work w s x)) (sym h) (quiet_keeps work.End refl refl (record { login = may.0; stays = may.1 }))
+    start_keeps task.Refresh v may h = subst (λ (x : Work). IsWorld starts says (with_work w s x)) (sym h) (quiet_keeps work.Refresh refl refl (record { login = may.0; stays = may.1 }))
+    start_keeps (task.Load p) v may h = subst (λ (x : Work). IsWorld starts says (with_work w s x)) (sym h.3) (reads_keeps (node_reader h.0 h.1 p) (load_keeps starts says proper (state_of w) is.kept s there h.0 h.1 p h.2) (record { login = may.0; stays = may.1 }))
+    start_keeps (task.List p) v may h = subst (λ (x : Work). IsWorld starts says (with_work w s x)) (sym h.3) (reads_keeps (children_reader h.0 h.1 p) (list_keeps starts says proper (state_of w) is.kept s there h.0 h.1 p h.2) (record { login = may.0; stays = may.1 }))
+    start_keeps (task.Commit edit marks) v may h = subst (λ (x : Work). IsWorld starts says (with_work w s x)) (sym h) (quiet_keeps (work.Plan edit marks) refl refl (record { login = may.0; stays = may.1 }, may.3))
 
-      -- no draw is in flight, so each that isn't committed has nothing written
-      idle_world : IsWorld ds past (λ q p. false)
-      idle_world = record {
-        holds = kept.holds;
-        told = told;
-        partly = λ q e drawn none. record {
-          written_ = λ p h. absurd (false≢true h);
-          left = λ p h. record { node = kept.holds.no_node p q none (kept.rest.grounded q); prop = λ n. kept.holds.no_prop p n q none (kept.rest.grounded q); root = kept.holds.no_root p q none (kept.rest.grounded q) };
-        };
-      }
+    -- a reply is said
+    module _ (i : ℕ) (text : Text) (next : i ≡ next_index w.history.past s) (lawful : says w.history s i text) where
+      abbrev said : Event
+      said = event.Said s i text
 
-      not_true : (b : Bool) → (b ≡ true → ⊥) → b ≡ false
-      not_true true h = absurd (h refl)
-      not_true false h = refl
-
-      fresh : is_committed past r ≡ false
-      fresh = not_true (is_committed past r) (λ h. let k = at_most_time r (revision_at t) (kept.rest.committed r h).1 in omega arith)
-
-      chosen_false : (b : Bool) → cond b false false ≡ false
-      chosen_false true = refl
-      chosen_false false = refl
-
-      pub drawn_writing : IsWriting starts says sessions t v edit marks (event.Draw d ∷ past) table (λ p. false)
-      drawn_writing = record {
-        run = run_drawn;
-        flight = draw_flight past t v edit marks kept.rest login stays base;
-        progress = with_progress (λ q p. false) r (λ p. false);
-        readable = world_draw ds past (λ q p. false) idle_world d (fresh_run 1 sessions kept.nodes starts says d past run_drawn).fresh (no_edit past r (time_before Rattle.core_read.specs.Holds.the_start r (omega arith)) fresh) (told_past 1 sessions kept.nodes starts says proper (event.Draw d ∷ past) run_drawn);
-        does = λ p. chosen_false (is_same r r);
-        fresh = fresh;
-        committed = kept.rest.committed;
-        seen = kept.seen v base;
-        stands = λ p h. absurd (false≢true h);
-        plain = kept.plain;
-        others = λ p e q is other none. kept.notes p e q is none (kept.rest.grounded q);
-        own = λ p e is h. kept.notes p e r is (no_edit past r (time_before Rattle.core_read.specs.Holds.the_start r (omega arith)) fresh) (kept.rest.grounded r);
-      }
-
-      -- ---- a commit that comes to its end
-
-      abbrev ids : List DocId
-      ids = written_ids marks
-
-      written_all : (n : ℕ) → HasWritten starts says sessions t v edit marks (take n ids) (added (steps_of kind.Write (take n ids)) (event.Draw d ∷ past)) (after_writes r (plan_of edit marks) table (take n ids)) (λ p. false)
-      written_all n = all_written starts says sessions t v edit marks (plan_of edit marks) refl refl (take n ids) (take_each (IsMarked marks) n ids (ids_marked marks)) (take_distinct n ids (ids_distinct marks)) (event.Draw d ∷ past) table (λ p. false) drawn_writing (λ p h. refl)
-
-      written_ids_all : HasWritten starts says sessions t v edit marks ids (added (steps_of kind.Write ids) (event.Draw d ∷ past)) (after_writes r (plan_of edit marks) table ids) (λ p. false)
-      written_ids_all = all_written starts says sessions t v edit marks (plan_of edit marks) refl refl ids (ids_marked marks) (ids_distinct marks) (event.Draw d ∷ past) table (λ p. false) drawn_writing (λ p h. refl)
-
-      abbrev written_past : Past
-      written_past = added (steps_of kind.Write ids) (event.Draw d ∷ past)
-
-      abbrev last_table : Table
-      last_table = after_update (after_writes r (plan_of edit marks) table ids) (last_op r marks)
-
-      committed_last : HasCommitted starts says sessions t v edit marks (event.Commit r ∷ written_past) last_table
-      committed_last = last_written starts says sessions t v edit marks written_past (after_writes r (plan_of edit marks) table ids) written_ids_all.now written_ids_all.writing
-          (λ p h. written_ids_all.are.written_ p (covered_in marks edit.writes (written_ids_all.writing.readable.told.draws r d written_ids_all.writing.flight.drawn).covers p h))
-
-      -- what is committed then is r, or was before
-      committed_now : (q : Revision) → is_committed (event.Commit r ∷ written_past) q ≡ true → (q ≡ r) ⊎ (is_committed written_past q ≡ true)
-      committed_now q h = by (is_same q r) refl h
+      said_others : (q : ℕ) → (q == s) ≡ false → AreOthers q (said ∷ []) w.history.past
+      said_others q apart = by (s == q) refl
         where
-          by : (b : Bool) → is_same q r ≡ b → (b || is_committed written_past q) ≡ true → (q ≡ r) ⊎ (is_committed written_past q ≡ true)
-          by true k h = inl (Rattle.core_read.proofs.Latest.same_revision q r k)
-          by false k h = inr h
+          by : (b : Bool) → (s == q) ≡ b → (b || false) ≡ false
+          by true same = absurd (other_number q s apart (sym (same_number s q same)))
+          by false k = refl
 
-      are_committed : Rattle.oak_world.specs.Kept.AreCommitted (event.Commit r ∷ written_past) (t + 1)
-      are_committed q h = elim (committed_now q h) [
-        | inl e ↦ (ap (λ (x : Revision). x.cluster) e, Rattle.core_read.proofs.Latest.at_most_itself q r e)
-        | inr k ↦ later_committed written_past t written_ids_all.writing.committed q k
-      ]
+      kept_said : IsKept starts says (after_said (state_of w) s i text)
+      kept_said = said_keeps starts says proper (state_of w) is.kept s i text next lawful
 
-      abbrev ended_past : Past
-      ended_past = event.End r ∷ event.Commit r ∷ written_past
+      said_state : state_of (said_in w s i text) ≡ after_said (state_of w) s i text
+      said_state = ap (λ (t : State). record t { past = said ∷ w.history.past }) (same_state (record (actor_in w.actors s) { reply = None }) refl refl)
 
-      abbrev end_past : Past
-      end_past = event.End r ∷ event.Commit r ∷ written_past
-
-      end_rest : IsAtRest end_past (t + 1)
-      end_rest = end_flight (event.Commit r ∷ written_past) t v edit marks committed_last.flight are_committed
-
-      abbrev save_past : Past
-      save_past = event.Refresh 0 (head_at (t + 1)) ∷ event.Head 1 (head_at (t + 1)) ∷ end_past
-
-      head_rest_now : IsAtRest (event.Head 1 (head_at (t + 1)) ∷ end_past) (t + 1)
-      head_rest_now = head_at_rest end_past (t + 1) end_rest 1 (head_at (t + 1))
-
-      -- r is committed, so its end leaves nothing to undo
-      end_world : IsWorld (documents_in last_table.documents) end_past committed_last.progress
-      end_world = world_end (documents_in last_table.documents) (event.Commit r ∷ written_past) committed_last.progress committed_last.readable r d committed_last.flight.drawn
-          (λ none p. absurd (false≢true (sym (still_none written_past r d (no_edit written_past r (time_before Rattle.core_read.specs.Holds.the_start r (omega arith)) written_ids_all.writing.fresh) (time_before Rattle.core_read.specs.Holds.the_start r (omega arith)) written_ids_all.writing.flight.drawn r none).0 ∙ same_itself r)))
-
-      pub save_kept : (more : List Note) → IsKept starts says sessions save_past last_table (with_pin (resting (t + 1) pins more) 0 (pin_now (resting (t + 1) pins more)))
-      save_kept more = record {
-        nodes = kept.nodes;
-        session = λ h. kept.session login;
-        run = (
-          record { login = committed_last.flight.login; idle = head_rest_now.drawing (event.Head 1 (head_at (t + 1)) ∷ end_past) (λ q h. h); head = (1, kept.session login, sym (head_rest (event.Head 1 (head_at (t + 1)) ∷ end_past) (t + 1) head_rest_now)) },
-          (sym (head_rest end_past (t + 1) end_rest), (flying_draw (event.Commit r ∷ written_past) t v edit marks committed_last.flight, committed_last.run)),
-        );
-        rest = refresh_at_rest (event.Head 1 (head_at (t + 1)) ∷ end_past) (t + 1) head_rest_now (head_at (t + 1));
-        seen = λ w h. based end_past (head_at (t + 1)) w (seen_committed end_past (t + 1) are_committed) h;
-        node = refl;
-        pin = pin_put pins (pin_now (resting (t + 1) pins more)) ∙ sym (session_pinned save_past (head_at (t + 1)) committed_last.flight.login committed_last.flight.stays refl);
-        alone = alone_put pins (pin_now (resting (t + 1) pins more)) kept.alone;
-        holds = quiet_keeps (documents_in last_table.documents) (event.Head 1 (head_at (t + 1)) ∷ end_past) (event.Refresh 0 (head_at (t + 1))) refl (quiet_keeps (documents_in last_table.documents) end_past (event.Head 1 (head_at (t + 1))) refl end_world.holds);
-        plain = committed_last.plain;
-        notes = λ p e q is none grounded. committed_last.notes p e q is none;
+      pub said_keep : IsWorld starts says (said_in w s i text)
+      said_keep = record {
+        kept = subst (λ (t : State). IsKept starts says t) (sym said_state) kept_said;
+        table = is.table;
+        seats = length-set w.actors s (record (actor_in w.actors s) { reply = None }) ∙ is.seats;
+        may = λ q. by q (q == s) refl;
       }
+        where
+          by : (q : ℕ) (b : Bool) → (q == s) ≡ b → May starts (after (said ∷ []) w.history) q (work_in (slice_set w.actors s (record (actor_in w.actors s) { reply = None })) q)
+          by q true same = subst (λ (n : ℕ). May starts (after (said ∷ []) w.history) n (work_in (slice_set w.actors s (record (actor_in w.actors s) { reply = None })) n)) (sym (same_number q s same))
+              (subst (λ (v : Work). May starts (after (said ∷ []) w.history) s v) (sym (ap (λ (a : ActorState). a.work) (set_is w s seat (slice_set w.actors s (record (actor_in w.actors s) { reply = None })) (record (actor_in w.actors s) { reply = None }) refl) ∙ idle)) tt)
+          by q false apart = subst (λ (a : ActorState). May starts (after (said ∷ []) w.history) q a.work) (sym (others_are w s seat (slice_set w.actors s (record (actor_in w.actors s) { reply = None })) (record (actor_in w.actors s) { reply = None }) refl q apart)) (others_may q (said ∷ []) (said_others q apart) kept_said.run)
 
-      -- ---- a commit that is called off
-
-      module _ (n : ℕ) where
-        abbrev some_ids : List DocId
-        some_ids = take n ids
-
-        abbrev undone_past : Past
-        undone_past = added (steps_of kind.Undo some_ids) (added (steps_of kind.Write some_ids) (event.Draw d ∷ past))
-
-        abbrev undone_table : Table
-        undone_table = after_undos r (after_writes r (plan_of edit marks) table some_ids) some_ids
-
-        in_some : (p : Path) → (false ≡ true) ⊎ IsIn (id.Node p) some_ids → IsIn (id.Node p) some_ids
-        in_some p (inl h) = absurd (false≢true h)
-        in_some p (inr h) = h
-
-        undone_all : HasUndone starts says sessions t v edit marks undone_past undone_table
-        undone_all = all_undone starts says sessions t v edit marks some_ids (take_each (IsMarked marks) n ids (ids_marked marks)) (take_distinct n ids (ids_distinct marks)) (added (steps_of kind.Write some_ids) (event.Draw d ∷ past)) (after_writes r (plan_of edit marks) table some_ids)
-            (written_all n).now (written_all n).writing (written_all n).are.written_ (λ p h. in_some p ((written_all n).are.just p h))
-
-        abbrev off_past : Past
-        off_past = event.Head 1 (head_at (t + 1)) ∷ event.End r ∷ undone_past
-
-        off_rest : IsAtRest (event.End r ∷ undone_past) (t + 1)
-        off_rest = end_flight undone_past t v edit marks undone_all.writing.flight (later_committed undone_past t undone_all.writing.committed)
-
-        off_world : IsWorld (documents_in undone_table.documents) (event.End r ∷ undone_past) undone_all.writing.progress
-        off_world = world_end (documents_in undone_table.documents) undone_past undone_all.writing.progress undone_all.writing.readable r d undone_all.writing.flight.drawn (λ none p. undone_all.writing.does p ∙ undone_all.none p)
-
-        un_noted : (p : Path) (e : Rattle.oak_doc.specs.declared.document.Document.Document) (q : Revision) → documents_in undone_table.documents (id.Node p) ≡ Some e → edit_of undone_past q ≡ None → (b : Bool) → is_same q r ≡ b → is_noted e q ≡ false
-        un_noted p e q is none true k = subst (λ (x : Revision). is_noted e x ≡ false) (sym (Rattle.core_read.proofs.Latest.same_revision q r k)) (undone_all.writing.own p e is (undone_all.none p))
-        un_noted p e q is none false k = undone_all.writing.others p e q is k none
-
-        pub off_kept : (pin : Pin) → lookup (is_at (nat_cmp 0)) pins ≡ Some pin → pin.base ≡ v → pin.sweep ≡ start 1 → (more : List Note) → IsKept starts says sessions off_past undone_table (resting (t + 1) pins more)
-        off_kept pin has is_base is_sweep more = record {
-          nodes = kept.nodes;
-          session = λ h. kept.session login;
-          run = (sym (head_rest (event.End r ∷ undone_past) (t + 1) off_rest), (flying_draw undone_past t v edit marks undone_all.writing.flight, undone_all.writing.run));
-          rest = head_at_rest (event.End r ∷ undone_past) (t + 1) off_rest 1 (head_at (t + 1));
-          seen = λ w h. based undone_past v w undone_all.writing.seen (sym undone_all.writing.flight.base ∙ h);
-          node = refl;
-          pin = has ∙ (ap (λ (w : RevVec). Some (record { base = w; sweep = pin.sweep })) is_base ∙ (ap (λ (w : RevVec). Some (record { base = v; sweep = w })) is_sweep ∙ sym (session_pinned off_past v undone_all.writing.flight.login undone_all.writing.flight.stays undone_all.writing.flight.base)));
-          alone = kept.alone;
-          holds = quiet_keeps (documents_in undone_table.documents) (event.End r ∷ undone_past) (event.Head 1 (head_at (t + 1))) refl off_world.holds;
-          plain = undone_all.writing.plain;
-          notes = λ p e q is none grounded. un_noted p e q is none (is_same q r) refl;
-        }
+-- what a port tells of a reply
+pub answers_shown : (starts : Starts) (says : Says) {L : Type 0} (w : WorldOf L) (s : ℕ) (seat : s < length w.actors) (idle : work_in w.actors s ≡ work.Rest) (name : GName) (i : ℕ) (text : Text) → IsRun starts says (said_in w s i text).history → Answers starts says (shown_at name w s) (shown_at name (said_in w s i text) s) i text
+answers_shown starts says w s seat idle name i text run = record {
+  others = [];
+  grows = record { grown = refl; theirs = refl; run = run };
+  session = refl;
+  work = ap (λ (a : ActorState). shown_work a.work) (set_is w s seat (said_in w s i text).actors (record (actor_in w.actors s) { reply = None }) refl) ∙ ap shown_work idle;
+  room = ap (λ (a : ActorState). a.reply) (set_is w s seat (said_in w s i text).actors (record (actor_in w.actors s) { reply = None }) refl);
+  beside = beside_same w s seat name (said_in w s i text) (record (actor_in w.actors s) { reply = None }) refl;
+  alone = refl;
+}

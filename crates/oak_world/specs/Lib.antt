@@ -1,3 +1,6 @@
-pub mod Commits
-pub mod Kept
+pub mod Rooms
+pub mod Parts
 pub mod Worlds
+pub mod Steps
+pub mod Kept
+pub mod Seen

@@ -1,109 +1,138 @@
--- What contracts see of a world, and the world before any step.
-use Rattle.std.specs.Prelude.{◌≡◌, ◌<◌, ◌≤◌, ℕ, Bool, true, IsTrue, cond, ◌==◌, List, [], ◌∷◌, ◌++◌, length, false, Option, Some, None, codes, vec_capacity}
-use Rattle.std.specs.Map.{keys_of}
-use Rattle.std.specs.Option.{option_and_then, option_map_or}
-use Rattle.jr_path.specs.declared.path.Path.{Path}
-use Rattle.jr_path.specs.declared.name.Name.{Name}
-use Rattle.jr_path.specs.declared.path.DocId.TheVariants as id
-use Rattle.jr_rev.specs.Vectors.{start, start_of}
-use Rattle.jr_value.specs.declared.value.Property.{Property}
-use Rattle.jr_value.specs.declared.value.Property.TheVariants.{Single}
-use Rattle.jr_value.specs.declared.value.Value.TheVariants as value
-use Rattle.oak_doc.specs.declared.document.Document.{Document}
-use Rattle.oak_doc.specs.Updates.{document_of}
-use Rattle.std.specs.declared.vec.Vec.{Vec}
-use Rattle.std.specs.declared.alloc.Global.{Global}
+-- What contracts see of a world.
+use Rattle.std.specs.Prelude.{◌-◌, ℕ, List, [], ◌∷◌, length, map, reverse, slice_get, slice_set, Option, Some, None}
+use Rattle.std.specs.Option.{unwrap_or}
+use Rattle.std.specs.List.{range_with_len}
+use Rattle.jr_path.specs.declared.text.Text.{Text}
+use Rattle.jr_rev.specs.Vectors.{start}
+use Rattle.oak_commit.specs.Committing.{Committing, is_past}
+use Rattle.oak_commit.specs.Kept.{undoes, wants}
 use Rattle.oak_machine.specs.declared.event.Event.{Event}
 use Rattle.oak_machine.specs.declared.event.Event.TheVariants as event
 use Rattle.oak_machine.specs.declared.event.Journal.{Journal}
-use Rattle.oak_node.specs.Heads.{known_time}
-use Rattle.oak_node.specs.Memory.{NodeState}
-use Rattle.oak_node.specs.Pins.{pin_of}
-use Rattle.oak_read.specs.Meaning.{documents_in, found_children, found_node}
-use Rattle.oak_store.specs.Tables.{Table, by_id}
+use Rattle.oak_machine.specs.History.{History, history_of}
+use Rattle.oak_node.specs.Memory.{NodeState, begun as begun_memory}
+use Rattle.oak_read.specs.declared.reader.Reader.{Reader}
+use Rattle.oak_store.specs.Tables.{Table}
+use Rattle.core_clash.specs.Sessions.{Running}
+use Rattle.core_world.specs.Start.{start_table}
+use Rattle.core_world.specs.States.{State, memory_at, with_memory}
+use Rattle.oak_world.specs.declared.actor.Actor.{Actor}
+use Rattle.oak_world.specs.declared.actor.Work.{Work}
+use Rattle.oak_world.specs.declared.actor.Work.TheVariants as work
+use Rattle.oak_world.specs.Parts.{Parts, parts}
 
--- a law, the journal so far, the documents and the memory of the cluster node
+-- ---- a world
+
+-- what a session does, how many events there were when it was told so, the bytes that are reserved for its reply, and how many documents its loads have read
+pub record ActorState : Type 0 where
+  pub work : Work
+  pub began : ℕ
+  pub reply : Option ℕ
+  pub reads : ℕ
+
+abbrev pub shown_actor : Actor → ActorState
+shown_actor a = record { work = a.work; began = a.began; reply = a.reply; reads = a.reads }
+
+-- a law, what the journal tells, the documents, the memories of the cluster nodes 1, 2 and so on, and what each session does
 pub record WorldOf (L : Type 0) : Type 0 where
   pub law : L
-  pub journal : Journal
+  pub history : History
   pub table : Table
-  pub node : NodeState
+  pub memories : List NodeState
+  pub actors : List ActorState
 
--- what is true of each world: the node knows no later time than there are events
-abbrev pub IsWorld : Journal → NodeState → Type 0
-IsWorld journal node = known_time node ≤ length journal.events
+-- what is seen of a world's fields
+abbrev pub shown_world : {L : Type 0} → L → Journal → Table → List NodeState → List Actor → WorldOf L
+shown_world law j t ms actors = record { law = law; history = history_of j; table = t; memories = ms; actors = map shown_actor actors }
 
-abbrev pub is_refresh : Event → Bool
-is_refresh (event.Refresh s v) = true
-is_refresh _ = false
+-- a session that does nothing
+abbrev pub idle : ActorState
+idle = record { work = work.Rest; began = 0; reply = None; reads = 0 }
 
--- a place is kept for one event more: the last event is the move of the base that ends a commit
-abbrev pub has_place : List Event → Bool
-has_place [] = false
-has_place (e ∷ []) = is_refresh e
-has_place (e ∷ f ∷ es) = has_place (f ∷ es)
+-- what session s does, and what is kept for it
+abbrev pub actor_in : List ActorState → ℕ → ActorState
+actor_in actors s = unwrap_or (slice_get actors s) idle
 
--- an empty vector, which has places for all events and one more where a place is kept
-pub record IsSpare (events : List Event) (spare : Vec Event Global) : Type 0 where
-  pub empty : spare.items ≡ []
-  pub place : IsTrue (has_place events) → length events < vec_capacity spare
+abbrev pub work_in : List ActorState → ℕ → Work
+work_in actors s = (actor_in actors s).work
 
--- the journal with some events more
-abbrev pub with_events : Journal → List Event → Journal
-with_events j events = record j { events = j.events ++ events }
-
--- the properties of the node at a path, as the documents show it at the session's pin; none without a pin
-abbrev pub node_shown : {L : Type 0} → WorldOf L → Path → Option (List (Name × Property))
-node_shown w p = option_and_then (λ pin. found_node (documents_in w.table.documents) pin.sweep pin.base p) (pin_of w.node 0)
-
--- the names of the nodes below a path, as the documents show them at the session's pin; none without a pin
-abbrev pub children_shown : {L : Type 0} → WorldOf L → Path → List Name
-children_shown w p = option_map_or (λ pin. found_children (documents_in w.table.documents) pin.sweep pin.base (keys_of w.table.documents) p) (pin_of w.node 0) []
-
--- a document of the start: the node is there, with its type, at the revision of the start
-abbrev pub start_document : Path → Name → ℕ → Document
-start_document p type number = record (document_of None (id.Node p)) {
-  mod_count = number;
-  deleted = (start_of 1, false) ∷ [];
-  props = (codes "jcr:primaryType", (start_of 1, Some (Single (value.Name type))) ∷ []) ∷ [];
-}
-
--- the root also says what is published and what is swept
-abbrev pub start_root : Document
-start_root = record (start_document [] (codes "nt:unstructured") 1) { last_rev = start 1; sweep_rev = start 1 }
-
--- the settings count the sessions
-abbrev pub start_settings : ℕ → Document
-start_settings sessions = record (document_of None id.Settings) { mod_count = 4; sessions = sessions }
-
-abbrev pub system_path : Path
-system_path = codes "jcr:system" ∷ []
-
-abbrev pub versions_path : Path
-versions_path = codes "jcr:system" ∷ codes "jcr:versionStorage" ∷ []
-
--- the four documents of the start, in store order
-abbrev pub start_documents : ℕ → List Document
-start_documents sessions =
-    start_root
-    ∷ start_document system_path (codes "rep:system") 2
-    ∷ start_document versions_path (codes "rep:versionStorage") 3
-    ∷ start_settings sessions
-    ∷ []
-
--- the documents of the start have the numbers 1 to 4
-abbrev pub start_table : ℕ → Table
-start_table sessions = record { documents = by_id (start_documents sessions); number = 4 }
-
--- the memory of the cluster node at the start
-abbrev pub start_node : NodeState
-start_node = record { cluster = 1; head = start 1; sweep = start 1; last_time = 0; above = []; pins = []; notes = [] }
-
--- the world of one cluster node before any step, with no session or with one
-abbrev pub start_world : {L : Type 0} → L → ℕ → WorldOf L
-start_world law sessions = record {
+-- the world of these cluster nodes and sessions before any step
+abbrev pub start_world : {L : Type 0} → L → ℕ → List ℕ → WorldOf L
+start_world law clusters sessions = record {
   law = law;
-  journal = record { clusters = 1; sessions = cond (sessions == 0) [] (1 ∷ []); events = [] };
-  table = start_table sessions;
-  node = start_node;
+  history = record { clusters = clusters; sessions = sessions; past = [] };
+  table = start_table clusters (length sessions);
+  memories = map (λ k. begun_memory k (start clusters)) (range_with_len 1 clusters);
+  actors = map (λ k. idle) sessions;
 }
+
+-- ---- its state
+
+-- a committer at work, with its draw
+abbrev pub running_as : ℕ → Committing → Running
+running_as s c = record {
+  draw = record { revision = c.revision; session = s; base = c.base; edit = c.edit; marks = c.marks };
+  writer = record c.writer { undoing = undoes c.outcome; wants = wants c.outcome };
+  committed = is_past c.outcome;
+}
+
+abbrev pub running_of : ℕ → Work → Option Running
+running_of s (work.Commit c) = Some (running_as s c)
+running_of s _ = None
+
+abbrev pub reading_of : Work → Option Reader
+reading_of (work.Read r) = Some r
+reading_of _ = None
+
+abbrev pub state_with : History → Table → List NodeState → List ActorState → State
+state_with h t ms actors = record {
+  clusters = h.clusters;
+  sessions = h.sessions;
+  past = h.past;
+  table = t;
+  memories = ms;
+  running = λ s. running_of s (work_in actors s);
+  reading = λ s. reading_of (work_in actors s);
+}
+
+-- all but the law and what is kept for replies
+abbrev pub state_of : {L : Type 0} → WorldOf L → State
+state_of w = state_with w.history w.table w.memories w.actors
+
+-- ---- one session's part
+
+-- the cluster node of session s
+abbrev pub node_in : History → ℕ → ℕ
+node_in h s = unwrap_or (slice_get h.sessions s) 0
+
+-- the documents, the memory of the node of session s, and the events
+abbrev pub parts_at : {L : Type 0} → WorldOf L → ℕ → Parts
+parts_at w s = parts w.table (memory_at w.memories (node_in w.history s)) (reverse w.history.past)
+
+-- the world with these parts of session s, which does this
+abbrev pub with_parts : {L : Type 0} → WorldOf L → ℕ → Parts → ActorState → WorldOf L
+with_parts w s p a = record {
+  law = w.law;
+  history = record { clusters = w.history.clusters; sessions = w.history.sessions; past = reverse p.list };
+  table = p.table;
+  memories = with_memory w.memories (node_in w.history s) p.memory;
+  actors = slice_set w.actors s a;
+}
+
+-- ---- what the other calls make of a world
+
+-- the world where session s does this, since now
+abbrev pub with_work : {L : Type 0} → WorldOf L → ℕ → Work → WorldOf L
+with_work w s v = record w { actors = slice_set w.actors s (record (actor_in w.actors s) { work = v; began = length w.history.past }) }
+
+-- the world where so many bytes are reserved for the reply of session s
+abbrev pub with_reply : {L : Type 0} → WorldOf L → ℕ → Option ℕ → WorldOf L
+with_reply w s bytes = record w { actors = slice_set w.actors s (record (actor_in w.actors s) { reply = bytes }) }
+
+-- the history with an event more
+abbrev pub with_event : History → Event → History
+with_event h e = record h { past = e ∷ h.past }
+
+-- the world after session s has said its reply of index i
+abbrev pub said_in : {L : Type 0} → WorldOf L → ℕ → ℕ → Text → WorldOf L
+said_in w s i text = record (with_reply w s None) { history = with_event w.history (event.Said s i text) }

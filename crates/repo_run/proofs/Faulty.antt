@@ -1,5 +1,5 @@
 -- How a call ends, from how its parts ended.
-use Rattle.std.proofs.Common.{◌≡◌, ℕ, ◌<◌, ◌≤◌, Option, Some, None, IfSome, IsSome, IsNone, List, length, inl, inr, refl, sym, subst, arith}
+use Rattle.std.proofs.Common.{◌≡◌, ℕ, ◌<◌, ◌≤◌, Option, Some, None, IfSome, List, length, inl, inr, refl, sym, subst, arith}
 use Rattle.repo_run.specs.declared.status.Status.{Status}
 use Rattle.repo_run.specs.declared.status.Status.TheVariants as status
 use Rattle.jr_script.specs.declared.script.Script.{Script}
@@ -13,7 +13,6 @@ use Rattle.repo_run.specs.declared.status.Unrun.TheVariants as unrun
 use Rattle.repo_run.specs.Words.{Means}
 use Rattle.repo_run.specs.declared.words.Words.{Words}
 use Rattle.repo_run.specs.declared.words.Words.TheVariants.{Steps}
-use mathlib.Core.Bool.{false≢true}
 
 -- ---- no script is run
 

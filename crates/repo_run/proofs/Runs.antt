@@ -43,7 +43,7 @@ use Rattle.core_law.specs.State.{command_at}
 use Rattle.jcr_session.specs.declared.law.JcrLaw.{JcrLaw}
 use Rattle.repo_run.specs.Headline.{FollowsScript, HasRun, index_said}
 use Rattle.repo_run.specs.Stands.{AreFrom, IsBegun, IsLawfulWorld, IsNext, Stands, says_of, starts_of}
-use Rattle.repo_run.specs.Turns.{Answers, AnswersAll, AnswersHead, AnswersRefresh, AnswersSave, AnswersView, AreOfOne, IsCancelled, IsRefused, IsSaved, IsSeen, IsSessionRun, IsShown, IsSmall, IsTooMany, IsUnchanged, RunsScript, State, first_commands, ended, law_of, logged_in, pending, pending_marks, said, state}
+use Rattle.repo_run.specs.Turns.{Answers, AnswersAll, AnswersHead, AnswersRefresh, AnswersSave, AnswersView, AreOfOne, IsSessionRun, IsShown, IsSmall, RunsScript, State, first_commands, ended, law_of, logged_in, pending, pending_marks, said, state}
 use Rattle.repo_run.proofs.Pinned.{pinned_by_pin}
 use Rattle.repo_run.proofs.Stands.{MaySayNow, proper_of, say_called, say_head, say_many, say_memory, say_refreshed, say_saved, say_unchanged, say_view, shown_is, stands_said, start}
 
@@ -233,13 +233,13 @@ pub record Leaves (script : Script) (w : WorldOf JcrLaw) : Type 0 where
   pub follows : FollowsScript script w.journal
 
 module _ (script : Script) (w : WorldOf JcrLaw) where
-  follows_lawful : IsLawfulWorld w → w.law ≡ law_of script → w.journal.sessions ≡ map (λ s. s.cluster) script.sessions
+  follows_lawful : script.clusters ≡ 1 → IsLawfulWorld w → w.law ≡ law_of script → w.journal.sessions ≡ map (λ s. s.cluster) script.sessions
       → ((s : ℕ) (session : SessionScript) → slice_get script.sessions s ≡ Some session → next_index (reverse w.journal.events) s ≡ length session.commands) → Leaves script w
-  follows_lawful lawful law sessions counts = record {
+  follows_lawful node lawful law sessions counts = record {
     lawful = lawful;
     law = law;
     follows = record {
-      clusters = lawful.one;
+      clusters = lawful.one ∙ sym node;
       sessions = sessions;
       run = subst (λ (l : JcrLaw). IsRun (starts_of l) (says_of l) (history_of w.journal)) law (run_is (starts_of w.law) (says_of w.law) (proper_of w.law) w.journal w.table w.node lawful);
       answered = λ s session is.
@@ -252,16 +252,16 @@ no_item : {A X : Type 0} (n : ℕ) (x : X) → slice_get {X = X} [] n ≡ Some x
 no_item n x h = absurd (false≢true (ap is_some h))
 
 -- the run of a script of one session at most, which is of cluster node 1
-pub run_leaves : (script : Script) (w : WorldOf JcrLaw) (sessions : List SessionScript) → script.sessions ≡ sessions → AreOfOne sessions → Rattle.repo_run.specs.Turns.IsRunOf (law_of script) (first_commands sessions) w → Leaves script w
-run_leaves script w [] same one run =
+pub run_leaves : (script : Script) (w : WorldOf JcrLaw) (sessions : List SessionScript) → script.clusters ≡ 1 → script.sessions ≡ sessions → AreOfOne sessions → Rattle.repo_run.specs.Turns.IsRunOf (law_of script) (first_commands sessions) w → Leaves script w
+run_leaves script w [] node same one run =
     subst (λ (x : WorldOf JcrLaw). Leaves script x) (sym run)
-    (follows_lawful script (start_world (law_of script) 0) (start_lawful (starts_of (law_of script)) (says_of (law_of script)) 0) refl (ap (map (λ s. s.cluster)) (sym same))
+    (follows_lawful script (start_world (law_of script) 0) node (start_lawful (starts_of (law_of script)) (says_of (law_of script)) 0) refl (ap (map (λ s. s.cluster)) (sym same))
     (λ s session is. no_item s session (ap (λ (l : List SessionScript). slice_get l s) (sym same) ∙ is)))
-run_leaves script w (session ∷ more) same one run =
+run_leaves script w (session ∷ more) node same one run =
     let alone : script.sessions ≡ session ∷ [] = same ∙ ap (λ (l : List SessionScript). session ∷ l) one.1 in
     let law_is : (law_of script).sessions ≡ (session.cluster, session.commands) ∷ [] = ap (map (λ s. (s.cluster, s.commands))) alone in
     let end = session_lawful (law_of script) session.commands w (are_from (law_of script) session.cluster session.commands session.commands 0 law_is (λ k c h. ap (slice_get session.commands) (zero_and k) ∙ h)) run in
-    follows_lawful script w end.0 end.1 (end.2 ∙ (ap (λ (k : ℕ). k ∷ []) (sym one.0) ∙ ap (map (λ s. s.cluster)) (sym alone)))
+    follows_lawful script w node end.0 end.1 (end.2 ∙ (ap (λ (k : ℕ). k ∷ []) (sym one.0) ∙ ap (map (λ s. s.cluster)) (sym alone)))
     (λ s other is. count s other (ap (λ (l : List SessionScript). slice_get l s) (sym alone) ∙ is) end.3)
   where
     count : (s : ℕ) (other : SessionScript) → slice_get (session ∷ []) s ≡ Some other → next_index (reverse w.journal.events) 0 ≡ length session.commands → next_index (reverse w.journal.events) s ≡ length other.commands
@@ -269,8 +269,8 @@ run_leaves script w (session ∷ more) same one run =
     count (suc s) other is h = no_item s other is
 
 -- a script that is run to its end is followed by the journal
-pub has_run : (script : Script) (w : WorldOf JcrLaw) → IsSmall script.sessions → RunsScript script w → HasRun script w
-has_run script w small run = record { steps = run; follows = (run_leaves script w script.sessions refl small.one run).follows }
+pub has_run : (script : Script) (w : WorldOf JcrLaw) → IsSmall script → RunsScript script w → HasRun script w
+has_run script w small run = record { steps = run; follows = (run_leaves script w script.sessions small.node refl small.one run).follows }
 
 -- ---- what the calls of the world ask
 
@@ -345,7 +345,7 @@ committed_save old w base ws ms text edit marks some few reply made shows = inr 
 })))
 
 -- a world before any step, by the law of a script of one session
-pub begun_from : (script : Script) (law : JcrLaw) (session : SessionScript) (more : List SessionScript) (w : WorldOf JcrLaw) → IsSmall script.sessions → law ≡ law_of script → script.sessions ≡ session ∷ more → w ≡ start_world law 1 → IsBegun w session.commands
+pub begun_from : (script : Script) (law : JcrLaw) (session : SessionScript) (more : List SessionScript) (w : WorldOf JcrLaw) → IsSmall script → law ≡ law_of script → script.sessions ≡ session ∷ more → w ≡ start_world law 1 → IsBegun w session.commands
 begun_from script law session more w small by_script first made =
     let one : AreOfOne (session ∷ more) = subst AreOfOne first small.one in
     let alone : script.sessions ≡ session ∷ [] = first ∙ ap (λ (l : List SessionScript). session ∷ l) one.1 in

@@ -5,6 +5,7 @@ use Rattle.jr_io.specs.Causes.{Rose, RoseBy, RoseExactly}
 use Rattle.jr_io.specs.Told.{Grows, IsDrained}
 use Rattle.jr_script.specs.declared.script.Script.{Script}
 use Rattle.jr_script.specs.Scripts.{IsFault as IsBadScript, IsJson, IsScript}
+use Rattle.jr_script.specs.Unbuilt.{unbuilt}
 use Rattle.jr_script.specs.declared.script.ScriptFault.TheVariants as bad
 use Rattle.repo_run.specs.declared.status.Status.{Status}
 use Rattle.repo_run.specs.declared.status.Status.TheVariants as status
@@ -24,12 +25,32 @@ abbrev pub longest : ℕ
 longest = 16777216
 
 -- the bytes are the JSON of this script
+abbrev pub IsScriptOf : List ℕ → Script → Type 0
+IsScriptOf bytes script = (d : Data) × IsJson bytes d × IsScript d script
+
+-- the bytes are the JSON of this script, and all of it is run today
 abbrev pub Spells : List ℕ → Script → Type 0
-Spells bytes script = (d : Data) × IsJson bytes d × IsScript d script
+Spells bytes script = IsScriptOf bytes script × (unbuilt script ≡ None)
+
+-- the bytes are a script of which the part at this pointer isn't run yet: rule 0
+abbrev pub IsUnbuilt : List ℕ → ℕ → List ℕ → Type 0
+IsUnbuilt bytes rule pointer = (script : Script) × IsScriptOf bytes script × (unbuilt script ≡ Some pointer) × (rule ≡ 0)
 
 -- the bytes break a rule of scripts, at the place of a pointer
 abbrev pub BreaksRule : List ℕ → ℕ → List ℕ → Type 0
-BreaksRule bytes rule pointer = IsBadScript bytes (bad.Bad rule pointer)
+BreaksRule bytes rule pointer = IsBadScript bytes (bad.Bad rule pointer) ⊎ IsUnbuilt bytes rule pointer
+
+-- why the bytes are no script that is run: they break a rule, or memory was refused
+abbrev pub IsUnscripted : List ℕ → Unrun → Type 0
+IsUnscripted bytes (unrun.Script rule pointer) = BreaksRule bytes rule pointer
+IsUnscripted bytes unrun.Memory = ⊤
+IsUnscripted bytes _ = ⊥
+
+-- rule 0 at this place; or memory was refused
+abbrev pub IsNotYet : List ℕ → Unrun → Type 0
+IsNotYet place (unrun.Script rule pointer) = (rule ≡ 0) × (pointer ≡ place)
+IsNotYet place unrun.Memory = ⊤
+IsNotYet place _ = ⊥
 
 -- ---- a call
 

@@ -20,11 +20,11 @@ index_said s _ = None
 
 -- the indexes of the replies of session s, in the order in which they were said
 abbrev pub indexes_said : Journal → ℕ → List ℕ
-indexes_said j s = filter_map (index_said s) j.events
+indexes_said j s = filter_map (index_said s) j.events.list
 
--- the journal is a run of the machine by the law of the script, over its sessions, in which each command of a session is answered once, in order
+-- the journal is a run of the machine by the law of the script, over its cluster nodes and its sessions, in which each command of a session is answered once, in order
 pub record FollowsScript (script : Script) (j : Journal) : Type 0 where
-  pub clusters : j.clusters ≡ 1
+  pub clusters : j.clusters ≡ script.clusters
   pub sessions : j.sessions ≡ map (λ s. s.cluster) script.sessions
   pub run : IsRun (starts_of (law_of script)) (says_of (law_of script)) (history_of j)
   pub answered : (s : ℕ) (session : SessionScript) → slice_get script.sessions s ≡ Some session → indexes_said j s ≡ range_with_len 0 (length session.commands)

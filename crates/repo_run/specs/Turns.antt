@@ -184,7 +184,8 @@ abbrev pub AreOfOne : List SessionScript → Type 0
 AreOfOne [] = ⊤
 AreOfOne (s ∷ ss) = (s.cluster ≡ 1) × (ss ≡ [])
 
--- one session at most, of cluster node 1 and at most 10,000 commands
-pub record IsSmall (sessions : List SessionScript) : Type 0 where
-  pub one : AreOfOne sessions
-  pub few : IfSome (first_commands sessions) (λ commands. length commands ≤ 10000)
+-- one cluster node, and one session at most, of that node and at most 10,000 commands
+pub record IsSmall (script : Script) : Type 0 where
+  pub node : script.clusters ≡ 1
+  pub one : AreOfOne script.sessions
+  pub few : IfSome (first_commands script.sessions) (λ commands. length commands ≤ 10000)

@@ -31,7 +31,7 @@ pub const MOST_NODES: usize = 100_000;
 /// Runs a script on one thread, and answers the world with which it ended. Its journal is a run of the machine by the law of the
 /// script, in which each command is answered once, in order.
 pub fn run_steps(alloc: Global, script: Script) -> Result<World<JcrLaw>, AllocError>
-    requires { IsSmall script.sessions }
+    requires { IsSmall script }
     ensures { IfOk result (HasRun script) }
 {
     run_all(alloc, script)
@@ -39,7 +39,7 @@ pub fn run_steps(alloc: Global, script: Script) -> Result<World<JcrLaw>, AllocEr
 
 // Runs a script step by step.
 fn run_all(alloc: Global, script: Script) -> Result<World<JcrLaw>, AllocError>
-    requires { IsSmall script.sessions }
+    requires { IsSmall script }
     ensures { IfOk result (RunsScript script) }
 {
     let law = law_of(alloc, &script)?;

@@ -54,10 +54,42 @@ fn run(
 #[test]
 fn statuses_and_what_is_written(rt: HostRuntime) -> Result<(), Fail> {
     let alloc = rt.alloc();
-    let rows: [(&str, &str, &[u64], &[u64], Status, &str); 9] = [
+    let rows: [(&str, &str, &[u64], &[u64], Status, &str); 13] = [
         ("steps", FIRST, &[], &[], Status::Done, REPLIES),
         ("steps", BASES, &[], &[], Status::Done, BASES_SHOWN),
         ("steps", r#"{"sessions":[]}"#, &[], &[], Status::Done, ""),
+        (
+            "steps",
+            r#"{"clusters":1,"schedule":[],"sessions":[{"cluster":1,"commands":[]}]}"#,
+            &[],
+            &[],
+            Status::Done,
+            "",
+        ),
+        (
+            "steps",
+            r#"{"clusters":2,"schedule":[0],"sessions":[{"commands":[]},{"commands":[]}]}"#,
+            &[],
+            &[],
+            Status::Script,
+            "bad script 0 \"/clusters\"\n",
+        ),
+        (
+            "steps",
+            r#"{"schedule":[0],"sessions":[{"commands":[]},{"commands":[]}]}"#,
+            &[],
+            &[],
+            Status::Script,
+            "bad script 0 \"/sessions\"\n",
+        ),
+        (
+            "steps",
+            r#"{"schedule":[0],"sessions":[{"commands":[]}]}"#,
+            &[],
+            &[],
+            Status::Script,
+            "bad script 0 \"/schedule\"\n",
+        ),
         ("Steps", FIRST, &[0], &[], Status::Words, "bad words\n"),
         (
             "steps",

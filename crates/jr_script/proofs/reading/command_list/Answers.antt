@@ -1,5 +1,5 @@
-use Rattle.jr_script.specs.Commands.{command_of}
-use Rattle.jr_script.proofs.Lists.{read_all, read_more, read_stop}
+use Rattle.jr_args.specs.Commands.{command_of}
+use Rattle.jr_args.proofs.Lists.{read_all, read_more, read_stop}
 use Rattle.jr_script.proofs.reading.command_list.Goals as goal
 
 pub returns-in-Err : goal.returns-in-Err

@@ -1,5 +1,5 @@
-use Rattle.jr_script.proofs.Lists.{IsReadTo}
-use Rattle.jr_script.specs.Commands.{command_of}
+use Rattle.jr_args.proofs.Lists.{IsReadTo}
+use Rattle.jr_args.specs.Commands.{command_of}
 use Rattle.jr_script.proofs.reading.command_list.Given as goal
 
 abbrev pub invariant-loop-index : goal.invariant-loop-index

@@ -1,0 +1,9 @@
+use Rattle.std.proofs.Common.{refl}
+use Rattle.jr_args.proofs.Readings.{exits, means}
+use Rattle.jr_args.proofs.commands.restore.Goals as goal
+
+pub returns-in_err-path : goal.returns-in_err-path
+returns-in_err-path c = exits _ _ _ _ c.from_residual.ensures.1 c.in_err-path.ensures
+
+pub returns : goal.returns
+returns c = means _ _ _ _ c.in_ok-path.ensures (rw (c.in_ok-version.ensures, c.text_at.ensures) refl)

@@ -1,0 +1,12 @@
+use Rattle.std.proofs.Common.{refl}
+use Rattle.jr_args.proofs.Readings.{exits, goes, means}
+use Rattle.jr_args.proofs.tree.prop.Goals as goal
+
+pub returns-in_err-name : goal.returns-in_err-name
+returns-in_err-name c = exits _ _ _ _ c.from_residual.ensures.1 c.in_err-name.ensures
+
+pub returns-in_err-property : goal.returns-in_err-property
+returns-in_err-property c = goes _ _ _ _ c.in_ok-name.ensures (exits _ _ _ _ c.from_residual-in_err-property.ensures.1 c.in_err-property.ensures)
+
+pub returns : goal.returns
+returns c = means _ _ _ _ c.in_ok-name.ensures (means _ _ _ _ c.in_ok-property.ensures refl)

@@ -1,0 +1,151 @@
+-- What a command of a script means.
+use Rattle.std.specs.Prelude.{ℕ, Bool, false, List, [], Option, Some, None, ◌+◌, option_and_then, unwrap_or}
+use Rattle.serde_json.specs.Data.{Data, Items, null, array, no_items, item}
+use Rattle.serde_json.specs.Find.{as_bool, as_number, as_str, as_u64, get_item}
+use Rattle.jr_path.specs.declared.name.Name.{Name}
+use Rattle.jr_path.specs.declared.path.Path.{Path}
+use Rattle.jr_value.specs.declared.value.Property.{Property}
+use Rattle.jr_value.specs.declared.value.Value.{Value}
+use Rattle.jcr_trans.specs.declared.command.Command.{Command}
+use Rattle.jcr_trans.specs.declared.command.Command.TheVariants as command
+use Rattle.jcr_trans.specs.declared.command.TreeNode.{TreeNode}
+use Rattle.jr_args.specs.Outcomes.{Means, Breaks, Reading, guard, is, Then, under}
+use Rattle.jr_args.specs.Trees.{some_name_of, text_in, tree_of, variables_of}
+use Rattle.jr_args.specs.Values.{name_of, path_of, property_of}
+use Rattle.jr_args.specs.Words.{fits, kinds_of, mask_of, word_named}
+use Rattle.jr_args.specs.declared.fault.Step.TheVariants.{Index}
+use Rattle.jr_args.specs.declared.word.Word.{Word}
+use Rattle.jr_args.specs.declared.word.Word.TheVariants as word
+use Rattle.jr_args.specs.declared.word.Bare.{Bare}
+use Rattle.jr_args.specs.declared.word.Bare.TheVariants as bare
+use Rattle.jr_args.specs.declared.word.OnPath.{OnPath}
+use Rattle.jr_args.specs.declared.word.OnPath.TheVariants as on_path
+use Rattle.jr_args.specs.declared.word.OnText.{OnText}
+use Rattle.jr_args.specs.declared.word.OnText.TheVariants as on_text
+use Rattle.jr_args.specs.declared.word.OnName.{OnName}
+use Rattle.jr_args.specs.declared.word.OnName.TheVariants as on_name
+use Rattle.jr_args.specs.declared.word.OnNode.{OnNode}
+use Rattle.jr_args.specs.declared.word.OnNode.TheVariants as on_node
+
+-- ---- arguments, numbered from 0 on; the command's name stands before them in its list
+
+-- one that is left out is as null
+abbrev pub argument : ℕ → Items → Data
+argument i ds = unwrap_or (get_item i ds) null
+
+abbrev pub text_at : ℕ → Items → List ℕ
+text_at i ds = text_in (argument i ds)
+
+abbrev pub truth_at : ℕ → Items → Bool
+truth_at i ds = unwrap_or (as_bool (argument i ds)) false
+
+-- a whole number from 0 to 2^64 - 1, if it is one
+abbrev pub number_at : ℕ → Items → Option ℕ
+number_at i ds = option_and_then as_u64 (as_number (argument i ds))
+
+abbrev pub mask_at : ℕ → Items → ℕ
+mask_at i ds = unwrap_or (mask_of (argument i ds)) 0
+
+abbrev pub path_at : ℕ → Items → Reading Path
+path_at i ds = under (Index (i + 1)) (path_of (text_at i ds))
+
+abbrev pub name_at : ℕ → Items → Reading Name
+name_at i ds = under (Index (i + 1)) (name_of (text_at i ds))
+
+abbrev pub property_at : ℕ → Items → Reading Property
+property_at i ds = under (Index (i + 1)) (property_of (argument i ds))
+
+-- of a text, if there is one
+abbrev pub name_if_any : Option (List ℕ) → Reading (Option Name)
+name_if_any None = is (Means None)
+name_if_any (Some text) = some_name_of text
+
+abbrev pub name_if_any_at : ℕ → Items → Reading (Option Name)
+name_if_any_at i ds = under (Index (i + 1)) (name_if_any (as_str (argument i ds)))
+
+abbrev pub tree_at : ℕ → Items → Reading (List TreeNode)
+tree_at i ds = under (Index (i + 1)) (tree_of [] (argument i ds))
+
+abbrev pub variables_at : ℕ → Items → Reading (List (Name × Value))
+variables_at i ds = under (Index (i + 1)) (variables_of (argument i ds))
+
+-- ---- commands
+
+abbrev pub bare_command : Bare → Command
+bare_command bare.Save = command.Save
+bare_command bare.Head = command.Head
+bare_command bare.Events = command.Events
+bare_command bare.BackWrite = command.BackWrite
+bare_command bare.BackRead = command.BackRead
+bare_command bare.Sweep = command.Sweep
+bare_command bare.Collect = command.Collect
+bare_command bare.Checkpoint = command.Checkpoint
+bare_command bare.Detach = command.Detach
+
+abbrev pub path_command : OnPath → Path → Command
+path_command on_path.Remove path = command.Remove path
+path_command on_path.Get path = command.Get path
+path_command on_path.List path = command.List path
+path_command on_path.Props path = command.Props path
+path_command on_path.Id path = command.Id path
+path_command on_path.Refs path = command.Refs path
+path_command on_path.Unlock path = command.Unlock path
+path_command on_path.Checkin path = command.Checkin path
+path_command on_path.Checkout path = command.Checkout path
+path_command on_path.Versions path = command.Versions path
+path_command on_path.Split path = command.Split path
+
+abbrev pub text_command : OnText → List ℕ → Command
+text_command on_text.ById text = command.ById text
+text_command on_text.Token text = command.Token text
+text_command on_text.DropToken text = command.DropToken text
+text_command on_text.Attach text = command.Attach text
+text_command on_text.Release text = command.Release text
+
+abbrev pub name_command : OnName → Path → Name → Command
+name_command on_name.Unset path name = command.Unset path name
+name_command on_name.Mixin path name = command.Mixin path name
+name_command on_name.Unmixin path name = command.Unmixin path name
+name_command on_name.SetType path name = command.SetType path name
+name_command on_name.Unlabel path name = command.Unlabel path name
+
+abbrev pub node_command : OnNode → Option ℕ → Command
+node_command on_node.Stop number = command.Stop number
+node_command on_node.Recover number = command.Recover number
+
+-- the command of this name with arguments that fit; they are read in order
+abbrev pub call_of : Word → Items → Reading Command
+call_of (word.Bare w) ds = is (Means (bare_command w))
+call_of (word.OnPath w) ds = Then (path_at 0 ds) (λ path. is (Means (path_command w path)))
+call_of (word.OnText w) ds = is (Means (text_command w (text_at 0 ds)))
+call_of (word.OnName w) ds = Then (path_at 0 ds) (λ path. Then (name_at 1 ds) (λ name. is (Means (name_command w path name))))
+call_of (word.OnNode w) ds = is (Means (node_command w (number_at 0 ds)))
+call_of word.Add ds = Then (path_at 0 ds) (λ path. Then (name_if_any_at 1 ds) (λ type. is (Means (command.Add path type))))
+call_of word.Tree ds = Then (path_at 0 ds) (λ path. Then (tree_at 1 ds) (λ nodes. is (Means (command.Tree path nodes))))
+call_of word.Set ds = Then (path_at 0 ds) (λ path. Then (name_at 1 ds) (λ name. Then (property_at 2 ds) (λ x. is (Means (command.Set path name x)))))
+call_of word.Move ds = Then (path_at 0 ds) (λ path. Then (path_at 1 ds) (λ target. is (Means (command.Move path target))))
+call_of word.Refresh ds = is (Means (command.Refresh (truth_at 0 ds)))
+call_of word.Lock ds = Then (path_at 0 ds) (λ path. is (Means (command.Lock path (truth_at 1 ds))))
+call_of word.Restore ds = Then (path_at 0 ds) (λ path. is (Means (command.Restore path (text_at 1 ds))))
+call_of word.Label ds = Then (path_at 0 ds) (λ path. Then (name_at 2 ds) (λ label. is (Means (command.Label path (text_at 1 ds) label (truth_at 3 ds)))))
+call_of word.Observe ds = Then (path_at 0 ds) (λ path. is (Means (command.Observe path (truth_at 1 ds) (mask_at 2 ds))))
+call_of word.Query ds = Then (variables_at 1 ds) (λ variables. is (Means (command.Query (text_at 0 ds) variables)))
+call_of word.OrderBefore ds = Then (path_at 0 ds) (λ path. Then (name_if_any_at 1 ds) (λ name. is (Means (command.OrderBefore path name))))
+
+-- A command is a list that begins with the name of one, with as many arguments as it has, each of its JSON kind; else
+-- rule 5 is broken.
+abbrev pub named_of : Option Word → Items → Reading Command
+named_of None ds = is (Breaks 5 [])
+named_of (Some w) ds = Then (guard (fits (kinds_of w) ds) 5) (λ _. call_of w ds)
+
+abbrev pub called_of : Option (List ℕ) → Items → Reading Command
+called_of None ds = is (Breaks 5 [])
+called_of (Some text) ds = named_of (word_named text) ds
+
+abbrev pub listed_of : Items → Reading Command
+listed_of no_items = is (Breaks 5 [])
+listed_of (item d ds) = called_of (as_str d) ds
+
+abbrev pub command_of : Data → Reading Command
+command_of (array ds) = listed_of ds
+command_of _ = is (Breaks 5 [])

@@ -1,8 +1,0 @@
-use Rattle.serde_json.specs.View.{members_view, view}
-use Rattle.jr_script.proofs.Lists.{IsPutTo}
-use Rattle.jr_script.specs.Trees.{members_in}
-use Rattle.jr_script.specs.Values.{property_of}
-use Rattle.jr_script.proofs.tree.props.Given as goal
-
-abbrev pub invariant-loop-key : goal.invariant-loop-key
-invariant-loop-key l = IsPutTo property_of (members_in (view l.json)) (members_view l.key-iterator) l.props

@@ -1,6 +1,0 @@
-use Rattle.serde_json.specs.View.{view}
-use Rattle.jr_script.proofs.Grammar.{no_value}
-use Rattle.jr_script.proofs.values.value.Goals as goal
-
-pub returns-in_err-value : goal.returns-in_err-value
-returns-in_err-value c = no_value (view c.args.json.now) _ _ c.from_residual.ensures.1 c.in_err-value.ensures

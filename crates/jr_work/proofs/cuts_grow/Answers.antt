@@ -1,0 +1,11 @@
+use Rattle.jr_work.proofs.Growing.{cut_grows, cut_stays, one_more}
+use Rattle.jr_work.proofs.cuts_grow.Goals as goal
+
+pub returns-clause-one_more : goal.returns-clause-one_more
+returns-clause-one_more c = one_more
+
+pub returns-clause-stays : goal.returns-clause-stays
+returns-clause-stays c = cut_stays
+
+pub returns-clause-waits : goal.returns-clause-waits
+returns-clause-waits c = cut_grows

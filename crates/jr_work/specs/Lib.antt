@@ -1,0 +1,4 @@
+pub mod Growing
+pub mod Parts
+pub mod Places
+pub mod Schedules
