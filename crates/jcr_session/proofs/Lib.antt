@@ -17,3 +17,4 @@ mod Answering
 mod Drawing
 pub mod Staying
 mod Lengths
+mod Calling
