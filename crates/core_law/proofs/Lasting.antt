@@ -21,7 +21,7 @@ use Rattle.oak_machine.proofs.Stays.{any_later}
 use Rattle.jcr_trans.specs.declared.command.Command.{Command}
 use Rattle.jcr_trans.specs.Answers.{Answer}
 use Rattle.jcr_trans.specs.Views.{answered}
-use Rattle.core_law.specs.Law.{MayStart, MaySay, SaysBy, IsPlan, has_few_nodes, plain, head, refreshed, not_allowed, unchanged, too_many, saved, clashed, memory}
+use Rattle.core_law.specs.Law.{MayStart, MaySay, SaysBy, IsPlan, has_few_nodes, plain, head, refreshed, unchanged, too_many, saved, clashed, memory}
 use Rattle.core_law.specs.State.{Orders, base_tree, command_at, pending_of, view_of}
 use Rattle.core_law.specs.Turns.{IsOver, IsTurn}
 use Rattle.core_law.proofs.Bases.{base_tree_stays}
@@ -55,7 +55,6 @@ module _ (law : Orders) (starts : Starts) (says : Says) (clusters : ℕ) (sessio
 
   pub starts_same : (edit : _) (marks : List MarkAt) → MayStart law (record { clusters = clusters; sessions = sessions; past = past }) s edit marks → MayStart law (record { clusters = clusters; sessions = sessions; past = added ++ past }) s edit marks
   starts_same edit marks may = record {
-    allowed = may.allowed;
     saving = ap (command_at law s) (next_stays (added ++ past) added past s others) ∙ may.saving;
     first = drawn_same ∙ may.first;
     pending = may.pending ∙ sym pending_same;
@@ -67,9 +66,8 @@ module _ (law : Orders) (starts : Starts) (says : Says) (clusters : ℕ) (sessio
   says_same _ _ (plain c p) = subst (λ (t : Nodes). MaySay law (added ++ past) s c (answered c t)) view_same (plain c p)
   says_same _ _ (head v is) = head v (base_stays (added ++ past) added past s others ∙ is)
   says_same _ _ (refreshed v is) = refreshed v (refreshed_stays (added ++ past) added past s others ∙ is)
-  says_same _ _ (not_allowed may) = not_allowed may
-  says_same _ _ (unchanged may d p) = unchanged may (drawn_same ∙ d) (pending_same ∙ p)
-  says_same _ _ (too_many may d few) = too_many may (drawn_same ∙ d) (ap has_few_nodes view_same ∙ few)
+  says_same _ _ (unchanged d p) = unchanged (drawn_same ∙ d) (pending_same ∙ p)
+  says_same _ _ (too_many d few) = too_many (drawn_same ∙ d) (ap has_few_nodes view_same ∙ few)
   says_same _ _ (saved r v d ended committed moved seen) =
       saved r v (drawn_same ∙ d) (any_later (is_end_of r) added past ended) (any_later (is_commit_of r) added past committed) (refreshed_stays (added ++ past) added past s others ∙ moved) seen
   says_same _ _ (clashed r o item d ended refused) =
@@ -105,18 +103,16 @@ module _ (law : Orders) (past : Past) (s : ℕ) where
   without_end (event.Split t path e) h _ _ (plain c p) = plain c p
   without_end (event.Split t path e) h _ _ (head v is) = head v is
   without_end (event.Split t path e) h _ _ (refreshed v is) = refreshed v is
-  without_end (event.Split t path e) h _ _ (not_allowed may) = not_allowed may
-  without_end (event.Split t path e) h _ _ (unchanged may d p) = unchanged may d p
-  without_end (event.Split t path e) h _ _ (too_many may d few) = too_many may d few
+  without_end (event.Split t path e) h _ _ (unchanged d p) = unchanged d p
+  without_end (event.Split t path e) h _ _ (too_many d few) = too_many d few
   without_end (event.Split t path e) h _ _ (saved r v d ended committed moved seen) = saved r v d ended committed moved seen
   without_end (event.Split t path e) h _ _ (clashed r o item d ended refused) = clashed r o item d ended refused
   without_end (event.Split t path e) h _ _ (memory c idle none) = memory c (sym (among_same past (event.Split t path e) (λ r. refl) past s) ∙ idle) none
   without_end (event.Collected t end) h _ _ (plain c p) = plain c p
   without_end (event.Collected t end) h _ _ (head v is) = head v is
   without_end (event.Collected t end) h _ _ (refreshed v is) = refreshed v is
-  without_end (event.Collected t end) h _ _ (not_allowed may) = not_allowed may
-  without_end (event.Collected t end) h _ _ (unchanged may d p) = unchanged may d p
-  without_end (event.Collected t end) h _ _ (too_many may d few) = too_many may d few
+  without_end (event.Collected t end) h _ _ (unchanged d p) = unchanged d p
+  without_end (event.Collected t end) h _ _ (too_many d few) = too_many d few
   without_end (event.Collected t end) h _ _ (saved r v d ended committed moved seen) = saved r v d ended committed moved seen
   without_end (event.Collected t end) h _ _ (clashed r o item d ended refused) = clashed r o item d ended refused
   without_end (event.Collected t end) h _ _ (memory c idle none) = memory c (sym (among_same past (event.Collected t end) (λ r. refl) past s) ∙ idle) none
@@ -126,18 +122,16 @@ module _ (law : Orders) (past : Past) (s : ℕ) where
   with_end (event.Split t path e) h _ _ (plain c p) = plain c p
   with_end (event.Split t path e) h _ _ (head v is) = head v is
   with_end (event.Split t path e) h _ _ (refreshed v is) = refreshed v is
-  with_end (event.Split t path e) h _ _ (not_allowed may) = not_allowed may
-  with_end (event.Split t path e) h _ _ (unchanged may d p) = unchanged may d p
-  with_end (event.Split t path e) h _ _ (too_many may d few) = too_many may d few
+  with_end (event.Split t path e) h _ _ (unchanged d p) = unchanged d p
+  with_end (event.Split t path e) h _ _ (too_many d few) = too_many d few
   with_end (event.Split t path e) h _ _ (saved r v d ended committed moved seen) = saved r v d ended committed moved seen
   with_end (event.Split t path e) h _ _ (clashed r o item d ended refused) = clashed r o item d ended refused
   with_end (event.Split t path e) h _ _ (memory c idle none) = memory c (among_same past (event.Split t path e) (λ r. refl) past s ∙ idle) none
   with_end (event.Collected t end) h _ _ (plain c p) = plain c p
   with_end (event.Collected t end) h _ _ (head v is) = head v is
   with_end (event.Collected t end) h _ _ (refreshed v is) = refreshed v is
-  with_end (event.Collected t end) h _ _ (not_allowed may) = not_allowed may
-  with_end (event.Collected t end) h _ _ (unchanged may d p) = unchanged may d p
-  with_end (event.Collected t end) h _ _ (too_many may d few) = too_many may d few
+  with_end (event.Collected t end) h _ _ (unchanged d p) = unchanged d p
+  with_end (event.Collected t end) h _ _ (too_many d few) = too_many d few
   with_end (event.Collected t end) h _ _ (saved r v d ended committed moved seen) = saved r v d ended committed moved seen
   with_end (event.Collected t end) h _ _ (clashed r o item d ended refused) = clashed r o item d ended refused
   with_end (event.Collected t end) h _ _ (memory c idle none) = memory c (among_same past (event.Collected t end) (λ r. refl) past s ∙ idle) none

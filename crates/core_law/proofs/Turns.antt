@@ -22,12 +22,12 @@ use Rattle.oak_machine.specs.Marks.{marks_for}
 use Rattle.oak_machine.specs.Sessions.{base_of, drawn_since, is_drawing, is_reply_of, is_login_of, next_index, refreshed_since, since}
 use Rattle.jcr_trans.specs.declared.command.Command.{Command}
 use Rattle.jcr_trans.specs.declared.command.Command.TheVariants as command
-use Rattle.jcr_trans.specs.Commands.{Built, Adds, Sets, Gets, Lists, Saves, Refreshes, ShowsBase, NotBuilt, built, is_plain, refreshes_by, saves_by, shows_base_by, word_of}
+use Rattle.jcr_trans.specs.Commands.{Built, Adds, Sets, Gets, Lists, Saves, Refreshes, ShowsBase, NotBuilt, built, is_plain, refreshes_by, saves_by, shows_base_by}
 use Rattle.jcr_trans.specs.Answers.{Answer, Done, ShowsProperty, ShowsNames, ShowsRevision, ShowsVector, ShowsNothing, Refused, out_of_memory}
 use Rattle.jcr_trans.specs.Texts.{answer_text}
-use Rattle.jcr_trans.specs.Views.{Check, answered, checks, first_of, passes, property_of_path, shown, too_many_nodes, unsupported, view_after}
+use Rattle.jcr_trans.specs.Views.{Check, answered, checks, first_of, passes, property_of_path, shown, too_many_nodes, view_after}
 use Rattle.jcr_trans.proofs.Passing.{each_refuses, first_passes, is_refused, shows}
-use Rattle.core_law.specs.Law.{MayStart, MaySay, SaysBy, has_few_nodes, may_save, plain, head, refreshed, not_allowed, unchanged, too_many, saved, memory}
+use Rattle.core_law.specs.Law.{MayStart, MaySay, SaysBy, has_few_nodes, plain, head, refreshed, unchanged, too_many, saved, memory}
 use Rattle.core_law.specs.State.{Orders, base_tree, command_at, is_ok_text, pending_after, pending_by, pending_of, pending_said, view_of}
 use Rattle.core_law.specs.Turns.{IsOver, IsTurn}
 use Rattle.core_law.proofs.Passing.{among_same}
@@ -133,16 +133,12 @@ module _ (law : Orders) (h : History) (s i : ℕ) (base view : Nodes) where
   says_memory c over is = (c, out_of_memory, is, refl, memory c over.idle over.uncommitted)
 
   -- a save with nothing pending may be answered so
-  pub says_unchanged : may_save s ≡ true → IsTurn law h.past s base view → command_at law s i ≡ Some command.Save → changes base view ≡ [] → SaysBy law h s i (answer_text ShowsNothing)
-  says_unchanged may turn is none = (command.Save, ShowsNothing, is, refl, unchanged may turn.fresh (turn.over.pending ∙ none))
+  pub says_unchanged : IsTurn law h.past s base view → command_at law s i ≡ Some command.Save → changes base view ≡ [] → SaysBy law h s i (answer_text ShowsNothing)
+  says_unchanged turn is none = (command.Save, ShowsNothing, is, refl, unchanged turn.fresh (turn.over.pending ∙ none))
 
   -- a save with too many nodes may be refused so
-  pub says_too_many : may_save s ≡ true → IsTurn law h.past s base view → command_at law s i ≡ Some command.Save → has_few_nodes view ≡ false → SaysBy law h s i (answer_text too_many_nodes)
-  says_too_many may turn is many = (command.Save, too_many_nodes, is, refl, too_many may turn.fresh (ap has_few_nodes (view_is turn.over) ∙ many))
-
-  -- a save of a session that may not save may be refused so
-  pub says_not_allowed : may_save s ≡ false → command_at law s i ≡ Some command.Save → SaysBy law h s i (answer_text (unsupported (word_of command.Save)))
-  says_not_allowed may is = (command.Save, unsupported (word_of command.Save), is, refl, not_allowed may)
+  pub says_too_many : IsTurn law h.past s base view → command_at law s i ≡ Some command.Save → has_few_nodes view ≡ false → SaysBy law h s i (answer_text too_many_nodes)
+  says_too_many turn is many = (command.Save, too_many_nodes, is, refl, too_many turn.fresh (ap has_few_nodes (view_is turn.over) ∙ many))
 
   -- a `head` may be answered with the base
   pub says_head : (v : RevVec) → command_at law s i ≡ Some command.Head → base_of h.past s ≡ Some v → SaysBy law h s i (answer_text (ShowsVector v))
@@ -157,9 +153,8 @@ module _ (law : Orders) (h : History) (s i : ℕ) (base view : Nodes) where
   says_saved r v is drawn ended committed moved seen = (command.Save, ShowsRevision r, is, refl, saved r v drawn ended committed moved seen)
 
   -- what is pending may start to be committed by a save
-  pub may_start : may_save s ≡ true → IsTurn law h.past s base view → command_at law s (next_index h.past s) ≡ Some command.Save → (changes base view ≡ [] → ⊥) → has_few_nodes view ≡ true → MayStart law h s (record { writes = changes base view }) (marks_for [] (changes base view))
-  may_start may turn is some few = record {
-    allowed = may;
+  pub may_start : IsTurn law h.past s base view → command_at law s (next_index h.past s) ≡ Some command.Save → (changes base view ≡ [] → ⊥) → has_few_nodes view ≡ true → MayStart law h s (record { writes = changes base view }) (marks_for [] (changes base view))
+  may_start turn is some few = record {
     saving = is;
     first = turn.fresh;
     pending = sym turn.over.pending;
@@ -207,10 +202,6 @@ module _ (law : Orders) (h : History) (s i : ℕ) (base view : Nodes) where
   -- after a save with too many nodes
   pub turn_too_many : IsTurn law h.past s base view → IsTurn law (event.Said s i (answer_text too_many_nodes) ∷ h.past) s base view
   turn_too_many turn = turn_refused law h.past s i (answer_text too_many_nodes) base view turn.over refl
-
-  -- after a save of a session that may not save
-  pub turn_not_allowed : IsTurn law h.past s base view → IsTurn law (event.Said s i (answer_text (unsupported (word_of command.Save))) ∷ h.past) s base view
-  turn_not_allowed turn = turn_refused law h.past s i (answer_text (unsupported (word_of command.Save))) base view turn.over refl
 
   -- after a `head`
   pub turn_head : (v : RevVec) → IsTurn law h.past s base view → command_at law s i ≡ Some command.Head → IsTurn law (event.Said s i (answer_text (ShowsVector v)) ∷ h.past) s base view

@@ -1,5 +1,5 @@
 -- The law of the product: which edits may start, and which texts may be said.
-use Rattle.std.specs.Prelude.{◌≡◌, ◌≢◌, ℕ, Bool, false, ◌==◌, List, [], ◌∷◌, length, None, Some, IsTrue, IsFalse, nat_le}
+use Rattle.std.specs.Prelude.{◌≡◌, ◌≢◌, ℕ, Bool, false, List, [], ◌∷◌, length, None, Some, IsTrue, IsFalse, nat_le}
 use Rattle.std.specs.Option.{option_map_or}
 use Rattle.jr_path.specs.declared.path.Item.{Item}
 use Rattle.jr_path.specs.declared.text.Text.{Text}
@@ -17,10 +17,10 @@ use Rattle.oak_machine.specs.Marks.{marks_for}
 use Rattle.oak_machine.specs.Sessions.{base_of, is_drawing, next_index, drawn_since, refreshed_since}
 use Rattle.jcr_trans.specs.declared.command.Command.{Command}
 use Rattle.jcr_trans.specs.declared.command.Command.TheVariants as command
-use Rattle.jcr_trans.specs.Commands.{is_plain, word_of}
+use Rattle.jcr_trans.specs.Commands.{is_plain}
 use Rattle.jcr_trans.specs.Answers.{Answer, ShowsRevision, ShowsVector, ShowsNothing, Refused, out_of_memory}
 use Rattle.jcr_trans.specs.Texts.{answer_text}
-use Rattle.jcr_trans.specs.Views.{answered, too_many_nodes, unsupported}
+use Rattle.jcr_trans.specs.Views.{answered, too_many_nodes}
 use Rattle.core_law.specs.State.{Orders, command_at, base_tree, pending_of, view_of}
 
 -- at most 100,000 nodes
@@ -33,13 +33,8 @@ pub record IsPlan (t : Nodes) (edit : Edit) (marks : List MarkAt) : Type 0 where
   pub marked : marks_for t edit.writes ≡ marks
   pub few : IsTrue (has_few_nodes (applied t edit.writes))
 
--- so far the first session alone may save
-abbrev pub may_save : ℕ → Bool
-may_save s = s == 0
-
--- the next command of s, which may save, is a save, nothing was drawn for it yet, and the edit is what is pending
+-- the next command of s is a save, nothing was drawn for it yet, and the edit is what is pending
 pub record MayStart (law : Orders) (h : History) (s : ℕ) (edit : Edit) (marks : List MarkAt) : Type 0 where
-  pub allowed : IsTrue (may_save s)
   pub saving : command_at law s (next_index h.past s) ≡ Some command.Save
   pub first : drawn_since h.past s ≡ None
   pub pending : edit.writes ≡ pending_of law h.past s
@@ -54,12 +49,10 @@ pub data MaySay (law : Orders) (past : Past) (s : ℕ) : Command → Answer → 
   head : (v : RevVec) → base_of past s ≡ Some v → MaySay law past s command.Head (ShowsVector v)
   -- a refresh shows the base to which it moved
   refreshed : (v : RevVec) → refreshed_since past s ≡ Some v → MaySay law past s (command.Refresh false) (ShowsVector v)
-  -- the session may not save
-  not_allowed : IsFalse (may_save s) → MaySay law past s command.Save (unsupported (word_of command.Save))
   -- nothing was pending
-  unchanged : IsTrue (may_save s) → drawn_since past s ≡ None → pending_of law past s ≡ [] → MaySay law past s command.Save ShowsNothing
+  unchanged : drawn_since past s ≡ None → pending_of law past s ≡ [] → MaySay law past s command.Save ShowsNothing
   -- the tree after the edit has too many nodes
-  too_many : IsTrue (may_save s) → drawn_since past s ≡ None → IsFalse (has_few_nodes (view_of law past s)) → MaySay law past s command.Save too_many_nodes
+  too_many : drawn_since past s ≡ None → IsFalse (has_few_nodes (view_of law past s)) → MaySay law past s command.Save too_many_nodes
   -- the edit is committed, and the base sees it
   saved : (r : Revision) (v : RevVec) → drawn_since past s ≡ Some r → IsTrue (is_ended past r) → IsTrue (is_committed past r) → refreshed_since past s ≡ Some v → IsTrue (sees v r) → MaySay law past s command.Save (ShowsRevision r)
   -- the commit was refused for a clash
