@@ -47,7 +47,7 @@ module _ (law : JcrLaw) (p : Shown) (run : SessionRun) (stands : Stands law p ru
   pub sees_reply : (text : Text) → HasSeen run like text → MayAnswer law p like text
   sees_reply text seen =
       let c = between_at law p run stands between read due.See next (apart due.Leave due.See refl) in
-      told_by text c.0 c.1 (plain_by (built c.0) run.session c.2) run.sight like.sight refl refl
+      told_by text c.0 c.1 (plain_by (built c.0) c.2) run.sight like.sight refl refl
       (subst (λ (o : Option Command). RepliesBy o run.sight like.sight text) c.1.command seen)
 
 module _ (law : JcrLaw) (p : Shown) (run : SessionRun) (stands : Stands law p run) (between : run.phase ≡ phase.Between) (read : is_unread run ≡ false) (next : due_for run ≡ due.Save) (text : Text) where

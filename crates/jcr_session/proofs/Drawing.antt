@@ -31,7 +31,7 @@ use Rattle.jcr_trans.specs.declared.command.Command.TheVariants as command
 use Rattle.jcr_trans.specs.Commands.{built}
 use Rattle.jcr_trans.specs.Texts.{memory_text}
 use Rattle.jcr_trans.proofs.Passing.{only_save}
-use Rattle.core_law.specs.Law.{MayStart, may_save}
+use Rattle.core_law.specs.Law.{MayStart}
 use Rattle.core_law.specs.State.{base_tree, command_at}
 use Rattle.core_law.specs.Turns.{IsTurn}
 use Rattle.core_law.proofs.Turns.{may_start}
@@ -49,7 +49,7 @@ use Rattle.jcr_session.specs.declared.turn.Turn.TheVariants as turn
 use Rattle.jcr_session.specs.Sights.{IsBeside, IsIn, says_of, starts_of}
 use Rattle.jcr_session.specs.Standing.{HasTurned, HasView, IsInSave, IsPlanFor, IsPlanOf, IsSaving, IsTurned, MayAnswer, Sees, Stands, StandsAt, due_by, due_for, is_unread, is_writing}
 use Rattle.jcr_session.proofs.Committing.{committing_drawn}
-use Rattle.jcr_session.proofs.Replying.{apart, between_at, forgo_save, idle_between, save_is}
+use Rattle.jcr_session.proofs.Replying.{apart, between_at, forgo_save, idle_between, save_by}
 use Rattle.jcr_session.proofs.Reading.{beside_both}
 use Rattle.jcr_session.proofs.Saying.{IsBetween, answer_waits}
 use Rattle.jcr_session.proofs.Trees.{base_is_tree}
@@ -63,18 +63,11 @@ plan_seen (sight.Reading w) edit marks h = absurd h
 plan_seen (sight.Seen seen) edit marks h = (seen, refl, h)
 
 module _ (law : JcrLaw) (old : Shown) (run : SessionRun) (stands : Stands law old run) (between : run.phase ≡ phase.Between) (read : is_unread run ≡ false) (next : due_for run ≡ due.Save) where
-  -- the next command is a save of a session that may save
-  record IsSave : Type 0 where
-    pub saving : command_at law.sessions run.session run.index ≡ Some command.Save
-    pub allowed : may_save run.session ≡ true
-
-  is_save : IsSave
+  -- the next command is a save
+  is_save : command_at law.sessions run.session run.index ≡ Some command.Save
   is_save =
       let c = between_at law old run stands between read due.Save next (apart due.Leave due.Save refl) in
-      let k = save_is (built c.0) run.session c.2 in record {
-        saving = stands.commands run.index ∙ (c.1.command ∙ ap (λ (d : Command). Some d) (only_save c.0 k.0));
-        allowed = k.1;
-      }
+      stands.commands run.index ∙ (c.1.command ∙ ap (λ (d : Command). Some d) (only_save c.0 (save_by (built c.0) c.2)))
 
   at_between : IsIn law old × Sees law old run run.sight
   at_between = subst (λ (f : Phase). StandsAt law old run f) between stands.at
@@ -106,13 +99,13 @@ module _ (law : JcrLaw) (old : Shown) (run : SessionRun) (stands : Stands law ol
       saving_mid : command_at law.sessions mid.session (next_index mid.history.past mid.session) ≡ Some command.Save
       saving_mid =
           ap (command_at law.sessions mid.session) (sym index_mid)
-          ∙ (ap (λ s. command_at law.sessions s run.index) session_mid ∙ is_save.saving)
+          ∙ (ap (λ s. command_at law.sessions s run.index) session_mid ∙ is_save)
 
       starts_mid : MayStart law.sessions mid.history mid.session edit marks
       starts_mid =
           subst (λ (ms : List MarkAt). MayStart law.sessions mid.history mid.session edit ms) (sym planned.3)
           (subst (λ (ws : List Write). MayStart law.sessions mid.history mid.session (record edit { writes = ws }) (marks_for [] (changes seen.base seen.view))) (sym planned.2)
-          (may_start law.sessions mid.history mid.session run.index seen.base seen.view (ap may_save session_mid ∙ is_save.allowed) turn_mid saving_mid planned.0 planned.1))
+          (may_start law.sessions mid.history mid.session run.index seen.base seen.view turn_mid saving_mid planned.0 planned.1))
 
       commit_may : MayBegin (starts_of law) mid.history mid.session (task.Commit edit marks)
       commit_may = (in_mid.login, in_mid.stays, in_mid.detached, starts_mid)
@@ -202,7 +195,7 @@ module _ (law : JcrLaw) (old : Shown) (run : SessionRun) (stands : Stands law ol
             commands = stands.commands;
             index = index_new;
             at = (in_new, subst (λ (x : Sight). IsInSave law new saving x) (sym at) (
-              record { allowed = is_save.allowed; saving = is_save.saving; room = subst (λ (x : Option ℕ). HasRoom x 40) (sym (steps.room ∙ begins.room_is)) place },
+              record { saving = is_save; room = subst (λ (x : Option ℕ). HasRoom x 40) (sym (steps.room ∙ begins.room_is)) place },
               subst (λ (w : Work). Rattle.jcr_session.specs.Standing.IsCommitting law.sessions new.history.past new.session seen.base seen.view w) (sym made.4)
               (moved (λ h n. Rattle.jcr_session.specs.Standing.IsCommitting law.sessions h.past n seen.base seen.view (Writing made.0.revision))
               (committing_drawn law.sessions behind s made.0.revision made.0 seen.base seen.view made.1.session refl turn_behind.over.idle

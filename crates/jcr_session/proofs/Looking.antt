@@ -180,7 +180,7 @@ between_is phase.Over h = absurd (false≢true h)
 pub refused_forgoes : (law : JcrLaw) (p : Shown) (run : SessionRun) → Stands law p run → IsRefused p run → MayAnswer law p run memory_text
 refused_forgoes law p run stands refused = by (slice_get run.commands run.index) refl refused.needs
   where
-    by : (o : Option Command) → slice_get run.commands run.index ≡ o → needs_tree (Rattle.std.specs.Option.option_map_or (λ c. due_by (built c) run.session) o due.Leave) ≡ true → MayAnswer law p run memory_text
+    by : (o : Option Command) → slice_get run.commands run.index ≡ o → needs_tree (Rattle.std.specs.Option.option_map_or (λ c. due_by (built c)) o due.Leave) ≡ true → MayAnswer law p run memory_text
     by None at needs = absurd (false≢true needs)
     by (Some c) at needs = forgoes law p run c record { stands = stands; between = between_is run.phase refused.between; idle = refused.idle; command = at }
 

@@ -13,11 +13,11 @@ use Rattle.oak_port.specs.Ports.{Idle, Shown}
 use Rattle.jcr_trans.specs.declared.command.Command.{Command}
 use Rattle.jcr_trans.specs.declared.command.Command.TheVariants as command
 use Rattle.jcr_trans.specs.Answers.{ShowsNothing, ShowsVector}
-use Rattle.jcr_trans.specs.Commands.{Built, Adds, Sets, Gets, Lists, Saves, Refreshes, ShowsBase, NotBuilt, built, is_plain, refreshes_by, saves_by, shows_base_by, word_of}
+use Rattle.jcr_trans.specs.Commands.{Built, Adds, Sets, Gets, Lists, Saves, Refreshes, ShowsBase, NotBuilt, built, is_plain, refreshes_by, saves_by, shows_base_by}
 use Rattle.jcr_trans.specs.Texts.{answer_text, memory_text}
-use Rattle.jcr_trans.specs.Views.{answered, too_many_nodes, unsupported, view_after}
+use Rattle.jcr_trans.specs.Views.{answered, too_many_nodes, view_after}
 use Rattle.jcr_trans.proofs.Passing.{only_head, only_refresh, only_save}
-use Rattle.core_law.specs.Law.{has_few_nodes, may_save}
+use Rattle.core_law.specs.Law.{has_few_nodes}
 use Rattle.jcr_session.specs.declared.law.JcrLaw.{JcrLaw}
 use Rattle.jcr_session.specs.declared.run.Due.{Due}
 use Rattle.jcr_session.specs.declared.run.Due.TheVariants as due
@@ -31,7 +31,7 @@ use Rattle.jcr_session.specs.Sights.{IsIn}
 use Rattle.jcr_session.specs.Standing.{HasSeen, HasTurned, IsReply, IsSame, IsTurned, MayAnswer, RepliesBy, Sees, Stands, StandsAt, due_by, due_for, due_of, is_between, is_seen, is_unread, needs_tree}
 use Rattle.jcr_session.specs.declared.turn.Turn.{Turn}
 use Rattle.jcr_session.specs.declared.turn.Turn.TheVariants as turn
-use Rattle.jcr_session.proofs.Saying.{IsBetween, forgoes, nothing_pending, refuses, sees_view, shows_base, too_many_pending}
+use Rattle.jcr_session.proofs.Saying.{IsBetween, forgoes, nothing_pending, sees_view, shows_base, too_many_pending}
 
 -- ---- which command is next
 
@@ -39,9 +39,8 @@ abbrev pub due_number : Due → ℕ
 due_number due.Leave = 0
 due_number due.ShowBase = 1
 due_number due.Refresh = 2
-due_number due.Refuse = 3
-due_number due.Save = 4
-due_number due.See = 5
+due_number due.Save = 3
+due_number due.See = 4
 
 pub apart : {A : Type 0} (a b : Due) → Rattle.std.specs.Prelude.nat_eq (due_number a) (due_number b) ≡ false → a ≡ b → A
 apart a b other same = absurd (false≢true (sym other ∙ (ap (λ d. Rattle.std.specs.Prelude.nat_eq (due_number d) (due_number b)) same ∙ itself (due_number b))))
@@ -49,81 +48,62 @@ apart a b other same = absurd (false≢true (sym other ∙ (ap (λ d. Rattle.std
     itself : (n : ℕ) → Rattle.std.specs.Prelude.nat_eq n n ≡ true
     itself n = grind (arith, nat_tests)
 
-saves_due : {A : Type 0} (b : Bool) (d : Due) → cond b due.Save due.Refuse ≡ d → (due.Save ≡ d → A) → (due.Refuse ≡ d → A) → A
-saves_due true d h x y = x h
-saves_due false d h x y = y h
+pub plain_by : (b : Built) → due_by b ≡ due.See → not (saves_by b || refreshes_by b || shows_base_by b) ≡ true
+plain_by (Adds p) h = refl
+plain_by (Sets p n x) h = refl
+plain_by (Gets p) h = refl
+plain_by (Lists p) h = refl
+plain_by (NotBuilt w) h = refl
+plain_by Saves h = apart due.Save due.See refl h
+plain_by Refreshes h = apart due.Refresh due.See refl h
+plain_by ShowsBase h = apart due.ShowBase due.See refl h
 
-pub plain_by : (b : Built) (s : ℕ) → due_by b s ≡ due.See → not (saves_by b || refreshes_by b || shows_base_by b) ≡ true
-plain_by (Adds p) s h = refl
-plain_by (Sets p n x) s h = refl
-plain_by (Gets p) s h = refl
-plain_by (Lists p) s h = refl
-plain_by (NotBuilt w) s h = refl
-plain_by Saves s h = saves_due (may_save s) due.See h (apart due.Save due.See refl) (apart due.Refuse due.See refl)
-plain_by Refreshes s h = apart due.Refresh due.See refl h
-plain_by ShowsBase s h = apart due.ShowBase due.See refl h
+head_by : (b : Built) → due_by b ≡ due.ShowBase → shows_base_by b ≡ true
+head_by (Adds p) h = apart due.See due.ShowBase refl h
+head_by (Sets p n x) h = apart due.See due.ShowBase refl h
+head_by (Gets p) h = apart due.See due.ShowBase refl h
+head_by (Lists p) h = apart due.See due.ShowBase refl h
+head_by (NotBuilt w) h = apart due.See due.ShowBase refl h
+head_by Saves h = apart due.Save due.ShowBase refl h
+head_by Refreshes h = apart due.Refresh due.ShowBase refl h
+head_by ShowsBase h = refl
 
-head_by : (b : Built) (s : ℕ) → due_by b s ≡ due.ShowBase → shows_base_by b ≡ true
-head_by (Adds p) s h = apart due.See due.ShowBase refl h
-head_by (Sets p n x) s h = apart due.See due.ShowBase refl h
-head_by (Gets p) s h = apart due.See due.ShowBase refl h
-head_by (Lists p) s h = apart due.See due.ShowBase refl h
-head_by (NotBuilt w) s h = apart due.See due.ShowBase refl h
-head_by Saves s h = saves_due (may_save s) due.ShowBase h (apart due.Save due.ShowBase refl) (apart due.Refuse due.ShowBase refl)
-head_by Refreshes s h = apart due.Refresh due.ShowBase refl h
-head_by ShowsBase s h = refl
+pub refresh_by : (b : Built) → due_by b ≡ due.Refresh → refreshes_by b ≡ true
+refresh_by (Adds p) h = apart due.See due.Refresh refl h
+refresh_by (Sets p n x) h = apart due.See due.Refresh refl h
+refresh_by (Gets p) h = apart due.See due.Refresh refl h
+refresh_by (Lists p) h = apart due.See due.Refresh refl h
+refresh_by (NotBuilt w) h = apart due.See due.Refresh refl h
+refresh_by Saves h = apart due.Save due.Refresh refl h
+refresh_by Refreshes h = refl
+refresh_by ShowsBase h = apart due.ShowBase due.Refresh refl h
 
-pub refresh_by : (b : Built) (s : ℕ) → due_by b s ≡ due.Refresh → refreshes_by b ≡ true
-refresh_by (Adds p) s h = apart due.See due.Refresh refl h
-refresh_by (Sets p n x) s h = apart due.See due.Refresh refl h
-refresh_by (Gets p) s h = apart due.See due.Refresh refl h
-refresh_by (Lists p) s h = apart due.See due.Refresh refl h
-refresh_by (NotBuilt w) s h = apart due.See due.Refresh refl h
-refresh_by Saves s h = saves_due (may_save s) due.Refresh h (apart due.Save due.Refresh refl) (apart due.Refuse due.Refresh refl)
-refresh_by Refreshes s h = refl
-refresh_by ShowsBase s h = apart due.ShowBase due.Refresh refl h
-
--- a save, of a session that may make it or may not
-save_by : (d : Due) (want : Bool) → ((b : Bool) → cond b due.Save due.Refuse ≡ d → b ≡ want) → ((x : Due) → x ≡ d → (x ≡ due.See → ⊥) × (x ≡ due.Refresh → ⊥) × (x ≡ due.ShowBase → ⊥)) → (b : Built) (s : ℕ) → due_by b s ≡ d → (saves_by b ≡ true) × (may_save s ≡ want)
-save_by d want which other (Adds p) s h = absurd ((other due.See h).0 refl)
-save_by d want which other (Sets p n x) s h = absurd ((other due.See h).0 refl)
-save_by d want which other (Gets p) s h = absurd ((other due.See h).0 refl)
-save_by d want which other (Lists p) s h = absurd ((other due.See h).0 refl)
-save_by d want which other (NotBuilt w) s h = absurd ((other due.See h).0 refl)
-save_by d want which other Saves s h = (refl, which (may_save s) h)
-save_by d want which other Refreshes s h = absurd ((other due.Refresh h).1 refl)
-save_by d want which other ShowsBase s h = absurd ((other due.ShowBase h).2 refl)
-
-pub save_is : (b : Built) (s : ℕ) → due_by b s ≡ due.Save → (saves_by b ≡ true) × (may_save s ≡ true)
-save_is = save_by due.Save true which (λ x h. (λ k. apart due.See due.Save refl (sym k ∙ h), λ k. apart due.Refresh due.Save refl (sym k ∙ h), λ k. apart due.ShowBase due.Save refl (sym k ∙ h)))
-  where
-    which : (b : Bool) → cond b due.Save due.Refuse ≡ due.Save → b ≡ true
-    which true h = refl
-    which false h = apart due.Refuse due.Save refl h
-
-refuse_is : (b : Built) (s : ℕ) → due_by b s ≡ due.Refuse → (saves_by b ≡ true) × (may_save s ≡ false)
-refuse_is = save_by due.Refuse false which (λ x h. (λ k. apart due.See due.Refuse refl (sym k ∙ h), λ k. apart due.Refresh due.Refuse refl (sym k ∙ h), λ k. apart due.ShowBase due.Refuse refl (sym k ∙ h)))
-  where
-    which : (b : Bool) → cond b due.Save due.Refuse ≡ due.Refuse → b ≡ false
-    which true h = apart due.Save due.Refuse refl h
-    which false h = refl
+pub save_by : (b : Built) → due_by b ≡ due.Save → saves_by b ≡ true
+save_by (Adds p) h = apart due.See due.Save refl h
+save_by (Sets p n x) h = apart due.See due.Save refl h
+save_by (Gets p) h = apart due.See due.Save refl h
+save_by (Lists p) h = apart due.See due.Save refl h
+save_by (NotBuilt w) h = apart due.See due.Save refl h
+save_by Saves h = refl
+save_by Refreshes h = apart due.Refresh due.Save refl h
+save_by ShowsBase h = apart due.ShowBase due.Save refl h
 
 -- a command is something to do
-pub never_leaves : (b : Built) (s : ℕ) → due_by b s ≡ due.Leave → ⊥
-never_leaves (Adds p) s h = apart due.See due.Leave refl h
-never_leaves (Sets p n x) s h = apart due.See due.Leave refl h
-never_leaves (Gets p) s h = apart due.See due.Leave refl h
-never_leaves (Lists p) s h = apart due.See due.Leave refl h
-never_leaves (NotBuilt w) s h = apart due.See due.Leave refl h
-never_leaves Saves s h = saves_due (may_save s) due.Leave h (apart due.Save due.Leave refl) (apart due.Refuse due.Leave refl)
-never_leaves Refreshes s h = apart due.Refresh due.Leave refl h
-never_leaves ShowsBase s h = apart due.ShowBase due.Leave refl h
+pub never_leaves : (b : Built) → due_by b ≡ due.Leave → ⊥
+never_leaves (Adds p) h = apart due.See due.Leave refl h
+never_leaves (Sets p n x) h = apart due.See due.Leave refl h
+never_leaves (Gets p) h = apart due.See due.Leave refl h
+never_leaves (Lists p) h = apart due.See due.Leave refl h
+never_leaves (NotBuilt w) h = apart due.See due.Leave refl h
+never_leaves Saves h = apart due.Save due.Leave refl h
+never_leaves Refreshes h = apart due.Refresh due.Leave refl h
+never_leaves ShowsBase h = apart due.ShowBase due.Leave refl h
 
 -- the next command, where there is one
-pub next_is : (commands : List Command) (i s : ℕ) (d : Due) → due_of s commands i ≡ d → (due.Leave ≡ d → ⊥) → (c : Command) × (slice_get commands i ≡ Some c) × (due_by (built c) s ≡ d)
-next_is commands i s d h some = by (slice_get commands i) refl h
+pub next_is : (commands : List Command) (i : ℕ) (d : Due) → due_of commands i ≡ d → (due.Leave ≡ d → ⊥) → (c : Command) × (slice_get commands i ≡ Some c) × (due_by (built c) ≡ d)
+next_is commands i d h some = by (slice_get commands i) refl h
   where
-    by : (o : Option Command) → slice_get commands i ≡ o → option_map_or (λ c. due_by (built c) s) o due.Leave ≡ d → (c : Command) × (slice_get commands i ≡ Some c) × (due_by (built c) s ≡ d)
+    by : (o : Option Command) → slice_get commands i ≡ o → option_map_or (λ c. due_by (built c)) o due.Leave ≡ d → (c : Command) × (slice_get commands i ≡ Some c) × (due_by (built c) ≡ d)
     by None at h = absurd (some h)
     by (Some c) at h = (c, at, h)
 
@@ -143,17 +123,14 @@ module _ (law : JcrLaw) (p : Shown) (run : SessionRun) (stands : Stands law p ru
           ∙ (ap (λ (x : Sight). cond (is_seen x) false (is_between run.phase && needs_tree (due_for run))) is
           ∙ (ap (λ (f : Phase). is_between f && needs_tree (due_for run)) between ∙ h.1))))
 
-  pub between_at : (d : Due) → due_for run ≡ d → (due.Leave ≡ d → ⊥) → (c : Command) × IsBetween law p run c × (due_by (built c) run.session ≡ d)
-  between_at d h some = let c = next_is run.commands run.index run.session d h some in (c.0, record { stands = stands; between = between; idle = idle_between; command = c.1 }, c.2)
+  pub between_at : (d : Due) → due_for run ≡ d → (due.Leave ≡ d → ⊥) → (c : Command) × IsBetween law p run c × (due_by (built c) ≡ d)
+  between_at d h some = let c = next_is run.commands run.index d h some in (c.0, record { stands = stands; between = between; idle = idle_between; command = c.1 }, c.2)
 
   pub forgo_head : due_for run ≡ due.ShowBase → MayAnswer law p run memory_text
   forgo_head h = let c = between_at due.ShowBase h (apart due.Leave due.ShowBase refl) in forgoes law p run c.0 c.1
 
   pub forgo_refresh : due_for run ≡ due.Refresh → MayAnswer law p run memory_text
   forgo_refresh h = let c = between_at due.Refresh h (apart due.Leave due.Refresh refl) in forgoes law p run c.0 c.1
-
-  pub forgo_refuse : due_for run ≡ due.Refuse → MayAnswer law p run memory_text
-  forgo_refuse h = let c = between_at due.Refuse h (apart due.Leave due.Refuse refl) in forgoes law p run c.0 c.1
 
   pub forgo_save : due_for run ≡ due.Save → MayAnswer law p run memory_text
   forgo_save h = let c = between_at due.Save h (apart due.Leave due.Save refl) in forgoes law p run c.0 c.1
@@ -164,26 +141,18 @@ module _ (law : JcrLaw) (p : Shown) (run : SessionRun) (stands : Stands law p ru
   pub show_base : (v : RevVec) (text : Text) → due_for run ≡ due.ShowBase → base_of p.history.past p.session ≡ Some v → text ≡ answer_text (ShowsVector v) → MayAnswer law p run text
   show_base v text h based is =
       let c = between_at due.ShowBase h (apart due.Leave due.ShowBase refl) in
-      subst (λ (t : Text). MayAnswer law p run t) (sym is) (shows_base law p run c.0 c.1 v (only_head c.0 (head_by (built c.0) run.session c.2)) based)
-
-  pub refuse_save : (text : Text) → due_for run ≡ due.Refuse → text ≡ answer_text (unsupported (word_of command.Save)) → MayAnswer law p run text
-  refuse_save text h is =
-      let c = between_at due.Refuse h (apart due.Leave due.Refuse refl) in
-      let k = refuse_is (built c.0) run.session c.2 in
-      subst (λ (t : Text). MayAnswer law p run t) (sym is) (refuses law p run c.0 c.1 (only_save c.0 k.0) (ap may_save stands.session ∙ k.1))
+      subst (λ (t : Text). MayAnswer law p run t) (sym is) (shows_base law p run c.0 c.1 v (only_head c.0 (head_by (built c.0) c.2)) based)
 
   module _ (seen : Seen) (at : run.sight ≡ sight.Seen seen) (h : due_for run ≡ due.Save) where
     pub save_nothing : (text : Text) → changes seen.base seen.view ≡ [] → text ≡ answer_text ShowsNothing → MayAnswer law p run text
     save_nothing text none is =
         let c = between_at due.Save h (apart due.Leave due.Save refl) in
-        let k = save_is (built c.0) run.session c.2 in
-        subst (λ (t : Text). MayAnswer law p run t) (sym is) (nothing_pending law p run c.0 c.1 seen at (only_save c.0 k.0) (ap may_save stands.session ∙ k.1) none)
+        subst (λ (t : Text). MayAnswer law p run t) (sym is) (nothing_pending law p run c.0 c.1 seen at (only_save c.0 (save_by (built c.0) c.2)) none)
 
     pub save_too_many : (text : Text) → has_few_nodes seen.view ≡ false → text ≡ answer_text too_many_nodes → MayAnswer law p run text
     save_too_many text many is =
         let c = between_at due.Save h (apart due.Leave due.Save refl) in
-        let k = save_is (built c.0) run.session c.2 in
-        subst (λ (t : Text). MayAnswer law p run t) (sym is) (too_many_pending law p run c.0 c.1 seen at (only_save c.0 k.0) (ap may_save stands.session ∙ k.1) many)
+        subst (λ (t : Text). MayAnswer law p run t) (sym is) (too_many_pending law p run c.0 c.1 seen at (only_save c.0 (save_by (built c.0) c.2)) many)
 
 -- ---- the same session with another view
 

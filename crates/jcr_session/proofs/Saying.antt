@@ -22,15 +22,15 @@ use Rattle.oak_port.specs.declared.task.CommitEnd.TheVariants as commit
 use Rattle.jcr_trans.specs.declared.command.Command.{Command}
 use Rattle.jcr_trans.specs.declared.command.Command.TheVariants as command
 use Rattle.jcr_trans.specs.Answers.{Answer, Refused, ShowsNothing, ShowsRevision, ShowsVector}
-use Rattle.jcr_trans.specs.Commands.{is_plain, word_of}
+use Rattle.jcr_trans.specs.Commands.{is_plain}
 use Rattle.jcr_trans.specs.Texts.{answer_text, memory_text}
-use Rattle.jcr_trans.specs.Views.{answered, too_many_nodes, unsupported, view_after}
-use Rattle.core_law.specs.Law.{SaysBy, clashed, has_few_nodes, may_save, refreshed, saved}
+use Rattle.jcr_trans.specs.Views.{answered, too_many_nodes, view_after}
+use Rattle.core_law.specs.Law.{SaysBy, clashed, has_few_nodes, refreshed, saved}
 use Rattle.core_law.specs.State.{base_tree, command_at}
 use Rattle.core_law.specs.Turns.{IsOver, IsTurn}
 use Rattle.core_law.proofs.Lasting.{says_last}
 use Rattle.core_law.proofs.Passing.{idle_stays, next_more, next_stays}
-use Rattle.core_law.proofs.Turns.{says_head, says_memory, says_not_allowed, says_too_many, says_unchanged, says_view, turn_head, turn_memory, turn_not_allowed, turn_refreshed, turn_saved, turn_too_many, turn_unchanged, turn_view}
+use Rattle.core_law.proofs.Turns.{says_head, says_memory, says_too_many, says_unchanged, says_view, turn_head, turn_memory, turn_refreshed, turn_saved, turn_too_many, turn_unchanged, turn_view}
 use Rattle.jcr_session.specs.declared.law.JcrLaw.{JcrLaw}
 use Rattle.jcr_session.specs.declared.run.Phase.TheVariants as phase
 use Rattle.jcr_session.specs.declared.run.SessionRun.{SessionRun}
@@ -253,12 +253,6 @@ module _ (law : JcrLaw) (p : Shown) (run : SessionRun) (c : Command) (is : IsBet
       stays_by (answer_text (ShowsVector v)) (says_head law.sessions p.history p.session run.index [] [] v at based)
       (λ h base view turn. turn_head law.sessions h p.session run.index base view v turn at)
 
-  pub refuses : c ≡ command.Save → may_save p.session ≡ false → MayAnswer law p run (answer_text (unsupported (word_of command.Save)))
-  refuses save may =
-      let at = subst (λ (d : Command). command_at law.sessions p.session run.index ≡ Some d) save command_is in
-      stays_by (answer_text (unsupported (word_of command.Save))) (says_not_allowed law.sessions p.history p.session run.index [] [] may at)
-      (λ h base view turn. turn_not_allowed law.sessions h p.session run.index base view turn)
-
 -- ---- with a view
 
 module _ (law : JcrLaw) (p : Shown) (run : SessionRun) (c : Command) (is : IsBetween law p run c) (seen : Seen) (sees : run.sight ≡ sight.Seen seen) where
@@ -279,7 +273,7 @@ module _ (law : JcrLaw) (p : Shown) (run : SessionRun) (c : Command) (is : IsBet
         (turn_then law p p.session (inside_is law p run c is) added later others seen.base seen.view turn_is) (command_is law p run c is) plain;
   }
 
-  module _ (save : c ≡ command.Save) (may : may_save p.session ≡ true) where
+  module _ (save : c ≡ command.Save) where
     save_at : command_at law.sessions p.session run.index ≡ Some command.Save
     save_at = subst (λ (d : Command). command_at law.sessions p.session run.index ≡ Some d) save (command_is law p run c is)
 
@@ -299,9 +293,9 @@ module _ (law : JcrLaw) (p : Shown) (run : SessionRun) (c : Command) (is : IsBet
     }
 
     pub nothing_pending : changes seen.base seen.view ≡ [] → MayAnswer law p run (answer_text ShowsNothing)
-    nothing_pending none = same_view (answer_text ShowsNothing) (says_unchanged law.sessions p.history p.session run.index seen.base seen.view may turn_is save_at none)
+    nothing_pending none = same_view (answer_text ShowsNothing) (says_unchanged law.sessions p.history p.session run.index seen.base seen.view turn_is save_at none)
         (λ h turn. turn_unchanged law.sessions h p.session run.index seen.base seen.view turn save_at none)
 
     pub too_many_pending : has_few_nodes seen.view ≡ false → MayAnswer law p run (answer_text too_many_nodes)
-    too_many_pending many = same_view (answer_text too_many_nodes) (says_too_many law.sessions p.history p.session run.index seen.base seen.view may turn_is save_at many)
+    too_many_pending many = same_view (answer_text too_many_nodes) (says_too_many law.sessions p.history p.session run.index seen.base seen.view turn_is save_at many)
         (λ h turn. turn_too_many law.sessions h p.session run.index seen.base seen.view turn)

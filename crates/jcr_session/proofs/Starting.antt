@@ -32,7 +32,7 @@ use Rattle.jcr_trans.specs.Commands.{Built, built}
 use Rattle.jcr_trans.specs.Texts.{memory_text}
 use Rattle.jcr_trans.proofs.Passing.{only_refresh, only_save}
 use Rattle.core_heads.proofs.Runs.{fresh_run}
-use Rattle.core_law.specs.Law.{MayStart, has_few_nodes, may_save}
+use Rattle.core_law.specs.Law.{MayStart, has_few_nodes}
 use Rattle.core_law.specs.State.{base_tree, command_at}
 use Rattle.core_law.specs.Turns.{IsTurn}
 use Rattle.core_law.proofs.Passing.{among_same, idle_stays, next_stays}
@@ -51,7 +51,7 @@ use Rattle.jcr_session.specs.Sights.{IsBeside, IsIn, says_of, starts_of}
 use Rattle.jcr_session.specs.Standing.{HasTurned, HasView, IsInSave, IsRefreshed, IsSaving, MayAnswer, Sees, Stands, StandsAt, due_by, due_for, due_of, is_unread, is_writing, pinned_by}
 use Rattle.jcr_session.proofs.Committing.{committing_drawn}
 use Rattle.jcr_session.proofs.Reading.{beside_both}
-use Rattle.jcr_session.proofs.Replying.{between_at, forgo_refresh, idle_between, never_leaves, refresh_by, save_is, sees}
+use Rattle.jcr_session.proofs.Replying.{between_at, forgo_refresh, idle_between, never_leaves, refresh_by, sees}
 use Rattle.jcr_session.proofs.Lawful.{some_is}
 use Rattle.jcr_session.proofs.Saying.{IsBetween, answer_waits}
 use Rattle.jcr_session.proofs.Trees.{base_is_tree}
@@ -138,14 +138,11 @@ pub refresh_begins : (law : JcrLaw) (p : Shown) (run : SessionRun) → Stands la
 refresh_begins law p run stands between = let i = inside_of law p run stands between in (i.login, i.stays, i.detached)
 
 -- a session that has nothing left to do has answered each command
-all_answered : (commands : List Command) (i s : ℕ) → i ≤ length commands → due_of s commands i ≡ due.Leave → i ≡ length commands
-all_answered [] zero s within h = refl
-all_answered [] (suc i) s within h = absurd (omega arith)
-all_answered (c ∷ commands) zero s within h = absurd (leaves (built c) h)
-  where
-    leaves : (b : Built) → due_by b s ≡ due.Leave → ⊥
-    leaves b h = never_leaves b s h
-all_answered (c ∷ commands) (suc i) s within h = let r : i ≡ length commands = all_answered commands i s (omega arith) h in omega arith
+all_answered : (commands : List Command) (i : ℕ) → i ≤ length commands → due_of commands i ≡ due.Leave → i ≡ length commands
+all_answered [] zero within h = refl
+all_answered [] (suc i) within h = absurd (omega arith)
+all_answered (c ∷ commands) zero within h = absurd (never_leaves (built c) h)
+all_answered (c ∷ commands) (suc i) within h = let r : i ≡ length commands = all_answered commands i (omega arith) h in omega arith
 
 -- it leaves
 pub left : (law : JcrLaw) (old mid new : Shown) (room : Option ℕ) (run now : SessionRun) (t : Turn) → Stands law old run → run.phase ≡ phase.Between → is_unread run ≡ false → due_for run ≡ due.Leave
@@ -172,7 +169,7 @@ left law old mid new room run now t stands between read next waits steps is told
           record {
             idle = m.1;
             left = added law old mid new task.End (out.Ready end.Ended) room inside waits steps (event.Went mid.session kind.End ∷ []) m.0 (λ h n. has_left h.past n ≡ true) (ap (λ b. b || has_left (steps.others ++ mid.history.past) mid.session) (own mid.session));
-            all = all_answered run.commands run.index run.session stands.within next;
+            all = all_answered run.commands run.index stands.within next;
           };
     }))
 
@@ -227,7 +224,7 @@ module _ (law : JcrLaw) (old mid new : Shown) (room : Option ℕ) (run : Session
   refreshing_is : command_at law.sessions run.session run.index ≡ Some (command.Refresh false)
   refreshing_is =
       let c = between_at law old run stands between read due.Refresh next (λ h. leave_apart h) in
-      stands.commands run.index ∙ (c.1.command ∙ ap (λ (d : Command). Some d) (only_refresh c.0 (refresh_by (Rattle.jcr_trans.specs.Commands.built c.0) run.session c.2)))
+      stands.commands run.index ∙ (c.1.command ∙ ap (λ (d : Command). Some d) (only_refresh c.0 (refresh_by (Rattle.jcr_trans.specs.Commands.built c.0) c.2)))
     where
       leave_apart : due.Leave ≡ due.Refresh → ⊥
       leave_apart h = Rattle.jcr_session.proofs.Replying.apart due.Leave due.Refresh refl h

@@ -56,7 +56,7 @@ module _ (law : JcrLaw) (p q : Shown) (run : SessionRun) (stands : Stands law p 
   sees_now (sight.Seen seen) (idle, turn) = (work ∙ idle, turn_now seen.base seen.view turn)
 
   saving_now : IsSaving law p run → IsSaving law q run
-  saving_now is = record { allowed = is.allowed; saving = is.saving; room = subst (λ (x : Option ℕ). HasRoom x 40) (sym room) is.room }
+  saving_now is = record { saving = is.saving; room = subst (λ (x : Option ℕ). HasRoom x 40) (sym room) is.room }
 
   in_save_now : (x : Sight) → IsInSave law p run x → IsInSave law q run x
   in_save_now sight.Unread h = absurd h

@@ -258,7 +258,7 @@ module _ (law : JcrLaw) (old new : Shown) (answer : StepOut) (run : SessionRun) 
     seen_by (sight.Seen seen) (is, committing) = (seen, refl, is, committing)
 
     saving_now : (f : Phase) → IsSaving law old run → IsSaving law new (record run { phase = f })
-    saving_now f is = record { allowed = is.allowed; saving = is.saving; room = subst (λ (x : Option ℕ). Rattle.oak_port.specs.Ports.HasRoom x 40) (sym steps.room) is.room }
+    saving_now f is = record { saving = is.saving; room = subst (λ (x : Option ℕ). Rattle.oak_port.specs.Ports.HasRoom x 40) (sym steps.room) is.room }
 
     still : (base view : Nodes) (work : Work) → IsCommitting law.sessions old.history.past old.session base view work → IsCommitting law.sessions moment.past old.session base view work
     still = committing_still law old.history.clusters old.history.sessions inside.nodes old.session steps.others old.history.past inside.run run_moment steps.grows.theirs

@@ -13,9 +13,9 @@ use Rattle.oak_machine.specs.Commits.{is_committed, is_ended, refusal_of}
 use Rattle.oak_machine.specs.Sessions.{base_of, drawn_since, next_index, refreshed_since}
 use Rattle.jcr_trans.specs.declared.command.Command.{Command}
 use Rattle.jcr_trans.specs.Answers.{Answer, ShowsNothing, ShowsRevision, ShowsVector, Refused}
-use Rattle.jcr_trans.specs.Commands.{Built, Saves, Refreshes, ShowsBase, built, word_of}
-use Rattle.jcr_trans.specs.Views.{answered, too_many_nodes, unsupported}
-use Rattle.core_law.specs.Law.{has_few_nodes, may_save}
+use Rattle.jcr_trans.specs.Commands.{Built, Saves, Refreshes, ShowsBase, built}
+use Rattle.jcr_trans.specs.Views.{answered, too_many_nodes}
+use Rattle.core_law.specs.Law.{has_few_nodes}
 use Rattle.core_law.specs.State.{Orders, command_at, pending_of, view_of}
 
 -- a save before its commit: with nothing pending, or with too many nodes; else it has to commit first
@@ -42,9 +42,9 @@ save_answer law past s (Some r) = cond (is_ended past r) (ended_answer past s r)
 abbrev pub vector_answer : Option RevVec → Option Answer
 vector_answer v = option_map ShowsVector v
 
--- a command: a save by its commit, where the session may save; a refresh by where the base moved for it; `head` by the base; another one by the view
+-- a command: a save by its commit; a refresh by where the base moved for it; `head` by the base; another one by the view
 abbrev pub answer_by : Built → Orders → Past → ℕ → Command → Option Answer
-answer_by Saves law past s c = cond (may_save s) (save_answer law past s (drawn_since past s)) (Some (unsupported (word_of c)))
+answer_by Saves law past s c = save_answer law past s (drawn_since past s)
 answer_by Refreshes law past s c = vector_answer (refreshed_since past s)
 answer_by ShowsBase law past s c = vector_answer (base_of past s)
 answer_by _ law past s c = Some (answered c (view_of law past s))

@@ -32,7 +32,7 @@ use Rattle.jcr_trans.specs.declared.command.Command.TheVariants as command
 use Rattle.jcr_trans.specs.Texts.{answer_text, memory_text}
 use Rattle.jcr_trans.specs.Views.{answered, view_after}
 use Rattle.jcr_trans.specs.Commands.{Built, Saves, Refreshes, ShowsBase, built}
-use Rattle.core_law.specs.Law.{SaysBy, has_few_nodes, may_save}
+use Rattle.core_law.specs.Law.{SaysBy, has_few_nodes}
 use Rattle.core_law.specs.State.{Orders, base_tree, command_at, pending_of}
 use Rattle.core_law.specs.Turns.{IsOver, IsTurn}
 use Rattle.jcr_session.specs.declared.law.JcrLaw.{JcrLaw}
@@ -51,15 +51,15 @@ use Rattle.jcr_session.specs.Sights.{IsBeside, IsIn, Reads, says_of, starts_of}
 
 -- ---- the next command
 
--- what is to be done for a command: a save by whether the session may save; a refresh; the base; or an answer by the view
-abbrev pub due_by : Built → ℕ → Due
-due_by Saves s = cond (may_save s) due.Save due.Refuse
-due_by Refreshes s = due.Refresh
-due_by ShowsBase s = due.ShowBase
-due_by _ s = due.See
+-- what is to be done for a command: a save; a refresh; the base; or an answer by the view
+abbrev pub due_by : Built → Due
+due_by Saves = due.Save
+due_by Refreshes = due.Refresh
+due_by ShowsBase = due.ShowBase
+due_by _ = due.See
 
-abbrev pub due_of : ℕ → List Command → ℕ → Due
-due_of s commands i = option_map_or (λ c. due_by (built c) s) (slice_get commands i) due.Leave
+abbrev pub due_of : List Command → ℕ → Due
+due_of commands i = option_map_or (λ c. due_by (built c)) (slice_get commands i) due.Leave
 
 -- it needs the tree at the base
 abbrev pub needs_tree : Due → Bool
@@ -68,7 +68,7 @@ needs_tree due.See = true
 needs_tree _ = false
 
 abbrev pub due_for : SessionRun → Due
-due_for run = due_of run.session run.commands run.index
+due_for run = due_of run.commands run.index
 
 abbrev pub is_between : Phase → Bool
 is_between phase.Between = true
@@ -123,7 +123,6 @@ HasCommitted law past s base view commit.Memory = IsOver law past s base view
 
 -- the next command is a save, and its reply has a place for the longest text that tells of a commit
 pub record IsSaving (law : JcrLaw) (p : Shown) (run : SessionRun) : Type 0 where
-  pub allowed : IsTrue (may_save run.session)
   pub saving : command_at law.sessions run.session run.index ≡ Some command.Save
   pub room : HasRoom p.room 40
 

@@ -13,6 +13,6 @@ mod tests;
 mod turn;
 
 pub use law::JcrLaw;
-pub use next::{eval, may_save};
+pub use next::eval;
 pub use run::SessionRun;
 pub use turn::Turn;

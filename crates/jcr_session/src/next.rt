@@ -7,14 +7,14 @@ ghost use Rattle.jcr_trans.specs.Views.{answered};
 ghost use Rattle.oak_machine.specs.History.{history_of};
 ghost use Rattle.oak_machine.specs.Commits.{is_ended, refusal_of};
 ghost use Rattle.oak_machine.specs.Sessions.{drawn_since, next_index};
-ghost use Rattle.core_law.specs.Law.{SaysBy, may_save};
+ghost use Rattle.core_law.specs.Law.{SaysBy};
 ghost use Rattle.core_law.specs.State.{command_at};
 
 use crate::law::JcrLaw;
 use crate::past::{drawn_since, refreshed_since, refusal_of};
 use crate::pending::{pending_of, view_of};
 use jcr_trans::{
-    Command, null_reply, refusal_text, revision_reply, run, too_many_reply, unsupported_reply,
+    Command, null_reply, refusal_text, revision_reply, run, too_many_reply,
     vector_reply,
 };
 use jr_path::{DeepCopy, List};
@@ -67,12 +67,7 @@ fn reply(
 {
     let events = journal.events.as_slice();
     match command {
-        Command::Save => {
-            if may_save(session) {
-                return save_reply(alloc, law, journal, session);
-            }
-            Ok(Some(unsupported_reply(alloc, command)?))
-        }
+        Command::Save => save_reply(alloc, law, journal, session),
         Command::Refresh(false) => shown_vector(alloc, refreshed_since(events, session)),
         Command::Head => shown_vector(alloc, base_of(events, session)),
         _ => {
@@ -80,13 +75,6 @@ fn reply(
             Ok(Some(view_reply(alloc, command, view)?))
         }
     }
-}
-
-/// Whether a session may save: so far the first one alone.
-pub fn may_save(session: u32) -> bool
-    ensures { result ≡ may_save session }
-{
-    session == 0
 }
 
 // The reply that shows a vector, where there is one.

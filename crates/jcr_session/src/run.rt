@@ -13,12 +13,11 @@ ghost use Rattle.jcr_session.specs.declared.run.Phase.TheVariants as phase;
 ghost use Rattle.jcr_session.specs.declared.run.Plan.TheVariants as plan;
 
 use crate::law::JcrLaw;
-use crate::next::may_save;
 use crate::sight::{Seen, Sight, look};
 use crate::turn::Turn;
 use jcr_plan::marks_of;
 use jcr_trans::{
-    Command, null_reply, refusal_text, revision_reply, run, too_many_reply, unsupported_reply,
+    Command, null_reply, refusal_text, revision_reply, run, too_many_reply,
     vector_reply,
 };
 use jr_path::{DeepCopy, Item, List};
@@ -77,9 +76,7 @@ enum Due {
     ShowBase,
     // `refresh` with false: the base moves.
     Refresh,
-    // `save` of a session that may not save.
-    Refuse,
-    // `save` of another one.
+    // `save`: what is pending is committed.
     Save,
     // Another command is answered by the view.
     See,
@@ -185,13 +182,7 @@ impl SessionRun {
             None => Due::Leave,
             Some(Command::Head) => Due::ShowBase,
             Some(Command::Refresh(false)) => Due::Refresh,
-            Some(Command::Save) => {
-                if may_save(self.session) {
-                    Due::Save
-                } else {
-                    Due::Refuse
-                }
-            }
+            Some(Command::Save) => Due::Save,
             Some(_) => Due::See,
         }
     }
@@ -239,7 +230,6 @@ impl SessionRun {
             Due::Leave => self.leave(port),
             Due::ShowBase => self.show_base(port),
             Due::Refresh => self.refresh(port),
-            Due::Refuse => self.refuse(port),
             Due::Save => self.save(port),
             Due::See => self.see(port),
         }
@@ -281,20 +271,6 @@ impl SessionRun {
             return Turn::Memory;
         };
         let text = vector_reply(self.alloc, &pin.base);
-        self.say_made(port, text)
-    }
-
-    // Refuses the command, which this session may not make.
-    #[tactic(auto, using(crate::proofs::Replying::forgo_refuse, crate::proofs::Replying::refuse_save, crate::proofs::Answering::made_ok, crate::proofs::Answering::made_err))]
-    fn refuse<P: Port<L = JcrLaw>>(&mut self, port: &mut P) -> Turn
-        requires stands { Stands (P.law port.old) (P.shown port.old) self.old }
-        requires between { self.old.phase ≡ phase.Between }
-        requires read { IsFalse (is_unread self.old) }
-        requires next { due_for self.old ≡ due.Refuse }
-        ensures law { P.law port.new ≡ P.law port.old }
-        ensures turned { HasTurned (P.law port.old) (P.shown port.old) (P.shown port.new) self.old self.new result }
-    {
-        let text = unsupported_reply(self.alloc, &Command::Save);
         self.say_made(port, text)
     }
 

@@ -2,10 +2,10 @@ ghost use Rattle.std.specs.Prelude.{◌≡◌};
 
 use crate::{JcrLaw, eval};
 use jcr_trans::Command;
-use jr_path::{List, Path, Text};
+use jr_path::{Item, List, Path, Text};
 use jr_rev::{RevVec, Revision};
 use jr_tree::{Edit, Write};
-use oak_machine::{Draw, Event, Journal, next_index};
+use oak_machine::{Draw, Event, Events, Journal, next_index};
 use std::alloc::{AllocError, Global};
 use std::test::Fail;
 
@@ -19,12 +19,14 @@ enum Step {
     Waits(u32),
     // The first session draws a revision of that time, which adds `/a`, and commits it.
     Commits(u64),
+    // The second session draws a revision of that time, which adds `/a` too, and is refused for the first one's.
+    Clashes(u64),
     // The base of a session moves to the revision of that time.
     Moves(u32, u64),
 }
 
-// The first session saves, and the second one follows it.
-const STEPS: [Step; 24] = [
+// The first session saves, the second one clashes with it, and then follows it.
+const STEPS: [Step; 26] = [
     Step::Waits(1),
     Step::Login(0),
     Step::Login(1),
@@ -38,8 +40,10 @@ const STEPS: [Step; 24] = [
     Step::Says(0, r#"ok "r1-0-1""#),
     Step::Says(0, r#"ok "r1-0-1,r0-0-2""#),
     Step::Says(1, "ok"),
-    Step::Says(1, r#"ok ["b","jcr:system"]"#),
-    Step::Says(1, r#"no 12 ["save"]"#),
+    Step::Says(1, r#"ok ["a","jcr:system"]"#),
+    Step::Waits(1),
+    Step::Clashes(1),
+    Step::Says(1, r#"no 10 ["/a","r1-0-1"]"#),
     Step::Says(1, r#"no 12 ["refresh"]"#),
     Step::Says(1, r#"ok "r0-0-1,r0-0-2""#),
     Step::Waits(1),
@@ -60,7 +64,7 @@ fn law(alloc: Global) -> Result<JcrLaw, AllocError> {
     first.push(Command::Save)?;
     let mut second = List::new(alloc);
     second.push(Command::Head)?;
-    second.push(Command::Add(path(alloc, "/b")?, None))?;
+    second.push(Command::Add(path(alloc, "/a")?, None))?;
     second.push(Command::List(path(alloc, "/")?))?;
     second.push(Command::Save)?;
     second.push(Command::Refresh(true))?;
@@ -110,21 +114,47 @@ fn reply(
     }
 }
 
-fn commit(alloc: Global, events: &mut List<Event>, time: u64) -> Result<(), AllocError> {
+// A session draws a revision that adds `/a`.
+fn draw(
+    alloc: Global,
+    events: &mut Events,
+    session: u32,
+    revision: Revision,
+) -> Result<(), AllocError> {
     let mut writes = List::new(alloc);
     writes.push(Write::Here(path(alloc, "/a")?))?;
     events.push(Event::Draw(Draw {
-        revision: revision(time),
-        session: 0,
+        revision,
+        session,
         base: base(0),
         edit: Edit { writes },
         marks: List::new(alloc),
-    }))?;
-    events.push(Event::Commit(revision(time)))?;
-    events.push(Event::End(revision(time)))
+    }))
 }
 
-fn say(events: &mut List<Event>, session: u32, text: String) -> Result<(), AllocError> {
+fn commit(alloc: Global, events: &mut Events, time: u64) -> Result<(), AllocError> {
+    let revision = revision(time);
+    draw(alloc, events, 0, revision)?;
+    events.push(Event::Commit(revision))?;
+    events.push(Event::End(revision))
+}
+
+fn clash(alloc: Global, events: &mut Events, time: u64) -> Result<(), AllocError> {
+    let first = revision(time);
+    let second = Revision {
+        cluster: 2,
+        ..first
+    };
+    draw(alloc, events, 1, second)?;
+    let item = Item {
+        path: path(alloc, "/a")?,
+        name: None,
+    };
+    events.push(Event::Refuse(second, item, first))?;
+    events.push(Event::End(second))
+}
+
+fn say(events: &mut Events, session: u32, text: String) -> Result<(), AllocError> {
     let Ok(index) = u32::try_from(next_index(events.as_slice(), session)) else {
         return Err(AllocError);
     };
@@ -138,12 +168,13 @@ fn replies_of_two_sessions(rt: HostRuntime) -> Result<(), Fail> {
     let mut journal = Journal {
         clusters: 2,
         sessions: List::new(alloc),
-        events: List::new(alloc),
+        events: Events::new(alloc),
     };
     for step in STEPS {
         match step {
             Step::Login(session) => journal.events.push(Event::Login(session, base(0)))?,
             Step::Commits(time) => commit(alloc, &mut journal.events, time)?,
+            Step::Clashes(time) => clash(alloc, &mut journal.events, time)?,
             Step::Moves(session, time) => journal.events.push(Event::Refresh(session, base(time)))?,
             Step::Waits(session) => {
                 let found = reply(alloc, &law, &journal, session)?;
