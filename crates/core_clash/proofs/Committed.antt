@@ -13,7 +13,7 @@ use Rattle.oak_commit.specs.Clashing.{noted, collision}
 use Rattle.core_clash.specs.Core.{Core, Docs, root_of, IsDone, MayLast}
 use Rattle.core_clash.specs.Sound.{Sound, Noticed, Stands, IsWhole}
 use Rattle.core_clash.proofs.Basics.{same_revision, is_same_self, or_left, or_right, or_cases}
-use Rattle.core_clash.proofs.Pasts.{cause_later, refusal_later, due_later}
+use Rattle.core_clash.proofs.Pasts.{cause_later, due_later}
 use Rattle.core_clash.proofs.Effects.{Notes}
 
 module _ (s : Core) (d : Draw) (number : ℕ) (docs : Docs) where
@@ -78,7 +78,7 @@ module _ (s : Core) (d : Draw) (number : ℕ) (docs : Docs) where
       once = sound.once;
       listed = sound.listed;
       stopped = sound.stopped;
-      refusal = λ o h. refusal_later _ s.past o refl (λ x k. refl) (sound.refusal o h);
+      refusal = λ o item x h. cause_later _ s.past o item x refl refl (sound.refusal o item x h);
       covered = sound.covered;
       refused = sound.refused;
       ended = λ o h. ended o (sound.ended o h);

@@ -18,7 +18,7 @@ use Rattle.core_clash.specs.Sound.{Sound, IsListed, Noticed, Stands, IsOf, IsRoo
 use Rattle.core_clash.specs.Core.{Core, root_of, MayBegin, after_draw}
 use Rattle.core_clash.specs.Sound.{Sound, IsListed, Noticed, Stands, IsOf, IsDue, Cause}
 use Rattle.core_clash.proofs.Basics.{not_both, decide, is_same_self, at_writer, writer_mine, writer_other, some_is}
-use Rattle.core_clash.proofs.Pasts.{cause_later, refusal_later, due_later, live_drawn, marks_drawn, still_drawn}
+use Rattle.core_clash.proofs.Pasts.{cause_later, due_later, live_drawn, marks_drawn, still_drawn}
 
 module _ (s : Core) (d : Draw) (left : List Path) where
   abbrev r : Revision
@@ -174,7 +174,7 @@ module _ (s : Core) (d : Draw) (left : List Path) where
       once = once;
       listed = listed;
       stopped = stopped;
-      refusal = λ o h. refusal_later (event.Draw d) s.past o (stays o (old o (sound.refused_drawn o h))) (λ x k. stays x (old x k)) (sound.refusal o h);
+      refusal = λ o item x h. caused (root_of s.past o) o x item (sound.refusal o item x h);
       covered = covered;
       refused = λ o h. rw (writer_stays o (sound.refused_drawn o h)) (sound.refused o h);
       ended = λ o h. rw (writer_stays o (sound.ended_drawn o h)) (sound.ended o h);

@@ -10,7 +10,7 @@ use Rattle.oak_machine.specs.Commits.{is_drawn, is_ended}
 use Rattle.core_clash.specs.Core.{Core, IsDone, MayFinish, after_finish, after_event, is_quiet}
 use Rattle.core_clash.specs.Sound.{Sound}
 use Rattle.core_clash.proofs.Basics.{same_revision, or_cases}
-use Rattle.core_clash.proofs.Pasts.{cause_later, refusal_later, due_later}
+use Rattle.core_clash.proofs.Pasts.{cause_later, due_later}
 
 module _ (s : Core) (d : Draw) where
   abbrev r : Revision
@@ -48,7 +48,7 @@ module _ (s : Core) (d : Draw) where
       once = sound.once;
       listed = sound.listed;
       stopped = sound.stopped;
-      refusal = λ o h. refusal_later _ s.past o refl (λ x k. refl) (sound.refusal o h);
+      refusal = λ o item x h. cause_later _ s.past o item x refl refl (sound.refusal o item x h);
       covered = sound.covered;
       refused = sound.refused;
       ended = of_ended (IsDone s) may.done sound.ended;
@@ -82,7 +82,7 @@ event_keeps s e q sound = record {
   once = sound.once;
   listed = sound.listed;
   stopped = sound.stopped;
-  refusal = λ o h. refusal_later _ s.past o refl (λ x k. refl) (sound.refusal o h);
+  refusal = λ o item x h. cause_later _ s.past o item x refl refl (sound.refusal o item x h);
   covered = sound.covered;
   refused = sound.refused;
   ended = sound.ended;

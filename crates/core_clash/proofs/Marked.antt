@@ -13,7 +13,7 @@ use Rattle.core_clash.specs.Views.{In}
 use Rattle.core_clash.specs.Core.{Core, Docs, with_writer, root_of, IsDone, MayMark}
 use Rattle.core_clash.specs.Sound.{Sound, IsListed, Noticed, Stands, IsWhole, IsOf, IsDue, Cause, IsWriterOf}
 use Rattle.core_clash.proofs.Basics.{test, not_both, at_writer, or_right, some_of}
-use Rattle.core_clash.proofs.Pasts.{cause_later, refusal_later, due_later, live_now, in_flight}
+use Rattle.core_clash.proofs.Pasts.{cause_later, due_later, live_now, in_flight}
 use Rattle.core_clash.proofs.Effects.{Marks}
 
 module _ (s : Core) (d : Draw) (f : Met) (rest : List Met) (number : ℕ) (docs : Docs) where
@@ -68,6 +68,7 @@ module _ (s : Core) (d : Draw) (f : Met) (rest : List Met) (number : ℕ) (docs 
     caused : (q : Path) (x : Revision) (e : Revision × Item) → (collision (s.docs q) x ≡ Some e) ⊎ ((x ≡ f.other) × (e ≡ (r, f.theirs))) → Cause t.past x e.1 e.0
     caused q x e (inl h) = cause_later _ s.past x e.1 e.0 refl refl (sound.caused q x e.0 e.1 h)
     caused q x e (inr h) = rw (h.0, h.1) (record {
+      another = λ same. this_due.cause.another (sym same);
       other = rw may.going.draw refl;
       met = this_due.theirs;
       outside = sound.settled f.other r flying;
@@ -125,7 +126,7 @@ module _ (s : Core) (d : Draw) (f : Met) (rest : List Met) (number : ℕ) (docs 
       once = λ o. rw (same_written, same_left) (sound.once o);
       listed = listed;
       stopped = stopped;
-      refusal = λ o h. refusal_later _ s.past o refl (λ x k. refl) (sound.refusal o h);
+      refusal = λ o item x h. cause_later _ s.past o item x refl refl (sound.refusal o item x h);
       covered = λ o q m h going. rw (same_written, same_left) (sound.covered o q m h (rw same_undoing at going));
       refused = λ o h. rw same_undoing (sound.refused o h);
       ended = λ o h. ended o h (sound.ended o h);

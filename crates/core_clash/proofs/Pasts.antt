@@ -3,16 +3,18 @@ use Rattle.std.proofs.Common.{◌≡◌, Bool, true, false, cond, ◌||◌, not,
 use mathlib.Core.Bool.{false≢true}
 use Rattle.jr_path.specs.declared.path.Item.{Item}
 use Rattle.jr_rev.specs.declared.revision.Revision.{Revision}
+use Rattle.jr_rev.specs.Revisions.{is_same}
 use Rattle.oak_clash.specs.declared.mark.MarkAt.{MarkAt}
 use Rattle.std.specs.Option.{option_map_or}
 use Rattle.oak_machine.specs.declared.event.Draw.{Draw}
 use Rattle.oak_machine.specs.declared.event.Event.{Event}
+use Rattle.oak_machine.specs.declared.event.Event.TheVariants as event
 use Rattle.oak_machine.specs.History.{Past}
-use Rattle.oak_machine.specs.Commits.{draw_of, marks_of, is_drawn, is_committed, is_ended, is_in_flight}
+use Rattle.oak_machine.specs.Commits.{draw_of, marks_of, is_drawn, is_committed, is_ended, is_in_flight, is_refused, refusal_of}
 use Rattle.oak_machine.specs.Runs.{was_live_beside}
 use Rattle.oak_commit.specs.Clashing.{Met}
 use Rattle.core_clash.specs.Views.{In}
-use Rattle.core_clash.specs.Sound.{Cause, HasCause, IsDue}
+use Rattle.core_clash.specs.Sound.{Cause, IsDue}
 use Rattle.core_clash.proofs.Basics.{or_left, or_right, and_true, and_both}
 
 -- a later draw hides no earlier one
@@ -45,10 +47,17 @@ abbrev pub KeepsDraw : Event → Past → Revision → Type 0
 KeepsDraw e past r = draw_of (e ∷ past) r ≡ draw_of past r
 
 pub cause_later : (e : Event) (past : Past) (r : Revision) (item : Item) (o : Revision) → KeepsDraw e past r → KeepsDraw e past o → Cause past r item o → Cause (e ∷ past) r item o
-cause_later e past r item o kr ko c = record { other = rw ko c.other; met = rw (kr, ko) c.met; outside = rw kr c.outside; live = live_later e past r o kr c.live }
+cause_later e past r item o kr ko c = record { another = c.another; other = rw ko c.other; met = rw (kr, ko) c.met; outside = rw kr c.outside; live = live_later e past r o kr c.live }
 
-pub refusal_later : (e : Event) (past : Past) (r : Revision) → KeepsDraw e past r → ((o : Revision) → is_drawn past o ≡ true → KeepsDraw e past o) → HasCause past r → HasCause (e ∷ past) r
-refusal_later e past r kr keeps h = record { item = h.item; other = h.other; cause = cause_later e past r h.item h.other kr (keeps h.other h.cause.other) h.cause }
+-- what is refused is refused for something
+pub refused_for : (past : Past) (r : Revision) → is_refused past r ≡ true → (c : Item × Revision) × (refusal_of past r ≡ Some c)
+refused_for [] r h = absurd (false≢true h)
+refused_for (event.Refuse q item o ∷ past) r h = by (is_same r q) (refused_for past r) h
+  where
+    by : (b : Bool) → (is_refused past r ≡ true → (c : Item × Revision) × (refusal_of past r ≡ Some c)) → (b || is_refused past r) ≡ true → (c : Item × Revision) × (cond b (Some (item, o)) (refusal_of past r) ≡ Some c)
+    by true rest k = ((item, o), refl)
+    by false rest k = rest k
+refused_for (e ∷ past) r h = refused_for past r h
 
 pub due_later : (e : Event) (past : Past) (r : Revision) (f : Met) → KeepsDraw e past r → KeepsDraw e past f.other → IsDue past r f → IsDue (e ∷ past) r f
 due_later e past r f kr ko c = record { cause = cause_later e past r f.mine f.other kr ko c.cause; theirs = rw (kr, ko) c.theirs }

@@ -46,7 +46,7 @@ start_sound number docs is = record {
   once = λ r. tt;
   listed = λ r. record { gone = []; all = refl; none = λ h. refl };
   stopped = λ r h. never h;
-  refusal = λ r h. never h;
+  refusal = λ r item o h. never (ap (λ (x : Option (Item × Revision)). is_some x) h);
   covered = λ r p m h g. absurd h;
   refused = λ r h. never h;
   ended = λ r h. never h;

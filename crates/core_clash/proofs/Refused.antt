@@ -1,5 +1,6 @@
 -- A refusal keeps what holds.
-use Rattle.std.proofs.Common.{◌≡◌, true, false, ◌⊎◌, inl, inr, [], refl, sym}
+use Rattle.std.proofs.Common.{◌≡◌, Bool, true, false, cond, ◌⊎◌, inl, inr, [], Option, Some, refl, sym, ap, subst}
+use Rattle.std.specs.Option.{unwrap_or}
 use mathlib.Core.Bool.{false≢true}
 use Rattle.jr_path.specs.declared.path.Path.{Path}
 use Rattle.jr_path.specs.declared.path.Item.{Item}
@@ -9,13 +10,13 @@ use Rattle.oak_clash.specs.declared.mark.Mark.{Mark}
 use Rattle.oak_clash.specs.Clashes.{clash}
 use Rattle.oak_machine.specs.declared.event.Draw.{Draw}
 use Rattle.oak_machine.specs.declared.event.Event.TheVariants as event
-use Rattle.oak_machine.specs.Commits.{is_drawn, is_committed, is_refused, is_ended}
+use Rattle.oak_machine.specs.Commits.{is_drawn, is_committed, is_refused, is_ended, refusal_of}
 use Rattle.oak_commit.specs.Clashing.{Met, Writer}
 use Rattle.core_clash.specs.Views.{In}
 use Rattle.core_clash.specs.Core.{Core, undoing_from, refusing, IsGoing}
-use Rattle.core_clash.specs.Sound.{Sound, IsListed, HasCause, Noticed, Stands, IsWhole, IsOf, IsDue, Cause, IsWriterOf}
+use Rattle.core_clash.specs.Sound.{Sound, IsListed, Noticed, Stands, IsWhole, IsOf, IsDue, Cause, IsWriterOf}
 use Rattle.core_clash.proofs.Basics.{is_same_self, not_both, decide, same_revision, at_writer, writer_mine, writer_other, or_left, or_right, or_cases}
-use Rattle.core_clash.proofs.Pasts.{cause_later, refusal_later, due_later}
+use Rattle.core_clash.proofs.Pasts.{cause_later, due_later}
 
 module _ (s : Core) (d : Draw) (item : Item) (other : Revision) where
   abbrev r : Revision
@@ -61,9 +62,16 @@ module _ (s : Core) (d : Draw) (item : Item) (other : Revision) where
         before (inl h) = inl (or_right (is_same o r) _ h)
         before (inr h) = inr h
 
-    refusal : (o : Revision) → (is_same o r ≡ true) ⊎ (is_refused s.past o ≡ true) → HasCause t.past o
-    refusal o (inl e) = rw (same_revision o r e) (record { item = item; other = other; cause = cause_later (event.Refuse r item other) s.past r item other refl refl cause })
-    refusal o (inr h) = refusal_later _ s.past o refl (λ x k. refl) (sound.refusal o h)
+    -- the pair that a refusal names
+    named : (i : Item) (x : Revision) → Some (item, other) ≡ Some (i, x) → (item, other) ≡ (i, x)
+    named i x h = ap (λ (o : Option (Item × Revision)). unwrap_or o (item, other)) h
+
+    refusal : (o : Revision) (i : Item) (x : Revision) → refusal_of t.past o ≡ Some (i, x) → Cause t.past o i x
+    refusal o i x h = by (is_same o r) refl h
+      where
+        by : (b : Bool) → is_same o r ≡ b → cond b (Some (item, other)) (refusal_of s.past o) ≡ Some (i, x) → Cause t.past o i x
+        by true same k = subst (λ (c : Item × Revision). Cause t.past o c.0 c.1) (named i x k) (rw (same_revision o r same) (cause_later (event.Refuse r item other) s.past r item other refl refl cause))
+        by false apart k = cause_later _ s.past o i x refl refl (sound.refusal o i x k)
 
     is_of : (q : Path) (o : Revision) (m : Mark) → IsOf s q o m → IsOf t q o m
     is_of q o m (inl e) = inl e
@@ -124,7 +132,7 @@ module _ (s : Core) (d : Draw) (item : Item) (other : Revision) where
       once = λ o. rw (same_written, same_left) (sound.once o);
       listed = listed;
       stopped = stopped;
-      refusal = λ o h. refusal o (or_cases (is_same o r) _ h);
+      refusal = λ o i x h. refusal o i x h;
       covered = λ o q m h g. rw (same_written, same_left) (sound.covered o q m h (goes o g).1);
       refused = λ o h. refused o (or_cases (is_same o r) _ h);
       ended = ended;

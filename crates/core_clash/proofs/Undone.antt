@@ -16,7 +16,7 @@ use Rattle.core_clash.specs.Views.{In, Once, mark_at}
 use Rattle.core_clash.specs.Core.{Core, Docs, with_writer, root_of, MayUndo}
 use Rattle.core_clash.specs.Sound.{Sound, IsListed, Noticed, Stands, IsWhole, IsOf, IsDue, IsRooted, IsWriterOf}
 use Rattle.core_clash.proofs.Basics.{not_both, decide, other_revision, at_writer, writer_mine, writer_other, In-left}
-use Rattle.core_clash.proofs.Pasts.{cause_later, refusal_later, due_later}
+use Rattle.core_clash.proofs.Pasts.{cause_later, due_later}
 use Rattle.core_clash.proofs.Effects.{Undoes}
 
 module _ (s : Core) (d : Draw) (p : Path) (rest : List Path) (number : ℕ) (docs : Docs) where
@@ -155,7 +155,7 @@ module _ (s : Core) (d : Draw) (p : Path) (rest : List Path) (number : ℕ) (doc
       once = once;
       listed = listed;
       stopped = stopped;
-      refusal = λ o h. refusal_later _ s.past o refl (λ x k. refl) (sound.refusal o h);
+      refusal = λ o item x h. cause_later _ s.past o item x refl refl (sound.refusal o item x h);
       covered = covered;
       refused = refused;
       ended = ended;

@@ -20,7 +20,7 @@ use Rattle.core_clash.specs.Views.{In, Once, mark_at}
 use Rattle.core_clash.specs.Core.{Core, Docs, with_writer, root_of, IsDone, MayWrite}
 use Rattle.core_clash.specs.Sound.{Sound, IsListed, Noticed, Stands, IsWhole, IsOf, IsDue, Cause, IsRooted, IsWriterOf}
 use Rattle.core_clash.proofs.Basics.{test, not_both, decide, at_writer, writer_mine, writer_other, none_in, In-left, In-right, In-append, and_true, or_left, or_right, once_apart, other_revision}
-use Rattle.core_clash.proofs.Pasts.{cause_later, refusal_later, due_later, live_now, marks_drawn, in_flight}
+use Rattle.core_clash.proofs.Pasts.{cause_later, due_later, live_now, marks_drawn, in_flight}
 use Rattle.core_clash.proofs.Effects.{Writes, Meeting, IsMet, AreMarksOf}
 
 pub clash_swap : (m n : Mark) → clash m n ≡ true → clash n m ≡ true
@@ -201,7 +201,7 @@ module _ (s : Core) (d : Draw) (p : Path) (rest : List Path) (number : ℕ) (doc
             let other : is_drawn s.past f.other ≡ true = marks_drawn s.past f.other (mark_at p m.mark.0) h.1 in
             let are : AreMarksOf (s.docs p) f.other p (marks_of s.past f.other) = (λ n k. sound.entries f.other p n h.0 k, λ n k. its n (sound.origin f.other p n k)) in
             record {
-              cause = record { other = other; met = rw marks_are (m.mine (marks_of s.past f.other) are); outside = base_is f.other ∙ m.outside; live = live_now (event.Went d.session kind.Write) s.past r f.other drawn (is_live f.other p other h.0) };
+              cause = record { another = λ same. m.apart (sym same); other = other; met = rw marks_are (m.mine (marks_of s.past f.other) are); outside = base_is f.other ∙ m.outside; live = live_now (event.Went d.session kind.Write) s.past r f.other drawn (is_live f.other p other h.0) };
               theirs = rw marks_are (m.theirs (marks_of s.past f.other) are);
             }
 
@@ -273,7 +273,7 @@ module _ (s : Core) (d : Draw) (p : Path) (rest : List Path) (number : ℕ) (doc
       once = once;
       listed = listed;
       stopped = stopped;
-      refusal = λ o h. refusal_later _ s.past o refl (λ x k. refl) (sound.refusal o h);
+      refusal = λ o item x h. cause_later _ s.past o item x refl refl (sound.refusal o item x h);
       covered = covered;
       refused = refused;
       ended = ended;

@@ -12,15 +12,16 @@ use Rattle.oak_doc.specs.declared.document.Document.{Document}
 use Rattle.oak_read.specs.Meaning.{commit_root_of}
 use Rattle.oak_machine.specs.declared.event.Draw.{Draw}
 use Rattle.oak_machine.specs.History.{Past}
-use Rattle.oak_machine.specs.Commits.{draw_of, marks_of, is_drawn, is_committed, is_refused, is_ended, is_in_flight, is_in_base}
+use Rattle.oak_machine.specs.Commits.{draw_of, marks_of, is_drawn, is_committed, is_refused, is_ended, is_in_flight, is_in_base, refusal_of}
 use Rattle.oak_machine.specs.Runs.{was_live_beside}
 use Rattle.oak_commit.specs.Clashing.{Met, marked, noted, collision, Writer}
 use Rattle.core_read.specs.Holds.{root_entry}
 use Rattle.core_clash.specs.Views.{In, Once, mark_at, NamesItems, AreOrdered}
 use Rattle.core_clash.specs.Core.{Core, root_of, IsDone}
 
--- r meets o in its item, outside its base, and o was committed or in flight beside it
+-- r meets another, o, in its item, outside its base, and o was committed or in flight beside it
 pub record Cause (past : Past) (r : Revision) (item : Item) (o : Revision) : Type 0 where
+  pub another : r ≡ o → ⊥
   pub other : is_drawn past o ≡ true
   pub met : Meets (marks_of past r) (marks_of past o) item
   pub outside : is_in_base past r o ≡ false
@@ -65,12 +66,6 @@ pub record IsListed (w : Writer) : Type 0 where
   pub all : gone ++ (w.written ++ w.left) ≡ w.paths
   pub none : w.undoing ≡ false → gone ≡ []
 
--- a cause for which r was refused
-pub record HasCause (past : Past) (r : Revision) : Type 0 where
-  pub item : Item
-  pub other : Revision
-  pub cause : Cause past r item other
-
 pub record Sound (s : Core) : Type 0 where
   -- each document has the id of its node, and its properties in order
   pub ordered : (p : Path) → AreOrdered p (s.docs p)
@@ -97,9 +92,9 @@ pub record Sound (s : Core) : Type 0 where
   -- what is refused undoes; what has ended is committed, or undone whole
   pub refused : (r : Revision) → is_refused s.past r ≡ true → (s.writers r).undoing ≡ true
   pub ended : (r : Revision) → is_ended s.past r ≡ true → IsDone s r
-  -- what undoes was refused, by some cause, or wants memory
+  -- what undoes was refused, or wants memory; what a refusal names is its cause
   pub stopped : (r : Revision) → (s.writers r).undoing ≡ true → (is_refused s.past r ≡ true) ⊎ ((s.writers r).wants ≡ true)
-  pub refusal : (r : Revision) → is_refused s.past r ≡ true → HasCause s.past r
+  pub refusal : (r : Revision) (item : Item) (o : Revision) → refusal_of s.past r ≡ Some (item, o) → Cause s.past r item o
   -- each mark to make and each collision has its cause
   pub due : (r : Revision) (f : Met) → In f (s.writers r).due → IsDue s.past r f
   pub caused : (p : Path) (r o : Revision) (item : Item) → collision (s.docs p) r ≡ Some (o, item) → Cause s.past r item o

@@ -25,9 +25,9 @@ pub fn no_two_commits_clash_unseen()
     ensures { (s : Core) (r o : _) → Reached s → (r ≡ o → ⊥) → is_committed s.past r ≡ true → is_committed s.past o ≡ true → are_clashing s.past r o ≡ true → (is_in_base s.past r o ≡ true) ⊎ (is_in_base s.past o r ≡ true) }
 {}
 
-/// What ended, wanted no memory and clashes with nothing outside its base is committed.
+/// What ended, wanted no memory and clashes with no other draw outside its base is committed.
 pub fn what_meets_nothing_is_committed()
-    ensures { (s : Core) (r : _) → Reached s → is_ended s.past r ≡ true → (s.writers r).wants ≡ false → ((o : _) → is_drawn s.past o ≡ true → is_in_base s.past r o ≡ false → are_clashing s.past r o ≡ false) → is_committed s.past r ≡ true }
+    ensures { (s : Core) (r : _) → Reached s → is_ended s.past r ≡ true → (s.writers r).wants ≡ false → ((o : _) → (r ≡ o → ⊥) → is_drawn s.past o ≡ true → is_in_base s.past r o ≡ false → are_clashing s.past r o ≡ false) → is_committed s.past r ≡ true }
 {}
 
 /// What ended without a commit has left no mark in any document.

@@ -5,3 +5,4 @@ pub mod Lasting
 pub mod Saves
 pub mod Views
 pub mod Turns
+pub mod Accepted

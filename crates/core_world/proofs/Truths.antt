@@ -4,6 +4,7 @@ use Rattle.std.specs.Prelude.{slice_get}
 use Rattle.std.specs.Option.{option_map, option_map_or, unwrap_or}
 use mathlib.Core.Bool.{false≢true}
 use Rattle.jr_path.specs.declared.path.Path.{Path}
+use Rattle.jr_path.specs.declared.path.Item.{Item}
 use Rattle.jr_rev.specs.declared.revision.Revision.{Revision}
 use Rattle.jr_rev.specs.declared.vector.Pin.{Pin}
 use Rattle.jr_rev.specs.declared.vector.RevVec.{RevVec}
@@ -17,7 +18,7 @@ use Rattle.oak_machine.specs.declared.event.Draw.{Draw}
 use Rattle.oak_machine.specs.declared.event.Event.{Event}
 use Rattle.oak_machine.specs.declared.event.Event.TheVariants as event
 use Rattle.oak_machine.specs.History.{Past}
-use Rattle.oak_machine.specs.Commits.{IsClosed, IsSettled, are_clashing, draw_of, is_committed, is_drawn, is_ended, is_in_base, is_in_flight, is_refused, tree_at}
+use Rattle.oak_machine.specs.Commits.{IsClosed, IsSettled, are_clashing, draw_of, is_committed, is_drawn, is_ended, is_in_base, is_in_flight, is_refused, refusal_of, tree_at}
 use Rattle.oak_machine.specs.Laws.{Says, Starts, StartsProper}
 use Rattle.oak_machine.specs.Runs.{AreNodes, IsNode, IsRunOf}
 use Rattle.oak_machine.specs.Sessions.{base_of, has_left, has_login}
@@ -33,12 +34,12 @@ use Rattle.core_heads.specs.Sound.{IsHeld}
 use Rattle.core_heads.proofs.Runs.{closed_run, fresh_run, held_in_use, held_settled, sound_run}
 use Rattle.core_clash.specs.Core.{root_of}
 use Rattle.core_clash.specs.Sessions.{IsTheirs, Running}
-use Rattle.core_clash.specs.Sound.{HasCause, IsRooted}
+use Rattle.core_clash.specs.Sound.{Cause, IsRooted}
 use Rattle.core_clash.specs.Views.{In}
 use Rattle.core_clash.proofs.Basics.{not_both, same_revision, some_of, test}
 use Rattle.core_clash.proofs.Complete.{complete, meets_clashing}
 use Rattle.core_clash.proofs.Meetings.{meeting}
-use Rattle.core_clash.proofs.Pasts.{in_flight}
+use Rattle.core_clash.proofs.Pasts.{in_flight, refused_for}
 use Rattle.core_clash.proofs.Steps.{no_unseen_clash, told_root, undone_whole}
 use Rattle.core_nodes.proofs.Times.{known_events}
 use Rattle.core_nodes.proofs.Waits.{flying_is}
@@ -126,18 +127,18 @@ module _ (starts : Starts) (says : Says) (proper : StartsProper starts) (w : Sta
   pub no_clash_unseen : (r o : Revision) → (r ≡ o → ⊥) → is_committed w.past r ≡ true → is_committed w.past o ≡ true → are_clashing w.past r o ≡ true → (is_in_base w.past r o ≡ true) ⊎ (is_in_base w.past o r ≡ true)
   no_clash_unseen r o apart cr co clash = no_unseen_clash (core_in w.past w.table kept.committing.writers) r o kept.committing.sound apart cr co clash
 
-  pub has_cause : (r : Revision) → is_refused w.past r ≡ true → HasCause w.past r
-  has_cause r h = kept.committing.sound.refusal r h
+  pub has_cause : (r : Revision) (item : Item) (o : Revision) → refusal_of w.past r ≡ Some (item, o) → Cause w.past r item o
+  has_cause r item o h = kept.committing.sound.refusal r item o h
 
-  pub comes_through : (r : Revision) → is_ended w.past r ≡ true → ((o : Revision) → is_drawn w.past o ≡ true → is_in_base w.past r o ≡ false → are_clashing w.past r o ≡ false) → (is_committed w.past r ≡ true) ⊎ (((kept.committing.writers r).wants ≡ true) × (is_refused w.past r ≡ false))
+  pub comes_through : (r : Revision) → is_ended w.past r ≡ true → ((o : Revision) → (r ≡ o → ⊥) → is_drawn w.past o ≡ true → is_in_base w.past r o ≡ false → are_clashing w.past r o ≡ false) → (is_committed w.past r ≡ true) ⊎ (((kept.committing.writers r).wants ≡ true) × (is_refused w.past r ≡ false))
   comes_through r ended apart = by (test (kept.committing.writers r).wants)
     where
-      no_cause : HasCause w.past r → ⊥
-      no_cause h = not_both (are_clashing w.past r h.other) (meets_clashing _ _ h.item h.cause.met) (apart h.other h.cause.other h.cause.outside)
+      no_cause : (item : Item) (o : Revision) → Cause w.past r item o → ⊥
+      no_cause item o c = not_both (are_clashing w.past r o) (meets_clashing _ _ item c.met) (apart o c.another c.other c.outside)
 
       unrefused : (b : Bool) → is_refused w.past r ≡ b → b ≡ false
       unrefused false h = refl
-      unrefused true h = absurd (no_cause (has_cause r h))
+      unrefused true h = let c = refused_for w.past r h in absurd (no_cause c.0.0 c.0.1 (has_cause r c.0.0 c.0.1 c.1))
 
       by : ((kept.committing.writers r).wants ≡ true) ⊎ ((kept.committing.writers r).wants ≡ false) → (is_committed w.past r ≡ true) ⊎ (((kept.committing.writers r).wants ≡ true) × (is_refused w.past r ≡ false))
       by (inl h) = inr (h, unrefused (is_refused w.past r) refl)

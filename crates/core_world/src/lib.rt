@@ -7,6 +7,7 @@ ghost use Rattle.std.specs.List.{All};
 ghost use Rattle.std.specs.declared.alloc.Global.{Global};
 ghost use Rattle.jr_path.specs.Grammar.{IsName};
 ghost use Rattle.jr_path.specs.declared.path.DocId.{DocId};
+ghost use Rattle.jr_path.specs.declared.path.Item.{Item};
 ghost use Rattle.jr_path.specs.declared.path.Path.{Path};
 ghost use Rattle.jr_path.specs.declared.text.Text.{Text};
 ghost use Rattle.jr_rev.specs.declared.revision.Revision.{Revision};
@@ -22,7 +23,7 @@ ghost use Rattle.oak_doc.specs.declared.update.UpdateOp.{UpdateOp};
 ghost use Rattle.oak_machine.specs.declared.event.Event.{Event};
 ghost use Rattle.oak_machine.specs.declared.event.StepKind.{StepKind};
 ghost use Rattle.oak_machine.specs.declared.event.StepKind.TheVariants as kind;
-ghost use Rattle.oak_machine.specs.Commits.{IsClosed, IsSettled, are_clashing, is_committed, is_drawn, is_ended, is_in_base, is_refused, tree_at};
+ghost use Rattle.oak_machine.specs.Commits.{IsClosed, IsSettled, are_clashing, is_committed, is_drawn, is_ended, is_in_base, is_refused, refusal_of, tree_at};
 ghost use Rattle.oak_machine.specs.Runs.{AreNodes, IsNode, IsRunOf};
 ghost use Rattle.oak_machine.specs.Sessions.{base_of, has_left, has_login, next_index};
 ghost use Rattle.oak_machine.specs.Steps.{is_kind};
@@ -36,7 +37,7 @@ ghost use Rattle.oak_read.specs.Reading.{IsTable, answer, children_reader, due, 
 ghost use Rattle.oak_store.specs.Tables.{Table, after_undo};
 ghost use Rattle.core_clash.specs.Core.{root_of};
 ghost use Rattle.core_clash.specs.Sessions.{Running};
-ghost use Rattle.core_clash.specs.Sound.{HasCause, IsRooted};
+ghost use Rattle.core_clash.specs.Sound.{Cause, IsRooted};
 ghost use Rattle.core_clash.specs.Views.{In};
 ghost use Rattle.core_watch.specs.Standing.{AreChildrenOf, IsNodeOf, path_read};
 ghost use Rattle.core_world.specs.Kept.{IsFreeOf, IsKept};
@@ -98,13 +99,13 @@ pub fn pins_show_the_tree<L: Law>(law: &L)
     ensures times { (w : State) (k : ℕ) → IsKept (L.may_start law.now) (L.may_say law.now) w → IsNode w.clusters k → known_time (memory_at w.memories k) ≤ length w.past }
 {}
 
-/// Of two commits that clash, the base of one sees the other. Each refusal has its cause. What ended and clashes with no draw
-/// outside its base is committed, or wanted memory and wasn't refused. What ended without a commit has left nothing in the
+/// Of two commits that clash, the base of one sees the other. What a refusal names is its cause. What ended and clashes with no
+/// other draw outside its base is committed, or wanted memory and wasn't refused. What ended without a commit has left nothing in the
 /// nodes' documents but collisions.
 pub fn no_commits_clash_unseen<L: Law>(law: &L)
     ensures apart { (w : State) (r o : Revision) → IsKept (L.may_start law.now) (L.may_say law.now) w → (r ≡ o → ⊥) → IsTrue (is_committed w.past r) → IsTrue (is_committed w.past o) → IsTrue (are_clashing w.past r o) → IsTrue (is_in_base w.past r o) ⊎ IsTrue (is_in_base w.past o r) }
-    ensures causes { (w : State) (r : Revision) → IsKept (L.may_start law.now) (L.may_say law.now) w → IsTrue (is_refused w.past r) → HasCause w.past r }
-    ensures through { (w : State) (r : Revision) (kept : IsKept (L.may_start law.now) (L.may_say law.now) w) → IsTrue (is_ended w.past r) → ((o : Revision) → IsTrue (is_drawn w.past o) → IsFalse (is_in_base w.past r o) → IsFalse (are_clashing w.past r o)) → IsTrue (is_committed w.past r) ⊎ (IsTrue (kept.committing.writers r).wants × IsFalse (is_refused w.past r)) }
+    ensures causes { (w : State) (r : Revision) (item : Item) (o : Revision) → IsKept (L.may_start law.now) (L.may_say law.now) w → refusal_of w.past r ≡ Some (item, o) → Cause w.past r item o }
+    ensures through { (w : State) (r : Revision) (kept : IsKept (L.may_start law.now) (L.may_say law.now) w) → IsTrue (is_ended w.past r) → ((o : Revision) → (r ≡ o → ⊥) → IsTrue (is_drawn w.past o) → IsFalse (is_in_base w.past r o) → IsFalse (are_clashing w.past r o)) → IsTrue (is_committed w.past r) ⊎ (IsTrue (kept.committing.writers r).wants × IsFalse (is_refused w.past r)) }
     ensures undone { (w : State) (r : Revision) (p : Path) (d : Document) → IsKept (L.may_start law.now) (L.may_say law.now) w → IsTrue (is_ended w.past r) → IsFalse (is_committed w.past r) → nodes_in w.table p ≡ Some d → IsFreeOf r d }
 {}
 

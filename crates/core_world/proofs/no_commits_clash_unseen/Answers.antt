@@ -6,7 +6,7 @@ pub returns-clause-apart : goal.returns-clause-apart
 returns-clause-apart g c = λ w r o kept apart cr co clash. no_clash_unseen (g.L.Law.may_start c.args.law.now) (g.L.Law.may_say c.args.law.now) (g.L.Law.proper c.args.law.now) w kept r o apart cr co clash
 
 pub returns-clause-causes : goal.returns-clause-causes
-returns-clause-causes g c = λ w r kept h. has_cause (g.L.Law.may_start c.args.law.now) (g.L.Law.may_say c.args.law.now) (g.L.Law.proper c.args.law.now) w kept r h
+returns-clause-causes g c = λ w r item o kept h. has_cause (g.L.Law.may_start c.args.law.now) (g.L.Law.may_say c.args.law.now) (g.L.Law.proper c.args.law.now) w kept r item o h
 
 pub returns-clause-through : goal.returns-clause-through
 returns-clause-through g c = λ w r kept ended apart. comes_through (g.L.Law.may_start c.args.law.now) (g.L.Law.may_say c.args.law.now) (g.L.Law.proper c.args.law.now) w kept r ended apart
