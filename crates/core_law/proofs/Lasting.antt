@@ -15,13 +15,15 @@ use Rattle.oak_machine.specs.Commits.{is_commit_of, is_committed, is_ended, is_e
 use Rattle.oak_machine.specs.Laws.{Starts, Says, StartsProper, is_event_of, is_of_item}
 use Rattle.oak_machine.specs.Marks.{marks_for}
 use Rattle.oak_machine.specs.Runs.{IsRunOf, AreNodes, StartsLast, SaysLast, SaysLastBehind, is_task_end}
-use Rattle.oak_machine.specs.Sessions.{drawn_since}
+use Rattle.oak_machine.specs.Sessions.{base_of, drawn_since}
+use Rattle.oak_machine.proofs.Induction.{base_stays}
 use Rattle.oak_machine.proofs.Stays.{any_later}
 use Rattle.jcr_trans.specs.declared.command.Command.{Command}
 use Rattle.jcr_trans.specs.Answers.{Answer}
 use Rattle.jcr_trans.specs.Views.{answered}
-use Rattle.core_law.specs.Law.{MayStart, MaySay, SaysBy, IsPlan, has_few_nodes, plain, unchanged, too_many, saved, clashed, memory}
+use Rattle.core_law.specs.Law.{MayStart, MaySay, SaysBy, IsPlan, has_few_nodes, plain, head, refreshed, not_allowed, unchanged, too_many, saved, clashed, memory}
 use Rattle.core_law.specs.State.{Orders, base_tree, command_at, pending_of, view_of}
+use Rattle.core_law.specs.Turns.{IsOver, IsTurn}
 use Rattle.core_law.proofs.Bases.{base_tree_stays}
 use Rattle.core_law.proofs.Passing.{next_stays, pending_stays, drawn_stays, refreshed_stays, uncommitted_stays, refusal_stays, idle_stays, ended_since, among_same}
 
@@ -53,6 +55,7 @@ module _ (law : Orders) (starts : Starts) (says : Says) (clusters : ℕ) (sessio
 
   pub starts_same : (edit : _) (marks : List MarkAt) → MayStart law (record { clusters = clusters; sessions = sessions; past = past }) s edit marks → MayStart law (record { clusters = clusters; sessions = sessions; past = added ++ past }) s edit marks
   starts_same edit marks may = record {
+    allowed = may.allowed;
     saving = ap (command_at law s) (next_stays (added ++ past) added past s others) ∙ may.saving;
     first = drawn_same ∙ may.first;
     pending = may.pending ∙ sym pending_same;
@@ -62,15 +65,32 @@ module _ (law : Orders) (starts : Starts) (says : Says) (clusters : ℕ) (sessio
 
   pub says_same : (c : Command) (a : Answer) → MaySay law past s c a → MaySay law (added ++ past) s c a
   says_same _ _ (plain c p) = subst (λ (t : Nodes). MaySay law (added ++ past) s c (answered c t)) view_same (plain c p)
-  says_same _ _ (unchanged d p) = unchanged (drawn_same ∙ d) (pending_same ∙ p)
-  says_same _ _ (too_many d few) = too_many (drawn_same ∙ d) (ap has_few_nodes view_same ∙ few)
-  says_same _ _ (saved r v d ended committed refreshed seen) =
-      saved r v (drawn_same ∙ d) (any_later (is_end_of r) added past ended) (any_later (is_commit_of r) added past committed) (refreshed_stays (added ++ past) added past s others ∙ refreshed) seen
+  says_same _ _ (head v is) = head v (base_stays (added ++ past) added past s others ∙ is)
+  says_same _ _ (refreshed v is) = refreshed v (refreshed_stays (added ++ past) added past s others ∙ is)
+  says_same _ _ (not_allowed may) = not_allowed may
+  says_same _ _ (unchanged may d p) = unchanged may (drawn_same ∙ d) (pending_same ∙ p)
+  says_same _ _ (too_many may d few) = too_many may (drawn_same ∙ d) (ap has_few_nodes view_same ∙ few)
+  says_same _ _ (saved r v d ended committed moved seen) =
+      saved r v (drawn_same ∙ d) (any_later (is_end_of r) added past ended) (any_later (is_commit_of r) added past committed) (refreshed_stays (added ++ past) added past s others ∙ moved) seen
   says_same _ _ (clashed r o item d ended refused) =
       clashed r o item (drawn_same ∙ d) (any_later (is_end_of r) added past ended) (refusal_stays starts says clusters sessions past r ended added later ∙ refused)
   says_same _ _ (memory c idle none) =
       memory c (idle_stays (added ++ past) added past s others idle)
       (ap (λ (o : Option Revision). option_map_or (is_committed (added ++ past)) o false) drawn_same ∙ still_open (drawn_since past s) (λ r is. ended_since past s r idle is) none)
+
+  -- where a session stands between two commands it stands after events of others
+  pub over_same : (base view : Nodes) → IsOver law past s base view → IsOver law (added ++ past) s base view
+  over_same base view over = record {
+    base_is = over.base_is ∙ sym tree_same;
+    pending = pending_same ∙ over.pending;
+    from = over.from;
+    to = over.to;
+    idle = idle_stays (added ++ past) added past s others over.idle;
+    uncommitted = ap (λ (o : Option Revision). option_map_or (is_committed (added ++ past)) o false) drawn_same ∙ still_open (drawn_since past s) (λ r is. ended_since past s r over.idle is) over.uncommitted;
+  }
+
+  pub turn_same : (base view : Nodes) → IsTurn law past s base view → IsTurn law (added ++ past) s base view
+  turn_same base view turn = record { over = over_same base view turn.over; fresh = drawn_same ∙ turn.fresh }
 
 pub starts_last : (law : Orders) → StartsLast (λ h s edit marks. MayStart law h s edit marks) (λ h s i text. SaysBy law h s i text)
 starts_last law h added s edit marks nodes run later others may = starts_same law (λ h s edit marks. MayStart law h s edit marks) (λ h s i text. SaysBy law h s i text) h.clusters h.sessions nodes s added h.past run later others edit marks may
@@ -83,30 +103,42 @@ says_last law h added s i text nodes run later others (c, a, command, is, may) =
 module _ (law : Orders) (past : Past) (s : ℕ) where
   without_end : (e : Event) → is_task_end s e ≡ true → (c : Command) (a : Answer) → MaySay law (e ∷ past) s c a → MaySay law past s c a
   without_end (event.Split t path e) h _ _ (plain c p) = plain c p
-  without_end (event.Split t path e) h _ _ (unchanged d p) = unchanged d p
-  without_end (event.Split t path e) h _ _ (too_many d few) = too_many d few
-  without_end (event.Split t path e) h _ _ (saved r v d ended committed refreshed seen) = saved r v d ended committed refreshed seen
+  without_end (event.Split t path e) h _ _ (head v is) = head v is
+  without_end (event.Split t path e) h _ _ (refreshed v is) = refreshed v is
+  without_end (event.Split t path e) h _ _ (not_allowed may) = not_allowed may
+  without_end (event.Split t path e) h _ _ (unchanged may d p) = unchanged may d p
+  without_end (event.Split t path e) h _ _ (too_many may d few) = too_many may d few
+  without_end (event.Split t path e) h _ _ (saved r v d ended committed moved seen) = saved r v d ended committed moved seen
   without_end (event.Split t path e) h _ _ (clashed r o item d ended refused) = clashed r o item d ended refused
   without_end (event.Split t path e) h _ _ (memory c idle none) = memory c (sym (among_same past (event.Split t path e) (λ r. refl) past s) ∙ idle) none
   without_end (event.Collected t end) h _ _ (plain c p) = plain c p
-  without_end (event.Collected t end) h _ _ (unchanged d p) = unchanged d p
-  without_end (event.Collected t end) h _ _ (too_many d few) = too_many d few
-  without_end (event.Collected t end) h _ _ (saved r v d ended committed refreshed seen) = saved r v d ended committed refreshed seen
+  without_end (event.Collected t end) h _ _ (head v is) = head v is
+  without_end (event.Collected t end) h _ _ (refreshed v is) = refreshed v is
+  without_end (event.Collected t end) h _ _ (not_allowed may) = not_allowed may
+  without_end (event.Collected t end) h _ _ (unchanged may d p) = unchanged may d p
+  without_end (event.Collected t end) h _ _ (too_many may d few) = too_many may d few
+  without_end (event.Collected t end) h _ _ (saved r v d ended committed moved seen) = saved r v d ended committed moved seen
   without_end (event.Collected t end) h _ _ (clashed r o item d ended refused) = clashed r o item d ended refused
   without_end (event.Collected t end) h _ _ (memory c idle none) = memory c (sym (among_same past (event.Collected t end) (λ r. refl) past s) ∙ idle) none
   without_end e h c a may = absurd (false≢true h)
 
   with_end : (e : Event) → is_task_end s e ≡ true → (c : Command) (a : Answer) → MaySay law past s c a → MaySay law (e ∷ past) s c a
   with_end (event.Split t path e) h _ _ (plain c p) = plain c p
-  with_end (event.Split t path e) h _ _ (unchanged d p) = unchanged d p
-  with_end (event.Split t path e) h _ _ (too_many d few) = too_many d few
-  with_end (event.Split t path e) h _ _ (saved r v d ended committed refreshed seen) = saved r v d ended committed refreshed seen
+  with_end (event.Split t path e) h _ _ (head v is) = head v is
+  with_end (event.Split t path e) h _ _ (refreshed v is) = refreshed v is
+  with_end (event.Split t path e) h _ _ (not_allowed may) = not_allowed may
+  with_end (event.Split t path e) h _ _ (unchanged may d p) = unchanged may d p
+  with_end (event.Split t path e) h _ _ (too_many may d few) = too_many may d few
+  with_end (event.Split t path e) h _ _ (saved r v d ended committed moved seen) = saved r v d ended committed moved seen
   with_end (event.Split t path e) h _ _ (clashed r o item d ended refused) = clashed r o item d ended refused
   with_end (event.Split t path e) h _ _ (memory c idle none) = memory c (among_same past (event.Split t path e) (λ r. refl) past s ∙ idle) none
   with_end (event.Collected t end) h _ _ (plain c p) = plain c p
-  with_end (event.Collected t end) h _ _ (unchanged d p) = unchanged d p
-  with_end (event.Collected t end) h _ _ (too_many d few) = too_many d few
-  with_end (event.Collected t end) h _ _ (saved r v d ended committed refreshed seen) = saved r v d ended committed refreshed seen
+  with_end (event.Collected t end) h _ _ (head v is) = head v is
+  with_end (event.Collected t end) h _ _ (refreshed v is) = refreshed v is
+  with_end (event.Collected t end) h _ _ (not_allowed may) = not_allowed may
+  with_end (event.Collected t end) h _ _ (unchanged may d p) = unchanged may d p
+  with_end (event.Collected t end) h _ _ (too_many may d few) = too_many may d few
+  with_end (event.Collected t end) h _ _ (saved r v d ended committed moved seen) = saved r v d ended committed moved seen
   with_end (event.Collected t end) h _ _ (clashed r o item d ended refused) = clashed r o item d ended refused
   with_end (event.Collected t end) h _ _ (memory c idle none) = memory c (among_same past (event.Collected t end) (λ r. refl) past s ∙ idle) none
   with_end e h c a may = absurd (false≢true h)

@@ -1,5 +1,8 @@
 -- Where a session stands after its save was committed, or called off.
-use Rattle.std.proofs.Common.{◌≡◌, ℕ, Bool, true, false, cond, ◌||◌, Some, None, Option, List, [], ◌∷◌, ◌++◌, refl, sym, ap, ◌∙◌, subst}
+use Rattle.std.proofs.Common.{◌≡◌, ℕ, Bool, true, false, cond, not, ◌||◌, arith, Some, None, Option, List, [], ◌∷◌, ◌++◌, refl, sym, ap, ◌∙◌, subst}
+use Rattle.std.specs.Prelude.{◌==◌}
+use Rattle.std.proofs.lemmas.Bool.Decides.{nat_tests}
+use mathlib.Core.Bool.{false≢true}
 use Rattle.std.specs.declared.cmp.Ordering.{Ordering}
 use Rattle.std.specs.declared.cmp.Ordering.TheVariants.{Less, Equal, Greater}
 use Rattle.std.specs.Ordering.{is_eq, match_ordering}
@@ -18,38 +21,97 @@ use Rattle.jr_tree.specs.Trees.{Nodes, IsTree, initial_tree}
 use Rattle.jr_tree.specs.Edits.{applied}
 use Rattle.oak_clash.specs.declared.mark.MarkAt.{MarkAt}
 use Rattle.oak_machine.specs.declared.event.Draw.{Draw}
+use Rattle.oak_machine.specs.declared.event.Event.{Event}
 use Rattle.oak_machine.specs.declared.event.Event.TheVariants as event
-use Rattle.oak_machine.specs.declared.event.StepKind.{StepKind}
 use Rattle.oak_machine.specs.History.{Past}
 use Rattle.oak_machine.specs.Commits.{committed_edits, draw_of, is_committed, is_ended, tree_at}
-use Rattle.oak_machine.specs.Sessions.{base_of, drawn_since, is_drawing}
+use Rattle.oak_machine.specs.Sessions.{base_of, drawn_among, drawn_since, is_drawing, refreshed_among, refreshed_since, since}
+use Rattle.oak_machine.proofs.Induction.{other}
 use Rattle.jcr_trans.specs.declared.command.Command.TheVariants as command
 use Rattle.jcr_trans.specs.Answers.{ShowsRevision}
 use Rattle.jcr_trans.specs.Texts.{answer_text}
 use Rattle.core_law.specs.Law.{MayStart, SaysBy}
-use Rattle.core_law.specs.State.{Orders, command_at, pending_of}
+use Rattle.core_law.specs.State.{Orders, base_tree, command_at, pending_of}
 use Rattle.core_law.specs.Turns.{IsOver, IsTurn}
 use Rattle.core_law.proofs.Turns.{says_saved, turn_saved}
 
--- ---- steps that have no event of their own
+-- ---- events that change nothing here
 
--- one past says of session 0 and of commits what another says
-pub record IsLike (law : Orders) (a b : Past) : Type 0 where
-  pub drawn : drawn_since a 0 ≡ drawn_since b 0
-  pub base : base_of a 0 ≡ base_of b 0
-  pub pending : pending_of law a 0 ≡ pending_of law b 0
+-- the event changes neither what s drew, nor its base, nor its pending edits, nor what is drawn and committed
+abbrev pub is_aside : ℕ → Event → Bool
+is_aside s (event.Login t v) = not (t == s)
+is_aside s (event.Refresh t v) = not (t == s)
+is_aside s (event.Attach t id) = not (t == s)
+is_aside s (event.Said t i text) = not (t == s)
+is_aside s (event.Draw d) = false
+is_aside s (event.Commit r) = false
+is_aside s _ = true
+
+-- one past says of session s and of commits what another says
+pub record IsLike (law : Orders) (s : ℕ) (a b : Past) : Type 0 where
+  pub drawn : drawn_since a s ≡ drawn_since b s
+  pub base : base_of a s ≡ base_of b s
+  pub moved : refreshed_since a s ≡ refreshed_since b s
+  pub pending : pending_of law a s ≡ pending_of law b s
   pub edits : committed_edits a ≡ committed_edits b
   pub draw : (r : Revision) → draw_of a r ≡ draw_of b r
   pub committed : (r : Revision) → is_committed a r ≡ is_committed b r
 
-pub like_itself : (law : Orders) (a : Past) → IsLike law a a
-like_itself law a = record { drawn = refl; base = refl; pending = refl; edits = refl; draw = λ r. refl; committed = λ r. refl }
+pub like_itself : (law : Orders) (s : ℕ) (a : Past) → IsLike law s a a
+like_itself law s a = record { drawn = refl; base = refl; moved = refl; pending = refl; edits = refl; draw = λ r. refl; committed = λ r. refl }
 
-pub like_more : (law : Orders) (k : StepKind) (a b : Past) → IsLike law (event.Went 0 k ∷ a) b → IsLike law a b
-like_more law k a b like = record { drawn = like.drawn; base = like.base; pending = like.pending; edits = like.edits; draw = like.draw; committed = like.committed }
+off : (b : Bool) → not b ≡ true → b ≡ false
+off true h = absurd (false≢true h)
+off false h = refl
 
-pub like_went : (law : Orders) (k : StepKind) (a b : Past) → IsLike law a b → IsLike law (event.Went 0 k ∷ a) b
-like_went law k a b like = record { drawn = like.drawn; base = like.base; pending = like.pending; edits = like.edits; draw = like.draw; committed = like.committed }
+module _ (law : Orders) (s : ℕ) (a b : Past) (like : IsLike law s a b) where
+  -- what is no event of s that tells of the next command keeps what was since its last reply
+  drawn_aside : (e : Event) (test : Bool) → test ≡ false → drawn_among (e ∷ since a s) s ≡ drawn_since a s → drawn_among (cond test [] (e ∷ since a s)) s ≡ drawn_since b s
+  drawn_aside e test h same = ap (λ (c : Bool). drawn_among (cond c [] (e ∷ since a s)) s) h ∙ (same ∙ like.drawn)
+
+  moved_aside : (e : Event) (test : Bool) → test ≡ false → refreshed_among (e ∷ since a s) s ≡ refreshed_since a s → refreshed_among (cond test [] (e ∷ since a s)) s ≡ refreshed_since b s
+  moved_aside e test h same = ap (λ (c : Bool). refreshed_among (cond c [] (e ∷ since a s)) s) h ∙ (same ∙ like.moved)
+
+  pub like_aside : (e : Event) → is_aside s e ≡ true → IsLike law s (e ∷ a) b
+  like_aside (event.Login t v) h = record {
+    drawn = drawn_aside (event.Login t v) (t == s) (off _ h) refl;
+    base = other (t == s) _ _ _ (off _ h) like.base;
+    moved = moved_aside (event.Login t v) (t == s) (off _ h) refl;
+    pending = like.pending;
+    edits = like.edits;
+    draw = like.draw;
+    committed = like.committed;
+  }
+  like_aside (event.Refresh t v) h = record {
+    drawn = like.drawn;
+    base = other (t == s) _ _ _ (off _ h) like.base;
+    moved = other (t == s) _ _ _ (off _ h) like.moved;
+    pending = other (t == s) _ _ _ (off _ h) like.pending;
+    edits = like.edits;
+    draw = like.draw;
+    committed = like.committed;
+  }
+  like_aside (event.Attach t id) h = record {
+    drawn = like.drawn;
+    base = other (t == s) _ _ _ (off _ h) like.base;
+    moved = like.moved;
+    pending = other (t == s) _ _ _ (off _ h) like.pending;
+    edits = like.edits;
+    draw = like.draw;
+    committed = like.committed;
+  }
+  like_aside (event.Said t i text) h = record {
+    drawn = drawn_aside (event.Said t i text) (t == s || false) (ap (λ b. b || false) (off _ h)) refl;
+    base = like.base;
+    moved = moved_aside (event.Said t i text) (t == s || false) (ap (λ b. b || false) (off _ h)) refl;
+    pending = other (t == s) _ _ _ (off _ h) like.pending;
+    edits = like.edits;
+    draw = like.draw;
+    committed = like.committed;
+  }
+  like_aside (event.Draw d) h = absurd (false≢true h)
+  like_aside (event.Commit r) h = absurd (false≢true h)
+  like_aside e h = record { drawn = like.drawn; base = like.base; moved = like.moved; pending = like.pending; edits = like.edits; draw = like.draw; committed = like.committed }
 
 -- ---- the committed edits
 
@@ -109,68 +171,90 @@ one_more t r ws (e ∷ es) = one_more (applied t e.1) r ws es
 
 -- ---- a save that is committed
 
-module _ (law : Orders) (past : Past) (r : Revision) (v w : RevVec) (edit : Edit) (marks : List MarkAt) where
+own : (s : ℕ) → (s == s) ≡ true
+own s = grind (arith, nat_tests)
+
+module _ (law : Orders) (s : ℕ) (past : Past) (r : Revision) (v w : RevVec) (edit : Edit) (marks : List MarkAt) where
+  abbrev pub draw_for : Draw
+  draw_for = record { revision = r; session = s; base = v; edit = edit; marks = marks }
+
+  -- the save draws, and what is then written changes nothing here
   abbrev pub drawn_now : Past
-  drawn_now = event.Draw (record { revision = r; session = 0; base = v; edit = edit; marks = marks }) ∷ past
+  drawn_now = event.Draw draw_for ∷ past
 
-  module _ (written : Past) (like : IsLike law written drawn_now) where
-    abbrev pub saved_now : Past
-    saved_now = event.Refresh 0 w ∷ event.Head 1 w ∷ event.End r ∷ event.Commit r ∷ written
+  drawn_is : drawn_since drawn_now s ≡ Some r
+  drawn_is = ap (λ b. cond b (Some r) (drawn_since past s)) (own s)
 
-    committed_now : is_committed saved_now r ≡ true
-    committed_now = ap (λ b. b || is_committed written r) (same_itself r)
+  module _ (written : Past) (like : IsLike law s written drawn_now) where
+    -- it is committed, and ends
+    abbrev pub committed_now : Past
+    committed_now = event.Commit r ∷ written
 
-    ended_now : is_ended saved_now r ≡ true
-    ended_now = ap (λ b. b || is_ended written r) (same_itself r)
+    draw_now : draw_of written r ≡ Some draw_for
+    draw_now = like.draw r ∙ ap (λ b. cond b (Some draw_for) (draw_of past r)) (same_itself r)
 
-    draw_now : draw_of written r ≡ Some (record { revision = r; session = 0; base = v; edit = edit; marks = marks })
-    draw_now = like.draw r ∙ ap (λ b. cond b (Some (record { revision = r; session = 0; base = v; edit = edit; marks = marks })) (draw_of past r)) (same_itself r)
-
-    edits_now : committed_edits saved_now ≡ insert_entry revision_cmp (committed_edits past) r edit.writes
+    edits_now : committed_edits committed_now ≡ insert_entry revision_cmp (committed_edits past) r edit.writes
     edits_now = ap (λ (o : Option Draw). option_map_or (λ d. insert_entry revision_cmp (committed_edits written) r d.edit.writes) o (committed_edits written)) draw_now ∙ ap (λ (es : List (Revision × List Write)). insert_entry revision_cmp es r edit.writes) like.edits
 
-    module _ (seen : (q : Revision) → is_committed past q ≡ true → sees v q ≡ true) (seen_now : (q : Revision) → is_committed saved_now q ≡ true → sees w q ≡ true) (later : (q : Revision) → is_committed past q ≡ true → revision_cmp r q ≡ Greater) where
-      -- the tree that the base then sees is the tree before with the edit applied
-      pub tree_saved : tree_at saved_now w ≡ applied (tree_at past v) edit.writes
-      tree_saved =
-          let end = at_end r edit.writes (committed_edits past) (each_more _ _ later (committed_edits past) (edits_committed past)) in
-          ap (λ (es : List (Revision × List Write)). applied_all initial_tree es)
-          (all_seen w (committed_edits saved_now) (each_more _ _ seen_now (committed_edits saved_now) (edits_committed saved_now)) ∙ (edits_now ∙ end))
-          ∙ (one_more initial_tree r edit.writes (committed_edits past)
-          ∙ ap (λ (es : List (Revision × List Write)). applied (applied_all initial_tree es) edit.writes) (sym (all_seen v (committed_edits past) (each_more _ _ seen (committed_edits past) (edits_committed past)))))
+    module _ (ended : Past) (like_ended : IsLike law s ended committed_now) where
+      -- then the base moves, up to the reply
+      abbrev pub moved_now : Past
+      moved_now = event.Refresh s w ∷ ended
 
-      module _ (clusters : ℕ) (sessions : List ℕ) (start : MayStart law (record { clusters = clusters; sessions = sessions; past = past }) 0 edit marks) (based : base_of past 0 ≡ Some v) (idle : is_drawing saved_now 0 ≡ false) (i : ℕ) (is : command_at law 0 i ≡ Some command.Save) where
-        -- its reply may be said
-        pub says_after_save : SaysBy law (record { clusters = clusters; sessions = sessions; past = saved_now }) 0 i (answer_text (ShowsRevision r))
-        says_after_save = says_saved law (record { clusters = clusters; sessions = sessions; past = saved_now }) 0 i [] [] r w is like.drawn ended_now committed_now refl (seen_now r committed_now)
+      module _ (now : Past) (like_now : IsLike law s now moved_now) where
+        is_committed_now : is_committed now r ≡ true
+        is_committed_now = like_now.committed r ∙ (like_ended.committed r ∙ ap (λ b. b || is_committed written r) (same_itself r))
 
-        tree_is : IsTree (tree_at saved_now w)
-        tree_is = subst IsTree (sym (tree_saved ∙ ap (λ (t : Nodes). applied t edit.writes) (sym (ap (λ (o : Option RevVec). option_map_or (tree_at past) o initial_tree) based)))) start.plan.proper.tree
+        is_drawn_now : drawn_since now s ≡ Some r
+        is_drawn_now = like_now.drawn ∙ (like_ended.drawn ∙ (like.drawn ∙ drawn_is))
 
-        -- and then the session stands at the tree of its new base, with nothing pending
-        pub turn_after_save : (base : Nodes) → base ≡ tree_at saved_now w → IsTurn law (event.Said 0 i (answer_text (ShowsRevision r)) ∷ saved_now) 0 base base
-        turn_after_save base same = turn_saved law saved_now 0 i r base is same idle (subst IsTree (sym same) tree_is)
+        is_moved_now : refreshed_since now s ≡ Some w
+        is_moved_now = like_now.moved ∙ ap (λ b. cond b (Some w) (refreshed_since ended s)) (own s)
+
+        base_now : base_of now s ≡ Some w
+        base_now = like_now.base ∙ ap (λ b. cond b (Some w) (base_of ended s)) (own s)
+
+        all_edits : committed_edits now ≡ insert_entry revision_cmp (committed_edits past) r edit.writes
+        all_edits = like_now.edits ∙ (like_ended.edits ∙ edits_now)
+
+        module _ (seen : (q : Revision) → is_committed past q ≡ true → sees v q ≡ true) (seen_now : (q : Revision) → is_committed now q ≡ true → sees w q ≡ true) (later : (q : Revision) → is_committed past q ≡ true → revision_cmp r q ≡ Greater) where
+          -- where each base sees all that is committed, the tree that the base then sees is the tree before with the edit applied
+          pub tree_saved : tree_at now w ≡ applied (tree_at past v) edit.writes
+          tree_saved =
+              let end = at_end r edit.writes (committed_edits past) (each_more _ _ later (committed_edits past) (edits_committed past)) in
+              ap (λ (es : List (Revision × List Write)). applied_all initial_tree es)
+              (all_seen w (committed_edits now) (each_more _ _ seen_now (committed_edits now) (edits_committed now)) ∙ (all_edits ∙ end))
+              ∙ (one_more initial_tree r edit.writes (committed_edits past)
+              ∙ ap (λ (es : List (Revision × List Write)). applied (applied_all initial_tree es) edit.writes) (sym (all_seen v (committed_edits past) (each_more _ _ seen (committed_edits past) (edits_committed past)))))
+
+          module _ (clusters : ℕ) (sessions : List ℕ) (start : MayStart law (record { clusters = clusters; sessions = sessions; past = past }) s edit marks) (based : base_of past s ≡ Some v) (end : is_ended now r ≡ true) (idle : is_drawing now s ≡ false) (i : ℕ) (is : command_at law s i ≡ Some command.Save) where
+            -- its reply may be said
+            pub says_after_save : SaysBy law (record { clusters = clusters; sessions = sessions; past = now }) s i (answer_text (ShowsRevision r))
+            says_after_save = says_saved law (record { clusters = clusters; sessions = sessions; past = now }) s i [] [] r w is is_drawn_now end is_committed_now is_moved_now (seen_now r is_committed_now)
+
+            tree_is : IsTree (tree_at now w)
+            tree_is = subst IsTree (sym (tree_saved ∙ ap (λ (t : Nodes). applied t edit.writes) (sym (ap (λ (o : Option RevVec). option_map_or (tree_at past) o initial_tree) based)))) start.plan.proper.tree
+
+            base_is : tree_at now w ≡ base_tree now s
+            base_is = sym (ap (λ (o : Option RevVec). option_map_or (tree_at now) o initial_tree) base_now)
+
+            -- and then the session stands at the tree of its new base, with nothing pending
+            pub turn_after_save : (base : Nodes) → base ≡ tree_at now w → IsTurn law (event.Said s i (answer_text (ShowsRevision r)) ∷ now) s base base
+            turn_after_save base same = turn_saved law now s i r base is (same ∙ base_is) idle (subst IsTree (sym same) tree_is)
 
   -- ---- a save that is called off
 
-  module _ (undone : Past) (like : IsLike law undone drawn_now) where
-    abbrev pub called_now : Past
-    called_now = event.Head 1 w ∷ event.End r ∷ undone
-
-    -- the session stands where it stood, and what it drew isn't committed
-    pub over_after_call : (base view : Nodes) → IsOver law past 0 base view → is_committed past r ≡ false → is_drawing called_now 0 ≡ false → IsOver law called_now 0 base view
-    over_after_call base view over fresh idle = record {
-      base_is = over.base_is ∙ sym (trees (base_of called_now 0) (base_of past 0) like.base ∙ same_trees (base_of past 0));
-      pending = like.pending ∙ over.pending;
-      from = over.from;
-      to = over.to;
-      idle = idle;
-      uncommitted = ap (λ (o : Option Revision). option_map_or (is_committed called_now) o false) like.drawn ∙ (like.committed r ∙ fresh);
-    }
-      where
-        trees : (a b : Option RevVec) → a ≡ b → option_map_or (tree_at called_now) a initial_tree ≡ option_map_or (tree_at called_now) b initial_tree
-        trees a b same = ap (λ (o : Option RevVec). option_map_or (tree_at called_now) o initial_tree) same
-
-        same_trees : (o : Option RevVec) → option_map_or (tree_at called_now) o initial_tree ≡ option_map_or (tree_at past) o initial_tree
-        same_trees None = refl
-        same_trees (Some u) = ap (λ (es : List (Revision × List Write)). applied_all initial_tree (filter (λ e. sees u e.0) es)) like.edits
+  -- the session stands where it stood, and what it drew isn't committed
+  pub over_after_call : (now : Past) → IsLike law s now drawn_now → (base view : Nodes) → IsOver law past s base view → is_committed past r ≡ false → is_drawing now s ≡ false → IsOver law now s base view
+  over_after_call now like base view over fresh idle = record {
+    base_is = over.base_is ∙ sym (ap (λ (o : Option RevVec). option_map_or (tree_at now) o initial_tree) like.base ∙ same_trees (base_of past s));
+    pending = like.pending ∙ over.pending;
+    from = over.from;
+    to = over.to;
+    idle = idle;
+    uncommitted = ap (λ (o : Option Revision). option_map_or (is_committed now) o false) (like.drawn ∙ drawn_is) ∙ (like.committed r ∙ fresh);
+  }
+    where
+      same_trees : (o : Option RevVec) → option_map_or (tree_at now) o initial_tree ≡ option_map_or (tree_at past) o initial_tree
+      same_trees None = refl
+      same_trees (Some u) = ap (λ (es : List (Revision × List Write)). applied_all initial_tree (filter (λ e. sees u e.0) es)) like.edits

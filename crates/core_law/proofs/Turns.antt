@@ -19,16 +19,16 @@ use Rattle.oak_machine.specs.declared.event.Event.TheVariants as event
 use Rattle.oak_machine.specs.History.{History, Past}
 use Rattle.oak_machine.specs.Commits.{is_committed, is_ended}
 use Rattle.oak_machine.specs.Marks.{marks_for}
-use Rattle.oak_machine.specs.Sessions.{drawn_since, is_drawing, is_reply_of, is_login_of, next_index, refreshed_since, since}
+use Rattle.oak_machine.specs.Sessions.{base_of, drawn_since, is_drawing, is_reply_of, is_login_of, next_index, refreshed_since, since}
 use Rattle.jcr_trans.specs.declared.command.Command.{Command}
 use Rattle.jcr_trans.specs.declared.command.Command.TheVariants as command
-use Rattle.jcr_trans.specs.Commands.{saves}
-use Rattle.jcr_trans.specs.Answers.{Answer, Done, ShowsProperty, ShowsNames, ShowsRevision, ShowsNothing, Refused}
+use Rattle.jcr_trans.specs.Commands.{Built, Adds, Sets, Gets, Lists, Saves, Refreshes, ShowsBase, NotBuilt, built, is_plain, refreshes_by, saves_by, shows_base_by, word_of}
+use Rattle.jcr_trans.specs.Answers.{Answer, Done, ShowsProperty, ShowsNames, ShowsRevision, ShowsVector, ShowsNothing, Refused, out_of_memory}
 use Rattle.jcr_trans.specs.Texts.{answer_text}
-use Rattle.jcr_trans.specs.Views.{Check, answered, checks, first_of, passes, property_of_path, shown, view_after}
+use Rattle.jcr_trans.specs.Views.{Check, answered, checks, first_of, passes, property_of_path, shown, too_many_nodes, unsupported, view_after}
 use Rattle.jcr_trans.proofs.Passing.{each_refuses, first_passes, is_refused, shows}
-use Rattle.core_law.specs.Law.{MayStart, MaySay, SaysBy, has_few_nodes, is_plain, plain, unchanged, saved, memory}
-use Rattle.core_law.specs.State.{Orders, base_tree, command_at, is_ok_text, pending_after, pending_of, pending_said, view_of}
+use Rattle.core_law.specs.Law.{MayStart, MaySay, SaysBy, has_few_nodes, may_save, plain, head, refreshed, not_allowed, unchanged, too_many, saved, memory}
+use Rattle.core_law.specs.State.{Orders, base_tree, command_at, is_ok_text, pending_after, pending_by, pending_of, pending_said, view_of}
 use Rattle.core_law.specs.Turns.{IsOver, IsTurn}
 use Rattle.core_law.proofs.Passing.{among_same}
 use Rattle.core_law.proofs.Views.{view_is_tree}
@@ -40,6 +40,7 @@ refused_text Done h = absurd (false≢true h)
 refused_text (ShowsProperty p) h = absurd (false≢true h)
 refused_text (ShowsNames ns) h = absurd (false≢true h)
 refused_text (ShowsRevision r) h = absurd (false≢true h)
+refused_text (ShowsVector v) h = absurd (false≢true h)
 refused_text ShowsNothing h = absurd (false≢true h)
 refused_text (Refused n ds) h = refl
 
@@ -48,6 +49,7 @@ accepted_text Done h = refl
 accepted_text (ShowsProperty p) h = refl
 accepted_text (ShowsNames ns) h = refl
 accepted_text (ShowsRevision r) h = refl
+accepted_text (ShowsVector v) h = refl
 accepted_text ShowsNothing h = refl
 accepted_text (Refused n ds) h = absurd (false≢true (sym h))
 
@@ -127,20 +129,37 @@ module _ (law : Orders) (h : History) (s i : ℕ) (base view : Nodes) where
   says_view c over is p = (c, answered c view, is, refl, subst (λ (t : Nodes). MaySay law h.past s c (answered c t)) (view_is over) (plain c p))
 
   -- each command may be answered with want of memory, where nothing was committed for it
-  pub says_memory : (c : Command) → IsOver law h.past s base view → command_at law s i ≡ Some c → SaysBy law h s i (answer_text (Refused 16 []))
-  says_memory c over is = (c, Refused 16 [], is, refl, memory c over.idle over.uncommitted)
+  pub says_memory : (c : Command) → IsOver law h.past s base view → command_at law s i ≡ Some c → SaysBy law h s i (answer_text out_of_memory)
+  says_memory c over is = (c, out_of_memory, is, refl, memory c over.idle over.uncommitted)
 
   -- a save with nothing pending may be answered so
-  pub says_unchanged : IsTurn law h.past s base view → command_at law s i ≡ Some command.Save → changes base view ≡ [] → SaysBy law h s i (answer_text ShowsNothing)
-  says_unchanged turn is none = (command.Save, ShowsNothing, is, refl, unchanged turn.fresh (turn.over.pending ∙ none))
+  pub says_unchanged : may_save s ≡ true → IsTurn law h.past s base view → command_at law s i ≡ Some command.Save → changes base view ≡ [] → SaysBy law h s i (answer_text ShowsNothing)
+  says_unchanged may turn is none = (command.Save, ShowsNothing, is, refl, unchanged may turn.fresh (turn.over.pending ∙ none))
+
+  -- a save with too many nodes may be refused so
+  pub says_too_many : may_save s ≡ true → IsTurn law h.past s base view → command_at law s i ≡ Some command.Save → has_few_nodes view ≡ false → SaysBy law h s i (answer_text too_many_nodes)
+  says_too_many may turn is many = (command.Save, too_many_nodes, is, refl, too_many may turn.fresh (ap has_few_nodes (view_is turn.over) ∙ many))
+
+  -- a save of a session that may not save may be refused so
+  pub says_not_allowed : may_save s ≡ false → command_at law s i ≡ Some command.Save → SaysBy law h s i (answer_text (unsupported (word_of command.Save)))
+  says_not_allowed may is = (command.Save, unsupported (word_of command.Save), is, refl, not_allowed may)
+
+  -- a `head` may be answered with the base
+  pub says_head : (v : RevVec) → command_at law s i ≡ Some command.Head → base_of h.past s ≡ Some v → SaysBy law h s i (answer_text (ShowsVector v))
+  says_head v is at = (command.Head, ShowsVector v, is, refl, head v at)
+
+  -- a refresh may be answered with the vector to which the base moved for it
+  pub says_refreshed : (v : RevVec) → command_at law s i ≡ Some (command.Refresh false) → refreshed_since h.past s ≡ Some v → SaysBy law h s i (answer_text (ShowsVector v))
+  says_refreshed v is at = (command.Refresh false, ShowsVector v, is, refl, refreshed v at)
 
   -- a commit that was drawn for a save and is committed may be answered with its revision, once the base sees it
   pub says_saved : (r : Revision) (v : RevVec) → command_at law s i ≡ Some command.Save → drawn_since h.past s ≡ Some r → is_ended h.past r ≡ true → is_committed h.past r ≡ true → refreshed_since h.past s ≡ Some v → sees v r ≡ true → SaysBy law h s i (answer_text (ShowsRevision r))
-  says_saved r v is drawn ended committed refreshed seen = (command.Save, ShowsRevision r, is, refl, saved r v drawn ended committed refreshed seen)
+  says_saved r v is drawn ended committed moved seen = (command.Save, ShowsRevision r, is, refl, saved r v drawn ended committed moved seen)
 
   -- what is pending may start to be committed by a save
-  pub may_start : IsTurn law h.past s base view → command_at law s (next_index h.past s) ≡ Some command.Save → (changes base view ≡ [] → ⊥) → has_few_nodes view ≡ true → MayStart law h s (record { writes = changes base view }) (marks_for [] (changes base view))
-  may_start turn is some few = record {
+  pub may_start : may_save s ≡ true → IsTurn law h.past s base view → command_at law s (next_index h.past s) ≡ Some command.Save → (changes base view ≡ [] → ⊥) → has_few_nodes view ≡ true → MayStart law h s (record { writes = changes base view }) (marks_for [] (changes base view))
+  may_start may turn is some few = record {
+    allowed = may;
     saving = is;
     first = turn.fresh;
     pending = sym turn.over.pending;
@@ -156,13 +175,19 @@ module _ (law : Orders) (h : History) (s i : ℕ) (base view : Nodes) where
   pub turn_view : (c : Command) → IsTurn law h.past s base view → command_at law s i ≡ Some c → is_plain c ≡ true → IsTurn law (event.Said s i (answer_text (answered c view)) ∷ h.past) s base (view_after c view)
   turn_view c turn is p = by (passes (checks c view)) refl
     where
-      kept : (b : Bool) (ws : List Write) → not b ≡ true → cond b [] ws ≡ ws
-      kept true ws h = absurd (false≢true h)
-      kept false ws h = refl
+      kept : (b : Built) (made ws : List Write) → not (saves_by b || refreshes_by b || shows_base_by b) ≡ true → pending_by b made ws ≡ made
+      kept (Adds q) made ws h = refl
+      kept (Sets q n x) made ws h = refl
+      kept (Gets q) made ws h = refl
+      kept (Lists q) made ws h = refl
+      kept Saves made ws h = absurd (false≢true h)
+      kept Refreshes made ws h = absurd (false≢true h)
+      kept ShowsBase made ws h = absurd (false≢true h)
+      kept (NotBuilt word) made ws h = refl
 
       left : pending_after c (base_tree h.past s) (pending_of law h.past s) ≡ changes base (view_after c view)
       left =
-          kept (saves c) (changes (base_tree h.past s) (view_after c (view_of law h.past s))) p
+          kept (built c) (changes (base_tree h.past s) (view_after c (view_of law h.past s))) (pending_of law h.past s) p
           ∙ (ap (λ (t : Nodes). changes (base_tree h.past s) (view_after c t)) (view_is turn.over)
           ∙ ap (λ (t : Nodes). changes t (view_after c view)) (sym turn.over.base_is))
 
@@ -176,8 +201,20 @@ module _ (law : Orders) (h : History) (s i : ℕ) (base view : Nodes) where
           (turn_refused law h.past s i (answer_text (answered c view)) base view turn.over (refused_text (answered c view) (first_refuses (checks c view) (shown c view) (each_refuses c view) k)))
 
   -- after want of memory
-  pub turn_memory : IsOver law h.past s base view → IsTurn law (event.Said s i (answer_text (Refused 16 [])) ∷ h.past) s base view
-  turn_memory over = turn_refused law h.past s i (answer_text (Refused 16 [])) base view over refl
+  pub turn_memory : IsOver law h.past s base view → IsTurn law (event.Said s i (answer_text out_of_memory) ∷ h.past) s base view
+  turn_memory over = turn_refused law h.past s i (answer_text out_of_memory) base view over refl
+
+  -- after a save with too many nodes
+  pub turn_too_many : IsTurn law h.past s base view → IsTurn law (event.Said s i (answer_text too_many_nodes) ∷ h.past) s base view
+  turn_too_many turn = turn_refused law h.past s i (answer_text too_many_nodes) base view turn.over refl
+
+  -- after a save of a session that may not save
+  pub turn_not_allowed : IsTurn law h.past s base view → IsTurn law (event.Said s i (answer_text (unsupported (word_of command.Save))) ∷ h.past) s base view
+  turn_not_allowed turn = turn_refused law h.past s i (answer_text (unsupported (word_of command.Save))) base view turn.over refl
+
+  -- after a `head`
+  pub turn_head : (v : RevVec) → IsTurn law h.past s base view → command_at law s i ≡ Some command.Head → IsTurn law (event.Said s i (answer_text (ShowsVector v)) ∷ h.past) s base view
+  turn_head v turn is = turn_accepted law h.past s i (answer_text (ShowsVector v)) command.Head base view is refl turn.over.base_is turn.over.idle turn.over.pending turn.over.from turn.over.to
 
   -- after a save with nothing pending
   pub turn_unchanged : IsTurn law h.past s base view → command_at law s i ≡ Some command.Save → changes base view ≡ [] → IsTurn law (event.Said s i (answer_text ShowsNothing) ∷ h.past) s base view
@@ -186,3 +223,7 @@ module _ (law : Orders) (h : History) (s i : ℕ) (base view : Nodes) where
 -- after a save whose commit the base sees
 pub turn_saved : (law : Orders) (past : Past) (s i : ℕ) (r : Revision) (base : Nodes) → command_at law s i ≡ Some command.Save → base ≡ base_tree past s → is_drawing past s ≡ false → IsTree base → IsTurn law (event.Said s i (answer_text (ShowsRevision r)) ∷ past) s base base
 turn_saved law past s i r base is same idle tree = turn_accepted law past s i (answer_text (ShowsRevision r)) command.Save base base is refl same idle (sym (no_changes base tree)) tree tree
+
+-- after a refresh: nothing is pending at the base to which it moved
+pub turn_refreshed : (law : Orders) (past : Past) (s i : ℕ) (v : RevVec) (base : Nodes) → command_at law s i ≡ Some (command.Refresh false) → base ≡ base_tree past s → is_drawing past s ≡ false → IsTree base → IsTurn law (event.Said s i (answer_text (ShowsVector v)) ∷ past) s base base
+turn_refreshed law past s i v base is same idle tree = turn_accepted law past s i (answer_text (ShowsVector v)) (command.Refresh false) base base is refl same idle (sym (no_changes base tree)) tree tree

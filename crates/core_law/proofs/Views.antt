@@ -21,7 +21,7 @@ use Rattle.jr_tree.proofs.Pointwise.{same_path}
 use Rattle.jr_tree.proofs.AtPath.{InOrder, filled, node_at-filled, order-filled}
 use Rattle.jr_tree.proofs.EditLaw.{IsOrderly, Orderly-all, Orderly-filled}
 use Rattle.jcr_trans.specs.declared.command.Command.{Command}
-use Rattle.jcr_trans.specs.Commands.{Built, Adds, Sets, Gets, Lists, Saves, NotBuilt, built}
+use Rattle.jcr_trans.specs.Commands.{Built, Adds, Sets, Gets, Lists, Saves, Refreshes, ShowsBase, NotBuilt, built}
 use Rattle.jcr_trans.specs.Views.{changed_by, checks, checks_of, passes, view_after, depth_limit, length_limit, not_system, parent_stands, place_is_free}
 
 -- ---- a tree, by what stands at each path
@@ -140,5 +140,7 @@ view_is_tree c t tree = by (built c) (passes (checks c t)) refl
     by (Gets p) true h = tree
     by (Lists p) true h = tree
     by Saves true h = tree
+    by Refreshes true h = tree
+    by ShowsBase true h = tree
     by (NotBuilt word) true h = tree
     by k false h = tree

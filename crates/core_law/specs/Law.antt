@@ -1,5 +1,5 @@
 -- The law of the product: which edits may start, and which texts may be said.
-use Rattle.std.specs.Prelude.{◌≡◌, ◌≢◌, ℕ, Bool, false, not, List, [], ◌∷◌, length, None, Some, IsTrue, IsFalse, codes, nat_le}
+use Rattle.std.specs.Prelude.{◌≡◌, ◌≢◌, ℕ, Bool, false, ◌==◌, List, [], ◌∷◌, length, None, Some, IsTrue, IsFalse, nat_le}
 use Rattle.std.specs.Option.{option_map_or}
 use Rattle.jr_path.specs.declared.path.Item.{Item}
 use Rattle.jr_path.specs.declared.text.Text.{Text}
@@ -14,13 +14,13 @@ use Rattle.oak_clash.specs.declared.mark.MarkAt.{MarkAt}
 use Rattle.oak_machine.specs.History.{Past, History}
 use Rattle.oak_machine.specs.Commits.{is_committed, is_ended, refusal_of}
 use Rattle.oak_machine.specs.Marks.{marks_for}
-use Rattle.oak_machine.specs.Sessions.{is_drawing, next_index, drawn_since, refreshed_since}
+use Rattle.oak_machine.specs.Sessions.{base_of, is_drawing, next_index, drawn_since, refreshed_since}
 use Rattle.jcr_trans.specs.declared.command.Command.{Command}
 use Rattle.jcr_trans.specs.declared.command.Command.TheVariants as command
-use Rattle.jcr_trans.specs.Commands.{saves}
-use Rattle.jcr_trans.specs.Answers.{Answer, ShowsRevision, ShowsNothing, Refused}
+use Rattle.jcr_trans.specs.Commands.{is_plain, word_of}
+use Rattle.jcr_trans.specs.Answers.{Answer, ShowsRevision, ShowsVector, ShowsNothing, Refused, out_of_memory}
 use Rattle.jcr_trans.specs.Texts.{answer_text}
-use Rattle.jcr_trans.specs.Views.{answered, over_limit}
+use Rattle.jcr_trans.specs.Views.{answered, too_many_nodes, unsupported}
 use Rattle.core_law.specs.State.{Orders, command_at, base_tree, pending_of, view_of}
 
 -- at most 100,000 nodes
@@ -33,32 +33,39 @@ pub record IsPlan (t : Nodes) (edit : Edit) (marks : List MarkAt) : Type 0 where
   pub marked : marks_for t edit.writes ≡ marks
   pub few : IsTrue (has_few_nodes (applied t edit.writes))
 
--- the next command of s is a save, nothing was drawn for it yet, and the edit is what is pending
+-- so far the first session alone may save
+abbrev pub may_save : ℕ → Bool
+may_save s = s == 0
+
+-- the next command of s, which may save, is a save, nothing was drawn for it yet, and the edit is what is pending
 pub record MayStart (law : Orders) (h : History) (s : ℕ) (edit : Edit) (marks : List MarkAt) : Type 0 where
+  pub allowed : IsTrue (may_save s)
   pub saving : command_at law s (next_index h.past s) ≡ Some command.Save
   pub first : drawn_since h.past s ≡ None
   pub pending : edit.writes ≡ pending_of law h.past s
   pub some : edit.writes ≢ []
   pub plan : IsPlan (base_tree h.past s) edit marks
 
--- a command that reads or changes the view alone, or isn't built
-abbrev pub is_plain : Command → Bool
-is_plain c = not (saves c)
-
 -- the causes of an answer of s to a command
 pub data MaySay (law : Orders) (past : Past) (s : ℕ) : Command → Answer → Type 0 where
   -- a reading or view command answers by the view, and one that isn't built is refused
   plain : (c : Command) → IsTrue (is_plain c) → MaySay law past s c (answered c (view_of law past s))
+  -- `head` shows the base
+  head : (v : RevVec) → base_of past s ≡ Some v → MaySay law past s command.Head (ShowsVector v)
+  -- a refresh shows the base to which it moved
+  refreshed : (v : RevVec) → refreshed_since past s ≡ Some v → MaySay law past s (command.Refresh false) (ShowsVector v)
+  -- the session may not save
+  not_allowed : IsFalse (may_save s) → MaySay law past s command.Save (unsupported (word_of command.Save))
   -- nothing was pending
-  unchanged : drawn_since past s ≡ None → pending_of law past s ≡ [] → MaySay law past s command.Save ShowsNothing
+  unchanged : IsTrue (may_save s) → drawn_since past s ≡ None → pending_of law past s ≡ [] → MaySay law past s command.Save ShowsNothing
   -- the tree after the edit has too many nodes
-  too_many : drawn_since past s ≡ None → IsFalse (has_few_nodes (view_of law past s)) → MaySay law past s command.Save (over_limit (codes "nodes") 100000)
+  too_many : IsTrue (may_save s) → drawn_since past s ≡ None → IsFalse (has_few_nodes (view_of law past s)) → MaySay law past s command.Save too_many_nodes
   -- the edit is committed, and the base sees it
   saved : (r : Revision) (v : RevVec) → drawn_since past s ≡ Some r → IsTrue (is_ended past r) → IsTrue (is_committed past r) → refreshed_since past s ≡ Some v → IsTrue (sees v r) → MaySay law past s command.Save (ShowsRevision r)
   -- the commit was refused for a clash
   clashed : (r o : Revision) (item : Item) → drawn_since past s ≡ Some r → IsTrue (is_ended past r) → refusal_of past r ≡ Some (item, o) → MaySay law past s command.Save (Refused 10 (datum.Item item ∷ datum.Revision o ∷ []))
   -- want of memory, where nothing was committed for the command and nothing of s is in flight
-  memory : (c : Command) → IsFalse (is_drawing past s) → IsFalse (option_map_or (is_committed past) (drawn_since past s) false) → MaySay law past s c (Refused 16 [])
+  memory : (c : Command) → IsFalse (is_drawing past s) → IsFalse (option_map_or (is_committed past) (drawn_since past s) false) → MaySay law past s c out_of_memory
 
 -- the text is that of an answer that the command of that index may have
 abbrev pub SaysBy : Orders → History → ℕ → ℕ → Text → Type 0

@@ -14,7 +14,7 @@ use Rattle.oak_machine.specs.History.{Past}
 use Rattle.oak_machine.specs.Commits.{tree_at}
 use Rattle.oak_machine.specs.Sessions.{base_of}
 use Rattle.jcr_trans.specs.declared.command.Command.{Command}
-use Rattle.jcr_trans.specs.Commands.{saves}
+use Rattle.jcr_trans.specs.Commands.{Built, Saves, Refreshes, ShowsBase, built}
 use Rattle.jcr_trans.specs.Views.{view_after}
 
 -- the cluster node and the commands of each session
@@ -33,9 +33,16 @@ is_ok_text text = starts_with nat_eq text (codes "ok")
 abbrev pub base_tree : Past → ℕ → Nodes
 base_tree past s = option_map_or (tree_at past) (base_of past s) initial_tree
 
--- what an accepted command leaves of the pending edits: none where it saves, else those by which the view then differs from the base
+-- what is pending after an accepted command: nothing where it saves or refreshes, the same where it shows the base, else what it made of it
+abbrev pub pending_by : Built → List Write → List Write → List Write
+pending_by Saves made ws = []
+pending_by Refreshes made ws = []
+pending_by ShowsBase made ws = ws
+pending_by _ made ws = made
+
+-- a reading or view command makes of it the edits by which the view then differs from the base
 abbrev pub pending_after : Command → Nodes → List Write → List Write
-pending_after c base ws = cond (saves c) [] (changes base (view_after c (applied base ws)))
+pending_after c base ws = pending_by (built c) (changes base (view_after c (applied base ws))) ws
 
 -- what a reply leaves of the pending edits: those there are, where it refuses
 abbrev pub pending_said : Orders → Past → ℕ → ℕ → Text → List Write → List Write

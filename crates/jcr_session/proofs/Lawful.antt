@@ -1,5 +1,5 @@
 -- What the journal alone decides may be said.
-use Rattle.std.proofs.Common.{◌≡◌, ℕ, Bool, true, false, cond, not, Option, Some, None, Result, Ok, Err, IfOk, IfSome, List, [], ◌∷◌, is_some, refl, sym, ap, subst}
+use Rattle.std.proofs.Common.{◌≡◌, ℕ, Bool, true, false, cond, not, ◌||◌, ◌∙◌, Option, Some, None, Result, Ok, Err, IfOk, IfSome, List, [], ◌∷◌, is_some, refl, sym, ap, subst}
 use Rattle.std.specs.Prelude.{option_map}
 use Rattle.std.specs.Option.{option_and_then, option_map_or, unwrap_or}
 use mathlib.Core.Bool.{false≢true}
@@ -10,17 +10,17 @@ use Rattle.jr_rev.specs.Vectors.{sees}
 use Rattle.jr_tree.specs.declared.edit.Write.{Write}
 use Rattle.oak_machine.specs.History.{History, Past}
 use Rattle.oak_machine.specs.Commits.{is_committed, is_ended, refusal_of}
-use Rattle.oak_machine.specs.Sessions.{drawn_since, next_index, refreshed_since}
+use Rattle.oak_machine.specs.Sessions.{base_of, drawn_since, next_index, refreshed_since}
 use Rattle.jcr_trans.specs.declared.command.Command.{Command}
 use Rattle.jcr_trans.specs.declared.command.Command.TheVariants as command
 use Rattle.jcr_trans.specs.Answers.{Answer, ShowsRevision}
-use Rattle.jcr_trans.specs.Commands.{saves}
+use Rattle.jcr_trans.specs.Commands.{Built, Adds, Sets, Gets, Lists, Saves, Refreshes, ShowsBase, NotBuilt, built, refreshes_by, saves_by, shows_base_by, word_of}
 use Rattle.jcr_trans.specs.Texts.{answer_text}
-use Rattle.jcr_trans.specs.Views.{answered, over_limit}
-use Rattle.jcr_trans.proofs.Passing.{only_save}
-use Rattle.core_law.specs.Law.{MaySay, SaysBy, has_few_nodes, plain, unchanged, too_many, saved, clashed}
+use Rattle.jcr_trans.specs.Views.{answered, too_many_nodes, unsupported}
+use Rattle.jcr_trans.proofs.Passing.{only_head, only_refresh, only_save}
+use Rattle.core_law.specs.Law.{MaySay, SaysBy, has_few_nodes, may_save, plain, head, refreshed, not_allowed, unchanged, too_many, saved, clashed}
 use Rattle.core_law.specs.State.{Orders, command_at, pending_of, view_of}
-use Rattle.jcr_session.specs.Eval.{answer_next, answer_of, clash_answer, ended_answer, save_answer, unsaved_answer}
+use Rattle.jcr_session.specs.Eval.{answer_next, answer_by, answer_of, clash_answer, ended_answer, save_answer, unsaved_answer, vector_answer}
 
 some_is : {A : Type 0} {x y : A} → Some x ≡ Some y → x ≡ y
 some_is {A} {x} h = ap (λ (o : Option A). unwrap_or o x) h
@@ -29,13 +29,13 @@ none_some : {A B : Type 0} {x : A} → None ≡ Some x → B
 none_some h = absurd (false≢true (ap is_some h))
 
 module _ (law : Orders) (past : Past) (s : ℕ) (a : Answer) where
-  may_unsaved : drawn_since past s ≡ None → (ws : List Write) → pending_of law past s ≡ ws → unsaved_answer ws (view_of law past s) ≡ Some a → MaySay law past s command.Save a
-  may_unsaved none [] pending is = subst (λ (x : Answer). MaySay law past s command.Save x) (some_is is) (unchanged none pending)
-  may_unsaved none (w ∷ ws) pending is = by (has_few_nodes (view_of law past s)) refl is
+  may_unsaved : may_save s ≡ true → drawn_since past s ≡ None → (ws : List Write) → pending_of law past s ≡ ws → unsaved_answer ws (view_of law past s) ≡ Some a → MaySay law past s command.Save a
+  may_unsaved may none [] pending is = subst (λ (x : Answer). MaySay law past s command.Save x) (some_is is) (unchanged may none pending)
+  may_unsaved may none (w ∷ ws) pending is = by (has_few_nodes (view_of law past s)) refl is
     where
-      by : (b : Bool) → has_few_nodes (view_of law past s) ≡ b → cond b None (Some (over_limit (Rattle.std.specs.Prelude.codes "nodes") 100000)) ≡ Some a → MaySay law past s command.Save a
+      by : (b : Bool) → has_few_nodes (view_of law past s) ≡ b → cond b None (Some too_many_nodes) ≡ Some a → MaySay law past s command.Save a
       by true few is = none_some is
-      by false many is = subst (λ (x : Answer). MaySay law past s command.Save x) (some_is is) (too_many none many)
+      by false many is = subst (λ (x : Answer). MaySay law past s command.Save x) (some_is is) (too_many may none many)
 
   module _ (r : Revision) (drawn : drawn_since past s ≡ Some r) (ended : is_ended past r ≡ true) where
     may_saved : is_committed past r ≡ true → (o : Option RevVec) → refreshed_since past s ≡ o → cond (option_map_or (λ v. sees v r) o false) (Some (ShowsRevision r)) None ≡ Some a → MaySay law past s command.Save a
@@ -55,20 +55,47 @@ module _ (law : Orders) (past : Past) (s : ℕ) (a : Answer) where
     may_ended true committed is = may_saved committed (refreshed_since past s) refl is
     may_ended false refused is = may_clash (refusal_of past r) refl is
 
-  may_save : (o : Option Revision) → drawn_since past s ≡ o → save_answer law past s o ≡ Some a → MaySay law past s command.Save a
-  may_save None none is = may_unsaved none (pending_of law past s) refl is
-  may_save (Some r) drawn is = by (is_ended past r) refl is
+  may_commit : may_save s ≡ true → (o : Option Revision) → drawn_since past s ≡ o → save_answer law past s o ≡ Some a → MaySay law past s command.Save a
+  may_commit may None none is = may_unsaved may none (pending_of law past s) refl is
+  may_commit may (Some r) drawn is = by (is_ended past r) refl is
     where
       by : (b : Bool) → is_ended past r ≡ b → cond b (ended_answer past s r) None ≡ Some a → MaySay law past s command.Save a
       by true ended is = may_ended r drawn ended (is_committed past r) refl is
       by false flying is = none_some is
 
+  may_save_or_not : (b : Bool) → may_save s ≡ b → cond b (save_answer law past s (drawn_since past s)) (Some (unsupported (word_of command.Save))) ≡ Some a → MaySay law past s command.Save a
+  may_save_or_not true may is = may_commit may (drawn_since past s) refl is
+  may_save_or_not false may is = subst (λ (x : Answer). MaySay law past s command.Save x) (some_is is) (not_allowed may)
+
+  may_refresh : (o : Option RevVec) → refreshed_since past s ≡ o → vector_answer o ≡ Some a → MaySay law past s (command.Refresh false) a
+  may_refresh None at is = none_some is
+  may_refresh (Some v) at is = subst (λ (x : Answer). MaySay law past s (command.Refresh false) x) (some_is is) (refreshed v at)
+
+  may_head : (o : Option RevVec) → base_of past s ≡ o → vector_answer o ≡ Some a → MaySay law past s command.Head a
+  may_head None at is = none_some is
+  may_head (Some v) at is = subst (λ (x : Answer). MaySay law past s command.Head x) (some_is is) (head v at)
+
+  module _ (c : Command) where
+    viewed : not (saves_by (built c) || refreshes_by (built c) || shows_base_by (built c)) ≡ true → Some (answered c (view_of law past s)) ≡ Some a → MaySay law past s c a
+    viewed is_view is = subst (λ (x : Answer). MaySay law past s c x) (some_is is) (plain c is_view)
+
+    as_view : (b : Built) → built c ≡ b → not (saves_by b || refreshes_by b || shows_base_by b) ≡ true → Some (answered c (view_of law past s)) ≡ Some a → MaySay law past s c a
+    as_view b e h is = viewed (ap (λ (k : Built). not (saves_by k || refreshes_by k || shows_base_by k)) e ∙ h) is
+
+    may_by : (b : Built) → built c ≡ b → answer_by b law past s c ≡ Some a → MaySay law past s c a
+    may_by (Adds p) e is = as_view (Adds p) e refl is
+    may_by (Sets p n x) e is = as_view (Sets p n x) e refl is
+    may_by (Gets p) e is = as_view (Gets p) e refl is
+    may_by (Lists p) e is = as_view (Lists p) e refl is
+    may_by (NotBuilt word) e is = as_view (NotBuilt word) e refl is
+    may_by Saves e is =
+        let same : c ≡ command.Save = only_save c (ap saves_by e) in
+        subst (λ (d : Command). MaySay law past s d a) (sym same) (may_save_or_not (may_save s) refl (subst (λ (d : Command). cond (may_save s) (save_answer law past s (drawn_since past s)) (Some (unsupported (word_of d))) ≡ Some a) same is))
+    may_by Refreshes e is = subst (λ (d : Command). MaySay law past s d a) (sym (only_refresh c (ap refreshes_by e))) (may_refresh (refreshed_since past s) refl is)
+    may_by ShowsBase e is = subst (λ (d : Command). MaySay law past s d a) (sym (only_head c (ap shows_base_by e))) (may_head (base_of past s) refl is)
+
   may_answer : (c : Command) → answer_of law past s c ≡ Some a → MaySay law past s c a
-  may_answer c is = by (saves c) refl is
-    where
-      by : (b : Bool) → saves c ≡ b → cond b (save_answer law past s (drawn_since past s)) (Some (answered c (view_of law past s))) ≡ Some a → MaySay law past s c a
-      by true e is = subst (λ (d : Command). MaySay law past s d a) (sym (only_save c e)) (may_save (drawn_since past s) refl is)
-      by false e is = subst (λ (x : Answer). MaySay law past s c x) (some_is is) (plain c (ap not e))
+  may_answer c is = may_by c (built c) refl is
 
 next_says : (law : Orders) (h : History) (s : ℕ) (a : Answer) → answer_next law h.past s ≡ Some a → SaysBy law h s (next_index h.past s) (answer_text a)
 next_says law h s a is = by (command_at law s (next_index h.past s)) refl is

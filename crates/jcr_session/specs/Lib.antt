@@ -1,1 +1,3 @@
 pub mod Eval
+pub mod Sights
+pub mod Standing

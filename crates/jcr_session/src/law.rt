@@ -6,9 +6,9 @@ use jcr_trans::Command;
 use jr_path::List;
 use oak_machine::Law;
 
-/// The law of the product over the cluster node and the commands of each session. An edit may start where the session's next
-/// command is a `save` and the edit is what is pending; a text may be said where it is the answer of the session's next command by
-/// the tree at its base with its pending edits, or tells how its commit ended (JSR 283, 10.11 Saving).
+/// The law of the product over the cluster node and the commands of each session. An edit may start where the session may save, its
+/// next command is a `save`, and the edit is what is pending; a text may be said where it is the answer of the session's next command
+/// by the tree at its base with its pending edits, shows the base, or tells how its commit ended (JSR 283, 10.11 Saving).
 #[derive(Drop)]
 pub struct JcrLaw {
     pub sessions: List<(u32, List<Command>)>,

@@ -6,6 +6,13 @@ mod law;
 mod next;
 mod past;
 mod pending;
+mod run;
+mod sight;
+#[cfg(test)]
+mod tests;
+mod turn;
 
 pub use law::JcrLaw;
-pub use next::eval;
+pub use next::{eval, may_save};
+pub use run::SessionRun;
+pub use turn::Turn;

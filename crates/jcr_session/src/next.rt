@@ -1,28 +1,31 @@
 // The reply that the law lets a session's next command have.
-ghost use Rattle.std.specs.Prelude.{◌≡◌, IfOk, IfSome, None, cond, codes, option_map, string_bytes};
+ghost use Rattle.std.specs.Prelude.{◌≡◌, IfOk, IfSome, None, cond, option_map, string_bytes};
 ghost use Rattle.std.specs.Option.{option_copied};
-ghost use Rattle.jcr_session.specs.Eval.{answer_next, clash_answer, ended_answer, save_answer};
+ghost use Rattle.jcr_session.specs.Eval.{answer_next, answer_of, clash_answer, ended_answer, save_answer, vector_answer};
 ghost use Rattle.jcr_trans.specs.Texts.{answer_text};
-ghost use Rattle.jcr_trans.specs.Views.{answered, over_limit};
+ghost use Rattle.jcr_trans.specs.Views.{answered};
 ghost use Rattle.oak_machine.specs.History.{history_of};
 ghost use Rattle.oak_machine.specs.Commits.{is_ended, refusal_of};
 ghost use Rattle.oak_machine.specs.Sessions.{drawn_since, next_index};
-ghost use Rattle.core_law.specs.Law.{SaysBy};
+ghost use Rattle.core_law.specs.Law.{SaysBy, may_save};
 ghost use Rattle.core_law.specs.State.{command_at};
 
 use crate::law::JcrLaw;
 use crate::past::{drawn_since, refreshed_since, refusal_of};
 use crate::pending::{pending_of, view_of};
-use jcr_trans::{Command, null_reply, refusal_text, revision_reply, run};
-use jr_path::{DeepCopy, List, Text};
-use jr_rev::Revision;
+use jcr_trans::{
+    Command, null_reply, refusal_text, revision_reply, run, too_many_reply, unsupported_reply, vector_reply,
+};
+use jr_path::{DeepCopy, List};
+use jr_rev::{RevVec, Revision};
 use jr_tree::{Datum, Refusal, Tree};
-use oak_machine::{Journal, is_committed, is_ended, next_index};
+use oak_machine::{Journal, base_of, is_committed, is_ended, next_index};
 use std::alloc::{AllocError, Global};
 
 /// The text of the reply that the law lets the next command of a session have, where the journal alone decides it: a reading or
-/// view command by the tree at the session's base with its pending edits, a save by how its commit ended. None where the session
-/// has no next command, and for a save that is neither refused nor at the end of its commit. Want of memory is no such reply. It
+/// view command by the tree at the session's base with its pending edits, a save by how its commit ended, a refresh by where the
+/// base moved for it, `head` by the base. None where the session has no next command, for a save that is neither refused nor at the
+/// end of its commit, for a refresh before the base moved, and for `head` before the login. Want of memory is no such reply. It
 /// goes over the whole journal for each event.
 pub fn eval(
     alloc: Global,
@@ -46,11 +49,51 @@ fn answer(
 {
     let index = next_index(journal.events.as_slice(), session);
     match command_at(law, session, index) {
-        Some(Command::Save) => save_reply(alloc, law, journal, session),
-        Some(command) => {
+        Some(command) => reply(alloc, law, journal, session, command),
+        None => Ok(None),
+    }
+}
+
+// The reply of a command.
+fn reply(
+    alloc: Global,
+    law: &JcrLaw,
+    journal: &Journal,
+    session: u32,
+    command: &Command,
+) -> Result<Option<String>, AllocError>
+    ensures { IfOk result (λ found. option_map string_bytes found ≡ option_map answer_text (answer_of law.now.sessions (history_of journal.now).past session command.now)) }
+{
+    let events = journal.events.as_slice();
+    match command {
+        Command::Save => {
+            if may_save(session) {
+                return save_reply(alloc, law, journal, session);
+            }
+            Ok(Some(unsupported_reply(alloc, command)?))
+        }
+        Command::Refresh(false) => shown_vector(alloc, refreshed_since(events, session)),
+        Command::Head => shown_vector(alloc, base_of(events, session)),
+        _ => {
             let view = view_of(alloc, law, journal, session)?;
             Ok(Some(view_reply(alloc, command, view)?))
         }
+    }
+}
+
+/// Whether a session may save: so far the first one alone.
+pub fn may_save(session: u32) -> bool
+    ensures { result ≡ may_save session }
+{
+    session == 0
+}
+
+// The reply that shows a vector, where there is one.
+fn shown_vector(alloc: Global, vector: Option<RevVec>) -> Result<Option<String>, AllocError>
+    ensures { IfOk result (λ found. option_map string_bytes found ≡ option_map answer_text (vector_answer vector)) }
+{
+    match vector {
+        Some(v) => Ok(Some(vector_reply(alloc, &v)?)),
         None => Ok(None),
     }
 }
@@ -157,14 +200,4 @@ fn unsaved_reply(
             Ok(Some(too_many_reply(alloc)?))
         }
     }
-}
-
-// The reply where the tree would have too many nodes.
-fn too_many_reply(alloc: Global) -> Result<String, AllocError>
-    ensures { IfOk result (λ text. string_bytes text ≡ answer_text (over_limit (codes "nodes") 100000)) }
-{
-    let mut parts = List::new(alloc);
-    parts.push(Datum::Text(Text::copy_of(alloc, "nodes")?))?;
-    parts.push(Datum::Number(100_000))?;
-    refusal_text(alloc, &Refusal { number: 15, parts })
 }

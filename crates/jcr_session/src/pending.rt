@@ -123,7 +123,8 @@ fn pending_after(
     ensures { IfOk result (λ writes. writes ≡ pending_after command.now base pending) }
 {
     match command {
-        Command::Save => Ok(List::new(alloc)),
+        Command::Save | Command::Refresh(false) => Ok(List::new(alloc)),
+        Command::Head => Ok(pending),
         _ => {
             let view = view_after(alloc, command, with_edits(base.copy()?, pending)?)?;
             Ok(changes(&base, &view)?.writes)

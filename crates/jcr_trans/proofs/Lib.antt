@@ -1,3 +1,4 @@
+pub mod Ascii
 pub mod Longer
 pub mod NoFloat
 pub mod Passing

@@ -8,10 +8,10 @@ use Rattle.jr_path.specs.Ids.{path_text}
 use Rattle.jr_path.specs.Names.{item_path}
 use Rattle.jr_path.specs.declared.name.Name.{Name}
 use Rattle.jr_value.specs.Json.{kind_text, property_data}
-use Rattle.jr_rev.specs.Texts.{revision_text}
+use Rattle.jr_rev.specs.Texts.{revision_text, vector_text}
 use Rattle.jr_tree.specs.declared.shared.Datum.{Datum}
 use Rattle.jr_tree.specs.declared.shared.Datum.TheVariants as datum
-use Rattle.jcr_trans.specs.Answers.{Answer, Done, ShowsProperty, ShowsNames, ShowsRevision, ShowsNothing, Refused}
+use Rattle.jcr_trans.specs.Answers.{Answer, Done, ShowsProperty, ShowsNames, ShowsRevision, ShowsVector, ShowsNothing, Refused, out_of_memory}
 
 -- names, as texts
 abbrev pub name_items : List Name → Items
@@ -40,5 +40,10 @@ answer_text Done = codes "ok"
 answer_text (ShowsProperty p) = ok_text (property_data p)
 answer_text (ShowsNames ns) = ok_text (array (name_items ns))
 answer_text (ShowsRevision r) = ok_text (string (revision_text r))
+answer_text (ShowsVector v) = ok_text (string (vector_text v))
 answer_text ShowsNothing = ok_text null
 answer_text (Refused n ds) = codes "no " ++ decimal n ++ codes " " ++ compact_text (array (datum_items ds))
+
+-- the reply where memory was refused
+abbrev pub memory_text : List ℕ
+memory_text = answer_text out_of_memory

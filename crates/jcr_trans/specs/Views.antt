@@ -13,7 +13,7 @@ use Rattle.jr_tree.specs.Trees.{Nodes, node_at, property_at}
 use Rattle.jr_tree.specs.Edits.{with_property_write}
 use Rattle.jr_tree.specs.Trees.{node_of_type, children_of}
 use Rattle.jcr_trans.specs.declared.command.Command.{Command}
-use Rattle.jcr_trans.specs.Commands.{Built, Adds, Sets, Gets, Lists, Saves, NotBuilt, built}
+use Rattle.jcr_trans.specs.Commands.{Built, Adds, Sets, Gets, Lists, Saves, Refreshes, ShowsBase, NotBuilt, built}
 use Rattle.jcr_trans.specs.Answers.{Answer, Done, ShowsProperty, ShowsNames, Refused}
 
 -- a refusal, where its test holds
@@ -42,6 +42,10 @@ text_length (n ∷ ns) = length n + 1 + text_length ns
 -- a limit is passed
 abbrev pub over_limit : List ℕ → ℕ → Answer
 over_limit what most = Refused 15 (datum.Text what ∷ datum.Number most ∷ [])
+
+-- a tree has at most 100,000 nodes
+abbrev pub too_many_nodes : Answer
+too_many_nodes = over_limit (codes "nodes") 100000
 
 -- a path has at most 64 names
 abbrev pub depth_limit : Path → Check
@@ -121,6 +125,8 @@ checks_of (Sets p n x) t = set_checks p n t
 checks_of (Gets p) t = get_checks p t
 checks_of (Lists p) t = list_checks p t
 checks_of Saves t = []
+checks_of Refreshes t = []
+checks_of ShowsBase t = []
 checks_of (NotBuilt word) t = not_built word ∷ []
 
 abbrev pub checks : Command → Nodes → List Check

@@ -20,7 +20,7 @@ pub fn check(alloc: Global, view: &Tree, command: &Command) -> Result<(), Refusa
         Command::Set(path, name, _) => check_set(alloc, view, path, name),
         Command::Get(path) => check_get(alloc, view, path),
         Command::List(path) => check_list(alloc, view, path),
-        Command::Save => Ok(()),
+        Command::Save | Command::Refresh(false) | Command::Head => Ok(()),
         _ => Err(refused_with(alloc, unsupported(alloc, command.word()))),
     }
 }
@@ -211,8 +211,8 @@ fn refused_with(alloc: Global, made: Result<Refusal, AllocError>) -> Refusal
     }
 }
 
-// A command of this name isn't built.
-fn unsupported(alloc: Global, word: &str) -> Result<Refusal, AllocError>
+// A command of this name isn't built, or isn't for this session.
+pub fn unsupported(alloc: Global, word: &str) -> Result<Refusal, AllocError>
     ensures { IfOk result (IsRefusal (unsupported word.now)) }
 {
     let mut parts = List::new(alloc);
@@ -261,7 +261,7 @@ fn own_item_rule(alloc: Global, path: &Path, name: &Name) -> Result<Refusal, All
 }
 
 // A limit is passed.
-fn limit(alloc: Global, what: &str, most: u64) -> Result<Refusal, AllocError>
+pub fn limit(alloc: Global, what: &str, most: u64) -> Result<Refusal, AllocError>
     ensures { IfOk result (IsRefusal (over_limit what.now most)) }
 {
     let mut parts = List::new(alloc);

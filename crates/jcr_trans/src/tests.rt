@@ -1,6 +1,8 @@
-use crate::{Command, null_reply, refusal_text, revision_reply, run};
+use crate::{
+    Command, memory_reply, null_reply, refusal_text, revision_reply, run, too_many_reply, unsupported_reply, vector_reply,
+};
 use jr_path::{DeepCopy, Name, Path};
-use jr_rev::Revision;
+use jr_rev::{RevVec, Revision};
 use jr_tree::Tree;
 use jr_value::{Property, Value};
 use std::alloc::{AllocError, Global};
@@ -15,10 +17,11 @@ enum Plain {
     List(&'static str),
     AddFolder(&'static str),
     Remove(&'static str),
+    Refresh,
 }
 
 // One after another, with their replies: in an empty repository, and again after some are refused.
-const REPLIES: [(Plain, &str); 19] = [
+const REPLIES: [(Plain, &str); 20] = [
     (Plain::List("/"), r#"ok ["jcr:system"]"#),
     (Plain::Add("/b/c"), r#"no 1 ["/b"]"#),
     (Plain::Set("/b", "p", 1), r#"no 1 ["/b"]"#),
@@ -44,6 +47,7 @@ const REPLIES: [(Plain, &str); 19] = [
     ),
     (Plain::AddFolder("/b"), r#"no 12 ["add"]"#),
     (Plain::Remove("/x"), r#"no 12 ["remove"]"#),
+    (Plain::Refresh, r#"no 12 ["refresh"]"#),
 ];
 
 fn command(alloc: Global, plain: Plain) -> Result<Command, AllocError> {
@@ -60,6 +64,7 @@ fn command(alloc: Global, plain: Plain) -> Result<Command, AllocError> {
             Ok(Command::Add(path(alloc, at)?, Some(folder)))
         }
         Plain::Remove(at) => Ok(Command::Remove(path(alloc, at)?)),
+        Plain::Refresh => Ok(Command::Refresh(true)),
     }
 }
 
@@ -120,5 +125,29 @@ fn replies_of_saves(rt: HostRuntime) -> Result<(), Fail> {
         "ok \"rffffffffffffffff-ffffffff-8\""
     );
     assert_eq!(rt; null_reply(alloc)?.as_str(), "ok null");
+    Ok(())
+}
+
+#[test]
+fn replies_of_bases(rt: HostRuntime) -> Result<(), Fail> {
+    let alloc = rt.alloc();
+    let mut base = RevVec::start(2);
+    assert_eq!(rt; vector_reply(alloc, &base)?.as_str(), "ok \"r0-0-1,r0-0-2\"");
+    base.set(Revision {
+        time: 201,
+        counter: 0,
+        cluster: 2,
+    });
+    assert_eq!(rt; vector_reply(alloc, &base)?.as_str(), "ok \"r0-0-1,rc9-0-2\"");
+    assert_eq!(rt; vector_reply(alloc, &RevVec::none())?.as_str(), "ok \"\"");
+    Ok(())
+}
+
+#[test]
+fn replies_of_refusals(rt: HostRuntime) -> Result<(), Fail> {
+    let alloc = rt.alloc();
+    assert_eq!(rt; memory_reply(alloc)?.as_str(), "no 16 []");
+    assert_eq!(rt; too_many_reply(alloc)?.as_str(), "no 15 [\"nodes\",100000]");
+    assert_eq!(rt; unsupported_reply(alloc, &Command::Save)?.as_str(), "no 12 [\"save\"]");
     Ok(())
 }

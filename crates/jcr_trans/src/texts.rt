@@ -3,14 +3,18 @@ ghost use Rattle.std.specs.Prelude.{◌≡◌, IfOk, string_bytes};
 ghost use Rattle.serde_json.specs.Data.{array};
 ghost use Rattle.serde_json.specs.View.{view};
 ghost use Rattle.serde_json.specs.Written.{compact_text};
-ghost use Rattle.jcr_trans.specs.Answers.{Done, ShowsProperty, ShowsNames, ShowsRevision, ShowsNothing, Refused};
-ghost use Rattle.jcr_trans.specs.Texts.{answer_text, datum_data, datum_items, name_items};
+ghost use Rattle.jcr_trans.specs.Answers.{Done, ShowsProperty, ShowsNames, ShowsRevision, ShowsVector, ShowsNothing, Refused};
+ghost use Rattle.jcr_trans.specs.Commands.{word_of};
+ghost use Rattle.jcr_trans.specs.Texts.{answer_text, datum_data, datum_items, memory_text, name_items};
+ghost use Rattle.jcr_trans.specs.Views.{too_many_nodes, unsupported};
 ghost use Rattle.jr_path.specs.Ids.{path_text};
 ghost use Rattle.jr_path.specs.Names.{item_path};
-ghost use Rattle.jr_rev.specs.Texts.{revision_text};
+ghost use Rattle.jr_rev.specs.Texts.{revision_text, vector_text};
 
+use crate::Command;
+use crate::checks::{limit, unsupported};
 use jr_path::{Item, Name};
-use jr_rev::Revision;
+use jr_rev::{RevVec, Revision};
 use jr_tree::{Datum, Refusal};
 use jr_value::Property;
 use serde_json::Value as Json;
@@ -71,11 +75,49 @@ fn text_of_revision(alloc: Global, revision: &Revision) -> Result<String, AllocE
     Ok(format!(in alloc; "r{time:x}-{counter:x}-{cluster:x}")?)
 }
 
+/// The reply that shows a session's base: `ok` and the text of the vector, as `ok "r1-0-1,r0-0-2"`.
+pub fn vector_reply(alloc: Global, vector: &RevVec) -> Result<String, AllocError>
+    ensures { IfOk result (λ text. string_bytes text ≡ answer_text (ShowsVector vector.now)) }
+{
+    let json = Json::String(text_of_vector(alloc, vector)?);
+    let shown = json.to_string(alloc)?;
+    Ok(format!(in alloc; "ok {shown}")?)
+}
+
+fn text_of_vector(alloc: Global, vector: &RevVec) -> Result<String, AllocError>
+    ensures { IfOk result (λ text. string_bytes text ≡ vector_text vector.now) }
+{
+    let mut bytes = Vec::new(alloc);
+    vector.put_text(&mut bytes)?;
+    Ok(String::from_utf8(bytes).unwrap())
+}
+
 /// The reply of a save that had nothing to commit: `ok null`.
 pub fn null_reply(alloc: Global) -> Result<String, AllocError>
     ensures { IfOk result (λ text. string_bytes text ≡ answer_text ShowsNothing) }
 {
     Ok(String::from_str(alloc, "ok null")?)
+}
+
+/// The reply where memory was refused: `no 16 []`.
+pub fn memory_reply(alloc: Global) -> Result<String, AllocError>
+    ensures { IfOk result (λ text. string_bytes text ≡ memory_text) }
+{
+    refusal_text(alloc, &Refusal::memory(alloc))
+}
+
+/// The reply of a save after which the tree would have too many nodes: `no 15 ["nodes",100000]`.
+pub fn too_many_reply(alloc: Global) -> Result<String, AllocError>
+    ensures { IfOk result (λ text. string_bytes text ≡ answer_text too_many_nodes) }
+{
+    refusal_text(alloc, &limit(alloc, "nodes", 100_000)?)
+}
+
+/// The reply of a command that isn't built, or that its session may not make: `no 12` and its name, as `no 12 ["save"]`.
+pub fn unsupported_reply(alloc: Global, command: &Command) -> Result<String, AllocError>
+    ensures { IfOk result (λ text. string_bytes text ≡ answer_text (unsupported (word_of command.now))) }
+{
+    refusal_text(alloc, &unsupported(alloc, command.word())?)
 }
 
 /// The reply of a refusal: `no`, its number, and a list of what it names, as `no 1 ["/a"]`. A path, an item, a

@@ -16,7 +16,8 @@ use jr_tree::{Node, Refusal, Tree};
 use std::alloc::{AllocError, Global};
 
 /// Makes a reading or view command on the view of a session, and answers the text of its reply. A command that is
-/// refused leaves the view as it was. `save` answers `ok` here and changes nothing: who saves makes its reply.
+/// refused leaves the view as it was. A `save`, a `refresh` with false and a `head` answer `ok` here and change nothing: who
+/// makes them makes their reply.
 pub fn run(alloc: Global, view: &mut Tree, command: &Command) -> Result<String, Refusal>
     ensures passed { OnOk result (passes (checks command.now view.old) ≡ true) }
     ensures text { IfOk result (λ text. string_bytes text ≡ answer_text (answered command.now view.old)) }

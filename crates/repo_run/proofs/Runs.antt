@@ -35,15 +35,16 @@ use Rattle.jcr_trans.specs.declared.command.Command.TheVariants as command
 use Rattle.jcr_trans.specs.Commands.{saves}
 use Rattle.jcr_trans.proofs.Passing.{only_save}
 use Rattle.jcr_trans.specs.Answers.{ShowsNothing, ShowsRevision}
-use Rattle.jcr_trans.specs.Texts.{answer_text}
-use Rattle.jcr_trans.specs.Views.{over_limit, view_after}
+use Rattle.jcr_trans.specs.Texts.{answer_text, memory_text}
+use Rattle.jcr_trans.specs.Commands.{is_plain}
+use Rattle.jcr_trans.specs.Views.{too_many_nodes, view_after}
 use Rattle.core_law.proofs.Passing.{next_more}
-use Rattle.core_law.specs.Law.{MayStart, has_few_nodes, is_plain}
+use Rattle.core_law.specs.Law.{MayStart, has_few_nodes}
 use Rattle.core_law.specs.State.{command_at}
 use Rattle.jcr_session.specs.declared.law.JcrLaw.{JcrLaw}
 use Rattle.repo_run.specs.Headline.{FollowsScript, HasRun, index_said}
 use Rattle.repo_run.specs.Stands.{AreFrom, IsBegun, IsLawfulWorld, IsNext, Stands, says_of, starts_of}
-use Rattle.repo_run.specs.Turns.{Answers, AnswersAll, AnswersSave, AnswersView, AreOfOne, memory_text, IsCancelled, IsRefused, IsSaved, IsSeen, IsSessionRun, IsShown, IsSmall, IsTooMany, IsUnchanged, RunsScript, State, first_commands, ended, law_of, logged_in, pending, pending_marks, said, state}
+use Rattle.repo_run.specs.Turns.{Answers, AnswersAll, AnswersSave, AnswersView, AreOfOne, IsCancelled, IsRefused, IsSaved, IsSeen, IsSessionRun, IsShown, IsSmall, IsTooMany, IsUnchanged, RunsScript, State, first_commands, ended, law_of, logged_in, pending, pending_marks, said, state}
 use Rattle.repo_run.proofs.Pinned.{pinned_by_pin}
 use Rattle.repo_run.proofs.Stands.{MaySayNow, proper_of, say_called, say_many, say_memory, say_saved, say_unchanged, say_view, shown_is, stands_said, start}
 
@@ -57,7 +58,7 @@ module _ (i : ℕ) (old : State) (stands : Stands old.world old.base old.view i)
   save_says next text is (inl u) =
       (subst (λ (t : Text). MaySayAt next i t) (sym u.reply) (subst (λ (x : State). MaySayAt x i (answer_text ShowsNothing)) (sym u.state) (say_unchanged old.world old.base old.view i stands is u.nothing)), ap (λ (x : State). x.world.law) u.state)
   save_says next text is (inr (inl u)) =
-      (subst (λ (t : Text). MaySayAt next i t) (sym u.reply) (subst (λ (x : State). MaySayAt x i (answer_text (over_limit (codes "nodes") 100000))) (sym u.state) (say_many old.world old.base old.view i stands is u.many)), ap (λ (x : State). x.world.law) u.state)
+      (subst (λ (t : Text). MaySayAt next i t) (sym u.reply) (subst (λ (x : State). MaySayAt x i (answer_text too_many_nodes)) (sym u.state) (say_many old.world old.base old.view i stands is u.many)), ap (λ (x : State). x.world.law) u.state)
   save_says next text is (inr (inr (inl u))) =
       let reply : Text = answer_text (ShowsRevision (next_draw old.world.node)) in (
         subst (λ (t : Text). MaySayAt next i t) (sym u.reply) (subst (λ (v : Nodes). MaySayNow next.world next.base v i reply) (sym u.view)

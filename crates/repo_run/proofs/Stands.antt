@@ -50,9 +50,10 @@ use Rattle.core_read.proofs.Vectors.{time_before}
 use Rattle.jcr_trans.specs.declared.command.Command.{Command}
 use Rattle.jcr_trans.specs.declared.command.Command.TheVariants as command
 use Rattle.jcr_trans.specs.Answers.{ShowsNothing, ShowsRevision}
-use Rattle.jcr_trans.specs.Texts.{answer_text}
-use Rattle.jcr_trans.specs.Views.{answered, over_limit, view_after}
-use Rattle.core_law.specs.Law.{MayStart, SaysBy, has_few_nodes, is_plain, too_many}
+use Rattle.jcr_trans.specs.Texts.{answer_text, memory_text}
+use Rattle.jcr_trans.specs.Commands.{is_plain}
+use Rattle.jcr_trans.specs.Views.{answered, too_many_nodes, view_after}
+use Rattle.core_law.specs.Law.{MayStart, SaysBy, has_few_nodes, too_many}
 use Rattle.core_law.specs.State.{Orders, command_at}
 use Rattle.core_law.specs.Turns.{IsOver, IsTurn}
 use Rattle.core_law.proofs.Lasting.{proper_starts}
@@ -61,7 +62,7 @@ use Rattle.core_law.proofs.Saves.{IsLike, like_itself, like_went, over_after_cal
 use Rattle.core_law.proofs.Turns.{may_start, says_memory, says_unchanged, says_view, turn_memory, turn_refused, turn_unchanged, turn_view, view_is}
 use Rattle.jcr_session.specs.declared.law.JcrLaw.{JcrLaw}
 use Rattle.repo_run.specs.Stands.{IsLawfulWorld, Stands, says_of, starts_of}
-use Rattle.repo_run.specs.Turns.{IsShown, memory_text}
+use Rattle.repo_run.specs.Turns.{IsShown}
 use Rattle.repo_run.proofs.Pinned.{pinned_by_commit, still_pinned}
 
 pub proper_of : (law : JcrLaw) → StartsProper (starts_of law)
@@ -151,14 +152,14 @@ say_unchanged w base view i stands is none = record {
   turn = turn_unchanged w.law.sessions (history_of w.journal) 0 i base view stands.turn is none;
 }
 
-pub say_many : (w : WorldOf JcrLaw) (base view : Nodes) (i : ℕ) → Stands w base view i → command_at w.law.sessions 0 i ≡ Some command.Save → has_few_nodes view ≡ false → MaySayNow w base view i (answer_text (over_limit (Rattle.std.specs.Prelude.codes "nodes") 100000))
+pub say_many : (w : WorldOf JcrLaw) (base view : Nodes) (i : ℕ) → Stands w base view i → command_at w.law.sessions 0 i ≡ Some command.Save → has_few_nodes view ≡ false → MaySayNow w base view i (answer_text too_many_nodes)
 say_many w base view i stands is many = record {
   lawful = stands.lawful;
   one = stands.one;
   next = sym stands.next;
   pinned = stands.pinned;
-  says = (command.Save, over_limit (Rattle.std.specs.Prelude.codes "nodes") 100000, is, refl, too_many stands.turn.fresh (ap has_few_nodes (view_is w.law.sessions (history_of w.journal) 0 i base view stands.turn.over) ∙ many));
-  turn = turn_refused w.law.sessions (reverse w.journal.events) 0 i (answer_text (over_limit (Rattle.std.specs.Prelude.codes "nodes") 100000)) base view stands.turn.over refl;
+  says = (command.Save, too_many_nodes, is, refl, too_many stands.turn.fresh (ap has_few_nodes (view_is w.law.sessions (history_of w.journal) 0 i base view stands.turn.over) ∙ many));
+  turn = turn_refused w.law.sessions (reverse w.journal.events) 0 i (answer_text too_many_nodes) base view stands.turn.over refl;
 }
 
 -- ---- a save

@@ -1,5 +1,5 @@
 -- What a session's commands do to the world and to the session, and what they answer.
-use Rattle.std.specs.Prelude.{◌≡◌, map, codes, IsTrue, IsFalse, ⊤, ◌≢◌, ◌⊎◌, ℕ, ◌+◌, ◌≤◌, List, [], ◌∷◌, length, Option, Some, None, IfSome}
+use Rattle.std.specs.Prelude.{◌≡◌, map, IsTrue, IsFalse, ⊤, ◌≢◌, ◌⊎◌, ℕ, ◌+◌, ◌≤◌, List, [], ◌∷◌, length, Option, Some, None, IfSome}
 use Rattle.std.specs.Option.{option_map}
 use Rattle.std.specs.FinMap.{is_sorted}
 use Rattle.jr_path.specs.Names.{path_cmp}
@@ -11,11 +11,11 @@ use Rattle.jr_tree.specs.Trees.{Nodes, node_at}
 use Rattle.jr_script.specs.declared.script.Script.{Script}
 use Rattle.jr_script.specs.declared.script.SessionScript.{SessionScript}
 use Rattle.jcr_trans.specs.declared.command.Command.{Command}
-use Rattle.jcr_trans.specs.Commands.{saves}
-use Rattle.jcr_trans.specs.Answers.{Refused, ShowsNothing, ShowsRevision}
-use Rattle.jcr_trans.specs.Texts.{answer_text}
-use Rattle.jcr_trans.specs.Views.{answered, over_limit, view_after}
-use Rattle.core_law.specs.Law.{has_few_nodes, is_plain}
+use Rattle.jcr_trans.specs.Commands.{is_plain, saves}
+use Rattle.jcr_trans.specs.Answers.{ShowsNothing, ShowsRevision}
+use Rattle.jcr_trans.specs.Texts.{answer_text, memory_text}
+use Rattle.jcr_trans.specs.Views.{answered, too_many_nodes, view_after}
+use Rattle.core_law.specs.Law.{has_few_nodes}
 use Rattle.oak_clash.specs.declared.mark.MarkAt.{MarkAt}
 use Rattle.oak_machine.specs.declared.event.Event.TheVariants as event
 use Rattle.oak_machine.specs.declared.event.StepKind.TheVariants as kind
@@ -47,10 +47,6 @@ pending s = record { writes = changes s.base s.view }
 abbrev pub pending_marks : State → List MarkAt
 pending_marks s = marks_for [] (changes s.base s.view)
 
--- the reply where memory was refused
-abbrev pub memory_text : List ℕ
-memory_text = answer_text (Refused 16 [])
-
 -- a reading or view command answers by the view, and changes it, and one that isn't built is refused; or memory was refused, and the view stays
 abbrev pub IsSeen : Command → Nodes → Nodes → Text → Type 0
 IsSeen c old new text =
@@ -75,7 +71,7 @@ pub record IsSaved (old new : State) (text : Text) : Type 0 where
 -- a save of a view with too many nodes changes nothing
 pub record IsTooMany (old new : State) (text : Text) : Type 0 where
   pub many : IsFalse (has_few_nodes old.view)
-  pub reply : text ≡ answer_text (over_limit (codes "nodes") 100000)
+  pub reply : text ≡ answer_text too_many_nodes
   pub state : new ≡ old
 
 -- memory was refused before the commit point of a save: the base and what is pending stay

@@ -1,25 +1,25 @@
 // A session: the tree at its base, its view, and its commands.
-ghost use Rattle.std.specs.Prelude.{◌≡◌, ◌≢◌, ◌≤◌, ◌↔◌, [], not, IfOk, OnOk, IsSome, IsTrue, codes, length, string_bytes};
+ghost use Rattle.std.specs.Prelude.{◌≡◌, ◌≢◌, ◌≤◌, ◌↔◌, [], not, IfOk, OnOk, IsSome, IsTrue, length, string_bytes};
 ghost use Rattle.std.specs.List.{fold};
 ghost use Rattle.std.specs.Map.{keys_of};
 ghost use Rattle.jr_tree.specs.Edits.{changes};
-ghost use Rattle.jcr_trans.specs.Texts.{answer_text};
-ghost use Rattle.jcr_trans.specs.Views.{over_limit};
 ghost use Rattle.jcr_trans.specs.declared.command.Command.TheVariants as command;
 ghost use Rattle.core_law.specs.Law.{has_few_nodes};
 ghost use Rattle.repo_run.specs.Headline.{HasRun};
 ghost use Rattle.repo_run.specs.Stands.{IsBegun, IsNext};
 ghost use Rattle.oak_machine.specs.Marks.{marks_for};
 ghost use Rattle.oak_node.specs.Pins.{pin_of};
-ghost use Rattle.repo_run.specs.Turns.{Answers, AnswersSave, IsSeen, IsSessionRun, IsShown, IsSmall, RunsScript, law_of, memory_text, state};
+ghost use Rattle.repo_run.specs.Turns.{Answers, AnswersSave, IsSeen, IsSessionRun, IsShown, IsSmall, RunsScript, law_of, state};
 ghost use Rattle.repo_run.specs.Loads.{with_shown};
 
 use jcr_plan::marks_of;
 use jcr_session::JcrLaw;
-use jcr_trans::{Command, null_reply, refusal_text, revision_reply, run};
+use jcr_trans::{
+    Command, memory_reply, null_reply, refusal_text, revision_reply, run, too_many_reply,
+};
 use jr_path::{DeepCopy, DocId, List, Text};
 use jr_script::Script;
-use jr_tree::{Datum, Edit, Refusal, Tree, changes};
+use jr_tree::{Edit, Tree, changes};
 use oak_clash::MarkAt;
 use oak_world::World;
 use std::alloc::{AllocError, Global};
@@ -193,23 +193,6 @@ fn has_too_many(view: &Tree) -> bool
     ensures { result ≡ not (has_few_nodes view.now) }
 {
     view.len() > MOST_NODES
-}
-
-// The reply where memory was refused.
-fn memory_reply(alloc: Global) -> Result<String, AllocError>
-    ensures { IfOk result (λ text. string_bytes text ≡ memory_text) }
-{
-    refusal_text(alloc, &Refusal::memory(alloc))
-}
-
-// The reply where the tree would have too many nodes.
-fn too_many_reply(alloc: Global) -> Result<String, AllocError>
-    ensures { IfOk result (λ text. string_bytes text ≡ answer_text (over_limit (codes "nodes") 100000)) }
-{
-    let mut parts = List::new(alloc);
-    parts.push(Datum::Text(Text::copy_of(alloc, "nodes")?))?;
-    parts.push(Datum::Number(100_000))?;
-    refusal_text(alloc, &Refusal { number: 15, parts })
 }
 
 // The tree at the session's pin, read from documents: one walk over them in store order.

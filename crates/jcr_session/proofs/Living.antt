@@ -1,0 +1,179 @@
+-- A session logs in, moves its base, and leaves.
+use Rattle.std.proofs.Common.{◌≡◌, ℕ, ◌+◌, Bool, true, false, cond, not, ◌||◌, Some, None, Option, List, [], ◌∷◌, ◌++◌, is_some, refl, sym, ap, ◌∙◌, subst, arith}
+use Rattle.std.specs.Prelude.{◌==◌}
+use Rattle.std.specs.Option.{option_map_or}
+use Rattle.std.proofs.lemmas.Bool.Decides.{nat_tests}
+use mathlib.Core.Bool.{false≢true}
+use Rattle.jr_rev.specs.declared.revision.Revision.{Revision}
+use Rattle.jr_rev.specs.declared.vector.Pin.{Pin}
+use Rattle.jr_rev.specs.declared.vector.RevVec.{RevVec}
+use Rattle.jr_tree.specs.Trees.{IsTree, Nodes}
+use Rattle.jr_tree.proofs.ProperChanges.{no_changes}
+use Rattle.oak_machine.specs.declared.event.Event.TheVariants as event
+use Rattle.oak_machine.specs.declared.event.StepKind.TheVariants as kind
+use Rattle.oak_machine.specs.History.{History, Past}
+use Rattle.oak_machine.specs.Commits.{is_committed}
+use Rattle.oak_machine.specs.Laws.{Says, Starts, after}
+use Rattle.oak_machine.specs.Runs.{AreNodes, IsRun, IsRunOf}
+use Rattle.oak_machine.specs.Sessions.{drawn_since, has_left, has_login, is_attached, is_drawing, next_index, refreshed_since}
+use Rattle.oak_machine.proofs.Induction.{neither}
+use Rattle.oak_port.specs.Ports.{AreOfStep, Grows, Idle, Makes, MayBegin, Shown, Starting, Steps, Waits, Work}
+use Rattle.oak_port.specs.declared.task.StepOut.TheVariants as out
+use Rattle.oak_port.specs.declared.task.Task.TheVariants as task
+use Rattle.oak_port.specs.declared.task.TaskEnd.TheVariants as end
+use Rattle.core_law.specs.State.{base_tree, pending_of}
+use Rattle.core_law.specs.Turns.{IsTurn}
+use Rattle.core_law.proofs.Passing.{among_same, idle_stays, next_stays, pending_stays}
+use Rattle.jcr_session.specs.declared.law.JcrLaw.{JcrLaw}
+use Rattle.jcr_session.specs.declared.run.Phase.{Phase}
+use Rattle.jcr_session.specs.declared.run.Phase.TheVariants as phase
+use Rattle.jcr_session.specs.declared.run.SessionRun.{SessionRun}
+use Rattle.jcr_session.specs.declared.sight.Sight.{Sight}
+use Rattle.jcr_session.specs.declared.sight.Sight.TheVariants as sight
+use Rattle.jcr_session.specs.declared.turn.Turn.{Turn}
+use Rattle.jcr_session.specs.declared.turn.Turn.TheVariants as turn
+use Rattle.jcr_session.specs.Sights.{IsIn, says_of, starts_of}
+use Rattle.jcr_session.specs.Standing.{HasTurned, IsOutside, IsTurned, Sees, Stands, StandsAt, Tells}
+use Rattle.jcr_session.proofs.Trees.{base_is_tree}
+use Rattle.jcr_session.proofs.Turning.{turned_later}
+use Rattle.jcr_session.proofs.Waiting.{login_stays}
+
+own : (s : ℕ) → (s == s) ≡ true
+own s = grind (arith, nat_tests)
+
+same_number : (t s : ℕ) → (t == s) ≡ true → t ≡ s
+same_number t s h = grind (arith, nat_tests)
+
+-- what has not logged in hasn't left
+not_left : (starts : Starts) (says : Says) (clusters : ℕ) (sessions : List ℕ) (past : Past) → IsRunOf starts says clusters sessions past → (s : ℕ) → has_login past s ≡ false → has_left past s ≡ false
+not_left starts says clusters sessions [] run s h = refl
+not_left starts says clusters sessions (event.Login t v ∷ past) run s h = not_left starts says clusters sessions past run.1 s (neither (t == s) _ h).1
+not_left starts says clusters sessions (event.Went t kind.End ∷ past) run s h =
+    elim (t == s) as (λ b. (t == s) ≡ b → (b || has_left past s) ≡ false) [
+      | true ↦ λ same. absurd (false≢true (sym h ∙ subst (λ (n : ℕ). has_login past n ≡ true) (same_number t s same) run.0.0))
+      | false ↦ λ same. not_left starts says clusters sessions past run.1 s h
+    ] refl
+not_left starts says clusters sessions (e ∷ past) run s h = not_left starts says clusters sessions past run.1 s h
+
+-- ---- outside
+
+outside_at : (law : JcrLaw) (p : Shown) (run : SessionRun) → Stands law p run → run.phase ≡ phase.Outside → IsOutside law p run
+outside_at law p run stands outside = subst (λ (f : Phase). StandsAt law p run f) outside stands.at
+
+pub outside_idle : (law : JcrLaw) (p : Shown) (run : SessionRun) → Stands law p run → run.phase ≡ phase.Outside → p.work ≡ Idle
+outside_idle law p run stands outside = (outside_at law p run stands outside).idle
+
+pub outside_begins : (law : JcrLaw) (p : Shown) (run : SessionRun) → Stands law p run → run.phase ≡ phase.Outside → MayBegin (starts_of law) p.history p.session task.Login
+outside_begins law p run stands outside = (outside_at law p run stands outside).out
+
+-- ---- a login
+
+-- its start, and its step
+module _ (law : JcrLaw) (old mid new : Shown) (run : SessionRun) (stands : Stands law old run) (outside : run.phase ≡ phase.Outside) (room : Option ℕ) (waits : Waits (starts_of law) (says_of law) old mid (Starting task.Login) room) (pin : Pin) (steps : Steps (starts_of law) (says_of law) mid new (out.Ready (end.Pinned pin))) where
+  abbrev is_out : IsOutside law old run
+  is_out = outside_at law old run stands outside
+
+  abbrev s : ℕ
+  s = mid.session
+
+  made : Makes (after steps.others mid.history) s (Starting task.Login) (out.Ready (end.Pinned pin)) steps.own new.work
+  made = subst (λ (w : Work). Makes (after steps.others mid.history) s w (out.Ready (end.Pinned pin)) steps.own new.work) waits.work_is steps.makes
+
+  of_step : AreOfStep (after steps.others mid.history) s (Starting task.Login) (out.Ready (end.Pinned pin)) steps.own
+  of_step = subst (λ (w : Work). AreOfStep (after steps.others mid.history) s w (out.Ready (end.Pinned pin)) steps.own) waits.work_is steps.of_step
+
+  abbrev q : Past
+  q = steps.others ++ mid.history.past
+
+  -- what a history says of a session that is outside lasts
+  lasts : (F : Past → ℕ → Type 0) → F (waits.others ++ old.history.past) old.session → F mid.history.past s
+  lasts F x = subst (λ (h : History). F h.past s) (sym waits.grows.grown) (subst (λ (n : ℕ). F (waits.others ++ old.history.past) n) (sym waits.session) x)
+
+  out_mid : has_login mid.history.past s ≡ false
+  out_mid = lasts (λ p n. has_login p n ≡ false) (login_stays (waits.others ++ old.history.past) waits.others old.history.past old.session waits.grows.theirs is_out.out)
+
+  none_mid : pending_of law.sessions mid.history.past s ≡ []
+  none_mid = lasts (λ p n. pending_of law.sessions p n ≡ []) (pending_stays law.sessions (waits.others ++ old.history.past) waits.others old.history.past old.session waits.grows.theirs ∙ is_out.none)
+
+  still_mid : is_drawing mid.history.past s ≡ false
+  still_mid = lasts (λ p n. is_drawing p n ≡ false) (idle_stays (waits.others ++ old.history.past) waits.others old.history.past old.session waits.grows.theirs is_out.still)
+
+  out_now : has_login q s ≡ false
+  out_now = login_stays q steps.others mid.history.past s steps.grows.theirs out_mid
+
+  none_now : pending_of law.sessions q s ≡ []
+  none_now = pending_stays law.sessions q steps.others mid.history.past s steps.grows.theirs ∙ none_mid
+
+  still_now : is_drawing q s ≡ false
+  still_now = idle_stays q steps.others mid.history.past s steps.grows.theirs still_mid
+
+  abbrev logged : History
+  logged = record mid.history { past = event.Login s pin.base ∷ q }
+
+  is_logged : new.history ≡ logged
+  is_logged = steps.grows.grown ∙ ap (λ (e : Past). after e (after steps.others mid.history)) made.0
+
+  run_logged : IsRun (starts_of law) (says_of law) logged
+  run_logged = subst (λ (h : History). IsRun (starts_of law) (says_of law) h) is_logged steps.grows.run
+
+  nodes_mid : AreNodes mid.history.clusters mid.history.sessions
+  nodes_mid = subst (λ (h : History). AreNodes h.clusters h.sessions) (sym waits.grows.grown) stands.nodes
+
+  moved : (F : History → ℕ → Type 0) → F logged s → F new.history new.session
+  moved F x = subst (λ (h : History). F h new.session) (sym is_logged) (subst (λ (n : ℕ). F logged n) (sym steps.session) x)
+
+  login_now : has_login logged.past s ≡ true
+  login_now = ap (λ b. b || has_login q s) (own s)
+
+  tree_now : IsTree (base_tree logged.past s)
+  tree_now = base_is_tree law logged s nodes_mid run_logged login_now
+
+  inside_now : IsIn law new
+  inside_now = record {
+    nodes = moved (λ h n. AreNodes h.clusters h.sessions) nodes_mid;
+    run = steps.grows.run;
+    login = moved (λ h n. has_login h.past n ≡ true) login_now;
+    stays = moved (λ h n. has_left h.past n ≡ false) (not_left (starts_of law) (says_of law) mid.history.clusters mid.history.sessions q run_logged.1 s out_now);
+    detached = moved (λ h n. is_attached h.past n ≡ false) (ap (λ b. cond b false (is_attached q s)) (own s));
+    tree = moved (λ h n. IsTree (base_tree h.past n)) tree_now;
+  }
+
+  drawn_none : drawn_since logged.past s ≡ None
+  drawn_none = ap (λ b. Rattle.oak_machine.specs.Sessions.drawn_among (cond b [] (event.Login s pin.base ∷ Rattle.oak_machine.specs.Sessions.since q s)) s) (own s)
+
+  turn_now : IsTurn law.sessions logged.past s (base_tree logged.past s) (base_tree logged.past s)
+  turn_now = record {
+    over = record {
+      base_is = refl;
+      pending = none_now ∙ sym (no_changes (base_tree logged.past s) tree_now);
+      from = tree_now;
+      to = tree_now;
+      idle = among_same q (event.Login s pin.base) (λ r. refl) q s ∙ still_now;
+      uncommitted = ap (λ (o : Option Revision). option_map_or (is_committed logged.past) o false) drawn_none;
+    };
+    fresh = drawn_none;
+  }
+
+  abbrev run_now : SessionRun
+  run_now = record run { phase = phase.Between }
+
+  next_now : next_index logged.past s ≡ next_index old.history.past old.session
+  next_now = next_stays q steps.others mid.history.past s steps.grows.theirs ∙ lasts (λ p n. next_index p n ≡ next_index old.history.past old.session) (next_stays (waits.others ++ old.history.past) waits.others old.history.past old.session waits.grows.theirs)
+
+  stands_now : Stands law new run_now
+  stands_now = record {
+    nodes = moved (λ h n. AreNodes h.clusters h.sessions) nodes_mid;
+    run_is = steps.grows.run;
+    session = steps.session ∙ (waits.session ∙ stands.session);
+    few = stands.few;
+    commands = stands.commands;
+    index = stands.index ∙ (ap (next_index old.history.past) (sym stands.session) ∙ (sym (moved (λ h n. next_index h.past n ≡ next_index old.history.past old.session) next_now) ∙ ap (next_index new.history.past) (steps.session ∙ (waits.session ∙ stands.session))));
+    at = (inside_now, subst (λ (x : Sight). Sees law new run_now x) (sym is_out.unread) (made.1, moved (λ h n. IsTurn law.sessions h.past n (base_tree h.past n) (base_tree h.past n)) turn_now));
+  }
+
+  pub logged_in : (now : SessionRun) (t : Turn) → now ≡ record run { phase = phase.Between } → t ≡ turn.Stepped kind.Login → HasTurned law old new run now t
+  logged_in now t is told =
+      subst (λ (x : Turn). HasTurned law old new run now x) (sym told)
+      (subst (λ (x : SessionRun). HasTurned law old new run x (turn.Stepped kind.Login)) (sym is)
+      (turned_later law old mid new (Starting task.Login) room run run_now (turn.Stepped kind.Login) stands.nodes waits
+      record { others = steps.others; own = steps.own; grows = steps.grows; tells = of_step; stands = stands_now }))

@@ -1,0 +1,186 @@
+-- What the calls of a reading step leave: the session is in, others alone added events, and the walk reads the tree at the session's base.
+use Rattle.std.proofs.Common.{◌≡◌, inl, inr, ℕ, Bool, true, false, Some, None, Option, List, [], ◌∷◌, ◌++◌, is_some, map, refl, sym, ap, ◌∙◌, subst}
+use Rattle.std.specs.BTreeMap.{insert_entry}
+use Rattle.jr_path.specs.Names.{path_cmp}
+use Rattle.jr_path.specs.declared.name.Name.{Name}
+use Rattle.jr_path.specs.declared.path.Path.{Path}
+use Rattle.jr_rev.specs.declared.revision.Revision.{Revision}
+use Rattle.jr_tree.specs.declared.tree.Node.{Node}
+use Rattle.jr_tree.specs.Trees.{IsTree, Nodes, children_of, node_at}
+use Rattle.oak_machine.specs.declared.event.StepKind.{StepKind}
+use Rattle.oak_machine.specs.History.{History, Past}
+use Rattle.oak_machine.specs.Laws.{AreOthers, after, is_event_of}
+use Rattle.oak_machine.specs.Runs.{IsRun}
+use Rattle.oak_port.specs.Ports.{Grows, Idle, Makes, Shown, Starting, Steps, Waits, Work}
+use Rattle.oak_port.specs.declared.task.StepOut.{StepOut}
+use Rattle.oak_port.specs.declared.task.StepOut.TheVariants as out
+use Rattle.oak_port.specs.declared.task.Task.{Task}
+use Rattle.oak_port.specs.declared.task.Task.TheVariants as task
+use Rattle.oak_port.specs.declared.task.TaskEnd.{TaskEnd}
+use Rattle.oak_port.specs.declared.task.TaskEnd.TheVariants as end
+use Rattle.core_law.specs.State.{base_tree}
+use Rattle.jcr_session.specs.declared.law.JcrLaw.{JcrLaw}
+use Rattle.jcr_session.specs.Sights.{IsFetching, IsIn, IsPart, says_of, starts_of}
+use Rattle.jcr_session.proofs.Others.{append_assoc, others_both}
+use Rattle.jcr_session.proofs.Waiting.{in_then, tree_then}
+use Rattle.jcr_session.proofs.Walking.{part_node, part_none, part_children, part_next, part_whole, node_there}
+
+-- only events of others were added, whatever is being done then
+abbrev pub Beside : JcrLaw → Shown → Shown → Type 0
+Beside law old new = Waits (starts_of law) (says_of law) old new new.work old.room
+
+pub beside : (law : JcrLaw) (old new : Shown) (work : Work) → Waits (starts_of law) (says_of law) old new work old.room → Beside law old new
+beside law old new work waits = record { others = waits.others; grows = waits.grows; session = waits.session; work_is = refl; room_is = waits.room_is }
+
+-- nothing was added
+pub beside_itself : (law : JcrLaw) (p : Shown) → IsIn law p → Beside law p p
+beside_itself law p inside = record { others = []; grows = record { grown = refl; theirs = refl; run = inside.run }; session = refl; work_is = refl; room_is = refl }
+
+after_both : (later added : Past) (h : History) → after later (after added h) ≡ after (later ++ added) h
+after_both later added h = ap (λ (p : Past). record h { past = p }) (sym (append_assoc later added h.past))
+
+-- one after another
+pub beside_both : (law : JcrLaw) (a b c : Shown) → IsIn law a → Beside law a b → Beside law b c → Beside law a c
+beside_both law a b c inside first second = record {
+  others = second.others ++ first.others;
+  grows = record {
+    grown = second.grows.grown ∙ (ap (λ (h : History). after second.others h) first.grows.grown ∙ after_both second.others first.others a.history);
+    theirs = others_both a.history.clusters a.history.sessions inside.nodes (starts_of law) (says_of law) a.session second.others first.others a.history.past
+        (subst (λ (h : History). IsRun (starts_of law) (says_of law) h) (second.grows.grown ∙ ap (λ (h : History). after second.others h) first.grows.grown) second.grows.run)
+        (subst (λ (h : History). IsRun (starts_of law) (says_of law) h) first.grows.grown first.grows.run)
+        first.grows.theirs
+        (subst (λ (s : ℕ). AreOthers s second.others (first.others ++ a.history.past)) first.session (subst (λ (h : History). AreOthers b.session second.others h.past) first.grows.grown second.grows.theirs));
+    run = second.grows.run;
+  };
+  session = second.session ∙ first.session;
+  work_is = refl;
+  room_is = second.room_is ∙ first.room_is;
+}
+
+-- ---- a step that adds nothing
+
+abbrev pub base_at : Shown → Nodes
+base_at p = base_tree p.history.past p.session
+
+module _ (law : JcrLaw) (old new : Shown) (t : Task) (answer : StepOut) (inside : IsIn law old) (busy : old.work ≡ Starting t) (steps : Steps (starts_of law) (says_of law) old new answer) where
+  makes : Makes (after steps.others old.history) old.session (Starting t) answer steps.own new.work
+  makes = subst (λ (w : Work). Makes (after steps.others old.history) old.session w answer steps.own new.work) busy steps.makes
+
+  module _ (none : steps.own ≡ []) where
+    waited : Beside law old new
+    waited = record {
+      others = steps.others;
+      grows = subst (λ (own : Past). Grows (starts_of law) (says_of law) old.session old.history new.history steps.others own) none steps.grows;
+      session = steps.session;
+      work_is = refl;
+      room_is = steps.room;
+    }
+
+    in_new : IsIn law new
+    in_new = in_then law old new new.work old.room waited inside.nodes inside.run inside
+
+    tree_new : base_at new ≡ base_at old
+    tree_new = tree_then law old new new.work old.room waited inside.nodes inside.run
+
+    tree_there : base_tree (steps.others ++ old.history.past) old.session ≡ base_at new
+    tree_there =
+        ap (λ (h : History). base_tree h.past old.session) (sym (steps.grows.grown ∙ ap (λ (own : Past). after own (after steps.others old.history)) none))
+        ∙ ap (base_tree new.history.past) (sym steps.session)
+
+-- ---- beginning to read
+
+module _ (law : JcrLaw) (old new : Shown) (inside : IsIn law old) where
+  module _ (t : Task) (waits : Waits (starts_of law) (says_of law) old new (Starting t) old.room) where
+    pub in_started : IsIn law new
+    in_started = in_then law old new (Starting t) old.room waits inside.nodes inside.run inside
+
+    tree_started : base_at new ≡ base_at old
+    tree_started = tree_then law old new (Starting t) old.room waits inside.nodes inside.run
+
+  pub in_refused : Waits (starts_of law) (says_of law) old new Idle old.room → IsIn law new
+  in_refused waits = in_then law old new Idle old.room waits inside.nodes inside.run inside
+
+  pub node_started : (tree : Nodes) (left : List Path) (path : Path) → Waits (starts_of law) (says_of law) old new (Starting (task.Load path)) old.room → IsPart (base_at old) tree (path ∷ left)
+      → (new.work ≡ Starting (task.Load path)) × IsPart (base_at new) tree (path ∷ left)
+  node_started tree left path waits part = (waits.work_is, subst (λ (t : Nodes). IsPart t tree (path ∷ left)) (sym (tree_started (task.Load path) waits)) part)
+
+  pub names_started : (tree : Nodes) (left : List Path) (path : Path) (node : Node) → Waits (starts_of law) (says_of law) old new (Starting (task.List path)) old.room → IsPart (base_at old) tree (path ∷ left) → node_at (base_at old) path ≡ Some node
+      → (new.work ≡ Starting (task.List path)) × IsPart (base_at new) (insert_entry path_cmp tree path node) (path ∷ left) × (is_some (node_at (insert_entry path_cmp tree path node) path) ≡ true)
+  names_started tree left path node waits part there = (
+    waits.work_is,
+    subst (λ (t : Nodes). IsPart t (insert_entry path_cmp tree path node) (path ∷ left)) (sym (tree_started (task.List path) waits)) (part_node (base_at old) inside.tree tree path left node part there),
+    node_there (base_at old) inside.tree tree path node,
+  )
+
+-- ---- a reading step
+
+-- what a step of reading leaves: the session is in, others alone added events, and its tree is the same
+pub record HasStepped (law : JcrLaw) (old new : Shown) (work : Work) : Type 0 where
+  pub inside : IsIn law new
+  pub beside : Beside law old new
+  pub tree : base_at new ≡ base_at old
+  pub work_is : new.work ≡ work
+  pub room : new.room ≡ old.room
+
+module _ (law : JcrLaw) (old new : Shown) (path : Path) (inside : IsIn law old) where
+  pub node_went : (k : StepKind) → old.work ≡ Starting (task.Load path) → Steps (starts_of law) (says_of law) old new (out.Went k) → HasStepped law old new (Starting (task.Load path))
+  node_went k busy steps = let m = makes law old new (task.Load path) (out.Went k) inside busy steps in record {
+    inside = in_new law old new (task.Load path) (out.Went k) inside busy steps m.1;
+    beside = waited law old new (task.Load path) (out.Went k) inside busy steps m.1;
+    tree = tree_new law old new (task.Load path) (out.Went k) inside busy steps m.1;
+    work_is = m.2;
+    room = steps.room;
+  }
+
+  pub node_found : (found : Option Node) → old.work ≡ Starting (task.Load path) → Steps (starts_of law) (says_of law) old new (out.Ready (end.Node found)) → HasStepped law old new Idle × (node_at (base_at new) path ≡ found)
+  node_found found busy steps = let m = makes law old new (task.Load path) (out.Ready (end.Node found)) inside busy steps in (
+    record {
+      inside = in_new law old new (task.Load path) (out.Ready (end.Node found)) inside busy steps m.1;
+      beside = waited law old new (task.Load path) (out.Ready (end.Node found)) inside busy steps m.1;
+      tree = tree_new law old new (task.Load path) (out.Ready (end.Node found)) inside busy steps m.1;
+      work_is = m.2;
+      room = steps.room;
+    },
+    ap (λ (t : Nodes). node_at t path) (sym (tree_there law old new (task.Load path) (out.Ready (end.Node found)) inside busy steps m.1)) ∙ sym m.0,
+  )
+
+  pub names_went : (k : StepKind) → old.work ≡ Starting (task.List path) → Steps (starts_of law) (says_of law) old new (out.Went k) → HasStepped law old new (Starting (task.List path))
+  names_went k busy steps = let m = makes law old new (task.List path) (out.Went k) inside busy steps in record {
+    inside = in_new law old new (task.List path) (out.Went k) inside busy steps m.1;
+    beside = waited law old new (task.List path) (out.Went k) inside busy steps m.1;
+    tree = tree_new law old new (task.List path) (out.Went k) inside busy steps m.1;
+    work_is = m.2;
+    room = steps.room;
+  }
+
+  pub names_found : (names : List Name) → old.work ≡ Starting (task.List path) → Steps (starts_of law) (says_of law) old new (out.Ready (end.Children names)) → HasStepped law old new Idle × (names ≡ children_of (base_at new) path)
+  names_found names busy steps = let m = makes law old new (task.List path) (out.Ready (end.Children names)) inside busy steps in (
+    record {
+      inside = in_new law old new (task.List path) (out.Ready (end.Children names)) inside busy steps m.1;
+      beside = waited law old new (task.List path) (out.Ready (end.Children names)) inside busy steps m.1;
+      tree = tree_new law old new (task.List path) (out.Ready (end.Children names)) inside busy steps m.1;
+      work_is = m.2;
+      room = steps.room;
+    },
+    m.0 ∙ ap (λ (t : Nodes). children_of t path) (tree_there law old new (task.List path) (out.Ready (end.Children names)) inside busy steps m.1),
+  )
+
+  pub task_refused : (t : Task) → old.work ≡ Starting t → Steps (starts_of law) (says_of law) old new out.Memory → HasStepped law old new Idle
+  task_refused t busy steps = by t (makes law old new t out.Memory inside busy steps)
+    where
+      done : steps.own ≡ [] → new.work ≡ Idle → HasStepped law old new Idle
+      done none idle = record {
+        inside = in_new law old new t out.Memory inside busy steps none;
+        beside = waited law old new t out.Memory inside busy steps none;
+        tree = tree_new law old new t out.Memory inside busy steps none;
+        work_is = idle;
+        room = steps.room;
+      }
+
+      by : (t : Task) → Makes (after steps.others old.history) old.session (Starting t) out.Memory steps.own new.work → HasStepped law old new Idle
+      by task.Login m = done m.0 m.1
+      by task.End m = done m.0 m.1
+      by task.Refresh m = done m.0 m.1
+      by (task.Load p) m = done m.0 m.1
+      by (task.List p) m = done m.0 m.1
+      by (task.Commit e ms) m = done m.0 m.1

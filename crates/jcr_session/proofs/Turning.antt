@@ -1,0 +1,377 @@
+-- Each turn leaves its session where the history says.
+use Rattle.std.proofs.Common.{◌≡◌, ◌⊎◌, inl, inr, ℕ, zero, suc, ◌+◌, ◌<◌, ◌≤◌, length, Bool, true, false, cond, not, ◌||◌, ◌&&◌, Some, None, Option, List, [], ◌∷◌, ◌++◌, is_some, refl, sym, ap, ◌∙◌, subst, arith}
+use Rattle.std.specs.Prelude.{◌==◌, reverse, slice_get}
+use Rattle.std.specs.Option.{option_map_or}
+use Rattle.std.proofs.lemmas.Bool.Decides.{nat_tests}
+use mathlib.Core.Bool.{false≢true}
+use Rattle.jr_path.specs.declared.text.Text.{Text}
+use Rattle.jr_rev.specs.declared.revision.Revision.{Revision}
+use Rattle.jr_rev.specs.declared.vector.Pin.{Pin}
+use Rattle.jr_rev.specs.declared.vector.RevVec.{RevVec}
+use Rattle.jr_tree.specs.Trees.{IsTree, Nodes}
+use Rattle.oak_machine.specs.declared.event.Event.TheVariants as event
+use Rattle.oak_machine.specs.declared.event.StepKind.{StepKind}
+use Rattle.oak_machine.specs.declared.event.StepKind.TheVariants as kind
+use Rattle.oak_machine.specs.History.{History, Past}
+use Rattle.oak_machine.specs.Laws.{AreOthers, after}
+use Rattle.oak_machine.specs.Runs.{AreNodes, IsRun}
+use Rattle.oak_machine.specs.Sessions.{has_left, has_login, is_attached, is_login_of, next_index}
+use Rattle.oak_machine.specs.Steps.{is_appended_by}
+use Rattle.oak_machine.proofs.Stays.{any_later}
+use Rattle.oak_port.specs.Ports.{Answers, AreOfStep, Awaiting, Deciding, Grows, HasRoom, Idle, IsFinish, Makes, Shown, Starting, Steps, Undoing, Waits, Work, Writing, WritesOn}
+use Rattle.oak_port.specs.declared.task.CommitEnd.{CommitEnd}
+use Rattle.oak_port.specs.declared.task.CommitEnd.TheVariants as commit
+use Rattle.oak_port.specs.declared.task.StepOut.{StepOut}
+use Rattle.oak_port.specs.declared.task.StepOut.TheVariants as out
+use Rattle.oak_port.specs.declared.task.Task.{Task}
+use Rattle.oak_port.specs.declared.task.Task.TheVariants as task
+use Rattle.oak_port.specs.declared.task.TaskEnd.{TaskEnd}
+use Rattle.oak_port.specs.declared.task.TaskEnd.TheVariants as end
+use Rattle.core_law.specs.Law.{SaysBy}
+use Rattle.core_law.specs.State.{base_tree, command_at}
+use Rattle.core_law.proofs.Passing.{next_stays}
+use Rattle.jcr_session.specs.declared.law.JcrLaw.{JcrLaw}
+use Rattle.jcr_session.specs.declared.run.Phase.{Phase}
+use Rattle.jcr_session.specs.declared.run.Phase.TheVariants as phase
+use Rattle.jcr_session.specs.declared.run.SessionRun.{SessionRun}
+use Rattle.jcr_session.specs.declared.sight.Seen.{Seen}
+use Rattle.jcr_session.specs.declared.sight.Sight.{Sight}
+use Rattle.jcr_session.specs.declared.sight.Sight.TheVariants as sight
+use Rattle.jcr_session.specs.declared.turn.Turn.{Turn}
+use Rattle.jcr_session.specs.declared.turn.Turn.TheVariants as turn
+use Rattle.jcr_session.specs.Sights.{IsIn, says_of, starts_of}
+use Rattle.jcr_session.specs.Standing.{HasCommitted, HasSaved, HasTurned, IsCommitting, IsInSave, IsSaving, IsTurned, MayAnswer, Stands, StandsAt, Tells, kind_of_end, phase_by, turn_by}
+use Rattle.jcr_session.proofs.Committing.{committed_moved, committed_undone, committing_finish, committing_undo, committing_write}
+use Rattle.jcr_session.proofs.Others.{append_assoc, others_both}
+use Rattle.jcr_session.proofs.Reading.{after_both}
+use Rattle.jcr_session.proofs.Saying.{answer_waits, answered_turns}
+use Rattle.jcr_session.proofs.Trees.{base_is_tree}
+use Rattle.jcr_session.proofs.Waiting.{committing_still, in_then}
+
+-- ---- a turn behind events of others
+
+pub turned_later : (law : JcrLaw) (a b c : Shown) (work : Work) (room : Option ℕ) (run now : SessionRun) (answer : Turn) → AreNodes a.history.clusters a.history.sessions → Waits (starts_of law) (says_of law) a b work room
+    → IsTurned law b c run now answer → IsTurned law a c run now answer
+turned_later law a b c work room run now answer nodes waits turned = record {
+  others = turned.others ++ waits.others;
+  own = turned.own;
+  grows = record {
+    grown = turned.grows.grown ∙ ap (λ (h : History). after turned.own h) moment;
+    theirs = others_both a.history.clusters a.history.sessions nodes (starts_of law) (says_of law) a.session turned.others waits.others a.history.past later first waits.grows.theirs
+        (subst (λ (s : ℕ). AreOthers s turned.others (waits.others ++ a.history.past)) waits.session (subst (λ (h : History). AreOthers b.session turned.others h.past) waits.grows.grown turned.grows.theirs));
+    run = turned.grows.run;
+  };
+  tells = subst (λ (h : History). Tells h a.session run.index answer turned.own) moment (subst (λ (s : ℕ). Tells (after turned.others b.history) s run.index answer turned.own) waits.session turned.tells);
+  stands = turned.stands;
+}
+  where
+    moment : after turned.others b.history ≡ after (turned.others ++ waits.others) a.history
+    moment = ap (λ (h : History). after turned.others h) waits.grows.grown ∙ after_both turned.others waits.others a.history
+
+    first : IsRun (starts_of law) (says_of law) (after waits.others a.history)
+    first = subst (λ (h : History). IsRun (starts_of law) (says_of law) h) waits.grows.grown waits.grows.run
+
+    dropped : (own : Past) (h : History) → IsRun (starts_of law) (says_of law) (after own h) → IsRun (starts_of law) (says_of law) h
+    dropped [] h run = run
+    dropped (e ∷ own) h run = dropped own h run.1
+
+    later : IsRun (starts_of law) (says_of law) (after turned.others (after waits.others a.history))
+    later = dropped turned.own (after turned.others (after waits.others a.history))
+        (subst (λ (h : History). IsRun (starts_of law) (says_of law) h) (turned.grows.grown ∙ ap (λ (h : History). after turned.own (after turned.others h)) waits.grows.grown) turned.grows.run)
+
+-- ---- events that leave the session in, at its base, before the same reply
+
+record IsQuiet (s : ℕ) (e : Past) : Type 0 where
+  pub left : (q : Past) → has_left (e ++ q) s ≡ has_left q s
+  pub base : (q : Past) → base_tree (e ++ q) s ≡ base_tree q s
+  pub next : (q : Past) → next_index (e ++ q) s ≡ next_index q s
+  pub attached : (q : Past) → is_attached (e ++ q) s ≡ is_attached q s
+
+quiet_by : (s : ℕ) (e f : Past) → e ≡ f → IsQuiet s f → IsQuiet s e
+quiet_by s e f same quiet = subst (λ (p : Past). IsQuiet s p) (sym same) quiet
+
+quiet_finish : (s : ℕ) (r : Revision) (e : Past) → IsFinish r e → IsQuiet s e
+quiet_finish s r e (inl same) = quiet_by s e (event.End r ∷ []) same record { left = λ q. refl; base = λ q. refl; next = λ q. refl; attached = λ q. refl }
+quiet_finish s r e (inr (k, v, same)) = quiet_by s e (event.Head k v ∷ event.End r ∷ []) same record { left = λ q. refl; base = λ q. refl; next = λ q. refl; attached = λ q. refl }
+
+quiet_write : (s : ℕ) (r : Revision) (k : StepKind) (e : Past) (now : Work) → WritesOn s r k e now → IsQuiet s e
+quiet_write s r k e now (inl (a, same, work)) = quiet_by s e (event.Went s kind.Write ∷ []) same record { left = λ q. refl; base = λ q. refl; next = λ q. refl; attached = λ q. refl }
+quiet_write s r k e now (inr (inl (a, same, work))) = quiet_by s e (event.Went s kind.Mark ∷ []) same record { left = λ q. refl; base = λ q. refl; next = λ q. refl; attached = λ q. refl }
+quiet_write s r k e now (inr (inr (inl (a, same, work)))) = quiet_by s e (event.Commit r ∷ []) same record { left = λ q. refl; base = λ q. refl; next = λ q. refl; attached = λ q. refl }
+quiet_write s r k e now (inr (inr (inr (item, o, same, work)))) = quiet_by s e (event.Refuse r item o ∷ []) same record { left = λ q. refl; base = λ q. refl; next = λ q. refl; attached = λ q. refl }
+
+-- ---- a step
+
+module _ (law : JcrLaw) (old new : Shown) (answer : StepOut) (run : SessionRun) (stands : Stands law old run) (inside : IsIn law old) (steps : Steps (starts_of law) (says_of law) old new answer) where
+  abbrev moment : History
+  moment = after steps.others old.history
+
+  run_new : IsRun (starts_of law) (says_of law) (after steps.own moment)
+  run_new = subst (λ (h : History). IsRun (starts_of law) (says_of law) h) steps.grows.grown steps.grows.run
+
+  run_moment : IsRun (starts_of law) (says_of law) moment
+  run_moment = dropped steps.own moment run_new
+    where
+      dropped : (own : Past) (h : History) → IsRun (starts_of law) (says_of law) (after own h) → IsRun (starts_of law) (says_of law) h
+      dropped [] h run = run
+      dropped (e ∷ own) h run = dropped own h run.1
+
+  inside_moment : IsIn law (record old { history = moment })
+  inside_moment = in_then law old (record old { history = moment }) old.work old.room (record { others = steps.others; grows = record { grown = refl; theirs = steps.grows.theirs; run = run_moment }; session = refl; work_is = refl; room_is = refl }) inside.nodes inside.run inside
+
+  -- what holds of the history after the step holds of what is shown
+  moved : (F : History → ℕ → Type 0) → F (after steps.own moment) old.session → F new.history new.session
+  moved F x = subst (λ (h : History). F h new.session) (sym steps.grows.grown) (subst (λ (s : ℕ). F (after steps.own moment) s) (sym steps.session) x)
+
+  inside_quiet : IsQuiet old.session steps.own → IsIn law new
+  inside_quiet quiet = record {
+    nodes = moved (λ h s. AreNodes h.clusters h.sessions) inside.nodes;
+    run = steps.grows.run;
+    login = moved (λ h s. has_login h.past s ≡ true) (any_later (is_login_of old.session) steps.own moment.past inside_moment.login);
+    stays = moved (λ h s. has_left h.past s ≡ false) (quiet.left moment.past ∙ inside_moment.stays);
+    detached = moved (λ h s. is_attached h.past s ≡ false) (quiet.attached moment.past ∙ inside_moment.detached);
+    tree = moved (λ h s. IsTree (base_tree h.past s)) (subst IsTree (sym (quiet.base moment.past)) inside_moment.tree);
+  }
+
+  stands_quiet : (f : Phase) → next_index (steps.own ++ moment.past) old.session ≡ next_index moment.past old.session → StandsAt law new (record run { phase = f }) f → Stands law new (record run { phase = f })
+  stands_quiet f next at = record {
+    nodes = moved (λ h s. AreNodes h.clusters h.sessions) inside.nodes;
+    run_is = steps.grows.run;
+    session = steps.session ∙ stands.session;
+    few = stands.few;
+    commands = stands.commands;
+    index = stands.index ∙ sym (moved (λ h s. next_index h.past run.session ≡ next_index old.history.past run.session)
+        (subst (λ (s : ℕ). next_index (steps.own ++ moment.past) s ≡ next_index old.history.past s) stands.session
+        (next ∙ next_stays moment.past steps.others old.history.past old.session steps.grows.theirs)));
+    at = at;
+  }
+
+  turned_quiet : (f : Phase) (t : Turn) → Tells moment old.session run.index t steps.own → next_index (steps.own ++ moment.past) old.session ≡ next_index moment.past old.session → StandsAt law new (record run { phase = f }) f → IsTurned law old new run (record run { phase = f }) t
+  turned_quiet f t tells next at = record { others = steps.others; own = steps.own; grows = steps.grows; tells = tells; stands = stands_quiet f next at }
+
+  -- ---- a step of a commit
+
+  module _ (saving : run.phase ≡ phase.Saving) where
+    at_save : IsInSave law old run run.sight
+    at_save = (subst (λ (f : Phase). StandsAt law old run f) saving stands.at).1
+
+    seen_by : (x : Sight) → IsInSave law old run x → (seen : Seen) × (x ≡ sight.Seen seen) × IsSaving law old run × IsCommitting law.sessions old.history.past old.session seen.base seen.view old.work
+    seen_by sight.Unread h = absurd h
+    seen_by (sight.Reading w) h = absurd h
+    seen_by (sight.Seen seen) (is, committing) = (seen, refl, is, committing)
+
+    saving_now : (f : Phase) → IsSaving law old run → IsSaving law new (record run { phase = f })
+    saving_now f is = record { allowed = is.allowed; saving = is.saving; room = subst (λ (x : Option ℕ). Rattle.oak_port.specs.Ports.HasRoom x 40) (sym steps.room) is.room }
+
+    still : (base view : Nodes) (work : Work) → IsCommitting law.sessions old.history.past old.session base view work → IsCommitting law.sessions moment.past old.session base view work
+    still = committing_still law old.history.clusters old.history.sessions inside.nodes old.session steps.others old.history.past inside.run run_moment steps.grows.theirs
+
+    goes_on : (seen : Seen) → run.sight ≡ sight.Seen seen → IsSaving law old run → IsQuiet old.session steps.own → IsCommitting law.sessions (steps.own ++ moment.past) old.session seen.base seen.view new.work → StandsAt law new (record run { phase = phase.Saving }) phase.Saving
+    goes_on seen same is quiet committing = (
+      inside_quiet quiet,
+      subst (λ (x : Sight). IsInSave law new (record run { phase = phase.Saving }) x) (sym same) (saving_now phase.Saving is, moved (λ h s. IsCommitting law.sessions h.past s seen.base seen.view new.work) committing),
+    )
+
+    has_ended : (seen : Seen) (e : CommitEnd) → run.sight ≡ sight.Seen seen → IsSaving law old run → new.work ≡ Idle → IsIn law new → HasCommitted law.sessions (steps.own ++ moment.past) old.session seen.base seen.view e → StandsAt law new (record run { phase = phase.Saved e }) (phase.Saved e)
+    has_ended seen e same is idle now committed = (
+      now,
+      subst (λ (x : Sight). HasSaved law new (record run { phase = phase.Saved e }) e x) (sym same) (saving_now (phase.Saved e) is, idle, moved (λ h s. HasCommitted law.sessions h.past s seen.base seen.view e) committed),
+    )
+
+    -- the session is in at a base that moved
+    inside_moved : (v : RevVec) → steps.own ≡ event.Refresh old.session v ∷ [] → IsIn law new
+    inside_moved v same = record {
+      nodes = moved (λ h s. AreNodes h.clusters h.sessions) inside.nodes;
+      run = steps.grows.run;
+      login = moved (λ h s. has_login h.past s ≡ true) login_now;
+      stays = moved (λ h s. has_left h.past s ≡ false) (subst (λ (own : Past). has_left (own ++ moment.past) old.session ≡ false) (sym same) inside_moment.stays);
+      detached = moved (λ h s. is_attached h.past s ≡ false) (subst (λ (own : Past). is_attached (own ++ moment.past) old.session ≡ false) (sym same) (ap (λ b. cond b false (is_attached moment.past old.session)) mine));
+      tree = moved (λ h s. IsTree (base_tree h.past s)) (base_is_tree law (after steps.own moment) old.session inside.nodes run_new login_now);
+    }
+      where
+        mine : (old.session == old.session) ≡ true
+        mine = grind (arith, nat_tests)
+
+        login_now : has_login (steps.own ++ moment.past) old.session ≡ true
+        login_now = any_later (is_login_of old.session) steps.own moment.past inside_moment.login
+
+    abbrev Turned : StepOut → Type 0
+    Turned a = HasTurned law old new run (record run { phase = phase_by a phase.Saving }) (turn_by a)
+
+    kind_undone : (r : Revision) (e f : CommitEnd) → f ≡ e → Rattle.jcr_session.specs.Standing.IsToldEnd old.history.past r e → kind.Finish ≡ kind_of_end f
+    kind_undone r e (commit.Clash item o) same told = refl
+    kind_undone r e commit.Memory same told = refl
+    kind_undone r e (commit.Committed q) same told = absurd (subst (λ (x : CommitEnd). Rattle.jcr_session.specs.Standing.IsToldEnd old.history.past r x) (sym same) told)
+
+    step_by : (work : Work) (a : StepOut) (seen : Seen) → run.sight ≡ sight.Seen seen → IsSaving law old run → IsCommitting law.sessions old.history.past old.session seen.base seen.view work
+        → Makes moment old.session work a steps.own new.work → AreOfStep moment old.session work a steps.own → Turned a
+    step_by (Writing r) (out.Went k) seen same is committing m told =
+        let quiet = quiet_write old.session r k steps.own new.work m in
+        turned_quiet phase.Saving (turn.Stepped k) told (quiet.next moment.past) (goes_on seen same is quiet (committing_write law.sessions moment.past old.session r k steps.own new.work seen.base seen.view (still seen.base seen.view (Writing r) committing) m))
+    step_by (Writing r) (out.Ready e) seen same is committing m told = absurd m
+    step_by (Writing r) (out.Wait q) seen same is committing m told = absurd m
+    step_by (Writing r) out.Memory seen same is committing m told = tt
+    step_by (Undoing r e) (out.Went k) seen same is committing (a, own, work) told =
+        let quiet = quiet_by old.session steps.own (event.Went old.session kind.Undo ∷ []) own record { left = λ q. refl; base = λ q. refl; next = λ q. refl; attached = λ q. refl } in
+        turned_quiet phase.Saving (turn.Stepped k) told (quiet.next moment.past) (goes_on seen same is quiet (committing_undo law.sessions moment.past old.session r e steps.own new.work seen.base seen.view (still seen.base seen.view (Undoing r e) committing) own work))
+    step_by (Undoing r e) (out.Ready (end.Commit f)) seen same is committing (end_is, finish, idle) told =
+        let quiet = quiet_finish old.session r steps.own finish in
+        turned_quiet (phase.Saved f) (turn.Stepped (kind_of_end f))
+        (subst (λ (k : StepKind). is_appended_by moment old.session k (reverse steps.own) ≡ true) (kind_undone r e f end_is committing.3) told)
+        (quiet.next moment.past)
+        (has_ended seen f same is idle (inside_quiet quiet)
+        (subst (λ (x : CommitEnd). HasCommitted law.sessions (steps.own ++ moment.past) old.session seen.base seen.view x) (sym end_is)
+        (committed_undone law.sessions moment.past old.session r e steps.own seen.base seen.view (still seen.base seen.view (Undoing r e) committing) finish)))
+    step_by (Undoing r e) (out.Ready (end.Node n)) seen same is committing m told = absurd m
+    step_by (Undoing r e) (out.Ready (end.Children n)) seen same is committing m told = absurd m
+    step_by (Undoing r e) (out.Ready (end.Pinned n)) seen same is committing m told = absurd m
+    step_by (Undoing r e) (out.Ready end.Ended) seen same is committing m told = absurd m
+    step_by (Undoing r e) (out.Wait q) seen same is committing m told = absurd m
+    step_by (Undoing r e) out.Memory seen same is committing m told = tt
+    step_by (Deciding r) (out.Went k) seen same is committing (a, finish, work) told =
+        let quiet = quiet_finish old.session r steps.own finish in
+        turned_quiet phase.Saving (turn.Stepped k) told (quiet.next moment.past) (goes_on seen same is quiet (committing_finish law.sessions moment.past old.session r steps.own new.work seen.base seen.view (still seen.base seen.view (Deciding r) committing) finish work))
+    step_by (Deciding r) (out.Ready e) seen same is committing m told = absurd m
+    step_by (Deciding r) (out.Wait q) seen same is committing m told = absurd m
+    step_by (Deciding r) out.Memory seen same is committing m told = tt
+    step_by (Awaiting r) (out.Wait q) seen same is committing (own, work) told =
+        let quiet = quiet_by old.session steps.own [] own record { left = λ q. refl; base = λ q. refl; next = λ q. refl; attached = λ q. refl } in
+        turned_quiet phase.Saving (turn.Waiting q) own (quiet.next moment.past)
+        (goes_on seen same is quiet (subst (λ (w : Work). IsCommitting law.sessions (steps.own ++ moment.past) old.session seen.base seen.view w) (sym work)
+        (subst (λ (e : Past). IsCommitting law.sessions (e ++ moment.past) old.session seen.base seen.view (Awaiting r)) (sym own) (still seen.base seen.view (Awaiting r) committing))))
+    step_by (Awaiting r) (out.Ready (end.Commit f)) seen same is committing (end_is, v, sees_it, own, idle) told =
+        turned_quiet (phase.Saved f) (turn.Stepped (kind_of_end f))
+        (subst (λ (x : CommitEnd). is_appended_by moment old.session (kind_of_end x) (reverse steps.own) ≡ true) (sym end_is) told)
+        (subst (λ (e : Past). next_index (e ++ moment.past) old.session ≡ next_index moment.past old.session) (sym own) refl)
+        (has_ended seen f same is idle (inside_moved v own)
+        (subst (λ (x : CommitEnd). HasCommitted law.sessions (steps.own ++ moment.past) old.session seen.base seen.view x) (sym end_is)
+        (committed_moved law.sessions moment.past old.session r v steps.own seen.base seen.view (still seen.base seen.view (Awaiting r) committing) sees_it own)))
+    step_by (Awaiting r) (out.Ready (end.Node n)) seen same is committing m told = absurd m
+    step_by (Awaiting r) (out.Ready (end.Children n)) seen same is committing m told = absurd m
+    step_by (Awaiting r) (out.Ready (end.Pinned n)) seen same is committing m told = absurd m
+    step_by (Awaiting r) (out.Ready end.Ended) seen same is committing m told = absurd m
+    step_by (Awaiting r) (out.Went k) seen same is committing m told = absurd m
+    step_by (Awaiting r) out.Memory seen same is committing m told = tt
+    step_by Idle a seen same is committing m told = absurd committing
+    step_by (Starting t) a seen same is committing m told = absurd committing
+
+    -- a step of a commit is a turn
+    pub commit_turns : Turned answer
+    commit_turns = let x = seen_by run.sight at_save in step_by old.work answer x.0 x.1 x.2 x.3 steps.makes steps.of_step
+
+    same_run : record run { phase = phase.Saving } ≡ run
+    same_run = ap (λ (f : Phase). record run { phase = f }) (sym saving)
+
+    pub commit_step : (now : SessionRun) (t : Turn) → now ≡ record run { phase = phase_by answer run.phase } → t ≡ turn_by answer → HasTurned law old new run now t
+    commit_step now t is told =
+        subst (λ (x : Turn). HasTurned law old new run now x) (sym told)
+        (subst (λ (x : SessionRun). HasTurned law old new run x (turn_by answer)) (sym (is ∙ ap (λ (f : Phase). record run { phase = phase_by answer f }) saving)) commit_turns)
+
+    -- a step for which memory was refused leaves the session in its commit
+    refused_by : (work : Work) (seen : Seen) → run.sight ≡ sight.Seen seen → IsSaving law old run → IsCommitting law.sessions old.history.past old.session seen.base seen.view work
+        → Makes moment old.session work out.Memory steps.own new.work → Stands law new (record run { phase = phase.Saving }) × (steps.own ≡ [])
+    refused_by (Writing r) seen same is committing (own, work) =
+        let quiet = quiet_by old.session steps.own [] own record { left = λ q. refl; base = λ q. refl; next = λ q. refl; attached = λ q. refl } in (
+          stands_quiet phase.Saving (quiet.next moment.past)
+              (goes_on seen same is quiet (subst (λ (w : Work). IsCommitting law.sessions (steps.own ++ moment.past) old.session seen.base seen.view w) (sym work)
+              (subst (λ (e : Past). IsCommitting law.sessions (e ++ moment.past) old.session seen.base seen.view (Undoing r commit.Memory)) (sym own)
+              (let c = still seen.base seen.view (Writing r) committing in (c.0, c.1, c.2, tt))))),
+          own,
+        )
+    refused_by (Undoing r e) seen same is committing m = absurd m
+    refused_by (Deciding r) seen same is committing m = absurd m
+    refused_by (Awaiting r) seen same is committing m = absurd m
+    refused_by Idle seen same is committing m = absurd committing
+    refused_by (Starting t) seen same is committing m = absurd committing
+
+    pub commit_refused : answer ≡ out.Memory → Stands law new run × Waits (starts_of law) (says_of law) old new new.work old.room
+    commit_refused memory =
+        let x = seen_by run.sight at_save in
+        let r = refused_by old.work x.0 x.1 x.2 x.3 (subst (λ (a : StepOut). Makes moment old.session old.work a steps.own new.work) memory steps.makes) in (
+          subst (λ (x : SessionRun). Stands law new x) same_run r.0,
+          record { others = steps.others; grows = subst (λ (e : Past). Grows (starts_of law) (says_of law) old.session old.history new.history steps.others e) r.1 steps.grows; session = steps.session; work_is = refl; room_is = steps.room },
+        )
+
+has_turned_later : (law : JcrLaw) (a b c : Shown) (work : Work) (room : Option ℕ) (run now : SessionRun) (t : Turn) → AreNodes a.history.clusters a.history.sessions → Waits (starts_of law) (says_of law) a b work room
+    → HasTurned law b c run now t → HasTurned law a c run now t
+has_turned_later law a b c work room run now (turn.Stepped k) nodes waits turned = turned_later law a b c work room run now (turn.Stepped k) nodes waits turned
+has_turned_later law a b c work room run now (turn.Said i) nodes waits turned = turned_later law a b c work room run now (turn.Said i) nodes waits turned
+has_turned_later law a b c work room run now (turn.Waiting q) nodes waits turned = turned_later law a b c work room run now (turn.Waiting q) nodes waits turned
+has_turned_later law a b c work room run now turn.Ended nodes waits turned = turned_later law a b c work room run now turn.Ended nodes waits turned
+has_turned_later law a b c work room run now turn.Memory nodes waits turned = tt
+
+inside_saving : (law : JcrLaw) (p : Shown) (run : SessionRun) → Stands law p run → run.phase ≡ phase.Saving → IsIn law p
+inside_saving law p run stands saving = (subst (λ (f : Phase). StandsAt law p run f) saving stands.at).0
+
+-- one step of a commit is its turn
+pub commit_once : (law : JcrLaw) (old new : Shown) (answer : StepOut) (run now : SessionRun) (t : Turn) → Stands law old run → run.phase ≡ phase.Saving → Steps (starts_of law) (says_of law) old new answer
+    → now ≡ record run { phase = phase_by answer run.phase } → t ≡ turn_by answer → HasTurned law old new run now t
+commit_once law old new answer run now t stands saving steps is told = commit_step law old new answer run stands (inside_saving law old run stands saving) steps saving now t is told
+
+-- a step for which memory was refused, and then one of undoing
+pub commit_twice : (law : JcrLaw) (old mid new : Shown) (answer : StepOut) (run now : SessionRun) (t : Turn) → Stands law old run → run.phase ≡ phase.Saving → Steps (starts_of law) (says_of law) old mid out.Memory → Steps (starts_of law) (says_of law) mid new answer
+    → now ≡ record run { phase = phase_by answer run.phase } → t ≡ turn_by answer → HasTurned law old new run now t
+commit_twice law old mid new answer run now t stands saving first second is told =
+    let r = commit_refused law old mid out.Memory run stands (inside_saving law old run stands saving) first saving refl in
+    has_turned_later law old mid new mid.work old.room run now t stands.nodes r.1 (commit_once law mid new answer run now t r.0 saving second is told)
+
+-- a commit under way is something that is being done
+pub commit_busy : (law : JcrLaw) (p : Shown) (run : SessionRun) → Stands law p run → run.phase ≡ phase.Saving → p.work ≡ Idle → ⊥
+commit_busy law p run stands saving idle = by run.sight (subst (λ (f : Phase). StandsAt law p run f) saving stands.at).1
+  where
+    by : (x : Sight) → IsInSave law p run x → ⊥
+    by sight.Unread h = h
+    by (sight.Reading w) h = h
+    by (sight.Seen seen) (is, committing) = subst (λ (w : Work). IsCommitting law.sessions p.history.past p.session seen.base seen.view w) idle committing
+
+pub refused_busy : (law : JcrLaw) (old mid : Shown) (run : SessionRun) → Stands law old run → run.phase ≡ phase.Saving → Steps (starts_of law) (says_of law) old mid out.Memory → mid.work ≡ Idle → ⊥
+refused_busy law old mid run stands saving first idle =
+    commit_busy law mid run (commit_refused law old mid out.Memory run stands (inside_saving law old run stands saving) first saving refl).0 saving idle
+
+-- ---- a reply
+
+get_within : {X : Type 0} (xs : List X) (i : ℕ) (x : X) → slice_get xs i ≡ Some x → i < length xs
+get_within [] i x h = absurd (false≢true (ap is_some h))
+get_within (y ∷ xs) zero x h = omega arith
+get_within (y ∷ xs) (suc i) x h = let r : i < length xs = get_within xs i x h in omega arith
+
+module _ (law : JcrLaw) (old : Shown) (run : SessionRun) (text : Text) (may : MayAnswer law old run text) where
+  -- there are at most 10,000 replies
+  pub index_small : run.index < 10000
+  index_small =
+      let c = may.says in
+      let at : slice_get run.commands run.index ≡ Some c.0 = sym (may.commands run.index) ∙ (ap (λ s. command_at law.sessions s run.index) (sym may.session) ∙ c.2) in
+      let w : run.index < length run.commands = get_within run.commands run.index c.0 at in
+      let f : length run.commands ≤ 10000 = may.few in
+      omega arith
+
+  pub may_index : run.index ≡ next_index old.history.past old.session
+  may_index = may.index ∙ ap (next_index old.history.past) (sym may.session)
+
+  pub may_idle : old.work ≡ Idle
+  may_idle = may.idle
+
+  pub may_says : SaysBy law.sessions old.history old.session run.index text
+  may_says = may.says
+
+  pub said_kept : (new : Shown) (now : SessionRun) (t : Turn) → Answers (starts_of law) (says_of law) old new run.index text → now ≡ record run { index = run.index + 1; phase = phase.Between } → t ≡ turn.Said run.index → HasTurned law old new run now t
+  said_kept new now t done is told =
+      subst (λ (x : Turn). HasTurned law old new run now x) (sym told)
+      (subst (λ (x : SessionRun). HasTurned law old new run x (turn.Said run.index)) (sym is) (answered_turns law old new run text may done))
+
+  -- with a place kept, and events of others before
+  pub answer_later : (new : Shown) (room : Option ℕ) → Waits (starts_of law) (says_of law) old new old.work room → MayAnswer law new run text
+  answer_later new room waits = answer_waits law old new run text may room (subst (λ (w : Work). Waits (starts_of law) (says_of law) old new w room) may.idle waits)
+
+  pub said_later : (mid new : Shown) (room : Option ℕ) (now : SessionRun) (t : Turn) → Waits (starts_of law) (says_of law) old mid old.work room → HasTurned law mid new run now t → HasTurned law old new run now t
+  said_later mid new room now t waits turned = has_turned_later law old mid new old.work room run now t may.inside.nodes waits turned
+
+pub room_kept : (starts : _) (says : _) (old new : Shown) (work : Work) (n : ℕ) → Waits starts says old new work (Some n) → HasRoom new.room n
+room_kept starts says old new work n waits = subst (λ (x : Option ℕ). HasRoom x n) (sym waits.room_is) (let h : n ≤ n = omega arith in h)
+
+pub room_stays : (starts : _) (says : _) (old new : Shown) (work : Work) (n : ℕ) → Waits starts says old new work old.room → HasRoom old.room n → HasRoom new.room n
+room_stays starts says old new work n waits h = subst (λ (x : Option ℕ). HasRoom x n) (sym waits.room_is) h
+
+pub room_less : (o : Option ℕ) (n m : ℕ) → m ≤ n → HasRoom o n → HasRoom o m
+room_less None n m le h = h
+room_less (Some k) n m le h = let a : n ≤ k = h in omega arith

@@ -1,0 +1,149 @@
+-- While others add events, a session stands where it stood.
+use Rattle.std.proofs.Common.{◌≡◌, inl, inr, ℕ, Bool, true, false, cond, Some, None, Option, List, [], ◌∷◌, ◌++◌, is_some, refl, sym, ap, ◌∙◌, subst}
+use Rattle.std.specs.Prelude.{◌==◌}
+use Rattle.std.specs.Option.{option_map_or}
+use Rattle.std.specs.List.{list_any}
+use mathlib.Core.Bool.{false≢true}
+use Rattle.jr_path.specs.declared.text.Text.{Text}
+use Rattle.jr_rev.specs.declared.revision.Revision.{Revision}
+use Rattle.jr_rev.specs.declared.vector.RevVec.{RevVec}
+use Rattle.jr_tree.specs.Trees.{IsTree, Nodes}
+use Rattle.oak_machine.specs.declared.event.Event.{Event}
+use Rattle.oak_machine.specs.declared.event.Event.TheVariants as event
+use Rattle.oak_machine.specs.declared.event.StepKind.TheVariants as kind
+use Rattle.oak_machine.specs.History.{History, Past}
+use Rattle.oak_machine.specs.Commits.{is_commit_of, is_committed, is_ended, is_end_of, refusal_of}
+use Rattle.oak_machine.specs.Laws.{AreOthers, Says, Starts, after, is_event_of, is_revision_of}
+use Rattle.oak_machine.specs.Runs.{AreNodes, IsRun, IsRunOf}
+use Rattle.oak_machine.specs.Sessions.{base_of, drawn_since, has_left, has_login, is_attached, is_drawing, is_end_of_session, is_login_of, next_index, refreshed_since}
+use Rattle.oak_machine.proofs.Induction.{neither, other}
+use Rattle.oak_machine.proofs.Stays.{any_later}
+use Rattle.oak_port.specs.Ports.{Awaiting, Deciding, Grows, HasRoom, Idle, Shown, Starting, Undoing, Waits, Work, Writing}
+use Rattle.oak_port.specs.declared.task.CommitEnd.{CommitEnd}
+use Rattle.oak_port.specs.declared.task.CommitEnd.TheVariants as commit
+use Rattle.oak_port.specs.declared.task.Task.TheVariants as task
+use Rattle.core_law.specs.Law.{SaysBy}
+use Rattle.core_law.specs.State.{Orders, base_tree, pending_of}
+use Rattle.core_law.specs.Turns.{IsOver, IsTurn}
+use Rattle.core_law.proofs.Bases.{base_tree_stays}
+use Rattle.core_law.proofs.Lasting.{over_same, says_last, turn_same}
+use Rattle.core_law.proofs.Passing.{drawn_stays, idle_stays, next_stays, pending_stays, refreshed_stays}
+use Rattle.jcr_session.specs.declared.law.JcrLaw.{JcrLaw}
+use Rattle.jcr_session.specs.declared.run.Phase.{Phase}
+use Rattle.jcr_session.specs.declared.run.Phase.TheVariants as phase
+use Rattle.jcr_session.specs.declared.run.SessionRun.{SessionRun}
+use Rattle.jcr_session.specs.declared.sight.Fetch.{Fetch}
+use Rattle.jcr_session.specs.declared.sight.Fetch.TheVariants as fetch
+use Rattle.jcr_session.specs.declared.sight.Seen.{Seen}
+use Rattle.jcr_session.specs.declared.sight.Sight.{Sight}
+use Rattle.jcr_session.specs.declared.sight.Sight.TheVariants as sight
+use Rattle.jcr_session.specs.declared.sight.Walk.{Walk}
+use Rattle.jcr_session.specs.declared.turn.Turn.{Turn}
+use Rattle.jcr_session.specs.declared.turn.Turn.TheVariants as turn
+use Rattle.jcr_session.specs.Sights.{IsFetching, IsIn, IsPart, Reads, says_of, starts_of}
+use Rattle.jcr_session.specs.Standing.{HasCommitted, HasDrawn, HasSaved, HasTurned, HasView, IsCommitting, IsInSave, IsOutside, IsRefreshed, IsSaving, IsToldEnd, IsTurned, MayAnswer, Sees, SeesThen, Stands, StandsAt, Tells}
+use Rattle.jcr_session.proofs.Others.{append_assoc, last_others, others_both, refusal_own, revision_stays, uncommitted_own}
+
+-- ---- whether it is in
+
+pub login_stays : (whole added past : Past) (s : ℕ) → list_any (is_event_of whole s) added ≡ false → has_login past s ≡ false → has_login (added ++ past) s ≡ false
+login_stays whole [] past s others h = h
+login_stays whole (event.Login t v ∷ added) past s others h = let n = neither _ _ others in ap (λ b. b || has_login (added ++ past) s) n.0 ∙ login_stays whole added past s n.1 h
+login_stays whole (e ∷ added) past s others h = login_stays whole added past s (neither (is_event_of whole s e) _ others).1 h
+
+left_stays : (whole added past : Past) (s : ℕ) → list_any (is_event_of whole s) added ≡ false → has_left past s ≡ false → has_left (added ++ past) s ≡ false
+left_stays whole [] past s others h = h
+left_stays whole (event.Went t kind.End ∷ added) past s others h = let n = neither _ _ others in ap (λ b. b || has_left (added ++ past) s) n.0 ∙ left_stays whole added past s n.1 h
+left_stays whole (e ∷ added) past s others h = left_stays whole added past s (neither (is_event_of whole s e) _ others).1 h
+
+attached_stays : (whole added past : Past) (s : ℕ) → list_any (is_event_of whole s) added ≡ false → is_attached past s ≡ false → is_attached (added ++ past) s ≡ false
+attached_stays whole [] past s others h = h
+attached_stays whole (event.Login t v ∷ added) past s others h = let n = neither _ _ others in other (t == s) _ _ _ n.0 (attached_stays whole added past s n.1 h)
+attached_stays whole (event.Refresh t v ∷ added) past s others h = let n = neither _ _ others in other (t == s) _ _ _ n.0 (attached_stays whole added past s n.1 h)
+attached_stays whole (event.Attach t id ∷ added) past s others h = let n = neither _ _ others in other (t == s) _ _ _ n.0 (attached_stays whole added past s n.1 h)
+attached_stays whole (e ∷ added) past s others h = attached_stays whole added past s (neither (is_event_of whole s e) _ others).1 h
+
+-- ---- by pasts
+
+module _ (law : JcrLaw) (clusters : ℕ) (sessions : List ℕ) (nodes : AreNodes clusters sessions) (s : ℕ) (added past : Past) (run : IsRunOf (starts_of law) (says_of law) clusters sessions past) (later : IsRunOf (starts_of law) (says_of law) clusters sessions (added ++ past)) (others : list_any (is_event_of (added ++ past) s) added ≡ false) where
+  pub tree_still : base_tree (added ++ past) s ≡ base_tree past s
+  tree_still = base_tree_stays clusters sessions nodes (starts_of law) (says_of law) s (added ++ past) added past later others
+
+  pub over_still : (base view : Nodes) → IsOver law.sessions past s base view → IsOver law.sessions (added ++ past) s base view
+  over_still = over_same law.sessions (starts_of law) (says_of law) clusters sessions nodes s added past run later others
+
+  pub turn_still : (base view : Nodes) → IsTurn law.sessions past s base view → IsTurn law.sessions (added ++ past) s base view
+  turn_still = turn_same law.sessions (starts_of law) (says_of law) clusters sessions nodes s added past run later others
+
+  turn_at_base : IsTurn law.sessions past s (base_tree past s) (base_tree past s) → IsTurn law.sessions (added ++ past) s (base_tree (added ++ past) s) (base_tree (added ++ past) s)
+  turn_at_base turn = subst (λ (t : Nodes). IsTurn law.sessions (added ++ past) s t t) (sym tree_still) (turn_still (base_tree past s) (base_tree past s) turn)
+
+  view_still : (base view : Nodes) → HasView law.sessions past s base view → HasView law.sessions (added ++ past) s base view
+  view_still base view has = record {
+    base_is = has.base_is ∙ sym tree_still;
+    pending = pending_stays law.sessions (added ++ past) added past s others ∙ has.pending;
+    from = has.from;
+    to = has.to;
+  }
+
+  drawn_still : (r : Revision) → HasDrawn law.sessions past s r → HasDrawn law.sessions (added ++ past) s r
+  drawn_still r has = record {
+    drawn = drawn_stays (added ++ past) added past s others ∙ has.drawn;
+    theirs = revision_stays clusters sessions nodes (starts_of law) (says_of law) added past later s r has.theirs;
+    last = last_others (added ++ past) r added past s others has.last;
+  }
+
+  open_still : (r : Revision) → HasDrawn law.sessions past s r → is_committed past r ≡ false → is_committed (added ++ past) r ≡ false
+  open_still r has h = uncommitted_own clusters sessions nodes (starts_of law) (says_of law) s r added past later (added ++ past) (drawn_still r has).theirs others h
+
+  told_still : (r : Revision) (e : CommitEnd) → HasDrawn law.sessions past s r → IsToldEnd past r e → IsToldEnd (added ++ past) r e
+  told_still r (commit.Clash item o) has h = refusal_own clusters sessions nodes (starts_of law) (says_of law) s r added past (added ++ past) (drawn_still r has).theirs others ∙ h
+  told_still r commit.Memory has h = tt
+  told_still r (commit.Committed q) has h = h
+
+  pub committing_still : (base view : Nodes) (work : Work) → IsCommitting law.sessions past s base view work → IsCommitting law.sessions (added ++ past) s base view work
+  committing_still base view (Writing r) (has, view_is, unmade) = (drawn_still r has, view_still base view view_is, open_still r has unmade)
+  committing_still base view (Undoing r e) (has, view_is, unmade, told) = (drawn_still r has, view_still base view view_is, open_still r has unmade, told_still r e has told)
+  committing_still base view (Deciding r) (has, made) = (drawn_still r has, any_later (is_commit_of r) added past made)
+  committing_still base view (Awaiting r) (has, made, ended) = (drawn_still r has, any_later (is_commit_of r) added past made, any_later (is_end_of r) added past ended)
+  committing_still base view Idle h = h
+  committing_still base view (Starting t) h = h
+
+  refused_still : (r : Revision) (o : _) → is_ended past r ≡ true → refusal_of past r ≡ o → refusal_of (added ++ past) r ≡ o
+  refused_still r o ended h = Rattle.core_law.proofs.Passing.refusal_stays (starts_of law) (says_of law) clusters sessions past r ended added later ∙ h
+
+  pub committed_still : (base view : Nodes) (e : CommitEnd) → HasCommitted law.sessions past s base view e → HasCommitted law.sessions (added ++ past) s base view e
+  committed_still base view (commit.Committed r) (v, drawn, ended, made, moved, seen, idle) =
+      (v, drawn_stays (added ++ past) added past s others ∙ drawn, any_later (is_end_of r) added past ended, any_later (is_commit_of r) added past made, refreshed_stays (added ++ past) added past s others ∙ moved, seen, idle_stays (added ++ past) added past s others idle)
+  committed_still base view (commit.Clash item o) (r, drawn, ended, refused, over) =
+      (r, drawn_stays (added ++ past) added past s others ∙ drawn, any_later (is_end_of r) added past ended, refused_still r _ ended refused, over_still base view over)
+  committed_still base view commit.Memory over = over_still base view over
+
+-- ---- by what a port shows
+
+module _ (law : JcrLaw) (old new : Shown) (work : Work) (room : Option ℕ) (waits : Waits (starts_of law) (says_of law) old new work room) where
+  abbrev added : Past
+  added = waits.others
+
+  same : new.history ≡ after added old.history
+  same = waits.grows.grown
+
+  module _ (nodes : AreNodes old.history.clusters old.history.sessions) (run : IsRun (starts_of law) (says_of law) old.history) where
+    later : IsRun (starts_of law) (says_of law) (after added old.history)
+    later = subst (λ (h : History). IsRun (starts_of law) (says_of law) h) same waits.grows.run
+
+    pub nodes_then : AreNodes new.history.clusters new.history.sessions
+    nodes_then = subst (λ (h : History). AreNodes h.clusters h.sessions) (sym same) nodes
+
+    pub tree_then : base_tree new.history.past new.session ≡ base_tree old.history.past old.session
+    tree_then = ap (λ (h : History). base_tree h.past new.session) same ∙ (ap (base_tree (added ++ old.history.past)) waits.session ∙ tree_still law old.history.clusters old.history.sessions nodes old.session added old.history.past run later waits.grows.theirs)
+
+    pub in_then : IsIn law old → IsIn law new
+    in_then inside = record {
+      nodes = nodes_then;
+      run = waits.grows.run;
+      login = ap (λ (h : History). has_login h.past new.session) same ∙ (ap (has_login (added ++ old.history.past)) waits.session ∙ any_later (is_login_of old.session) added old.history.past inside.login);
+      stays = ap (λ (h : History). has_left h.past new.session) same ∙ (ap (has_left (added ++ old.history.past)) waits.session ∙ left_stays (added ++ old.history.past) added old.history.past old.session waits.grows.theirs inside.stays);
+      detached = ap (λ (h : History). is_attached h.past new.session) same ∙ (ap (is_attached (added ++ old.history.past)) waits.session ∙ attached_stays (added ++ old.history.past) added old.history.past old.session waits.grows.theirs inside.detached);
+      tree = subst IsTree (sym tree_then) inside.tree;
+    }

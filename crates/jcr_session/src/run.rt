@@ -1,0 +1,608 @@
+// A session's turns: what it asks of its world, one counted step after another.
+ghost use Rattle.std.specs.Prelude.{◌≡◌, ◌≤◌, ◌∷◌, [], IfOk, IfSome, OnErr, IsTrue, IsFalse, length, string_bytes};
+ghost use Rattle.jr_tree.specs.declared.shared.Datum.TheVariants as datum;
+ghost use Rattle.oak_port.specs.Ports.{HasRoom, Waits};
+ghost use Rattle.oak_port.specs.declared.task.StepOut.TheVariants as out;
+ghost use Rattle.oak_port.specs.declared.task.TaskEnd.TheVariants as end;
+ghost use Rattle.jcr_trans.specs.Answers.{Refused};
+ghost use Rattle.jcr_trans.specs.Texts.{answer_text, memory_text};
+ghost use Rattle.jcr_session.specs.Sights.{says_of, starts_of};
+ghost use Rattle.jcr_session.specs.Standing.{HasEnded, HasSeen, HasTurned, IsNew, IsPlanFor, IsPlanOf, IsRefused, IsReply, IsSame, MayAnswer, Stands, due_for, is_unread, kind_of_end, phase_by, turn_by};
+ghost use Rattle.jcr_session.specs.declared.run.Due.TheVariants as due;
+ghost use Rattle.jcr_session.specs.declared.run.Phase.TheVariants as phase;
+
+use crate::law::JcrLaw;
+use crate::next::may_save;
+use crate::sight::{Seen, Sight, read_first, read_on};
+use crate::turn::Turn;
+use jcr_plan::marks_of;
+use jcr_trans::{
+    Command, null_reply, refusal_text, revision_reply, run, too_many_reply, unsupported_reply,
+    vector_reply,
+};
+use jr_path::{DeepCopy, Item, List};
+use jr_rev::{Pin, RevVec, Revision};
+use jr_tree::{Datum, Edit, Refusal, changes};
+use oak_clash::MarkAt;
+use oak_machine::StepKind;
+use oak_port::{CommitEnd, Port, StepOut, Task, TaskEnd};
+use std::alloc::{AllocError, Global};
+use std::mem;
+
+// The reply where memory was refused.
+const MEMORY_REPLY: &str = "no 16 []";
+
+// At least the bytes of each reply that tells that a commit was made, as `ok "r1-0-1"`, with a revision of 16, 8 and 8 digits.
+const COMMIT_REPLY_BYTES: usize = 40;
+
+// The greatest number of nodes that a tree may have after a save.
+const MOST_NODES: usize = 100_000;
+
+/// A session of a script: its commands, of which it makes one after another, by steps of a world that others step too.
+#[derive(Drop)]
+pub struct SessionRun {
+    alloc: Global,
+    session: u32,
+    commands: List<Command>,
+    // How many replies are said.
+    index: u32,
+    phase: Phase,
+    sight: Sight,
+}
+
+// Where a session stands.
+#[derive(Drop)]
+enum Phase {
+    // It has not logged in.
+    Outside,
+    // It is between two of its commands, or before its end.
+    Between,
+    // Its base moved to this vector for a refresh, which it has not answered yet.
+    Refreshed(RevVec),
+    // It commits its pending edits.
+    Saving,
+    // Its commit has ended so, and it has not answered yet.
+    Saved(CommitEnd),
+    // It has left.
+    Over,
+}
+
+// What is to be done for the next command.
+#[derive(Clone, Copy, Debug, PartialEq, Eq)]
+enum Due {
+    // There is none: the session leaves.
+    Leave,
+    // `head`: the base is shown.
+    ShowBase,
+    // `refresh` with false: the base moves.
+    Refresh,
+    // `save` of a session that may not save.
+    Refuse,
+    // `save` of another one.
+    Save,
+    // Another command is answered by the view.
+    See,
+}
+
+impl SessionRun {
+    /// A session that has not logged in, with its number and at most 10,000 commands.
+    pub fn new(
+        alloc: Global,
+        session: u32,
+        commands: List<Command>,
+    ) -> Result<SessionRun, AllocError>
+        requires few { length commands ≤ 10000 }
+        ensures { IfOk result (IsNew session commands) }
+    {
+        Ok(SessionRun {
+            alloc,
+            session,
+            commands,
+            index: 0,
+            phase: Phase::Outside,
+            sight: Sight::Unread,
+        })
+    }
+
+    /// Makes one step of reading the tree at the base, where one is due, and tells whether it did. Where memory is refused, what
+    /// was read is given up.
+    pub fn read<P: Port<L = JcrLaw>>(&mut self, port: &mut P) -> Result<bool, AllocError>
+        requires stands { Stands (P.law port.old) (P.shown port.old) self.old }
+        ensures law { P.law port.new ≡ P.law port.old }
+        ensures stands { Stands (P.law port.old) (P.shown port.new) self.new }
+        ensures same { IsSame self.old self.new }
+        ensures beside { Waits (starts_of (P.law port.old)) (says_of (P.law port.old)) (P.shown port.old) (P.shown port.new) (P.shown port.new).work (P.shown port.old).room }
+        ensures done { IfOk result (λ made. made ≡ is_unread self.old) }
+    {
+        if !self.is_unread() {
+            return Ok(false);
+        }
+        self.sight = match mem::replace(&mut self.sight, Sight::Unread) {
+            Sight::Unread => read_first(self.alloc, port)?,
+            Sight::Reading(walk) => read_on(port, walk)?,
+            Sight::Seen(seen) => Sight::Seen(seen),
+        };
+        Ok(true)
+    }
+
+    /// Makes the reading steps that are due and then exactly one counted step, or none where the session waits or has ended.
+    /// Where memory is refused for a command, that command is answered so; where it is refused for the place of a reply, or for the
+    /// login or the leave, the run ends.
+    pub fn turn<P: Port<L = JcrLaw>>(&mut self, port: &mut P) -> Turn
+        requires stands { Stands (P.law port.old) (P.shown port.old) self.old }
+        ensures law { P.law port.new ≡ P.law port.old }
+        ensures turned { HasTurned (P.law port.old) (P.shown port.old) (P.shown port.new) self.old self.new result }
+    {
+        match self.read_all(port) {
+            Ok(true) => self.counted(port),
+            Ok(false) => Turn::Memory,
+            Err(AllocError) => self.say_memory(port),
+        }
+    }
+
+    // Makes exactly one counted step, or none where the session waits or has ended.
+    fn counted<P: Port<L = JcrLaw>>(&mut self, port: &mut P) -> Turn
+        requires stands { Stands (P.law port.old) (P.shown port.old) self.old }
+        requires read { IsFalse (is_unread self.old) }
+        ensures law { P.law port.new ≡ P.law port.old }
+        ensures turned { HasTurned (P.law port.old) (P.shown port.old) (P.shown port.new) self.old self.new result }
+    {
+        match &self.phase {
+            Phase::Outside => self.log_in(port),
+            Phase::Between => self.go_on(port),
+            Phase::Refreshed(v) => {
+                let vector = *v;
+                self.say_vector(port, vector)
+            }
+            Phase::Saving => self.commit_on(port),
+            Phase::Saved(_) => self.say_end(port),
+            Phase::Over => Turn::Ended,
+        }
+    }
+
+    // Makes all reading steps that are due, and tells whether it did.
+    fn read_all<P: Port<L = JcrLaw>>(&mut self, port: &mut P) -> Result<bool, AllocError>
+        requires stands { Stands (P.law port.old) (P.shown port.old) self.old }
+        ensures law { P.law port.new ≡ P.law port.old }
+        ensures stands { Stands (P.law port.old) (P.shown port.new) self.new }
+        ensures same { IsSame self.old self.new }
+        ensures beside { Waits (starts_of (P.law port.old)) (says_of (P.law port.old)) (P.shown port.old) (P.shown port.new) (P.shown port.new).work (P.shown port.old).room }
+        ensures ok { IfOk result (λ done. IsTrue done → IsFalse (is_unread self.new)) }
+        ensures err { OnErr result (IsRefused (P.shown port.new) self.new) }
+    {
+        for _ in 0..u64::MAX {
+            if !self.read(port)? {
+                return Ok(true);
+            }
+        }
+        Ok(false)
+    }
+
+    // What is to be done for the next command.
+    fn due(&self) -> Due
+        ensures { result ≡ due_for self.now }
+    {
+        match self.commands.as_slice().get(self.index as usize) {
+            None => Due::Leave,
+            Some(Command::Head) => Due::ShowBase,
+            Some(Command::Refresh(false)) => Due::Refresh,
+            Some(Command::Save) => {
+                if may_save(self.session) {
+                    Due::Save
+                } else {
+                    Due::Refuse
+                }
+            }
+            Some(_) => Due::See,
+        }
+    }
+
+    // Whether the next command is answered by a tree that isn't read yet.
+    fn is_unread(&self) -> bool
+        ensures { result ≡ is_unread self.now }
+    {
+        match (&self.phase, &self.sight) {
+            (_, Sight::Seen(_)) => false,
+            (Phase::Between, _) => matches!(self.due(), Due::Save | Due::See),
+            _ => false,
+        }
+    }
+
+    // Logs in.
+    #[tactic(auto, using(crate::proofs::Living::outside_idle, crate::proofs::Living::outside_begins, crate::proofs::Living::logged_in))]
+    fn log_in<P: Port<L = JcrLaw>>(&mut self, port: &mut P) -> Turn
+        requires stands { Stands (P.law port.old) (P.shown port.old) self.old }
+        requires outside { self.old.phase ≡ phase.Outside }
+        ensures law { P.law port.new ≡ P.law port.old }
+        ensures turned { HasTurned (P.law port.old) (P.shown port.old) (P.shown port.new) self.old self.new result }
+    {
+        let Ok(()) = port.start(Task::Login) else {
+            return Turn::Memory;
+        };
+        match port.step() {
+            StepOut::Ready(TaskEnd::Pinned(_)) => {
+                self.phase = Phase::Between;
+                Turn::Stepped(StepKind::Login)
+            }
+            _ => Turn::Memory,
+        }
+    }
+
+    // The next command.
+    fn go_on<P: Port<L = JcrLaw>>(&mut self, port: &mut P) -> Turn
+        requires stands { Stands (P.law port.old) (P.shown port.old) self.old }
+        requires between { self.old.phase ≡ phase.Between }
+        requires read { IsFalse (is_unread self.old) }
+        ensures law { P.law port.new ≡ P.law port.old }
+        ensures turned { HasTurned (P.law port.old) (P.shown port.old) (P.shown port.new) self.old self.new result }
+    {
+        match self.due() {
+            Due::Leave => self.leave(port),
+            Due::ShowBase => self.show_base(port),
+            Due::Refresh => self.refresh(port),
+            Due::Refuse => self.refuse(port),
+            Due::Save => self.save(port),
+            Due::See => self.see(port),
+        }
+    }
+
+    // Leaves.
+    #[tactic(auto, using(crate::proofs::Next::idle_between, crate::proofs::Starting::leave_begins, crate::proofs::Starting::left))]
+    fn leave<P: Port<L = JcrLaw>>(&mut self, port: &mut P) -> Turn
+        requires stands { Stands (P.law port.old) (P.shown port.old) self.old }
+        requires between { self.old.phase ≡ phase.Between }
+        requires read { IsFalse (is_unread self.old) }
+        requires next { due_for self.old ≡ due.Leave }
+        ensures law { P.law port.new ≡ P.law port.old }
+        ensures turned { HasTurned (P.law port.old) (P.shown port.old) (P.shown port.new) self.old self.new result }
+    {
+        let Ok(()) = port.start(Task::End) else {
+            return Turn::Memory;
+        };
+        match port.step() {
+            StepOut::Ready(TaskEnd::Ended) => {
+                self.phase = Phase::Over;
+                Turn::Stepped(StepKind::End)
+            }
+            _ => Turn::Memory,
+        }
+    }
+
+    // Shows the base.
+    fn show_base<P: Port<L = JcrLaw>>(&mut self, port: &mut P) -> Turn
+        requires stands { Stands (P.law port.old) (P.shown port.old) self.old }
+        requires between { self.old.phase ≡ phase.Between }
+        requires read { IsFalse (is_unread self.old) }
+        requires next { due_for self.old ≡ due.ShowBase }
+        ensures law { P.law port.new ≡ P.law port.old }
+        ensures turned { HasTurned (P.law port.old) (P.shown port.old) (P.shown port.new) self.old self.new result }
+    {
+        let Some(pin) = port.pin() else {
+            return Turn::Memory;
+        };
+        match vector_reply(self.alloc, &pin.base) {
+            Ok(text) => self.say(port, text.as_str()),
+            Err(AllocError) => self.say_memory(port),
+        }
+    }
+
+    // Refuses the command, which this session may not make.
+    #[tactic(auto, using(crate::proofs::Next::forgo_refuse, crate::proofs::Next::refuse_save))]
+    fn refuse<P: Port<L = JcrLaw>>(&mut self, port: &mut P) -> Turn
+        requires stands { Stands (P.law port.old) (P.shown port.old) self.old }
+        requires between { self.old.phase ≡ phase.Between }
+        requires read { IsFalse (is_unread self.old) }
+        requires next { due_for self.old ≡ due.Refuse }
+        ensures law { P.law port.new ≡ P.law port.old }
+        ensures turned { HasTurned (P.law port.old) (P.shown port.old) (P.shown port.new) self.old self.new result }
+    {
+        match unsupported_reply(self.alloc, &Command::Save) {
+            Ok(text) => self.say(port, text.as_str()),
+            Err(AllocError) => self.say_memory(port),
+        }
+    }
+
+    // Moves the base to the head. What was pending is dropped, and the tree there isn't read yet.
+    #[tactic(auto, using(crate::proofs::Next::idle_between, crate::proofs::Next::forgo_refresh, crate::proofs::Starting::refresh_begins, crate::proofs::Starting::moves_base, crate::proofs::Turning::answer_later, crate::proofs::Turning::said_later))]
+    fn refresh<P: Port<L = JcrLaw>>(&mut self, port: &mut P) -> Turn
+        requires stands { Stands (P.law port.old) (P.shown port.old) self.old }
+        requires between { self.old.phase ≡ phase.Between }
+        requires read { IsFalse (is_unread self.old) }
+        requires next { due_for self.old ≡ due.Refresh }
+        ensures law { P.law port.new ≡ P.law port.old }
+        ensures turned { HasTurned (P.law port.old) (P.shown port.old) (P.shown port.new) self.old self.new result }
+    {
+        let Ok(()) = port.start(Task::Refresh) else {
+            return self.say_memory(port);
+        };
+        match pinned(port.step()) {
+            Some(pin) => {
+                self.phase = Phase::Refreshed(pin.base);
+                self.sight = Sight::Unread;
+                Turn::Stepped(StepKind::Pin)
+            }
+            None => self.say_memory(port),
+        }
+    }
+
+    // Shows the vector to which the base moved.
+    #[tactic(auto, using(crate::proofs::Ending::shows_vector))]
+    fn say_vector<P: Port<L = JcrLaw>>(&mut self, port: &mut P, vector: RevVec) -> Turn
+        requires stands { Stands (P.law port.old) (P.shown port.old) self.old }
+        requires refreshed { self.old.phase ≡ phase.Refreshed vector }
+        ensures law { P.law port.new ≡ P.law port.old }
+        ensures turned { HasTurned (P.law port.old) (P.shown port.old) (P.shown port.new) self.old self.new result }
+    {
+        match vector_reply(self.alloc, &vector) {
+            Ok(text) => self.say(port, text.as_str()),
+            Err(AllocError) => Turn::Memory,
+        }
+    }
+
+    // Answers by the view.
+    fn see<P: Port<L = JcrLaw>>(&mut self, port: &mut P) -> Turn
+        requires stands { Stands (P.law port.old) (P.shown port.old) self.old }
+        requires between { self.old.phase ≡ phase.Between }
+        requires read { IsFalse (is_unread self.old) }
+        requires next { due_for self.old ≡ due.See }
+        ensures law { P.law port.new ≡ P.law port.old }
+        ensures turned { HasTurned (P.law port.old) (P.shown port.old) (P.shown port.new) self.old self.new result }
+    {
+        match self.seen_reply() {
+            Ok(text) => self.say(port, text.as_str()),
+            Err(AllocError) => self.say_memory(port),
+        }
+    }
+
+    // The reply by the view.
+    fn seen_reply(&mut self) -> Result<String, AllocError>
+        ensures same { IsSame self.old self.new }
+        ensures text { IfOk result (λ text. HasSeen self.old self.new (string_bytes text)) }
+        ensures err { OnErr result (self.new.sight ≡ self.old.sight) }
+    {
+        let SessionRun {
+            alloc,
+            commands,
+            index,
+            sight,
+            ..
+        } = self;
+        match (commands.as_slice().get(*index as usize), sight) {
+            (Some(command), Sight::Seen(seen)) => reply_of(*alloc, command, seen),
+            _ => Err(AllocError),
+        }
+    }
+
+    // Commits what is pending, where there is something and the tree after it has few nodes.
+    fn save<P: Port<L = JcrLaw>>(&mut self, port: &mut P) -> Turn
+        requires stands { Stands (P.law port.old) (P.shown port.old) self.old }
+        requires between { self.old.phase ≡ phase.Between }
+        requires read { IsFalse (is_unread self.old) }
+        requires next { due_for self.old ≡ due.Save }
+        ensures law { P.law port.new ≡ P.law port.old }
+        ensures turned { HasTurned (P.law port.old) (P.shown port.old) (P.shown port.new) self.old self.new result }
+    {
+        match self.plan() {
+            Ok(Plan::Nothing) => match null_reply(self.alloc) {
+                Ok(text) => self.say(port, text.as_str()),
+                Err(AllocError) => self.say_memory(port),
+            },
+            Ok(Plan::TooMany) => match too_many_reply(self.alloc) {
+                Ok(text) => self.say(port, text.as_str()),
+                Err(AllocError) => self.say_memory(port),
+            },
+            Ok(Plan::Commit(edit, marks)) => self.commit(port, edit, marks),
+            Err(AllocError) => self.say_memory(port),
+        }
+    }
+
+    // What a save comes to.
+    fn plan(&self) -> Result<Plan, AllocError>
+        ensures { IfOk result (IsPlanOf self.now.sight) }
+    {
+        match &self.sight {
+            Sight::Seen(seen) => plan_of(self.alloc, seen),
+            _ => Err(AllocError),
+        }
+    }
+
+    // Begins a commit. The place of its reply is kept before.
+    fn commit<P: Port<L = JcrLaw>>(
+        &mut self,
+        port: &mut P,
+        edit: Edit,
+        marks: List<MarkAt>,
+    ) -> Turn {
+        let Ok(()) = port.reserve_say(COMMIT_REPLY_BYTES) else {
+            return self.say_memory(port);
+        };
+        let Ok(()) = port.start(Task::Commit(edit, marks)) else {
+            return self.say_kept(port, MEMORY_REPLY);
+        };
+        match port.step() {
+            StepOut::Went(_) => {
+                self.phase = Phase::Saving;
+                Turn::Stepped(StepKind::Draw)
+            }
+            _ => self.say_kept(port, MEMORY_REPLY),
+        }
+    }
+
+    // Makes a step of a commit. Where memory is refused, the commit turns to undoing, and makes a step of that.
+    #[tactic(auto, using(crate::proofs::Turning::commit_once, crate::proofs::Turning::commit_twice, crate::proofs::Turning::commit_busy, crate::proofs::Turning::refused_busy))]
+    fn commit_on<P: Port<L = JcrLaw>>(&mut self, port: &mut P) -> Turn
+        requires stands { Stands (P.law port.old) (P.shown port.old) self.old }
+        requires saving { self.old.phase ≡ phase.Saving }
+        ensures law { P.law port.new ≡ P.law port.old }
+        ensures turned { HasTurned (P.law port.old) (P.shown port.old) (P.shown port.new) self.old self.new result }
+    {
+        match port.step() {
+            StepOut::Memory => {
+                let answer = port.step();
+                self.committed_on(answer)
+            }
+            answer => self.committed_on(answer),
+        }
+    }
+
+    // What a step of a commit answered.
+    fn committed_on(&mut self, answer: StepOut) -> Turn
+        ensures turn { result ≡ turn_by answer }
+        ensures run { self.new ≡ record self.old { phase = phase_by answer self.old.phase } }
+    {
+        match answer {
+            StepOut::Went(kind) => Turn::Stepped(kind),
+            StepOut::Wait(earlier) => Turn::Waiting(earlier),
+            StepOut::Ready(TaskEnd::Commit(end)) => {
+                let kind = last_kind(&end);
+                self.phase = Phase::Saved(end);
+                Turn::Stepped(kind)
+            }
+            _ => Turn::Memory,
+        }
+    }
+
+    // Answers a save whose commit has ended.
+    fn say_end<P: Port<L = JcrLaw>>(&mut self, port: &mut P) -> Turn
+        requires stands { Stands (P.law port.old) (P.shown port.old) self.old }
+        requires saved { HasEnded self.old.phase }
+        ensures law { P.law port.new ≡ P.law port.old }
+        ensures turned { HasTurned (P.law port.old) (P.shown port.old) (P.shown port.new) self.old self.new result }
+    {
+        match mem::replace(&mut self.phase, Phase::Between) {
+            Phase::Saved(CommitEnd::Committed(r)) => {
+                self.sight = Sight::Unread;
+                match revision_reply(self.alloc, &r) {
+                    Ok(text) => self.say_kept(port, text.as_str()),
+                    Err(AllocError) => Turn::Memory,
+                }
+            }
+            Phase::Saved(CommitEnd::Clash { item, other }) => {
+                match clash_reply(self.alloc, item, other) {
+                    Ok(text) => self.say_or_memory(port, text.as_str()),
+                    Err(AllocError) => self.say_kept(port, MEMORY_REPLY),
+                }
+            }
+            _ => self.say_kept(port, MEMORY_REPLY),
+        }
+    }
+
+    // Says the reply where memory was refused.
+    fn say_memory<P: Port<L = JcrLaw>>(&mut self, port: &mut P) -> Turn
+        requires answer { MayAnswer (P.law port.old) (P.shown port.old) self.old memory_text }
+        ensures law { P.law port.new ≡ P.law port.old }
+        ensures turned { HasTurned (P.law port.old) (P.shown port.old) (P.shown port.new) self.old self.new result }
+    {
+        self.say(port, MEMORY_REPLY)
+    }
+
+    // Says a reply.
+    #[tactic(auto, using(crate::proofs::Turning::may_idle, crate::proofs::Turning::answer_later, crate::proofs::Turning::said_later, crate::proofs::Turning::room_kept))]
+    fn say<P: Port<L = JcrLaw>>(&mut self, port: &mut P, text: &str) -> Turn
+        requires answer { MayAnswer (P.law port.old) (P.shown port.old) self.old text.now }
+        ensures law { P.law port.new ≡ P.law port.old }
+        ensures turned { HasTurned (P.law port.old) (P.shown port.old) (P.shown port.new) self.old self.new result }
+    {
+        let Ok(()) = port.reserve_say(text.len()) else {
+            return Turn::Memory;
+        };
+        self.say_kept(port, text)
+    }
+
+    // Says a reply, or that memory was refused, for which there is a place.
+    #[tactic(auto, using(crate::proofs::Turning::may_idle, crate::proofs::Turning::answer_later, crate::proofs::Turning::said_later, crate::proofs::Turning::room_kept, crate::proofs::Turning::room_stays))]
+    fn say_or_memory<P: Port<L = JcrLaw>>(&mut self, port: &mut P, text: &str) -> Turn
+        requires answer { MayAnswer (P.law port.old) (P.shown port.old) self.old text.now }
+        requires memory { MayAnswer (P.law port.old) (P.shown port.old) self.old memory_text }
+        requires room { HasRoom (P.shown port.old).room 40 }
+        ensures law { P.law port.new ≡ P.law port.old }
+        ensures turned { HasTurned (P.law port.old) (P.shown port.old) (P.shown port.new) self.old self.new result }
+    {
+        let Ok(()) = port.reserve_say(text.len()) else {
+            return self.say_kept(port, MEMORY_REPLY);
+        };
+        self.say_kept(port, text)
+    }
+
+    // Says a reply for which there is a place.
+    #[tactic(auto, using(crate::proofs::Turning::index_small, crate::proofs::Turning::may_index, crate::proofs::Turning::may_idle, crate::proofs::Turning::may_says, crate::proofs::Turning::said_kept))]
+    fn say_kept<P: Port<L = JcrLaw>>(&mut self, port: &mut P, text: &str) -> Turn
+        requires answer { MayAnswer (P.law port.old) (P.shown port.old) self.old text.now }
+        requires room { HasRoom (P.shown port.old).room (length text.now) }
+        ensures law { P.law port.new ≡ P.law port.old }
+        ensures turned { HasTurned (P.law port.old) (P.shown port.old) (P.shown port.new) self.old self.new result }
+    {
+        let index = self.index;
+        port.say(index, text);
+        self.index = index + 1;
+        self.phase = Phase::Between;
+        Turn::Said(index)
+    }
+}
+
+// The pin with which a task ended.
+fn pinned(answer: StepOut) -> Option<Pin>
+    ensures some { IfSome result (λ pin. answer ≡ out.Ready (end.Pinned pin)) }
+{
+    match answer {
+        StepOut::Ready(TaskEnd::Pinned(pin)) => Some(pin),
+        _ => None,
+    }
+}
+
+// What a save comes to.
+#[derive(Drop)]
+enum Plan {
+    // Nothing is pending.
+    Nothing,
+    // The tree would have too many nodes.
+    TooMany,
+    // What is pending, with its marks.
+    Commit(Edit, List<MarkAt>),
+}
+
+fn plan_of(alloc: Global, seen: &Seen) -> Result<Plan, AllocError>
+    ensures { IfOk result (IsPlanFor seen.now.base seen.now.view) }
+{
+    let edit = changes(&seen.base, &seen.view)?;
+    if edit.writes.is_empty() {
+        return Ok(Plan::Nothing);
+    }
+    if seen.view.len() > MOST_NODES {
+        return Ok(Plan::TooMany);
+    }
+    let marks = marks_of(alloc, &edit)?;
+    Ok(Plan::Commit(edit, marks))
+}
+
+// The kind of the step that ended a commit.
+fn last_kind(end: &CommitEnd) -> StepKind
+    ensures { result ≡ kind_of_end end.now }
+{
+    match end {
+        CommitEnd::Committed(_) => StepKind::Pin,
+        _ => StepKind::Finish,
+    }
+}
+
+// The reply to a reading or view command, or to one that isn't built; it changes the view.
+fn reply_of(alloc: Global, command: &Command, seen: &mut Seen) -> Result<String, AllocError>
+    ensures base { seen.new.base ≡ seen.old.base }
+    ensures text { IfOk result (λ text. IsReply command.now seen.old.view seen.new.view (string_bytes text)) }
+    ensures err { OnErr result (seen.new.view ≡ seen.old.view) }
+{
+    match run(alloc, &mut seen.view, command) {
+        Ok(text) => Ok(text),
+        Err(refusal) => refusal_text(alloc, &refusal),
+    }
+}
+
+// The reply of a save that was refused for a clash.
+fn clash_reply(alloc: Global, item: Item, other: Revision) -> Result<String, AllocError>
+    ensures { IfOk result (λ text. string_bytes text ≡ answer_text (Refused 10 (datum.Item item ∷ datum.Revision other ∷ []))) }
+{
+    let mut parts = List::new(alloc);
+    parts.push(Datum::Item(item))?;
+    parts.push(Datum::Revision(other))?;
+    refusal_text(alloc, &Refusal { number: 10, parts })
+}

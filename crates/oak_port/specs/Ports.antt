@@ -1,0 +1,155 @@
+-- What a session is told of a world: the history so far and what is being done for the session, and what a step makes of these.
+use Rattle.std.specs.Prelude.{◌≡◌, ◌⊎◌, ◌≤◌, ◌<◌, ℕ, Bool, true, false, ⊤, List, [], ◌∷◌, ◌++◌, length, reverse, Option, None, Some, IsTrue, IsFalse}
+use Rattle.std.specs.Option.{option_map_or}
+use Rattle.jr_path.specs.declared.path.Item.{Item}
+use Rattle.jr_path.specs.declared.path.Path.{Path}
+use Rattle.jr_path.specs.declared.text.Text.{Text}
+use Rattle.jr_rev.specs.declared.revision.Revision.{Revision}
+use Rattle.jr_rev.specs.declared.vector.RevVec.{RevVec}
+use Rattle.jr_rev.specs.Vectors.{sees}
+use Rattle.jr_tree.specs.declared.edit.Edit.{Edit}
+use Rattle.jr_tree.specs.Trees.{Nodes, children_of, initial_tree, node_at}
+use Rattle.oak_clash.specs.declared.mark.MarkAt.{MarkAt}
+use Rattle.oak_machine.specs.declared.event.Draw.{Draw}
+use Rattle.oak_machine.specs.declared.event.Event.{Event}
+use Rattle.oak_machine.specs.declared.event.Event.TheVariants as event
+use Rattle.oak_machine.specs.declared.event.StepKind.{StepKind}
+use Rattle.oak_machine.specs.declared.event.StepKind.TheVariants as kind
+use Rattle.oak_machine.specs.History.{History, Past}
+use Rattle.oak_machine.specs.Commits.{tree_at}
+use Rattle.oak_machine.specs.Laws.{AreOthers, Says, Starts, after}
+use Rattle.oak_machine.specs.Runs.{AreNodes, IsRun}
+use Rattle.oak_machine.specs.Sessions.{base_of, has_left, has_login, is_attached, next_index}
+use Rattle.oak_machine.specs.Steps.{is_appended_by}
+use Rattle.oak_port.specs.declared.task.CommitEnd.{CommitEnd}
+use Rattle.oak_port.specs.declared.task.CommitEnd.TheVariants as commit
+use Rattle.oak_port.specs.declared.task.StepOut.{StepOut}
+use Rattle.oak_port.specs.declared.task.StepOut.TheVariants as out
+use Rattle.oak_port.specs.declared.task.Task.{Task}
+use Rattle.oak_port.specs.declared.task.Task.TheVariants as task
+use Rattle.oak_port.specs.declared.task.TaskEnd.TheVariants as end
+
+-- ---- what is being done for a session
+
+-- nothing; a task; or a commit that has drawn its revision: it writes, or it undoes and will end so, or it is committed, or it has ended and its base doesn't see it yet
+pub data Work : Type 0 where
+  Idle : Work
+  Starting : Task → Work
+  Writing : Revision → Work
+  Undoing : Revision → CommitEnd → Work
+  Deciding : Revision → Work
+  Awaiting : Revision → Work
+
+-- the history so far, the session, what is being done for it, and how many bytes of its next reply have a place, where that has one
+pub record Shown : Type 0 where
+  pub history : History
+  pub session : ℕ
+  pub work : Work
+  pub room : Option ℕ
+
+-- ---- what is added
+
+-- to a history events of others were added, and then these, the newest first; it is a run
+pub record Grows (starts : Starts) (says : Says) (s : ℕ) (old new : History) (others own : Past) : Type 0 where
+  pub grown : new ≡ after own (after others old)
+  pub theirs : AreOthers s others old.past
+  pub run : IsRun starts says new
+
+-- nothing but events of others was added, and all but the history is this
+pub record Waits (starts : Starts) (says : Says) (old new : Shown) (work : Work) (room : Option ℕ) : Type 0 where
+  pub others : Past
+  pub grows : Grows starts says old.session old.history new.history others []
+  pub session : new.session ≡ old.session
+  pub work_is : new.work ≡ work
+  pub room_is : new.room ≡ room
+
+-- ---- what a step makes
+
+-- the tree at the base of a session
+abbrev pub tree_of : Past → ℕ → Nodes
+tree_of past s = option_map_or (tree_at past) (base_of past s) initial_tree
+
+-- the events of the end of a revision: that it ended, and that the head moved, where it did
+abbrev pub IsFinish : Revision → Past → Type 0
+IsFinish r own = (own ≡ event.End r ∷ []) ⊎ ((k : ℕ) × (v : RevVec) × (own ≡ event.Head k v ∷ event.End r ∷ []))
+
+-- a draw of a session's edit with its marks
+pub record IsDrawFor (s : ℕ) (edit : Edit) (marks : List MarkAt) (d : Draw) : Type 0 where
+  pub session : d.session ≡ s
+  pub edit_is : d.edit ≡ edit
+  pub marks_are : d.marks ≡ marks
+
+-- a commit that writes makes one write or one mark, or is decided by a mark or by its last write: committed, or refused for a clash
+abbrev pub WritesOn : ℕ → Revision → StepKind → Past → Work → Type 0
+WritesOn s r k own now =
+    ((k ≡ kind.Write) × (own ≡ event.Went s kind.Write ∷ []) × (now ≡ Writing r))
+    ⊎ ((k ≡ kind.Mark) × (own ≡ event.Went s kind.Mark ∷ []) × (now ≡ Writing r))
+    ⊎ ((k ≡ kind.Last) × (own ≡ event.Commit r ∷ []) × (now ≡ Deciding r))
+    ⊎ ((item : Item) × (o : Revision) × (own ≡ event.Refuse r item o ∷ []) × (now ≡ Undoing r (commit.Clash item o)))
+
+-- a step of a session at a history, by what is being done and what it answers: the events that it adds, the newest first, and what is being done then. Memory is refused without effect
+abbrev pub Makes : History → ℕ → Work → StepOut → Past → Work → Type 0
+Makes h s (Starting task.Login) (out.Ready (end.Pinned pin)) own now = (own ≡ event.Login s pin.base ∷ []) × (now ≡ Idle)
+Makes h s (Starting task.Refresh) (out.Ready (end.Pinned pin)) own now = (own ≡ event.Refresh s pin.base ∷ []) × (now ≡ Idle)
+Makes h s (Starting task.End) (out.Ready end.Ended) own now = (own ≡ event.Went s kind.End ∷ []) × (now ≡ Idle)
+Makes h s (Starting (task.Load p)) (out.Went k) own now = (k ≡ kind.Read) × (own ≡ []) × (now ≡ Starting (task.Load p))
+Makes h s (Starting (task.Load p)) (out.Ready (end.Node found)) own now = (found ≡ node_at (tree_of h.past s) p) × (own ≡ []) × (now ≡ Idle)
+Makes h s (Starting (task.List p)) (out.Went k) own now = (k ≡ kind.Read) × (own ≡ []) × (now ≡ Starting (task.List p))
+Makes h s (Starting (task.List p)) (out.Ready (end.Children names)) own now = (names ≡ children_of (tree_of h.past s) p) × (own ≡ []) × (now ≡ Idle)
+Makes h s (Starting (task.Commit edit marks)) (out.Went k) own now = (d : Draw) × IsDrawFor s edit marks d × (k ≡ kind.Draw) × (own ≡ event.Draw d ∷ []) × (now ≡ Writing d.revision)
+Makes h s (Starting t) out.Memory own now = (own ≡ []) × (now ≡ Idle)
+Makes h s (Writing r) (out.Went k) own now = WritesOn s r k own now
+Makes h s (Writing r) out.Memory own now = (own ≡ []) × (now ≡ Undoing r commit.Memory)
+Makes h s (Undoing r e) (out.Went k) own now = (k ≡ kind.Undo) × (own ≡ event.Went s kind.Undo ∷ []) × (now ≡ Undoing r e)
+Makes h s (Undoing r e) (out.Ready (end.Commit f)) own now = (f ≡ e) × IsFinish r own × (now ≡ Idle)
+Makes h s (Deciding r) (out.Went k) own now = (k ≡ kind.Finish) × IsFinish r own × (now ≡ Awaiting r)
+Makes h s (Awaiting r) (out.Wait q) own now = (own ≡ []) × (now ≡ Awaiting r)
+Makes h s (Awaiting r) (out.Ready (end.Commit f)) own now = (f ≡ commit.Committed r) × (v : RevVec) × IsTrue (sees v r) × (own ≡ event.Refresh s v ∷ []) × (now ≡ Idle)
+Makes h s _ _ own now = ⊥
+
+-- the kind of the step that ended a task
+abbrev pub last_kind : Work → StepKind
+last_kind (Starting task.Login) = kind.Login
+last_kind (Starting task.Refresh) = kind.Pin
+last_kind (Starting task.End) = kind.End
+last_kind (Starting t) = kind.Read
+last_kind (Undoing r e) = kind.Finish
+last_kind _ = kind.Pin
+
+-- the events are those of a step of the kind that is told
+abbrev pub AreOfStep : History → ℕ → Work → StepOut → Past → Type 0
+AreOfStep h s work (out.Went k) own = IsTrue (is_appended_by h s k (reverse own))
+AreOfStep h s work (out.Ready e) own = IsTrue (is_appended_by h s (last_kind work) (reverse own))
+AreOfStep h s work _ own = own ≡ []
+
+-- events of others were added, and then a step made these
+pub record Steps (starts : Starts) (says : Says) (old new : Shown) (answer : StepOut) : Type 0 where
+  pub others : Past
+  pub own : Past
+  pub grows : Grows starts says old.session old.history new.history others own
+  pub makes : Makes (after others old.history) old.session old.work answer own new.work
+  pub of_step : AreOfStep (after others old.history) old.session old.work answer own
+  pub session : new.session ≡ old.session
+  pub room : new.room ≡ old.room
+
+-- events of others were added, and then the reply; its place is taken
+pub record Answers (starts : Starts) (says : Says) (old new : Shown) (index : ℕ) (text : Text) : Type 0 where
+  pub others : Past
+  pub grows : Grows starts says old.session old.history new.history others (event.Said old.session index text ∷ [])
+  pub session : new.session ≡ old.session
+  pub work : new.work ≡ Idle
+  pub room : new.room ≡ None
+
+-- ---- what a task asks
+
+-- a task may start: a login first, the others of a session that has logged in and not left; an edit that the law lets start
+abbrev pub MayBegin : Starts → History → ℕ → Task → Type 0
+MayBegin starts h s task.Login = IsFalse (has_login h.past s)
+MayBegin starts h s (task.Commit edit marks) = IsTrue (has_login h.past s) × IsFalse (has_left h.past s) × IsFalse (is_attached h.past s) × starts h s edit marks
+MayBegin starts h s task.Refresh = IsTrue (has_login h.past s) × IsFalse (has_left h.past s) × IsFalse (is_attached h.past s)
+MayBegin starts h s _ = IsTrue (has_login h.past s) × IsFalse (has_left h.past s)
+
+-- the place of the reply has this many bytes
+abbrev pub HasRoom : Option ℕ → ℕ → Type 0
+HasRoom None n = ⊥
+HasRoom (Some room) n = n ≤ room

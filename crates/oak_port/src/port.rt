@@ -1,0 +1,63 @@
+// The calls of a world for one session.
+ghost use Rattle.std.specs.Prelude.{◌≡◌, ◌↔◌, ◌≢◌, ℕ, OnErr, OnOk, Some, IsSome, IsFalse, length};
+ghost use Rattle.std.specs.Option.{option_map};
+ghost use Rattle.oak_machine.specs.Sessions.{base_of, has_left, next_index};
+ghost use Rattle.oak_port.specs.Ports.{Answers, HasRoom, Idle, MayBegin, Shown, Starting, Steps, Waits};
+
+use crate::task::{StepOut, Task};
+use jr_rev::Pin;
+use oak_machine::{Law, StepKind};
+use std::alloc::AllocError;
+
+/// The calls of a world for one session. Between two calls, and during them, others may add events of their own; a call of a world
+/// that nobody else steps adds none but its own.
+pub trait Port {
+    type L: Law;
+
+    /// The law of the world.
+    ghost law: { Self → Self.L };
+
+    /// The history so far, the session, what is being done for it, and the place of its next reply.
+    ghost shown: { Self → Shown };
+
+    /// Begins a task. Memory may be refused, and then nothing is begun.
+    fn start(&mut self, task: Task) -> Result<(), AllocError>
+        requires idle { (shown self.old).work ≡ Idle }
+        requires may { MayBegin (Self.L.may_start (law self.old)) (shown self.old).history (shown self.old).session task }
+        ensures law { law self.new ≡ law self.old }
+        ensures ok { OnOk result (Waits (Self.L.may_start (law self.old)) (Self.L.may_say (law self.old)) (shown self.old) (shown self.new) (Starting task) (shown self.old).room) }
+        ensures err { OnErr result (Waits (Self.L.may_start (law self.old)) (Self.L.may_say (law self.old)) (shown self.old) (shown self.new) Idle (shown self.old).room) };
+
+    /// Makes one step of what is being done: one operation on one document or on one node's memory.
+    fn step(&mut self) -> StepOut
+        requires busy { (shown self.old).work ≢ Idle }
+        ensures law { law self.new ≡ law self.old }
+        ensures steps { Steps (Self.L.may_start (law self.old)) (Self.L.may_say (law self.old)) (shown self.old) (shown self.new) result };
+
+    /// The kind of the next step; None where nothing is being done.
+    fn due(&mut self) -> Option<StepKind>
+        ensures law { law self.new ≡ law self.old }
+        ensures same { Waits (Self.L.may_start (law self.old)) (Self.L.may_say (law self.old)) (shown self.old) (shown self.new) (shown self.old).work (shown self.old).room }
+        ensures busy { IsSome result ↔ ((shown self.old).work ≢ Idle) };
+
+    /// The session's pin; None before its login and once it has left.
+    fn pin(&mut self) -> Option<Pin>
+        ensures law { law self.new ≡ law self.old }
+        ensures same { Waits (Self.L.may_start (law self.old)) (Self.L.may_say (law self.old)) (shown self.old) (shown self.new) (shown self.old).work (shown self.old).room }
+        ensures base { IsFalse (has_left (shown self.old).history.past (shown self.old).session) → option_map (λ pin. pin.base) result ≡ base_of (shown self.old).history.past (shown self.old).session };
+
+    /// Keeps a place for the session's next reply, of this many bytes. Where memory is refused, the place that it had stays.
+    fn reserve_say(&mut self, bytes: usize) -> Result<(), AllocError>
+        ensures law { law self.new ≡ law self.old }
+        ensures ok { OnOk result (Waits (Self.L.may_start (law self.old)) (Self.L.may_say (law self.old)) (shown self.old) (shown self.new) (shown self.old).work (Some bytes)) }
+        ensures err { OnErr result (Waits (Self.L.may_start (law self.old)) (Self.L.may_say (law self.old)) (shown self.old) (shown self.new) (shown self.old).work (shown self.old).room) };
+
+    /// Says the session's next reply. It has a place, so this takes no memory.
+    fn say(&mut self, index: u32, text: &str)
+        requires idle { (shown self.old).work ≡ Idle }
+        requires place { HasRoom (shown self.old).room (length text.now) }
+        requires next { index ≡ next_index (shown self.old).history.past (shown self.old).session }
+        requires lawful { Self.L.may_say (law self.old) (shown self.old).history (shown self.old).session index text.now }
+        ensures law { law self.new ≡ law self.old }
+        ensures said { Answers (Self.L.may_start (law self.old)) (Self.L.may_say (law self.old)) (shown self.old) (shown self.new) index text.now };
+}

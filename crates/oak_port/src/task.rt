@@ -1,0 +1,60 @@
+// The tasks of a session, and what their steps answer.
+use jr_path::{Item, List, Name, Path};
+use jr_rev::{Pin, Revision};
+use jr_tree::{Edit, Node};
+use oak_clash::MarkAt;
+use oak_machine::StepKind;
+
+/// What a world is asked to do for a session, one step after another.
+#[derive(Drop)]
+pub enum Task {
+    /// The session logs in.
+    Login,
+    /// The session leaves.
+    End,
+    /// Its base moves to the head.
+    Refresh,
+    /// The node at a path is read at its base.
+    Load(Path),
+    /// The names of the children of a path are read at its base.
+    List(Path),
+    /// An edit with its marks is committed.
+    Commit(Edit, List<MarkAt>),
+}
+
+/// How a commit ends.
+#[derive(Drop)]
+pub enum CommitEnd {
+    Committed(Revision),
+    /// It was refused for another commit that it clashes with in its item.
+    Clash { item: Item, other: Revision },
+    /// Memory was refused before the commit point.
+    Memory,
+}
+
+/// How a task ends.
+#[derive(Drop)]
+pub enum TaskEnd {
+    /// The node that was read; None where there is none.
+    Node(Option<Node>),
+    /// The names of the children, in ascending order.
+    Children(List<Name>),
+    /// The pin that the session has from a login or a refresh on.
+    Pinned(Pin),
+    Commit(CommitEnd),
+    /// The session has left.
+    Ended,
+}
+
+/// What a step answers.
+#[derive(Drop)]
+pub enum StepOut {
+    /// It was made, and its task goes on.
+    Went(StepKind),
+    /// It was made, and its task has ended.
+    Ready(TaskEnd),
+    /// It waits for the head to see what the session committed, named by an earlier revision in flight.
+    Wait(Revision),
+    /// Memory was refused, and it had no effect. The task has ended; a commit that has drawn turns to undoing instead.
+    Memory,
+}
