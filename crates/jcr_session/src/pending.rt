@@ -13,7 +13,7 @@ use crate::next::command_at;
 use jcr_trans::{Command, run};
 use jr_path::{DeepCopy, List, Path, Text};
 use jr_tree::{Edit, Node, Tree, Write, changes};
-use oak_machine::{Event, Journal, base_of, last_checkpoint, tree_at};
+use oak_machine::{Event, Events, Journal, base_of, last_checkpoint, tree_at};
 use std::alloc::{AllocError, Global};
 
 // The view of a session: the tree at its base with its pending edits.
@@ -44,7 +44,7 @@ pub(crate) fn pending_of(
     let mut before = Journal {
         clusters: journal.clusters,
         sessions: List::new(alloc),
-        events: List::new(alloc),
+        events: Events::new(alloc),
     };
     for event in journal.events.as_slice() {
         pending = pending_next(alloc, law, &before, session, event, pending)?;

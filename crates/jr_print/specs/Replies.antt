@@ -22,4 +22,4 @@ lines_of events s = flat_map (line_of s) events
 
 -- the reply lines of a journal
 abbrev pub reply_text : Journal → List ℕ
-reply_text j = flat_map (lines_of j.events) (range_with_len 0 (length j.sessions))
+reply_text j = flat_map (lines_of j.events.list) (range_with_len 0 (length j.sessions))

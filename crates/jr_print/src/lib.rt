@@ -6,7 +6,7 @@ ghost use Rattle.std.specs.String.{string_bytes};
 ghost use Rattle.jr_print.specs.Replies.{reply_text, reply_line, line_of, lines_of};
 
 use jr_path::Text;
-use oak_machine::{Event, Journal};
+use oak_machine::{Event, Events, Journal};
 use std::alloc::{AllocError, Global};
 
 /// The reply lines of a journal: the number of the session, the index of its command and the reply's text, separated by a
@@ -17,7 +17,7 @@ pub fn lines(alloc: Global, journal: &Journal) -> Result<Vec<u8>, AllocError>
 {
     let mut text = Vec::new(alloc);
     for session in 0..journal.sessions.inner().len() {
-        put_lines(alloc, &mut text, session, journal.events.inner().as_slice())?;
+        put_lines(alloc, &mut text, session, journal.events.as_slice())?;
     }
     Ok(text)
 }
@@ -76,7 +76,7 @@ mod tests {
         let mut sessions = List::new(alloc);
         sessions.push(1)?;
         sessions.push(1)?;
-        let mut events = List::new(alloc);
+        let mut events = Events::new(alloc);
         for (session, index, text) in [(1, 0, "ok"), (0, 0, "ok [\"a\"]"), (1, 1, "no 16 []")] {
             let text = Text::copy_of(alloc, text)?;
             events.push(Event::Said(session, index, text))?;

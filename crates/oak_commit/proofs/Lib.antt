@@ -1,0 +1,4 @@
+pub mod Backward
+pub mod Indexed
+pub mod Meeting
+pub mod Shown

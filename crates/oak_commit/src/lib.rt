@@ -2,6 +2,15 @@
 //! DocumentNodeStore: commit).
 #![tactic(auto)]
 
+mod committer;
+mod met;
 mod ops;
+mod outcome;
+mod places;
+mod plan;
+mod stage;
 
+pub use committer::Committer;
 pub use ops::{last_op, write_of, write_op, written_ids};
+pub use outcome::CommitEnd;
+pub use stage::Stage;

@@ -1,10 +1,14 @@
 // The updates of a commit.
 ghost use Rattle.std.specs.Prelude.{◌≡◌, ◌++◌, IfOk, OnOk};
+ghost use Rattle.std.specs.List.{flat_map};
 ghost use Rattle.jr_path.specs.Ids.{names_of};
 ghost use Rattle.oak_clash.specs.Clashes.{commit_root};
+ghost use Rattle.oak_commit.specs.Clashing.{mark_op};
+ghost use Rattle.oak_commit.specs.Places.{items_at, places_of};
 ghost use Rattle.oak_commit.specs.Writing as writing;
 
-use jr_path::{DeepCopy, DocId, Keyed, List, Path};
+use crate::places::Places;
+use jr_path::{DeepCopy, DocId, Item, Keyed, List, Path};
 use jr_rev::Revision;
 use jr_tree::{Edit, Write};
 use oak_clash::{Mark, MarkAt};
@@ -69,6 +73,28 @@ fn put_entries(
     Ok(())
 }
 
+// Puts the entries of those writes of an edit that stand at the places of a path.
+pub(crate) fn put_entries_at(
+    changes: &mut List<Change>,
+    r: Revision,
+    path: &Path,
+    writes: &[Write],
+    places: &Places,
+) -> Result<(), AllocError>
+    ensures { OnOk result (changes.new ≡ changes.old
+        ++ writing.entries_at r path.now (items_at writes.now (places_of places.now path.now))) }
+{
+    let Some(places) = places.get(path) else {
+        return Ok(());
+    };
+    for at in places.inner() {
+        if let Some(write) = writes.get(*at) {
+            put_entry(changes, r, path, write)?;
+        }
+    }
+    Ok(())
+}
+
 // Puts the entry that a write makes in the document of a node.
 fn put_entry(
     changes: &mut List<Change>,
@@ -107,7 +133,7 @@ fn put_entry(
 }
 
 // Puts the note of the commit root; the commit root itself has none.
-fn put_rooting(
+pub(crate) fn put_rooting(
     changes: &mut List<Change>,
     r: Revision,
     path: &Path,
@@ -141,6 +167,20 @@ fn put_markings(
     Ok(())
 }
 
+// Puts the notes of Touch and Guard among the marks of a node.
+pub(crate) fn put_markings_of(
+    changes: &mut List<Change>,
+    r: Revision,
+    marks: &[Mark],
+) -> Result<(), AllocError>
+    ensures { OnOk result (changes.new ≡ changes.old ++ flat_map (writing.marking_of r) marks.now) }
+{
+    for mark in marks {
+        put_marking(changes, r, mark)?;
+    }
+    Ok(())
+}
+
 // Puts the note of a mark that is no item's.
 fn put_marking(changes: &mut List<Change>, r: Revision, mark: &Mark) -> Result<(), AllocError>
     ensures { OnOk result (changes.new ≡ changes.old ++ writing.marking_of r mark.now) }
@@ -168,6 +208,27 @@ pub fn last_op(
         id: DocId::Node(root.copy()?),
         create: true,
         cond: Some(Cond::NoCollision(r)),
+        changes,
+    })
+}
+
+// The mark of a collision with a revision in an item, on the commit root of the other revision, where that isn't
+// committed.
+pub(crate) fn mark_op(
+    alloc: Global,
+    root: &Path,
+    other: Revision,
+    r: Revision,
+    item: &Item,
+) -> Result<UpdateOp, AllocError>
+    ensures { IfOk result (λ op. op ≡ mark_op root.now other r item.now) }
+{
+    let mut changes = List::new(alloc);
+    changes.push(Change::Collision(other, r, item.copy()?))?;
+    Ok(UpdateOp {
+        id: DocId::Node(root.copy()?),
+        create: true,
+        cond: Some(Cond::NotCommitted(other)),
         changes,
     })
 }

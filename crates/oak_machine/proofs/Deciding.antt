@@ -210,7 +210,7 @@ pub kept_at : (events xs : List Event) (m : RevVec) (r : Bool) → xs ≡ events
 kept_at events xs m r e is = subst (λ (ys : List Event). Decides r ((id : Text) (v : RevVec) → kept_checkpoint (reverse ys) id ≡ Some v → is_below m v ≡ true)) e (Decides-at r _ is (kept_decided (reverse xs) m))
 
 -- what is decided of an event by its kind
-pub at_kind : (j : Journal) (xs : List Event) (e x : Event) (r : Bool) → xs ≡ j.events → e ≡ x → Decides r (MayFollow any_start any_said (record { clusters = j.clusters; sessions = j.sessions; past = reverse xs }) x)
+pub at_kind : (j : Journal) (xs : List Event) (e x : Event) (r : Bool) → xs ≡ j.events.list → e ≡ x → Decides r (MayFollow any_start any_said (record { clusters = j.clusters; sessions = j.sessions; past = reverse xs }) x)
     → Decides r (MayFollow any_start any_said (history_of j) e)
 at_kind j xs e x r is kind d =
     subst (λ (y : Event). Decides r (MayFollow any_start any_said (history_of j) y)) (sym kind)

@@ -54,7 +54,7 @@ abbrev draw_a : Event
 draw_a = Draw (record { revision = at 1; session = 0; base = vector 0; edit = add_a; marks = marks_a })
 
 abbrev first_save : Journal
-first_save = record { clusters = 1; sessions = 1 ∷ []; events = Login 0 (vector 0) ∷ draw_a ∷ Commit (at 1) ∷ End (at 1) ∷ Head 1 (vector 1) ∷ [] }
+first_save = record { clusters = 1; sessions = 1 ∷ []; events = record { list = Login 0 (vector 0) ∷ draw_a ∷ Commit (at 1) ∷ End (at 1) ∷ Head 1 (vector 1) ∷ []; places = 0 } }
 
 abbrev h : History
 h = history_of first_save
@@ -117,7 +117,8 @@ abbrev each_meets : Journal
 each_meets = record {
   clusters = 1;
   sessions = 1 ∷ 1 ∷ [];
-  events =
+  events = record {
+    list =
       Login 0 (vector 0)
       ∷ Draw (record { revision = at 1; session = 0; base = vector 0; edit = edit_two; marks = marks_two })
       ∷ Commit (at 1)
@@ -135,6 +136,8 @@ each_meets = record {
       ∷ Head 1 (vector 3)
       ∷ Refresh 0 (vector 3)
       ∷ [];
+    places = 0;
+  };
 }
 
 -- the run but for its commit

@@ -57,6 +57,7 @@ impl DeepCopy for Journal {
 #[cfg(test)]
 mod tests {
     use super::*;
+    use crate::Events;
     use jr_path::{List, Text};
     use jr_rev::RevVec;
     use std::test::Fail;
@@ -67,7 +68,7 @@ mod tests {
         let mut sessions = List::new(alloc);
         sessions.push(1)?;
         let text = Text::of(String::from_str(alloc, "null")?);
-        let mut events = List::new(alloc);
+        let mut events = Events::new(alloc);
         events.push(Event::Login(0, RevVec::start(1)))?;
         events.push(Event::Said(0, 1, text))?;
         let journal = Journal {
@@ -77,7 +78,7 @@ mod tests {
         };
         let copy = journal.copy()?;
         assert_eq!(rt; copy.sessions.inner().len(), 1);
-        let events = copy.events.inner().as_slice();
+        let events = copy.events.as_slice();
         assert!(rt; matches!(events, [Event::Login(0, _), Event::Said(0, 1, _)]));
         Ok(())
     }

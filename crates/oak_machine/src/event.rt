@@ -1,4 +1,5 @@
 // Events and the journal of them.
+use crate::Events;
 use jr_path::{Item, List, Path, Text};
 use jr_rev::{RevVec, Revision};
 use jr_tree::Edit;
@@ -106,5 +107,5 @@ pub enum Event {
 pub struct Journal {
     pub clusters: u32,
     pub sessions: List<u32>,
-    pub events: List<Event>,
+    pub events: Events,
 }

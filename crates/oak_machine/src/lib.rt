@@ -3,6 +3,7 @@
 
 mod copies;
 mod event;
+mod events;
 mod heads;
 mod law;
 mod machine;
@@ -14,6 +15,7 @@ mod tests;
 mod tree;
 
 pub use event::{Draw, Event, Journal, StepKind};
+pub use events::Events;
 pub use heads::local_head;
 pub use law::{IdleLaw, Law, machine_and_law};
 pub use machine::follows;

@@ -1,7 +1,7 @@
 // The plain calls over the worked journals.
 ghost use Rattle.std.specs.Prelude.{◌≡◌};
 
-use crate::{Draw, Event, IdleLaw, Journal, follows, local_head, machine_and_law, tree_at};
+use crate::{Draw, Event, Events, IdleLaw, Journal, follows, local_head, machine_and_law, tree_at};
 use jr_path::{Item, List, Name, Path, Text};
 use jr_rev::{RevVec, Revision};
 use jr_tree::{Edit, Write};
@@ -78,7 +78,7 @@ fn journal(alloc: Global, two: bool, len: usize) -> Result<Journal, Fail> {
     let mut sessions = List::new(alloc);
     sessions.push(1)?;
     sessions.push(1)?;
-    let mut events = List::new(alloc);
+    let mut events = Events::new(alloc);
     for place in 0..len {
         if two {
             events.push(two_saves(alloc, place)?)?;

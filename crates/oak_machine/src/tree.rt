@@ -15,7 +15,7 @@ use std::alloc::{AllocError, Global};
 pub fn tree_at(journal: &Journal, v: &RevVec) -> Result<Tree, AllocError>
     ensures { IfOk result (λ tree. tree ≡ tree_at (history_of journal.now).past v.now) }
 {
-    let alloc = *journal.events.inner().allocator();
+    let alloc = journal.events.allocator();
     let edits = committed_edits(alloc, journal.events.as_slice())?;
     let mut tree = Tree::initial(alloc)?;
     for (r, writes) in edits.into_inner() {

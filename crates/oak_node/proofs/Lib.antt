@@ -2,6 +2,7 @@ pub mod Ends
 mod Example
 pub mod Kept
 pub mod Members
+pub mod Noting
 pub mod Owns
 pub mod Paths
 pub mod Places

@@ -1,9 +1,10 @@
 -- The paths that a cluster node noted and has still to publish.
-use Rattle.std.specs.Prelude.{◌≡◌, ℕ, not, List, [], ◌∷◌, ◌++◌, filter, Contains, ◌↔◌}
+use Rattle.std.specs.Prelude.{◌≡◌, ℕ, not, List, [], ◌∷◌, ◌++◌, filter, map, fold, Contains, ◌↔◌}
 use Rattle.std.specs.List.Sorted.{IsStrictlySortedBy}
 use Rattle.jr_path.specs.Names.{path_cmp}
 use Rattle.jr_rev.specs.declared.revision.Revision.{Revision}
 use Rattle.jr_rev.specs.Vectors.{sees}
+use Rattle.oak_node.specs.declared.pending.Note.{Note}
 use Rattle.oak_node.specs.declared.pending.Pending.{Pending}
 use Rattle.oak_node.specs.Memory.{NodeState, own_entry}
 use Rattle.oak_node.specs.Seen.{seen_paths}
@@ -11,6 +12,14 @@ use Rattle.oak_node.specs.Seen.{seen_paths}
 -- the same memory, with the path noted with r, behind what was noted before
 abbrev pub with_note : NodeState → List (List ℕ) → Revision → NodeState
 with_note s path r = record s { notes = s.notes ++ record { path = path; revision = r } ∷ [] }
+
+-- the same memory, with the paths noted with r, one behind another
+abbrev pub with_notes : Revision → NodeState → List (List (List ℕ)) → NodeState
+with_notes r s paths = fold (λ s path. with_note s path r) s paths
+
+-- notes of the paths with r
+abbrev pub notes_of : Revision → List (List (List ℕ)) → List Note
+notes_of r paths = map (λ path. record { path = path; revision = r }) paths
 
 -- the same memory, without the notes whose revision the head sees
 abbrev pub without_seen : NodeState → NodeState

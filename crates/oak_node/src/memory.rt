@@ -7,10 +7,10 @@ ghost use Rattle.oak_node.specs.Memory.{IsMemory, begun, own_entry};
 ghost use Rattle.oak_node.specs.Heads.{greatest_time, known_time, next_draw, with_draw, finished, learned};
 ghost use Rattle.oak_node.specs.Heads.{IsInFlight, HasEnded, IsAwaited};
 ghost use Rattle.oak_node.specs.Pins.{pin_of, pin_now, with_pin, without_pin};
-ghost use Rattle.oak_node.specs.Notes.{with_note, without_seen, IsPending};
+ghost use Rattle.oak_node.specs.Notes.{with_note, with_notes, without_seen, IsPending};
 
 use crate::drawn::{Drawn, settle};
-use crate::pending::{Note, Pending, due_paths};
+use crate::pending::{Note, Pending, due_paths, put_notes};
 use crate::pins;
 use jr_path::{DeepCopy, List, Path};
 use jr_rev::{Pin, RevVec, Revision};
@@ -73,6 +73,41 @@ impl NodeMem {
             pins: Vec::new(alloc),
             notes: Vec::new(alloc),
         }
+    }
+
+    /// The revision that this node draws next.
+    pub fn next_draw(&self) -> Revision
+        requires { known_time self.now < 2 ^ 64 - 1 }
+        ensures { result ≡ next_draw self.now }
+    {
+        let cluster = self.cluster;
+        Revision {
+            time: greatest_time(&self.head).max(self.last_time) + 1,
+            counter: 0,
+            cluster,
+        }
+    }
+
+    /// Draws a revision, as `draw` does, and notes the paths with it. Where memory is refused nothing changes.
+    pub fn draw_noting(&mut self, paths: &[Path]) -> Result<Revision, AllocError>
+        requires { known_time self.old < 2 ^ 64 - 1 }
+        ensures drawn { IfOk result (λ r. r ≡ next_draw self.old) }
+        ensures ok { OnOk result (self.new ≡ with_notes (next_draw self.old) (with_draw self.old (next_draw self.old)) paths.now) }
+        ensures err { OnErr result (self.new ≡ self.old) }
+    {
+        let revision = self.next_draw();
+        let noted = self.notes.len();
+        put_notes(&mut self.notes, paths, revision)?;
+        let drawn = Drawn {
+            revision,
+            ended: false,
+        };
+        if self.above.push(drawn).is_err() {
+            self.notes.truncate(noted);
+            return Err(AllocError);
+        }
+        self.last_time = revision.time;
+        Ok(revision)
     }
 
     /// Draws a revision of this node, which is in flight from then on. Its time is one more than

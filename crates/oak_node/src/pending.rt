@@ -1,7 +1,8 @@
 // The paths that a cluster node noted, and what is taken of them to be published.
-ghost use Rattle.std.specs.Prelude.{◌≡◌, ◌↔◌, IfOk, Contains};
+ghost use Rattle.std.specs.Prelude.{◌≡◌, ◌↔◌, ◌∷◌, ◌++◌, [], IfOk, OnErr, OnOk, Contains};
 ghost use Rattle.std.specs.List.Sorted.{IsStrictlySortedBy};
 ghost use Rattle.jr_path.specs.Names.{path_cmp};
+ghost use Rattle.oak_node.specs.Notes.{notes_of};
 ghost use Rattle.oak_node.specs.Seen.{seen_paths};
 
 use jr_path::{DeepCopy, List, Path};
@@ -30,6 +31,36 @@ impl DeepCopy for Pending {
             upto: self.upto,
         })
     }
+}
+
+// Notes paths with a revision. Where memory is refused none is noted.
+pub(crate) fn put_notes(
+    notes: &mut Vec<Note>,
+    paths: &[Path],
+    r: Revision,
+) -> Result<(), AllocError>
+    ensures ok { OnOk result (notes.new.items ≡ notes.old.items ++ notes_of r paths.now) }
+    ensures err { OnErr result (notes.new.items ≡ notes.old.items) }
+{
+    let noted = notes.len();
+    for path in paths {
+        if let Err(error) = put_note(notes, path, r) {
+            notes.truncate(noted);
+            return Err(error);
+        }
+    }
+    Ok(())
+}
+
+fn put_note(notes: &mut Vec<Note>, path: &Path, r: Revision) -> Result<(), AllocError>
+    ensures ok { OnOk result (notes.new.items ≡ notes.old.items ++ notes_of r (path.now ∷ [])) }
+    ensures err { OnErr result (notes.new.items ≡ notes.old.items) }
+{
+    notes.push(Note {
+        path: path.copy()?,
+        revision: r,
+    })?;
+    Ok(())
 }
 
 // The noted paths whose revision the head sees, each once and in path order.

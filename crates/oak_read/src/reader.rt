@@ -1,5 +1,5 @@
 // The reading automaton.
-ghost use Rattle.std.specs.Prelude.{◌≡◌, IfOk, OnErr, OnOk, Some, codes};
+ghost use Rattle.std.specs.Prelude.{◌≡◌, ◌↔◌, IfOk, IsTrue, OnErr, OnOk, Some, codes};
 ghost use Rattle.jr_path.specs.Ids.{id_cmp};
 ghost use Rattle.oak_read.specs.Reading.{ReadsChildren, ReadsNode, child_at, children_reader, due, ended, fed, fed_main, fed_next, node_reader, noted, on_main, on_previous, on_roots, passed_by, settled};
 ghost use Rattle.oak_doc.specs.declared.asks.Ask.TheVariants as ask;
@@ -100,6 +100,13 @@ impl Reader {
             Step::Roots(left) => Ok(Ask::Find(left.first.copy()?)),
             Step::Done(_) => Ok(Ask::Done),
         }
+    }
+
+    /// Whether nothing more is due.
+    pub fn is_done(&self) -> bool
+        ensures { IsTrue result ↔ (due self.now ≡ ask.Done) }
+    {
+        matches!(self.step, Step::Done(_))
     }
 
     /// Takes the reply to what is due. A reply of another kind, and one to Done, changes nothing; nor does

@@ -1,3 +1,5 @@
-pub mod Commits
-pub mod Kept
+pub mod Rooms
+pub mod Parts
 pub mod Worlds
+pub mod Kept
+pub mod Ports

@@ -1,267 +1,213 @@
-// A commit of the session, step by step.
-ghost use Rattle.std.specs.Prelude.{◌≡◌, ◌<◌, ◌≤◌, ◌+◌, ◌-◌, ◌*◌, ◌^◌, ◌++◌, IfOk, IsSome, OnOk, OnErr, ℕ, length, take, vec_len, vec_capacity};
-ghost use Rattle.oak_clash.specs.Clashes.{commit_root};
-ghost use Rattle.jr_path.specs.Ids.{names_of};
-ghost use Rattle.oak_commit.specs.Writing.{last_op, write_op};
-ghost use Rattle.oak_machine.specs.declared.event.StepKind.TheVariants as kind;
-ghost use Rattle.oak_node.specs.Heads.{IsInFlight, finished, known_time, next_draw};
-ghost use Rattle.oak_node.specs.Memory.{IsMemory};
-ghost use Rattle.oak_node.specs.Pins.{pin_of};
-ghost use Rattle.oak_world.specs.Commits.{AreUndone, IsCalledOff, IsGivenUp, after_notes, after_undos, after_update, after_writes, base_of_session, carried_out, committed, end_events, parts, plan_of, steps_of};
+// The steps of a commit.
+ghost use Rattle.std.specs.Prelude.{◌≡◌, ◌<◌, ◌≤◌, ◌+◌, ◌*◌, ◌-◌, ◌^◌, ◌∷◌, ◌++◌, [], IfOk, OnErr, OnOk, length};
+ghost use Rattle.oak_clash.specs.Clashes.{marked_paths};
+ghost use Rattle.oak_commit.specs.Committing.{begun, written_paths};
+ghost use Rattle.oak_commit.specs.Stages.{stage_of};
+ghost use Rattle.oak_commit.specs.declared.stage.Stage.TheVariants as stage;
+ghost use Rattle.oak_machine.specs.declared.event.Event.TheVariants as event;
+ghost use Rattle.oak_node.specs.Heads.{IsInFlight, finished, known_time, next_draw, with_draw};
+ghost use Rattle.oak_node.specs.Notes.{with_notes};
+ghost use Rattle.oak_read.specs.Reading.{IsTable};
+ghost use Rattle.oak_world.specs.Parts.{IsLast, IsMarked, IsUndone, IsWritten, base_at, end_events, refusal_at};
 
-use jr_path::{DeepCopy, DocId, List, Path};
-use jr_rev::{RevVec, Revision};
+use crate::session::base_of;
+use crate::store;
+use jr_path::{DeepCopy, List};
+use jr_rev::Revision;
 use jr_tree::Edit;
-use oak_clash::{MarkAt, commit_root, marked_paths};
-use oak_commit::{last_op, write_of, written_ids};
-use oak_doc::UpdateOp;
-use oak_machine::{Draw, Event, StepKind};
+use oak_clash::{MarkAt, marked_paths};
+use oak_commit::Committer;
+use oak_doc::{Ask, Kept, OpFault, Reply};
+use oak_machine::{Draw, Event, Events, StepKind};
 use oak_node::NodeMem;
 use oak_store::DocTable;
 use std::alloc::{AllocError, Global};
 
-// What a commit is to do, made before its draw.
-#[derive(Drop)]
-pub(crate) struct Plan {
+// The draw of an edit with its marks, at the session's base: the paths of the marked nodes are noted with it, and the journal
+// keeps places for all that the commit appends from then on, but for its marks. Where memory is refused nothing changes.
+pub(crate) fn begin(
+    alloc: Global,
+    memory: &mut NodeMem,
+    events: &mut Events,
+    s: u32,
     edit: Edit,
     marks: List<MarkAt>,
-    paths: List<Path>,
-    ids: List<DocId>,
-    root: Path,
-}
-
-impl Plan {
-    fn of(alloc: Global, edit: &Edit, marks: &List<MarkAt>) -> Result<Plan, AllocError>
-        ensures { IfOk result (λ plan. plan ≡ plan_of edit.now marks.now) }
-    {
-        Ok(Plan {
-            edit: edit.copy()?,
-            marks: marks.copy()?,
-            paths: marked_paths(alloc, marks.inner())?,
-            ids: written_ids(alloc, marks.inner())?,
-            root: commit_root(alloc, marks.inner())?,
-        })
-    }
-}
-
-// Writes the document of an id.
-fn write_one(
-    alloc: Global,
-    table: &mut DocTable,
-    r: Revision,
-    plan: &Plan,
-    id: &DocId,
-) -> Result<(), AllocError>
-    requires { plan.now.root ≡ commit_root plan.now.marks }
-    ensures ok { OnOk result (table.new ≡ after_update table.old (write_op r plan.now.edit.writes plan.now.marks (names_of id.now))) }
-    ensures err { OnErr result (table.new ≡ table.old) }
+) -> Result<Committer, AllocError>
+    requires { known_time memory.old < 2 ^ 64 - 1 }
+    ensures committer { IfOk result (λ committer. committer ≡ begun (next_draw memory.old) (base_at memory.old s) edit marks) }
+    ensures memory { OnOk result (memory.new ≡ with_notes (next_draw memory.old) (with_draw memory.old (next_draw memory.old)) (marked_paths marks)) }
+    ensures list { OnOk result (events.new.list ≡ events.old.list ++ event.Draw (record { revision = next_draw memory.old; session = s; base = base_at memory.old s; edit = edit; marks = marks }) ∷ []) }
+    ensures places { OnOk result (events.new.places ≡ events.old.places + 2 * length (written_paths marks) + 4) }
+    ensures kept { OnErr result (memory.new ≡ memory.old) }
+    ensures err { OnErr result (events.new.list ≡ events.old.list) }
+    ensures back { OnErr result (events.new.places ≡ events.old.places) }
 {
-    let op = write_of(alloc, r, &plan.edit, plan.marks.inner(), &plan.root, id)?;
-    made(table, &op)
-}
-
-// Makes an update; a refusal changes nothing.
-fn made(table: &mut DocTable, op: &UpdateOp) -> Result<(), AllocError>
-    ensures ok { OnOk result (table.new ≡ after_update table.old op.now) }
-    ensures err { OnErr result (table.new ≡ table.old) }
-{
-    match table.update(op) {
-        Ok(_) => Ok(()),
-        Err(_) => Err(AllocError),
-    }
-}
-
-// The last write, which is the commit point.
-fn write_last(
-    alloc: Global,
-    table: &mut DocTable,
-    r: Revision,
-    plan: &Plan,
-) -> Result<(), AllocError>
-    requires { plan.now.root ≡ commit_root plan.now.marks }
-    ensures ok { OnOk result (table.new ≡ after_update table.old (last_op r plan.now.marks)) }
-    ensures err { OnErr result (table.new ≡ table.old) }
-{
-    let op = last_op(alloc, r, plan.marks.inner(), &plan.root)?;
-    made(table, &op)
-}
-
-// Notes the paths of the marked nodes.
-fn note_all(node: &mut NodeMem, r: Revision, paths: &[Path]) -> Result<(), AllocError>
-    ensures ok { OnOk result (node.new ≡ after_notes r node.old paths.now) }
-    ensures err { OnErr result ((noted : ℕ) × (node.new ≡ after_notes r node.old (take noted paths.now))) }
-{
-    for path in paths {
-        node.note(path, r)?;
-    }
-    Ok(())
-}
-
-// Undoes the documents of these ids.
-fn undo_all(table: &mut DocTable, events: &mut Vec<Event>, r: Revision, ids: &[DocId])
-    requires { vec_len events.old + length ids.now ≤ vec_capacity events.old }
-    ensures table { table.new ≡ after_undos r table.old ids.now }
-    ensures events { events.new.items ≡ events.old.items ++ steps_of kind.Undo ids.now }
-    ensures room { vec_capacity events.new ≡ vec_capacity events.old }
-{
-    for id in ids {
-        table.undo(id, r);
-        events.push_reserved(Event::Went(0, StepKind::Undo));
-    }
-}
-
-// Ends the revision.
-fn finish(events: &mut Vec<Event>, node: &mut NodeMem, r: Revision)
-    requires flying { IsInFlight node.old r }
-    requires room { vec_len events.old + 2 ≤ vec_capacity events.old }
-    ensures node { node.new ≡ finished node.old r }
-    ensures events { events.new.items ≡ events.old.items ++ end_events r node.old }
-    ensures room { vec_capacity events.new ≡ vec_capacity events.old }
-{
-    let moved = node.finish(r);
-    events.push_reserved(Event::End(r));
-    if moved {
-        events.push_reserved(Event::Head(1, node.head()));
-    }
-}
-
-// Writes the documents of the marked nodes in store order. Where memory is refused, those written are undone.
-fn write_documents(
-    alloc: Global,
-    table: &mut DocTable,
-    events: &mut Vec<Event>,
-    r: Revision,
-    plan: &Plan,
-) -> Result<(), AllocError>
-    requires root { plan.now.root ≡ commit_root plan.now.marks }
-    requires room { vec_len events.old + 2 * length plan.now.ids ≤ vec_capacity events.old }
-    ensures table { OnOk result (table.new ≡ after_writes r plan.now table.old plan.now.ids) }
-    ensures events { OnOk result (events.new.items ≡ events.old.items ++ steps_of kind.Write plan.now.ids) }
-    ensures err { OnErr result (AreUndone r plan.now table.old events.old.items table.new events.new.items) }
-    ensures room { vec_capacity events.new ≡ vec_capacity events.old }
-{
-    let ids = plan.ids.inner().as_slice();
-    for (at, id) in ids.iter().enumerate() {
-        if let Err(AllocError) = write_one(alloc, table, r, plan, id) {
-            undo_all(table, events, r, &ids[..at]);
-            return Err(AllocError);
-        }
-        events.push_reserved(Event::Went(0, StepKind::Write));
-    }
-    Ok(())
-}
-
-// Writes the documents, and then the commit root. Where memory is refused before, what was written is undone.
-fn write_all(
-    alloc: Global,
-    table: &mut DocTable,
-    events: &mut Vec<Event>,
-    r: Revision,
-    plan: &Plan,
-) -> Result<(), AllocError>
-    requires root { plan.now.root ≡ commit_root plan.now.marks }
-    requires room { vec_len events.old + 2 * length plan.now.ids ≤ vec_capacity events.old }
-    ensures table { OnOk result (table.new ≡ after_update (after_writes r plan.now table.old plan.now.ids) (last_op r plan.now.marks)) }
-    ensures events { OnOk result (events.new.items ≡ events.old.items ++ steps_of kind.Write plan.now.ids) }
-    ensures err { OnErr result (AreUndone r plan.now table.old events.old.items table.new events.new.items) }
-    ensures room { vec_capacity events.new ≡ vec_capacity events.old }
-{
-    write_documents(alloc, table, events, r, plan)?;
-    if let Err(AllocError) = write_last(alloc, table, r, plan) {
-        undo_all(table, events, r, plan.ids.inner().as_slice());
-        return Err(AllocError);
-    }
-    Ok(())
-}
-
-// Reserves the places of all events of a commit that writes so many documents, and of its reply.
-fn reserve(events: &mut Vec<Event>, documents: usize) -> Result<(), AllocError>
-    ensures items { events.new.items ≡ events.old.items }
-    ensures room { OnOk result (vec_len events.new + 2 * documents + 7 ≤ vec_capacity events.new) }
-{
+    let base = base_of(memory, s);
+    let revision = memory.next_draw();
+    let paths = marked_paths(alloc, marks.as_slice())?;
+    let committer = Committer::new(alloc, revision, &base, edit.copy()?, marks.copy()?)?;
+    let documents = committer.documents();
     if documents > u32::MAX as usize {
         return Err(AllocError);
     }
-    events.reserve(2 * documents + 7)
-}
-
-// The base of the session. The clause `memory` says what is true of each memory.
-fn base_of(node: &NodeMem) -> RevVec
-    ensures base { result ≡ base_of_session node.now }
-    ensures memory { IsMemory node.now }
-{
-    let head = node.head();
-    match node.pin_of(0) {
-        Some(pin) => pin.base,
-        None => head,
-    }
-}
-
-// A commit from the draw on: notes, writes, the last write, the end, and the base, which moves. Where memory is refused before
-// the last write, what was written is undone and the base stays.
-fn commit_drawn(
-    alloc: Global,
-    table: &mut DocTable,
-    node: &mut NodeMem,
-    events: &mut Vec<Event>,
-    r: Revision,
-    plan: &Plan,
-) -> Result<Revision, AllocError>
-    requires root { plan.now.root ≡ commit_root plan.now.marks }
-    requires flying { IsInFlight node.old r }
-    requires pinned { IsSome (pin_of node.old 0) }
-    requires room { vec_len events.old + 2 * length plan.now.ids + 5 ≤ vec_capacity events.old }
-    ensures revision { IfOk result (λ drawn. drawn ≡ r) }
-    ensures ok { OnOk result (parts table.new node.new events.new.items ≡ carried_out r plan.now (parts table.old node.old events.old.items)) }
-    ensures err { OnErr result (IsCalledOff r plan.now (parts table.old node.old events.old.items) (parts table.new node.new events.new.items)) }
-    ensures room { vec_capacity events.new ≡ vec_capacity events.old }
-{
-    if let Err(AllocError) = note_all(node, r, plan.paths.inner().as_slice()) {
-        finish(events, node, r);
+    let places = 2 * documents + 5;
+    events.keep(places)?;
+    if memory.draw_noting(paths.as_slice()).is_err() {
+        events.give_back(places);
         return Err(AllocError);
     }
-    if let Err(AllocError) = write_all(alloc, table, events, r, plan) {
-        finish(events, node, r);
-        return Err(AllocError);
-    }
-    events.push_reserved(Event::Commit(r));
-    finish(events, node, r);
-    let pin = node.pin(0)?;
-    events.push_reserved(Event::Refresh(0, pin.base));
-    Ok(r)
-}
-
-// A commit of the session.
-pub(crate) fn commit(
-    alloc: Global,
-    table: &mut DocTable,
-    node: &mut NodeMem,
-    events: &mut Vec<Event>,
-    spare: &mut Vec<Event>,
-    edit: Edit,
-    marks: List<MarkAt>,
-) -> Result<Revision, AllocError>
-    requires pinned { IsSome (pin_of node.old 0) }
-    requires early { known_time node.old < 2 ^ 64 - 1 }
-    ensures revision { IfOk result (λ r. r ≡ next_draw node.old) }
-    ensures ok { OnOk result (parts table.new node.new events.new.items ≡ committed (parts table.old node.old events.old.items) edit marks) }
-    ensures err { OnErr result (IsGivenUp (parts table.old node.old events.old.items) (parts table.new node.new events.new.items) edit marks) }
-    ensures memory { IsMemory node.old }
-    ensures place { OnOk result (length events.new.items < vec_capacity spare.new) }
-    ensures spare { spare.new.items ≡ spare.old.items }
-    ensures larger { vec_capacity spare.old ≤ vec_capacity spare.new }
-{
-    let base = base_of(node);
-    let plan = Plan::of(alloc, &edit, &marks)?;
-    reserve(events, plan.ids.inner().len())?;
-    spare.reserve(events.capacity() + 1)?;
-    let r = node.draw()?;
-    events.push_reserved(Event::Draw(Draw {
-        revision: r,
-        session: 0,
+    events.push_kept(Event::Draw(Draw {
+        revision,
+        session: s,
         base,
         edit,
         marks,
     }));
-    commit_drawn(alloc, table, node, events, r, &plan)
+    Ok(committer)
+}
+
+// The mark that is due: it is made, or the commit is refused since the other is committed. Where memory is refused nothing
+// changes.
+pub(crate) fn mark(
+    table: &mut DocTable,
+    events: &mut Events,
+    committer: &mut Committer,
+    s: u32,
+) -> Result<(), AllocError>
+    requires table { IsTable table.old.documents }
+    requires stage { stage_of committer.old ≡ stage.Mark }
+    ensures made { OnOk result (IsMarked s table.old table.new events.old.list events.new.list committer.old committer.new) }
+    ensures table { OnErr result (table.new ≡ table.old) }
+    ensures list { OnErr result (events.new.list ≡ events.old.list) }
+    ensures committer { OnErr result (committer.new ≡ committer.old) }
+    ensures places { events.new.places ≡ events.old.places }
+    ensures order { IsTable table.new.documents }
+{
+    let refused = refusal(committer)?;
+    let Ask::Update(op) = committer.next()? else {
+        return Err(AllocError);
+    };
+    events.keep(1)?;
+    match store::update(table, &op) {
+        Ok(before) => {
+            events.push_kept(Event::Went(s, StepKind::Mark));
+            let _ = committer.feed(Reply::Updated(before));
+            Ok(())
+        }
+        Err(OpFault::Unmet(cond, kept)) => {
+            events.push_kept(refused);
+            let _ = committer.feed(Reply::Unmet(cond, kept));
+            Ok(())
+        }
+        Err(_) => {
+            events.give_back(1);
+            Err(AllocError)
+        }
+    }
+}
+
+// The event of a refusal by the mark that is due.
+fn refusal(committer: &Committer) -> Result<Event, AllocError>
+    ensures { IfOk result (λ e. refusal_at committer.now e) }
+{
+    let (Some(item), Some(other)) = (committer.due_item(), committer.due_other()) else {
+        return Err(AllocError);
+    };
+    Ok(Event::Refuse(committer.revision(), item.copy()?, other))
+}
+
+// The write of the document that is next, with a place that is kept for it. Where memory is refused for the write nothing
+// changes.
+pub(crate) fn write(
+    table: &mut DocTable,
+    events: &mut Events,
+    committer: &mut Committer,
+    s: u32,
+) -> Result<(), AllocError>
+    requires table { IsTable table.old.documents }
+    requires stage { stage_of committer.old ≡ stage.Write }
+    requires place { 0 < events.old.places }
+    ensures made { OnOk result (IsWritten s table.old table.new events.old.list events.new.list committer.old committer.new) }
+    ensures place { OnOk result (events.new.places + 1 ≡ events.old.places) }
+    ensures table { OnErr result (table.new ≡ table.old) }
+    ensures list { OnErr result (events.new.list ≡ events.old.list) }
+    ensures committer { OnErr result (committer.new ≡ committer.old) }
+    ensures places { OnErr result (events.new.places ≡ events.old.places) }
+    ensures order { IsTable table.new.documents }
+{
+    let Ask::Update(op) = committer.next()? else {
+        return Err(AllocError);
+    };
+    let Ok(before) = store::update(table, &op) else {
+        return Err(AllocError);
+    };
+    events.push_kept(Event::Went(s, StepKind::Write));
+    let _ = committer.feed(Reply::Updated(before));
+    Ok(())
+}
+
+// The last write, with a place that is kept for it: the revision is committed, or it is refused since another has marked it.
+// Where memory is refused nothing changes.
+pub(crate) fn last(
+    table: &mut DocTable,
+    events: &mut Events,
+    committer: &mut Committer,
+) -> Result<(), AllocError>
+    requires table { IsTable table.old.documents }
+    requires stage { stage_of committer.old ≡ stage.Last }
+    requires place { 0 < events.old.places }
+    ensures made { OnOk result (IsLast table.old table.new events.old.list events.new.list committer.old committer.new) }
+    ensures place { OnOk result (events.new.places + 1 ≡ events.old.places) }
+    ensures table { OnErr result (table.new ≡ table.old) }
+    ensures list { OnErr result (events.new.list ≡ events.old.list) }
+    ensures committer { OnErr result (committer.new ≡ committer.old) }
+    ensures places { OnErr result (events.new.places ≡ events.old.places) }
+    ensures order { IsTable table.new.documents }
+{
+    let r = committer.revision();
+    let Ask::Update(op) = committer.next()? else {
+        return Err(AllocError);
+    };
+    match store::update(table, &op) {
+        Ok(before) => {
+            events.push_kept(Event::Commit(r));
+            let _ = committer.feed(Reply::Updated(before));
+            Ok(())
+        }
+        Err(OpFault::Unmet(cond, Kept::Entry(other, item))) => {
+            events.push_kept(Event::Refuse(r, item.copy()?, other));
+            let _ = committer.feed(Reply::Unmet(cond, Kept::Entry(other, item)));
+            Ok(())
+        }
+        Err(_) => Err(AllocError),
+    }
+}
+
+// The undoing of a document, with a place that is kept for it. It takes no memory.
+pub(crate) fn undo(table: &mut DocTable, events: &mut Events, committer: &mut Committer, s: u32)
+    requires table { IsTable table.old.documents }
+    requires stage { stage_of committer.old ≡ stage.Undo }
+    requires place { 0 < events.old.places }
+    ensures made { IsUndone s table.old table.new events.old.list events.new.list committer.old committer.new }
+    ensures places { events.new.places + 1 ≡ events.old.places }
+    ensures order { IsTable table.new.documents }
+{
+    store::undo(table, committer.undo_id(), committer.revision());
+    events.push_kept(Event::Went(s, StepKind::Undo));
+    let _ = committer.feed(Reply::Undone);
+}
+
+// The end of a revision of a node, with two places that are kept for it. It takes no memory.
+pub(crate) fn end(memory: &mut NodeMem, events: &mut Events, node: u32, r: Revision)
+    requires flying { IsInFlight memory.old r }
+    requires places { 2 ≤ events.old.places }
+    ensures memory { memory.new ≡ finished memory.old r }
+    ensures list { events.new.list ≡ events.old.list ++ end_events node memory.old r }
+    ensures places { events.old.places ≤ events.new.places + 2 }
+{
+    let moved = memory.finish(r);
+    events.push_kept(Event::End(r));
+    if moved {
+        events.push_kept(Event::Head(node, memory.head()));
+    }
 }

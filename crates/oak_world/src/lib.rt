@@ -1,10 +1,18 @@
-//! The store, the memory of a cluster node and the journal together, step by step. Today there is one cluster node, and at
-//! most one session.
+//! The store, the memories of the cluster nodes, the sessions' tasks and the journal together. Each step is one operation: on
+//! one document, on the memory of one cluster node, or one reply.
 #![tactic(auto)]
 
+mod actor;
 mod commit;
-mod place;
+mod load;
+mod port;
+mod session;
 mod start;
+mod step;
+mod store;
+mod task;
 mod world;
 
+pub use port::{Port, SoloPort};
+pub use task::{StepOut, Task, TaskEnd};
 pub use world::World;

@@ -1,7 +1,8 @@
 // The documents before any step.
-ghost use Rattle.std.specs.Prelude.{◌≡◌, [], ◌∷◌, IfOk};
+ghost use Rattle.std.specs.Prelude.{◌≡◌, ◌≤◌, [], ◌∷◌, All, IfOk, OnOk};
+ghost use Rattle.jr_path.specs.Grammar.{IsName};
 ghost use Rattle.jr_rev.specs.Vectors.{start_of};
-ghost use Rattle.oak_world.specs.Worlds.{start_document, start_documents, start_root, start_settings, system_path, versions_path};
+ghost use Rattle.core_world.specs.Start.{start_document, start_documents, start_root, start_settings, system_path, versions_path};
 
 use jr_path::{DocId, Keyed, Name, Path};
 use jr_rev::{RevVec, Revision};
@@ -10,13 +11,21 @@ use oak_doc::Document;
 use std::alloc::{AllocError, Global};
 
 // The four documents of the start, in store order.
-pub(crate) fn start_documents(alloc: Global, sessions: u32) -> Result<Vec<Document>, AllocError>
-    ensures { IfOk result (λ documents. documents.items ≡ start_documents sessions) }
+pub(crate) fn start_documents(
+    alloc: Global,
+    clusters: u32,
+    sessions: u32,
+) -> Result<Vec<Document>, AllocError>
+    requires { 1 ≤ clusters × clusters ≤ 8 }
+    ensures documents { IfOk result (λ documents. documents.items ≡ start_documents clusters sessions) }
+    ensures names { OnOk result (All IsName system_path × All IsName versions_path) }
 {
     let system = system_path(alloc)?;
     let versions = versions_path(alloc)?;
+    system.in_grammar();
+    versions.in_grammar();
     let mut documents = Vec::new(alloc);
-    documents.push(start_root(alloc)?)?;
+    documents.push(start_root(alloc, clusters)?)?;
     documents.push(start_document(alloc, system, "rep:system", 2)?)?;
     documents.push(start_document(alloc, versions, "rep:versionStorage", 3)?)?;
     documents.push(start_settings(alloc, sessions))?;
@@ -35,12 +44,13 @@ fn versions_path(alloc: Global) -> Result<Path, AllocError>
     system_path(alloc)?.child(&plain_name(alloc, "jcr:versionStorage")?)
 }
 
-fn start_root(alloc: Global) -> Result<Document, AllocError>
-    ensures { IfOk result (λ document. document ≡ start_root) }
+fn start_root(alloc: Global, clusters: u32) -> Result<Document, AllocError>
+    requires { 1 ≤ clusters × clusters ≤ 8 }
+    ensures { IfOk result (λ document. document ≡ start_root clusters) }
 {
     let mut root = start_document(alloc, Path::root(alloc), "nt:unstructured", 1)?;
-    root.last_rev = RevVec::start(1);
-    root.sweep_rev = RevVec::start(1);
+    root.last_rev = RevVec::start(clusters);
+    root.sweep_rev = RevVec::start(clusters);
     Ok(root)
 }
 

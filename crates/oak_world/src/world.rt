@@ -1,86 +1,90 @@
 // A world under a law.
-ghost use Rattle.std.specs.Prelude.{◌≡◌, ◌≤◌, ◌↔◌, ◌∷◌, ◌++◌, [], Some, Contains, IfOk, IsOk, OnOk, OnErr, IsSome, IsTrue, IsFalse, is_some};
+ghost use Rattle.std.specs.Prelude.{◌≡◌, ◌≢◌, ◌≤◌, Some, IfOk, OnErr, OnOk, IsTrue, is_some, length, map, slice_get};
+ghost use Rattle.std.specs.List.{range_with_len};
 ghost use Rattle.std.specs.Option.{option_map};
-ghost use Rattle.jr_path.specs.declared.name.Name.{Name};
-ghost use Rattle.jr_rev.specs.declared.vector.Pin.{Pin};
+ghost use Rattle.jr_path.specs.declared.path.Path.{Path};
 ghost use Rattle.jr_tree.specs.Trees.{node_at};
 ghost use Rattle.oak_machine.specs.Commits.{IsClosed, IsSettled, tree_at};
 ghost use Rattle.oak_machine.specs.History.{history_of};
-ghost use Rattle.oak_machine.specs.Runs.{IsRun};
-ghost use Rattle.oak_machine.specs.Sessions.{has_login, next_index};
-ghost use Rattle.oak_machine.specs.declared.event.Event.TheVariants as event;
-ghost use Rattle.oak_machine.specs.declared.event.StepKind.TheVariants as kind;
-ghost use Rattle.core_read.specs.Holds.{Holds};
-ghost use Rattle.oak_read.specs.Meaning.{documents_in};
-ghost use Rattle.oak_node.specs.Pins.{pin_of, pin_now, with_pin, without_pin};
-ghost use Rattle.oak_node.specs.Heads.{next_draw};
-ghost use Rattle.oak_world.specs.Commits.{IsGivenUp, committed, parts_of, with_parts};
-ghost use Rattle.oak_world.specs.Kept.{AreNotesLive};
-ghost use Rattle.oak_world.specs.Worlds.{has_place, with_events, start_world, node_shown, children_shown};
+ghost use Rattle.oak_machine.specs.Runs.{AreNodes, IsRun};
+ghost use Rattle.jr_rev.specs.Vectors.{start};
+ghost use Rattle.oak_node.specs.Memory.{begun};
+ghost use Rattle.oak_node.specs.Pins.{pin_of};
+ghost use Rattle.oak_read.specs.Meaning.{documents_in, found_node};
+ghost use Rattle.core_world.specs.Kept.{IsKept};
+ghost use Rattle.core_world.specs.States.{memory_of};
+ghost use Rattle.oak_world.specs.declared.actor.Work.{Work};
+ghost use Rattle.oak_world.specs.declared.actor.Work.TheVariants as work;
+ghost use Rattle.oak_world.specs.Worlds.{Begins, IsIdle, Makes, MayBegin, MaySay, Plays, StepsIn, actor_in, kind_due, said_in, start_world, state_of, with_reply, with_work, work_in};
 
-use crate::commit::commit;
-use crate::place::append;
+use crate::actor::{Actor, Room, Work};
 use crate::start::start_documents;
-use jr_path::{List, Name, Path, Text};
-use jr_rev::{Pin, RevVec, Revision};
-use jr_tree::{Edit, Node};
-use oak_clash::MarkAt;
-use oak_machine::{Event, Journal, Law, StepKind};
+use crate::step::step_actor;
+use crate::{StepOut, Task};
+use jr_path::List;
+use jr_rev::{Pin, RevVec};
+use oak_machine::{Events, Journal, Law, StepKind};
 use oak_node::NodeMem;
-use oak_read::{find_children, find_node};
 use oak_store::DocTable;
 use std::alloc::{AllocError, Global};
 use std::marker::Model;
-use std::mem;
 
-/// The law, the journal, the documents and the memory of cluster node 1.
+/// The law, the journal, the documents, the memories of one to eight cluster nodes, and what each session does. Its steps are
+/// those of Oak's DocumentNodeStore (Oak, DocumentNodeStore): one operation on one document or on one node's memory, in any order of
+/// the sessions.
 #[derive(Drop)]
 pub struct World<L: Law> {
     alloc: Global,
     law: L,
     journal: Journal,
     table: DocTable,
-    node: NodeMem,
-    // Empty, and large enough for all events and one more where a reply is owed to a commit.
-    spare: Vec<Event>,
+    memories: Vec<NodeMem>,
+    actors: Vec<Actor>,
 }
 
 impl<L: Law> Model for World<L> {
-    ghost use Rattle.oak_world.specs.Kept.{IsLawful};
-    ghost use Rattle.oak_world.specs.Worlds.{IsSpare, IsWorld, WorldOf};
+    ghost use Rattle.oak_world.specs.Worlds.{WorldOf, shown_world};
+    ghost use Rattle.oak_world.specs.Kept.{ArePlaced, IsWorld};
 
     ghost Value = { WorldOf L };
 
-    ghost view = { λ w. record { law = w.law; journal = w.journal; table = w.table; node = w.node } };
+    ghost view = { λ w. shown_world w.law w.journal w.table w.memories.items w.actors.items };
 
-    ghost invariant = { λ w. IsWorld w.journal w.node × IsLawful (L.may_start w.law) (L.may_say w.law) w.journal w.table w.node × IsSpare w.journal.events w.spare };
+    ghost invariant = { λ w. IsWorld (L.may_start w.law) (L.may_say w.law) (shown_world w.law w.journal w.table w.memories.items w.actors.items) × ArePlaced w.actors.items w.journal.events.places };
 }
 
 impl<L: Law + Drop> World<L> {
-    /// The world before any step: cluster node 1, with no session or with one. The store has four documents: `/`,
-    /// `/jcr:system`, `/jcr:system/jcr:versionStorage` and the settings (Oak, DocumentNodeStore: "Node Document").
-    pub fn new(alloc: Global, law: L, sessions: u32) -> Result<World<L>, AllocError>
-        requires { sessions ≤ 1 }
-        ensures { IfOk result (λ world. world ≡ start_world law sessions) }
+    /// The world before any step: of so many cluster nodes, 1 to 8, and of at most 64 sessions, each on the node of its number
+    /// in the list. The store has four documents: `/`, `/jcr:system`, `/jcr:system/jcr:versionStorage` and the settings.
+    pub fn new(
+        alloc: Global,
+        law: L,
+        clusters: u32,
+        sessions: &[u32],
+    ) -> Result<World<L>, AllocError>
+        requires clusters { 1 ≤ clusters × clusters ≤ 8 }
+        requires sessions { length sessions.now ≤ 64 }
+        requires nodes { AreNodes clusters sessions.now }
+        ensures { IfOk result (λ world. world ≡ start_world law clusters sessions.now) }
     {
-        let mut nodes = List::new(alloc);
-        if sessions != 0 {
-            nodes.push(1)?;
+        let mut numbers = List::new(alloc);
+        let mut actors = Vec::new(alloc);
+        for node in sessions {
+            numbers.push(*node)?;
+            actors.push(Actor::idle())?;
         }
-        let journal = Journal {
-            clusters: 1,
-            sessions: nodes,
-            events: List::new(alloc),
-        };
-        let table = DocTable::of(alloc, start_documents(alloc, sessions)?, 4)?;
-        let node = NodeMem::new(alloc, 1, RevVec::start(1));
+        let documents = start_documents(alloc, clusters, sessions.len() as u32)?;
         Ok(World {
             alloc,
             law,
-            journal,
-            table,
-            node,
-            spare: Vec::new(alloc),
+            journal: Journal {
+                clusters,
+                sessions: numbers,
+                events: Events::new(alloc),
+            },
+            table: DocTable::of(alloc, documents, 4)?,
+            memories: start_memories(alloc, clusters)?,
+            actors,
         })
     }
 
@@ -93,129 +97,126 @@ impl<L: Law + Drop> World<L> {
 
     /// The events so far: a run of the machine by the law.
     pub fn journal(&self) -> &Journal
-        ensures journal { result.now ≡ self.now.journal }
-        ensures run { IsRun (L.may_start self.now.law) (L.may_say self.now.law) (history_of self.now.journal) }
+        ensures journal { history_of result.now ≡ self.now.history }
+        ensures run { IsRun (L.may_start self.now.law) (L.may_say self.now.law) self.now.history }
     {
         &self.journal
     }
 
-    /// The documents. They hold what the journal tells: the writes of each committed edit stand as entries, its commit root
-    /// says so, and no other revision that has ended has an entry in a node's document, nor a note of Touch or Guard.
+    /// The documents. With the journal, the memories and the sessions they keep what each world keeps: the documents hold what
+    /// the journal tells, the committers are sound, the memories are those of the journal, and the readers read the tree at their pins.
     pub fn documents(&self) -> &DocTable
         ensures table { result.now ≡ self.now.table }
-        ensures past { Holds (documents_in self.now.table.documents) (history_of self.now.journal).past }
-        ensures notes { AreNotesLive self.now.table (history_of self.now.journal).past }
+        ensures kept { IsKept (L.may_start self.now.law) (L.may_say self.now.law) (state_of self.now) }
     {
         &self.table
     }
 
-    /// The session's pin. Its base is settled and closed: each draw that it sees has ended, and with a commit it sees the
-    /// commit's base.
-    pub fn pin(&self) -> Option<Pin>
-        ensures pin { result ≡ pin_of self.now.node 0 }
-        ensures settled { (pin : Pin) → pin_of self.now.node 0 ≡ Some pin → IsSettled (history_of self.now.journal).past pin.base }
-        ensures closed { (pin : Pin) → pin_of self.now.node 0 ≡ Some pin → IsClosed (history_of self.now.journal).past pin.base }
+    /// The session's pin, where it has come and not left. Its base is settled and closed, and at it the documents show at
+    /// each path the node of the journal's tree.
+    pub fn pin(&self, actor: u32) -> Option<Pin>
+        requires { IsTrue (is_some (slice_get self.now.history.sessions actor)) }
+        ensures pin { result ≡ pin_of (memory_of (state_of self.now) actor) actor }
+        ensures settled { (pin : Pin) → result ≡ Some pin → IsSettled self.now.history.past pin.base }
+        ensures closed { (pin : Pin) → result ≡ Some pin → IsClosed self.now.history.past pin.base }
+        ensures shown { (pin : Pin) (p : Path) → result ≡ Some pin → found_node (documents_in self.now.table.documents) pin.sweep pin.base p ≡ option_map (λ node. node.props) (node_at (tree_at self.now.history.past pin.base) p) }
     {
-        self.node.pin_of(0)
+        let node = self.journal.sessions.as_slice()[actor as usize];
+        self.memories[node as usize - 1].pin_of(actor)
     }
 
-    /// The node at a path, as the documents show it at the session's pin; None where there is no node, or no pin. It is that
-    /// of the tree that the journal has at the session's base.
-    pub fn load(&self, path: &Path) -> Result<Option<Node>, AllocError>
-        ensures node { IfOk result (λ node. option_map (λ n. n.props) node ≡ node_shown self.now path.now) }
-        ensures tree { (pin : Pin) → pin_of self.now.node 0 ≡ Some pin → node_shown self.now path.now
-            ≡ option_map (λ n. n.props) (node_at (tree_at (history_of self.now.journal).past pin.base) path.now) }
-    {
-        match self.pin() {
-            Some(pin) => find_node(self.alloc, self.table.documents(), &pin, path),
-            None => Ok(None),
-        }
-    }
-
-    /// The names of the nodes below a path, in ascending order, as the documents show them at the session's pin; none
-    /// where there is no pin (JSR 283, 5.2 Traversal Access). A name is among them just where the tree that the journal has at
-    /// the session's base has a node of that name below the path.
-    pub fn list(&self, path: &Path) -> Result<Vec<Name>, AllocError>
-        ensures names { IfOk result (λ names. names.items ≡ children_shown self.now path.now) }
-        ensures tree { (pin : Pin) → pin_of self.now.node 0 ≡ Some pin → (n : Name) → Contains (children_shown self.now path.now) n
-            ↔ IsTrue (is_some (node_at (tree_at (history_of self.now.journal).past pin.base) (path.now ++ n ∷ []))) }
-    {
-        match self.pin() {
-            Some(pin) => find_children(self.alloc, self.table.documents(), &pin, path),
-            None => Ok(Vec::new(self.alloc)),
-        }
-    }
-
-    /// The session, which hasn't logged in before, logs in: it is pinned at the node's head. A step of the kind Login.
-    pub fn login(&mut self) -> Result<Pin, AllocError>
-        requires session { self.old.journal.sessions ≡ 1 ∷ [] }
-        requires first { IsFalse (has_login (history_of self.old.journal).past 0) }
-        ensures pinned { IfOk result (λ pin. pin ≡ pin_now self.old.node) }
-        ensures ok { OnOk result (self.new ≡ record self.old {
-          journal = with_events self.old.journal (event.Login 0 self.old.node.head ∷ []);
-          node = with_pin self.old.node 0 (pin_now self.old.node);
-        }) }
+    /// Tells a session that does nothing what to do. Where memory is refused nothing changes.
+    pub fn start(&mut self, actor: u32, task: Task) -> Result<(), AllocError>
+        requires idle { IsIdle self.old actor }
+        requires may { MayBegin (L.may_start self.old.law) self.old.history actor task }
+        ensures ok { OnOk result ((v : Work) × Begins (pin_of (memory_of (state_of self.old) actor) actor) task v × (self.new ≡ with_work self.old actor v)) }
         ensures err { OnErr result (self.new ≡ self.old) }
     {
-        let head = self.node.head();
-        let mut events = self.journal.events.inner_mut();
-        events.reserve(1)?;
-        let pin = self.node.pin(0)?;
-        events.push_reserved(Event::Login(0, head));
-        Ok(pin)
-    }
-
-    /// Commits an edit of the session with its marks, which the law lets start. It draws a revision at the session's base, writes each marked node's
-    /// document in store order and last the commit root, which commits the revision; then the revision ends and the base
-    /// moves to the head. A step for each document, and of the kinds Draw, Last, Finish and Pin (Oak, DocumentNodeStore:
-    /// commit). Where memory is refused before the last write, what was written is undone, and the base stays.
-    pub fn commit(&mut self, edit: Edit, marks: List<MarkAt>) -> Result<Revision, AllocError>
-        requires pinned { IsSome (pin_of self.old.node 0) }
-        requires lawful { L.may_start self.old.law (history_of self.old.journal) 0 edit marks }
-        ensures revision { IfOk result (λ r. r ≡ next_draw self.old.node) }
-        ensures ok { OnOk result (self.new ≡ with_parts self.old (committed (parts_of self.old) edit marks)) }
-        ensures kept { OnErr result (self.new ≡ with_parts self.old (parts_of self.new)) }
-        ensures err { OnErr result (IsGivenUp (parts_of self.old) (parts_of self.new) edit marks) }
-        ensures place { OnOk result (IsTrue (has_place self.new.journal.events)) }
-    {
-        let mut events = mem::replace(&mut self.journal.events, List::new(self.alloc)).into_inner();
-        let committed = commit(
-            self.alloc,
-            &mut self.table,
-            &mut self.node,
-            &mut events,
-            &mut self.spare,
-            edit,
-            marks,
-        );
-        self.journal.events = List::of(events);
-        committed
-    }
-
-    /// Says the session's reply to its next command, which the law lets it say. A step of the kind Say. The reply that follows a
-    /// commit always finds its place.
-    pub fn say(&mut self, index: u32, text: Text) -> Result<(), AllocError>
-        requires next { index ≡ next_index (history_of self.old.journal).past 0 }
-        requires lawful { L.may_say self.old.law (history_of self.old.journal) 0 index text }
-        ensures ok { OnOk result (self.new ≡ record self.old { journal = with_events self.old.journal (event.Said 0 index text ∷ []) }) }
-        ensures err { OnErr result (self.new ≡ self.old) }
-        ensures place { IsTrue (has_place self.old.journal.events) → IsOk result }
-    {
-        let said = Event::Said(0, index, text);
-        append(self.alloc, &mut self.journal.events, &mut self.spare, said)
-    }
-
-    /// The session, which is there, ends: its pin goes. A step of the kind End.
-    pub fn end(&mut self) -> Result<(), AllocError>
-        requires { IsSome (pin_of self.old.node 0) }
-        ensures ok { OnOk result (self.new ≡ record self.old {
-          journal = with_events self.old.journal (event.Went 0 kind.End ∷ []);
-          node = without_pin self.old.node 0;
-        }) }
-        ensures err { OnErr result (self.new ≡ self.old) }
-    {
-        self.journal.events.push(Event::Went(0, StepKind::End))?;
-        self.node.unpin(0);
+        let pin = self.pin(actor);
+        let work = Work::of(self.alloc, pin, task)?;
+        let began = self.journal.events.len();
+        let seat = &mut self.actors[actor as usize];
+        seat.work = work;
+        seat.began = began;
         Ok(())
     }
+
+    /// One step of a session that has a task.
+    pub fn step(&mut self, actor: u32) -> StepOut
+        requires there { IsTrue (is_some (slice_get self.old.history.sessions actor)) }
+        requires busy { work_in self.old.actors actor ≢ work.Rest }
+        ensures made { StepsIn self.old actor self.new result }
+        ensures state { Makes actor (state_of self.old) (work_in self.old.actors actor) (state_of self.new) (work_in self.new.actors actor) result }
+    {
+        let node = self.journal.sessions.as_slice()[actor as usize];
+        step_actor(
+            self.alloc,
+            &mut self.table,
+            &mut self.memories[node as usize - 1],
+            &mut self.journal.events,
+            node,
+            actor,
+            &mut self.actors[actor as usize],
+        )
+    }
+
+    /// The kind of the session's next step; None where it has no task. It takes no memory.
+    pub fn due(&self, actor: u32) -> Option<StepKind>
+        requires { IsTrue (is_some (slice_get self.now.history.sessions actor)) }
+        ensures { result ≡ kind_due (work_in self.now.actors actor) }
+    {
+        self.actors[actor as usize].work.due()
+    }
+
+    /// How many documents the session's loads and lists have read. At 2^64 - 1 the number stays.
+    pub fn reads(&self, actor: u32) -> u64
+        requires { IsTrue (is_some (slice_get self.now.history.sessions actor)) }
+        ensures { result ≡ (actor_in self.now.actors actor).reads }
+    {
+        self.actors[actor as usize].reads
+    }
+
+    /// Reserves so many bytes, and a place of the journal, for the session's next reply.
+    pub fn reserve_say(&mut self, actor: u32, bytes: usize) -> Result<(), AllocError>
+        requires { IsTrue (is_some (slice_get self.old.history.sessions actor)) }
+        ensures ok { OnOk result (self.new ≡ with_reply self.old actor (Some bytes)) }
+        ensures err { OnErr result (self.new ≡ self.old) }
+    {
+        let room = Room::new(self.alloc, bytes)?;
+        let seat = &mut self.actors[actor as usize];
+        seat.reserve(&mut self.journal.events, room)
+    }
+
+    /// Says the session's next reply, which the law lets it say, and whose bytes are reserved. It can't be refused.
+    pub fn say(&mut self, actor: u32, index: u32, text: &str)
+        requires idle { IsIdle self.old actor }
+        requires may { MaySay (L.may_say self.old.law) self.old.history (actor_in self.old.actors actor).reply actor index text.now }
+        ensures { self.new ≡ said_in self.old actor index text.now }
+    {
+        let seat = &mut self.actors[actor as usize];
+        seat.say(&mut self.journal.events, actor, index, text);
+    }
+
+    /// Steps each session that is named and has a task, one after another.
+    pub fn play(&mut self, schedule: &[u32])
+        ensures { Plays self.old schedule.now self.new }
+    {
+        for actor in schedule {
+            if (*actor as usize) < self.actors.len() && self.due(*actor).is_some() {
+                self.step(*actor);
+            }
+        }
+    }
+}
+
+// The memories of so many cluster nodes before any step.
+fn start_memories(alloc: Global, clusters: u32) -> Result<Vec<NodeMem>, AllocError>
+    requires { 1 ≤ clusters × clusters ≤ 8 }
+    ensures { IfOk result (λ memories. memories.items ≡ map (λ k. begun k (start clusters)) (range_with_len 1 clusters)) }
+{
+    let mut memories = Vec::new(alloc);
+    for node in 1..clusters + 1 {
+        memories.push(NodeMem::new(alloc, node, RevVec::start(clusters)))?;
+    }
+    Ok(memories)
 }

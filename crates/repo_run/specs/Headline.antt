@@ -20,7 +20,7 @@ index_said s _ = None
 
 -- the indexes of the replies of session s, in the order in which they were said
 abbrev pub indexes_said : Journal → ℕ → List ℕ
-indexes_said j s = filter_map (index_said s) j.events
+indexes_said j s = filter_map (index_said s) j.events.list
 
 -- the journal is a run of the machine by the law of the script, over its sessions, in which each command of a session is answered once, in order
 pub record FollowsScript (script : Script) (j : Journal) : Type 0 where

@@ -6,6 +6,6 @@ use Rattle.jcr_session.proofs.pending.pending_of.Given as goal
 -- the journal so far, and what is pending by it
 abbrev pub invariant-loop-event : goal.invariant-loop-event
 invariant-loop-event l = record {
-  events : l.before.events ≡ take l.event-index l.event-items;
+  events : l.before.events.list ≡ take l.event-index l.event-items;
   pending : l.pending ≡ pending_of l.law.sessions (reverse (take l.event-index l.event-items)) l.session;
 }

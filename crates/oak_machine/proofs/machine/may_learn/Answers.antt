@@ -5,7 +5,7 @@ use Rattle.oak_machine.proofs.machine.may_learn.Goals as goal
 pub returns-then-is_same : goal.returns-then-is_same
 returns-then-is_same c = (
   λ t. (
-    length c.args.journal.now.events - c.loop-at.at,
+    length c.args.journal.now.events.list - c.loop-at.at,
     learned_then c.args.journal.now.clusters c.args.cluster _ _ c.loop-at.at c.args.v.now c.learned.result c.as_slice-events.ensures c.loop-at-test.true (c.is_same.ensures.0 c.if-is_same.true) c.learned.ensures,
   ),
   λ m. refl,

@@ -1,0 +1,18 @@
+// What kind of operation a committer has due.
+
+/// The kind of operation that is due.
+#[derive(Clone, Copy, Debug, PartialEq, Eq)]
+pub enum Stage {
+    /// A mark of a collision, on another's commit root.
+    Mark,
+    /// The write of a marked node's document.
+    Write,
+    /// The last write, which is the commit point.
+    Last,
+    /// The undoing of a document.
+    Undo,
+    /// The end in the node's memory.
+    Finish,
+    /// Nothing more.
+    Done,
+}

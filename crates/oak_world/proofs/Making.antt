@@ -1,0 +1,187 @@
+-- A step of a session on its parts is a step of the state.
+use Rattle.std.proofs.Common.{◌≡◌, ◌⊎◌, inl, inr, ℕ, ◌<◌, Bool, true, false, cond, Option, Some, None, Ok, Err, List, [], ◌∷◌, ◌++◌, length, map, drop, refl, sym, ap, subst, ◌∙◌}
+use Rattle.std.proofs.lemmas.List.{reverse-append, reverse-reverse}
+use Rattle.std.specs.Prelude.{reverse}
+use Rattle.jr_path.specs.declared.path.Path.{Path}
+use Rattle.jr_path.specs.declared.path.Item.{Item}
+use Rattle.jr_path.specs.declared.path.DocId.TheVariants as id
+use Rattle.jr_rev.specs.declared.revision.Revision.{Revision}
+use Rattle.jr_rev.specs.Revisions.{is_before}
+use Rattle.oak_clash.specs.Clashes.{commit_root}
+use Rattle.oak_commit.specs.Clashing.{Met, found, mark_op}
+use Rattle.oak_commit.specs.Committing.{Committing, fed, first_path, is_past, refused as refused_as, roots_in, wanting}
+use Rattle.oak_commit.specs.declared.outcome.CommitEnd.TheVariants as end
+use Rattle.oak_commit.specs.Writing.{last_op, write_op}
+use Rattle.oak_doc.specs.declared.asks.Reply.TheVariants as reply
+use Rattle.oak_doc.specs.declared.document.Document.{Document}
+use Rattle.oak_doc.specs.declared.update.OpFault.{OpFault}
+use Rattle.oak_doc.specs.declared.update.OpFault.TheVariants as fault
+use Rattle.oak_doc.specs.declared.update.Kept.TheVariants as kept
+use Rattle.oak_doc.specs.declared.update.UpdateOp.{UpdateOp}
+use Rattle.oak_doc.specs.Updates.{updated}
+use Rattle.oak_machine.specs.declared.event.Event.{Event}
+use Rattle.oak_machine.specs.declared.event.Event.TheVariants as event
+use Rattle.oak_machine.specs.declared.event.StepKind.TheVariants as kind
+use Rattle.oak_machine.specs.History.{Past}
+use Rattle.oak_node.specs.Heads.{finished}
+use Rattle.oak_node.specs.Memory.{NodeState, own_entry}
+use Rattle.oak_read.specs.declared.reader.Reader.{Reader}
+use Rattle.oak_store.specs.Tables.{Table, after_undo, found as found_in, next_number, with_document}
+use Rattle.core_clash.specs.Core.{root_of}
+use Rattle.core_clash.specs.Sessions.{Running}
+use Rattle.core_world.specs.States.{State, memory_at, nodes_in, with_memory, with_session}
+use Rattle.core_world.specs.Steps.{after_finish, after_last, after_mark, after_undoing, after_update, after_want, after_write, after_write_in_want, lasted_by, marked_by, moved_head, with_reader, with_result}
+use Rattle.core_world.proofs.Committers.{session_twice}
+use Rattle.oak_world.specs.declared.actor.Work.{Work}
+use Rattle.oak_world.specs.declared.actor.Work.TheVariants as work
+use Rattle.oak_world.specs.Parts.{IsLast, IsLastMade, IsLastRefused, IsMade, IsMarkMade, IsMarkRefused, IsMarked, IsUndone, IsWritten, Parts, end_events, fed_made, op_due, parts, refusal_at, result_of}
+use Rattle.oak_world.specs.Worlds.{ActorState, WorldOf, actor_in, node_in, parts_at, reading_of, running_as, running_of, state_of, with_parts, work_in}
+use Rattle.oak_world.proofs.Feeding.{blocked_last, blocked_mark, fed_last, fed_mark, fed_undo, fed_write, going_is, op_last, op_mark, op_write, running_going}
+use Rattle.oak_world.proofs.Stages.{IsLastStage, IsMarkStage, IsUndoStage, IsWriteStage}
+use Rattle.oak_world.proofs.States.{memory_same, moved, moved_is, newest, quiet_is, rest_is, session_same}
+
+-- the end of a revision, with the head where that moved
+pub ends_newest : (past : Past) (k : ℕ) (m : NodeState) (r : Revision) → reverse (reverse past ++ end_events k m r) ≡ moved_head k m (finished m r) (event.End r ∷ past)
+ends_newest past k m r = by (is_before (own_entry m) (own_entry (finished m r)))
+  where
+    by : (b : Bool) → reverse (reverse past ++ (event.End r ∷ cond b (event.Head k (finished m r).head ∷ []) [])) ≡ cond b (event.Head k (finished m r).head ∷ event.End r ∷ past) (event.End r ∷ past)
+    by true = reverse-append (reverse past) (event.End r ∷ event.Head k (finished m r).head ∷ []) ∙ ap (λ (q : Past). event.Head k (finished m r).head ∷ event.End r ∷ q) (reverse-reverse past)
+    by false = newest past (event.End r)
+
+module _ {L : Type 0} (w : WorldOf L) (s : ℕ) (there : s < length w.actors) where
+  abbrev node : ℕ
+  node = node_in w.history s
+
+  abbrev memory : NodeState
+  memory = memory_at w.memories node
+
+  -- ---- sessions
+
+  -- nothing changes
+  pub same_is : (a : ActorState) → running_of s (work_in w.actors s) ≡ running_of s a.work → reading_of (work_in w.actors s) ≡ reading_of a.work → state_of (with_parts w s (parts_at w s) a) ≡ state_of w
+  same_is a running reading =
+      rest_is w s there a
+      ∙ (ap (λ (f : ℕ → Option Running). record (state_of w) { running = f; reading = with_session (state_of w).reading s (reading_of a.work) }) (session_same (state_of w).running s (running_of s a.work) running)
+      ∙ ap (λ (f : ℕ → Option Reader). record (state_of w) { reading = f }) (session_same (state_of w).reading s (reading_of a.work) reading))
+
+  -- the reader alone
+  pub reads_is : (a : ActorState) → running_of s (work_in w.actors s) ≡ running_of s a.work → state_of (with_parts w s (parts_at w s) a) ≡ with_reader (state_of w) s (reading_of a.work)
+  reads_is a running =
+      rest_is w s there a
+      ∙ ap (λ (f : ℕ → Option Running). record (state_of w) { running = f; reading = with_session (state_of w).reading s (reading_of a.work) }) (session_same (state_of w).running s (running_of s a.work) running)
+
+  -- an event, and the memory
+  pub told_is : (e : Event) (m : NodeState) (a : ActorState) → running_of s (work_in w.actors s) ≡ running_of s a.work → reading_of (work_in w.actors s) ≡ reading_of a.work
+      → state_of (with_parts w s (parts w.table m (reverse w.history.past ++ e ∷ [])) a) ≡ record (state_of w) { past = e ∷ w.history.past; memories = with_memory w.memories node m }
+  told_is e m a running reading =
+      moved_is w s there (parts w.table m (reverse w.history.past ++ e ∷ [])) a
+      ∙ (ap (λ (past : Past). moved w s there past w.table m (running_of s a.work) (reading_of a.work)) (newest w.history.past e)
+      ∙ quiet_is w s there (e ∷ w.history.past) w.table m (running_of s a.work) (reading_of a.work) running reading)
+
+  -- ---- a commit
+
+  -- the events, the documents and the committer
+  pub runs_is : (past : Past) (es : List Event) (t : Table) (a : ActorState) (x : Option Running) → reverse es ≡ past → running_of s a.work ≡ x → reading_of (work_in w.actors s) ≡ reading_of a.work
+      → state_of (with_parts w s (parts t memory es) a) ≡ record (state_of w) { past = past; table = t; running = with_session (state_of w).running s x }
+  runs_is past es t a x told runs reading =
+      moved_is w s there (parts t memory es) a
+      ∙ (ap (λ (q : Past). moved w s there q t memory (running_of s a.work) (reading_of a.work)) told
+      ∙ (ap (λ (y : Option Running). moved w s there past t memory y (reading_of a.work)) runs
+      ∙ (ap (λ (ms : List NodeState). record (moved w s there past t memory x (reading_of a.work)) { memories = ms }) (memory_same w.memories node)
+      ∙ ap (λ (f : ℕ → Option Reader). record (state_of w) { past = past; table = t; running = with_session (state_of w).running s x; reading = f }) (session_same (state_of w).reading s (reading_of a.work) reading))))
+
+  -- the end
+  pub ended_is : (r : Revision) (a : ActorState) → running_of s a.work ≡ None → reading_of (work_in w.actors s) ≡ reading_of a.work
+      → state_of (with_parts w s (parts w.table (finished memory r) (reverse w.history.past ++ end_events node memory r)) a)
+      ≡ record (state_of w) { past = moved_head node memory (finished memory r) (event.End r ∷ w.history.past); memories = with_memory w.memories node (finished memory r); running = with_session (state_of w).running s None }
+  ended_is r a runs reading =
+      moved_is w s there (parts w.table (finished memory r) (reverse w.history.past ++ end_events node memory r)) a
+      ∙ (ap (λ (q : Past). moved w s there q w.table (finished memory r) (running_of s a.work) (reading_of a.work)) (ends_newest w.history.past node memory r)
+      ∙ (ap (λ (y : Option Running). moved w s there (moved_head node memory (finished memory r) (event.End r ∷ w.history.past)) w.table (finished memory r) y (reading_of a.work)) runs
+      ∙ ap (λ (f : ℕ → Option Reader). record (moved w s there (moved_head node memory (finished memory r) (event.End r ∷ w.history.past)) w.table (finished memory r) None (reading_of a.work)) { reading = f }) (session_same (state_of w).reading s (reading_of a.work) reading)))
+
+  -- ---- an update of a commit
+
+  module _ (c : Committing) (q : Parts) (a : ActorState) (d : Committing) (still : q.memory ≡ memory) (does : a.work ≡ work.Commit d) (reading : reading_of (work_in w.actors s) ≡ None) where
+    -- the state after an event e, with these documents, where the committer stands so
+    update_is : (e : Event) (t : Table) (y : Committing) → q.list ≡ reverse w.history.past ++ e ∷ [] → q.table ≡ t → d ≡ y
+        → state_of (with_parts w s q a) ≡ record (state_of w) { past = e ∷ w.history.past; table = t; running = with_session (state_of w).running s (Some (running_as s y)) }
+    update_is e t y list table stands =
+        ap (λ (m : NodeState). state_of (with_parts w s (parts q.table m q.list) a)) still
+        ∙ (ap (λ (u : Table). state_of (with_parts w s (parts u memory q.list) a)) table
+        ∙ runs_is (e ∷ w.history.past) q.list t a (Some (running_as s y)) (ap (λ (es : List Event). reverse es) list ∙ newest w.history.past e) (ap (running_of s) does ∙ ap (λ (z : Committing). Some (running_as s z)) stands)
+        (reading ∙ sym (ap reading_of does)))
+
+    -- a mark
+    module _ (at : IsMarkStage c) (roots : first_path c.roots ≡ root_of w.history.past at.first.other) where
+      abbrev op : UpdateOp
+      op = mark_op (root_of w.history.past at.first.other) at.first.other c.revision at.first.theirs
+
+      op_is : op_due c ≡ op
+      op_is = op_mark c at.going at.first at.rest at.due ∙ ap (λ (p : Path). mark_op p at.first.other c.revision at.first.theirs) roots
+
+      pub marks_is : IsMarked s w.table q.table (reverse w.history.past) q.list c d → state_of (with_parts w s q a) ≡ after_mark (state_of w) s (running_as s c) at.first at.rest
+      marks_is (inl m) =
+          update_is (event.Went s kind.Mark) (with_document w.table op.id m.made.document (next_number w.table)) (record c { writer = record c.writer { due = at.rest }; roots = drop 1 c.roots }) m.list
+          (m.made.table ∙ ap (λ (o : UpdateOp). with_document w.table o.id m.made.document (next_number w.table)) op_is)
+          (m.committer ∙ fed_mark c at.going at.first at.rest at.due (found_in w.table (op_due c).id))
+          ∙ sym (ap (marked_by (state_of w) s (running_as s c) at.first at.rest) (sym (ap (result_of w.table) op_is) ∙ m.made.result))
+      marks_is (inr m) =
+          update_is (event.Refuse c.revision at.first.mine at.first.other) w.table (refused_as c at.first.mine at.first.other)
+          (m.list ∙ ap (λ (e : Event). reverse w.history.past ++ e ∷ []) (told_as c.writer.due at.due m.told)) m.table
+          (m.committer ∙ blocked_mark c at.going at.first at.rest at.due m.cause m.thing)
+          ∙ (ap (λ (x : Running). record (state_of w) { past = event.Refuse c.revision at.first.mine at.first.other ∷ w.history.past; running = with_session (state_of w).running s (Some (record { draw = x.draw; writer = record x.writer { due = []; undoing = true }; committed = x.committed })) }) (sym (going_is c at.going s))
+          ∙ sym (ap (marked_by (state_of w) s (running_as s c) at.first at.rest) (sym (ap (result_of w.table) op_is) ∙ m.result)))
+        where
+          told_as : (due : List Met) → due ≡ at.first ∷ at.rest → refusal_at (record c { writer = record c.writer { due = due } }) m.refusal → m.refusal ≡ event.Refuse c.revision at.first.mine at.first.other
+          told_as due is told = subst (λ (ds : List Met). refusal_at (record c { writer = record c.writer { due = ds } }) m.refusal) is told
+
+    -- a document
+    module _ (at : IsWriteStage c) where
+      op_written : op_due c ≡ write_op c.revision c.edit.writes c.marks at.first
+      op_written = op_write c at.going at.first at.rest at.unmet at.left
+
+      table_written : IsMade w.table q.table (op_due c) → q.table ≡ after_update w.table (write_op c.revision c.edit.writes c.marks at.first)
+      table_written m = m.table ∙ (sym (ap (with_result w.table (op_due c).id) m.result) ∙ ap (after_update w.table) op_written)
+
+      fed_written : fed_made w.table c ≡ fed c (reply.Updated (nodes_in w.table at.first))
+      fed_written = ap (λ (o : UpdateOp). fed c (reply.Updated (found_in w.table o.id))) op_written
+
+      pub writes_is : IsWritten s w.table q.table (reverse w.history.past) q.list c d → (state_of (with_parts w s q a) ≡ after_write (state_of w) s (running_as s c) at.first at.rest) ⊎ (state_of (with_parts w s q a) ≡ after_write_in_want (state_of w) s (running_as s c) at.first at.rest)
+      writes_is m = by m.committer
+        where
+          stands : Committing
+          stands = record c {
+            writer = record c.writer { left = at.rest; written = c.writer.written ++ at.first ∷ []; due = found c.base c.revision at.first c.marks (nodes_in w.table at.first) };
+            roots = roots_in (nodes_in w.table at.first) (found c.base c.revision at.first c.marks (nodes_in w.table at.first));
+          }
+
+          fed_is : fed_made w.table c ≡ stands
+          fed_is = fed_written ∙ fed_write c at.going at.first at.rest at.unmet at.left (nodes_in w.table at.first)
+
+          by : (d ≡ fed_made w.table c) ⊎ (d ≡ wanting (fed_made w.table c)) → (state_of (with_parts w s q a) ≡ after_write (state_of w) s (running_as s c) at.first at.rest) ⊎ (state_of (with_parts w s q a) ≡ after_write_in_want (state_of w) s (running_as s c) at.first at.rest)
+          by (inl e) = inl (update_is (event.Went s kind.Write) (after_update w.table (write_op c.revision c.edit.writes c.marks at.first)) stands m.list (table_written m.made) (e ∙ fed_is))
+          by (inr e) = inr (update_is (event.Went s kind.Write) (after_update w.table (write_op c.revision c.edit.writes c.marks at.first)) (wanting stands) m.list (table_written m.made) (e ∙ ap wanting fed_is)
+              ∙ ap (λ (b : Bool). record (state_of w) { past = event.Went s kind.Write ∷ w.history.past; table = after_update w.table (write_op c.revision c.edit.writes c.marks at.first); running = with_session (state_of w).running s (Some (record (running_as s (wanting stands)) { committed = b })) }) (sym (ap is_past at.going)))
+
+    -- the last write
+    module _ (at : IsLastStage c) where
+      op_lasts : op_due c ≡ last_op c.revision c.marks
+      op_lasts = op_last c at.going at.unmet at.none
+
+      pub lasts_is : IsLast w.table q.table (reverse w.history.past) q.list c d → state_of (with_parts w s q a) ≡ after_last (state_of w) s (running_as s c)
+      lasts_is (inl m) =
+          update_is (event.Commit c.revision) (with_document w.table (id.Node (commit_root c.marks)) m.made.document (next_number w.table)) (record c { outcome = Some (end.Committed c.revision) }) m.list
+          (m.made.table ∙ ap (λ (o : UpdateOp). with_document w.table o.id m.made.document (next_number w.table)) op_lasts)
+          (m.committer ∙ fed_last c at.going at.unmet at.none (found_in w.table (op_due c).id))
+          ∙ (ap (λ (x : Running). record (state_of w) { past = event.Commit c.revision ∷ w.history.past; table = with_document w.table (id.Node (commit_root c.marks)) m.made.document (next_number w.table); running = with_session (state_of w).running s (Some (record { draw = x.draw; writer = x.writer; committed = true })) }) (sym (going_is c at.going s))
+          ∙ sym (ap (lasted_by (state_of w) s (running_as s c)) (sym (ap (result_of w.table) op_lasts) ∙ m.made.result)))
+      lasts_is (inr m) =
+          update_is (event.Refuse c.revision m.item m.other) w.table (refused_as c m.item m.other) m.list m.table (m.committer ∙ blocked_last c at.going at.unmet at.none m.cause m.other m.item)
+          ∙ (ap (λ (x : Running). record (state_of w) { past = event.Refuse c.revision m.item m.other ∷ w.history.past; running = with_session (state_of w).running s (Some (record { draw = x.draw; writer = record x.writer { due = []; undoing = true }; committed = x.committed })) }) (sym (going_is c at.going s))
+          ∙ sym (ap (lasted_by (state_of w) s (running_as s c)) (sym (ap (result_of w.table) op_lasts) ∙ m.result)))
+
+    -- an undoing
+    pub undoes_is : (at : IsUndoStage c) → IsUndone s w.table q.table (reverse w.history.past) q.list c d → (p : Path) (rest : List Path) → c.writer.written ≡ p ∷ rest → q.table ≡ after_undo w.table (id.Node p) c.revision → state_of (with_parts w s q a) ≡ after_undoing (state_of w) s (running_as s c) p rest
+    undoes_is at m p rest written table =
+        update_is (event.Went s kind.Undo) (after_undo w.table (id.Node p) c.revision) (record c { writer = record c.writer { written = rest } }) m.list table (m.committer ∙ fed_undo c p rest at.undoing written)

@@ -1,0 +1,143 @@
+-- What is due of a committer, by where it stands.
+use Rattle.std.proofs.Common.{◌≡◌, ℕ, Bool, true, false, List, [], ◌∷◌, Option, Some, None, ◌⊎◌, inl, inr, is_some, refl}
+use Rattle.jr_path.specs.declared.path.Path.{Path}
+use Rattle.jr_path.specs.declared.path.Item.{Item}
+use Rattle.jr_rev.specs.declared.revision.Revision.{Revision}
+use Rattle.jr_rev.specs.declared.vector.RevVec.{RevVec}
+use Rattle.jr_tree.specs.declared.edit.Edit.{Edit}
+use Rattle.oak_clash.specs.declared.mark.MarkAt.{MarkAt}
+use Rattle.oak_commit.specs.Clashing.{Met, Writer}
+use Rattle.oak_commit.specs.Committing.{Committing, is_past}
+use Rattle.oak_commit.specs.Kept.{undoes}
+use Rattle.oak_commit.specs.Stages.{stage_of}
+use Rattle.oak_commit.specs.declared.outcome.CommitEnd.{CommitEnd}
+use Rattle.oak_commit.specs.declared.outcome.CommitEnd.TheVariants as end
+use Rattle.oak_commit.specs.declared.stage.Stage.{Stage}
+use Rattle.oak_commit.specs.declared.stage.Stage.TheVariants as stage
+
+-- a committer of these fields
+abbrev pub committing : Revision → RevVec → Edit → List MarkAt → List Path → List Path → List Path → List Met → Bool → Bool → List Path → Option CommitEnd → Bool → Committing
+committing r base edit marks ps left written due undoing wants roots outcome ended = record {
+  revision = r;
+  base = base;
+  edit = edit;
+  marks = marks;
+  writer = record { paths = ps; left = left; written = written; due = due; undoing = undoing; wants = wants };
+  roots = roots;
+  outcome = outcome;
+  ended = ended;
+}
+
+-- a committer as its fields
+abbrev pub fields_of : (P : Committing → Type 0) → ((r : Revision) (base : RevVec) (edit : Edit) (marks : List MarkAt) (ps left written : List Path) (due : List Met) (undoing wants : Bool) (roots : List Path) (outcome : Option CommitEnd) (ended : Bool) → P (committing r base edit marks ps left written due undoing wants roots outcome ended)) → (c : Committing) → P c
+fields_of P f c = f c.revision c.base c.edit c.marks c.writer.paths c.writer.left c.writer.written c.writer.due c.writer.undoing c.writer.wants c.roots c.outcome c.ended
+
+pub record IsMarkStage (c : Committing) : Type 0 where
+  pub going : c.outcome ≡ None
+  pub first : Met
+  pub rest : List Met
+  pub due : c.writer.due ≡ first ∷ rest
+
+pub record IsWriteStage (c : Committing) : Type 0 where
+  pub going : c.outcome ≡ None
+  pub unmet : c.writer.due ≡ []
+  pub first : Path
+  pub rest : List Path
+  pub left : c.writer.left ≡ first ∷ rest
+
+pub record IsLastStage (c : Committing) : Type 0 where
+  pub going : c.outcome ≡ None
+  pub unmet : c.writer.due ≡ []
+  pub none : c.writer.left ≡ []
+
+pub record IsUndoStage (c : Committing) : Type 0 where
+  pub undoing : undoes c.outcome ≡ true
+  pub first : Path
+  pub rest : List Path
+  pub written : c.writer.written ≡ first ∷ rest
+
+-- nothing is to be undone: it is committed, or all is undone
+pub record IsFinishStage (c : Committing) : Type 0 where
+  pub settled : is_some c.outcome ≡ true
+  pub through : (is_past c.outcome ≡ true) ⊎ ((undoes c.outcome ≡ true) × (c.writer.written ≡ []))
+  pub unended : c.ended ≡ false
+
+pub mark_stage : (c : Committing) → stage_of c ≡ stage.Mark → IsMarkStage c
+mark_stage = fields_of (λ c. stage_of c ≡ stage.Mark → IsMarkStage c) by
+  where
+    by : (r : Revision) (base : RevVec) (edit : Edit) (marks : List MarkAt) (ps left written : List Path) (due : List Met) (undoing wants : Bool) (roots : List Path) (outcome : Option CommitEnd) (ended : Bool) → stage_of (committing r base edit marks ps left written due undoing wants roots outcome ended) ≡ stage.Mark → IsMarkStage (committing r base edit marks ps left written due undoing wants roots outcome ended)
+    by r base edit marks ps left written (f ∷ fs) u v roots None ended h = record { going = refl; first = f; rest = fs; due = refl }
+    by r base edit marks ps (p ∷ left) written [] u v roots None ended h = cc
+    by r base edit marks ps [] written [] u v roots None ended h = cc
+    by r base edit marks ps left written due u v roots (Some (end.Committed o)) true h = cc
+    by r base edit marks ps left written due u v roots (Some (end.Committed o)) false h = cc
+    by r base edit marks ps left (p ∷ written) due u v roots (Some (end.Clash i o)) ended h = cc
+    by r base edit marks ps left [] due u v roots (Some (end.Clash i o)) true h = cc
+    by r base edit marks ps left [] due u v roots (Some (end.Clash i o)) false h = cc
+    by r base edit marks ps left (p ∷ written) due u v roots (Some end.Memory) ended h = cc
+    by r base edit marks ps left [] due u v roots (Some end.Memory) true h = cc
+    by r base edit marks ps left [] due u v roots (Some end.Memory) false h = cc
+
+pub write_stage : (c : Committing) → stage_of c ≡ stage.Write → IsWriteStage c
+write_stage = fields_of (λ c. stage_of c ≡ stage.Write → IsWriteStage c) by
+  where
+    by : (r : Revision) (base : RevVec) (edit : Edit) (marks : List MarkAt) (ps left written : List Path) (due : List Met) (undoing wants : Bool) (roots : List Path) (outcome : Option CommitEnd) (ended : Bool) → stage_of (committing r base edit marks ps left written due undoing wants roots outcome ended) ≡ stage.Write → IsWriteStage (committing r base edit marks ps left written due undoing wants roots outcome ended)
+    by r base edit marks ps left written (f ∷ fs) u v roots None ended h = cc
+    by r base edit marks ps (p ∷ left) written [] u v roots None ended h = record { going = refl; unmet = refl; first = p; rest = left; left = refl }
+    by r base edit marks ps [] written [] u v roots None ended h = cc
+    by r base edit marks ps left written due u v roots (Some (end.Committed o)) true h = cc
+    by r base edit marks ps left written due u v roots (Some (end.Committed o)) false h = cc
+    by r base edit marks ps left (p ∷ written) due u v roots (Some (end.Clash i o)) ended h = cc
+    by r base edit marks ps left [] due u v roots (Some (end.Clash i o)) true h = cc
+    by r base edit marks ps left [] due u v roots (Some (end.Clash i o)) false h = cc
+    by r base edit marks ps left (p ∷ written) due u v roots (Some end.Memory) ended h = cc
+    by r base edit marks ps left [] due u v roots (Some end.Memory) true h = cc
+    by r base edit marks ps left [] due u v roots (Some end.Memory) false h = cc
+
+pub last_stage : (c : Committing) → stage_of c ≡ stage.Last → IsLastStage c
+last_stage = fields_of (λ c. stage_of c ≡ stage.Last → IsLastStage c) by
+  where
+    by : (r : Revision) (base : RevVec) (edit : Edit) (marks : List MarkAt) (ps left written : List Path) (due : List Met) (undoing wants : Bool) (roots : List Path) (outcome : Option CommitEnd) (ended : Bool) → stage_of (committing r base edit marks ps left written due undoing wants roots outcome ended) ≡ stage.Last → IsLastStage (committing r base edit marks ps left written due undoing wants roots outcome ended)
+    by r base edit marks ps left written (f ∷ fs) u v roots None ended h = cc
+    by r base edit marks ps (p ∷ left) written [] u v roots None ended h = cc
+    by r base edit marks ps [] written [] u v roots None ended h = record { going = refl; unmet = refl; none = refl }
+    by r base edit marks ps left written due u v roots (Some (end.Committed o)) true h = cc
+    by r base edit marks ps left written due u v roots (Some (end.Committed o)) false h = cc
+    by r base edit marks ps left (p ∷ written) due u v roots (Some (end.Clash i o)) ended h = cc
+    by r base edit marks ps left [] due u v roots (Some (end.Clash i o)) true h = cc
+    by r base edit marks ps left [] due u v roots (Some (end.Clash i o)) false h = cc
+    by r base edit marks ps left (p ∷ written) due u v roots (Some end.Memory) ended h = cc
+    by r base edit marks ps left [] due u v roots (Some end.Memory) true h = cc
+    by r base edit marks ps left [] due u v roots (Some end.Memory) false h = cc
+
+pub undo_stage : (c : Committing) → stage_of c ≡ stage.Undo → IsUndoStage c
+undo_stage = fields_of (λ c. stage_of c ≡ stage.Undo → IsUndoStage c) by
+  where
+    by : (r : Revision) (base : RevVec) (edit : Edit) (marks : List MarkAt) (ps left written : List Path) (due : List Met) (undoing wants : Bool) (roots : List Path) (outcome : Option CommitEnd) (ended : Bool) → stage_of (committing r base edit marks ps left written due undoing wants roots outcome ended) ≡ stage.Undo → IsUndoStage (committing r base edit marks ps left written due undoing wants roots outcome ended)
+    by r base edit marks ps left written (f ∷ fs) u v roots None ended h = cc
+    by r base edit marks ps (p ∷ left) written [] u v roots None ended h = cc
+    by r base edit marks ps [] written [] u v roots None ended h = cc
+    by r base edit marks ps left written due u v roots (Some (end.Committed o)) true h = cc
+    by r base edit marks ps left written due u v roots (Some (end.Committed o)) false h = cc
+    by r base edit marks ps left (p ∷ written) due u v roots (Some (end.Clash i o)) ended h = record { undoing = refl; first = p; rest = written; written = refl }
+    by r base edit marks ps left [] due u v roots (Some (end.Clash i o)) true h = cc
+    by r base edit marks ps left [] due u v roots (Some (end.Clash i o)) false h = cc
+    by r base edit marks ps left (p ∷ written) due u v roots (Some end.Memory) ended h = record { undoing = refl; first = p; rest = written; written = refl }
+    by r base edit marks ps left [] due u v roots (Some end.Memory) true h = cc
+    by r base edit marks ps left [] due u v roots (Some end.Memory) false h = cc
+
+pub finish_stage : (c : Committing) → stage_of c ≡ stage.Finish → IsFinishStage c
+finish_stage = fields_of (λ c. stage_of c ≡ stage.Finish → IsFinishStage c) by
+  where
+    by : (r : Revision) (base : RevVec) (edit : Edit) (marks : List MarkAt) (ps left written : List Path) (due : List Met) (undoing wants : Bool) (roots : List Path) (outcome : Option CommitEnd) (ended : Bool) → stage_of (committing r base edit marks ps left written due undoing wants roots outcome ended) ≡ stage.Finish → IsFinishStage (committing r base edit marks ps left written due undoing wants roots outcome ended)
+    by r base edit marks ps left written (f ∷ fs) u v roots None ended h = cc
+    by r base edit marks ps (p ∷ left) written [] u v roots None ended h = cc
+    by r base edit marks ps [] written [] u v roots None ended h = cc
+    by r base edit marks ps left written due u v roots (Some (end.Committed o)) true h = cc
+    by r base edit marks ps left written due u v roots (Some (end.Committed o)) false h = record { settled = refl; through = inl refl; unended = refl }
+    by r base edit marks ps left (p ∷ written) due u v roots (Some (end.Clash i o)) ended h = cc
+    by r base edit marks ps left [] due u v roots (Some (end.Clash i o)) true h = cc
+    by r base edit marks ps left [] due u v roots (Some (end.Clash i o)) false h = record { settled = refl; through = inr (refl, refl); unended = refl }
+    by r base edit marks ps left (p ∷ written) due u v roots (Some end.Memory) ended h = cc
+    by r base edit marks ps left [] due u v roots (Some end.Memory) true h = cc
+    by r base edit marks ps left [] due u v roots (Some end.Memory) false h = record { settled = refl; through = inr (refl, refl); unended = refl }

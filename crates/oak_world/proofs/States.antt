@@ -1,0 +1,97 @@
+-- The state of a world in which one session has taken a step.
+use Rattle.std.proofs.Common.{◌≡◌, ℕ, zero, suc, ◌<◌, ◌-◌, Bool, true, false, cond, Option, Some, None, List, [], ◌∷◌, ◌++◌, length, refl, sym, ap, subst, ◌∙◌, arith}
+use Rattle.std.proofs.Math.ListN.{get_or}
+use Rattle.std.proofs.lemmas.List.{append-nil, get_or-set_same, get_or-set_other, length-set, reverse-append, reverse-reverse}
+use Rattle.std.proofs.lemmas.Option.{unwrap_or-slice_get}
+use Rattle.std.specs.Prelude.{◌==◌, reverse, slice_get, slice_set}
+use Rattle.std.proofs.Math.Path.{fun_ext}
+use Rattle.oak_machine.specs.declared.event.Event.{Event}
+use Rattle.oak_machine.specs.History.{History, Past}
+use Rattle.oak_node.specs.Memory.{NodeState}
+use Rattle.oak_read.specs.declared.reader.Reader.{Reader}
+use Rattle.oak_store.specs.Tables.{Table}
+use Rattle.core_clash.specs.Sessions.{Running}
+use Rattle.core_world.specs.States.{State, memory_at, with_memory, with_session}
+use Rattle.core_world.proofs.Flights.{other_number, same_number}
+use Rattle.oak_world.specs.declared.actor.Work.{Work}
+use Rattle.oak_world.specs.Parts.{Parts, parts}
+use Rattle.oak_world.specs.Worlds.{ActorState, WorldOf, actor_in, idle, node_in, parts_at, reading_of, running_of, state_of, state_with, with_parts, work_in}
+
+-- ---- the journal
+
+-- an event at the end is the newest
+pub newest : (past : Past) (e : Event) → reverse (reverse past ++ e ∷ []) ≡ e ∷ past
+newest past e = reverse-append (reverse past) (e ∷ []) ∙ ap (λ (q : Past). e ∷ q) (reverse-reverse past)
+
+-- ---- what sessions do
+
+pub actor_read : (actors : List ActorState) (s : ℕ) → actor_in actors s ≡ get_or actors s idle
+actor_read actors s = unwrap_or-slice_get actors s idle
+
+pub actor_set : (actors : List ActorState) (s : ℕ) (a : ActorState) → s < length actors → actor_in (slice_set actors s a) s ≡ a
+actor_set actors s a there = actor_read (slice_set actors s a) s ∙ get_or-set_same actors s a idle there
+
+pub actor_other : (actors : List ActorState) (s : ℕ) (a : ActorState) (q : ℕ) → (q == s) ≡ false → actor_in (slice_set actors s a) q ≡ actor_in actors q
+actor_other actors s a q apart = actor_read (slice_set actors s a) q ∙ (get_or-set_other actors s q a idle (other_number q s apart) ∙ sym (actor_read actors q))
+
+-- what is read of each session, where one does something else now
+pub session_set : {X : Type 0} (read : ℕ → Work → Option X) (actors : List ActorState) (s : ℕ) (a : ActorState) → s < length actors
+    → (λ q. read q (work_in (slice_set actors s a) q)) ≡ with_session (λ q. read q (work_in actors q)) s (read s a.work)
+session_set read actors s a there = fun_ext (λ q. by q (q == s) refl)
+  where
+    by : (q : ℕ) (b : Bool) → (q == s) ≡ b → read q (work_in (slice_set actors s a) q) ≡ cond b (read s a.work) (read q (work_in actors q))
+    by q true same = subst (λ n. read n (work_in (slice_set actors s a) n) ≡ read s a.work) (sym (same_number q s same)) (ap (λ (x : ActorState). read s x.work) (actor_set actors s a there))
+    by q false apart = ap (λ (x : ActorState). read q x.work) (actor_other actors s a q apart)
+
+-- what a session has already may be given to it
+pub session_same : {X : Type 0} (has : ℕ → Option X) (s : ℕ) (x : Option X) → has s ≡ x → with_session has s x ≡ has
+session_same has s x same = fun_ext (λ q. by q (q == s) refl)
+  where
+    by : (q : ℕ) (b : Bool) → (q == s) ≡ b → cond b x (has q) ≡ has q
+    by q true is = sym (ap has (same_number q s is) ∙ same)
+    by q false apart = refl
+
+-- ---- memories
+
+-- a memory that is there already may be set
+pub memory_same : (ms : List NodeState) (k : ℕ) → with_memory ms k (memory_at ms k) ≡ ms
+memory_same ms k = rw (unwrap_or-slice_get ms (k - 1) _) (set_own ms (k - 1) _)
+  where
+    set_own : (xs : List NodeState) (i : ℕ) (d : NodeState) → slice_set xs i (get_or xs i d) ≡ xs
+    set_own [] i d = refl
+    set_own (x ∷ xs) zero d = refl
+    set_own (x ∷ xs) (suc i) d = ap (λ (ys : List NodeState). x ∷ ys) (set_own xs i d)
+
+-- ---- the state
+
+module _ {L : Type 0} (w : WorldOf L) (s : ℕ) (there : s < length w.actors) where
+  -- the state with these parts, where session s does this
+  abbrev pub moved : Past → Table → NodeState → Option Running → Option Reader → State
+  moved past table m x r = record {
+    clusters = w.history.clusters;
+    sessions = w.history.sessions;
+    past = past;
+    table = table;
+    memories = with_memory w.memories (node_in w.history s) m;
+    running = with_session (state_of w).running s x;
+    reading = with_session (state_of w).reading s r;
+  }
+
+  pub moved_is : (p : Parts) (a : ActorState) → state_of (with_parts w s p a) ≡ moved (reverse p.list) p.table p.memory (running_of s a.work) (reading_of a.work)
+  moved_is p a =
+      ap (λ (f : ℕ → Option Running). record (state_of (with_parts w s p a)) { running = f }) (session_set running_of w.actors s a there)
+      ∙ ap (λ (f : ℕ → Option Reader). record (moved (reverse p.list) p.table p.memory (running_of s a.work) (reading_of a.work)) { reading = f }) (session_set (λ q v. reading_of v) w.actors s a there)
+
+  -- what the session did not have, it has not
+  pub quiet_is : (past : Past) (table : Table) (m : NodeState) (x : Option Running) (r : Option Reader) → running_of s (work_in w.actors s) ≡ x → reading_of (work_in w.actors s) ≡ r
+      → moved past table m x r ≡ record (state_of w) { past = past; table = table; memories = with_memory w.memories (node_in w.history s) m }
+  quiet_is past table m x r running reading =
+      ap (λ (f : ℕ → Option Running). record (moved past table m x r) { running = f }) (session_same (state_of w).running s x running)
+      ∙ ap (λ (f : ℕ → Option Reader). record (state_of w) { past = past; table = table; memories = with_memory w.memories (node_in w.history s) m; reading = f }) (session_same (state_of w).reading s r reading)
+
+  -- nothing is changed but what the session does
+  pub rest_is : (a : ActorState) → state_of (with_parts w s (parts_at w s) a) ≡ record (state_of w) { running = with_session (state_of w).running s (running_of s a.work); reading = with_session (state_of w).reading s (reading_of a.work) }
+  rest_is a =
+      moved_is (parts_at w s) a
+      ∙ ap (λ (past : Past). moved past w.table (memory_at w.memories (node_in w.history s)) (running_of s a.work) (reading_of a.work)) (reverse-reverse w.history.past)
+      ∙ ap (λ (ms : List NodeState). record (moved w.history.past w.table (memory_at w.memories (node_in w.history s)) (running_of s a.work) (reading_of a.work)) { memories = ms }) (memory_same w.memories (node_in w.history s))

@@ -1,0 +1,301 @@
+-- One step of a session: on the documents, on the memory of its cluster node, and on the events.
+use Rattle.std.specs.Prelude.{◌≡◌, ◌≢◌, ◌⊎◌, ◌<◌, ◌≤◌, ◌+◌, ◌-◌, ◌*◌, ◌^◌, ℕ, All, cond, false, List, [], ◌∷◌, ◌++◌, length, Option, Some, None, Result, Ok, Err, IsSome, IsTrue}
+use Rattle.std.specs.Option.{option_map_or}
+use Rattle.jr_path.specs.Grammar.{IsName}
+use Rattle.jr_path.specs.declared.path.DocId.{DocId}
+use Rattle.jr_path.specs.declared.path.DocId.TheVariants as id
+use Rattle.jr_path.specs.declared.path.Path.{Path}
+use Rattle.jr_path.specs.declared.path.Item.{Item}
+use Rattle.jr_rev.specs.declared.revision.Revision.{Revision}
+use Rattle.jr_rev.specs.declared.vector.RevVec.{RevVec}
+use Rattle.jr_rev.specs.Revisions.{is_before}
+use Rattle.jr_rev.specs.Vectors.{sees}
+use Rattle.jr_tree.specs.declared.edit.Edit.{Edit}
+use Rattle.oak_clash.specs.Clashes.{marked_paths}
+use Rattle.oak_clash.specs.declared.mark.MarkAt.{MarkAt}
+use Rattle.oak_commit.specs.Clashing.{Met, mark_op}
+use Rattle.oak_commit.specs.Committing.{Committing, begun, fed, first_path, is_past, wanting, without_memory}
+use Rattle.oak_commit.specs.Stages.{stage_of}
+use Rattle.oak_commit.specs.Writing.{last_op, write_op}
+use Rattle.oak_commit.specs.declared.outcome.CommitEnd.{CommitEnd}
+use Rattle.oak_commit.specs.declared.outcome.CommitEnd.TheVariants as end
+use Rattle.oak_commit.specs.declared.stage.Stage.TheVariants as stage
+use Rattle.oak_doc.specs.declared.document.Document.{Document}
+use Rattle.oak_doc.specs.declared.asks.Ask.TheVariants as ask
+use Rattle.oak_doc.specs.declared.asks.Reply.TheVariants as reply
+use Rattle.oak_doc.specs.declared.update.Cond.{Cond}
+use Rattle.oak_doc.specs.declared.update.Kept.{Kept}
+use Rattle.oak_doc.specs.declared.update.Kept.TheVariants as kept
+use Rattle.oak_doc.specs.declared.update.OpFault.{OpFault}
+use Rattle.oak_doc.specs.declared.update.OpFault.TheVariants as fault
+use Rattle.oak_doc.specs.declared.update.UpdateOp.{UpdateOp}
+use Rattle.oak_doc.specs.Updates.{updated}
+use Rattle.oak_machine.specs.declared.event.Event.{Event}
+use Rattle.oak_machine.specs.declared.event.Event.TheVariants as event
+use Rattle.oak_machine.specs.declared.event.StepKind.{StepKind}
+use Rattle.oak_machine.specs.declared.event.StepKind.TheVariants as kind
+use Rattle.oak_node.specs.Heads.{AwaitsEarlier, HasEnded, IsInFlight, finished, known_time, next_draw, with_draw}
+use Rattle.oak_node.specs.Memory.{NodeState, own_entry}
+use Rattle.oak_node.specs.Notes.{with_notes}
+use Rattle.oak_node.specs.Pins.{pin_now, pin_of, with_pin, without_pin}
+use Rattle.oak_read.specs.declared.reader.Reader.{Reader}
+use Rattle.oak_read.specs.declared.reader.ReadOut.TheVariants as out
+use Rattle.oak_read.specs.declared.reader.Step.{Step}
+use Rattle.oak_read.specs.declared.reader.Step.TheVariants as step
+use Rattle.oak_read.specs.Meaning.{path_of}
+use Rattle.oak_read.specs.Reading.{answer, due, fed as fed_reader}
+use Rattle.oak_store.specs.Tables.{Table, after_undo, found, next_number, with_document}
+use Rattle.oak_world.specs.declared.actor.Work.{Work}
+use Rattle.oak_world.specs.declared.actor.Work.TheVariants as work
+use Rattle.oak_world.specs.declared.task.StepOut.{StepOut}
+use Rattle.oak_world.specs.declared.task.StepOut.TheVariants as answers
+use Rattle.oak_world.specs.declared.task.TaskEnd.{TaskEnd}
+use Rattle.oak_world.specs.declared.task.TaskEnd.TheVariants as ends
+
+-- the documents, the memory of a cluster node, and the events
+pub record Parts : Type 0 where
+  pub table : Table
+  pub memory : NodeState
+  pub list : List Event
+
+abbrev pub parts : Table → NodeState → List Event → Parts
+parts t m es = record { table = t; memory = m; list = es }
+
+-- ---- documents
+
+-- the names of the id's path are names
+abbrev pub HasNames : DocId → Type 0
+HasNames x = All IsName (path_of x)
+
+-- what an update makes of its document, under the next number
+abbrev pub result_of : Table → UpdateOp → Result Document OpFault
+result_of t op = updated (found t op.id) op (next_number t)
+
+-- the update is made
+pub record IsMade (old new : Table) (op : UpdateOp) : Type 0 where
+  pub document : Document
+  pub result : result_of old op ≡ Ok document
+  pub table : new ≡ with_document old op.id document (next_number old)
+
+-- ---- the memory
+
+-- the base of session s: that of its pin
+abbrev pub base_at : NodeState → ℕ → RevVec
+base_at m s = option_map_or (λ pin. pin.base) (pin_of m s) m.head
+
+-- the end of r, and the head of cluster node k, where that moved
+abbrev pub end_events : ℕ → NodeState → Revision → List Event
+end_events k m r = event.End r ∷ cond (is_before (own_entry m) (own_entry (finished m r))) (event.Head k (finished m r).head ∷ []) []
+
+-- ---- loads
+
+-- what a task ends with whose reader is done
+abbrev pub end_of_reading : Step → Option TaskEnd
+end_of_reading (step.Done (out.Node n)) = Some (ends.Node n)
+end_of_reading (step.Done (out.Children ns)) = Some (ends.Children ns)
+end_of_reading _ = None
+
+-- the reader, once the documents have answered what it asked
+abbrev pub read_on : Table → Reader → Reader
+read_on t r = fed_reader r (answer t.documents (due r))
+
+-- the reader is fed what the documents answer; where nothing more is due then, the task ends with what it gives
+abbrev pub ReadsOn : Table → Reader → Work → StepOut → Type 0
+ReadsOn t r v (answers.Went kind.Read) = (v ≡ work.Read (read_on t r)) × (due (read_on t r) ≢ ask.Done)
+ReadsOn t r v (answers.Ready e) = (v ≡ work.Rest) × (end_of_reading (read_on t r).step ≡ Some e)
+ReadsOn t r v answers.Memory = v ≡ work.Rest
+ReadsOn t r v _ = ⊥
+
+-- ---- a commit
+
+-- the update that is due: a mark, a document, or the last write
+abbrev pub op_due : Committing → UpdateOp
+op_due c = by c.writer.due c.writer.left
+  where
+    by : List Met → List Path → UpdateOp
+    by (f ∷ fs) ps = mark_op (first_path c.roots) f.other c.revision f.theirs
+    by [] (p ∷ ps) = write_op c.revision c.edit.writes c.marks p
+    by [] [] = last_op c.revision c.marks
+
+-- the event of a refusal by the mark that is due
+abbrev pub refusal_at : Committing → Event → Type 0
+refusal_at c e = by c.writer.due
+  where
+    by : List Met → Type 0
+    by (f ∷ fs) = e ≡ event.Refuse c.revision f.mine f.other
+    by [] = ⊥
+
+-- what a committer keeps once the update that is due is made
+abbrev pub fed_made : Table → Committing → Committing
+fed_made t c = fed c (reply.Updated (found t (op_due c).id))
+
+-- the mark is made; or the other is committed, and it is refused
+pub record IsMarkMade (s : ℕ) (t u : Table) (es fs : List Event) (c d : Committing) : Type 0 where
+  pub made : IsMade t u (op_due c)
+  pub list : fs ≡ es ++ event.Went s kind.Mark ∷ []
+  pub committer : d ≡ fed_made t c
+
+pub record IsMarkRefused (t u : Table) (es fs : List Event) (c d : Committing) : Type 0 where
+  pub cause : Cond
+  pub thing : Kept
+  pub result : result_of t (op_due c) ≡ Err (fault.Unmet cause thing)
+  pub table : u ≡ t
+  pub refusal : Event
+  pub told : refusal_at c refusal
+  pub list : fs ≡ es ++ refusal ∷ []
+  pub committer : d ≡ fed c (reply.Unmet cause thing)
+
+abbrev pub IsMarked : ℕ → Table → Table → List Event → List Event → Committing → Committing → Type 0
+IsMarked s t u es fs c d = IsMarkMade s t u es fs c d ⊎ IsMarkRefused t u es fs c d
+
+-- the document is written; where memory is refused for what is found in it, the committer turns to undoing
+pub record IsWritten (s : ℕ) (t u : Table) (es fs : List Event) (c d : Committing) : Type 0 where
+  pub made : IsMade t u (op_due c)
+  pub list : fs ≡ es ++ event.Went s kind.Write ∷ []
+  pub committer : (d ≡ fed_made t c) ⊎ (d ≡ wanting (fed_made t c))
+
+-- it is committed; or it is refused for the collision that is noted there
+pub record IsLastMade (t u : Table) (es fs : List Event) (c d : Committing) : Type 0 where
+  pub made : IsMade t u (op_due c)
+  pub list : fs ≡ es ++ event.Commit c.revision ∷ []
+  pub committer : d ≡ fed_made t c
+
+pub record IsLastRefused (t u : Table) (es fs : List Event) (c d : Committing) : Type 0 where
+  pub cause : Cond
+  pub other : Revision
+  pub item : Item
+  pub result : result_of t (op_due c) ≡ Err (fault.Unmet cause (kept.Entry other item))
+  pub table : u ≡ t
+  pub list : fs ≡ es ++ event.Refuse c.revision item other ∷ []
+  pub committer : d ≡ fed c (reply.Unmet cause (kept.Entry other item))
+
+abbrev pub IsLast : Table → Table → List Event → List Event → Committing → Committing → Type 0
+IsLast t u es fs c d = IsLastMade t u es fs c d ⊎ IsLastRefused t u es fs c d
+
+-- the first document that is written and not undone is undone
+pub record IsUndone (s : ℕ) (t u : Table) (es fs : List Event) (c d : Committing) : Type 0 where
+  pub path : Path
+  pub rest : List Path
+  pub first : c.writer.written ≡ path ∷ rest
+  pub table : u ≡ after_undo t (id.Node path) c.revision
+  pub list : fs ≡ es ++ event.Went s kind.Undo ∷ []
+  pub committer : d ≡ fed c reply.Undone
+
+-- the parts after the end of r, of cluster node k
+abbrev pub parts_ended : ℕ → Parts → Revision → Parts
+parts_ended k p r = parts p.table (finished p.memory r) (p.list ++ end_events k p.memory r)
+
+-- the update of this kind that is due is made, or answered
+abbrev pub Updates : ℕ → Table → List Event → Committing → Table → List Event → Committing → StepKind → Type 0
+Updates s t es c u fs d kind.Mark = (stage_of c ≡ stage.Mark) × IsMarked s t u es fs c d
+Updates s t es c u fs d kind.Write = (stage_of c ≡ stage.Write) × IsWritten s t u es fs c d
+Updates s t es c u fs d kind.Last = (stage_of c ≡ stage.Last) × IsLast t u es fs c d
+Updates s t es c u fs d _ = ⊥
+
+-- no update is made, but where one was due the committer has turned to undoing
+pub record IsTurned (t : Table) (es : List Event) (c : Committing) (u : Table) (fs : List Event) (d : Committing) : Type 0 where
+  pub table : u ≡ t
+  pub list : fs ≡ es
+  pub committer : d ≡ without_memory c
+
+-- nothing is due but the end
+pub record IsOver (c : Committing) : Type 0 where
+  pub finish : stage_of c ≡ stage.Finish
+  pub unended : c.ended ≡ false
+
+-- what a session does then whose commit has ended so: of an accepted one the base is to move, and a refused one is over
+abbrev pub EndsSo : Committing → Work → StepOut → Type 0
+EndsSo c v (answers.Went kind.Finish) = IsTrue (is_past c.outcome) × (v ≡ work.Move c.revision)
+EndsSo c v (answers.Ready (ends.Commit e)) = (c.outcome ≡ Some e) × (is_past c.outcome ≡ false) × (v ≡ work.Rest)
+EndsSo c v _ = ⊥
+
+module _ (s k : ℕ) (p : Parts) (c : Committing) (q : Parts) (v : Work) where
+  -- the update that is due is made, or answered
+  abbrev pub GoesOn : StepOut → Type 0
+  GoesOn (answers.Went x) = (q.memory ≡ p.memory) × (d : Committing) × (v ≡ work.Commit d) × Updates s p.table p.list c q.table q.list d x
+  GoesOn _ = ⊥
+
+  -- a document is undone, or the revision ends
+  abbrev pub Ends : StepOut → Type 0
+  Ends (answers.Went kind.Undo) = (stage_of c ≡ stage.Undo) × (q.memory ≡ p.memory) × (d : Committing) × (v ≡ work.Commit d) × IsUndone s p.table q.table p.list q.list c d
+  Ends o = (stage_of c ≡ stage.Finish) × (q ≡ parts_ended k p c.revision) × EndsSo c v o
+
+-- a step of a commit; where memory is refused for its update it turns to undoing, and takes the first step of that
+abbrev pub CommitsOn : ℕ → ℕ → Parts → Committing → Parts → Work → StepOut → Type 0
+CommitsOn s k p c q v o = GoesOn s k p c q v o ⊎ Ends s k p (without_memory c) q v o
+
+-- the base moves to the head once that sees r, and awaits an earlier revision until then
+abbrev pub Moves : ℕ → NodeState → List Event → Revision → NodeState → List Event → Work → StepOut → Type 0
+Moves s m es r n fs v (answers.Wait o) = (n ≡ m) × (fs ≡ es) × (v ≡ work.Move r) × AwaitsEarlier m r o
+Moves s m es r n fs v (answers.Ready (ends.Commit (end.Committed o))) =
+    (o ≡ r) × IsTrue (sees m.head r) × (n ≡ with_pin m s (pin_now m)) × (fs ≡ es ++ event.Refresh s m.head ∷ []) × (v ≡ work.Rest)
+Moves s m es r n fs v _ = ⊥
+
+-- ---- all
+
+-- memory was refused: nothing is changed, and the task has ended
+abbrev pub Refused : Parts → Parts → Work → Type 0
+Refused p q v = (q ≡ p) × (v ≡ work.Rest)
+
+-- how a step of session s of cluster node k goes, by what it does: the parts after it, what the session does then, and the answer
+abbrev pub Steps : ℕ → ℕ → Parts → Work → Parts → Work → StepOut → Type 0
+Steps s k p work.Login q v (answers.Ready (ends.Pinned pin)) =
+    (pin ≡ pin_now p.memory) × (q ≡ parts p.table (with_pin p.memory s (pin_now p.memory)) (p.list ++ event.Login s p.memory.head ∷ [])) × (v ≡ work.Rest)
+Steps s k p work.Login q v answers.Memory = Refused p q v
+Steps s k p work.Login q v _ = ⊥
+Steps s k p work.End q v (answers.Ready ends.Ended) = (q ≡ parts p.table (without_pin p.memory s) (p.list ++ event.Went s kind.End ∷ [])) × (v ≡ work.Rest)
+Steps s k p work.End q v answers.Memory = Refused p q v
+Steps s k p work.End q v _ = ⊥
+Steps s k p work.Refresh q v (answers.Ready (ends.Pinned pin)) =
+    (pin ≡ pin_now p.memory) × (q ≡ parts p.table (with_pin p.memory s (pin_now p.memory)) (p.list ++ event.Refresh s p.memory.head ∷ [])) × (v ≡ work.Rest)
+Steps s k p work.Refresh q v answers.Memory = Refused p q v
+Steps s k p work.Refresh q v _ = ⊥
+Steps s k p (work.Read r) q v o = (q ≡ p) × ReadsOn p.table r v o
+Steps s k p (work.Plan edit marks) q v (answers.Went kind.Draw) =
+    (q ≡ parts p.table (with_notes (next_draw p.memory) (with_draw p.memory (next_draw p.memory)) (marked_paths marks))
+    (p.list ++ event.Draw (record { revision = next_draw p.memory; session = s; base = base_at p.memory s; edit = edit; marks = marks }) ∷ []))
+    × (v ≡ work.Commit (begun (next_draw p.memory) (base_at p.memory s) edit marks))
+Steps s k p (work.Plan edit marks) q v answers.Memory = Refused p q v
+Steps s k p (work.Plan edit marks) q v _ = ⊥
+Steps s k p (work.Commit c) q v o = CommitsOn s k p c q v o
+Steps s k p (work.Move r) q v o = (q.table ≡ p.table) × Moves s p.memory p.list r q.memory q.list v o
+Steps s k p work.Rest q v answers.Memory = Refused p q v
+Steps s k p work.Rest q v _ = ⊥
+
+-- ---- places
+
+-- for how many events of a commit places are kept: for each write and its undoing, for the last write or a refusal, for the end with the head, and for the move of the base
+abbrev pub needed_by : Committing → ℕ
+needed_by c = by c.outcome
+  where
+    by : Option CommitEnd → ℕ
+    by None = 2 * length c.writer.left + length c.writer.written + 4
+    by (Some (end.Committed r)) = 3
+    by (Some (end.Clash item o)) = length c.writer.written + 2
+    by (Some end.Memory) = length c.writer.written + 2
+
+abbrev pub needed : Work → ℕ
+needed (work.Commit c) = needed_by c
+needed (work.Move r) = 1
+needed _ = 0
+
+-- ---- what a step takes
+
+-- the revision is in flight by the memory, it hasn't ended, and places are kept
+pub record CanCommit (m : NodeState) (places : ℕ) (c : Committing) : Type 0 where
+  pub flying : IsInFlight m c.revision
+  pub unended : c.ended ≡ false
+  pub places : needed_by c ≤ places
+
+-- the revision has ended by the memory, the session is pinned, and a place is kept
+pub record CanMove (s : ℕ) (m : NodeState) (places : ℕ) (r : Revision) : Type 0 where
+  pub ended : HasEnded m r
+  pub pinned : IsSome (pin_of m s)
+  pub place : 1 ≤ places
+
+abbrev pub CanStep : ℕ → NodeState → ℕ → Work → Type 0
+CanStep s m places work.Refresh = IsSome (pin_of m s)
+CanStep s m places (work.Plan edit marks) = known_time m < 2 ^ 64 - 1
+CanStep s m places (work.Commit c) = CanCommit m places c
+CanStep s m places (work.Move r) = CanMove s m places r
+CanStep s m places _ = Unit {0}
