@@ -140,16 +140,18 @@ module _ (c : Committing) where
     roots = roots_in before (found c.base c.revision p c.marks before);
   }
 
-  -- the update that was due is made: a mark, a document, or the last write, which commits
+  -- the next document is written, or the last write is made, which commits
+  abbrev pub written_by : List Path → Option Document → Committing
+  written_by (p ∷ ps) before = written p ps before
+  written_by [] before = record c { outcome = Some (end.Committed c.revision) }
+
+  -- the update that was due is made: a mark, or one of these
+  abbrev pub advanced_by : List Met → Option Document → Committing
+  advanced_by (f ∷ fs) before = record c { writer = record c.writer { due = fs }; roots = drop 1 c.roots }
+  advanced_by [] before = written_by c.writer.left before
+
   abbrev pub advanced : Option Document → Committing
-  advanced before = by_due c.writer.due
-    where
-      by_left : List Path → Committing
-      by_left (p ∷ ps) = written p ps before
-      by_left [] = record c { outcome = Some (end.Committed c.revision) }
-      by_due : List Met → Committing
-      by_due (f ∷ fs) = record c { writer = record c.writer { due = fs }; roots = drop 1 c.roots }
-      by_due [] = by_left c.writer.left
+  advanced before = advanced_by c.writer.due before
 
   -- the condition of the update that was due is false: of a mark, since the other is committed; or of the last write, since a collision is kept
   abbrev pub blocked : Kept → Committing
@@ -178,17 +180,26 @@ module _ (c : Committing) where
   fed_end reply.Finished = record c { ended = true }
   fed_end _ = c
 
+  -- the first document that is written and not undone is undone
+  abbrev pub with_undone : Committing
+  with_undone = record c { writer = record c.writer { written = drop 1 c.writer.written } }
+
+  -- it is ended, where nothing is left to undo
+  abbrev pub ended_by : List Path → Committing
+  ended_by [] = record c { ended = true }
+  ended_by (p ∷ ps) = c
+
   -- while it undoes
-  abbrev pub fed_undoing : List Path → Reply → Committing
-  fed_undoing [] r = fed_end r
-  fed_undoing (p ∷ ps) reply.Undone = record c { writer = record c.writer { written = ps } }
-  fed_undoing (p ∷ ps) _ = c
+  abbrev pub fed_undoing : Reply → Committing
+  fed_undoing reply.Undone = with_undone
+  fed_undoing reply.Finished = ended_by c.writer.written
+  fed_undoing _ = c
 
   abbrev pub fed_by : Option CommitEnd → Reply → Committing
   fed_by None r = fed_going r
   fed_by (Some (end.Committed o)) r = fed_end r
-  fed_by (Some (end.Clash item o)) r = fed_undoing c.writer.written r
-  fed_by (Some end.Memory) r = fed_undoing c.writer.written r
+  fed_by (Some (end.Clash item o)) r = fed_undoing r
+  fed_by (Some end.Memory) r = fed_undoing r
 
 -- what a committer keeps after a reply to what was due
 abbrev pub fed : Committing → Reply → Committing

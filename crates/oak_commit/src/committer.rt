@@ -1,16 +1,16 @@
 // The committing automaton.
-ghost use Rattle.std.specs.Prelude.{◌≡◌, IfOk, IsTrue, None, OnErr, OnOk, Some, false, length, slice_get};
+ghost use Rattle.std.specs.Prelude.{◌≡◌, [], IfOk, IsTrue, None, OnErr, OnOk, Some, false, length, slice_get};
 ghost use Rattle.std.specs.Option.{option_copied, option_map};
 ghost use Rattle.jr_path.specs.Ids.{names_of};
 ghost use Rattle.oak_commit.specs.Clashing.{mark_op};
-ghost use Rattle.oak_commit.specs.Committing.{advanced, asks_undo, begun, blocked, due_by, due_of, end_due, fed, fed_end, fed_going, fed_undoing, is_past, mark_due, refused, tells_written, undo_due, undo_id, wanting, without_memory, written_paths};
-ghost use Rattle.oak_commit.specs.Stages.{end_stage, stage_of, update_stage};
+ghost use Rattle.oak_commit.specs.Committing.{advanced, asks_undo, begun, blocked, due_by, due_of, end_due, ended_by, fed, fed_end, fed_going, fed_undoing, is_past, mark_due, refused, tells_written, undo_due, undo_id, wanting, with_undone, without_memory, written_by, written_paths};
+ghost use Rattle.oak_commit.specs.Stages.{end_stage, stage_of, undo_stage, update_stage};
 ghost use Rattle.oak_doc.specs.declared.asks.Ask.TheVariants as ask;
 
-use crate::{CommitEnd, Stage};
 use crate::met::Due;
 use crate::ops::mark_op;
 use crate::plan::Plan;
+use crate::{CommitEnd, Stage};
 use jr_path::{DocId, Item, List};
 use jr_rev::{RevVec, Revision};
 use jr_tree::Edit;
@@ -86,13 +86,7 @@ impl Committer {
         match &self.outcome {
             None => self.update_stage(),
             Some(CommitEnd::Committed(_)) => self.end_stage(),
-            Some(CommitEnd::Clash { .. } | CommitEnd::Memory) => {
-                if self.undone < self.written {
-                    Stage::Undo
-                } else {
-                    self.end_stage()
-                }
-            }
+            Some(CommitEnd::Clash { .. } | CommitEnd::Memory) => self.undo_stage(),
         }
     }
 
@@ -200,18 +194,28 @@ impl Committer {
         if !self.due.is_empty() {
             return Stage::Mark;
         }
-        if self.written < self.plan.ids().len() {
-            Stage::Write
-        } else {
-            Stage::Last
+        match self.plan.ids().get(self.written) {
+            Some(_) => Stage::Write,
+            None => Stage::Last,
         }
     }
 
-    // What is due behind all updates.
+    // Which kind is due behind all updates.
     fn end_stage(&self) -> Stage
         ensures { result ≡ end_stage self.now }
     {
         if self.ended { Stage::Done } else { Stage::Finish }
+    }
+
+    // Which kind is due while it undoes.
+    fn undo_stage(&self) -> Stage
+        ensures { result ≡ undo_stage self.now }
+    {
+        if self.undone < self.written {
+            Stage::Undo
+        } else {
+            self.end_stage()
+        }
     }
 
     // The update that is due before the commit point, or the commit point.
@@ -281,6 +285,17 @@ impl Committer {
             self.due.remove(0);
             return Ok(());
         }
+        self.go_on(before)
+    }
+
+    // A document is written, or the last write is made.
+    fn go_on(&mut self, before: Option<Document>) -> Result<(), AllocError>
+        requires going { self.old.outcome ≡ None }
+        requires marked { self.old.writer.due ≡ [] }
+        ensures ok { OnOk result (self.new ≡ written_by self.old self.old.writer.left before) }
+        ensures err { OnErr result (self.new ≡ wanting (written_by self.old self.old.writer.left before)) }
+        ensures only { OnErr result (IsTrue (tells_written self.old (Reply.Updated before))) }
+    {
         let Some(id) = self.plan.ids().get(self.written) else {
             self.outcome = Some(CommitEnd::Committed(self.revision));
             return Ok(());
@@ -336,14 +351,30 @@ impl Committer {
 
     // A reply while it undoes.
     fn feed_undoing(&mut self, reply: Reply)
-        ensures { self.new ≡ fed_undoing self.old self.old.writer.written reply }
+        ensures { self.new ≡ fed_undoing self.old reply }
+    {
+        match reply {
+            Reply::Undone => self.count_undone(),
+            Reply::Finished => self.end_undone(),
+            _ => {}
+        }
+    }
+
+    // One more document is undone.
+    fn count_undone(&mut self)
+        ensures { self.new ≡ with_undone self.old }
+    {
+        if self.undone < self.written {
+            self.undone += 1;
+        }
+    }
+
+    // It is ended, where all is undone.
+    fn end_undone(&mut self)
+        ensures { self.new ≡ ended_by self.old self.old.writer.written }
     {
         if self.undone == self.written {
-            self.feed_end(reply);
-            return;
-        }
-        if let Reply::Undone = reply {
-            self.undone += 1;
+            self.ended = true;
         }
     }
 

@@ -1,5 +1,5 @@
 // What a committer meets in a document: the other revisions with a mark there that clashes with one of its own.
-ghost use Rattle.std.specs.Prelude.{◌≡◌, ◌∷◌, [], ◌++◌, IfOk, OnOk, Some, filter, map, take, true};
+ghost use Rattle.std.specs.Prelude.{◌≡◌, ◌∷◌, [], ◌++◌, IfOk, OnOk, Some, filter, map, option_to_list, take, true};
 ghost use Rattle.std.specs.List.{flat_map, list_any};
 ghost use Rattle.std.specs.Map.{keys_of};
 ghost use Rattle.std.specs.Option.{option_copied, option_map, option_map_or};
@@ -40,11 +40,19 @@ pub(crate) fn met_in(
 {
     let mut dues = Vec::new(alloc);
     for (other, _) in revisions_in(alloc, document)?.into_inner() {
-        if let Some(due) = met_of(alloc, base, r, path, mine, document, other)? {
-            dues.push(due)?;
-        }
+        let due = met_of(alloc, base, r, path, mine, document, other)?;
+        push_some(&mut dues, due)?;
     }
     Ok(dues)
+}
+
+fn push_some(dues: &mut Vec<Due>, due: Option<Due>) -> Result<(), AllocError>
+    ensures { OnOk result (dues.new.items ≡ dues.old.items ++ option_to_list due) }
+{
+    if let Some(due) = due {
+        dues.push(due)?;
+    }
+    Ok(())
 }
 
 // What it meets of another there, unless its base sees that.

@@ -1,6 +1,7 @@
 // The updates of a commit.
-ghost use Rattle.std.specs.Prelude.{◌≡◌, ◌++◌, IfOk, OnOk};
+ghost use Rattle.std.specs.Prelude.{◌≡◌, ◌++◌, [], IfOk, OnOk, slice_get};
 ghost use Rattle.std.specs.List.{flat_map};
+ghost use Rattle.std.specs.Option.{option_map_or};
 ghost use Rattle.jr_path.specs.Ids.{names_of};
 ghost use Rattle.oak_clash.specs.Clashes.{commit_root};
 ghost use Rattle.oak_commit.specs.Clashing.{mark_op};
@@ -88,11 +89,26 @@ pub(crate) fn put_entries_at(
         return Ok(());
     };
     for at in places.inner() {
-        if let Some(write) = writes.get(*at) {
-            put_entry(changes, r, path, write)?;
-        }
+        put_entry_at(changes, r, path, writes, *at)?;
     }
     Ok(())
+}
+
+// Puts the entry of the write at a place of an edit.
+fn put_entry_at(
+    changes: &mut List<Change>,
+    r: Revision,
+    path: &Path,
+    writes: &[Write],
+    at: usize,
+) -> Result<(), AllocError>
+    ensures { OnOk result (changes.new ≡ changes.old
+        ++ option_map_or (writing.entry_of r path.now) (slice_get writes.now at) []) }
+{
+    match writes.get(at) {
+        Some(write) => put_entry(changes, r, path, write),
+        None => Ok(()),
+    }
 }
 
 // Puts the entry that a write makes in the document of a node.

@@ -1,5 +1,6 @@
 // At which places of a list the items of each path stand.
-ghost use Rattle.std.specs.Prelude.{◌≡◌, IfOk, OnOk, map};
+ghost use Rattle.std.specs.Prelude.{◌≡◌, ◌++◌, ◌∷◌, [], IfOk, OnOk, map, slice_get};
+ghost use Rattle.std.specs.Option.{option_map_or};
 ghost use Rattle.oak_commit.specs.Places.{Finds, items_at, path_of_write, places_of, with_place};
 
 use jr_path::{DeepCopy, Keyed, List, Path};
@@ -66,9 +67,18 @@ pub(crate) fn marks_here(
         return Ok(here);
     };
     for at in places.inner() {
-        if let Some(mark) = marks.get(*at) {
-            here.push(mark.mark.copy()?)?;
-        }
+        push_mark(&mut here, marks, *at)?;
     }
     Ok(here)
+}
+
+// Puts a copy of the mark at a place.
+fn push_mark(here: &mut Vec<Mark>, marks: &[MarkAt], at: usize) -> Result<(), AllocError>
+    ensures { OnOk result (here.new.items ≡ here.old.items
+        ++ option_map_or (λ m. m.mark ∷ []) (slice_get marks.now at) []) }
+{
+    if let Some(mark) = marks.get(at) {
+        here.push(mark.mark.copy()?)?;
+    }
+    Ok(())
 }

@@ -82,7 +82,8 @@ impl Plan {
         let mut changes = List::new(self.alloc);
         put_entries_at(&mut changes, r, path, self.edit.writes.as_slice(), &self.writes)?;
         put_rooting(&mut changes, r, path, &self.root)?;
-        put_markings_of(&mut changes, r, &self.marks_at(path)?)?;
+        let mine = self.marks_at(path)?;
+        put_markings_of(&mut changes, r, mine.as_slice())?;
         Ok(UpdateOp {
             id: DocId::Node(path.copy()?),
             create: true,
@@ -129,7 +130,7 @@ impl Plan {
             (met_in base.now r path.now (marks_at path.now self.now.marks) document.now)) }
     {
         let mine = self.marks_at(path)?;
-        met_in(self.alloc, base, r, path, &mine, document)
+        met_in(self.alloc, base, r, path, mine.as_slice(), document)
     }
 
     // The marks at a path.

@@ -1,5 +1,6 @@
 -- What a session is told of a world: the history so far and what is being done for the session, and what a step makes of these.
-use Rattle.std.specs.Prelude.{◌≡◌, ◌⊎◌, ◌≤◌, ◌<◌, ℕ, Bool, true, false, ⊤, List, [], ◌∷◌, ◌++◌, length, reverse, Option, None, Some, IsTrue, IsFalse}
+use Rattle.std.specs.Prelude.{◌≡◌, ◌⊎◌, ◌≤◌, ◌<◌, ℕ, Bool, true, false, ⊤, List, [], ◌∷◌, ◌++◌, length, reverse, Option, None, Some, IfSome, IsTrue, IsFalse}
+use Rattle.std.specs.Borrow.{GName}
 use Rattle.std.specs.Option.{option_map_or}
 use Rattle.jr_path.specs.declared.path.Item.{Item}
 use Rattle.jr_path.specs.declared.path.Path.{Path}
@@ -17,12 +18,13 @@ use Rattle.oak_machine.specs.declared.event.StepKind.{StepKind}
 use Rattle.oak_machine.specs.declared.event.StepKind.TheVariants as kind
 use Rattle.oak_machine.specs.History.{History, Past}
 use Rattle.oak_machine.specs.Commits.{tree_at}
+use Rattle.oak_machine.specs.Heads.{head_of}
 use Rattle.oak_machine.specs.Laws.{AreOthers, Says, Starts, after}
 use Rattle.oak_machine.specs.Runs.{AreNodes, IsRun}
 use Rattle.oak_machine.specs.Sessions.{base_of, has_left, has_login, is_attached, next_index}
-use Rattle.oak_machine.specs.Steps.{is_appended_by}
-use Rattle.oak_port.specs.declared.task.CommitEnd.{CommitEnd}
-use Rattle.oak_port.specs.declared.task.CommitEnd.TheVariants as commit
+use Rattle.oak_machine.specs.Steps.{is_appended_by, is_kind}
+use Rattle.oak_commit.specs.declared.outcome.CommitEnd.{CommitEnd}
+use Rattle.oak_commit.specs.declared.outcome.CommitEnd.TheVariants as commit
 use Rattle.oak_port.specs.declared.task.StepOut.{StepOut}
 use Rattle.oak_port.specs.declared.task.StepOut.TheVariants as out
 use Rattle.oak_port.specs.declared.task.Task.{Task}
@@ -40,12 +42,25 @@ pub data Work : Type 0 where
   Deciding : Revision → Work
   Awaiting : Revision → Work
 
--- the history so far, the session, what is being done for it, and how many bytes of its next reply have a place, where that has one
+-- what is being done for a session, how many bytes of its next reply have a place, where that has one, and the kind of its next step
+pub record Seat : Type 0 where
+  pub work : Work
+  pub room : Option ℕ
+  pub due : Option StepKind
+
+-- which reference leads to the world, and the seats of the other sessions, where nobody else steps it
+pub record Beside : Type 0 where
+  pub name : GName
+  pub seats : Option (List Seat)
+
+-- the history so far, the session, its seat, and what stands beside it
 pub record Shown : Type 0 where
   pub history : History
   pub session : ℕ
   pub work : Work
   pub room : Option ℕ
+  pub due : Option StepKind
+  pub beside : Beside
 
 -- ---- what is added
 
@@ -55,13 +70,16 @@ pub record Grows (starts : Starts) (says : Says) (s : ℕ) (old new : History) (
   pub theirs : AreOthers s others old.past
   pub run : IsRun starts says new
 
--- nothing but events of others was added, and all but the history is this
+-- nothing but events of others was added, none where nobody else steps the world, and all but the history is this; what is due stays with what is being done
 pub record Waits (starts : Starts) (says : Says) (old new : Shown) (work : Work) (room : Option ℕ) : Type 0 where
   pub others : Past
   pub grows : Grows starts says old.session old.history new.history others []
   pub session : new.session ≡ old.session
   pub work_is : new.work ≡ work
   pub room_is : new.room ≡ room
+  pub same_due : (work ≡ old.work) → new.due ≡ old.due
+  pub beside : new.beside ≡ old.beside
+  pub alone : IfSome old.beside.seats (λ seats. others ≡ [])
 
 -- ---- what a step makes
 
@@ -79,10 +97,10 @@ pub record IsDrawFor (s : ℕ) (edit : Edit) (marks : List MarkAt) (d : Draw) : 
   pub edit_is : d.edit ≡ edit
   pub marks_are : d.marks ≡ marks
 
--- a commit that writes makes one write or one mark, or is decided by a mark or by its last write: committed, or refused for a clash
+-- a commit that writes makes one write, behind which it undoes where memory is refused for what it met there; or one mark; or it is decided by a mark or by its last write: committed, or refused for a clash
 abbrev pub WritesOn : ℕ → Revision → StepKind → Past → Work → Type 0
 WritesOn s r k own now =
-    ((k ≡ kind.Write) × (own ≡ event.Went s kind.Write ∷ []) × (now ≡ Writing r))
+    ((k ≡ kind.Write) × (own ≡ event.Went s kind.Write ∷ []) × ((now ≡ Writing r) ⊎ (now ≡ Undoing r commit.Memory)))
     ⊎ ((k ≡ kind.Mark) × (own ≡ event.Went s kind.Mark ∷ []) × (now ≡ Writing r))
     ⊎ ((k ≡ kind.Last) × (own ≡ event.Commit r ∷ []) × (now ≡ Deciding r))
     ⊎ ((item : Item) × (o : Revision) × (own ≡ event.Refuse r item o ∷ []) × (now ≡ Undoing r (commit.Clash item o)))
@@ -103,8 +121,8 @@ Makes h s (Writing r) out.Memory own now = (own ≡ []) × (now ≡ Undoing r co
 Makes h s (Undoing r e) (out.Went k) own now = (k ≡ kind.Undo) × (own ≡ event.Went s kind.Undo ∷ []) × (now ≡ Undoing r e)
 Makes h s (Undoing r e) (out.Ready (end.Commit f)) own now = (f ≡ e) × IsFinish r own × (now ≡ Idle)
 Makes h s (Deciding r) (out.Went k) own now = (k ≡ kind.Finish) × IsFinish r own × (now ≡ Awaiting r)
-Makes h s (Awaiting r) (out.Wait q) own now = (own ≡ []) × (now ≡ Awaiting r)
-Makes h s (Awaiting r) (out.Ready (end.Commit f)) own now = (f ≡ commit.Committed r) × (v : RevVec) × IsTrue (sees v r) × (own ≡ event.Refresh s v ∷ []) × (now ≡ Idle)
+Makes h s (Awaiting r) (out.Wait q) own now = (own ≡ []) × (now ≡ Awaiting r) × IsFalse (sees (head_of h.clusters h.past r.cluster) r)
+Makes h s (Awaiting r) (out.Ready (end.Commit f)) own now = (f ≡ commit.Committed r) × IsTrue (sees (head_of h.clusters h.past r.cluster) r) × (v : RevVec) × IsTrue (sees v r) × (own ≡ event.Refresh s v ∷ []) × (now ≡ Idle)
 Makes h s _ _ own now = ⊥
 
 -- the kind of the step that ended a task
@@ -122,15 +140,29 @@ AreOfStep h s work (out.Went k) own = IsTrue (is_appended_by h s k (reverse own)
 AreOfStep h s work (out.Ready e) own = IsTrue (is_appended_by h s (last_kind work) (reverse own))
 AreOfStep h s work _ own = own ≡ []
 
--- events of others were added, and then a step made these
+-- the kind is due
+abbrev pub is_due : StepKind → Option StepKind → Bool
+is_due k due = option_map_or (is_kind k) due false
+
+-- a write, a mark and a last write are made only where they are due
+abbrev pub is_by_due : Option StepKind → Past → Bool
+is_by_due due (event.Went s kind.Write ∷ []) = is_due kind.Write due
+is_by_due due (event.Went s kind.Mark ∷ []) = is_due kind.Mark due
+is_by_due due (event.Commit r ∷ []) = is_due kind.Last due
+is_by_due due _ = true
+
+-- events of others were added, none where nobody else steps the world, and then a step made these
 pub record Steps (starts : Starts) (says : Says) (old new : Shown) (answer : StepOut) : Type 0 where
   pub others : Past
   pub own : Past
   pub grows : Grows starts says old.session old.history new.history others own
   pub makes : Makes (after others old.history) old.session old.work answer own new.work
   pub of_step : AreOfStep (after others old.history) old.session old.work answer own
+  pub as_due : IsTrue (is_by_due old.due own)
   pub session : new.session ≡ old.session
   pub room : new.room ≡ old.room
+  pub beside : new.beside ≡ old.beside
+  pub alone : IfSome old.beside.seats (λ seats. others ≡ [])
 
 -- events of others were added, and then the reply; its place is taken
 pub record Answers (starts : Starts) (says : Says) (old new : Shown) (index : ℕ) (text : Text) : Type 0 where
@@ -139,6 +171,8 @@ pub record Answers (starts : Starts) (says : Says) (old new : Shown) (index : �
   pub session : new.session ≡ old.session
   pub work : new.work ≡ Idle
   pub room : new.room ≡ None
+  pub beside : new.beside ≡ old.beside
+  pub alone : IfSome old.beside.seats (λ seats. others ≡ [])
 
 -- ---- what a task asks
 

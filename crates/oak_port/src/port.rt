@@ -17,7 +17,7 @@ pub trait Port {
     /// The law of the world.
     ghost law: { Self → Self.L };
 
-    /// The history so far, the session, what is being done for it, and the place of its next reply.
+    /// The history so far, the session, what is being done for it, the place of its next reply, the kind of its next step, and what stands beside it.
     ghost shown: { Self → Shown };
 
     /// Begins a task. Memory may be refused, and then nothing is begun.
@@ -38,6 +38,7 @@ pub trait Port {
     fn due(&mut self) -> Option<StepKind>
         ensures law { law self.new ≡ law self.old }
         ensures same { Waits (Self.L.may_start (law self.old)) (Self.L.may_say (law self.old)) (shown self.old) (shown self.new) (shown self.old).work (shown self.old).room }
+        ensures due { result ≡ (shown self.new).due }
         ensures busy { IsSome result ↔ ((shown self.old).work ≢ Idle) };
 
     /// The session's pin; None before its login and once it has left.

@@ -1,8 +1,9 @@
 // The tasks of a session, and what their steps answer.
-use jr_path::{Item, List, Name, Path};
+use jr_path::{List, Name, Path};
 use jr_rev::{Pin, Revision};
 use jr_tree::{Edit, Node};
 use oak_clash::MarkAt;
+use oak_commit::CommitEnd;
 use oak_machine::StepKind;
 
 /// What a world is asked to do for a session, one step after another.
@@ -20,16 +21,6 @@ pub enum Task {
     List(Path),
     /// An edit with its marks is committed.
     Commit(Edit, List<MarkAt>),
-}
-
-/// How a commit ends.
-#[derive(Drop)]
-pub enum CommitEnd {
-    Committed(Revision),
-    /// It was refused for another commit that it clashes with in its item.
-    Clash { item: Item, other: Revision },
-    /// Memory was refused before the commit point.
-    Memory,
 }
 
 /// How a task ends.

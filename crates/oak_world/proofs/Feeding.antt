@@ -1,12 +1,14 @@
 -- What a committer keeps after a reply, by where it stands; and the committer at work that it is seen as.
-use Rattle.std.proofs.Common.{◌≡◌, ℕ, Bool, true, false, List, [], ◌∷◌, ◌++◌, drop, Option, Some, None, refl, sym, ap, subst, ◌∙◌}
+use Rattle.std.proofs.Common.{◌≡◌, ℕ, Bool, true, false, List, [], ◌∷◌, Option, Some, None, refl, sym, ap, subst, ◌∙◌}
 use Rattle.jr_path.specs.declared.path.Path.{Path}
 use Rattle.jr_path.specs.declared.path.Item.{Item}
 use Rattle.jr_rev.specs.declared.revision.Revision.{Revision}
-use Rattle.oak_commit.specs.Clashing.{Met, found, mark_op}
-use Rattle.oak_commit.specs.Committing.{Committing, fed, first_path, refused, roots_in, wanting, without_memory}
+use Rattle.oak_commit.specs.Clashing.{Met, mark_op}
+use Rattle.oak_commit.specs.Committing.{Committing, advanced_by, fed, fed_by, first_path, refused, wanting, with_undone, without_memory, written, written_by}
 use Rattle.oak_commit.specs.Kept.{undoes}
+use Rattle.oak_commit.specs.Stages.{stage_of}
 use Rattle.oak_commit.specs.Writing.{last_op, write_op}
+use Rattle.oak_commit.specs.declared.stage.Stage.TheVariants as stage
 use Rattle.oak_commit.specs.declared.outcome.CommitEnd.{CommitEnd}
 use Rattle.oak_commit.specs.declared.outcome.CommitEnd.TheVariants as end
 use Rattle.oak_doc.specs.declared.document.Document.{Document}
@@ -15,7 +17,7 @@ use Rattle.oak_doc.specs.declared.update.Cond.{Cond}
 use Rattle.oak_doc.specs.declared.update.Kept.{Kept}
 use Rattle.oak_doc.specs.declared.update.Kept.TheVariants as kept
 use Rattle.core_clash.specs.Sessions.{Running}
-use Rattle.oak_world.specs.Parts.{op_due}
+use Rattle.oak_world.specs.Parts.{committed, marked, op_due}
 use Rattle.oak_world.specs.Worlds.{running_as}
 
 module _ (c : Committing) (going : c.outcome ≡ None) where
@@ -26,17 +28,24 @@ module _ (c : Committing) (going : c.outcome ≡ None) where
   pub want_is : without_memory c ≡ wanting c
   want_is = subst (λ (d : Committing). without_memory d ≡ wanting d) (sym at_going) refl
 
+  -- the update that was due is made
+  fed_going_is : (b : Option Document) → fed c (reply.Updated b) ≡ advanced_by c c.writer.due b
+  fed_going_is b = ap (λ (o : Option CommitEnd). fed_by c o (reply.Updated b)) going
+
   -- ---- a mark is due
 
   module _ (f : Met) (rest : List Met) (due : c.writer.due ≡ f ∷ rest) where
     at_mark : c ≡ record c { outcome = None; writer = record c.writer { due = f ∷ rest } }
     at_mark = at_going ∙ ap (λ (ds : List Met). record c { outcome = None; writer = record c.writer { due = ds } }) due
 
+    pub stage_mark : stage_of c ≡ stage.Mark
+    stage_mark = subst (λ (d : Committing). stage_of d ≡ stage.Mark) (sym at_mark) refl
+
     pub op_mark : op_due c ≡ mark_op (first_path c.roots) f.other c.revision f.theirs
     op_mark = subst (λ (d : Committing). op_due d ≡ mark_op (first_path d.roots) f.other d.revision f.theirs) (sym at_mark) refl
 
-    pub fed_mark : (b : Option Document) → fed c (reply.Updated b) ≡ record c { writer = record c.writer { due = rest }; roots = drop 1 c.roots }
-    fed_mark b = subst (λ (d : Committing). fed d (reply.Updated b) ≡ record d { writer = record d.writer { due = rest }; roots = drop 1 d.roots }) (sym at_mark) refl
+    pub fed_mark : (b : Option Document) → fed c (reply.Updated b) ≡ marked c rest
+    fed_mark b = fed_going_is b ∙ ap (λ (ds : List Met). advanced_by c ds b) due
 
     pub blocked_mark : (k : Cond) (x : Kept) → fed c (reply.Unmet k x) ≡ refused c f.mine f.other
     blocked_mark k x = subst (λ (d : Committing). fed d (reply.Unmet k x) ≡ refused d f.mine f.other) (sym at_mark) refl
@@ -49,11 +58,14 @@ module _ (c : Committing) (going : c.outcome ≡ None) where
         at_going ∙ (ap (λ (ds : List Met). record c { outcome = None; writer = record c.writer { due = ds } }) unmet
         ∙ ap (λ (ps : List Path). record c { outcome = None; writer = record c.writer { due = []; left = ps } }) left)
 
+    pub stage_write : stage_of c ≡ stage.Write
+    stage_write = subst (λ (d : Committing). stage_of d ≡ stage.Write) (sym at_write) refl
+
     pub op_write : op_due c ≡ write_op c.revision c.edit.writes c.marks p
     op_write = subst (λ (d : Committing). op_due d ≡ write_op d.revision d.edit.writes d.marks p) (sym at_write) refl
 
-    pub fed_write : (b : Option Document) → fed c (reply.Updated b) ≡ record c { writer = record c.writer { left = rest; written = c.writer.written ++ p ∷ []; due = found c.base c.revision p c.marks b }; roots = roots_in b (found c.base c.revision p c.marks b) }
-    fed_write b = subst (λ (d : Committing). fed d (reply.Updated b) ≡ record d { writer = record d.writer { left = rest; written = d.writer.written ++ p ∷ []; due = found d.base d.revision p d.marks b }; roots = roots_in b (found d.base d.revision p d.marks b) }) (sym at_write) refl
+    pub fed_write : (b : Option Document) → fed c (reply.Updated b) ≡ written c p rest b
+    fed_write b = fed_going_is b ∙ (ap (λ (ds : List Met). advanced_by c ds b) unmet ∙ ap (λ (ps : List Path). written_by c ps b) left)
 
   -- ---- all is written
 
@@ -63,11 +75,14 @@ module _ (c : Committing) (going : c.outcome ≡ None) where
         at_going ∙ (ap (λ (ds : List Met). record c { outcome = None; writer = record c.writer { due = ds } }) unmet
         ∙ ap (λ (ps : List Path). record c { outcome = None; writer = record c.writer { due = []; left = ps } }) none)
 
+    pub stage_last : stage_of c ≡ stage.Last
+    stage_last = subst (λ (d : Committing). stage_of d ≡ stage.Last) (sym at_last) refl
+
     pub op_last : op_due c ≡ last_op c.revision c.marks
     op_last = subst (λ (d : Committing). op_due d ≡ last_op d.revision d.marks) (sym at_last) refl
 
-    pub fed_last : (b : Option Document) → fed c (reply.Updated b) ≡ record c { outcome = Some (end.Committed c.revision) }
-    fed_last b = subst (λ (d : Committing). fed d (reply.Updated b) ≡ record d { outcome = Some (end.Committed d.revision) }) (sym at_last) refl
+    pub fed_last : (b : Option Document) → fed c (reply.Updated b) ≡ committed c
+    fed_last b = fed_going_is b ∙ (ap (λ (ds : List Met). advanced_by c ds b) unmet ∙ ap (λ (ps : List Path). written_by c ps b) none)
 
     pub blocked_last : (k : Cond) (o : Revision) (item : Item) → fed c (reply.Unmet k (kept.Entry o item)) ≡ refused c item o
     blocked_last k o item = subst (λ (d : Committing). fed d (reply.Unmet k (kept.Entry o item)) ≡ refused d item o) (sym at_last) refl
@@ -86,17 +101,11 @@ module _ (c : Committing) (going : c.outcome ≡ None) where
 
 -- ---- while it undoes
 
-pub fed_undo : (c : Committing) (p : Path) (rest : List Path) → undoes c.outcome ≡ true → c.writer.written ≡ p ∷ rest → fed c reply.Undone ≡ record c { writer = record c.writer { written = rest } }
-fed_undo c p rest undoing written = by c.outcome refl
+pub fed_undo : (c : Committing) → undoes c.outcome ≡ true → fed c reply.Undone ≡ with_undone c
+fed_undo c undoing = by c.outcome undoing
   where
-    at : (o : Option CommitEnd) → c.outcome ≡ o → c ≡ record c { outcome = o; writer = record c.writer { written = p ∷ rest } }
-    at o is = ap (λ (x : Option CommitEnd). record c { outcome = x }) is ∙ ap (λ (ps : List Path). record c { outcome = o; writer = record c.writer { written = ps } }) written
-
-    kept_so : (o : Option CommitEnd) → c.outcome ≡ o → fed (record c { outcome = o; writer = record c.writer { written = p ∷ rest } }) reply.Undone ≡ record c { outcome = o; writer = record c.writer { written = rest } } → fed c reply.Undone ≡ record c { writer = record c.writer { written = rest } }
-    kept_so o is here = ap (λ (d : Committing). fed d reply.Undone) (at o is) ∙ (here ∙ sym (ap (λ (x : Option CommitEnd). record c { outcome = x; writer = record c.writer { written = rest } }) is))
-
-    by : (o : Option CommitEnd) → c.outcome ≡ o → fed c reply.Undone ≡ record c { writer = record c.writer { written = rest } }
-    by None is = absurd (let u : undoes None ≡ true = subst (λ (x : Option CommitEnd). undoes x ≡ true) is undoing in cc)
-    by (Some (end.Committed r)) is = absurd (let u : undoes (Some (end.Committed r)) ≡ true = subst (λ (x : Option CommitEnd). undoes x ≡ true) is undoing in cc)
-    by (Some (end.Clash item o)) is = kept_so (Some (end.Clash item o)) is refl
-    by (Some end.Memory) is = kept_so (Some end.Memory) is refl
+    by : (o : Option CommitEnd) → undoes o ≡ true → fed_by c o reply.Undone ≡ with_undone c
+    by None h = cc
+    by (Some (end.Committed r)) h = cc
+    by (Some (end.Clash item o)) h = refl
+    by (Some end.Memory) h = refl

@@ -8,8 +8,8 @@ use Rattle.jr_path.specs.declared.path.DocId.TheVariants as id
 use Rattle.jr_rev.specs.declared.revision.Revision.{Revision}
 use Rattle.jr_rev.specs.Revisions.{is_before}
 use Rattle.oak_clash.specs.Clashes.{commit_root}
-use Rattle.oak_commit.specs.Clashing.{Met, found, mark_op}
-use Rattle.oak_commit.specs.Committing.{Committing, fed, first_path, is_past, refused as refused_as, roots_in, wanting}
+use Rattle.oak_commit.specs.Clashing.{Met, mark_op}
+use Rattle.oak_commit.specs.Committing.{Committing, fed, first_path, is_past, refused as refused_as, wanting, with_undone, written}
 use Rattle.oak_commit.specs.declared.outcome.CommitEnd.TheVariants as end
 use Rattle.oak_commit.specs.Writing.{last_op, write_op}
 use Rattle.oak_doc.specs.declared.asks.Reply.TheVariants as reply
@@ -31,10 +31,10 @@ use Rattle.core_clash.specs.Core.{root_of}
 use Rattle.core_clash.specs.Sessions.{Running}
 use Rattle.core_world.specs.States.{State, memory_at, nodes_in, with_memory, with_session}
 use Rattle.core_world.specs.Steps.{after_finish, after_last, after_mark, after_undoing, after_update, after_want, after_write, after_write_in_want, lasted_by, marked_by, moved_head, with_reader, with_result}
-use Rattle.core_world.proofs.Committers.{session_twice}
 use Rattle.oak_world.specs.declared.actor.Work.{Work}
 use Rattle.oak_world.specs.declared.actor.Work.TheVariants as work
-use Rattle.oak_world.specs.Parts.{IsLast, IsLastMade, IsLastRefused, IsMade, IsMarkMade, IsMarkRefused, IsMarked, IsUndone, IsWritten, Parts, end_events, fed_made, op_due, parts, refusal_at, result_of}
+use Rattle.oak_world.specs.Parts.{IsLast, IsLastMade, IsLastRefused, IsMade, IsMarkMade, IsMarkRefused, IsMarked, IsUndone, IsWritten, Parts, committed, end_events, fed_made, marked, op_due, parts, refusal_at, result_of}
+use Rattle.oak_world.specs.Steps.{MakesUpdate}
 use Rattle.oak_world.specs.Worlds.{ActorState, WorldOf, actor_in, node_in, parts_at, reading_of, running_as, running_of, state_of, with_parts, work_in}
 use Rattle.oak_world.proofs.Feeding.{blocked_last, blocked_mark, fed_last, fed_mark, fed_undo, fed_write, going_is, op_last, op_mark, op_write, running_going}
 use Rattle.oak_world.proofs.Stages.{IsLastStage, IsMarkStage, IsUndoStage, IsWriteStage}
@@ -100,16 +100,31 @@ module _ {L : Type 0} (w : WorldOf L) (s : ℕ) (there : s < length w.actors) wh
       ∙ (ap (λ (y : Option Running). moved w s there (moved_head node memory (finished memory r) (event.End r ∷ w.history.past)) w.table (finished memory r) y (reading_of a.work)) runs
       ∙ ap (λ (f : ℕ → Option Reader). record (moved w s there (moved_head node memory (finished memory r) (event.End r ∷ w.history.past)) w.table (finished memory r) None (reading_of a.work)) { reading = f }) (session_same (state_of w).reading s (reading_of a.work) reading)))
 
-  -- ---- an update of a commit
+  -- an event, the memory and the committer
+  pub begins_is : (e : Event) (m : NodeState) (a : ActorState) (x : Option Running) → running_of s a.work ≡ x → reading_of (work_in w.actors s) ≡ reading_of a.work
+      → state_of (with_parts w s (parts w.table m (reverse w.history.past ++ e ∷ [])) a) ≡ record (state_of w) { past = e ∷ w.history.past; memories = with_memory w.memories node m; running = with_session (state_of w).running s x }
+  begins_is e m a x runs reading =
+      moved_is w s there (parts w.table m (reverse w.history.past ++ e ∷ [])) a
+      ∙ (ap (λ (past : Past). moved w s there past w.table m (running_of s a.work) (reading_of a.work)) (newest w.history.past e)
+      ∙ (ap (λ (y : Option Running). moved w s there (e ∷ w.history.past) w.table m y (reading_of a.work)) runs
+      ∙ ap (λ (f : ℕ → Option Reader). record (moved w s there (e ∷ w.history.past) w.table m x (reading_of a.work)) { reading = f }) (session_same (state_of w).reading s (reading_of a.work) reading)))
+
+  -- ---- an operation of a commit on a document
 
   module _ (c : Committing) (q : Parts) (a : ActorState) (d : Committing) (still : q.memory ≡ memory) (does : a.work ≡ work.Commit d) (reading : reading_of (work_in w.actors s) ≡ None) where
+    abbrev now : State
+    now = state_of (with_parts w s q a)
+
+    told : (e : Event) → q.list ≡ reverse w.history.past ++ e ∷ [] → reverse q.list ≡ e ∷ w.history.past
+    told e list = ap (λ (es : List Event). reverse es) list ∙ newest w.history.past e
+
     -- the state after an event e, with these documents, where the committer stands so
     update_is : (e : Event) (t : Table) (y : Committing) → q.list ≡ reverse w.history.past ++ e ∷ [] → q.table ≡ t → d ≡ y
-        → state_of (with_parts w s q a) ≡ record (state_of w) { past = e ∷ w.history.past; table = t; running = with_session (state_of w).running s (Some (running_as s y)) }
+        → now ≡ record (state_of w) { past = e ∷ w.history.past; table = t; running = with_session (state_of w).running s (Some (running_as s y)) }
     update_is e t y list table stands =
         ap (λ (m : NodeState). state_of (with_parts w s (parts q.table m q.list) a)) still
         ∙ (ap (λ (u : Table). state_of (with_parts w s (parts u memory q.list) a)) table
-        ∙ runs_is (e ∷ w.history.past) q.list t a (Some (running_as s y)) (ap (λ (es : List Event). reverse es) list ∙ newest w.history.past e) (ap (running_of s) does ∙ ap (λ (z : Committing). Some (running_as s z)) stands)
+        ∙ runs_is (e ∷ w.history.past) q.list t a (Some (running_as s y)) (told e list) (ap (running_of s) does ∙ ap (λ (z : Committing). Some (running_as s z)) stands)
         (reading ∙ sym (ap reading_of does)))
 
     -- a mark
@@ -120,21 +135,29 @@ module _ {L : Type 0} (w : WorldOf L) (s : ℕ) (there : s < length w.actors) wh
       op_is : op_due c ≡ op
       op_is = op_mark c at.going at.first at.rest at.due ∙ ap (λ (p : Path). mark_op p at.first.other c.revision at.first.theirs) roots
 
-      pub marks_is : IsMarked s w.table q.table (reverse w.history.past) q.list c d → state_of (with_parts w s q a) ≡ after_mark (state_of w) s (running_as s c) at.first at.rest
+      refusal_is : (e : Event) → refusal_at c e → e ≡ event.Refuse c.revision at.first.mine at.first.other
+      refusal_is e is = subst (λ (ds : List Met). refusal_at (record c { writer = record c.writer { due = ds } }) e) at.due is
+
+      marks_is : IsMarked s w.table q.table (reverse w.history.past) q.list c d → now ≡ after_mark (state_of w) s (running_as s c) at.first at.rest
       marks_is (inl m) =
-          update_is (event.Went s kind.Mark) (with_document w.table op.id m.made.document (next_number w.table)) (record c { writer = record c.writer { due = at.rest }; roots = drop 1 c.roots }) m.list
+          update_is (event.Went s kind.Mark) (with_document w.table op.id m.made.document (next_number w.table)) (marked c at.rest) m.list
           (m.made.table ∙ ap (λ (o : UpdateOp). with_document w.table o.id m.made.document (next_number w.table)) op_is)
           (m.committer ∙ fed_mark c at.going at.first at.rest at.due (found_in w.table (op_due c).id))
           ∙ sym (ap (marked_by (state_of w) s (running_as s c) at.first at.rest) (sym (ap (result_of w.table) op_is) ∙ m.made.result))
       marks_is (inr m) =
           update_is (event.Refuse c.revision at.first.mine at.first.other) w.table (refused_as c at.first.mine at.first.other)
-          (m.list ∙ ap (λ (e : Event). reverse w.history.past ++ e ∷ []) (told_as c.writer.due at.due m.told)) m.table
+          (m.list ∙ ap (λ (e : Event). reverse w.history.past ++ e ∷ []) (refusal_is m.refusal m.told)) m.table
           (m.committer ∙ blocked_mark c at.going at.first at.rest at.due m.cause m.thing)
           ∙ (ap (λ (x : Running). record (state_of w) { past = event.Refuse c.revision at.first.mine at.first.other ∷ w.history.past; running = with_session (state_of w).running s (Some (record { draw = x.draw; writer = record x.writer { due = []; undoing = true }; committed = x.committed })) }) (sym (going_is c at.going s))
           ∙ sym (ap (marked_by (state_of w) s (running_as s c) at.first at.rest) (sym (ap (result_of w.table) op_is) ∙ m.result)))
+
+      pub makes_mark : IsMarked s w.table q.table (reverse w.history.past) q.list c d → MakesUpdate s (state_of w) c now d kind.Mark
+      makes_mark m = (at.first, at.rest, at.going, at.due, marks_is m, by m)
         where
-          told_as : (due : List Met) → due ≡ at.first ∷ at.rest → refusal_at (record c { writer = record c.writer { due = due } }) m.refusal → m.refusal ≡ event.Refuse c.revision at.first.mine at.first.other
-          told_as due is told = subst (λ (ds : List Met). refusal_at (record c { writer = record c.writer { due = ds } }) m.refusal) is told
+          by : IsMarked s w.table q.table (reverse w.history.past) q.list c d
+              → ((now.past ≡ event.Went s kind.Mark ∷ w.history.past) × (d ≡ marked c at.rest)) ⊎ ((now.past ≡ event.Refuse c.revision at.first.mine at.first.other ∷ w.history.past) × (d ≡ refused_as c at.first.mine at.first.other))
+          by (inl m) = inl (told (event.Went s kind.Mark) m.list, m.committer ∙ fed_mark c at.going at.first at.rest at.due (found_in w.table (op_due c).id))
+          by (inr m) = inr (told (event.Refuse c.revision at.first.mine at.first.other) (m.list ∙ ap (λ (e : Event). reverse w.history.past ++ e ∷ []) (refusal_is m.refusal m.told)), m.committer ∙ blocked_mark c at.going at.first at.rest at.due m.cause m.thing)
 
     -- a document
     module _ (at : IsWriteStage c) where
@@ -144,34 +167,29 @@ module _ {L : Type 0} (w : WorldOf L) (s : ℕ) (there : s < length w.actors) wh
       table_written : IsMade w.table q.table (op_due c) → q.table ≡ after_update w.table (write_op c.revision c.edit.writes c.marks at.first)
       table_written m = m.table ∙ (sym (ap (with_result w.table (op_due c).id) m.result) ∙ ap (after_update w.table) op_written)
 
-      fed_written : fed_made w.table c ≡ fed c (reply.Updated (nodes_in w.table at.first))
-      fed_written = ap (λ (o : UpdateOp). fed c (reply.Updated (found_in w.table o.id))) op_written
+      abbrev stands : Committing
+      stands = written c at.first at.rest (nodes_in w.table at.first)
 
-      pub writes_is : IsWritten s w.table q.table (reverse w.history.past) q.list c d → (state_of (with_parts w s q a) ≡ after_write (state_of w) s (running_as s c) at.first at.rest) ⊎ (state_of (with_parts w s q a) ≡ after_write_in_want (state_of w) s (running_as s c) at.first at.rest)
-      writes_is m = by m.committer
+      fed_is : fed_made w.table c ≡ stands
+      fed_is = ap (λ (o : UpdateOp). fed c (reply.Updated (found_in w.table o.id))) op_written ∙ fed_write c at.going at.first at.rest at.unmet at.left (nodes_in w.table at.first)
+
+      pub makes_write : IsWritten s w.table q.table (reverse w.history.past) q.list c d → MakesUpdate s (state_of w) c now d kind.Write
+      makes_write m = (at.first, at.rest, at.going, at.unmet, at.left, by m.committer)
         where
-          stands : Committing
-          stands = record c {
-            writer = record c.writer { left = at.rest; written = c.writer.written ++ at.first ∷ []; due = found c.base c.revision at.first c.marks (nodes_in w.table at.first) };
-            roots = roots_in (nodes_in w.table at.first) (found c.base c.revision at.first c.marks (nodes_in w.table at.first));
-          }
-
-          fed_is : fed_made w.table c ≡ stands
-          fed_is = fed_written ∙ fed_write c at.going at.first at.rest at.unmet at.left (nodes_in w.table at.first)
-
-          by : (d ≡ fed_made w.table c) ⊎ (d ≡ wanting (fed_made w.table c)) → (state_of (with_parts w s q a) ≡ after_write (state_of w) s (running_as s c) at.first at.rest) ⊎ (state_of (with_parts w s q a) ≡ after_write_in_want (state_of w) s (running_as s c) at.first at.rest)
-          by (inl e) = inl (update_is (event.Went s kind.Write) (after_update w.table (write_op c.revision c.edit.writes c.marks at.first)) stands m.list (table_written m.made) (e ∙ fed_is))
+          by : (d ≡ fed_made w.table c) ⊎ (d ≡ wanting (fed_made w.table c))
+              → ((now ≡ after_write (state_of w) s (running_as s c) at.first at.rest) × (d ≡ stands)) ⊎ ((now ≡ after_write_in_want (state_of w) s (running_as s c) at.first at.rest) × (d ≡ wanting stands))
+          by (inl e) = inl (update_is (event.Went s kind.Write) (after_update w.table (write_op c.revision c.edit.writes c.marks at.first)) stands m.list (table_written m.made) (e ∙ fed_is), e ∙ fed_is)
           by (inr e) = inr (update_is (event.Went s kind.Write) (after_update w.table (write_op c.revision c.edit.writes c.marks at.first)) (wanting stands) m.list (table_written m.made) (e ∙ ap wanting fed_is)
-              ∙ ap (λ (b : Bool). record (state_of w) { past = event.Went s kind.Write ∷ w.history.past; table = after_update w.table (write_op c.revision c.edit.writes c.marks at.first); running = with_session (state_of w).running s (Some (record (running_as s (wanting stands)) { committed = b })) }) (sym (ap is_past at.going)))
+              ∙ ap (λ (b : Bool). record (state_of w) { past = event.Went s kind.Write ∷ w.history.past; table = after_update w.table (write_op c.revision c.edit.writes c.marks at.first); running = with_session (state_of w).running s (Some (record (running_as s (wanting stands)) { committed = b })) }) (sym (ap is_past at.going)), e ∙ ap wanting fed_is)
 
     -- the last write
     module _ (at : IsLastStage c) where
       op_lasts : op_due c ≡ last_op c.revision c.marks
       op_lasts = op_last c at.going at.unmet at.none
 
-      pub lasts_is : IsLast w.table q.table (reverse w.history.past) q.list c d → state_of (with_parts w s q a) ≡ after_last (state_of w) s (running_as s c)
+      lasts_is : IsLast w.table q.table (reverse w.history.past) q.list c d → now ≡ after_last (state_of w) s (running_as s c)
       lasts_is (inl m) =
-          update_is (event.Commit c.revision) (with_document w.table (id.Node (commit_root c.marks)) m.made.document (next_number w.table)) (record c { outcome = Some (end.Committed c.revision) }) m.list
+          update_is (event.Commit c.revision) (with_document w.table (id.Node (commit_root c.marks)) m.made.document (next_number w.table)) (committed c) m.list
           (m.made.table ∙ ap (λ (o : UpdateOp). with_document w.table o.id m.made.document (next_number w.table)) op_lasts)
           (m.committer ∙ fed_last c at.going at.unmet at.none (found_in w.table (op_due c).id))
           ∙ (ap (λ (x : Running). record (state_of w) { past = event.Commit c.revision ∷ w.history.past; table = with_document w.table (id.Node (commit_root c.marks)) m.made.document (next_number w.table); running = with_session (state_of w).running s (Some (record { draw = x.draw; writer = x.writer; committed = true })) }) (sym (going_is c at.going s))
@@ -181,7 +199,18 @@ module _ {L : Type 0} (w : WorldOf L) (s : ℕ) (there : s < length w.actors) wh
           ∙ (ap (λ (x : Running). record (state_of w) { past = event.Refuse c.revision m.item m.other ∷ w.history.past; running = with_session (state_of w).running s (Some (record { draw = x.draw; writer = record x.writer { due = []; undoing = true }; committed = x.committed })) }) (sym (going_is c at.going s))
           ∙ sym (ap (lasted_by (state_of w) s (running_as s c)) (sym (ap (result_of w.table) op_lasts) ∙ m.result)))
 
+      pub makes_last : IsLast w.table q.table (reverse w.history.past) q.list c d → MakesUpdate s (state_of w) c now d kind.Last
+      makes_last m = (at.going, at.unmet, at.none, lasts_is m, by m)
+        where
+          by : IsLast w.table q.table (reverse w.history.past) q.list c d
+              → ((now.past ≡ event.Commit c.revision ∷ w.history.past) × (d ≡ committed c)) ⊎ ((item : Item) × (o : Revision) × (now.past ≡ event.Refuse c.revision item o ∷ w.history.past) × (d ≡ refused_as c item o))
+          by (inl m) = inl (told (event.Commit c.revision) m.list, m.committer ∙ fed_last c at.going at.unmet at.none (found_in w.table (op_due c).id))
+          by (inr m) = inr (m.item, m.other, told (event.Refuse c.revision m.item m.other) m.list, m.committer ∙ blocked_last c at.going at.unmet at.none m.cause m.other m.item)
+
     -- an undoing
-    pub undoes_is : (at : IsUndoStage c) → IsUndone s w.table q.table (reverse w.history.past) q.list c d → (p : Path) (rest : List Path) → c.writer.written ≡ p ∷ rest → q.table ≡ after_undo w.table (id.Node p) c.revision → state_of (with_parts w s q a) ≡ after_undoing (state_of w) s (running_as s c) p rest
-    undoes_is at m p rest written table =
-        update_is (event.Went s kind.Undo) (after_undo w.table (id.Node p) c.revision) (record c { writer = record c.writer { written = rest } }) m.list table (m.committer ∙ fed_undo c p rest at.undoing written)
+    module _ (at : IsUndoStage c) where
+      pub makes_undo : IsUndone s w.table q.table (reverse w.history.past) q.list c d → MakesUpdate s (state_of w) c now d kind.Undo
+      makes_undo m = (m.path, m.rest, at.undoing, m.first, update_is (event.Went s kind.Undo) (after_undo w.table (id.Node m.path) c.revision) (with_undone c) m.list m.table fed_so ∙ ap (λ (ps : List Path). record (state_of w) { past = event.Went s kind.Undo ∷ w.history.past; table = after_undo w.table (id.Node m.path) c.revision; running = with_session (state_of w).running s (Some (running_as s (record c { writer = record c.writer { written = ps } }))) }) (ap (drop 1) m.first), fed_so)
+        where
+          fed_so : d ≡ with_undone c
+          fed_so = m.committer ∙ fed_undo c at.undoing

@@ -1,5 +1,5 @@
 -- What is due of a committer, by where it stands.
-use Rattle.std.proofs.Common.{◌≡◌, ℕ, Bool, true, false, List, [], ◌∷◌, Option, Some, None, ◌⊎◌, inl, inr, is_some, refl}
+use Rattle.std.proofs.Common.{◌≡◌, ℕ, Bool, true, false, List, [], ◌∷◌, Option, Some, None, ◌⊎◌, inl, inr, is_some, refl, subst}
 use Rattle.jr_path.specs.declared.path.Path.{Path}
 use Rattle.jr_path.specs.declared.path.Item.{Item}
 use Rattle.jr_rev.specs.declared.revision.Revision.{Revision}
@@ -16,7 +16,7 @@ use Rattle.oak_commit.specs.declared.stage.Stage.{Stage}
 use Rattle.oak_commit.specs.declared.stage.Stage.TheVariants as stage
 
 -- a committer of these fields
-abbrev pub committing : Revision → RevVec → Edit → List MarkAt → List Path → List Path → List Path → List Met → Bool → Bool → List Path → Option CommitEnd → Bool → Committing
+abbrev committing : Revision → RevVec → Edit → List MarkAt → List Path → List Path → List Path → List Met → Bool → Bool → List Path → Option CommitEnd → Bool → Committing
 committing r base edit marks ps left written due undoing wants roots outcome ended = record {
   revision = r;
   base = base;
@@ -29,7 +29,7 @@ committing r base edit marks ps left written due undoing wants roots outcome end
 }
 
 -- a committer as its fields
-abbrev pub fields_of : (P : Committing → Type 0) → ((r : Revision) (base : RevVec) (edit : Edit) (marks : List MarkAt) (ps left written : List Path) (due : List Met) (undoing wants : Bool) (roots : List Path) (outcome : Option CommitEnd) (ended : Bool) → P (committing r base edit marks ps left written due undoing wants roots outcome ended)) → (c : Committing) → P c
+fields_of : (P : Committing → Type 0) → ((r : Revision) (base : RevVec) (edit : Edit) (marks : List MarkAt) (ps left written : List Path) (due : List Met) (undoing wants : Bool) (roots : List Path) (outcome : Option CommitEnd) (ended : Bool) → P (committing r base edit marks ps left written due undoing wants roots outcome ended)) → (c : Committing) → P c
 fields_of P f c = f c.revision c.base c.edit c.marks c.writer.paths c.writer.left c.writer.written c.writer.due c.writer.undoing c.writer.wants c.roots c.outcome c.ended
 
 pub record IsMarkStage (c : Committing) : Type 0 where
@@ -62,82 +62,49 @@ pub record IsFinishStage (c : Committing) : Type 0 where
   pub through : (is_past c.outcome ≡ true) ⊎ ((undoes c.outcome ≡ true) × (c.writer.written ≡ []))
   pub unended : c.ended ≡ false
 
-pub mark_stage : (c : Committing) → stage_of c ≡ stage.Mark → IsMarkStage c
-mark_stage = fields_of (λ c. stage_of c ≡ stage.Mark → IsMarkStage c) by
+-- what is so of a committer at a stage
+abbrev pub StandsAt : Committing → Stage → Type 0
+StandsAt c stage.Mark = IsMarkStage c
+StandsAt c stage.Write = IsWriteStage c
+StandsAt c stage.Last = IsLastStage c
+StandsAt c stage.Undo = IsUndoStage c
+StandsAt c stage.Finish = IsFinishStage c
+StandsAt c stage.Done = c.ended ≡ true
+
+pub stands : (c : Committing) → StandsAt c (stage_of c)
+stands = fields_of (λ c. StandsAt c (stage_of c)) by
   where
-    by : (r : Revision) (base : RevVec) (edit : Edit) (marks : List MarkAt) (ps left written : List Path) (due : List Met) (undoing wants : Bool) (roots : List Path) (outcome : Option CommitEnd) (ended : Bool) → stage_of (committing r base edit marks ps left written due undoing wants roots outcome ended) ≡ stage.Mark → IsMarkStage (committing r base edit marks ps left written due undoing wants roots outcome ended)
-    by r base edit marks ps left written (f ∷ fs) u v roots None ended h = record { going = refl; first = f; rest = fs; due = refl }
-    by r base edit marks ps (p ∷ left) written [] u v roots None ended h = cc
-    by r base edit marks ps [] written [] u v roots None ended h = cc
-    by r base edit marks ps left written due u v roots (Some (end.Committed o)) true h = cc
-    by r base edit marks ps left written due u v roots (Some (end.Committed o)) false h = cc
-    by r base edit marks ps left (p ∷ written) due u v roots (Some (end.Clash i o)) ended h = cc
-    by r base edit marks ps left [] due u v roots (Some (end.Clash i o)) true h = cc
-    by r base edit marks ps left [] due u v roots (Some (end.Clash i o)) false h = cc
-    by r base edit marks ps left (p ∷ written) due u v roots (Some end.Memory) ended h = cc
-    by r base edit marks ps left [] due u v roots (Some end.Memory) true h = cc
-    by r base edit marks ps left [] due u v roots (Some end.Memory) false h = cc
+    by : (r : Revision) (base : RevVec) (edit : Edit) (marks : List MarkAt) (ps left written : List Path) (due : List Met) (undoing wants : Bool) (roots : List Path) (outcome : Option CommitEnd) (ended : Bool)
+        → StandsAt (committing r base edit marks ps left written due undoing wants roots outcome ended) (stage_of (committing r base edit marks ps left written due undoing wants roots outcome ended))
+    by r base edit marks ps left written (f ∷ fs) u v roots None ended = record { going = refl; first = f; rest = fs; due = refl }
+    by r base edit marks ps (p ∷ left) written [] u v roots None ended = record { going = refl; unmet = refl; first = p; rest = left; left = refl }
+    by r base edit marks ps [] written [] u v roots None ended = record { going = refl; unmet = refl; none = refl }
+    by r base edit marks ps left written due u v roots (Some (end.Committed o)) true = refl
+    by r base edit marks ps left written due u v roots (Some (end.Committed o)) false = record { settled = refl; through = inl refl; unended = refl }
+    by r base edit marks ps left (p ∷ written) due u v roots (Some (end.Clash i o)) ended = record { undoing = refl; first = p; rest = written; written = refl }
+    by r base edit marks ps left [] due u v roots (Some (end.Clash i o)) true = refl
+    by r base edit marks ps left [] due u v roots (Some (end.Clash i o)) false = record { settled = refl; through = inr (refl, refl); unended = refl }
+    by r base edit marks ps left (p ∷ written) due u v roots (Some end.Memory) ended = record { undoing = refl; first = p; rest = written; written = refl }
+    by r base edit marks ps left [] due u v roots (Some end.Memory) true = refl
+    by r base edit marks ps left [] due u v roots (Some end.Memory) false = record { settled = refl; through = inr (refl, refl); unended = refl }
+
+at_stage : (c : Committing) (x : Stage) → stage_of c ≡ x → StandsAt c x
+at_stage c x is = subst (StandsAt c) is (stands c)
+
+pub mark_stage : (c : Committing) → stage_of c ≡ stage.Mark → IsMarkStage c
+mark_stage c = at_stage c stage.Mark
 
 pub write_stage : (c : Committing) → stage_of c ≡ stage.Write → IsWriteStage c
-write_stage = fields_of (λ c. stage_of c ≡ stage.Write → IsWriteStage c) by
-  where
-    by : (r : Revision) (base : RevVec) (edit : Edit) (marks : List MarkAt) (ps left written : List Path) (due : List Met) (undoing wants : Bool) (roots : List Path) (outcome : Option CommitEnd) (ended : Bool) → stage_of (committing r base edit marks ps left written due undoing wants roots outcome ended) ≡ stage.Write → IsWriteStage (committing r base edit marks ps left written due undoing wants roots outcome ended)
-    by r base edit marks ps left written (f ∷ fs) u v roots None ended h = cc
-    by r base edit marks ps (p ∷ left) written [] u v roots None ended h = record { going = refl; unmet = refl; first = p; rest = left; left = refl }
-    by r base edit marks ps [] written [] u v roots None ended h = cc
-    by r base edit marks ps left written due u v roots (Some (end.Committed o)) true h = cc
-    by r base edit marks ps left written due u v roots (Some (end.Committed o)) false h = cc
-    by r base edit marks ps left (p ∷ written) due u v roots (Some (end.Clash i o)) ended h = cc
-    by r base edit marks ps left [] due u v roots (Some (end.Clash i o)) true h = cc
-    by r base edit marks ps left [] due u v roots (Some (end.Clash i o)) false h = cc
-    by r base edit marks ps left (p ∷ written) due u v roots (Some end.Memory) ended h = cc
-    by r base edit marks ps left [] due u v roots (Some end.Memory) true h = cc
-    by r base edit marks ps left [] due u v roots (Some end.Memory) false h = cc
+write_stage c = at_stage c stage.Write
 
 pub last_stage : (c : Committing) → stage_of c ≡ stage.Last → IsLastStage c
-last_stage = fields_of (λ c. stage_of c ≡ stage.Last → IsLastStage c) by
-  where
-    by : (r : Revision) (base : RevVec) (edit : Edit) (marks : List MarkAt) (ps left written : List Path) (due : List Met) (undoing wants : Bool) (roots : List Path) (outcome : Option CommitEnd) (ended : Bool) → stage_of (committing r base edit marks ps left written due undoing wants roots outcome ended) ≡ stage.Last → IsLastStage (committing r base edit marks ps left written due undoing wants roots outcome ended)
-    by r base edit marks ps left written (f ∷ fs) u v roots None ended h = cc
-    by r base edit marks ps (p ∷ left) written [] u v roots None ended h = cc
-    by r base edit marks ps [] written [] u v roots None ended h = record { going = refl; unmet = refl; none = refl }
-    by r base edit marks ps left written due u v roots (Some (end.Committed o)) true h = cc
-    by r base edit marks ps left written due u v roots (Some (end.Committed o)) false h = cc
-    by r base edit marks ps left (p ∷ written) due u v roots (Some (end.Clash i o)) ended h = cc
-    by r base edit marks ps left [] due u v roots (Some (end.Clash i o)) true h = cc
-    by r base edit marks ps left [] due u v roots (Some (end.Clash i o)) false h = cc
-    by r base edit marks ps left (p ∷ written) due u v roots (Some end.Memory) ended h = cc
-    by r base edit marks ps left [] due u v roots (Some end.Memory) true h = cc
-    by r base edit marks ps left [] due u v roots (Some end.Memory) false h = cc
+last_stage c = at_stage c stage.Last
 
 pub undo_stage : (c : Committing) → stage_of c ≡ stage.Undo → IsUndoStage c
-undo_stage = fields_of (λ c. stage_of c ≡ stage.Undo → IsUndoStage c) by
-  where
-    by : (r : Revision) (base : RevVec) (edit : Edit) (marks : List MarkAt) (ps left written : List Path) (due : List Met) (undoing wants : Bool) (roots : List Path) (outcome : Option CommitEnd) (ended : Bool) → stage_of (committing r base edit marks ps left written due undoing wants roots outcome ended) ≡ stage.Undo → IsUndoStage (committing r base edit marks ps left written due undoing wants roots outcome ended)
-    by r base edit marks ps left written (f ∷ fs) u v roots None ended h = cc
-    by r base edit marks ps (p ∷ left) written [] u v roots None ended h = cc
-    by r base edit marks ps [] written [] u v roots None ended h = cc
-    by r base edit marks ps left written due u v roots (Some (end.Committed o)) true h = cc
-    by r base edit marks ps left written due u v roots (Some (end.Committed o)) false h = cc
-    by r base edit marks ps left (p ∷ written) due u v roots (Some (end.Clash i o)) ended h = record { undoing = refl; first = p; rest = written; written = refl }
-    by r base edit marks ps left [] due u v roots (Some (end.Clash i o)) true h = cc
-    by r base edit marks ps left [] due u v roots (Some (end.Clash i o)) false h = cc
-    by r base edit marks ps left (p ∷ written) due u v roots (Some end.Memory) ended h = record { undoing = refl; first = p; rest = written; written = refl }
-    by r base edit marks ps left [] due u v roots (Some end.Memory) true h = cc
-    by r base edit marks ps left [] due u v roots (Some end.Memory) false h = cc
+undo_stage c = at_stage c stage.Undo
 
 pub finish_stage : (c : Committing) → stage_of c ≡ stage.Finish → IsFinishStage c
-finish_stage = fields_of (λ c. stage_of c ≡ stage.Finish → IsFinishStage c) by
-  where
-    by : (r : Revision) (base : RevVec) (edit : Edit) (marks : List MarkAt) (ps left written : List Path) (due : List Met) (undoing wants : Bool) (roots : List Path) (outcome : Option CommitEnd) (ended : Bool) → stage_of (committing r base edit marks ps left written due undoing wants roots outcome ended) ≡ stage.Finish → IsFinishStage (committing r base edit marks ps left written due undoing wants roots outcome ended)
-    by r base edit marks ps left written (f ∷ fs) u v roots None ended h = cc
-    by r base edit marks ps (p ∷ left) written [] u v roots None ended h = cc
-    by r base edit marks ps [] written [] u v roots None ended h = cc
-    by r base edit marks ps left written due u v roots (Some (end.Committed o)) true h = cc
-    by r base edit marks ps left written due u v roots (Some (end.Committed o)) false h = record { settled = refl; through = inl refl; unended = refl }
-    by r base edit marks ps left (p ∷ written) due u v roots (Some (end.Clash i o)) ended h = cc
-    by r base edit marks ps left [] due u v roots (Some (end.Clash i o)) true h = cc
-    by r base edit marks ps left [] due u v roots (Some (end.Clash i o)) false h = record { settled = refl; through = inr (refl, refl); unended = refl }
-    by r base edit marks ps left (p ∷ written) due u v roots (Some end.Memory) ended h = cc
-    by r base edit marks ps left [] due u v roots (Some end.Memory) true h = cc
-    by r base edit marks ps left [] due u v roots (Some end.Memory) false h = record { settled = refl; through = inr (refl, refl); unended = refl }
+finish_stage c = at_stage c stage.Finish
+
+pub done_stage : (c : Committing) → stage_of c ≡ stage.Done → c.ended ≡ true
+done_stage c = at_stage c stage.Done

@@ -1,5 +1,5 @@
 -- What each world keeps.
-use Rattle.std.specs.Prelude.{◌≡◌, ◌≤◌, ◌+◌, ℕ, false, true, cond, List, [], ◌∷◌, length, map, sum, slice_get, Option, Some, None, is_some, IsTrue, IsFalse}
+use Rattle.std.specs.Prelude.{◌≡◌, ◌≤◌, ◌+◌, ℕ, false, true, cond, List, [], ◌∷◌, length, map, sum_by, slice_get, Option, Some, None, is_some, IsTrue, IsFalse}
 use Rattle.jr_path.specs.declared.path.Path.{Path}
 use Rattle.oak_commit.specs.Clashing.{Met}
 use Rattle.oak_commit.specs.Committing.{Committing}
@@ -14,7 +14,8 @@ use Rattle.oak_world.specs.declared.actor.Actor.{Actor}
 use Rattle.oak_world.specs.declared.actor.Work.{Work}
 use Rattle.oak_world.specs.declared.actor.Work.TheVariants as work
 use Rattle.oak_world.specs.Parts.{needed}
-use Rattle.oak_world.specs.Worlds.{ActorState, HasCome, WorldOf, state_of, work_in}
+use Rattle.oak_world.specs.Worlds.{WorldOf, state_of, work_in}
+use Rattle.oak_world.specs.Steps.{HasCome}
 
 -- the session has come, and the commit hasn't ended; it goes to the commit roots of those that it is to mark
 pub record IsAtWork (h : History) (s : ℕ) (c : Committing) : Type 0 where
@@ -46,5 +47,5 @@ IsPlaced a = needed a.work + cond (is_some a.reply) 1 0 ≤ a.places
 
 -- each session has its places, and the journal keeps them all
 pub record ArePlaced (actors : List Actor) (places : ℕ) : Type 0 where
-  pub all : sum (map (λ a. a.places) actors) ≡ places
+  pub all : sum_by (λ a. a.places) actors ≡ places
   pub each : (s : ℕ) (a : Actor) → slice_get actors s ≡ Some a → IsPlaced a

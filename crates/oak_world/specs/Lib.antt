@@ -1,5 +1,6 @@
 pub mod Rooms
 pub mod Parts
 pub mod Worlds
+pub mod Steps
 pub mod Kept
-pub mod Ports
+pub mod Seen

@@ -1,5 +1,5 @@
 -- One step of a session: on the documents, on the memory of its cluster node, and on the events.
-use Rattle.std.specs.Prelude.{◌≡◌, ◌≢◌, ◌⊎◌, ◌<◌, ◌≤◌, ◌+◌, ◌-◌, ◌*◌, ◌^◌, ℕ, All, cond, false, List, [], ◌∷◌, ◌++◌, length, Option, Some, None, Result, Ok, Err, IsSome, IsTrue}
+use Rattle.std.specs.Prelude.{◌≡◌, ◌≢◌, ◌⊎◌, ◌<◌, ◌≤◌, ◌+◌, ◌-◌, ◌*◌, ◌^◌, ℕ, All, cond, drop, false, List, [], ◌∷◌, ◌++◌, length, Option, Some, None, Result, Ok, Err, IsSome, IsTrue}
 use Rattle.std.specs.Option.{option_map_or}
 use Rattle.jr_path.specs.Grammar.{IsName}
 use Rattle.jr_path.specs.declared.path.DocId.{DocId}
@@ -13,12 +13,13 @@ use Rattle.jr_rev.specs.Vectors.{sees}
 use Rattle.jr_tree.specs.declared.edit.Edit.{Edit}
 use Rattle.oak_clash.specs.Clashes.{marked_paths}
 use Rattle.oak_clash.specs.declared.mark.MarkAt.{MarkAt}
-use Rattle.oak_commit.specs.Clashing.{Met, mark_op}
-use Rattle.oak_commit.specs.Committing.{Committing, begun, fed, first_path, is_past, wanting, without_memory}
+use Rattle.oak_commit.specs.Clashing.{Met, Writer, mark_op}
+use Rattle.oak_commit.specs.Committing.{Committing, begun, fed, first_path, is_past, wanting}
 use Rattle.oak_commit.specs.Stages.{stage_of}
 use Rattle.oak_commit.specs.Writing.{last_op, write_op}
 use Rattle.oak_commit.specs.declared.outcome.CommitEnd.{CommitEnd}
 use Rattle.oak_commit.specs.declared.outcome.CommitEnd.TheVariants as end
+use Rattle.oak_commit.specs.declared.stage.Stage.{Stage}
 use Rattle.oak_commit.specs.declared.stage.Stage.TheVariants as stage
 use Rattle.oak_doc.specs.declared.document.Document.{Document}
 use Rattle.oak_doc.specs.declared.asks.Ask.TheVariants as ask
@@ -47,10 +48,10 @@ use Rattle.oak_read.specs.Reading.{answer, due, fed as fed_reader}
 use Rattle.oak_store.specs.Tables.{Table, after_undo, found, next_number, with_document}
 use Rattle.oak_world.specs.declared.actor.Work.{Work}
 use Rattle.oak_world.specs.declared.actor.Work.TheVariants as work
-use Rattle.oak_world.specs.declared.task.StepOut.{StepOut}
-use Rattle.oak_world.specs.declared.task.StepOut.TheVariants as answers
-use Rattle.oak_world.specs.declared.task.TaskEnd.{TaskEnd}
-use Rattle.oak_world.specs.declared.task.TaskEnd.TheVariants as ends
+use Rattle.oak_port.specs.declared.task.StepOut.{StepOut}
+use Rattle.oak_port.specs.declared.task.StepOut.TheVariants as answers
+use Rattle.oak_port.specs.declared.task.TaskEnd.{TaskEnd}
+use Rattle.oak_port.specs.declared.task.TaskEnd.TheVariants as ends
 
 -- the documents, the memory of a cluster node, and the events
 pub record Parts : Type 0 where
@@ -107,6 +108,14 @@ ReadsOn t r v answers.Memory = v ≡ work.Rest
 ReadsOn t r v _ = ⊥
 
 -- ---- a commit
+
+-- the mark that was due is made, with `rest` to make still
+abbrev pub marked : Committing → List Met → Committing
+marked c rest = record c { writer = record c.writer { due = rest }; roots = drop 1 c.roots }
+
+-- the last write is made
+abbrev pub committed : Committing → Committing
+committed c = record c { outcome = Some (end.Committed c.revision) }
 
 -- the update that is due: a mark, a document, or the last write
 abbrev pub op_due : Committing → UpdateOp
@@ -185,18 +194,21 @@ pub record IsUndone (s : ℕ) (t u : Table) (es fs : List Event) (c d : Committi
 abbrev pub parts_ended : ℕ → Parts → Revision → Parts
 parts_ended k p r = parts p.table (finished p.memory r) (p.list ++ end_events k p.memory r)
 
--- the update of this kind that is due is made, or answered
+-- the operation of this kind that is due is made, or answered
 abbrev pub Updates : ℕ → Table → List Event → Committing → Table → List Event → Committing → StepKind → Type 0
 Updates s t es c u fs d kind.Mark = (stage_of c ≡ stage.Mark) × IsMarked s t u es fs c d
 Updates s t es c u fs d kind.Write = (stage_of c ≡ stage.Write) × IsWritten s t u es fs c d
 Updates s t es c u fs d kind.Last = (stage_of c ≡ stage.Last) × IsLast t u es fs c d
+Updates s t es c u fs d kind.Undo = (stage_of c ≡ stage.Undo) × IsUndone s t u es fs c d
 Updates s t es c u fs d _ = ⊥
 
--- no update is made, but where one was due the committer has turned to undoing
-pub record IsTurned (t : Table) (es : List Event) (c : Committing) (u : Table) (fs : List Event) (d : Committing) : Type 0 where
-  pub table : u ≡ t
-  pub list : fs ≡ es
-  pub committer : d ≡ without_memory c
+-- an operation on a document is due
+abbrev pub IsUpdating : Stage → Type 0
+IsUpdating stage.Mark = Unit {0}
+IsUpdating stage.Write = Unit {0}
+IsUpdating stage.Last = Unit {0}
+IsUpdating stage.Undo = Unit {0}
+IsUpdating _ = ⊥
 
 -- nothing is due but the end
 pub record IsOver (c : Committing) : Type 0 where
@@ -209,20 +221,28 @@ EndsSo c v (answers.Went kind.Finish) = IsTrue (is_past c.outcome) × (v ≡ wor
 EndsSo c v (answers.Ready (ends.Commit e)) = (c.outcome ≡ Some e) × (is_past c.outcome ≡ false) × (v ≡ work.Rest)
 EndsSo c v _ = ⊥
 
-module _ (s k : ℕ) (p : Parts) (c : Committing) (q : Parts) (v : Work) where
-  -- the update that is due is made, or answered
-  abbrev pub GoesOn : StepOut → Type 0
-  GoesOn (answers.Went x) = (q.memory ≡ p.memory) × (d : Committing) × (v ≡ work.Commit d) × Updates s p.table p.list c q.table q.list d x
-  GoesOn _ = ⊥
+-- its revision ends
+abbrev pub Ends : ℕ → Parts → Committing → Parts → Work → StepOut → Type 0
+Ends k p c q v o = (stage_of c ≡ stage.Finish) × (q ≡ parts_ended k p c.revision) × EndsSo c v o
 
-  -- a document is undone, or the revision ends
-  abbrev pub Ends : StepOut → Type 0
-  Ends (answers.Went kind.Undo) = (stage_of c ≡ stage.Undo) × (q.memory ≡ p.memory) × (d : Committing) × (v ≡ work.Commit d) × IsUndone s p.table q.table p.list q.list c d
-  Ends o = (stage_of c ≡ stage.Finish) × (q ≡ parts_ended k p c.revision) × EndsSo c v o
+-- the operation that is due is made, or answered
+abbrev pub GoesOn : ℕ → Table → List Event → Committing → Table → List Event → Work → StepOut → Type 0
+GoesOn s t es c u fs v o = (x : StepKind) × (o ≡ answers.Went x) × (d : Committing) × (v ≡ work.Commit d) × Updates s t es c u fs d x
 
--- a step of a commit; where memory is refused for its update it turns to undoing, and takes the first step of that
+-- memory is refused for it: nothing changes, but that the commit turns to undoing
+pub record IsGivenUp (t : Table) (es : List Event) (c : Committing) (u : Table) (fs : List Event) (v : Work) (o : StepOut) : Type 0 where
+  pub answer : o ≡ answers.Memory
+  pub going : c.outcome ≡ None
+  pub table : u ≡ t
+  pub list : fs ≡ es
+  pub does : v ≡ work.Commit (wanting c)
+
+abbrev pub UpdatesOn : ℕ → Table → List Event → Committing → Table → List Event → Work → StepOut → Type 0
+UpdatesOn s t es c u fs v o = GoesOn s t es c u fs v o ⊎ IsGivenUp t es c u fs v o
+
+-- a step of a commit: its end, or an operation on a document, which leaves the memory
 abbrev pub CommitsOn : ℕ → ℕ → Parts → Committing → Parts → Work → StepOut → Type 0
-CommitsOn s k p c q v o = GoesOn s k p c q v o ⊎ Ends s k p (without_memory c) q v o
+CommitsOn s k p c q v o = Ends k p c q v o ⊎ ((q.memory ≡ p.memory) × UpdatesOn s p.table p.list c q.table q.list v o)
 
 -- the base moves to the head once that sees r, and awaits an earlier revision until then
 abbrev pub Moves : ℕ → NodeState → List Event → Revision → NodeState → List Event → Work → StepOut → Type 0
@@ -265,14 +285,14 @@ Steps s k p work.Rest q v _ = ⊥
 -- ---- places
 
 -- for how many events of a commit places are kept: for each write and its undoing, for the last write or a refusal, for the end with the head, and for the move of the base
+abbrev pub needed_for : Writer → Option CommitEnd → ℕ
+needed_for w None = 2 * length w.left + length w.written + 4
+needed_for w (Some (end.Committed r)) = 3
+needed_for w (Some (end.Clash item o)) = length w.written + 2
+needed_for w (Some end.Memory) = length w.written + 2
+
 abbrev pub needed_by : Committing → ℕ
-needed_by c = by c.outcome
-  where
-    by : Option CommitEnd → ℕ
-    by None = 2 * length c.writer.left + length c.writer.written + 4
-    by (Some (end.Committed r)) = 3
-    by (Some (end.Clash item o)) = length c.writer.written + 2
-    by (Some end.Memory) = length c.writer.written + 2
+needed_by c = needed_for c.writer c.outcome
 
 abbrev pub needed : Work → ℕ
 needed (work.Commit c) = needed_by c

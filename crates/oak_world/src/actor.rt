@@ -4,15 +4,16 @@ ghost use Rattle.std.specs.Option.{IsSomeAnd};
 ghost use Rattle.oak_machine.specs.declared.event.Event.TheVariants as event;
 ghost use Rattle.oak_world.specs.declared.actor.Work.TheVariants as work;
 ghost use Rattle.oak_world.specs.Kept.{IsPlaced};
-ghost use Rattle.oak_world.specs.Worlds.{Begins, kind_due, kind_of, shown_actor};
+ghost use Rattle.oak_world.specs.Steps.{Begins, kind_due, kind_of};
+ghost use Rattle.oak_world.specs.Worlds.{shown_actor};
 
-use crate::Task;
 use jr_path::{List, Text};
 use jr_rev::{Pin, Revision};
 use jr_tree::Edit;
 use oak_clash::MarkAt;
 use oak_commit::{Committer, Stage};
 use oak_machine::{Event, Events, StepKind};
+use oak_port::Task;
 use oak_read::Reader;
 use std::alloc::{AllocError, Global};
 use std::marker::Model;

@@ -10,9 +10,7 @@ mod session;
 mod start;
 mod step;
 mod store;
-mod task;
 mod world;
 
-pub use port::{Port, SoloPort};
-pub use task::{StepOut, Task, TaskEnd};
+pub use port::SoloPort;
 pub use world::World;

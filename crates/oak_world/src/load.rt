@@ -7,10 +7,10 @@ ghost use Rattle.oak_read.specs.declared.reader.Step.TheVariants as step;
 ghost use Rattle.oak_world.specs.Parts.{ReadsOn, end_of_reading};
 
 use crate::actor::Work;
-use crate::{StepOut, TaskEnd};
 use jr_path::DeepCopy;
 use oak_doc::{Ask, Document, Reply};
 use oak_machine::StepKind;
+use oak_port::{StepOut, TaskEnd};
 use oak_read::{ReadOut, Reader};
 use oak_store::DocTable;
 use std::alloc::AllocError;

@@ -1,15 +1,16 @@
 // One step of a session.
-ghost use Rattle.std.specs.Prelude.{◌≡◌, ◌≢◌, ◌≤◌, ◌+◌, MatchOption, cond};
+ghost use Rattle.std.specs.Prelude.{◌≡◌, ◌≤◌, ◌+◌, ◌++◌, IfOk, None, OnErr, cond};
+ghost use Rattle.oak_commit.specs.Stages.{stage_of};
+ghost use Rattle.oak_node.specs.Heads.{finished};
 ghost use Rattle.oak_read.specs.Reading.{IsTable};
 ghost use Rattle.oak_world.specs.Kept.{IsPlaced};
-ghost use Rattle.oak_world.specs.Worlds.{reads_after, reads_of_load};
-ghost use Rattle.oak_world.specs.Parts.{CanCommit, CanMove, CanStep, CommitsOn, Ends, EndsSo, IsOver, IsTurned, Moves, Steps, Updates, needed, needed_by, parts};
+ghost use Rattle.oak_world.specs.Steps.{reads_after, reads_of_load};
+ghost use Rattle.oak_world.specs.Parts.{CanCommit, CanMove, CanStep, CommitsOn, EndsSo, IsOver, IsUpdating, Moves, Steps, Updates, UpdatesOn, end_events, needed, needed_by, parts};
 
 use crate::actor::{Actor, Work};
 use crate::commit;
 use crate::load::read;
 use crate::session::{leave, login, refresh, refresh_kept};
-use crate::{StepOut, TaskEnd};
 use jr_path::List;
 use jr_rev::Revision;
 use jr_tree::Edit;
@@ -18,6 +19,7 @@ use oak_commit::{CommitEnd, Committer, Stage};
 use oak_doc::Reply;
 use oak_machine::{Events, StepKind};
 use oak_node::{Awaits, NodeMem};
+use oak_port::{StepOut, TaskEnd};
 use oak_store::DocTable;
 use std::alloc::{AllocError, Global};
 use std::mem;
@@ -62,8 +64,7 @@ pub(crate) fn step(
     }
 }
 
-// A step of a commit that has drawn its revision. Where memory is refused for its update, it turns to undoing and takes the
-// first step of that.
+// A step of a commit that has drawn its revision: the end, or an operation on a document.
 fn commit_on(
     table: &mut DocTable,
     memory: &mut NodeMem,
@@ -78,85 +79,100 @@ fn commit_on(
     ensures places { events.old.places + needed result.0 ≤ events.new.places + needed_by committer }
     ensures order { IsTable table.new.documents }
 {
-    let mut committer = committer;
-    if let Some(kind) = update(table, events, &mut committer, s) {
-        return (Work::Commit(committer), StepOut::Went(kind));
+    match committer.stage() {
+        Stage::Finish | Stage::Done => end_on(memory, events, node, committer),
+        Stage::Mark | Stage::Write | Stage::Last | Stage::Undo => {
+            update_on(table, events, s, committer)
+        }
     }
-    end_on(table, memory, events, node, s, committer)
 }
 
-// The update that is due, with its kind. Where none is due, or memory is refused for it, there is none, and the committer
-// undoes.
+// The operation on a document that is due. Where memory is refused for it nothing changes, and the commit turns to undoing.
+fn update_on(
+    table: &mut DocTable,
+    events: &mut Events,
+    s: u32,
+    committer: Committer,
+) -> (Work, StepOut)
+    requires updating { IsUpdating (stage_of committer) }
+    requires places { needed_by committer ≤ events.old.places }
+    requires table { IsTable table.old.documents }
+    ensures made { UpdatesOn s table.old events.old.list committer table.new events.new.list result.0 result.1 }
+    ensures places { events.old.places + needed result.0 ≤ events.new.places + needed_by committer }
+    ensures order { IsTable table.new.documents }
+{
+    let mut committer = committer;
+    match update(table, events, &mut committer, s) {
+        Ok(kind) => (Work::Commit(committer), StepOut::Went(kind)),
+        Err(AllocError) => {
+            committer.refuse_memory();
+            (Work::Commit(committer), StepOut::Memory)
+        }
+    }
+}
+
+// The operation on a document that is due, with its kind. Where memory is refused nothing changes; none is refused for undoing.
 fn update(
     table: &mut DocTable,
     events: &mut Events,
     committer: &mut Committer,
     s: u32,
-) -> Option<StepKind>
+) -> Result<StepKind, AllocError>
+    requires updating { IsUpdating (stage_of committer.old) }
     requires places { needed_by committer.old ≤ events.old.places }
     requires table { IsTable table.old.documents }
-    ensures made { MatchOption result
-        (IsTurned table.old events.old.list committer.old table.new events.new.list committer.new)
-        (λ kind. Updates s table.old events.old.list committer.old table.new events.new.list committer.new kind) }
+    ensures made { IfOk result (λ kind. Updates s table.old events.old.list committer.old table.new events.new.list committer.new kind) }
+    ensures going { OnErr result (committer.old.outcome ≡ None) }
+    ensures table { OnErr result (table.new ≡ table.old) }
+    ensures list { OnErr result (events.new.list ≡ events.old.list) }
+    ensures committer { OnErr result (committer.new ≡ committer.old) }
     ensures places { events.old.places + needed_by committer.new ≤ events.new.places + needed_by committer.old }
     ensures order { IsTable table.new.documents }
 {
     match committer.stage() {
         Stage::Mark => {
-            if commit::mark(table, events, committer, s).is_ok() {
-                return Some(StepKind::Mark);
-            }
-            committer.refuse_memory();
-            None
+            commit::mark(table, events, committer, s)?;
+            Ok(StepKind::Mark)
         }
         Stage::Write => {
-            if commit::write(table, events, committer, s).is_ok() {
-                return Some(StepKind::Write);
-            }
-            committer.refuse_memory();
-            None
+            commit::write(table, events, committer, s)?;
+            Ok(StepKind::Write)
         }
         Stage::Last => {
-            if commit::last(table, events, committer).is_ok() {
-                return Some(StepKind::Last);
-            }
-            committer.refuse_memory();
-            None
+            commit::last(table, events, committer)?;
+            Ok(StepKind::Last)
         }
-        Stage::Undo | Stage::Finish | Stage::Done => None,
+        Stage::Undo => {
+            commit::undo(table, events, committer, s);
+            Ok(StepKind::Undo)
+        }
+        Stage::Finish | Stage::Done => Err(AllocError),
     }
 }
 
-// A step of a commit behind all its updates: a document is undone, or the revision ends.
+// The end of a commit's revision.
 fn end_on(
-    table: &mut DocTable,
     memory: &mut NodeMem,
     events: &mut Events,
     node: u32,
-    s: u32,
     committer: Committer,
 ) -> (Work, StepOut)
     requires can { CanCommit memory.old events.old.places committer }
-    requires settled { committer.outcome ≢ None }
-    requires table { IsTable table.old.documents }
-    ensures made { Ends s node (parts table.old memory.old events.old.list) committer (parts table.new memory.new events.new.list) result.0 result.1 }
+    requires over { IsOver committer }
+    ensures made { EndsSo committer result.0 result.1 }
+    ensures memory { memory.new ≡ finished memory.old committer.revision }
+    ensures list { events.new.list ≡ events.old.list ++ end_events node memory.old committer.revision }
     ensures places { events.old.places + needed result.0 ≤ events.new.places + needed_by committer }
-    ensures order { IsTable table.new.documents }
 {
-    let mut committer = committer;
-    if let Stage::Undo = committer.stage() {
-        commit::undo(table, events, &mut committer, s);
-        return (Work::Commit(committer), StepOut::Went(StepKind::Undo));
-    }
-    let r = committer.revision();
-    commit::end(memory, events, node, r);
+    commit::end(memory, events, node, committer.revision());
     ended(committer)
 }
 
 // What a session does whose commit's revision has ended.
 fn ended(committer: Committer) -> (Work, StepOut)
     requires { IsOver committer }
-    ensures { EndsSo committer result.0 result.1 }
+    ensures made { EndsSo committer result.0 result.1 }
+    ensures places { needed result.0 + 2 ≤ needed_by committer }
 {
     let mut committer = committer;
     let r = committer.revision();

@@ -1,30 +1,35 @@
 // A world under a law.
-ghost use Rattle.std.specs.Prelude.{◌≡◌, ◌≢◌, ◌≤◌, Some, IfOk, OnErr, OnOk, IsTrue, is_some, length, map, slice_get};
+ghost use Rattle.std.specs.Prelude.{◌≡◌, ◌≢◌, ◌≤◌, Some, IfOk, OnErr, OnOk, IsFalse, IsTrue, is_some, length, map, slice_get};
+ghost use Rattle.std.specs.Borrow.{GName};
 ghost use Rattle.std.specs.List.{range_with_len};
 ghost use Rattle.std.specs.Option.{option_map};
 ghost use Rattle.jr_path.specs.declared.path.Path.{Path};
+ghost use Rattle.jr_rev.specs.Vectors.{start};
 ghost use Rattle.jr_tree.specs.Trees.{node_at};
 ghost use Rattle.oak_machine.specs.Commits.{IsClosed, IsSettled, tree_at};
 ghost use Rattle.oak_machine.specs.History.{history_of};
 ghost use Rattle.oak_machine.specs.Runs.{AreNodes, IsRun};
-ghost use Rattle.jr_rev.specs.Vectors.{start};
+ghost use Rattle.oak_machine.specs.Sessions.{base_of, has_left};
 ghost use Rattle.oak_node.specs.Memory.{begun};
 ghost use Rattle.oak_node.specs.Pins.{pin_of};
+ghost use Rattle.oak_port.specs.Ports.{MayBegin, Steps};
 ghost use Rattle.oak_read.specs.Meaning.{documents_in, found_node};
 ghost use Rattle.core_world.specs.Kept.{IsKept};
 ghost use Rattle.core_world.specs.States.{memory_of};
 ghost use Rattle.oak_world.specs.declared.actor.Work.{Work};
 ghost use Rattle.oak_world.specs.declared.actor.Work.TheVariants as work;
-ghost use Rattle.oak_world.specs.Worlds.{Begins, IsIdle, Makes, MayBegin, MaySay, Plays, StepsIn, actor_in, kind_due, said_in, start_world, state_of, with_reply, with_work, work_in};
+ghost use Rattle.oak_world.specs.Seen.{shown_at};
+ghost use Rattle.oak_world.specs.Steps.{Begins, IsIdle, MaySay, Plays, StepsIn, kind_due};
+ghost use Rattle.oak_world.specs.Worlds.{actor_in, said_in, start_world, state_of, with_reply, with_work, work_in};
 
 use crate::actor::{Actor, Room, Work};
 use crate::start::start_documents;
 use crate::step::step_actor;
-use crate::{StepOut, Task};
 use jr_path::List;
 use jr_rev::{Pin, RevVec};
 use oak_machine::{Events, Journal, Law, StepKind};
 use oak_node::NodeMem;
+use oak_port::{StepOut, Task};
 use oak_store::DocTable;
 use std::alloc::{AllocError, Global};
 use std::marker::Model;
@@ -95,10 +100,11 @@ impl<L: Law + Drop> World<L> {
         &self.law
     }
 
-    /// The events so far: a run of the machine by the law.
+    /// The events so far: a run of the machine by the law. Each of its sessions has a seat.
     pub fn journal(&self) -> &Journal
         ensures journal { history_of result.now ≡ self.now.history }
         ensures run { IsRun (L.may_start self.now.law) (L.may_say self.now.law) self.now.history }
+        ensures seats { length self.now.actors ≡ length self.now.history.sessions }
     {
         &self.journal
     }
@@ -112,11 +118,12 @@ impl<L: Law + Drop> World<L> {
         &self.table
     }
 
-    /// The session's pin, where it has come and not left. Its base is settled and closed, and at it the documents show at
-    /// each path the node of the journal's tree.
+    /// The session's pin, where it has come and not left. It is at the base that the journal tells, which is settled and closed,
+    /// and at it the documents show at each path the node of the journal's tree.
     pub fn pin(&self, actor: u32) -> Option<Pin>
         requires { IsTrue (is_some (slice_get self.now.history.sessions actor)) }
         ensures pin { result ≡ pin_of (memory_of (state_of self.now) actor) actor }
+        ensures base { IsFalse (has_left self.now.history.past actor) → option_map (λ pin. pin.base) result ≡ base_of self.now.history.past actor }
         ensures settled { (pin : Pin) → result ≡ Some pin → IsSettled self.now.history.past pin.base }
         ensures closed { (pin : Pin) → result ≡ Some pin → IsClosed self.now.history.past pin.base }
         ensures shown { (pin : Pin) (p : Path) → result ≡ Some pin → found_node (documents_in self.now.table.documents) pin.sweep pin.base p ≡ option_map (λ node. node.props) (node_at (tree_at self.now.history.past pin.base) p) }
@@ -141,12 +148,12 @@ impl<L: Law + Drop> World<L> {
         Ok(())
     }
 
-    /// One step of a session that has a task.
+    /// One step of a session that has a task. A port tells of it what the second clause says, whatever the reference that leads to the world.
     pub fn step(&mut self, actor: u32) -> StepOut
         requires there { IsTrue (is_some (slice_get self.old.history.sessions actor)) }
         requires busy { work_in self.old.actors actor ≢ work.Rest }
         ensures made { StepsIn self.old actor self.new result }
-        ensures state { Makes actor (state_of self.old) (work_in self.old.actors actor) (state_of self.new) (work_in self.new.actors actor) result }
+        ensures seen { (name : GName) → Steps (L.may_start self.old.law) (L.may_say self.old.law) (shown_at name self.old actor) (shown_at name self.new actor) result }
     {
         let node = self.journal.sessions.as_slice()[actor as usize];
         step_actor(

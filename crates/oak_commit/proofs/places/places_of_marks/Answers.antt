@@ -1,0 +1,4 @@
+use Rattle.oak_commit.proofs.places.places_of_marks.Goals as goal
+
+pub loop-at-preserved : goal.loop-at-preserved
+loop-at-preserved c = ?

@@ -1,0 +1,4 @@
+use Rattle.oak_commit.proofs.plan.Plan.write_at.Goals as goal
+
+pub returns : goal.returns
+returns c = ?

@@ -1,0 +1,291 @@
+-- What a world keeps after each call for one of its sessions, and what a port tells of it.
+use Rattle.std.proofs.Common.{◌≡◌, ◌⊎◌, inl, inr, ℕ, zero, suc, ◌+◌, ◌-◌, ◌*◌, ◌^◌, ◌<◌, ◌≤◌, Bool, true, false, cond, ◌||◌, Option, Some, None, List, [], ◌∷◌, ◌++◌, length, map, is_some, refl, sym, ap, subst, ◌∙◌, arith}
+use Rattle.std.specs.Prelude.{◌==◌, slice_get, slice_set, IsSome}
+use Rattle.std.specs.Borrow.{GName}
+use Rattle.std.specs.declared.alloc.Global.{Global}
+use Rattle.std.proofs.lemmas.List.{length-set}
+use Rattle.std.proofs.lemmas.Option.{slice_get_within}
+use Rattle.jr_path.specs.declared.path.Path.{Path}
+use Rattle.jr_path.specs.declared.text.Text.{Text}
+use Rattle.jr_rev.specs.declared.revision.Revision.{Revision}
+use Rattle.jr_rev.specs.declared.vector.Pin.{Pin}
+use Rattle.oak_commit.specs.Clashing.{Met}
+use Rattle.oak_commit.specs.Committing.{Committing}
+use Rattle.oak_machine.specs.declared.event.Event.{Event}
+use Rattle.oak_machine.specs.declared.event.Event.TheVariants as event
+use Rattle.oak_machine.specs.declared.event.StepKind.{StepKind}
+use Rattle.oak_machine.specs.History.{History, Past}
+use Rattle.oak_machine.specs.Commits.{is_drawn, is_ended}
+use Rattle.oak_machine.specs.Laws.{AreOthers, Says, Starts, StartsProper, after}
+use Rattle.oak_machine.specs.Runs.{IsNode, IsRun, StartsLast}
+use Rattle.oak_machine.specs.Sessions.{base_of, has_left, has_login, next_index}
+use Rattle.oak_node.specs.Heads.{HasEnded, known_time}
+use Rattle.oak_node.specs.Memory.{NodeState}
+use Rattle.oak_node.specs.Pins.{pin_of}
+use Rattle.oak_read.specs.declared.reader.Reader.{Reader}
+use Rattle.oak_read.specs.Reading.{IsTable, children_reader, node_reader}
+use Rattle.core_clash.specs.Core.{root_of}
+use Rattle.core_clash.specs.Sessions.{Running}
+use Rattle.core_clash.specs.Views.{In}
+use Rattle.core_heads.proofs.Runs.{sound_run}
+use Rattle.core_nodes.proofs.Pasts.{ended_was_drawn}
+use Rattle.core_nodes.proofs.Waits.{has_ended}
+use Rattle.core_world.specs.Kept.{IsKept}
+use Rattle.core_world.specs.States.{State, memory_at, memory_of, node_of, with_session}
+use Rattle.core_world.specs.Steps.{after_said, with_reader}
+use Rattle.core_world.proofs.Flights.{other_number, same_number}
+use Rattle.core_world.proofs.Lives.{its_node, on_node, said_keeps}
+use Rattle.core_world.proofs.Loads.{list_keeps, load_keeps}
+use Rattle.core_world.proofs.Truths.{due_drawn, flies_there, pin_there, time_known}
+use Rattle.oak_port.specs.declared.task.StepOut.{StepOut}
+use Rattle.oak_port.specs.declared.task.Task.{Task}
+use Rattle.oak_port.specs.declared.task.Task.TheVariants as task
+use Rattle.oak_port.specs.Ports.{Answers, Beside, Idle, Makes as Tells, MayBegin, Seat, Starting, Steps as StepSeen, Waits, Work as Shows}
+use Rattle.oak_world.specs.declared.actor.Work.{Work}
+use Rattle.oak_world.specs.declared.actor.Work.TheVariants as work
+use Rattle.oak_world.specs.Kept.{IsAtWork, IsWorld, May}
+use Rattle.oak_world.specs.Parts.{CanCommit, CanMove, CanStep, needed}
+use Rattle.oak_world.specs.Seen.{no_seat, seat_of, shown_at, shown_work}
+use Rattle.oak_world.specs.Steps.{Begins, HasCome, IsIdle, StepsIn, kind_due}
+use Rattle.oak_world.specs.Worlds.{ActorState, WorldOf, actor_in, node_in, reading_of, running_as, running_of, said_in, state_of, state_with, with_reply, with_work, work_in}
+use Rattle.oak_world.proofs.States.{actor_other, actor_set, session_same, session_set}
+use Rattle.oak_world.proofs.Staying.{may_last}
+use Rattle.oak_world.proofs.Walking.{IsStepOf, any_step}
+
+-- ---- the seats of the others
+
+seats_same : {X Y : Type 0} (f : X → Y) (xs : List X) (s : ℕ) (a : X) (d : Y) → slice_set (map f (slice_set xs s a)) s d ≡ slice_set (map f xs) s d
+seats_same f [] s a d = refl
+seats_same f (x ∷ xs) zero a d = refl
+seats_same f (x ∷ xs) (suc s) a d = ap (λ ys. f x ∷ ys) (seats_same f xs s a d)
+
+-- ---- one session does something else
+
+module _ {L : Type 0} (w : WorldOf L) (s : ℕ) (seat : s < length w.actors) where
+  -- what the session does, where that is set
+  pub set_is : (actors : List ActorState) (a : ActorState) → actors ≡ slice_set w.actors s a → actor_in actors s ≡ a
+  set_is actors a same = ap (λ (xs : List ActorState). actor_in xs s) same ∙ actor_set w.actors s a seat
+
+  others_are : (actors : List ActorState) (a : ActorState) → actors ≡ slice_set w.actors s a → (q : ℕ) → (q == s) ≡ false → actor_in actors q ≡ actor_in w.actors q
+  others_are actors a same q apart = ap (λ (xs : List ActorState). actor_in xs q) same ∙ actor_other w.actors s a q apart
+
+  -- the seats of the others stay
+  beside_same : (name : GName) (v : WorldOf L) (a : ActorState) → v.actors ≡ slice_set w.actors s a → (shown_at name v s).beside ≡ (shown_at name w s).beside
+  beside_same name v a same = ap {B = Beside} (λ (xs : List Seat). record { name = name; seats = Some xs }) (ap (λ (xs : List ActorState). slice_set (map seat_of xs) s no_seat) same ∙ seats_same seat_of w.actors s a no_seat)
+
+  -- what a port tells of a call that adds no event
+  pub waits : (starts : Starts) (says : Says) → IsRun starts says w.history → (name : GName) (v : WorldOf L) (a : ActorState) → v.history ≡ w.history → v.actors ≡ slice_set w.actors s a
+      → (x : Shows) → shown_work a.work ≡ x → (room : Option ℕ) → a.reply ≡ room → (x ≡ shown_work (work_in w.actors s) → kind_due a.work ≡ kind_due (work_in w.actors s)) → Waits starts says (shown_at name w s) (shown_at name v s) x room
+  waits starts says run name v a same actors x shown room reply due = record {
+    others = [];
+    grows = record { grown = same; theirs = refl; run = subst (λ (h : History). IsRun starts says h) (sym same) run };
+    session = refl;
+    work_is = ap (λ (b : ActorState). shown_work b.work) (set_is v.actors a actors) ∙ shown;
+    room_is = ap (λ (b : ActorState). b.reply) (set_is v.actors a actors) ∙ reply;
+    same_due = λ k. ap (λ (b : ActorState). kind_due b.work) (set_is v.actors a actors) ∙ due k;
+    beside = beside_same name v a actors;
+    alone = refl;
+  }
+
+-- what is told where nothing changes
+pub still_waits : (starts : Starts) (says : Says) {L : Type 0} (w : WorldOf L) (s : ℕ) (name : GName) → IsRun starts says w.history → Waits starts says (shown_at name w s) (shown_at name w s) (shown_work (work_in w.actors s)) (actor_in w.actors s).reply
+still_waits starts says w s name run = record {
+  others = [];
+  grows = record { grown = refl; theirs = refl; run = run };
+  session = refl;
+  work_is = refl;
+  room_is = refl;
+  same_due = λ k. refl;
+  beside = refl;
+  alone = refl;
+}
+
+-- a task that begins
+pub begins_shown : (pin : Option Pin) (t : Task) (v : Work) → Begins pin t v → shown_work v ≡ Starting t
+begins_shown pin task.Login v h = ap shown_work h
+begins_shown pin task.End v h = ap shown_work h
+begins_shown pin task.Refresh v h = ap shown_work h
+begins_shown pin (task.Load p) v h = ap shown_work h.3
+begins_shown pin (task.List p) v h = ap shown_work h.3
+begins_shown pin (task.Commit edit marks) v h = ap shown_work h
+
+module _ (starts : Starts) (says : Says) (proper : StartsProper starts) (last : StartsLast starts says) {L : Type 0} (w : WorldOf L) (is : IsWorld starts says w) (s : ℕ) (there : is_some (slice_get w.history.sessions s) ≡ true) where
+  abbrev does : Work
+  does = work_in w.actors s
+
+  pub seat : s < length w.actors
+  seat =
+      let k : s < length w.history.sessions = slice_get_within w.history.sessions s (node_in w.history s) (on_node starts says proper (state_of w) is.kept s there) in
+      subst (λ n. s < n) (sym is.seats) k
+
+  -- what other sessions do, they may still do after events that aren't theirs
+  others_may : (q : ℕ) (own : Past) → AreOthers q own w.history.past → IsRun starts says (after own w.history) → May starts (after own w.history) q (work_in w.actors q)
+  others_may q own others run = may_last starts says last w.history is.kept.nodes is.kept.run q own run others (work_in w.actors q) (λ c at f i. due_drawn starts says proper (state_of w) is.kept q (running_as q c) (ap (running_of q) at) f i) (is.may q)
+
+  -- ---- what a step takes
+
+  come_pinned : HasCome w.history s → IsSome (pin_of (memory_of (state_of w) s) s)
+  come_pinned come = subst (λ (o : Option Pin). IsSome o) (sym (pin_there starts says proper (state_of w) is.kept s come.login come.stays).0) tt
+
+  on : slice_get w.history.sessions s ≡ Some (node_in w.history s)
+  on = on_node starts says proper (state_of w) is.kept s there
+
+  pub node : IsNode w.history.clusters (node_in w.history s)
+  node = its_node starts says proper (state_of w) is.kept s there
+
+  moved_ended : (r : Revision) → May starts w.history s (work.Move r) → HasEnded (memory_of (state_of w) s) r
+  moved_ended r may =
+      has_ended w.history.clusters w.history.sessions is.kept.nodes w.history.past (sound_run w.history.clusters w.history.sessions is.kept.nodes starts says w.history.past is.kept.run) (node_in w.history s) node (memory_of (state_of w) s) (is.kept.memories.memory (node_in w.history s) node) r
+      (let k : Some r.cluster ≡ Some (node_in w.history s) = sym may.2 ∙ on in cc)
+      (ended_was_drawn starts says w.history.clusters w.history.sessions w.history.past is.kept.run r may.1) may.1
+
+  can_by : (v : Work) → work_in w.actors s ≡ v → May starts w.history s v → (places : ℕ) → needed v ≤ places → length w.history.past < 2 ^ 63 → CanStep s (memory_of (state_of w) s) places v
+  can_by work.Rest at may places kept short = tt
+  can_by work.Login at may places kept short = tt
+  can_by work.End at may places kept short = tt
+  can_by work.Refresh at may places kept short = come_pinned may
+  can_by (work.Read r) at may places kept short = tt
+  can_by (work.Plan edit marks) at may places kept short = let t : known_time (memory_of (state_of w) s) ≤ length w.history.past = time_known starts says proper (state_of w) is.kept (node_in w.history s) node in omega arith
+  can_by (work.Commit c) at may places kept short = record { flying = flies_there starts says proper (state_of w) is.kept s (running_as s c) (ap (running_of s) at); unended = may.unended; places = kept }
+  can_by (work.Move r) at may places kept short = record { ended = moved_ended r may; pinned = come_pinned may.0; place = kept }
+
+  pub can_step : (places : ℕ) → needed (work_in w.actors s) ≤ places → length w.history.past < 2 ^ 63 → CanStep s (memory_of (state_of w) s) places (work_in w.actors s)
+  can_step = can_by (work_in w.actors s) refl (is.may s)
+
+  -- ---- a step
+
+  module _ (u : WorldOf L) (o : StepOut) (m : StepsIn w s u o) where
+    step_is : IsStepOf starts says s (state_of w) (work_in w.actors s) (state_of u) m.does o
+    step_is = any_step starts says proper (state_of w) is.kept s there is.table (work_in w.actors s) refl refl (is.may s) (state_of u) m.does o m.makes
+
+    grown : u.history ≡ after step_is.own w.history
+    grown = step_is.grown
+
+    run_now : IsRun starts says (after step_is.own w.history)
+    run_now = subst (λ (h : History). IsRun starts says h) grown step_is.kept.run
+
+    does_now : work_in u.actors s ≡ m.does
+    does_now = ap (λ (a : ActorState). a.work) (set_is w s seat u.actors _ m.actors)
+
+    may_by : (q : ℕ) (b : Bool) → (q == s) ≡ b → May starts u.history q (work_in u.actors q)
+    may_by q true same = subst (λ (n : ℕ). May starts u.history n (work_in u.actors n)) (sym (same_number q s same))
+        (subst (λ (h : History). May starts h s (work_in u.actors s)) (sym grown) (subst (λ (v : Work). May starts (after step_is.own w.history) s v) (sym does_now) step_is.may))
+    may_by q false apart = subst (λ (h : History). May starts h q (work_in u.actors q)) (sym grown)
+        (subst (λ (v : Work). May starts (after step_is.own w.history) q v) (sym (ap (λ (a : ActorState). a.work) (others_are w s seat u.actors _ m.actors q apart))) (others_may q step_is.own (step_is.apart q apart) run_now))
+
+    pub step_keeps : IsTable u.table.documents → IsWorld starts says u
+    step_keeps table = record {
+      kept = step_is.kept;
+      table = table;
+      seats = ap length m.actors ∙ (length-set w.actors s _ ∙ (is.seats ∙ sym (ap (λ (h : History). length h.sessions) grown)));
+      may = λ q. may_by q (q == s) refl;
+    }
+
+    pub step_seen : (name : GName) → StepSeen starts says (shown_at name w s) (shown_at name u s) o
+    step_seen name = record {
+      others = [];
+      own = step_is.own;
+      grows = record { grown = grown; theirs = refl; run = step_is.kept.run };
+      makes = subst (λ (v : Work). Tells w.history s (shown_work (work_in w.actors s)) o step_is.own (shown_work v)) (sym does_now) step_is.tells;
+      of_step = step_is.of_step;
+      as_due = step_is.as_due;
+      session = refl;
+      room = ap (λ (a : ActorState). a.reply) (set_is w s seat u.actors _ m.actors);
+      beside = beside_same w s seat name u _ m.actors;
+      alone = refl;
+    }
+
+  -- ---- other calls
+
+  -- a session does something else, and no event is added
+  set_keeps : (a : ActorState) → IsKept starts says (state_with w.history w.table w.memories (slice_set w.actors s a)) → May starts w.history s a.work → IsWorld starts says (record w { actors = slice_set w.actors s a })
+  set_keeps a kept may = record {
+    kept = kept;
+    table = is.table;
+    seats = length-set w.actors s a ∙ is.seats;
+    may = λ q. by q (q == s) refl;
+  }
+    where
+      by : (q : ℕ) (b : Bool) → (q == s) ≡ b → May starts w.history q (work_in (slice_set w.actors s a) q)
+      by q true same = subst (λ (n : ℕ). May starts w.history n (work_in (slice_set w.actors s a) n)) (sym (same_number q s same)) (subst (λ (b : ActorState). May starts w.history s b.work) (sym (set_is w s seat (slice_set w.actors s a) a refl)) may)
+      by q false apart = subst (λ (b : ActorState). May starts w.history q b.work) (sym (others_are w s seat (slice_set w.actors s a) a refl q apart)) (is.may q)
+
+  -- the state, where the session does this
+  set_state : (a : ActorState) → state_with w.history w.table w.memories (slice_set w.actors s a) ≡ record (state_of w) { running = with_session (state_of w).running s (running_of s a.work); reading = with_session (state_of w).reading s (reading_of a.work) }
+  set_state a =
+      ap (λ (f : ℕ → Option Running). record (state_with w.history w.table w.memories (slice_set w.actors s a)) { running = f }) (session_set running_of w.actors s a seat)
+      ∙ ap (λ (f : ℕ → Option Reader). record (state_of w) { running = with_session (state_of w).running s (running_of s a.work); reading = f }) (session_set (λ q v. reading_of v) w.actors s a seat)
+
+  -- where it has the committer that it had, the state has its reader now
+  reader_state : (a : ActorState) → running_of s (work_in w.actors s) ≡ running_of s a.work → state_with w.history w.table w.memories (slice_set w.actors s a) ≡ with_reader (state_of w) s (reading_of a.work)
+  reader_state a running =
+      set_state a
+      ∙ ap (λ (f : ℕ → Option Running). record (state_of w) { running = f; reading = with_session (state_of w).reading s (reading_of a.work) }) (session_same (state_of w).running s (running_of s a.work) running)
+
+  same_state : (a : ActorState) → running_of s (work_in w.actors s) ≡ running_of s a.work → reading_of (work_in w.actors s) ≡ reading_of a.work → state_with w.history w.table w.memories (slice_set w.actors s a) ≡ state_of w
+  same_state a running reading = reader_state a running ∙ ap (λ (f : ℕ → Option Reader). record (state_of w) { reading = f }) (session_same (state_of w).reading s (reading_of a.work) reading)
+
+  pub reply_keeps : (room : Option ℕ) → IsWorld starts says (with_reply w s room)
+  reply_keeps room = set_keeps (record (actor_in w.actors s) { reply = room }) (subst (λ (t : State). IsKept starts says t) (sym (same_state (record (actor_in w.actors s) { reply = room }) refl refl)) is.kept) (is.may s)
+
+  module _ (idle : work_in w.actors s ≡ work.Rest) where
+    abbrev begun : Work → ActorState
+    begun v = record (actor_in w.actors s) { work = v; began = length w.history.past }
+
+    -- a task that reads nothing
+    quiet_keeps : (v : Work) → running_of s v ≡ None → reading_of v ≡ None → May starts w.history s v → IsWorld starts says (with_work w s v)
+    quiet_keeps v running reading may = set_keeps (begun v) (subst (λ (t : State). IsKept starts says t) (sym (same_state (begun v) (ap (running_of s) idle ∙ sym running) (ap reading_of idle ∙ sym reading))) is.kept) may
+
+    reads_keeps : (r : Reader) → IsKept starts says (with_reader (state_of w) s (Some r)) → HasCome w.history s → IsWorld starts says (with_work w s (work.Read r))
+    reads_keeps r kept come = set_keeps (begun (work.Read r)) (subst (λ (t : State). IsKept starts says t) (sym (reader_state (begun (work.Read r)) (ap (running_of s) idle))) kept) come
+
+    pub start_keeps : (t : Task) (v : Work) → MayBegin starts w.history s t → Begins (pin_of (memory_of (state_of w) s) s) t v → IsWorld starts says (with_work w s v)
+    start_keeps task.Login v may h = subst (λ (x : Work). IsWorld starts says (with_work w s x)) (sym h) (quiet_keeps work.Login refl refl may)
+    start_keeps task.End v may h = subst (λ (x : Work). IsWorld starts says (with_work w s x)) (sym h) (quiet_keeps work.End refl refl (record { login = may.0; stays = may.1 }))
+    start_keeps task.Refresh v may h = subst (λ (x : Work). IsWorld starts says (with_work w s x)) (sym h) (quiet_keeps work.Refresh refl refl (record { login = may.0; stays = may.1 }))
+    start_keeps (task.Load p) v may h = subst (λ (x : Work). IsWorld starts says (with_work w s x)) (sym h.3) (reads_keeps (node_reader h.0 h.1 p) (load_keeps starts says proper (state_of w) is.kept s there h.0 h.1 p h.2) (record { login = may.0; stays = may.1 }))
+    start_keeps (task.List p) v may h = subst (λ (x : Work). IsWorld starts says (with_work w s x)) (sym h.3) (reads_keeps (children_reader h.0 h.1 p) (list_keeps starts says proper (state_of w) is.kept s there h.0 h.1 p h.2) (record { login = may.0; stays = may.1 }))
+    start_keeps (task.Commit edit marks) v may h = subst (λ (x : Work). IsWorld starts says (with_work w s x)) (sym h) (quiet_keeps (work.Plan edit marks) refl refl (record { login = may.0; stays = may.1 }, may.3))
+
+    -- a reply is said
+    module _ (i : ℕ) (text : Text) (next : i ≡ next_index w.history.past s) (lawful : says w.history s i text) where
+      abbrev said : Event
+      said = event.Said s i text
+
+      said_others : (q : ℕ) → (q == s) ≡ false → AreOthers q (said ∷ []) w.history.past
+      said_others q apart = by (s == q) refl
+        where
+          by : (b : Bool) → (s == q) ≡ b → (b || false) ≡ false
+          by true same = absurd (other_number q s apart (sym (same_number s q same)))
+          by false k = refl
+
+      kept_said : IsKept starts says (after_said (state_of w) s i text)
+      kept_said = said_keeps starts says proper (state_of w) is.kept s i text next lawful
+
+      said_state : state_of (said_in w s i text) ≡ after_said (state_of w) s i text
+      said_state = ap (λ (t : State). record t { past = said ∷ w.history.past }) (same_state (record (actor_in w.actors s) { reply = None }) refl refl)
+
+      pub said_keep : IsWorld starts says (said_in w s i text)
+      said_keep = record {
+        kept = subst (λ (t : State). IsKept starts says t) (sym said_state) kept_said;
+        table = is.table;
+        seats = length-set w.actors s (record (actor_in w.actors s) { reply = None }) ∙ is.seats;
+        may = λ q. by q (q == s) refl;
+      }
+        where
+          by : (q : ℕ) (b : Bool) → (q == s) ≡ b → May starts (after (said ∷ []) w.history) q (work_in (slice_set w.actors s (record (actor_in w.actors s) { reply = None })) q)
+          by q true same = subst (λ (n : ℕ). May starts (after (said ∷ []) w.history) n (work_in (slice_set w.actors s (record (actor_in w.actors s) { reply = None })) n)) (sym (same_number q s same))
+              (subst (λ (v : Work). May starts (after (said ∷ []) w.history) s v) (sym (ap (λ (a : ActorState). a.work) (set_is w s seat (slice_set w.actors s (record (actor_in w.actors s) { reply = None })) (record (actor_in w.actors s) { reply = None }) refl) ∙ idle)) tt)
+          by q false apart = subst (λ (a : ActorState). May starts (after (said ∷ []) w.history) q a.work) (sym (others_are w s seat (slice_set w.actors s (record (actor_in w.actors s) { reply = None })) (record (actor_in w.actors s) { reply = None }) refl q apart)) (others_may q (said ∷ []) (said_others q apart) kept_said.run)
+
+-- what a port tells of a reply
+pub answers_shown : (starts : Starts) (says : Says) {L : Type 0} (w : WorldOf L) (s : ℕ) (seat : s < length w.actors) (idle : work_in w.actors s ≡ work.Rest) (name : GName) (i : ℕ) (text : Text) → IsRun starts says (said_in w s i text).history → Answers starts says (shown_at name w s) (shown_at name (said_in w s i text) s) i text
+answers_shown starts says w s seat idle name i text run = record {
+  others = [];
+  grows = record { grown = refl; theirs = refl; run = run };
+  session = refl;
+  work = ap (λ (a : ActorState). shown_work a.work) (set_is w s seat (said_in w s i text).actors (record (actor_in w.actors s) { reply = None }) refl) ∙ ap shown_work idle;
+  room = ap (λ (a : ActorState). a.reply) (set_is w s seat (said_in w s i text).actors (record (actor_in w.actors s) { reply = None }) refl);
+  beside = beside_same w s seat name (said_in w s i text) (record (actor_in w.actors s) { reply = None }) refl;
+  alone = refl;
+}

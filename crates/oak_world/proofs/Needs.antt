@@ -1,0 +1,87 @@
+-- The places that a commit needs, from step to step.
+use Rattle.std.proofs.Common.{◌≡◌, ◌≤◌, ◌+◌, ◌*◌, ℕ, List, [], ◌∷◌, ◌++◌, length, drop, Option, Some, None, ◌⊎◌, inl, inr, true, false, refl, sym, ap, ◌∙◌, arith, length-append}
+use Rattle.jr_path.specs.declared.path.Path.{Path}
+use Rattle.oak_clash.specs.declared.mark.MarkAt.{MarkAt}
+use Rattle.oak_commit.specs.Clashing.{Writer}
+use Rattle.oak_commit.specs.Committing.{Committing, begun, refused, wanting, with_undone, written, written_paths}
+use Rattle.oak_commit.specs.Kept.{undoes}
+use Rattle.oak_commit.specs.Stages.{stage_of}
+use Rattle.oak_commit.specs.declared.outcome.CommitEnd.{CommitEnd}
+use Rattle.oak_commit.specs.declared.outcome.CommitEnd.TheVariants as end
+use Rattle.oak_commit.specs.declared.stage.Stage.TheVariants as stage
+use Rattle.oak_machine.specs.declared.event.Event.{Event}
+use Rattle.oak_store.specs.Tables.{Table, found}
+use Rattle.oak_world.specs.Parts.{IsLast, IsMarked, IsUndone, IsWritten, committed, marked, needed_by, needed_for, op_due}
+use Rattle.oak_world.proofs.Feeding.{blocked_last, blocked_mark, fed_last, fed_mark, fed_undo, fed_write}
+use Rattle.oak_world.proofs.Stages.{IsLastStage, IsMarkStage, IsUndoStage, IsWriteStage, last_stage, mark_stage, undo_stage, write_stage}
+
+-- before the commit point
+going_needs : (c : Committing) → c.outcome ≡ None → needed_by c ≡ 2 * length c.writer.left + length c.writer.written + 4
+going_needs c going = ap (needed_for c.writer) going
+
+pub want_needs : (c : Committing) → c.outcome ≡ None → needed_by (wanting c) ≤ needed_by c
+want_needs c going = let n = going_needs c going in omega (arith, n)
+
+module _ (s : ℕ) (t u : Table) (es fs : List Event) (c d : Committing) where
+  pub mark_needs : stage_of c ≡ stage.Mark → IsMarked s t u es fs c d → needed_by d ≤ needed_by c
+  mark_needs h m = by (mark_stage c h) m
+    where
+      by : IsMarkStage c → IsMarked s t u es fs c d → needed_by d ≤ needed_by c
+      by at (inl m) =
+          let e : needed_by d ≡ needed_by (marked c at.rest) = ap needed_by (m.committer ∙ fed_mark c at.going at.first at.rest at.due (found t (op_due c).id)) in
+          let n = going_needs c at.going in
+          let k : needed_by (marked c at.rest) ≡ 2 * length c.writer.left + length c.writer.written + 4 = ap (needed_for (marked c at.rest).writer) at.going in
+          omega (arith, e, n, k)
+      by at (inr m) =
+          let e : needed_by d ≡ length c.writer.written + 2 = ap needed_by (m.committer ∙ blocked_mark c at.going at.first at.rest at.due m.cause m.thing) in
+          let n = going_needs c at.going in
+          omega (arith, e, n)
+
+  pub write_needs : stage_of c ≡ stage.Write → IsWritten s t u es fs c d → needed_by d + 1 ≤ needed_by c
+  write_needs h m = by (write_stage c h) m.committer
+    where
+      by : IsWriteStage c → (d ≡ Rattle.oak_world.specs.Parts.fed_made t c) ⊎ (d ≡ wanting (Rattle.oak_world.specs.Parts.fed_made t c)) → needed_by d + 1 ≤ needed_by c
+      by at (inl e) =
+          let now : d ≡ written c at.first at.rest (found t (op_due c).id) = e ∙ fed_write c at.going at.first at.rest at.unmet at.left (found t (op_due c).id) in
+          let k : needed_by d ≡ 2 * length at.rest + length (c.writer.written ++ at.first ∷ []) + 4 = ap needed_by now ∙ ap (needed_for (written c at.first at.rest (found t (op_due c).id)).writer) at.going in
+          let n = going_needs c at.going in
+          let l : length c.writer.left ≡ length at.rest + 1 = ap length at.left ∙ omega arith in
+          let a = length-append c.writer.written (at.first ∷ []) in
+          omega (arith, k, n, l, a)
+      by at (inr e) =
+          let now : d ≡ wanting (written c at.first at.rest (found t (op_due c).id)) = e ∙ ap wanting (fed_write c at.going at.first at.rest at.unmet at.left (found t (op_due c).id)) in
+          let k : needed_by d ≡ length (c.writer.written ++ at.first ∷ []) + 2 = ap needed_by now in
+          let n = going_needs c at.going in
+          let l : length c.writer.left ≡ length at.rest + 1 = ap length at.left ∙ omega arith in
+          let a = length-append c.writer.written (at.first ∷ []) in
+          omega (arith, k, n, l, a)
+
+  pub last_needs : stage_of c ≡ stage.Last → IsLast t u es fs c d → needed_by d + 1 ≤ needed_by c
+  last_needs h m = by (last_stage c h) m
+    where
+      by : IsLastStage c → IsLast t u es fs c d → needed_by d + 1 ≤ needed_by c
+      by at (inl m) =
+          let k : needed_by d ≡ 3 = ap needed_by (m.committer ∙ fed_last c at.going at.unmet at.none (found t (op_due c).id)) in
+          let n = going_needs c at.going in
+          omega (arith, k, n)
+      by at (inr m) =
+          let k : needed_by d ≡ length c.writer.written + 2 = ap needed_by (m.committer ∙ blocked_last c at.going at.unmet at.none m.cause m.other m.item) in
+          let n = going_needs c at.going in
+          omega (arith, k, n)
+
+  pub undo_needs : stage_of c ≡ stage.Undo → IsUndone s t u es fs c d → needed_by d + 1 ≤ needed_by c
+  undo_needs h m = by (undo_stage c h)
+    where
+      undoing_needs : (w : Writer) (o : Option CommitEnd) → undoes o ≡ true → needed_for w o ≡ length w.written + 2
+      undoing_needs w None k = cc
+      undoing_needs w (Some (end.Committed r)) k = cc
+      undoing_needs w (Some (end.Clash item o)) k = refl
+      undoing_needs w (Some end.Memory) k = refl
+
+      by : IsUndoStage c → needed_by d + 1 ≤ needed_by c
+      by at =
+          let k : needed_by d ≡ length (drop 1 c.writer.written) + 2 = ap needed_by (m.committer ∙ fed_undo c at.undoing) ∙ undoing_needs (with_undone c).writer c.outcome at.undoing in
+          let n : needed_by c ≡ length c.writer.written + 2 = undoing_needs c.writer c.outcome at.undoing in
+          let l : length c.writer.written ≡ length at.rest + 1 = ap length at.written ∙ omega arith in
+          let r : length (drop 1 c.writer.written) ≡ length at.rest = ap (λ (ps : List Path). length (drop 1 ps)) at.written in
+          omega (arith, k, n, l, r)

@@ -1,0 +1,168 @@
+-- A step of a session on its parts is, by what it does, one of the steps of the state.
+use Rattle.std.proofs.Common.{◌≡◌, ◌≢◌, ◌⊎◌, inl, inr, ℕ, ◌<◌, Bool, Option, Some, None, List, [], ◌∷◌, ◌++◌, length, map, refl, sym, ap, subst, ◌∙◌}
+use Rattle.std.proofs.lemmas.List.{reverse-reverse}
+use Rattle.std.specs.Prelude.{reverse}
+use Rattle.jr_path.specs.declared.path.Path.{Path}
+use Rattle.jr_rev.specs.declared.revision.Revision.{Revision}
+use Rattle.jr_tree.specs.declared.edit.Edit.{Edit}
+use Rattle.oak_clash.specs.declared.mark.MarkAt.{MarkAt}
+use Rattle.oak_clash.specs.Clashes.{marked_paths}
+use Rattle.oak_commit.specs.Clashing.{Met}
+use Rattle.oak_commit.specs.Committing.{Committing, begun, first_path, is_past, wanting}
+use Rattle.oak_commit.specs.Stages.{stage_of}
+use Rattle.oak_commit.specs.declared.outcome.CommitEnd.TheVariants as end
+use Rattle.oak_commit.specs.declared.stage.Stage.TheVariants as stage
+use Rattle.oak_doc.specs.declared.asks.Ask.TheVariants as ask
+use Rattle.oak_machine.specs.declared.event.Event.{Event}
+use Rattle.oak_machine.specs.declared.event.Event.TheVariants as event
+use Rattle.oak_machine.specs.declared.event.StepKind.{StepKind}
+use Rattle.oak_machine.specs.declared.event.StepKind.TheVariants as kind
+use Rattle.oak_machine.specs.History.{Past}
+use Rattle.oak_node.specs.Heads.{finished, next_draw, with_draw}
+use Rattle.oak_node.specs.Memory.{NodeState}
+use Rattle.oak_node.specs.Notes.{with_notes}
+use Rattle.oak_node.specs.Pins.{pin_now, with_pin, without_pin}
+use Rattle.oak_read.specs.declared.reader.Reader.{Reader}
+use Rattle.oak_store.specs.Tables.{Table}
+use Rattle.core_clash.specs.Core.{root_of}
+use Rattle.core_world.specs.States.{State, memory_at, with_memory, with_session}
+use Rattle.core_world.specs.Steps.{after_finish, after_want, with_reader}
+use Rattle.oak_port.specs.declared.task.StepOut.{StepOut}
+use Rattle.oak_port.specs.declared.task.StepOut.TheVariants as answers
+use Rattle.oak_port.specs.declared.task.TaskEnd.TheVariants as ends
+use Rattle.oak_world.specs.declared.actor.Work.{Work}
+use Rattle.oak_world.specs.declared.actor.Work.TheVariants as work
+use Rattle.oak_world.specs.Parts.{CommitsOn, EndsSo, IsGivenUp, Parts, Steps, UpdatesOn, Updates, base_at, end_events, parts, parts_ended, read_on}
+use Rattle.oak_world.specs.Steps.{Makes, MakesCommit, MakesUpdate}
+use Rattle.oak_world.specs.Worlds.{ActorState, WorldOf, node_in, parts_at, reading_of, running_as, running_of, state_of, with_parts, work_in}
+use Rattle.oak_world.proofs.Making.{begins_is, ended_is, makes_last, makes_mark, makes_undo, makes_write, reads_is, runs_is, same_is, told_is}
+use Rattle.oak_world.proofs.Stages.{IsMarkStage, last_stage, mark_stage, undo_stage, write_stage}
+
+-- parts with the same documents, memory and events
+same_parts : (p q : Parts) → p.table ≡ q.table → p.memory ≡ q.memory → p.list ≡ q.list → p ≡ q
+same_parts p q t m es = ap (λ (x : Table). parts x p.memory p.list) t ∙ (ap (λ (x : NodeState). parts q.table x p.list) m ∙ ap (λ (x : List Event). parts q.table q.memory x) es)
+
+module _ {L : Type 0} (w : WorldOf L) (s : ℕ) (there : s < length w.actors) (q : Parts) (v : Work) (a : ActorState) (does : a.work ≡ v) where
+  abbrev node : ℕ
+  node = node_in w.history s
+
+  abbrev memory : NodeState
+  memory = memory_at w.memories node
+
+  abbrev now : State
+  now = state_of (with_parts w s q a)
+
+  running_now : (y : Work) → v ≡ y → running_of s a.work ≡ running_of s y
+  running_now y is = ap (running_of s) (does ∙ is)
+
+  reading_now : (y : Work) → v ≡ y → reading_of a.work ≡ reading_of y
+  reading_now y is = ap reading_of (does ∙ is)
+
+  -- nothing changes
+  module _ (u y : Work) (here : work_in w.actors s ≡ u) (is : v ≡ y) (running : running_of s u ≡ running_of s y) (reading : reading_of u ≡ reading_of y) where
+    abbrev runs : running_of s (work_in w.actors s) ≡ running_of s a.work
+    runs = ap (running_of s) here ∙ (running ∙ sym (running_now y is))
+
+    abbrev reads : reading_of (work_in w.actors s) ≡ reading_of a.work
+    reads = ap reading_of here ∙ (reading ∙ sym (reading_now y is))
+
+    still : q ≡ parts_at w s → now ≡ state_of w
+    still same = ap (λ (p : Parts). state_of (with_parts w s p a)) same ∙ same_is w s there a runs reads
+
+    tells : (e : Event) (m : NodeState) → q ≡ parts w.table m (reverse w.history.past ++ e ∷ []) → now ≡ record (state_of w) { past = e ∷ w.history.past; memories = with_memory w.memories node m }
+    tells e m same = ap (λ (p : Parts). state_of (with_parts w s p a)) same ∙ told_is w s there e m a runs reads
+
+  login_makes : work_in w.actors s ≡ work.Login → (o : StepOut) → Steps s node (parts_at w s) work.Login q v o → Makes s (state_of w) work.Login now v o
+  login_makes here (answers.Ready (ends.Pinned pin)) h = (tells work.Login work.Rest here h.2 refl refl (event.Login s memory.head) (with_pin memory s (pin_now memory)) h.1, h.2, h.0)
+  login_makes here answers.Memory h = (still work.Login work.Rest here h.1 refl refl h.0, h.1)
+  login_makes here _ h = absurd h
+
+  end_makes : work_in w.actors s ≡ work.End → (o : StepOut) → Steps s node (parts_at w s) work.End q v o → Makes s (state_of w) work.End now v o
+  end_makes here (answers.Ready ends.Ended) h = (tells work.End work.Rest here h.1 refl refl (event.Went s kind.End) (without_pin memory s) h.0, h.1)
+  end_makes here answers.Memory h = (still work.End work.Rest here h.1 refl refl h.0, h.1)
+  end_makes here _ h = absurd h
+
+  refresh_makes : work_in w.actors s ≡ work.Refresh → (o : StepOut) → Steps s node (parts_at w s) work.Refresh q v o → Makes s (state_of w) work.Refresh now v o
+  refresh_makes here (answers.Ready (ends.Pinned pin)) h = (tells work.Refresh work.Rest here h.2 refl refl (event.Refresh s memory.head) (with_pin memory s (pin_now memory)) h.1, h.2, h.0)
+  refresh_makes here answers.Memory h = (still work.Refresh work.Rest here h.1 refl refl h.0, h.1)
+  refresh_makes here _ h = absurd h
+
+  -- a reader alone
+  module _ (r : Reader) (here : work_in w.actors s ≡ work.Read r) where
+    reads_on : (y : Work) → v ≡ y → running_of s y ≡ None → q ≡ parts_at w s → now ≡ with_reader (state_of w) s (reading_of y)
+    reads_on y is none same =
+        ap (λ (p : Parts). state_of (with_parts w s p a)) same
+        ∙ (reads_is w s there a (ap (running_of s) here ∙ sym (running_now y is ∙ none))
+        ∙ ap (λ (x : Option Reader). with_reader (state_of w) s x) (reading_now y is))
+
+    read_makes : (o : StepOut) → Steps s node (parts_at w s) (work.Read r) q v o → Makes s (state_of w) (work.Read r) now v o
+    read_makes (answers.Went kind.Read) h = (reads_on (work.Read (read_on w.table r)) h.1 refl h.0, h.1, h.2)
+    read_makes (answers.Ready e) h = (reads_on work.Rest h.1 refl h.0, h.1, h.2)
+    read_makes answers.Memory h = (reads_on work.Rest h.1 refl h.0, h.1)
+    read_makes (answers.Went _) h = absurd h.1
+    read_makes (answers.Wait o) h = absurd h.1
+
+  plan_makes : (edit : Edit) (marks : List MarkAt) → work_in w.actors s ≡ work.Plan edit marks → (o : StepOut) → Steps s node (parts_at w s) (work.Plan edit marks) q v o → Makes s (state_of w) (work.Plan edit marks) now v o
+  plan_makes edit marks here (answers.Went kind.Draw) h =
+      (ap (λ (p : Parts). state_of (with_parts w s p a)) h.0
+      ∙ begins_is w s there (event.Draw (record { revision = next_draw memory; session = s; base = base_at memory s; edit = edit; marks = marks })) (with_notes (next_draw memory) (with_draw memory (next_draw memory)) (marked_paths marks)) a
+      (Some (running_as s (begun (next_draw memory) (base_at memory s) edit marks))) (running_now _ h.1) (ap reading_of here ∙ sym (reading_now _ h.1)), h.1)
+  plan_makes edit marks here answers.Memory h = (still (work.Plan edit marks) work.Rest here h.1 refl refl h.0, h.1)
+  plan_makes edit marks here _ h = absurd h
+
+  move_makes : (r : Revision) → work_in w.actors s ≡ work.Move r → (o : StepOut) → Steps s node (parts_at w s) (work.Move r) q v o → Makes s (state_of w) (work.Move r) now v o
+  move_makes r here (answers.Wait o) h = (still (work.Move r) (work.Move r) here h.3 refl refl (same_parts q (parts_at w s) h.0 h.1 h.2), h.3, h.4)
+  move_makes r here (answers.Ready (ends.Commit (end.Committed o))) h =
+      (tells (work.Move r) work.Rest here h.5 refl refl (event.Refresh s memory.head) (with_pin memory s (pin_now memory)) (same_parts q (parts w.table (with_pin memory s (pin_now memory)) (reverse w.history.past ++ event.Refresh s memory.head ∷ [])) h.0 h.3 h.4), h.5, h.1, h.2)
+  move_makes r here _ h = absurd h.1
+
+  -- ---- a commit
+
+  module _ (c : Committing) (here : work_in w.actors s ≡ work.Commit c) (roots : c.roots ≡ map (λ (f : Met). root_of w.history.past f.other) c.writer.due) where
+    root_first : (at : IsMarkStage c) → first_path c.roots ≡ root_of w.history.past at.first.other
+    root_first at = ap first_path (roots ∙ ap (map (λ (f : Met). root_of w.history.past f.other)) at.due)
+
+    updates : (x : StepKind) (d : Committing) → q.memory ≡ memory → v ≡ work.Commit d → Updates s w.table (reverse w.history.past) c q.table q.list d x → MakesUpdate s (state_of w) c now d x
+    updates kind.Mark d same is h = let at : IsMarkStage c = mark_stage c h.0 in makes_mark w s there c q a d same (does ∙ is) (ap reading_of here) at (root_first at) h.1
+    updates kind.Write d same is h = makes_write w s there c q a d same (does ∙ is) (ap reading_of here) (write_stage c h.0) h.1
+    updates kind.Last d same is h = makes_last w s there c q a d same (does ∙ is) (ap reading_of here) (last_stage c h.0) h.1
+    updates kind.Undo d same is h = makes_undo w s there c q a d same (does ∙ is) (ap reading_of here) (undo_stage c h.0) h.1
+    updates _ d same is h = absurd h
+
+    given_up : (o : StepOut) → q.memory ≡ memory → IsGivenUp w.table (reverse w.history.past) c q.table q.list v o → now ≡ after_want (state_of w) s (running_as s c)
+    given_up o same h =
+        ap (λ (p : Parts). state_of (with_parts w s p a)) (same_parts q (parts_at w s) h.table same h.list)
+        ∙ (runs_is w s there w.history.past (reverse w.history.past) w.table a (Some (running_as s (wanting c))) (reverse-reverse w.history.past) (running_now (work.Commit (wanting c)) h.does) (ap reading_of here ∙ sym (reading_now (work.Commit (wanting c)) h.does))
+        ∙ ap (λ (b : Bool). record (state_of w) { running = with_session (state_of w).running s (Some (record (running_as s (wanting c)) { committed = b })) }) (sym (ap is_past h.going)))
+
+    ends_so : (y : Work) (o : StepOut) → EndsSo c y o → (running_of s y ≡ None) × (reading_of y ≡ None)
+    ends_so y (answers.Went kind.Finish) h = (ap (running_of s) h.1, ap reading_of h.1)
+    ends_so y (answers.Ready (ends.Commit e)) h = (ap (running_of s) h.2, ap reading_of h.2)
+    ends_so y _ h = absurd h
+
+    ended : (o : StepOut) → q ≡ parts_ended node (parts_at w s) c.revision → EndsSo c v o → now ≡ after_finish (state_of w) s (running_as s c)
+    ended o same h =
+        let quiet = ends_so v o h in
+        ap (λ (p : Parts). state_of (with_parts w s p a)) same
+        ∙ ended_is w s there c.revision a (ap (running_of s) does ∙ quiet.0) (ap reading_of here ∙ sym (ap reading_of does ∙ quiet.1))
+
+    commit_makes : (o : StepOut) → CommitsOn s node (parts_at w s) c q v o → MakesCommit s (state_of w) c now v o
+    commit_makes o (inl h) = inr (inl (h.0, ended o h.1 h.2, h.2))
+    commit_makes o (inr h) = by h.1
+      where
+        by : UpdatesOn s w.table (reverse w.history.past) c q.table q.list v o → MakesCommit s (state_of w) c now v o
+        by (inl g) = inl (g.0, g.1, g.2, g.3, updates g.0 g.2 h.0 g.3 g.4)
+        by (inr g) = inr (inr (g.answer, g.going, given_up o h.0 g, g.does))
+
+  -- ---- all
+
+  pub makes : (u : Work) → work_in w.actors s ≡ u → (u ≡ work.Rest → ⊥) → ((c : Committing) → u ≡ work.Commit c → c.roots ≡ map (λ (f : Met). root_of w.history.past f.other) c.writer.due)
+      → (o : StepOut) → Steps s node (parts_at w s) u q v o → Makes s (state_of w) u now v o
+  makes work.Rest here busy roots o h = absurd (busy refl)
+  makes work.Login here busy roots o h = login_makes here o h
+  makes work.End here busy roots o h = end_makes here o h
+  makes work.Refresh here busy roots o h = refresh_makes here o h
+  makes (work.Read r) here busy roots o h = read_makes r here o h
+  makes (work.Plan edit marks) here busy roots o h = plan_makes edit marks here o h
+  makes (work.Commit c) here busy roots o h = commit_makes c here (roots c refl) o h
+  makes (work.Move r) here busy roots o h = move_makes r here o h

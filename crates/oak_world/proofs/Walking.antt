@@ -1,0 +1,745 @@
+-- What a step of a session keeps, and what the session is told by it.
+use Rattle.std.proofs.Common.{◌≡◌, ◌⊎◌, inl, inr, ℕ, Bool, true, false, cond, not, ◌&&◌, ◌||◌, Option, Some, None, List, [], ◌∷◌, ◌++◌, map, drop, is_some, refl, sym, ap, subst, ◌∙◌, arith}
+use Rattle.std.specs.Prelude.{◌==◌, slice_get, reverse}
+use Rattle.std.specs.List.{list_any}
+use Rattle.std.specs.Option.{option_map, option_map_or, unwrap_or}
+use Rattle.std.proofs.lemmas.Bool.Decides.{nat_tests}
+use Rattle.jr_path.specs.declared.path.Path.{Path}
+use Rattle.jr_path.specs.declared.path.Item.{Item}
+use Rattle.jr_path.specs.declared.path.DocId.{DocId}
+use Rattle.jr_path.specs.Ids.{names_of}
+use Rattle.jr_rev.specs.declared.revision.Revision.{Revision}
+use Rattle.jr_rev.specs.declared.vector.Pin.{Pin}
+use Rattle.jr_rev.specs.declared.vector.RevVec.{RevVec}
+use Rattle.jr_rev.specs.Revisions.{is_at_most, is_before, is_same}
+use Rattle.jr_rev.specs.Vectors.{sees}
+use Rattle.jr_tree.specs.declared.edit.Edit.{Edit}
+use Rattle.jr_tree.specs.declared.tree.Node.{Node}
+use Rattle.jr_tree.specs.Trees.{Nodes, initial_tree, node_at}
+use Rattle.oak_clash.specs.declared.mark.MarkAt.{MarkAt}
+use Rattle.oak_clash.specs.Clashes.{marked_paths}
+use Rattle.oak_commit.specs.Clashing.{Met, found}
+use Rattle.oak_commit.specs.Committing.{Committing, begun, is_past, refused, roots_in, wanting, with_undone, written}
+use Rattle.oak_commit.specs.Kept.{undoes}
+use Rattle.oak_commit.specs.Stages.{stage_of}
+use Rattle.oak_commit.specs.declared.outcome.CommitEnd.{CommitEnd}
+use Rattle.oak_commit.specs.declared.outcome.CommitEnd.TheVariants as end
+use Rattle.oak_commit.specs.declared.stage.Stage.{Stage}
+use Rattle.oak_commit.specs.declared.stage.Stage.TheVariants as stage
+use Rattle.oak_doc.specs.declared.document.Document.{Document}
+use Rattle.oak_doc.specs.declared.update.OpFault.{OpFault}
+use Rattle.oak_doc.specs.declared.update.OpFault.TheVariants as fault
+use Rattle.oak_doc.specs.declared.update.Kept.TheVariants as keeps
+use Rattle.std.specs.Prelude.{Result, Ok, Err}
+use Rattle.oak_machine.specs.declared.event.Draw.{Draw}
+use Rattle.oak_machine.specs.declared.event.Event.{Event}
+use Rattle.oak_machine.specs.declared.event.Event.TheVariants as event
+use Rattle.oak_machine.specs.declared.event.StepKind.{StepKind}
+use Rattle.oak_machine.specs.declared.event.StepKind.TheVariants as kind
+use Rattle.oak_machine.specs.History.{History, Past}
+use Rattle.oak_machine.specs.Commits.{draw_of, is_ended, tree_at}
+use Rattle.oak_machine.specs.Heads.{head_of, local}
+use Rattle.oak_machine.specs.Laws.{AreOthers, Says, Starts, StartsProper, after, is_event_of, is_revision_of}
+use Rattle.oak_machine.specs.Runs.{IsNode, IsRunOf}
+use Rattle.oak_machine.specs.Sessions.{base_of, has_left, has_login}
+use Rattle.oak_machine.specs.Steps.{is_appended_by, is_kind, is_moving, kind_number, where_test}
+use Rattle.oak_node.specs.Heads.{AwaitsEarlier, finished, next_draw}
+use Rattle.oak_node.specs.Memory.{NodeState, own_entry}
+use Rattle.oak_node.specs.Pins.{pin_now}
+use Rattle.oak_read.specs.declared.reader.Reader.{Reader}
+use Rattle.oak_read.specs.declared.reader.ReadOut.TheVariants as out
+use Rattle.oak_read.specs.declared.reader.Step.{Step}
+use Rattle.oak_read.specs.declared.reader.Step.TheVariants as step
+use Rattle.oak_read.specs.Meaning.{commit_root_of}
+use Rattle.oak_read.specs.Reading.{IsTable, answer, due}
+use Rattle.core_read.proofs.Latest.{at_most_both, before_itself, not_before}
+use Rattle.core_heads.proofs.Runs.{sound_run}
+use Rattle.core_heads.proofs.Steps.{later_end}
+use Rattle.core_clash.specs.Core.{root_of}
+use Rattle.core_clash.specs.Sessions.{IsTheirs, Running}
+use Rattle.core_clash.specs.Sound.{IsRooted}
+use Rattle.core_clash.specs.Views.{In}
+use Rattle.core_clash.proofs.Basics.{is_same_self, or_left, same_revision}
+use Rattle.core_clash.proofs.Pasts.{in_flight}
+use Rattle.core_nodes.proofs.Events.{end_run}
+use Rattle.core_nodes.proofs.Memories.{own_is}
+use Rattle.core_watch.specs.Moments.{IsFor}
+use Rattle.core_watch.specs.Standing.{path_read}
+use Rattle.core_watch.proofs.Moments.{fed_keeps}
+use Rattle.core_world.specs.Kept.{IsKept}
+use Rattle.core_world.specs.States.{State, base_in, history_in, memory_of, node_of, nodes_in, with_session}
+use Rattle.core_world.specs.Steps.{IsThrough, after_draw, after_finish, after_last, after_leave, after_login, after_mark, after_refresh, after_undoing, after_want, after_write, after_write_in_want, draw_in, lasted_by, marked_by, with_reader}
+use Rattle.core_world.proofs.Commits.{its, last_keeps, mark_keeps, on_its_node, undo_keeps, want_keeps, write_in_want_keeps, write_keeps}
+use Rattle.core_world.proofs.Draws.{draw_keeps, finish_keeps}
+use Rattle.core_world.proofs.Flights.{number_itself, other_number, same_number}
+use Rattle.core_world.proofs.Lives.{its_head, leave_keeps, login_keeps, refresh_keeps}
+use Rattle.core_world.proofs.Loads.{children_given, gone_keeps, node_given, read_keeps}
+use Rattle.core_world.proofs.Readers.{pinned_is}
+use Rattle.core_world.proofs.Truths.{met_rooted}
+use Rattle.oak_port.specs.declared.task.StepOut.{StepOut}
+use Rattle.oak_port.specs.declared.task.StepOut.TheVariants as answers
+use Rattle.oak_port.specs.declared.task.Task.TheVariants as task
+use Rattle.oak_port.specs.declared.task.TaskEnd.{TaskEnd}
+use Rattle.oak_port.specs.declared.task.TaskEnd.TheVariants as ends
+use Rattle.oak_port.specs.Ports.{AreOfStep, Awaiting, Deciding, Idle, IsFinish, Makes as Tells, Starting, Undoing, Work as Shows, Writing, is_by_due, is_due, tree_of}
+use Rattle.oak_world.specs.declared.actor.Work.{Work}
+use Rattle.oak_world.specs.declared.actor.Work.TheVariants as work
+use Rattle.oak_world.specs.Kept.{IsAtWork, May}
+use Rattle.oak_world.specs.Parts.{EndsSo, committed, end_of_reading, marked, read_on}
+use Rattle.oak_world.specs.Seen.{shown_by, shown_work, task_of}
+use Rattle.oak_world.specs.Steps.{HasCome, Makes, MakesCommit, MakesUpdate, kind_due, kind_of}
+use Rattle.oak_world.specs.Worlds.{reading_of, running_as, running_of}
+use Rattle.oak_world.proofs.Feeding.{stage_last, stage_mark, stage_write}
+use Rattle.oak_world.proofs.Stages.{finish_stage}
+use Rattle.oak_world.proofs.Staying.{come_left, same_roots}
+
+-- a step of session s, from one state to the next: the events that it adds, which are of no other session; the state is kept, the session may do what it does then, and it is told so
+pub record IsStepOf (starts : Starts) (says : Says) (s : ℕ) (w : State) (v : Work) (u : State) (x : Work) (o : StepOut) : Type 0 where
+  pub own : Past
+  pub grown : history_in u ≡ after own (history_in w)
+  pub kept : IsKept starts says u
+  pub may : May starts (after own (history_in w)) s x
+  pub apart : (q : ℕ) → (q == s) ≡ false → AreOthers q own w.past
+  pub tells : Tells (history_in w) s (shown_work v) o own (shown_work x)
+  pub of_step : AreOfStep (history_in w) s (shown_work v) o own
+  pub as_due : is_by_due (kind_due v) own ≡ true
+
+-- ---- numbers and kinds
+
+flipped : (q s : ℕ) → (q == s) ≡ false → (s == q) ≡ false
+flipped q s h = by (s == q) refl
+  where
+    by : (b : Bool) → (s == q) ≡ b → b ≡ false
+    by true k = absurd (other_number q s h (sym (same_number s q k)))
+    by false k = refl
+
+-- a kind is among the kinds of a test that holds
+kind_told : (k : StepKind) (b : Bool) → b ≡ true → list_any (is_kind k) (where_test b (k ∷ [])) ≡ true
+kind_told k b h = ap (λ t. list_any (is_kind k) (where_test t (k ∷ []))) h ∙ ap (λ t. t || false) (number_itself (kind_number k))
+
+with_true : (b : Bool) → b ≡ true → (b && true) ≡ true
+with_true b h = ap (λ t. t && true) h
+
+-- ---- what one event leaves
+
+module _ (past : Past) (s : ℕ) where
+  -- an event that is no other session's
+  apart_one : (e : Event) → ((q : ℕ) → (q == s) ≡ false → is_event_of (e ∷ past) q e ≡ false) → (q : ℕ) → (q == s) ≡ false → AreOthers q (e ∷ []) past
+  apart_one e none q h = ap (λ t. t || false) (none q h)
+
+-- ---- the end of a revision
+
+-- the events of an end, with the head where that moved
+abbrev ends_with : Bool → ℕ → RevVec → Revision → Past
+ends_with b k v r = cond b (event.Head k v ∷ event.End r ∷ []) (event.End r ∷ [])
+
+is_finish : (b : Bool) (k : ℕ) (v : RevVec) (r : Revision) → IsFinish r (ends_with b k v r)
+is_finish true k v r = inr (k, v, refl)
+is_finish false k v r = inl refl
+
+ends_grown : (b : Bool) (k : ℕ) (v : RevVec) (r : Revision) (past : Past) → cond b (event.Head k v ∷ event.End r ∷ past) (event.End r ∷ past) ≡ ends_with b k v r ++ past
+ends_grown true k v r past = refl
+ends_grown false k v r past = refl
+
+ends_apart : (b : Bool) (k : ℕ) (v : RevVec) (r : Revision) (past : Past) (q : ℕ) → AreOthers q (ends_with b k v r) past
+ends_apart true k v r past q = refl
+ends_apart false k v r past q = refl
+
+ends_by_due : (b : Bool) (k : ℕ) (v : RevVec) (r : Revision) (due : Option StepKind) → is_by_due due (ends_with b k v r) ≡ true
+ends_by_due true k v r due = refl
+ends_by_due false k v r due = refl
+
+ended_now : (b : Bool) (k : ℕ) (v : RevVec) (r : Revision) (past : Past) → is_ended (ends_with b k v r ++ past) r ≡ true
+ended_now true k v r past = or_left _ _ (is_same_self r)
+ended_now false k v r past = or_left _ _ (is_same_self r)
+
+three : (a b c : Bool) → a ≡ true → b ≡ true → c ≡ true → (a && b && c) ≡ true
+three true true true h k l = refl
+three false b c h k l = cc
+three true false c h k l = cc
+three true true false h k l = cc
+
+two : (a b : Bool) → a ≡ true → b ≡ true → (a && b) ≡ true
+two true true h k = refl
+two false b h k = cc
+two true false h k = cc
+
+ends_told : (h : History) (s : ℕ) (b : Bool) (k : ℕ) (v : RevVec) (r : Revision) → is_revision_of h.past s r ≡ true → is_moving h r ≡ b → (r.cluster == k) ≡ true → is_appended_by h s kind.Finish (reverse (ends_with b k v r)) ≡ true
+ends_told h s true k v r mine moving node = kind_told kind.Finish (is_revision_of h.past s r && is_moving h r && r.cluster == k) (three _ _ _ mine moving node)
+ends_told h s false k v r mine moving node = kind_told kind.Finish (is_revision_of h.past s r && not (is_moving h r)) (two _ _ mine (ap not moving))
+
+-- ---- what is shown of a commit
+
+-- an undoing goes on
+undoing_tells : (h : History) (s : ℕ) (r : Revision) (o : Option CommitEnd) → undoes o ≡ true → Tells h s (shown_by r o) (answers.Went kind.Undo) (event.Went s kind.Undo ∷ []) (shown_by r o)
+undoing_tells h s r None k = cc
+undoing_tells h s r (Some (end.Committed o)) k = cc
+undoing_tells h s r (Some (end.Clash item o)) k = (refl, refl, refl)
+undoing_tells h s r (Some end.Memory) k = (refl, refl, refl)
+
+-- a committed revision ends
+deciding_tells : (h : History) (s : ℕ) (r : Revision) (o : Option CommitEnd) (own : Past) → is_past o ≡ true → IsFinish r own → Tells h s (shown_by r o) (answers.Went kind.Finish) own (Awaiting r)
+deciding_tells h s r None own past f = cc
+deciding_tells h s r (Some (end.Committed o)) own past f = (refl, f, refl)
+deciding_tells h s r (Some (end.Clash item o)) own past f = cc
+deciding_tells h s r (Some end.Memory) own past f = cc
+
+-- one that isn't committed ends
+undone_tells : (h : History) (s : ℕ) (r : Revision) (e : CommitEnd) (own : Past) → is_past (Some e) ≡ false → IsFinish r own → Tells h s (shown_by r (Some e)) (answers.Ready (ends.Commit e)) own Idle
+undone_tells h s r (end.Committed o) own past f = cc
+undone_tells h s r (end.Clash item o) own past f = (refl, f, refl)
+undone_tells h s r end.Memory own past f = (refl, f, refl)
+
+undone_of_step : (h : History) (s : ℕ) (r : Revision) (e : CommitEnd) (own : Past) → is_past (Some e) ≡ false → is_appended_by h s kind.Finish (reverse own) ≡ true → AreOfStep h s (shown_by r (Some e)) (answers.Ready (ends.Commit e)) own
+undone_of_step h s r (end.Committed o) own past k = cc
+undone_of_step h s r (end.Clash item o) own past k = k
+undone_of_step h s r end.Memory own past k = k
+
+not_past : (o : Option CommitEnd) → undoes o ≡ true → is_past o ≡ false
+not_past None h = refl
+not_past (Some (end.Committed r)) h = cc
+not_past (Some (end.Clash item o)) h = refl
+not_past (Some end.Memory) h = refl
+
+-- ---- the commit roots of what was met
+
+module _ (base : RevVec) (r : Revision) (p : Path) (marks : List MarkAt) (root : Revision → Path) where
+  rooted_all : (d : Document) (fs : List Met) → ((f : Met) → In f fs → IsRooted (Some d) f.other (root f.other)) → roots_in (Some d) fs ≡ map (λ f. root f.other) fs
+  rooted_all d fs rooted = same_roots (λ f. names_of (commit_root_of d f.other)) (λ f. root f.other) fs (λ f i. ap (λ (o : Option DocId). names_of (unwrap_or o (commit_root_of d f.other))) (rooted f i))
+
+  roots_met : (d : Option Document) → ((f : Met) → In f (found base r p marks d) → IsRooted d f.other (root f.other)) → roots_in d (found base r p marks d) ≡ map (λ f. root f.other) (found base r p marks d)
+  roots_met None rooted = refl
+  roots_met (Some d) rooted = rooted_all d (found base r p marks (Some d)) rooted
+
+-- ---- what a reader gives
+
+props_same : (a b : Option Node) → option_map (λ n. n.props) a ≡ option_map (λ n. n.props) b → a ≡ b
+props_same None None h = refl
+props_same None (Some n) h = cc
+props_same (Some m) None h = cc
+props_same (Some m) (Some n) h = ap (λ o. option_map (λ ps. record { props = ps }) o) h
+
+-- ---- a step
+
+module _ (starts : Starts) (says : Says) (proper : StartsProper starts) (w : State) (kept : IsKept starts says w) (s : ℕ) (there : is_some (slice_get w.sessions s) ≡ true) where
+  abbrev h : History
+  h = history_in w
+
+  abbrev StepOf : Work → State → Work → StepOut → Type 0
+  StepOf v u x o = IsStepOf starts says s w v u x o
+
+  -- ---- sessions
+
+  login_step : (pin : Pin) → pin ≡ pin_now (memory_of w s) → has_login w.past s ≡ false → StepOf work.Login (after_login w s) work.Rest (answers.Ready (ends.Pinned pin))
+  login_step pin is first = record {
+    own = event.Login s (memory_of w s).head ∷ [];
+    grown = refl;
+    kept = login_keeps starts says proper w kept s there first;
+    may = tt;
+    apart = apart_one w.past s (event.Login s (memory_of w s).head) (λ q k. flipped q s k);
+    tells = (ap (λ (p : Pin). event.Login s p.base ∷ []) (sym is), refl);
+    of_step = kind_told kind.Login (s == s) (number_itself s);
+    as_due = refl;
+  }
+
+  leave_step : HasCome h s → w.running s ≡ None → w.reading s ≡ None → StepOf work.End (after_leave w s) work.Rest (answers.Ready ends.Ended)
+  leave_step come idle unread = record {
+    own = event.Went s kind.End ∷ [];
+    grown = refl;
+    kept = leave_keeps starts says proper w kept s come.login come.stays idle unread;
+    may = tt;
+    apart = apart_one w.past s (event.Went s kind.End) (λ q k. flipped q s k);
+    tells = (refl, refl);
+    of_step = kind_told kind.End (s == s && true) (with_true (s == s) (number_itself s));
+    as_due = refl;
+  }
+
+  refresh_step : (pin : Pin) → pin ≡ pin_now (memory_of w s) → HasCome h s → w.running s ≡ None → w.reading s ≡ None → StepOf work.Refresh (after_refresh w s) work.Rest (answers.Ready (ends.Pinned pin))
+  refresh_step pin is come idle unread = record {
+    own = event.Refresh s (memory_of w s).head ∷ [];
+    grown = refl;
+    kept = refresh_keeps starts says proper w kept s come.login come.stays idle unread;
+    may = tt;
+    apart = apart_one w.past s (event.Refresh s (memory_of w s).head) (λ q k. flipped q s k);
+    tells = (ap (λ (p : Pin). event.Refresh s p.base ∷ []) (sym is), refl);
+    of_step = kind_told kind.Pin (s == s) (number_itself s);
+    as_due = refl;
+  }
+
+  -- the head of the session's node, of which r is
+  head_is : (r : Revision) → slice_get w.sessions s ≡ Some r.cluster → (memory_of w s).head ≡ head_of w.clusters w.past r.cluster
+  head_is r on = its_head starts says proper w kept s there ∙ ap (head_of w.clusters w.past) (ap (λ o. unwrap_or o 0) on)
+
+  waits_step : (r q : Revision) → AwaitsEarlier (memory_of w s) r q → HasCome h s → is_ended w.past r ≡ true → slice_get w.sessions s ≡ Some r.cluster → StepOf (work.Move r) w (work.Move r) (answers.Wait q)
+  waits_step r q awaits come ended on = record {
+    own = [];
+    grown = refl;
+    kept = kept;
+    may = (come, ended, on);
+    apart = λ q k. refl;
+    tells = (refl, refl, ap (λ (v : RevVec). sees v r) (sym (head_is r on)) ∙ awaits.unseen);
+    of_step = refl;
+    as_due = refl;
+  }
+
+  moves_step : (r o : Revision) → o ≡ r → sees (memory_of w s).head r ≡ true → HasCome h s → slice_get w.sessions s ≡ Some r.cluster → w.running s ≡ None → w.reading s ≡ None → StepOf (work.Move r) (after_refresh w s) work.Rest (answers.Ready (ends.Commit (end.Committed o)))
+  moves_step r o is seen come on idle unread = record {
+    own = event.Refresh s (memory_of w s).head ∷ [];
+    grown = refl;
+    kept = refresh_keeps starts says proper w kept s come.login come.stays idle unread;
+    may = tt;
+    apart = apart_one w.past s (event.Refresh s (memory_of w s).head) (λ q k. flipped q s k);
+    tells = (ap end.Committed is, ap (λ (v : RevVec). sees v r) (sym (head_is r on)) ∙ seen, (memory_of w s).head, seen, refl, refl);
+    of_step = kind_told kind.Pin (s == s) (number_itself s);
+    as_due = refl;
+  }
+
+  -- ---- loads
+
+  module _ (table : IsTable w.table.documents) (r : Reader) (here : w.reading s ≡ Some r) (come : HasCome h s) where
+    abbrev next : Reader
+    next = read_on w.table r
+
+    read_kept : IsKept starts says (with_reader w s (Some next))
+    read_kept = read_keeps starts says proper w kept s r here table
+
+    for_same : IsFor r.pin r.parent (path_read r) next
+    for_same = fed_keeps r (answer w.table.documents (due r))
+
+    same_task : Starting (task_of next.parent (path_read next)) ≡ Starting (task_of r.parent (path_read r))
+    same_task = ap (λ (o : Option Path). Starting (task_of o (path_read next))) for_same.same_kind ∙ ap (λ (p : Path). Starting (task_of r.parent p)) for_same.same_path
+
+    goes_on : (parent : Option Path) (p : Path) (x : Shows) → x ≡ Starting (task_of parent p) → Tells h s (Starting (task_of parent p)) (answers.Went kind.Read) [] x
+    goes_on None p x is = (refl, refl, is)
+    goes_on (Some q) p x is = (refl, refl, is)
+
+    pub read_step : StepOf (work.Read r) (with_reader w s (Some next)) (work.Read next) (answers.Went kind.Read)
+    read_step = record {
+      own = [];
+      grown = refl;
+      kept = read_kept;
+      may = come;
+      apart = λ q k. refl;
+      tells = goes_on r.parent (path_read r) (shown_work (work.Read next)) same_task;
+      of_step = refl;
+      as_due = refl;
+    }
+
+    gone_tells : (parent : Option Path) (p : Path) → Tells h s (Starting (task_of parent p)) answers.Memory [] Idle
+    gone_tells None p = (refl, refl)
+    gone_tells (Some q) p = (refl, refl)
+
+    pub gone_step : StepOf (work.Read r) (with_reader w s None) work.Rest answers.Memory
+    gone_step = record {
+      own = [];
+      grown = refl;
+      kept = gone_keeps starts says proper w kept s;
+      may = tt;
+      apart = λ q k. refl;
+      tells = gone_tells r.parent (path_read r);
+      of_step = refl;
+      as_due = refl;
+    }
+
+    -- the reader that is fed reads at the session's base
+    next_here : with_session w.reading s (Some next) s ≡ Some next
+    next_here = ap (λ b. cond b (Some next) (w.reading s)) (number_itself s)
+
+    tree_is : tree_at w.past next.pin.base ≡ tree_of w.past s
+    tree_is = sym (ap (λ (o : Option RevVec). option_map_or (tree_at w.past) o initial_tree) (pinned_is w.clusters w.past s next.pin (read_kept.readers.at_pin s next next_here)).base)
+
+    module _ (e : TaskEnd) where
+      given : (parent : Option Path) → next.parent ≡ parent → (st : Step) → next.step ≡ st → end_of_reading st ≡ Some e → Tells h s (Starting (task_of parent (path_read r))) (answers.Ready e) [] Idle
+      given None is (step.Done (out.Node n)) done gives =
+          subst (λ (x : TaskEnd). Tells h s (Starting (task.Load (path_read r))) (answers.Ready x) [] Idle) (let k : Some (ends.Node n) ≡ Some e = gives in cc)
+          (props_same n (node_at (tree_of w.past s) (path_read r))
+          (node_given starts says proper (with_reader w s (Some next)) read_kept s next next_here (out.Node n) is done
+          ∙ (ap (λ (t : Nodes). option_map (λ m. m.props) (node_at t (path_read next))) tree_is
+          ∙ ap (λ (p : Path). option_map (λ m. m.props) (node_at (tree_of w.past s) p)) for_same.same_path)), refl, refl)
+      given None is (step.Done (out.Children ns)) done gives = absurd (node_given starts says proper (with_reader w s (Some next)) read_kept s next next_here (out.Children ns) is done)
+      given (Some p) is (step.Done (out.Node n)) done gives = absurd (children_given starts says proper (with_reader w s (Some next)) read_kept s next next_here p (out.Node n) is done)
+      given (Some p) is (step.Done (out.Children ns)) done gives =
+          subst (λ (x : TaskEnd). Tells h s (Starting (task.List (path_read r))) (answers.Ready x) [] Idle) (let k : Some (ends.Children ns) ≡ Some e = gives in cc)
+          (children_given starts says proper (with_reader w s (Some next)) read_kept s next next_here p (out.Children ns) is done
+          ∙ (ap (λ (t : Nodes). Rattle.jr_tree.specs.Trees.children_of t p) tree_is
+          ∙ ap (λ (q : Path). Rattle.jr_tree.specs.Trees.children_of (tree_of w.past s) q) (sym (ap (λ (o : Option Path). unwrap_or o next.at) is) ∙ for_same.same_path)), refl, refl)
+      given parent is st done gives = cc
+
+      last_read : (parent : Option Path) (p : Path) → AreOfStep h s (Starting (task_of parent p)) (answers.Ready e) []
+      last_read None p = refl
+      last_read (Some q) p = refl
+
+      pub given_step : end_of_reading next.step ≡ Some e → StepOf (work.Read r) (with_reader w s None) work.Rest (answers.Ready e)
+      given_step gives = record {
+        own = [];
+        grown = refl;
+        kept = gone_keeps starts says proper w kept s;
+        may = tt;
+        apart = λ q k. refl;
+        tells = given r.parent for_same.same_kind next.step refl gives;
+        of_step = last_read r.parent (path_read r);
+        as_due = refl;
+      }
+
+  -- ---- the draw of a commit
+
+  draw_step : (edit : Edit) (marks : List MarkAt) → HasCome h s → starts h s edit marks → w.running s ≡ None
+      → StepOf (work.Plan edit marks) (after_draw w s edit marks (marked_paths marks)) (work.Commit (begun (next_draw (memory_of w s)) (base_in w s) edit marks)) (answers.Went kind.Draw)
+  draw_step edit marks come lawful idle = record {
+    own = event.Draw (draw_in w s edit marks) ∷ [];
+    grown = refl;
+    kept = draw_keeps starts says proper w kept s come.login come.stays idle edit marks lawful (marked_paths marks);
+    may = record { come = record { login = come.login; stays = come.stays }; unended = refl; roots = refl };
+    apart = apart_one w.past s (event.Draw (draw_in w s edit marks)) (λ q k. flipped q s k);
+    tells = (draw_in w s edit marks, record { session = refl; edit_is = refl; marks_are = refl }, refl, refl, refl);
+    of_step = kind_told kind.Draw (s == s) (number_itself s);
+    as_due = refl;
+  }
+
+  -- ---- a commit
+
+  module _ (c : Committing) (here : w.running s ≡ Some (running_as s c)) (at : IsAtWork h s c) where
+    abbrev x : Running
+    x = running_as s c
+
+    mine : IsTheirs w.past kept.committing.writers s (running_as s c)
+    mine = its starts says proper w kept s (running_as s c) here
+
+    its_session : (q : ℕ) (b : Bool) → (s == q) ≡ b → is_revision_of w.past q c.revision ≡ b
+    its_session q b is = ap (λ (o : Option Draw). option_map_or (λ d. d.session == q) o false) mine.draw ∙ is
+
+    revision_mine : is_revision_of w.past s c.revision ≡ true
+    revision_mine = its_session s true (number_itself s)
+
+    -- an event of its revision, which is no other session's
+    apart_refusal : (item : Item) (o : Revision) (q : ℕ) → (q == s) ≡ false → AreOthers q (event.Refuse c.revision item o ∷ []) w.past
+    apart_refusal item o = apart_one w.past s (event.Refuse c.revision item o) (λ q k. its_session q false (flipped q s k))
+
+    apart_went : (k : StepKind) (q : ℕ) → (q == s) ≡ false → AreOthers q (event.Went s k ∷ []) w.past
+    apart_went k = apart_one w.past s (event.Went s k) (λ q m. flipped q s m)
+
+    -- ---- before its commit point
+
+    module _ (going : c.outcome ≡ None) where
+      uncommitted : is_past c.outcome ≡ false
+      uncommitted = ap is_past going
+
+      unundone : undoes c.outcome ≡ false
+      unundone = ap undoes going
+
+      -- what is told of one that writes
+      writing : (o : StepOut) (own : Past) (y : Shows) → Tells h s (Writing c.revision) o own y → Tells h s (shown_work (work.Commit c)) o own y
+      writing o own y t = subst (λ (z : Shows). Tells h s z o own y) (ap (shown_by c.revision) (sym going)) t
+
+      still_writing : (d : Committing) → d.revision ≡ c.revision → d.outcome ≡ c.outcome → shown_work (work.Commit d) ≡ Writing c.revision
+      still_writing d same out = ap (λ (r : Revision). shown_by r d.outcome) same ∙ ap (shown_by c.revision) (out ∙ going)
+
+      abbrev refusal_tells : (k : StepKind) (item : Item) (o : Revision) (d : Committing) → d ≡ refused c item o → Tells h s (shown_work (work.Commit c)) (answers.Went k) (event.Refuse c.revision item o ∷ []) (shown_work (work.Commit d))
+      refusal_tells k item o d is = writing (answers.Went k) (event.Refuse c.revision item o ∷ []) (shown_work (work.Commit d)) (inr (inr (inr (item, o, refl, ap (λ (y : Committing). shown_work (work.Commit y)) is))))
+
+      -- it gives up for want of memory
+      want_step : StepOf (work.Commit c) (after_want w s x) (work.Commit (wanting c)) answers.Memory
+      want_step = record {
+        own = [];
+        grown = refl;
+        kept = want_keeps starts says proper w kept s x here uncommitted unundone;
+        may = record { come = at.come; unended = at.unended; roots = refl };
+        apart = λ q k. refl;
+        tells = writing answers.Memory [] (shown_work (work.Commit (wanting c))) (refl, refl);
+        of_step = refl;
+        as_due = refl;
+      }
+
+      -- a mark
+      module _ (f : Met) (rest : List Met) (due_is : c.writer.due ≡ f ∷ rest) where
+        mark_kept : IsKept starts says (after_mark w s x f rest)
+        mark_kept = mark_keeps starts says proper w kept s x here uncommitted unundone f rest due_is
+
+        mark_grown : (own : Past) → (after_mark w s x f rest).past ≡ own ++ w.past → history_in (after_mark w s x f rest) ≡ after own h
+        mark_grown own is = by (Rattle.oak_doc.specs.Updates.updated (nodes_in w.table (root_of w.past f.other)) (Rattle.oak_commit.specs.Clashing.mark_op (root_of w.past f.other) f.other x.draw.revision f.theirs) (Rattle.oak_store.specs.Tables.next_number w.table)) ∙ ap (λ (past : Past). record h { past = past }) is
+          where
+            by : (result : Result Document OpFault) → history_in (marked_by w s x f rest result) ≡ record h { past = (marked_by w s x f rest result).past }
+            by (Ok d) = refl
+            by (Err e) = refl
+
+        pub marked_step : (d : Committing) → (after_mark w s x f rest).past ≡ event.Went s kind.Mark ∷ w.past → d ≡ marked c rest → StepOf (work.Commit c) (after_mark w s x f rest) (work.Commit d) (answers.Went kind.Mark)
+        marked_step d past is = subst (λ (y : Committing). StepOf (work.Commit c) (after_mark w s x f rest) (work.Commit y) (answers.Went kind.Mark)) (sym is) (record {
+          own = event.Went s kind.Mark ∷ [];
+          grown = mark_grown (event.Went s kind.Mark ∷ []) past;
+          kept = mark_kept;
+          may = record { come = record { login = at.come.login; stays = at.come.stays }; unended = at.unended; roots = ap (drop 1) at.roots ∙ ap (λ (fs : List Met). drop 1 (map (λ m. root_of w.past m.other) fs)) due_is };
+          apart = apart_went kind.Mark;
+          tells = writing (answers.Went kind.Mark) (event.Went s kind.Mark ∷ []) (shown_work (work.Commit (marked c rest))) (inr (inl (refl, refl, still_writing (marked c rest) refl refl)));
+          of_step = kind_told kind.Mark (s == s && true) (with_true (s == s) (number_itself s));
+          as_due = ap (λ (y : Stage). is_due kind.Mark (kind_of y)) (stage_mark c going f rest due_is);
+        })
+
+        pub mark_refused_step : (d : Committing) → (after_mark w s x f rest).past ≡ event.Refuse c.revision f.mine f.other ∷ w.past → d ≡ refused c f.mine f.other → StepOf (work.Commit c) (after_mark w s x f rest) (work.Commit d) (answers.Went kind.Mark)
+        mark_refused_step d past is = subst (λ (y : Committing). StepOf (work.Commit c) (after_mark w s x f rest) (work.Commit y) (answers.Went kind.Mark)) (sym is) (record {
+          own = event.Refuse c.revision f.mine f.other ∷ [];
+          grown = mark_grown (event.Refuse c.revision f.mine f.other ∷ []) past;
+          kept = mark_kept;
+          may = record { come = record { login = at.come.login; stays = at.come.stays }; unended = at.unended; roots = refl };
+          apart = apart_refusal f.mine f.other;
+          tells = refusal_tells kind.Mark f.mine f.other (refused c f.mine f.other) refl;
+          of_step = ap (λ t. list_any (is_kind kind.Mark) (where_test t (kind.Mark ∷ kind.Last ∷ []))) revision_mine;
+          as_due = refl;
+        })
+
+      -- a document
+      module _ (p : Path) (rest : List Path) (unmet : c.writer.due ≡ []) (left : c.writer.left ≡ p ∷ rest) where
+        abbrev met : List Met
+        met = found c.base c.revision p c.marks (nodes_in w.table p)
+
+        pub wrote_step : StepOf (work.Commit c) (after_write w s x p rest) (work.Commit (written c p rest (nodes_in w.table p))) (answers.Went kind.Write)
+        wrote_step = record {
+          own = event.Went s kind.Write ∷ [];
+          grown = refl;
+          kept = write_keeps starts says proper w kept s x here uncommitted unundone p rest unmet left;
+          may = record { come = record { login = at.come.login; stays = at.come.stays }; unended = at.unended; roots = roots_met c.base c.revision p c.marks (root_of w.past) (nodes_in w.table p) (λ f i. met_rooted starts says proper w kept s x here p f i) };
+          apart = apart_went kind.Write;
+          tells = writing (answers.Went kind.Write) (event.Went s kind.Write ∷ []) (shown_work (work.Commit (written c p rest (nodes_in w.table p)))) (inl (refl, refl, inl (still_writing (written c p rest (nodes_in w.table p)) refl refl)));
+          of_step = kind_told kind.Write (s == s && true) (with_true (s == s) (number_itself s));
+          as_due = ap (λ (y : Stage). is_due kind.Write (kind_of y)) (stage_write c going p rest unmet left);
+        }
+
+        pub wrote_in_want_step : StepOf (work.Commit c) (after_write_in_want w s x p rest) (work.Commit (wanting (written c p rest (nodes_in w.table p)))) (answers.Went kind.Write)
+        wrote_in_want_step = record {
+          own = event.Went s kind.Write ∷ [];
+          grown = refl;
+          kept = write_in_want_keeps starts says proper w kept s x here uncommitted unundone p rest unmet left;
+          may = record { come = record { login = at.come.login; stays = at.come.stays }; unended = at.unended; roots = refl };
+          apart = apart_went kind.Write;
+          tells = writing (answers.Went kind.Write) (event.Went s kind.Write ∷ []) (shown_work (work.Commit (wanting (written c p rest (nodes_in w.table p))))) (inl (refl, refl, inr refl));
+          of_step = kind_told kind.Write (s == s && true) (with_true (s == s) (number_itself s));
+          as_due = ap (λ (y : Stage). is_due kind.Write (kind_of y)) (stage_write c going p rest unmet left);
+        }
+
+      -- the last write
+      module _ (unmet : c.writer.due ≡ []) (none_left : c.writer.left ≡ []) where
+        last_kept : IsKept starts says (after_last w s x)
+        last_kept = last_keeps starts says proper w kept s x here uncommitted unundone unmet none_left
+
+        last_grown : (own : Past) → (after_last w s x).past ≡ own ++ w.past → history_in (after_last w s x) ≡ after own h
+        last_grown own is = by (Rattle.oak_doc.specs.Updates.updated (nodes_in w.table (Rattle.oak_clash.specs.Clashes.commit_root x.draw.marks)) (Rattle.oak_commit.specs.Writing.last_op x.draw.revision x.draw.marks) (Rattle.oak_store.specs.Tables.next_number w.table)) ∙ ap (λ (past : Past). record h { past = past }) is
+          where
+            by : (result : Result Document OpFault) → history_in (lasted_by w s x result) ≡ record h { past = (lasted_by w s x result).past }
+            by (Ok d) = refl
+            by (Err (fault.Unmet k (keeps.Entry o item))) = refl
+            by (Err (fault.Unmet k (keeps.Number n))) = refl
+            by (Err (fault.Unmet k keeps.Nothing)) = refl
+            by (Err fault.Absent) = refl
+            by (Err fault.Memory) = refl
+
+        pub committed_step : (d : Committing) → (after_last w s x).past ≡ event.Commit c.revision ∷ w.past → d ≡ committed c → StepOf (work.Commit c) (after_last w s x) (work.Commit d) (answers.Went kind.Last)
+        committed_step d past is = subst (λ (y : Committing). StepOf (work.Commit c) (after_last w s x) (work.Commit y) (answers.Went kind.Last)) (sym is) (record {
+          own = event.Commit c.revision ∷ [];
+          grown = last_grown (event.Commit c.revision ∷ []) past;
+          kept = last_kept;
+          may = record { come = record { login = at.come.login; stays = at.come.stays }; unended = at.unended; roots = at.roots };
+          apart = apart_one w.past s (event.Commit c.revision) (λ q k. its_session q false (flipped q s k));
+          tells = writing (answers.Went kind.Last) (event.Commit c.revision ∷ []) (shown_work (work.Commit (committed c))) (inr (inr (inl (refl, refl, refl))));
+          of_step = kind_told kind.Last (is_revision_of w.past s c.revision) revision_mine;
+          as_due = ap (λ (y : Stage). is_due kind.Last (kind_of y)) (stage_last c going unmet none_left);
+        })
+
+        pub last_refused_step : (d : Committing) (item : Item) (o : Revision) → (after_last w s x).past ≡ event.Refuse c.revision item o ∷ w.past → d ≡ refused c item o → StepOf (work.Commit c) (after_last w s x) (work.Commit d) (answers.Went kind.Last)
+        last_refused_step d item o past is = subst (λ (y : Committing). StepOf (work.Commit c) (after_last w s x) (work.Commit y) (answers.Went kind.Last)) (sym is) (record {
+          own = event.Refuse c.revision item o ∷ [];
+          grown = last_grown (event.Refuse c.revision item o ∷ []) past;
+          kept = last_kept;
+          may = record { come = record { login = at.come.login; stays = at.come.stays }; unended = at.unended; roots = refl };
+          apart = apart_refusal item o;
+          tells = refusal_tells kind.Last item o (refused c item o) refl;
+          of_step = ap (λ t. list_any (is_kind kind.Last) (where_test t (kind.Mark ∷ kind.Last ∷ []))) revision_mine;
+          as_due = refl;
+        })
+
+    -- ---- while it undoes
+
+    undone_step : (p : Path) (rest : List Path) → undoes c.outcome ≡ true → c.writer.written ≡ p ∷ rest → StepOf (work.Commit c) (after_undoing w s x p rest) (work.Commit (with_undone c)) (answers.Went kind.Undo)
+    undone_step p rest undoing next = record {
+      own = event.Went s kind.Undo ∷ [];
+      grown = refl;
+      kept = undo_keeps starts says proper w kept s x here p rest (not_past c.outcome undoing) undoing next;
+      may = record { come = record { login = at.come.login; stays = at.come.stays }; unended = at.unended; roots = at.roots };
+      apart = apart_went kind.Undo;
+      tells = undoing_tells h s c.revision c.outcome undoing;
+      of_step = kind_told kind.Undo (s == s && true) (with_true (s == s) (number_itself s));
+      as_due = refl;
+    }
+
+    -- ---- the end
+
+    module _ (finish : stage_of c ≡ stage.Finish) where
+      through : IsThrough (running_as s c)
+      through = (finish_stage c finish).through
+
+      abbrev memory : NodeState
+      memory = memory_of w s
+
+      abbrev done : NodeState
+      done = finished (memory_of w s) c.revision
+
+      abbrev moved : Bool
+      moved = is_before (own_entry (memory_of w s)) (own_entry (finished (memory_of w s) c.revision))
+
+      abbrev own_ends : Past
+      own_ends = ends_with moved (node_of w s) done.head c.revision
+
+      on : slice_get w.sessions s ≡ Some c.revision.cluster
+      on = on_its_node starts says proper w kept s x here
+
+      at_node : node_of w s ≡ c.revision.cluster
+      at_node = ap (λ o. unwrap_or o 0) on
+
+      node : IsNode w.clusters (node_of w s)
+      node = subst (IsNode w.clusters) (sym at_node) (kept.nodes.node s c.revision.cluster on)
+
+      -- the head moves where the memory's does
+      moves : is_moving h c.revision ≡ moved
+      moves = sym (rises ∙ by (is_same (local later k) (local w.past k)) refl)
+        where
+          k : ℕ
+          k = c.revision.cluster
+
+          later : Past
+          later = event.End c.revision ∷ w.past
+
+          run : IsRunOf starts says w.clusters w.sessions later
+          run = (in_flight w.past c.revision x.draw mine.draw mine.unended, kept.run)
+
+          is_node : IsNode w.clusters k
+          is_node = kept.nodes.node s k on
+
+          sound = sound_run w.clusters w.sessions kept.nodes starts says w.past kept.run
+
+          its_memory : Rattle.core_nodes.specs.Nodes.IsMemoryOf w.clusters w.past k memory
+          its_memory = subst (λ (j : ℕ). Rattle.core_nodes.specs.Nodes.IsMemoryOf w.clusters w.past k (Rattle.core_world.specs.States.memory_at w.memories j)) (sym at_node) (kept.memories.memory k is_node)
+
+          rises : moved ≡ is_before (local w.past k) (local later k)
+          rises =
+              ap (λ e. is_before e (own_entry done)) (own_is w.clusters w.sessions kept.nodes w.past sound k is_node memory its_memory)
+              ∙ ap (is_before (local w.past k)) (own_is w.clusters w.sessions kept.nodes later (sound_run w.clusters w.sessions kept.nodes starts says later run) k is_node done (end_run starts says w.clusters w.sessions kept.nodes c.revision w.past run memory its_memory))
+
+          by : (b : Bool) → is_same (local later k) (local w.past k) ≡ b → is_before (local w.past k) (local later k) ≡ not b
+          by true same = ap (is_before (local w.past k)) (same_revision (local later k) (local w.past k) same) ∙ before_itself (local w.past k)
+          by false apart = before (is_before (local w.past k) (local later k)) refl
+            where
+              before : (b : Bool) → is_before (local w.past k) (local later k) ≡ b → b ≡ true
+              before true e = refl
+              before false e =
+                  let same : local w.past k ≡ local later k = at_most_both (local w.past k) (local later k) ((later_end w.clusters w.sessions kept.nodes w.past sound c.revision).locals k) (not_before (local w.past k) (local later k) e) in
+                  sym apart ∙ (ap (λ (r : Revision). is_same r (local w.past k)) (sym same) ∙ is_same_self (local w.past k))
+
+      finish_kept : IsKept starts says (after_finish w s x)
+      finish_kept = finish_keeps starts says proper w kept s x here through
+
+      finish_grown : history_in (after_finish w s x) ≡ after own_ends h
+      finish_grown = ap (λ (past : Past). record h { past = past }) (ends_grown moved (node_of w s) done.head c.revision w.past)
+
+      finish_told : is_appended_by h s kind.Finish (reverse own_ends) ≡ true
+      finish_told = ends_told h s moved (node_of w s) done.head c.revision revision_mine moves (ap (λ (k : ℕ). c.revision.cluster == k) at_node ∙ number_itself c.revision.cluster)
+
+      come_on : HasCome (after own_ends h) s
+      come_on = come_left h s own_ends (ends_apart moved (node_of w s) done.head c.revision w.past s) at.come
+
+      finished_step : (v : Work) (o : StepOut) → EndsSo c v o → StepOf (work.Commit c) (after_finish w s x) v o
+      finished_step v (answers.Went kind.Finish) ends_so = subst (λ (y : Work). StepOf (work.Commit c) (after_finish w s x) y (answers.Went kind.Finish)) (sym ends_so.1) (record {
+        own = own_ends;
+        grown = finish_grown;
+        kept = finish_kept;
+        may = (come_on, ended_now moved (node_of w s) done.head c.revision w.past, on);
+        apart = λ q k. ends_apart moved (node_of w s) done.head c.revision w.past q;
+        tells = deciding_tells h s c.revision c.outcome own_ends ends_so.0 (is_finish moved (node_of w s) done.head c.revision);
+        of_step = finish_told;
+        as_due = ends_by_due moved (node_of w s) done.head c.revision (kind_due (work.Commit c));
+      })
+      finished_step v (answers.Ready (ends.Commit e)) ends_so =
+          let past : is_past (Some e) ≡ false = ap is_past (sym ends_so.0) ∙ ends_so.1 in
+          subst (λ (y : Work). StepOf (work.Commit c) (after_finish w s x) y (answers.Ready (ends.Commit e))) (sym ends_so.2) (record {
+            own = own_ends;
+            grown = finish_grown;
+            kept = finish_kept;
+            may = tt;
+            apart = λ q k. ends_apart moved (node_of w s) done.head c.revision w.past q;
+            tells = subst (λ (y : Option CommitEnd). Tells h s (shown_by c.revision y) (answers.Ready (ends.Commit e)) own_ends Idle) (sym ends_so.0) (undone_tells h s c.revision e own_ends past (is_finish moved (node_of w s) done.head c.revision));
+            of_step = subst (λ (y : Option CommitEnd). AreOfStep h s (shown_by c.revision y) (answers.Ready (ends.Commit e)) own_ends) (sym ends_so.0) (undone_of_step h s c.revision e own_ends past finish_told);
+            as_due = ends_by_due moved (node_of w s) done.head c.revision (kind_due (work.Commit c));
+          })
+      finished_step v _ ends_so = absurd ends_so
+
+  -- ---- all
+
+  -- the same, at a state and a committer that are equal to these
+  at_both : (v : Work) (o : StepOut) (t : State) (d : Committing) (u : State) (e : Committing) → u ≡ t → e ≡ d → StepOf v t (work.Commit d) o → StepOf v u (work.Commit e) o
+  at_both v o t d u e same is f = subst (λ (y : State). StepOf v y (work.Commit e) o) (sym same) (subst (λ (y : Committing). StepOf v t (work.Commit y) o) (sym is) f)
+
+  module _ (c : Committing) (here : w.running s ≡ Some (running_as s c)) (at : IsAtWork h s c) (u : State) (d : Committing) where
+    mark_any : MakesUpdate s w c u d kind.Mark → StepOf (work.Commit c) u (work.Commit d) (answers.Went kind.Mark)
+    mark_any g = subst (λ (y : State). StepOf (work.Commit c) y (work.Commit d) (answers.Went kind.Mark)) (sym g.4) (by g.5)
+      where
+        by : ((u.past ≡ event.Went s kind.Mark ∷ w.past) × (d ≡ marked c g.1)) ⊎ ((u.past ≡ event.Refuse c.revision g.0.mine g.0.other ∷ w.past) × (d ≡ refused c g.0.mine g.0.other)) → StepOf (work.Commit c) (after_mark w s (running_as s c) g.0 g.1) (work.Commit d) (answers.Went kind.Mark)
+        by (inl e) = marked_step c here at g.2 g.0 g.1 g.3 d (ap (λ (y : State). y.past) (sym g.4) ∙ e.0) e.1
+        by (inr e) = mark_refused_step c here at g.2 g.0 g.1 g.3 d (ap (λ (y : State). y.past) (sym g.4) ∙ e.0) e.1
+
+    write_any : MakesUpdate s w c u d kind.Write → StepOf (work.Commit c) u (work.Commit d) (answers.Went kind.Write)
+    write_any g = by g.5
+      where
+        by : ((u ≡ after_write w s (running_as s c) g.0 g.1) × (d ≡ written c g.0 g.1 (nodes_in w.table g.0))) ⊎ ((u ≡ after_write_in_want w s (running_as s c) g.0 g.1) × (d ≡ wanting (written c g.0 g.1 (nodes_in w.table g.0)))) → StepOf (work.Commit c) u (work.Commit d) (answers.Went kind.Write)
+        by (inl e) = at_both (work.Commit c) (answers.Went kind.Write) (after_write w s (running_as s c) g.0 g.1) (written c g.0 g.1 (nodes_in w.table g.0)) u d e.0 e.1 (wrote_step c here at g.2 g.0 g.1 g.3 g.4)
+        by (inr e) = at_both (work.Commit c) (answers.Went kind.Write) (after_write_in_want w s (running_as s c) g.0 g.1) (wanting (written c g.0 g.1 (nodes_in w.table g.0))) u d e.0 e.1 (wrote_in_want_step c here at g.2 g.0 g.1 g.3 g.4)
+
+    last_any : MakesUpdate s w c u d kind.Last → StepOf (work.Commit c) u (work.Commit d) (answers.Went kind.Last)
+    last_any g = subst (λ (y : State). StepOf (work.Commit c) y (work.Commit d) (answers.Went kind.Last)) (sym g.3) (by g.4)
+      where
+        by : ((u.past ≡ event.Commit c.revision ∷ w.past) × (d ≡ committed c)) ⊎ ((item : Item) × (o : Revision) × (u.past ≡ event.Refuse c.revision item o ∷ w.past) × (d ≡ refused c item o)) → StepOf (work.Commit c) (after_last w s (running_as s c)) (work.Commit d) (answers.Went kind.Last)
+        by (inl e) = committed_step c here at g.0 g.1 g.2 d (ap (λ (y : State). y.past) (sym g.3) ∙ e.0) e.1
+        by (inr e) = last_refused_step c here at g.0 g.1 g.2 d e.0 e.1 (ap (λ (y : State). y.past) (sym g.3) ∙ e.2) e.3
+
+    update_any : (k : StepKind) → MakesUpdate s w c u d k → StepOf (work.Commit c) u (work.Commit d) (answers.Went k)
+    update_any kind.Mark g = mark_any g
+    update_any kind.Write g = write_any g
+    update_any kind.Last g = last_any g
+    update_any kind.Undo g = at_both (work.Commit c) (answers.Went kind.Undo) (after_undoing w s (running_as s c) g.0 g.1) (with_undone c) u d g.4 g.5 (undone_step c here at g.0 g.1 g.2 g.3)
+    update_any _ g = absurd g
+
+  commit_step : (c : Committing) → w.running s ≡ Some (running_as s c) → IsAtWork h s c → (u : State) (v : Work) (o : StepOut) → MakesCommit s w c u v o → StepOf (work.Commit c) u v o
+  commit_step c here at u v o (inl m) = subst (λ (y : Work). StepOf (work.Commit c) u y o) (sym m.3) (subst (λ (y : StepOut). StepOf (work.Commit c) u (work.Commit m.2) y) (sym m.1) (update_any c here at u m.2 m.0 m.4))
+  commit_step c here at u v o (inr (inl m)) = subst (λ (y : State). StepOf (work.Commit c) y v o) (sym m.1) (finished_step c here at m.0 v o m.2)
+  commit_step c here at u v o (inr (inr m)) =
+      subst (λ (y : Work). StepOf (work.Commit c) u y o) (sym m.3) (subst (λ (y : StepOut). StepOf (work.Commit c) u (work.Commit (wanting c)) y) (sym m.0)
+      (subst (λ (y : State). StepOf (work.Commit c) y (work.Commit (wanting c)) answers.Memory) (sym m.2) (want_step c here at m.1)))
+
+  -- the same, at a state and a work that are equal to these
+  at_those : (v : Work) (o : StepOut) (t : State) (y : Work) (u : State) (x : Work) → u ≡ t → x ≡ y → StepOf v t y o → StepOf v u x o
+  at_those v o t y u x same is f = subst (λ (z : State). StepOf v z x o) (sym same) (subst (λ (z : Work). StepOf v t z o) (sym is) f)
+
+  -- nothing is done
+  still_step : (v : Work) → Tells h s (shown_work v) answers.Memory [] Idle → is_by_due (kind_due v) [] ≡ true → (u : State) (x : Work) → u ≡ w → x ≡ work.Rest → StepOf v u x answers.Memory
+  still_step v tells due u x same is = at_those v answers.Memory w work.Rest u x same is (record { own = []; grown = refl; kept = kept; may = tt; apart = λ q k. refl; tells = tells; of_step = refl; as_due = due })
+
+  -- a step of a session that may do what it does
+  pub any_step : IsTable w.table.documents → (v : Work) → w.running s ≡ running_of s v → w.reading s ≡ reading_of v → May starts h s v → (u : State) (x : Work) (o : StepOut) → Makes s w v u x o → StepOf v u x o
+  any_step table work.Login runs reads may u x (answers.Ready (ends.Pinned pin)) m = at_those work.Login (answers.Ready (ends.Pinned pin)) (after_login w s) work.Rest u x m.0 m.1 (login_step pin m.2 may)
+  any_step table work.Login runs reads may u x answers.Memory m = still_step work.Login (refl, refl) refl u x m.0 m.1
+  any_step table work.Login runs reads may u x _ m = absurd m
+  any_step table work.End runs reads may u x (answers.Ready ends.Ended) m = at_those work.End (answers.Ready ends.Ended) (after_leave w s) work.Rest u x m.0 m.1 (leave_step may runs reads)
+  any_step table work.End runs reads may u x answers.Memory m = still_step work.End (refl, refl) refl u x m.0 m.1
+  any_step table work.End runs reads may u x _ m = absurd m
+  any_step table work.Refresh runs reads may u x (answers.Ready (ends.Pinned pin)) m = at_those work.Refresh (answers.Ready (ends.Pinned pin)) (after_refresh w s) work.Rest u x m.0 m.1 (refresh_step pin m.2 may runs reads)
+  any_step table work.Refresh runs reads may u x answers.Memory m = still_step work.Refresh (refl, refl) refl u x m.0 m.1
+  any_step table work.Refresh runs reads may u x _ m = absurd m
+  any_step table (work.Read r) runs reads may u x (answers.Went kind.Read) m = at_those (work.Read r) (answers.Went kind.Read) (with_reader w s (Some (read_on w.table r))) (work.Read (read_on w.table r)) u x m.0 m.1 (read_step table r reads may)
+  any_step table (work.Read r) runs reads may u x (answers.Ready e) m = at_those (work.Read r) (answers.Ready e) (with_reader w s None) work.Rest u x m.0 m.1 (given_step table r reads may e m.2)
+  any_step table (work.Read r) runs reads may u x answers.Memory m = at_those (work.Read r) answers.Memory (with_reader w s None) work.Rest u x m.0 m.1 (gone_step table r reads may)
+  any_step table (work.Read r) runs reads may u x _ m = absurd m
+  any_step table (work.Plan edit marks) runs reads may u x (answers.Went kind.Draw) m =
+      at_those (work.Plan edit marks) (answers.Went kind.Draw) (after_draw w s edit marks (marked_paths marks)) (work.Commit (begun (next_draw (memory_of w s)) (base_in w s) edit marks)) u x m.0 m.1 (draw_step edit marks may.0 may.1 runs)
+  any_step table (work.Plan edit marks) runs reads may u x answers.Memory m = still_step (work.Plan edit marks) (refl, refl) refl u x m.0 m.1
+  any_step table (work.Plan edit marks) runs reads may u x _ m = absurd m
+  any_step table (work.Commit c) runs reads may u x o m = commit_step c runs may u x o m
+  any_step table (work.Move r) runs reads may u x (answers.Wait q) m = at_those (work.Move r) (answers.Wait q) w (work.Move r) u x m.0 m.1 (waits_step r q m.2 may.0 may.1 may.2)
+  any_step table (work.Move r) runs reads may u x (answers.Ready (ends.Commit (end.Committed o))) m = at_those (work.Move r) (answers.Ready (ends.Commit (end.Committed o))) (after_refresh w s) work.Rest u x m.0 m.1 (moves_step r o m.2 m.3 may.0 may.2 runs reads)
+  any_step table (work.Move r) runs reads may u x _ m = absurd m
+  any_step table work.Rest runs reads may u x o m = absurd m

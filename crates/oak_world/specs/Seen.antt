@@ -1,0 +1,55 @@
+-- What a session is shown of a world through its port.
+use Rattle.std.specs.Prelude.{ℕ, Option, None, Some, map, slice_set}
+use Rattle.std.specs.Borrow.{GName}
+use Rattle.jr_path.specs.declared.path.Path.{Path}
+use Rattle.jr_rev.specs.declared.revision.Revision.{Revision}
+use Rattle.oak_commit.specs.declared.outcome.CommitEnd.{CommitEnd}
+use Rattle.oak_commit.specs.declared.outcome.CommitEnd.TheVariants as end
+use Rattle.core_watch.specs.Standing.{path_read}
+use Rattle.oak_port.specs.declared.task.Task.{Task}
+use Rattle.oak_port.specs.declared.task.Task.TheVariants as task
+use Rattle.oak_port.specs.Ports.{Awaiting, Beside, Deciding, Idle, Seat, Shown, Starting, Undoing, Work as Shows, Writing}
+use Rattle.oak_world.specs.declared.actor.Work.{Work}
+use Rattle.oak_world.specs.declared.actor.Work.TheVariants as work
+use Rattle.oak_world.specs.Steps.{kind_due}
+use Rattle.oak_world.specs.Worlds.{ActorState, WorldOf, actor_in, work_in}
+
+-- the task of a reader: a list where it has a parent, and else a load
+abbrev pub task_of : Option Path → Path → Task
+task_of None p = task.Load p
+task_of (Some q) p = task.List p
+
+-- a commit that has drawn its revision, by how it ends
+abbrev pub shown_by : Revision → Option CommitEnd → Shows
+shown_by r None = Writing r
+shown_by r (Some (end.Committed o)) = Deciding r
+shown_by r (Some e) = Undoing r e
+
+-- what is shown of what a session does
+abbrev pub shown_work : Work → Shows
+shown_work work.Rest = Idle
+shown_work work.Login = Starting task.Login
+shown_work work.End = Starting task.End
+shown_work work.Refresh = Starting task.Refresh
+shown_work (work.Read r) = Starting (task_of r.parent (path_read r))
+shown_work (work.Plan edit marks) = Starting (task.Commit edit marks)
+shown_work (work.Commit c) = shown_by c.revision c.outcome
+shown_work (work.Move r) = Awaiting r
+
+-- the seat of a session
+abbrev pub seat_of : ActorState → Seat
+seat_of a = record { work = shown_work a.work; room = a.reply; due = kind_due a.work }
+
+abbrev pub no_seat : Seat
+no_seat = record { work = Idle; room = None; due = None }
+
+-- what session s is shown of a world to which a reference of this name leads
+abbrev pub shown_at : {L : Type 0} → GName → WorldOf L → ℕ → Shown
+shown_at name w s = record {
+  history = w.history;
+  session = s;
+  work = shown_work (work_in w.actors s);
+  room = (actor_in w.actors s).reply;
+  due = kind_due (work_in w.actors s);
+  beside = record { name = name; seats = Some (slice_set (map seat_of w.actors) s no_seat) };
+}

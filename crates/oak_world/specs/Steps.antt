@@ -1,0 +1,159 @@
+-- What sessions do, and what a step makes of a world.
+use Rattle.std.specs.Prelude.{◌≡◌, ◌≢◌, ◌⊎◌, ◌≤◌, ◌+◌, ◌-◌, ◌^◌, ℕ, true, min, List, [], ◌∷◌, length, slice_get, slice_set, Option, Some, None, is_some, IsTrue, IsFalse}
+use Rattle.std.specs.Option.{IsSomeAnd}
+use Rattle.std.specs.declared.alloc.Global.{Global}
+use Rattle.jr_path.specs.declared.path.Path.{Path}
+use Rattle.jr_path.specs.declared.path.Item.{Item}
+use Rattle.jr_path.specs.declared.text.Text.{Text}
+use Rattle.jr_rev.specs.declared.revision.Revision.{Revision}
+use Rattle.jr_rev.specs.declared.vector.Pin.{Pin}
+use Rattle.jr_rev.specs.Vectors.{sees}
+use Rattle.oak_clash.specs.Clashes.{marked_paths}
+use Rattle.oak_commit.specs.Clashing.{Met}
+use Rattle.oak_commit.specs.Committing.{Committing, begun, refused, wanting, with_undone, written}
+use Rattle.oak_commit.specs.Kept.{undoes}
+use Rattle.oak_commit.specs.Stages.{stage_of}
+use Rattle.oak_commit.specs.declared.outcome.CommitEnd.TheVariants as end
+use Rattle.oak_commit.specs.declared.stage.Stage.{Stage}
+use Rattle.oak_commit.specs.declared.stage.Stage.TheVariants as stage
+use Rattle.oak_doc.specs.declared.asks.Ask.TheVariants as ask
+use Rattle.oak_machine.specs.declared.event.Event.TheVariants as event
+use Rattle.oak_machine.specs.declared.event.StepKind.{StepKind}
+use Rattle.oak_machine.specs.declared.event.StepKind.TheVariants as kind
+use Rattle.oak_machine.specs.History.{History}
+use Rattle.oak_machine.specs.Laws.{Says}
+use Rattle.oak_machine.specs.Sessions.{has_left, has_login, next_index}
+use Rattle.oak_node.specs.Heads.{AwaitsEarlier, next_draw}
+use Rattle.oak_node.specs.Pins.{pin_now}
+use Rattle.oak_read.specs.Reading.{children_reader, due, node_reader}
+use Rattle.core_world.specs.States.{State, base_in, memory_of, nodes_in}
+use Rattle.core_world.specs.Steps.{after_draw, after_finish, after_last, after_leave, after_login, after_mark, after_refresh, after_undoing, after_want, after_write, after_write_in_want, with_reader}
+use Rattle.oak_port.specs.declared.task.StepOut.{StepOut}
+use Rattle.oak_port.specs.declared.task.StepOut.TheVariants as answers
+use Rattle.oak_port.specs.declared.task.Task.{Task}
+use Rattle.oak_port.specs.declared.task.Task.TheVariants as task
+use Rattle.oak_port.specs.declared.task.TaskEnd.TheVariants as ends
+use Rattle.oak_world.specs.declared.actor.Work.{Work}
+use Rattle.oak_world.specs.declared.actor.Work.TheVariants as work
+use Rattle.oak_world.specs.Parts.{EndsSo, committed, end_of_reading, marked, read_on}
+use Rattle.oak_world.specs.Worlds.{WorldOf, actor_in, running_as, state_of, work_in}
+
+-- ---- what a session does
+
+-- what a session does that is told to do a task, at its pin
+abbrev pub Begins : Option Pin → Task → Work → Type 0
+Begins pin task.Login v = v ≡ work.Login
+Begins pin task.End v = v ≡ work.End
+Begins pin task.Refresh v = v ≡ work.Refresh
+Begins pin (task.Load p) v = (a : Global) × (at : Pin) × (pin ≡ Some at) × (v ≡ work.Read (node_reader a at p))
+Begins pin (task.List p) v = (a : Global) × (at : Pin) × (pin ≡ Some at) × (v ≡ work.Read (children_reader a at p))
+Begins pin (task.Commit edit marks) v = v ≡ work.Plan edit marks
+
+-- the kind of the next step
+abbrev pub kind_of : Stage → Option StepKind
+kind_of stage.Mark = Some kind.Mark
+kind_of stage.Write = Some kind.Write
+kind_of stage.Last = Some kind.Last
+kind_of stage.Undo = Some kind.Undo
+kind_of stage.Finish = Some kind.Finish
+kind_of stage.Done = None
+
+abbrev pub kind_due : Work → Option StepKind
+kind_due work.Rest = None
+kind_due work.Login = Some kind.Login
+kind_due work.End = Some kind.End
+kind_due work.Refresh = Some kind.Pin
+kind_due (work.Read r) = Some kind.Read
+kind_due (work.Plan edit marks) = Some kind.Draw
+kind_due (work.Commit c) = kind_of (stage_of c)
+kind_due (work.Move r) = Some kind.Pin
+
+-- the session has come, and not left
+pub record HasCome (h : History) (s : ℕ) : Type 0 where
+  pub login : IsTrue (has_login h.past s)
+  pub stays : IsFalse (has_left h.past s)
+
+-- the session is one of the world's, and does nothing
+pub record IsIdle {L : Type 0} (w : WorldOf L) (s : ℕ) : Type 0 where
+  pub there : IsTrue (is_some (slice_get w.history.sessions s))
+  pub idle : work_in w.actors s ≡ work.Rest
+
+-- the text is the next reply of session s, which the law lets it say, and its bytes are reserved
+pub record MaySay (says : Says) (h : History) (reply : Option ℕ) (s i : ℕ) (text : Text) : Type 0 where
+  pub next : i ≡ next_index h.past s
+  pub lawful : says h s i text
+  pub room : IsSomeAnd reply (λ bytes. length text ≤ bytes)
+
+-- ---- a step
+
+module _ (s : ℕ) (w : State) (c : Committing) (u : State) (d : Committing) where
+  -- a committer makes the next mark, or it is refused by that; it writes the next document, and turns to undoing where memory is refused for what it met there;
+  -- it makes the last write, or it is refused by that; or it undoes the first document that is written and not undone
+  abbrev pub MakesUpdate : StepKind → Type 0
+  MakesUpdate kind.Mark = (f : Met) × (rest : List Met) × (c.outcome ≡ None) × (c.writer.due ≡ f ∷ rest) × (u ≡ after_mark w s (running_as s c) f rest)
+      × (((u.past ≡ event.Went s kind.Mark ∷ w.past) × (d ≡ marked c rest)) ⊎ ((u.past ≡ event.Refuse c.revision f.mine f.other ∷ w.past) × (d ≡ refused c f.mine f.other)))
+  MakesUpdate kind.Write = (p : Path) × (rest : List Path) × (c.outcome ≡ None) × (c.writer.due ≡ []) × (c.writer.left ≡ p ∷ rest)
+      × (((u ≡ after_write w s (running_as s c) p rest) × (d ≡ written c p rest (nodes_in w.table p)))
+      ⊎ ((u ≡ after_write_in_want w s (running_as s c) p rest) × (d ≡ wanting (written c p rest (nodes_in w.table p)))))
+  MakesUpdate kind.Last = (c.outcome ≡ None) × (c.writer.due ≡ []) × (c.writer.left ≡ []) × (u ≡ after_last w s (running_as s c))
+      × (((u.past ≡ event.Commit c.revision ∷ w.past) × (d ≡ committed c)) ⊎ ((item : Item) × (o : Revision) × (u.past ≡ event.Refuse c.revision item o ∷ w.past) × (d ≡ refused c item o)))
+  MakesUpdate kind.Undo = (p : Path) × (rest : List Path) × IsTrue (undoes c.outcome) × (c.writer.written ≡ p ∷ rest) × (u ≡ after_undoing w s (running_as s c) p rest) × (d ≡ with_undone c)
+  MakesUpdate _ = ⊥
+
+-- a step of a commit: an operation on a document, the end of its revision, or its turn to undoing where memory was refused
+abbrev pub MakesCommit : ℕ → State → Committing → State → Work → StepOut → Type 0
+MakesCommit s w c u v o =
+    ((x : StepKind) × (o ≡ answers.Went x) × (d : Committing) × (v ≡ work.Commit d) × MakesUpdate s w c u d x)
+    ⊎ ((stage_of c ≡ stage.Finish) × (u ≡ after_finish w s (running_as s c)) × EndsSo c v o)
+    ⊎ ((o ≡ answers.Memory) × (c.outcome ≡ None) × (u ≡ after_want w s (running_as s c)) × (v ≡ work.Commit (wanting c)))
+
+-- how a step of session s goes, by what it does: the state after it, what it does then, and the answer
+abbrev pub Makes : ℕ → State → Work → State → Work → StepOut → Type 0
+Makes s w work.Login u v (answers.Ready (ends.Pinned pin)) = (u ≡ after_login w s) × (v ≡ work.Rest) × (pin ≡ pin_now (memory_of w s))
+Makes s w work.Login u v answers.Memory = (u ≡ w) × (v ≡ work.Rest)
+Makes s w work.Login u v _ = ⊥
+Makes s w work.End u v (answers.Ready ends.Ended) = (u ≡ after_leave w s) × (v ≡ work.Rest)
+Makes s w work.End u v answers.Memory = (u ≡ w) × (v ≡ work.Rest)
+Makes s w work.End u v _ = ⊥
+Makes s w work.Refresh u v (answers.Ready (ends.Pinned pin)) = (u ≡ after_refresh w s) × (v ≡ work.Rest) × (pin ≡ pin_now (memory_of w s))
+Makes s w work.Refresh u v answers.Memory = (u ≡ w) × (v ≡ work.Rest)
+Makes s w work.Refresh u v _ = ⊥
+Makes s w (work.Read r) u v (answers.Went kind.Read) = (u ≡ with_reader w s (Some (read_on w.table r))) × (v ≡ work.Read (read_on w.table r)) × (due (read_on w.table r) ≢ ask.Done)
+Makes s w (work.Read r) u v (answers.Ready e) = (u ≡ with_reader w s None) × (v ≡ work.Rest) × (end_of_reading (read_on w.table r).step ≡ Some e)
+Makes s w (work.Read r) u v answers.Memory = (u ≡ with_reader w s None) × (v ≡ work.Rest)
+Makes s w (work.Read r) u v _ = ⊥
+Makes s w (work.Plan edit marks) u v (answers.Went kind.Draw) = (u ≡ after_draw w s edit marks (marked_paths marks)) × (v ≡ work.Commit (begun (next_draw (memory_of w s)) (base_in w s) edit marks))
+Makes s w (work.Plan edit marks) u v answers.Memory = (u ≡ w) × (v ≡ work.Rest)
+Makes s w (work.Plan edit marks) u v _ = ⊥
+Makes s w (work.Commit c) u v o = MakesCommit s w c u v o
+Makes s w (work.Move r) u v (answers.Wait o) = (u ≡ w) × (v ≡ work.Move r) × AwaitsEarlier (memory_of w s) r o
+Makes s w (work.Move r) u v (answers.Ready (ends.Commit (end.Committed o))) = (u ≡ after_refresh w s) × (v ≡ work.Rest) × (o ≡ r) × IsTrue (sees (memory_of w s).head r)
+Makes s w (work.Move r) u v _ = ⊥
+Makes s w work.Rest u v _ = ⊥
+
+-- the documents that loads have read, after a step of a load; the count stays at its last value
+abbrev pub reads_of_load : StepOut → ℕ → ℕ
+reads_of_load answers.Memory n = n
+reads_of_load _ n = min (n + 1) (2 ^ 64 - 1)
+
+abbrev pub reads_after : Work → StepOut → ℕ → ℕ
+reads_after (work.Read r) o n = reads_of_load o n
+reads_after _ o n = n
+
+-- a step of session s: it changes the state so, and of the sessions what this one does; the law stays
+pub record StepsIn {L : Type 0} (w : WorldOf L) (s : ℕ) (u : WorldOf L) (o : StepOut) : Type 0 where
+  pub does : Work
+  pub makes : Makes s (state_of w) (work_in w.actors s) (state_of u) does o
+  pub actors : u.actors ≡ slice_set w.actors s (record (actor_in w.actors s) { work = does; reads = reads_after (work_in w.actors s) o (actor_in w.actors s).reads })
+  pub law : u.law ≡ w.law
+
+-- ---- steps of many
+
+-- one that is named in a schedule takes a step, where it is a session with a task; else nothing is changed
+abbrev pub Turns : {L : Type 0} → WorldOf L → ℕ → WorldOf L → Type 0
+Turns w s v = ((o : StepOut) × StepsIn w s v o) ⊎ ((v ≡ w) × ((slice_get w.history.sessions s ≡ None) ⊎ (kind_due (work_in w.actors s) ≡ None)))
+
+-- those that are named take their turns, one after another
+abbrev pub Plays : {L : Type 0} → WorldOf L → List ℕ → WorldOf L → Type 0
+Plays w [] u = u ≡ w
+Plays {L} w (s ∷ ss) u = (v : WorldOf L) × Turns w s v × Plays v ss u
