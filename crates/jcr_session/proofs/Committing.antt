@@ -13,6 +13,7 @@ use Rattle.jr_rev.specs.Revisions.{is_same}
 use Rattle.jr_rev.specs.Vectors.{sees}
 use Rattle.jr_rev.proofs.Order.{revision_total, same_revision}
 use Rattle.jr_tree.specs.Trees.{Nodes}
+use Rattle.oak_machine.specs.declared.event.Draw.{Draw}
 use Rattle.oak_machine.specs.declared.event.Event.{Event}
 use Rattle.oak_machine.specs.declared.event.Event.TheVariants as event
 use Rattle.oak_machine.specs.declared.event.StepKind.{StepKind}
@@ -152,7 +153,7 @@ module _ (law : Orders) (past : Past) (s : ℕ) (r : Revision) where
 
   -- ---- its draw
 
-  pub committing_drawn : (d : Rattle.oak_machine.specs.declared.event.Draw.Draw.Draw) (base view : Nodes) → d.session ≡ s → d.revision ≡ r → is_drawing past s ≡ false → HasView law past s base view → is_committed past r ≡ false → IsCommitting law (event.Draw d ∷ past) s base view (Writing r)
+  pub committing_drawn : (d : Draw) (base view : Nodes) → d.session ≡ s → d.revision ≡ r → is_drawing past s ≡ false → HasView law past s base view → is_committed past r ≡ false → IsCommitting law (event.Draw d ∷ past) s base view (Writing r)
   committing_drawn d base view session revision idle view_is unmade = (
     record {
       drawn = ap (λ b. cond b (Some d.revision) (drawn_since past s)) mine ∙ ap (λ (x : Revision). Some x) revision;

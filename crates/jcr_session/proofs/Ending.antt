@@ -60,13 +60,13 @@ module _ (law : JcrLaw) (p : Shown) (run : SessionRun) (stands : Stands law p ru
   -- ---- a save
 
   module _ (e : CommitEnd) (is : run.phase ≡ phase.Saved e) where
-    at_saved : IsIn law p × HasSaved law p run e run.sight
+    pub at_saved : IsIn law p × HasSaved law p run e run.sight
     at_saved = subst (λ (f : Phase). StandsAt law p run f) is stands.at
 
     inside : IsIn law p
     inside = at_saved.0
 
-    seen_by : (x : Sight) → HasSaved law p run e x → (seen : Seen) × (x ≡ sight.Seen seen) × IsSaving law p run × (p.work ≡ Idle) × HasCommitted law.sessions p.history.past p.session seen.base seen.view e
+    pub seen_by : (x : Sight) → HasSaved law p run e x → (seen : Seen) × (x ≡ sight.Seen seen) × IsSaving law p run × (p.work ≡ Idle) × HasCommitted law.sessions p.history.past p.session seen.base seen.view e
     seen_by sight.Unread h = absurd h
     seen_by (sight.Reading w) h = absurd h
     seen_by (sight.Seen seen) h = (seen, refl, h.0, h.1, h.2)

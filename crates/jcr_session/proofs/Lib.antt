@@ -12,3 +12,6 @@ mod Next
 mod Living
 mod Starting
 mod Ending
+mod Looking
+mod Answering
+mod Drawing

@@ -1,7 +1,8 @@
 -- What a session may answer to its next command, as its functions find it.
-use Rattle.std.proofs.Common.{◌≡◌, ◌⊎◌, inl, inr, ℕ, zero, suc, ◌+◌, Bool, true, false, cond, not, ◌||◌, ◌&&◌, Some, None, Option, List, [], ◌∷◌, ◌++◌, is_some, refl, sym, ap, ◌∙◌, subst}
+use Rattle.std.proofs.Common.{◌≡◌, ◌⊎◌, inl, inr, ℕ, zero, suc, ◌+◌, Bool, true, false, cond, not, ◌||◌, ◌&&◌, Some, None, Option, List, [], ◌∷◌, ◌++◌, is_some, refl, sym, ap, ◌∙◌, subst, arith}
 use Rattle.std.specs.Prelude.{slice_get}
 use Rattle.std.specs.Option.{option_map_or, unwrap_or}
+use Rattle.std.proofs.lemmas.Bool.Decides.{nat_tests}
 use mathlib.Core.Bool.{false≢true}
 use Rattle.jr_path.specs.declared.text.Text.{Text}
 use Rattle.jr_rev.specs.declared.vector.RevVec.{RevVec}
@@ -34,7 +35,7 @@ use Rattle.jcr_session.proofs.Saying.{IsBetween, forgoes, nothing_pending, refus
 
 -- ---- which command is next
 
-due_number : Due → ℕ
+abbrev pub due_number : Due → ℕ
 due_number due.Leave = 0
 due_number due.ShowBase = 1
 due_number due.Refresh = 2
@@ -46,14 +47,13 @@ pub apart : {A : Type 0} (a b : Due) → Rattle.std.specs.Prelude.nat_eq (due_nu
 apart a b other same = absurd (false≢true (sym other ∙ (ap (λ d. Rattle.std.specs.Prelude.nat_eq (due_number d) (due_number b)) same ∙ itself (due_number b))))
   where
     itself : (n : ℕ) → Rattle.std.specs.Prelude.nat_eq n n ≡ true
-    itself zero = refl
-    itself (suc n) = itself n
+    itself n = grind (arith, nat_tests)
 
 saves_due : {A : Type 0} (b : Bool) (d : Due) → cond b due.Save due.Refuse ≡ d → (due.Save ≡ d → A) → (due.Refuse ≡ d → A) → A
 saves_due true d h x y = x h
 saves_due false d h x y = y h
 
-plain_by : (b : Built) (s : ℕ) → due_by b s ≡ due.See → not (saves_by b || refreshes_by b || shows_base_by b) ≡ true
+pub plain_by : (b : Built) (s : ℕ) → due_by b s ≡ due.See → not (saves_by b || refreshes_by b || shows_base_by b) ≡ true
 plain_by (Adds p) s h = refl
 plain_by (Sets p n x) s h = refl
 plain_by (Gets p) s h = refl
@@ -109,7 +109,7 @@ refuse_is = save_by due.Refuse false which (λ x h. (λ k. apart due.See due.Ref
     which false h = refl
 
 -- the next command, where there is one
-next_is : (commands : List Command) (i s : ℕ) (d : Due) → due_of s commands i ≡ d → (due.Leave ≡ d → ⊥) → (c : Command) × (slice_get commands i ≡ Some c) × (due_by (built c) s ≡ d)
+pub next_is : (commands : List Command) (i s : ℕ) (d : Due) → due_of s commands i ≡ d → (due.Leave ≡ d → ⊥) → (c : Command) × (slice_get commands i ≡ Some c) × (due_by (built c) s ≡ d)
 next_is commands i s d h some = by (slice_get commands i) refl h
   where
     by : (o : Option Command) → slice_get commands i ≡ o → option_map_or (λ c. due_by (built c) s) o due.Leave ≡ d → (c : Command) × (slice_get commands i ≡ Some c) × (due_by (built c) s ≡ d)

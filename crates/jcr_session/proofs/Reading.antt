@@ -10,7 +10,7 @@ use Rattle.jr_tree.specs.Trees.{IsTree, Nodes, children_of, node_at}
 use Rattle.oak_machine.specs.declared.event.StepKind.{StepKind}
 use Rattle.oak_machine.specs.History.{History, Past}
 use Rattle.oak_machine.specs.Laws.{AreOthers, after, is_event_of}
-use Rattle.oak_machine.specs.Runs.{IsRun}
+use Rattle.oak_machine.specs.Runs.{AreNodes, IsRun}
 use Rattle.oak_port.specs.Ports.{Grows, Idle, Makes, Shown, Starting, Steps, Waits, Work}
 use Rattle.oak_port.specs.declared.task.StepOut.{StepOut}
 use Rattle.oak_port.specs.declared.task.StepOut.TheVariants as out
@@ -33,19 +33,20 @@ pub beside : (law : JcrLaw) (old new : Shown) (work : Work) → Waits (starts_of
 beside law old new work waits = record { others = waits.others; grows = waits.grows; session = waits.session; work_is = refl; room_is = waits.room_is }
 
 -- nothing was added
-pub beside_itself : (law : JcrLaw) (p : Shown) → IsIn law p → Beside law p p
-beside_itself law p inside = record { others = []; grows = record { grown = refl; theirs = refl; run = inside.run }; session = refl; work_is = refl; room_is = refl }
+pub beside_itself : (law : JcrLaw) (p : Shown) → IsRun (starts_of law) (says_of law) p.history → Beside law p p
+beside_itself law p run = record { others = []; grows = record { grown = refl; theirs = refl; run = run }; session = refl; work_is = refl; room_is = refl }
 
-after_both : (later added : Past) (h : History) → after later (after added h) ≡ after (later ++ added) h
+pub after_both : (later added : Past) (h : History) → after later (after added h) ≡ after (later ++ added) h
 after_both later added h = ap (λ (p : Past). record h { past = p }) (sym (append_assoc later added h.past))
 
 -- one after another
-pub beside_both : (law : JcrLaw) (a b c : Shown) → IsIn law a → Beside law a b → Beside law b c → Beside law a c
-beside_both law a b c inside first second = record {
+pub waits_both : (law : JcrLaw) (a b c : Shown) (first_work second_work : Work) (first_room second_room : Option ℕ) → AreNodes a.history.clusters a.history.sessions
+    → Waits (starts_of law) (says_of law) a b first_work first_room → Waits (starts_of law) (says_of law) b c second_work second_room → Waits (starts_of law) (says_of law) a c second_work second_room
+waits_both law a b c first_work second_work first_room second_room nodes first second = record {
   others = second.others ++ first.others;
   grows = record {
     grown = second.grows.grown ∙ (ap (λ (h : History). after second.others h) first.grows.grown ∙ after_both second.others first.others a.history);
-    theirs = others_both a.history.clusters a.history.sessions inside.nodes (starts_of law) (says_of law) a.session second.others first.others a.history.past
+    theirs = others_both a.history.clusters a.history.sessions nodes (starts_of law) (says_of law) a.session second.others first.others a.history.past
         (subst (λ (h : History). IsRun (starts_of law) (says_of law) h) (second.grows.grown ∙ ap (λ (h : History). after second.others h) first.grows.grown) second.grows.run)
         (subst (λ (h : History). IsRun (starts_of law) (says_of law) h) first.grows.grown first.grows.run)
         first.grows.theirs
@@ -53,9 +54,13 @@ beside_both law a b c inside first second = record {
     run = second.grows.run;
   };
   session = second.session ∙ first.session;
-  work_is = refl;
-  room_is = second.room_is ∙ first.room_is;
+  work_is = second.work_is;
+  room_is = second.room_is;
 }
+
+pub beside_both : (law : JcrLaw) (a b c : Shown) → AreNodes a.history.clusters a.history.sessions → Beside law a b → Beside law b c → Beside law a c
+beside_both law a b c nodes first second =
+    waits_both law a b c b.work c.work a.room a.room nodes first (subst (λ (r : Option ℕ). Waits (starts_of law) (says_of law) b c c.work r) first.room_is second)
 
 -- ---- a step that adds nothing
 

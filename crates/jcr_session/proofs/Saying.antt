@@ -99,7 +99,7 @@ module _ (law : JcrLaw) (old new : Shown) (run : SessionRun) (text : Text) (may 
       few = may.few;
       commands = may.commands;
       index = sym (moved (λ h s. next_index h.past run.session ≡ run.index + 1) counted);
-      at = (inside_now, seen run.sight (may.leaves done.others before done.grows.theirs));
+      at = (inside_now, sees_now run.sight (may.leaves done.others before done.grows.theirs));
     };
   }
     where
@@ -115,7 +115,7 @@ module _ (law : JcrLaw) (old new : Shown) (run : SessionRun) (text : Text) (may 
       before : IsRun (starts_of law) (says_of law) (after done.others old.history)
       before = whole.1
 
-      one : cond (run.session == run.session) 1 0 ≡ 1
+      one : ◌≡◌ {A = ℕ} (cond (run.session == run.session) 1 0) 1
       one = ap (λ b. cond b 1 0) (let own : (run.session == run.session) ≡ true = grind (arith, nat_tests) in own)
 
       counted : next_index (event.Said old.session run.index text ∷ (done.others ++ old.history.past)) run.session ≡ run.index + 1
@@ -137,10 +137,10 @@ module _ (law : JcrLaw) (old new : Shown) (run : SessionRun) (text : Text) (may 
       inside_now : IsIn law new
       inside_now = let y = moved (λ h s. IsIn law (record old { history = h; session = s })) inside_said in record { nodes = y.nodes; run = y.run; login = y.login; stays = y.stays; detached = y.detached; tree = y.tree }
 
-      seen : (x : Sight) → SeesThen law.sessions (done.others ++ old.history.past) old.session run.index text x → Sees law new then_run x
-      seen sight.Unread h = (done.work, moved (λ h s. IsTurn law.sessions h.past s (base_tree h.past s) (base_tree h.past s)) h)
-      seen (sight.Seen seen) h = (done.work, moved (λ h s. IsTurn law.sessions h.past s seen.base seen.view) h)
-      seen (sight.Reading walk) h = absurd h
+      sees_now : (x : Sight) → SeesThen law.sessions (done.others ++ old.history.past) old.session run.index text x → Sees law new then_run x
+      sees_now sight.Unread h = (done.work, moved (λ h s. IsTurn law.sessions h.past s (base_tree h.past s) (base_tree h.past s)) h)
+      sees_now (sight.Seen seen) h = (done.work, moved (λ h s. IsTurn law.sessions h.past s seen.base seen.view) h)
+      sees_now (sight.Reading walk) h = absurd h
 
 -- ---- memory was refused before anything was done
 
@@ -163,14 +163,14 @@ module _ (law : JcrLaw) (p : Shown) (s : ℕ) (inside : IsIn law p) where
   sees_same : (run : SessionRun) (i : ℕ) (text : Text) → ((h : History) (base view : Nodes) → IsTurn law.sessions h.past p.session base view → IsTurn law.sessions (event.Said p.session i text ∷ h.past) p.session base view)
       → (x : Sight) → Sees law p run x → ((w : _) → x ≡ sight.Reading w → ⊥)
       → (added : Past) → IsRun (starts_of law) (says_of law) (after added p.history) → AreOthers p.session added p.history.past → SeesThen law.sessions (added ++ p.history.past) p.session i text x
-  sees_same run i text step sight.Unread (idle, turn) no added later others =
+  sees_same run i text step sight.Unread (idle, turn) never added later others =
       subst (λ (t : Nodes). IsTurn law.sessions (event.Said p.session i text ∷ (added ++ p.history.past)) p.session t t) (sym (base_then added later others))
       (step (after added p.history) (base_tree p.history.past p.session) (base_tree p.history.past p.session) (turn_then added later others (base_tree p.history.past p.session) (base_tree p.history.past p.session) turn))
-  sees_same run i text step (sight.Seen seen) (idle, turn) no added later others =
+  sees_same run i text step (sight.Seen seen) (idle, turn) never added later others =
       step (after added p.history) seen.base seen.view (turn_then added later others seen.base seen.view turn)
-  sees_same run i text step (sight.Reading walk) sees no added later others = absurd (no walk refl)
+  sees_same run i text step (sight.Reading walk) sees never added later others = absurd (never walk refl)
 
-is_idle : Work → Bool
+abbrev pub is_idle : Work → Bool
 is_idle Idle = true
 is_idle _ = false
 
@@ -199,9 +199,9 @@ module _ (law : JcrLaw) (p : Shown) (run : SessionRun) (c : Command) (is : IsBet
       by (fetch.Names path) (busy, part, there) = absurd (false≢true (ap is_idle (sym busy ∙ is.idle)))
 
   over_of : (x : Sight) → Sees law p run x → ((w : _) → x ≡ sight.Reading w → ⊥) → (base : Nodes) × (view : Nodes) × IsTurn law.sessions p.history.past p.session base view
-  over_of sight.Unread (idle, turn) no = (_, _, turn)
-  over_of (sight.Seen seen) (idle, turn) no = (_, _, turn)
-  over_of (sight.Reading w) sees no = absurd (no w refl)
+  over_of sight.Unread (idle, turn) never = (_, _, turn)
+  over_of (sight.Seen seen) (idle, turn) never = (_, _, turn)
+  over_of (sight.Reading w) sees never = absurd (never w refl)
 
   -- a text that the law lets be said, by which the view stays
   stays_by : (text : Text) → SaysBy law.sessions p.history p.session run.index text

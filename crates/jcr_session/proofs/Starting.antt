@@ -63,13 +63,13 @@ module _ (law : JcrLaw) (old mid new : Shown) (t : Task) (answer : StepOut) (roo
   abbrev s : ℕ
   s = mid.session
 
-  made : Makes (after steps.others mid.history) s (Starting t) answer steps.own new.work
+  pub made : Makes (after steps.others mid.history) s (Starting t) answer steps.own new.work
   made = subst (λ (w : Work). Makes (after steps.others mid.history) s w answer steps.own new.work) waits.work_is steps.makes
 
-  of_step : AreOfStep (after steps.others mid.history) s (Starting t) answer steps.own
+  pub of_step : AreOfStep (after steps.others mid.history) s (Starting t) answer steps.own
   of_step = subst (λ (w : Work). AreOfStep (after steps.others mid.history) s w answer steps.own) waits.work_is steps.of_step
 
-  inside_mid : IsIn law mid
+  pub inside_mid : IsIn law mid
   inside_mid = in_then law old mid (Starting t) room waits inside.nodes inside.run inside
 
   abbrev q : Past
@@ -78,24 +78,24 @@ module _ (law : JcrLaw) (old mid new : Shown) (t : Task) (answer : StepOut) (roo
   abbrev moment : History
   moment = after steps.others mid.history
 
-  run_new : IsRun (starts_of law) (says_of law) (after steps.own moment)
+  pub run_new : IsRun (starts_of law) (says_of law) (after steps.own moment)
   run_new = subst (λ (h : History). IsRun (starts_of law) (says_of law) h) steps.grows.grown steps.grows.run
 
-  run_moment : IsRun (starts_of law) (says_of law) moment
+  pub run_moment : IsRun (starts_of law) (says_of law) moment
   run_moment = dropped steps.own moment run_new
     where
       dropped : (own : Past) (h : History) → IsRun (starts_of law) (says_of law) (after own h) → IsRun (starts_of law) (says_of law) h
       dropped [] h run = run
       dropped (e ∷ own) h run = dropped own h run.1
 
-  inside_moment : IsIn law (record mid { history = moment })
+  pub inside_moment : IsIn law (record mid { history = moment })
   inside_moment = in_then law mid (record mid { history = moment }) mid.work mid.room (record { others = steps.others; grows = record { grown = refl; theirs = steps.grows.theirs; run = run_moment }; session = refl; work_is = refl; room_is = refl }) inside_mid.nodes inside_mid.run inside_mid
 
-  moved : (F : History → ℕ → Type 0) → F (after steps.own moment) s → F new.history new.session
+  pub moved : (F : History → ℕ → Type 0) → F (after steps.own moment) s → F new.history new.session
   moved F x = subst (λ (h : History). F h new.session) (sym steps.grows.grown) (subst (λ (n : ℕ). F (after steps.own moment) n) (sym steps.session) x)
 
   -- by the events that the step adds
-  added : (e : Past) → steps.own ≡ e → (F : History → ℕ → Type 0) → F (after e moment) s → F new.history new.session
+  pub added : (e : Past) → steps.own ≡ e → (F : History → ℕ → Type 0) → F (after e moment) s → F new.history new.session
   added e same F x = moved F (subst (λ (p : Past). F (after p moment) s) (sym same) x)
 
   next_mid : next_index q s ≡ next_index old.history.past old.session
@@ -108,7 +108,7 @@ module _ (law : JcrLaw) (old mid new : Shown) (t : Task) (answer : StepOut) (roo
     same_session = steps.session ∙ (waits.session ∙ stands.session)
 
     -- the session stands so, where the step adds no reply
-    stands_by : (now : SessionRun) → now.session ≡ run.session → now.commands ≡ run.commands → now.index ≡ run.index → next_index (steps.own ++ q) s ≡ next_index q s → StandsAt law new now now.phase → Stands law new now
+    pub stands_by : (now : SessionRun) → now.session ≡ run.session → now.commands ≡ run.commands → now.index ≡ run.index → next_index (steps.own ++ q) s ≡ next_index q s → StandsAt law new now now.phase → Stands law new now
     stands_by now session commands index next at = record {
       nodes = moved (λ h n. AreNodes h.clusters h.sessions) inside_mid.nodes;
       run_is = steps.grows.run;
@@ -122,7 +122,7 @@ module _ (law : JcrLaw) (old mid new : Shown) (t : Task) (answer : StepOut) (roo
     }
 
 -- what holds of one past holds of the same with others' events
-inside_of : (law : JcrLaw) (p : Shown) (run : SessionRun) → Stands law p run → run.phase ≡ phase.Between → IsIn law p
+pub inside_of : (law : JcrLaw) (p : Shown) (run : SessionRun) → Stands law p run → run.phase ≡ phase.Between → IsIn law p
 inside_of law p run stands between = (subst (λ (f : Phase). StandsAt law p run f) between stands.at).0
 
 -- a session that is in may leave, and may move its base

@@ -79,11 +79,10 @@ turned_later law a b c work room run now answer nodes waits turned = record {
     later = dropped turned.own (after turned.others (after waits.others a.history))
         (subst (λ (h : History). IsRun (starts_of law) (says_of law) h) (turned.grows.grown ∙ ap (λ (h : History). after turned.own (after turned.others h)) waits.grows.grown) turned.grows.run)
 
--- ---- events that leave the session in, at its base, before the same reply
+-- ---- events that leave the session in, before the same reply
 
 record IsQuiet (s : ℕ) (e : Past) : Type 0 where
   pub left : (q : Past) → has_left (e ++ q) s ≡ has_left q s
-  pub base : (q : Past) → base_tree (e ++ q) s ≡ base_tree q s
   pub next : (q : Past) → next_index (e ++ q) s ≡ next_index q s
   pub attached : (q : Past) → is_attached (e ++ q) s ≡ is_attached q s
 
@@ -91,14 +90,14 @@ quiet_by : (s : ℕ) (e f : Past) → e ≡ f → IsQuiet s f → IsQuiet s e
 quiet_by s e f same quiet = subst (λ (p : Past). IsQuiet s p) (sym same) quiet
 
 quiet_finish : (s : ℕ) (r : Revision) (e : Past) → IsFinish r e → IsQuiet s e
-quiet_finish s r e (inl same) = quiet_by s e (event.End r ∷ []) same record { left = λ q. refl; base = λ q. refl; next = λ q. refl; attached = λ q. refl }
-quiet_finish s r e (inr (k, v, same)) = quiet_by s e (event.Head k v ∷ event.End r ∷ []) same record { left = λ q. refl; base = λ q. refl; next = λ q. refl; attached = λ q. refl }
+quiet_finish s r e (inl same) = quiet_by s e (event.End r ∷ []) same record { left = λ q. refl; next = λ q. refl; attached = λ q. refl }
+quiet_finish s r e (inr (k, v, same)) = quiet_by s e (event.Head k v ∷ event.End r ∷ []) same record { left = λ q. refl; next = λ q. refl; attached = λ q. refl }
 
 quiet_write : (s : ℕ) (r : Revision) (k : StepKind) (e : Past) (now : Work) → WritesOn s r k e now → IsQuiet s e
-quiet_write s r k e now (inl (a, same, work)) = quiet_by s e (event.Went s kind.Write ∷ []) same record { left = λ q. refl; base = λ q. refl; next = λ q. refl; attached = λ q. refl }
-quiet_write s r k e now (inr (inl (a, same, work))) = quiet_by s e (event.Went s kind.Mark ∷ []) same record { left = λ q. refl; base = λ q. refl; next = λ q. refl; attached = λ q. refl }
-quiet_write s r k e now (inr (inr (inl (a, same, work)))) = quiet_by s e (event.Commit r ∷ []) same record { left = λ q. refl; base = λ q. refl; next = λ q. refl; attached = λ q. refl }
-quiet_write s r k e now (inr (inr (inr (item, o, same, work)))) = quiet_by s e (event.Refuse r item o ∷ []) same record { left = λ q. refl; base = λ q. refl; next = λ q. refl; attached = λ q. refl }
+quiet_write s r k e now (inl (a, same, work)) = quiet_by s e (event.Went s kind.Write ∷ []) same record { left = λ q. refl; next = λ q. refl; attached = λ q. refl }
+quiet_write s r k e now (inr (inl (a, same, work))) = quiet_by s e (event.Went s kind.Mark ∷ []) same record { left = λ q. refl; next = λ q. refl; attached = λ q. refl }
+quiet_write s r k e now (inr (inr (inl (a, same, work)))) = quiet_by s e (event.Commit r ∷ []) same record { left = λ q. refl; next = λ q. refl; attached = λ q. refl }
+quiet_write s r k e now (inr (inr (inr (item, o, same, work)))) = quiet_by s e (event.Refuse r item o ∷ []) same record { left = λ q. refl; next = λ q. refl; attached = λ q. refl }
 
 -- ---- a step
 
@@ -123,14 +122,17 @@ module _ (law : JcrLaw) (old new : Shown) (answer : StepOut) (run : SessionRun) 
   moved : (F : History → ℕ → Type 0) → F (after steps.own moment) old.session → F new.history new.session
   moved F x = subst (λ (h : History). F h new.session) (sym steps.grows.grown) (subst (λ (s : ℕ). F (after steps.own moment) s) (sym steps.session) x)
 
+  login_then : has_login (steps.own ++ moment.past) old.session ≡ true
+  login_then = any_later (is_login_of old.session) steps.own moment.past inside_moment.login
+
   inside_quiet : IsQuiet old.session steps.own → IsIn law new
   inside_quiet quiet = record {
     nodes = moved (λ h s. AreNodes h.clusters h.sessions) inside.nodes;
     run = steps.grows.run;
-    login = moved (λ h s. has_login h.past s ≡ true) (any_later (is_login_of old.session) steps.own moment.past inside_moment.login);
+    login = moved (λ h s. has_login h.past s ≡ true) login_then;
     stays = moved (λ h s. has_left h.past s ≡ false) (quiet.left moment.past ∙ inside_moment.stays);
     detached = moved (λ h s. is_attached h.past s ≡ false) (quiet.attached moment.past ∙ inside_moment.detached);
-    tree = moved (λ h s. IsTree (base_tree h.past s)) (subst IsTree (sym (quiet.base moment.past)) inside_moment.tree);
+    tree = moved (λ h s. IsTree (base_tree h.past s)) (base_is_tree law (after steps.own moment) old.session inside.nodes run_new login_then);
   }
 
   stands_quiet : (f : Phase) → next_index (steps.own ++ moment.past) old.session ≡ next_index moment.past old.session → StandsAt law new (record run { phase = f }) f → Stands law new (record run { phase = f })
@@ -183,17 +185,14 @@ module _ (law : JcrLaw) (old new : Shown) (answer : StepOut) (run : SessionRun) 
     inside_moved v same = record {
       nodes = moved (λ h s. AreNodes h.clusters h.sessions) inside.nodes;
       run = steps.grows.run;
-      login = moved (λ h s. has_login h.past s ≡ true) login_now;
+      login = moved (λ h s. has_login h.past s ≡ true) login_then;
       stays = moved (λ h s. has_left h.past s ≡ false) (subst (λ (own : Past). has_left (own ++ moment.past) old.session ≡ false) (sym same) inside_moment.stays);
       detached = moved (λ h s. is_attached h.past s ≡ false) (subst (λ (own : Past). is_attached (own ++ moment.past) old.session ≡ false) (sym same) (ap (λ b. cond b false (is_attached moment.past old.session)) mine));
-      tree = moved (λ h s. IsTree (base_tree h.past s)) (base_is_tree law (after steps.own moment) old.session inside.nodes run_new login_now);
+      tree = moved (λ h s. IsTree (base_tree h.past s)) (base_is_tree law (after steps.own moment) old.session inside.nodes run_new login_then);
     }
       where
         mine : (old.session == old.session) ≡ true
         mine = grind (arith, nat_tests)
-
-        login_now : has_login (steps.own ++ moment.past) old.session ≡ true
-        login_now = any_later (is_login_of old.session) steps.own moment.past inside_moment.login
 
     abbrev Turned : StepOut → Type 0
     Turned a = HasTurned law old new run (record run { phase = phase_by a phase.Saving }) (turn_by a)
@@ -212,7 +211,7 @@ module _ (law : JcrLaw) (old new : Shown) (answer : StepOut) (run : SessionRun) 
     step_by (Writing r) (out.Wait q) seen same is committing m told = absurd m
     step_by (Writing r) out.Memory seen same is committing m told = tt
     step_by (Undoing r e) (out.Went k) seen same is committing (a, own, work) told =
-        let quiet = quiet_by old.session steps.own (event.Went old.session kind.Undo ∷ []) own record { left = λ q. refl; base = λ q. refl; next = λ q. refl; attached = λ q. refl } in
+        let quiet = quiet_by old.session steps.own (event.Went old.session kind.Undo ∷ []) own record { left = λ q. refl; next = λ q. refl; attached = λ q. refl } in
         turned_quiet phase.Saving (turn.Stepped k) told (quiet.next moment.past) (goes_on seen same is quiet (committing_undo law.sessions moment.past old.session r e steps.own new.work seen.base seen.view (still seen.base seen.view (Undoing r e) committing) own work))
     step_by (Undoing r e) (out.Ready (end.Commit f)) seen same is committing (end_is, finish, idle) told =
         let quiet = quiet_finish old.session r steps.own finish in
@@ -235,7 +234,7 @@ module _ (law : JcrLaw) (old new : Shown) (answer : StepOut) (run : SessionRun) 
     step_by (Deciding r) (out.Wait q) seen same is committing m told = absurd m
     step_by (Deciding r) out.Memory seen same is committing m told = tt
     step_by (Awaiting r) (out.Wait q) seen same is committing (own, work) told =
-        let quiet = quiet_by old.session steps.own [] own record { left = λ q. refl; base = λ q. refl; next = λ q. refl; attached = λ q. refl } in
+        let quiet = quiet_by old.session steps.own [] own record { left = λ q. refl; next = λ q. refl; attached = λ q. refl } in
         turned_quiet phase.Saving (turn.Waiting q) own (quiet.next moment.past)
         (goes_on seen same is quiet (subst (λ (w : Work). IsCommitting law.sessions (steps.own ++ moment.past) old.session seen.base seen.view w) (sym work)
         (subst (λ (e : Past). IsCommitting law.sessions (e ++ moment.past) old.session seen.base seen.view (Awaiting r)) (sym own) (still seen.base seen.view (Awaiting r) committing))))
@@ -271,7 +270,7 @@ module _ (law : JcrLaw) (old new : Shown) (answer : StepOut) (run : SessionRun) 
     refused_by : (work : Work) (seen : Seen) → run.sight ≡ sight.Seen seen → IsSaving law old run → IsCommitting law.sessions old.history.past old.session seen.base seen.view work
         → Makes moment old.session work out.Memory steps.own new.work → Stands law new (record run { phase = phase.Saving }) × (steps.own ≡ [])
     refused_by (Writing r) seen same is committing (own, work) =
-        let quiet = quiet_by old.session steps.own [] own record { left = λ q. refl; base = λ q. refl; next = λ q. refl; attached = λ q. refl } in (
+        let quiet = quiet_by old.session steps.own [] own record { left = λ q. refl; next = λ q. refl; attached = λ q. refl } in (
           stands_quiet phase.Saving (quiet.next moment.past)
               (goes_on seen same is quiet (subst (λ (w : Work). IsCommitting law.sessions (steps.own ++ moment.past) old.session seen.base seen.view w) (sym work)
               (subst (λ (e : Past). IsCommitting law.sessions (e ++ moment.past) old.session seen.base seen.view (Undoing r commit.Memory)) (sym own)
@@ -292,7 +291,7 @@ module _ (law : JcrLaw) (old new : Shown) (answer : StepOut) (run : SessionRun) 
           record { others = steps.others; grows = subst (λ (e : Past). Grows (starts_of law) (says_of law) old.session old.history new.history steps.others e) r.1 steps.grows; session = steps.session; work_is = refl; room_is = steps.room },
         )
 
-has_turned_later : (law : JcrLaw) (a b c : Shown) (work : Work) (room : Option ℕ) (run now : SessionRun) (t : Turn) → AreNodes a.history.clusters a.history.sessions → Waits (starts_of law) (says_of law) a b work room
+pub has_turned_later : (law : JcrLaw) (a b c : Shown) (work : Work) (room : Option ℕ) (run now : SessionRun) (t : Turn) → AreNodes a.history.clusters a.history.sessions → Waits (starts_of law) (says_of law) a b work room
     → HasTurned law b c run now t → HasTurned law a c run now t
 has_turned_later law a b c work room run now (turn.Stepped k) nodes waits turned = turned_later law a b c work room run now (turn.Stepped k) nodes waits turned
 has_turned_later law a b c work room run now (turn.Said i) nodes waits turned = turned_later law a b c work room run now (turn.Said i) nodes waits turned

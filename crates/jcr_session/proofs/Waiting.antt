@@ -1,5 +1,5 @@
 -- While others add events, a session stands where it stood.
-use Rattle.std.proofs.Common.{◌≡◌, inl, inr, ℕ, Bool, true, false, cond, Some, None, Option, List, [], ◌∷◌, ◌++◌, is_some, refl, sym, ap, ◌∙◌, subst}
+use Rattle.std.proofs.Common.{◌≡◌, inl, inr, ℕ, Bool, true, false, cond, ◌||◌, Some, None, Option, List, [], ◌∷◌, ◌++◌, is_some, refl, sym, ap, ◌∙◌, subst}
 use Rattle.std.specs.Prelude.{◌==◌}
 use Rattle.std.specs.Option.{option_map_or}
 use Rattle.std.specs.List.{list_any}
@@ -147,3 +147,14 @@ module _ (law : JcrLaw) (old new : Shown) (work : Work) (room : Option ℕ) (wai
       detached = ap (λ (h : History). is_attached h.past new.session) same ∙ (ap (is_attached (added ++ old.history.past)) waits.session ∙ attached_stays (added ++ old.history.past) added old.history.past old.session waits.grows.theirs inside.detached);
       tree = subst IsTree (sym tree_then) inside.tree;
     }
+
+    pub turn_waits : (base view : Nodes) → IsTurn law.sessions old.history.past old.session base view → IsTurn law.sessions new.history.past new.session base view
+    turn_waits base view turn =
+        subst (λ (h : History). IsTurn law.sessions h.past new.session base view) (sym same)
+        (subst (λ (n : ℕ). IsTurn law.sessions (added ++ old.history.past) n base view) (sym waits.session)
+        (turn_still law old.history.clusters old.history.sessions nodes old.session added old.history.past run later waits.grows.theirs base view turn))
+
+  pub next_waits : next_index new.history.past new.session ≡ next_index old.history.past old.session
+  next_waits =
+      ap (λ (h : History). next_index h.past new.session) same
+      ∙ (ap (next_index (added ++ old.history.past)) waits.session ∙ next_stays (added ++ old.history.past) added old.history.past old.session waits.grows.theirs)

@@ -41,13 +41,13 @@ tree_parent g (e ∷ t) h q is =
     ] refl is
 
 take_behind : (p more : Path) (k : ℕ) → take (length p + k) (p ++ more) ≡ p ++ take k more
-take_behind [] more k = let e : length [] + k ≡ k = omega arith in ap (λ m. take m more) e
+take_behind [] more k = let e : length {A = Name} [] + k ≡ k = omega arith in ap (λ m. take m more) e
 take_behind (n ∷ p) more k =
     let e : length (n ∷ p) + k ≡ suc (length p + k) = omega arith in
     ap (λ m. take m (n ∷ (p ++ more))) e ∙ ap (λ (l : Path). n ∷ l) (take_behind p more k)
 
 length_both : (p q : Path) → length (p ++ q) ≡ length p + length q
-length_both [] q = refl
+length_both [] q = let e : length {A = Name} [] + length q ≡ length q = omega arith in sym e
 length_both (n ∷ p) q = let e : length (p ++ q) ≡ length p + length q = length_both p q in omega arith
 
 length_taken : (p : Path) (k : ℕ) → length p ≡ suc k → length (take k p) ≡ k
@@ -92,24 +92,25 @@ child_below p n = ap (λ o. option_map_or (eq_by_cmp path_cmp p) o false) (paren
 -- what is under a child that stands is under one of those that are listed
 listed : (p q : Path) (n : Name) → is_under q (p ++ n ∷ []) ≡ true → (t : Nodes) → is_some (node_at t (p ++ n ∷ [])) ≡ true → list_any (is_under q) (map (λ m. p ++ m ∷ []) (children_of t p)) ≡ true
 listed p q n under [] is = absurd (false≢true is)
-listed p q n under (e ∷ t) is = by (eq_by_cmp path_cmp (p ++ n ∷ []) e.0) refl is
+listed p q n under (e ∷ t) is = by (eq_by_cmp path_cmp (p ++ n ∷ []) e.0) refl is (λ k. listed p q n under t k)
   where
-    later : is_some (node_at t (p ++ n ∷ [])) ≡ true → (o : Option Name) → list_any (is_under q) (map (λ m. p ++ m ∷ []) (Rattle.std.specs.List.cons_option o (children_of t p))) ≡ true
-    later is None = listed p q n under t is
-    later is (Some m) = or_else (is_under q (p ++ m ∷ [])) _ (listed p q n under t is)
+    later : list_any (is_under q) (map (λ m. p ++ m ∷ []) (children_of t p)) ≡ true → (o : Option Name) → list_any (is_under q) (map (λ m. p ++ m ∷ []) (Rattle.std.specs.List.cons_option o (children_of t p))) ≡ true
+    later rest None = rest
+    later rest (Some m) = or_else (is_under q (p ++ m ∷ [])) _ rest
       where
         or_else : (a b : Bool) → b ≡ true → (a || b) ≡ true
         or_else true b h = refl
         or_else false b h = h
 
-    by : (b : Bool) → eq_by_cmp path_cmp (p ++ n ∷ []) e.0 ≡ b → is_some (cond b (Some e.1) (node_at t (p ++ n ∷ []))) ≡ true → list_any (is_under q) (map (λ m. p ++ m ∷ []) (children_of (e ∷ t) p)) ≡ true
-    by true same k =
+    by : (b : Bool) → eq_by_cmp path_cmp (p ++ n ∷ []) e.0 ≡ b → is_some (cond b (Some e.1) (node_at t (p ++ n ∷ []))) ≡ true
+        → (is_some (node_at t (p ++ n ∷ [])) ≡ true → list_any (is_under q) (map (λ m. p ++ m ∷ []) (children_of t p)) ≡ true) → list_any (is_under q) (map (λ m. p ++ m ∷ []) (children_of (e ∷ t) p)) ≡ true
+    by true same k rest =
         let here : cond (is_child_of p e.0) (last_name e.0) None ≡ Some n =
         subst (λ (r : Path). cond (is_child_of p r) (last_name r) None ≡ Some n) (same_path (p ++ n ∷ []) e.0 same)
         (ap (λ b. cond b (last_name (p ++ n ∷ [])) None) (child_below p n) ∙ last_below p n) in
         ap (λ (o : Option Name). list_any (is_under q) (map (λ m. p ++ m ∷ []) (Rattle.std.specs.List.cons_option o (children_of t p)))) here
         ∙ ap (λ b. b || list_any (is_under q) (map (λ m. p ++ m ∷ []) (children_of t p))) under
-    by false same k = later k (cond (is_child_of p e.0) (last_name e.0) None)
+    by false same k rest = later (rest k) (cond (is_child_of p e.0) (last_name e.0) None)
 
 -- ---- what is left
 

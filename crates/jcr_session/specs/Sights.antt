@@ -62,3 +62,9 @@ abbrev pub HasRead : Shown → Sight → Type 0
 HasRead p sight.Unread = ⊥
 HasRead p (sight.Reading walk) = Reads p walk
 HasRead p (sight.Seen seen) = IsWhole p seen
+
+-- what the session sees of the tree isn't all of it yet: nothing is being read, or a walk goes on
+abbrev pub Looks : Shown → Sight → Type 0
+Looks p sight.Unread = p.work ≡ Idle
+Looks p (sight.Reading walk) = Reads p walk
+Looks p (sight.Seen seen) = ⊥

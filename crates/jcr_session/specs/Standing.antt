@@ -211,10 +211,11 @@ pub record IsSame (old new : SessionRun) : Type 0 where
   pub index : new.index ≡ old.index
   pub phase : new.phase ≡ old.phase
 
--- memory was refused for reading: nothing is being read
+-- memory was refused for reading: nothing is being read, and the next command needs the tree
 pub record IsRefused (p : Shown) (run : SessionRun) : Type 0 where
   pub idle : p.work ≡ Idle
   pub between : IsTrue (is_between run.phase)
+  pub needs : IsTrue (needs_tree (due_for run))
 
 -- ---- a reply
 

@@ -1,0 +1,155 @@
+-- What a session reads before its turn leaves it where the history says.
+use Rattle.std.proofs.Common.{◌≡◌, ℕ, Bool, true, false, cond, ◌&&◌, Some, None, Option, List, [], ◌∷◌, ◌++◌, refl, sym, ap, ◌∙◌, subst}
+use Rattle.std.specs.Prelude.{slice_get}
+use mathlib.Core.Bool.{false≢true}
+use Rattle.jr_tree.specs.Trees.{Nodes}
+use Rattle.oak_machine.specs.Runs.{AreNodes}
+use Rattle.oak_machine.specs.Sessions.{next_index}
+use Rattle.oak_port.specs.Ports.{Idle, Shown, Waits}
+use Rattle.jcr_trans.specs.declared.command.Command.{Command}
+use Rattle.jcr_trans.specs.Commands.{built}
+use Rattle.jcr_trans.specs.Texts.{memory_text}
+use Rattle.core_law.specs.State.{base_tree}
+use Rattle.core_law.specs.Turns.{IsTurn}
+use Rattle.jcr_session.specs.declared.law.JcrLaw.{JcrLaw}
+use Rattle.jcr_session.specs.declared.run.Due.{Due}
+use Rattle.jcr_session.specs.declared.run.Due.TheVariants as due
+use Rattle.jcr_session.specs.declared.run.Phase.{Phase}
+use Rattle.jcr_session.specs.declared.run.Phase.TheVariants as phase
+use Rattle.jcr_session.specs.declared.run.SessionRun.{SessionRun}
+use Rattle.jcr_session.specs.declared.sight.Sight.{Sight}
+use Rattle.jcr_session.specs.declared.sight.Sight.TheVariants as sight
+use Rattle.jcr_session.specs.declared.turn.Turn.{Turn}
+use Rattle.jcr_session.specs.declared.turn.Turn.TheVariants as turn
+use Rattle.jcr_session.specs.Sights.{HasRead, IsIn, Looks, says_of, starts_of}
+use Rattle.jcr_session.specs.Standing.{HasTurned, IsRefused, IsSame, MayAnswer, Sees, Stands, StandsAt, due_by, due_for, due_of, is_between, is_seen, is_unread, needs_tree}
+use Rattle.jcr_session.proofs.Next.{apart, next_is, turned_like}
+use Rattle.jcr_session.proofs.Reading.{Beside, beside_both, beside_itself}
+use Rattle.jcr_session.proofs.Saying.{IsBetween, forgoes}
+use Rattle.jcr_session.proofs.Turning.{has_turned_later}
+use Rattle.jcr_session.proofs.Waiting.{next_waits, turn_waits}
+
+-- ---- a session that doesn't see the tree which its next command needs
+
+unread_by : (f : Phase) (d : Due) → (is_between f && needs_tree d) ≡ true → (f ≡ phase.Between) × (needs_tree d ≡ true)
+unread_by phase.Outside d h = absurd (false≢true h)
+unread_by phase.Between d h = (refl, h)
+unread_by (phase.Refreshed v) d h = absurd (false≢true h)
+unread_by phase.Saving d h = absurd (false≢true h)
+unread_by (phase.Saved e) d h = absurd (false≢true h)
+unread_by phase.Over d h = absurd (false≢true h)
+
+unread_is : (x : Sight) (f : Phase) (d : Due) → cond (is_seen x) false (is_between f && needs_tree d) ≡ true → (is_seen x ≡ false) × (f ≡ phase.Between) × (needs_tree d ≡ true)
+unread_is sight.Unread f d h = let k = unread_by f d h in (refl, k.0, k.1)
+unread_is (sight.Reading w) f d h = let k = unread_by f d h in (refl, k.0, k.1)
+unread_is (sight.Seen seen) f d h = absurd (false≢true h)
+
+module _ (law : JcrLaw) (p : Shown) (run : SessionRun) (stands : Stands law p run) (unread : is_unread run ≡ true) where
+  stood : (is_seen run.sight ≡ false) × (run.phase ≡ phase.Between) × (needs_tree (due_for run) ≡ true)
+  stood = unread_is run.sight run.phase (due_for run) unread
+
+  sees : IsIn law p × Sees law p run run.sight
+  sees = subst (λ (f : Phase). StandsAt law p run f) stood.1 stands.at
+
+  pub unread_in : IsIn law p
+  unread_in = sees.0
+
+  pub unread_looks : Looks p run.sight
+  unread_looks = by run.sight stood.0 sees.1
+    where
+      by : (x : Sight) → is_seen x ≡ false → Sees law p run x → Looks p x
+      by sight.Unread unseen h = h.0
+      by (sight.Reading w) unseen h = h.0
+      by (sight.Seen seen) unseen h = absurd (false≢true (sym unseen))
+
+  turn_old : IsTurn law.sessions p.history.past p.session (base_tree p.history.past p.session) (base_tree p.history.past p.session)
+  turn_old = by run.sight stood.0 sees.1
+    where
+      by : (x : Sight) → is_seen x ≡ false → Sees law p run x → IsTurn law.sessions p.history.past p.session (base_tree p.history.past p.session) (base_tree p.history.past p.session)
+      by sight.Unread unseen h = h.1
+      by (sight.Reading w) unseen h = h.2
+      by (sight.Seen seen) unseen h = absurd (false≢true (sym unseen))
+
+  -- after a reading step, or with one refused
+  module _ (new : Shown) (beside : Beside law p new) (inside : IsIn law new) where
+    abbrev base_new : Nodes
+    base_new = base_tree new.history.past new.session
+
+    turn_new : IsTurn law.sessions new.history.past new.session base_new base_new
+    turn_new =
+        subst (λ (t : Nodes). IsTurn law.sessions new.history.past new.session t t) (sym (Rattle.jcr_session.proofs.Waiting.tree_then law p new new.work p.room beside unread_in.nodes unread_in.run))
+        (turn_waits law p new new.work p.room beside unread_in.nodes unread_in.run (base_tree p.history.past p.session) (base_tree p.history.past p.session) turn_old)
+
+    stands_new : (now : SessionRun) (x : Sight) → now ≡ record run { sight = x } → Sees law new (record run { sight = x }) x → Stands law new now
+    stands_new now x is h = subst (λ (r : SessionRun). Stands law new r) (sym is) record {
+      nodes = inside.nodes;
+      run_is = inside.run;
+      session = beside.session ∙ stands.session;
+      few = stands.few;
+      commands = stands.commands;
+      index = stands.index ∙ (ap (next_index p.history.past) (sym stands.session) ∙ (sym (next_waits law p new new.work p.room beside) ∙ ap (next_index new.history.past) (beside.session ∙ stands.session)));
+      at = subst (λ (f : Phase). StandsAt law new (record run { sight = x }) f) (sym stood.1) (inside, h);
+    }
+
+    pub read_stands : (now : SessionRun) (x : Sight) → now ≡ record run { sight = x } → HasRead new x → Stands law new now
+    read_stands now x is read = stands_new now x is (by x read)
+      where
+        by : (x : Sight) → HasRead new x → Sees law new (record run { sight = x }) x
+        by sight.Unread h = absurd h
+        by (sight.Reading w) h = (h, stood.2, turn_new)
+        by (sight.Seen seen) h =
+            (h.idle, subst (λ (t : Nodes). IsTurn law.sessions new.history.past new.session seen.base t) (sym h.view) (subst (λ (t : Nodes). IsTurn law.sessions new.history.past new.session t t) (sym h.base) turn_new))
+
+    pub refused_stands : (now : SessionRun) → now ≡ record run { sight = sight.Unread } → new.work ≡ Idle → Stands law new now
+    refused_stands now is idle = stands_new now sight.Unread is (idle, turn_new)
+
+    pub refused_is : (now : SessionRun) → now ≡ record run { sight = sight.Unread } → new.work ≡ Idle → IsRefused new now
+    refused_is now is idle = subst (λ (r : SessionRun). IsRefused new r) (sym is) record { idle = idle; between = ap is_between stood.1; needs = stood.2 }
+
+pub same_by : (run now : SessionRun) (x : Sight) → now ≡ record run { sight = x } → IsSame run now
+same_by run now x is = subst (λ (r : SessionRun). IsSame run r) (sym is) record { session = refl; commands = refl; index = refl; phase = refl }
+
+-- ---- several steps
+
+pub stays_beside : (law : JcrLaw) (p : Shown) (run : SessionRun) → Stands law p run → Beside law p p
+stays_beside law p run stands = beside_itself law p stands.run_is
+
+pub more_beside : (law : JcrLaw) (a b c : Shown) (run : SessionRun) → Stands law a run → Beside law a b → Beside law b c → Beside law a c
+more_beside law a b c run stands first second = beside_both law a b c stands.nodes first second
+
+pub same_itself : (a : SessionRun) → IsSame a a
+same_itself a = record { session = refl; commands = refl; index = refl; phase = refl }
+
+pub same_both : (a b c : SessionRun) → IsSame a b → IsSame b c → IsSame a c
+same_both a b c first second = record {
+  session = second.session ∙ first.session;
+  commands = second.commands ∙ first.commands;
+  index = second.index ∙ first.index;
+  phase = second.phase ∙ first.phase;
+}
+
+-- ---- memory was refused for reading: the command that needs the tree is answered so
+
+between_is : (f : Phase) → is_between f ≡ true → f ≡ phase.Between
+between_is phase.Outside h = absurd (false≢true h)
+between_is phase.Between h = refl
+between_is (phase.Refreshed v) h = absurd (false≢true h)
+between_is phase.Saving h = absurd (false≢true h)
+between_is (phase.Saved e) h = absurd (false≢true h)
+between_is phase.Over h = absurd (false≢true h)
+
+pub refused_forgoes : (law : JcrLaw) (p : Shown) (run : SessionRun) → Stands law p run → IsRefused p run → MayAnswer law p run memory_text
+refused_forgoes law p run stands refused = by (slice_get run.commands run.index) refl refused.needs
+  where
+    by : (o : Option Command) → slice_get run.commands run.index ≡ o → needs_tree (Rattle.std.specs.Option.option_map_or (λ c. due_by (built c) run.session) o due.Leave) ≡ true → MayAnswer law p run memory_text
+    by None at needs = absurd (false≢true needs)
+    by (Some c) at needs = forgoes law p run c record { stands = stands; between = between_is run.phase refused.between; idle = refused.idle; command = at }
+
+-- ---- a turn after the reading steps
+
+pub turned_behind : (law : JcrLaw) (a b c : Shown) (run like now : SessionRun) (t : Turn) → Stands law a run → Beside law a b → IsSame run like → HasTurned law b c like now t → HasTurned law a c run now t
+turned_behind law a b c run like now t stands beside same turned = has_turned_later law a b c b.work a.room run now t stands.nodes beside (turned_like law b c run like now t same.index turned)
+
+-- a session that has left makes no step
+pub over_ends : (law : JcrLaw) (p : Shown) (run : SessionRun) → Stands law p run → HasTurned law p p run run turn.Ended
+over_ends law p run stands = record { others = []; own = []; grows = record { grown = refl; theirs = refl; run = stands.run_is }; tells = refl; stands = stands }
