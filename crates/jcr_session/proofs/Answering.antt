@@ -18,7 +18,7 @@ use Rattle.jcr_session.specs.declared.sight.Seen.{Seen}
 use Rattle.jcr_session.specs.declared.sight.Sight.{Sight}
 use Rattle.jcr_session.specs.declared.sight.Sight.TheVariants as sight
 use Rattle.jcr_session.specs.Standing.{HasSeen, IsPlanOf, IsReply, IsSame, MayAnswer, RepliesBy, Stands, due_for, is_unread}
-use Rattle.jcr_session.proofs.Next.{apart, between_at, forgo_see, may_like, plain_by, save_nothing, save_too_many}
+use Rattle.jcr_session.proofs.Replying.{apart, between_at, forgo_see, may_like, plain_by, save_nothing, save_too_many}
 use Rattle.jcr_session.proofs.Saying.{IsBetween, forgoes, sees_view}
 
 seen_like : (a b : Seen) (view : Nodes) → b.base ≡ a.base → b.view ≡ view → b ≡ record a { view = view }

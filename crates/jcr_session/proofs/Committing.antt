@@ -120,8 +120,14 @@ module _ (law : Orders) (past : Past) (s : ℕ) (r : Revision) where
   -- ---- the steps
 
   pub committing_write : (k : StepKind) (e : Past) (now : Work) (base view : Nodes) → IsCommitting law past s base view (Writing r) → WritesOn s r k e now → IsCommitting law (e ++ past) s base view now
-  committing_write k e now base view (has, view_is, unmade) (inl (a, same, work)) =
-      subst (λ (w : Work). IsCommitting law (e ++ past) s base view w) (sym work) (subst (λ (p : Past). IsCommitting law (p ++ past) s base view (Writing r)) (sym same) (drawn_went kind.Write has, view_went kind.Write base view view_is, unmade))
+  committing_write k e now base view (has, view_is, unmade) (inl (a, same, work)) = by work
+    where
+      wrote : (w : Work) → IsCommitting law (event.Went s kind.Write ∷ past) s base view w → now ≡ w → IsCommitting law (e ++ past) s base view now
+      wrote w is work = subst (λ (w : Work). IsCommitting law (e ++ past) s base view w) (sym work) (subst (λ (p : Past). IsCommitting law (p ++ past) s base view w) (sym same) is)
+
+      by : (now ≡ Writing r) ⊎ (now ≡ Undoing r commit.Memory) → IsCommitting law (e ++ past) s base view now
+      by (inl work) = wrote (Writing r) (drawn_went kind.Write has, view_went kind.Write base view view_is, unmade) work
+      by (inr work) = wrote (Undoing r commit.Memory) (drawn_went kind.Write has, view_went kind.Write base view view_is, unmade, tt) work
   committing_write k e now base view (has, view_is, unmade) (inr (inl (a, same, work))) =
       subst (λ (w : Work). IsCommitting law (e ++ past) s base view w) (sym work) (subst (λ (p : Past). IsCommitting law (p ++ past) s base view (Writing r)) (sym same) (drawn_went kind.Mark has, view_went kind.Mark base view view_is, unmade))
   committing_write k e now base view (has, view_is, unmade) (inr (inr (inl (a, same, work)))) =

@@ -1,5 +1,5 @@
 -- A session begins to commit what is pending.
-use Rattle.std.proofs.Common.{◌≡◌, ℕ, Bool, true, false, cond, ◌||◌, Some, None, Option, List, [], ◌∷◌, ◌++◌, is_some, refl, sym, ap, ◌∙◌, subst}
+use Rattle.std.proofs.Common.{◌≡◌, inl, ℕ, Bool, true, false, cond, ◌||◌, Some, None, Option, List, [], ◌∷◌, ◌++◌, is_some, refl, sym, ap, ◌∙◌, subst}
 use Rattle.std.specs.Prelude.{slice_get, reverse}
 use mathlib.Core.Bool.{false≢true}
 use Rattle.jr_rev.specs.declared.revision.Revision.{Revision}
@@ -46,15 +46,15 @@ use Rattle.jcr_session.specs.declared.sight.Sight.{Sight}
 use Rattle.jcr_session.specs.declared.sight.Sight.TheVariants as sight
 use Rattle.jcr_session.specs.declared.turn.Turn.{Turn}
 use Rattle.jcr_session.specs.declared.turn.Turn.TheVariants as turn
-use Rattle.jcr_session.specs.Sights.{IsIn, says_of, starts_of}
-use Rattle.jcr_session.specs.Standing.{HasTurned, HasView, IsInSave, IsPlanFor, IsPlanOf, IsSaving, IsTurned, MayAnswer, Sees, Stands, StandsAt, due_by, due_for, is_unread}
+use Rattle.jcr_session.specs.Sights.{IsBeside, IsIn, says_of, starts_of}
+use Rattle.jcr_session.specs.Standing.{HasTurned, HasView, IsInSave, IsPlanFor, IsPlanOf, IsSaving, IsTurned, MayAnswer, Sees, Stands, StandsAt, due_by, due_for, is_unread, is_writing}
 use Rattle.jcr_session.proofs.Committing.{committing_drawn}
-use Rattle.jcr_session.proofs.Next.{apart, between_at, forgo_save, save_is}
-use Rattle.jcr_session.proofs.Reading.{waits_both}
+use Rattle.jcr_session.proofs.Replying.{apart, between_at, forgo_save, idle_between, save_is}
+use Rattle.jcr_session.proofs.Reading.{beside_both}
 use Rattle.jcr_session.proofs.Saying.{IsBetween, answer_waits}
 use Rattle.jcr_session.proofs.Trees.{base_is_tree}
-use Rattle.jcr_session.proofs.Turning.{has_turned_later}
-use Rattle.jcr_session.proofs.Waiting.{in_then, next_waits, turn_still, turn_waits}
+use Rattle.jcr_session.proofs.Turning.{Link, free, has_turned_later, is_awaiting, kept, plain_step}
+use Rattle.jcr_session.proofs.Waiting.{by_waits, in_beside, in_then, next_beside, next_waits, turn_beside, turn_still, turn_waits}
 
 -- what is seen where there is something to commit
 plan_seen : (x : Sight) (edit : Edit) (marks : List MarkAt) → IsPlanOf x (plan.Commit edit marks) → (seen : Seen) × (x ≡ sight.Seen seen) × IsPlanFor seen.base seen.view (plan.Commit edit marks)
@@ -81,6 +81,9 @@ module _ (law : JcrLaw) (old : Shown) (run : SessionRun) (stands : Stands law ol
 
   in_old : IsIn law old
   in_old = at_between.0
+
+  idle_old : old.work ≡ Idle
+  idle_old = idle_between law old run stands between read
 
   module _ (edit : Edit) (marks : List MarkAt) (seen : Seen) (at : run.sight ≡ sight.Seen seen) (planned : IsPlanFor seen.base seen.view (plan.Commit edit marks)) where
     turn_old : IsTurn law.sessions old.history.past old.session seen.base seen.view
@@ -147,14 +150,14 @@ module _ (law : JcrLaw) (old : Shown) (run : SessionRun) (stands : Stands law ol
           abbrev waiting : Shown
           waiting = record begun { history = moment }
 
-          waited : Waits (starts_of law) (says_of law) begun waiting begun.work begun.room
-          waited = record { others = steps.others; grows = record { grown = refl; theirs = steps.grows.theirs; run = run_drawn.1 }; session = refl; work_is = refl; room_is = refl }
+          waited : IsBeside law begun waiting
+          waited = record { others = steps.others; grows = record { grown = refl; theirs = steps.grows.theirs; run = run_drawn.1 }; session = refl; beside = refl; alone = steps.alone }
 
           in_behind : IsIn law waiting
-          in_behind = in_then law begun waiting begun.work begun.room waited in_begun.nodes in_begun.run in_begun
+          in_behind = in_beside law begun waiting waited in_begun.nodes in_begun.run in_begun
 
           turn_behind : IsTurn law.sessions behind s seen.base seen.view
-          turn_behind = turn_waits law begun waiting begun.work begun.room waited in_begun.nodes in_begun.run seen.base seen.view turn_begun
+          turn_behind = turn_beside law begun waiting waited in_begun.nodes in_begun.run seen.base seen.view turn_begun
 
           unmade : is_committed behind made.0.revision ≡ false
           unmade = by (is_committed behind made.0.revision) refl
@@ -183,7 +186,7 @@ module _ (law : JcrLaw) (old : Shown) (run : SessionRun) (stands : Stands law ol
           index_new : run.index ≡ next_index new.history.past run.session
           index_new =
               index_mid ∙ (sym (next_waits law mid begun (Starting (task.Commit edit marks)) more begins)
-              ∙ (sym (next_waits law begun waiting begun.work begun.room waited)
+              ∙ (sym (next_beside law begun waiting waited)
               ∙ (sym (moved (λ h n. next_index h.past n ≡ next_index behind s) refl) ∙ ap (next_index new.history.past) session_new)))
 
           abbrev saving : SessionRun
@@ -195,6 +198,7 @@ module _ (law : JcrLaw) (old : Shown) (run : SessionRun) (stands : Stands law ol
             run_is = steps.grows.run;
             session = session_new;
             few = stands.few;
+            within = stands.within;
             commands = stands.commands;
             index = index_new;
             at = (in_new, subst (λ (x : Sight). IsInSave law new saving x) (sym at) (
@@ -211,25 +215,38 @@ module _ (law : JcrLaw) (old : Shown) (run : SessionRun) (stands : Stands law ol
               (subst (λ (w : Work). Rattle.oak_port.specs.Ports.AreOfStep moment s w (out.Went k) steps.own) begins.work_is steps.of_step)
 
           draws_new : IsTurned law begun new run saving (turn.Stepped kind.Draw)
-          draws_new = record { others = steps.others; own = steps.own; grows = steps.grows; tells = told; stands = stands_new }
+          draws_new = record {
+            others = steps.others;
+            own = steps.own;
+            grows = steps.grows;
+            beside = steps.beside;
+            alone = steps.alone;
+            tells = (told, inl (event.Draw made.0, made.3, refl));
+            made = plain_step moment begun new steps.own (event.Draw made.0 ∷ []) made.3 in_behind.stays (ap is_awaiting begins.work_is) refl tt;
+            stands = stands_new;
+          }
 
           draws_old : HasTurned law old new run saving (turn.Stepped kind.Draw)
-          draws_old = has_turned_later law old mid new old.work room run saving (turn.Stepped kind.Draw) in_old.nodes waits
-              (has_turned_later law mid begun new (Starting (task.Commit edit marks)) more run saving (turn.Stepped kind.Draw) in_mid.nodes begins draws_new)
+          draws_old = has_turned_later law old mid new run saving (turn.Stepped kind.Draw) in_old.nodes (kept waits.work_is (waits.same_due refl)) (by_waits law old mid old.work room waits)
+              (has_turned_later law mid begun new run saving (turn.Stepped kind.Draw) in_mid.nodes (free (ap is_writing begins.work_is) (ap is_awaiting (waits.work_is ∙ idle_old))) (by_waits law mid begun (Starting (task.Commit edit marks)) more begins) draws_new)
 
         -- memory is refused for the draw
         module _ (steps : Steps (starts_of law) (says_of law) begun new out.Memory) where
           stopped : (steps.own ≡ []) × (new.work ≡ Idle)
           stopped = subst (λ (w : Work). Makes (after steps.others begun.history) begun.session w out.Memory steps.own new.work) begins.work_is steps.makes
 
-          stops : Waits (starts_of law) (says_of law) mid new Idle more
-          stops = waits_both law mid begun new (Starting (task.Commit edit marks)) Idle more more in_mid.nodes begins record {
-            others = steps.others;
-            grows = subst (λ (own : Past). Grows (starts_of law) (says_of law) begun.session begun.history new.history steps.others own) stopped.0 steps.grows;
-            session = steps.session;
-            work_is = stopped.1;
-            room_is = steps.room ∙ begins.room_is;
-          }
+          stops : IsBeside law old new
+          stops = beside_both law old mid new in_old.nodes (by_waits law old mid old.work room waits)
+              (beside_both law mid begun new in_mid.nodes (by_waits law mid begun (Starting (task.Commit edit marks)) more begins) record {
+                others = steps.others;
+                grows = subst (λ (own : Past). Grows (starts_of law) (says_of law) begun.session begun.history new.history steps.others own) stopped.0 steps.grows;
+                session = steps.session;
+                beside = steps.beside;
+                alone = steps.alone;
+              })
+
+          links : Link old new
+          links = free (ap is_writing stopped.1) (ap is_awaiting idle_old)
 
   -- ---- by the plan
 
@@ -247,6 +264,12 @@ module _ (law : JcrLaw) (old : Shown) (run : SessionRun) (stands : Stands law ol
           (subst (λ (y : SessionRun). HasTurned law old new run y (turn.Stepped kind.Draw)) (sym is)
           (draws_old edit marks x.0 x.1 x.2 mid room waits begun new more begins k steps place))
 
-      -- memory was refused for the draw: only others added events
-      pub commit_stops : Steps (starts_of law) (says_of law) begun new out.Memory → Waits (starts_of law) (says_of law) mid new Idle more
-      commit_stops steps = let x = plan_seen run.sight edit marks planned in stops edit marks x.0 x.1 x.2 mid room waits begun new more begins steps
+      -- memory was refused for the draw: the save is answered so
+      module _ (steps : Steps (starts_of law) (says_of law) begun new out.Memory) where
+        pub commit_stops : MayAnswer law new run memory_text
+        commit_stops = let x = plan_seen run.sight edit marks planned in
+            answer_waits law old new run memory_text (forgo_save law old run stands between read next) (stops edit marks x.0 x.1 x.2 mid room waits begun new more begins steps) (stopped edit marks x.0 x.1 x.2 mid room waits begun new more begins steps).1
+
+        pub commit_stopped : (last : Shown) (now : SessionRun) (t : Turn) → HasTurned law new last run now t → HasTurned law old last run now t
+        commit_stopped last now t turned = let x = plan_seen run.sight edit marks planned in
+            has_turned_later law old new last run now t in_old.nodes (links edit marks x.0 x.1 x.2 mid room waits begun new more begins steps) (stops edit marks x.0 x.1 x.2 mid room waits begun new more begins steps) turned

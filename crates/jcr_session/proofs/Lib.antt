@@ -8,10 +8,11 @@ mod Saying
 mod Committing
 mod Trees
 mod Turning
-mod Next
+mod Replying
 mod Living
 mod Starting
 mod Ending
 mod Looking
 mod Answering
 mod Drawing
+mod Staying

@@ -1,5 +1,5 @@
 -- A session logs in, moves its base, and leaves.
-use Rattle.std.proofs.Common.{◌≡◌, ℕ, ◌+◌, Bool, true, false, cond, not, ◌||◌, Some, None, Option, List, [], ◌∷◌, ◌++◌, is_some, refl, sym, ap, ◌∙◌, subst, arith}
+use Rattle.std.proofs.Common.{◌≡◌, inl, ℕ, ◌+◌, Bool, true, false, cond, not, ◌||◌, Some, None, Option, List, [], ◌∷◌, ◌++◌, is_some, refl, sym, ap, ◌∙◌, subst, arith}
 use Rattle.std.specs.Prelude.{◌==◌}
 use Rattle.std.specs.Option.{option_map_or}
 use Rattle.std.proofs.lemmas.Bool.Decides.{nat_tests}
@@ -33,10 +33,10 @@ use Rattle.jcr_session.specs.declared.sight.Sight.TheVariants as sight
 use Rattle.jcr_session.specs.declared.turn.Turn.{Turn}
 use Rattle.jcr_session.specs.declared.turn.Turn.TheVariants as turn
 use Rattle.jcr_session.specs.Sights.{IsIn, says_of, starts_of}
-use Rattle.jcr_session.specs.Standing.{HasTurned, IsOutside, IsTurned, Sees, Stands, StandsAt, Tells}
+use Rattle.jcr_session.specs.Standing.{HasTurned, IsOutside, IsTurned, Sees, Stands, StandsAt, Tells, is_writing}
 use Rattle.jcr_session.proofs.Trees.{base_is_tree}
-use Rattle.jcr_session.proofs.Turning.{turned_later}
-use Rattle.jcr_session.proofs.Waiting.{login_stays}
+use Rattle.jcr_session.proofs.Turning.{free, is_awaiting, plain_step, turned_later}
+use Rattle.jcr_session.proofs.Waiting.{by_waits, login_stays}
 
 own : (s : ℕ) → (s == s) ≡ true
 own s = grind (arith, nat_tests)
@@ -126,7 +126,7 @@ module _ (law : JcrLaw) (old mid new : Shown) (run : SessionRun) (stands : Stand
   login_now = ap (λ b. b || has_login q s) (own s)
 
   tree_now : IsTree (base_tree logged.past s)
-  tree_now = base_is_tree law logged s nodes_mid run_logged login_now
+  tree_now = base_is_tree law logged s nodes_mid run_logged
 
   inside_now : IsIn law new
   inside_now = record {
@@ -167,6 +167,7 @@ module _ (law : JcrLaw) (old mid new : Shown) (run : SessionRun) (stands : Stand
     session = steps.session ∙ (waits.session ∙ stands.session);
     few = stands.few;
     commands = stands.commands;
+    within = stands.within;
     index = stands.index ∙ (ap (next_index old.history.past) (sym stands.session) ∙ (sym (moved (λ h n. next_index h.past n ≡ next_index old.history.past old.session) next_now) ∙ ap (next_index new.history.past) (steps.session ∙ (waits.session ∙ stands.session))));
     at = (inside_now, subst (λ (x : Sight). Sees law new run_now x) (sym is_out.unread) (made.1, moved (λ h n. IsTurn law.sessions h.past n (base_tree h.past n) (base_tree h.past n)) turn_now));
   }
@@ -175,5 +176,14 @@ module _ (law : JcrLaw) (old mid new : Shown) (run : SessionRun) (stands : Stand
   logged_in now t is told =
       subst (λ (x : Turn). HasTurned law old new run now x) (sym told)
       (subst (λ (x : SessionRun). HasTurned law old new run x (turn.Stepped kind.Login)) (sym is)
-      (turned_later law old mid new (Starting task.Login) room run run_now (turn.Stepped kind.Login) stands.nodes waits
-      record { others = steps.others; own = steps.own; grows = steps.grows; tells = of_step; stands = stands_now }))
+      (turned_later law old mid new run run_now (turn.Stepped kind.Login) stands.nodes (free (ap is_writing waits.work_is) (ap is_awaiting is_out.idle)) (by_waits law old mid (Starting task.Login) room waits)
+      record {
+        others = steps.others;
+        own = steps.own;
+        grows = steps.grows;
+        beside = steps.beside;
+        alone = steps.alone;
+        tells = (of_step, inl (event.Login s pin.base, made.0, refl));
+        made = plain_step (after steps.others mid.history) mid new steps.own (event.Login s pin.base ∷ []) made.0 (not_left (starts_of law) (says_of law) mid.history.clusters mid.history.sessions q run_logged.1 s out_now) (ap is_awaiting waits.work_is) refl tt;
+        stands = stands_now;
+      }))

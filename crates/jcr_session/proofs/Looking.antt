@@ -5,7 +5,7 @@ use mathlib.Core.Bool.{false≢true}
 use Rattle.jr_tree.specs.Trees.{Nodes}
 use Rattle.oak_machine.specs.Runs.{AreNodes}
 use Rattle.oak_machine.specs.Sessions.{next_index}
-use Rattle.oak_port.specs.Ports.{Idle, Shown, Waits}
+use Rattle.oak_port.specs.Ports.{Idle, Shown, Work}
 use Rattle.jcr_trans.specs.declared.command.Command.{Command}
 use Rattle.jcr_trans.specs.Commands.{built}
 use Rattle.jcr_trans.specs.Texts.{memory_text}
@@ -21,13 +21,15 @@ use Rattle.jcr_session.specs.declared.sight.Sight.{Sight}
 use Rattle.jcr_session.specs.declared.sight.Sight.TheVariants as sight
 use Rattle.jcr_session.specs.declared.turn.Turn.{Turn}
 use Rattle.jcr_session.specs.declared.turn.Turn.TheVariants as turn
-use Rattle.jcr_session.specs.Sights.{HasRead, IsIn, Looks, says_of, starts_of}
-use Rattle.jcr_session.specs.Standing.{HasTurned, IsRefused, IsSame, MayAnswer, Sees, Stands, StandsAt, due_by, due_for, due_of, is_between, is_seen, is_unread, needs_tree}
-use Rattle.jcr_session.proofs.Next.{apart, next_is, turned_like}
-use Rattle.jcr_session.proofs.Reading.{Beside, beside_both, beside_itself}
+use Rattle.jcr_session.specs.Sights.{HasRead, IsBeside, IsFetching, IsIn, Looks, says_of, starts_of}
+use Rattle.jcr_session.specs.declared.sight.Fetch.{Fetch}
+use Rattle.jcr_session.specs.declared.sight.Fetch.TheVariants as fetch
+use Rattle.jcr_session.specs.Standing.{HasTurned, IsRefused, IsSame, MayAnswer, Sees, Stands, StandsAt, due_by, due_for, due_of, is_between, is_seen, is_unread, is_writing, needs_tree}
+use Rattle.jcr_session.proofs.Replying.{apart, idle_between, next_is, turned_like}
+use Rattle.jcr_session.proofs.Reading.{beside_both, beside_itself, nobody}
 use Rattle.jcr_session.proofs.Saying.{IsBetween, forgoes}
-use Rattle.jcr_session.proofs.Turning.{has_turned_later}
-use Rattle.jcr_session.proofs.Waiting.{next_waits, turn_waits}
+use Rattle.jcr_session.proofs.Turning.{Link, free, has_turned_later, is_awaiting, kept}
+use Rattle.jcr_session.proofs.Waiting.{next_beside, tree_beside, turn_beside}
 
 -- ---- a session that doesn't see the tree which its next command needs
 
@@ -71,14 +73,14 @@ module _ (law : JcrLaw) (p : Shown) (run : SessionRun) (stands : Stands law p ru
       by (sight.Seen seen) unseen h = absurd (false≢true (sym unseen))
 
   -- after a reading step, or with one refused
-  module _ (new : Shown) (beside : Beside law p new) (inside : IsIn law new) where
+  module _ (new : Shown) (beside : IsBeside law p new) (inside : IsIn law new) where
     abbrev base_new : Nodes
     base_new = base_tree new.history.past new.session
 
     turn_new : IsTurn law.sessions new.history.past new.session base_new base_new
     turn_new =
-        subst (λ (t : Nodes). IsTurn law.sessions new.history.past new.session t t) (sym (Rattle.jcr_session.proofs.Waiting.tree_then law p new new.work p.room beside unread_in.nodes unread_in.run))
-        (turn_waits law p new new.work p.room beside unread_in.nodes unread_in.run (base_tree p.history.past p.session) (base_tree p.history.past p.session) turn_old)
+        subst (λ (t : Nodes). IsTurn law.sessions new.history.past new.session t t) (sym (tree_beside law p new beside unread_in.nodes unread_in.run))
+        (turn_beside law p new beside unread_in.nodes unread_in.run (base_tree p.history.past p.session) (base_tree p.history.past p.session) turn_old)
 
     stands_new : (now : SessionRun) (x : Sight) → now ≡ record run { sight = x } → Sees law new (record run { sight = x }) x → Stands law new now
     stands_new now x is h = subst (λ (r : SessionRun). Stands law new r) (sym is) record {
@@ -86,8 +88,9 @@ module _ (law : JcrLaw) (p : Shown) (run : SessionRun) (stands : Stands law p ru
       run_is = inside.run;
       session = beside.session ∙ stands.session;
       few = stands.few;
+      within = stands.within;
       commands = stands.commands;
-      index = stands.index ∙ (ap (next_index p.history.past) (sym stands.session) ∙ (sym (next_waits law p new new.work p.room beside) ∙ ap (next_index new.history.past) (beside.session ∙ stands.session)));
+      index = stands.index ∙ (ap (next_index p.history.past) (sym stands.session) ∙ (sym (next_beside law p new beside) ∙ ap (next_index new.history.past) (beside.session ∙ stands.session)));
       at = subst (λ (f : Phase). StandsAt law new (record run { sight = x }) f) (sym stood.1) (inside, h);
     }
 
@@ -111,10 +114,10 @@ same_by run now x is = subst (λ (r : SessionRun). IsSame run r) (sym is) record
 
 -- ---- several steps
 
-pub stays_beside : (law : JcrLaw) (p : Shown) (run : SessionRun) → Stands law p run → Beside law p p
+pub stays_beside : (law : JcrLaw) (p : Shown) (run : SessionRun) → Stands law p run → IsBeside law p p
 stays_beside law p run stands = beside_itself law p stands.run_is
 
-pub more_beside : (law : JcrLaw) (a b c : Shown) (run : SessionRun) → Stands law a run → Beside law a b → Beside law b c → Beside law a c
+pub more_beside : (law : JcrLaw) (a b c : Shown) (run : SessionRun) → Stands law a run → IsBeside law a b → IsBeside law b c → IsBeside law a c
 more_beside law a b c run stands first second = beside_both law a b c stands.nodes first second
 
 pub same_itself : (a : SessionRun) → IsSame a a
@@ -147,9 +150,41 @@ refused_forgoes law p run stands refused = by (slice_get run.commands run.index)
 
 -- ---- a turn after the reading steps
 
-pub turned_behind : (law : JcrLaw) (a b c : Shown) (run like now : SessionRun) (t : Turn) → Stands law a run → Beside law a b → IsSame run like → HasTurned law b c like now t → HasTurned law a c run now t
-turned_behind law a b c run like now t stands beside same turned = has_turned_later law a b c b.work a.room run now t stands.nodes beside (turned_like law b c run like now t same.index turned)
+-- a session that looks at the tree waits for nothing else
+looks_unawaited : (p : Shown) (x : Sight) → Looks p x → is_awaiting p.work ≡ false
+looks_unawaited p sight.Unread h = ap is_awaiting h
+looks_unawaited p (sight.Reading w) h = by w.fetch h
+  where
+    by : (f : Fetch) → IsFetching (base_tree p.history.past p.session) p.work w.tree w.left.items f → is_awaiting p.work ≡ false
+    by (fetch.Node path) h = ap is_awaiting h.0
+    by (fetch.Names path) h = ap is_awaiting h.0
+looks_unawaited p (sight.Seen seen) h = absurd h
+
+link_read : (law : JcrLaw) (a b : Shown) (run like : SessionRun) → Stands law a run → Stands law b like → IsSame run like → is_unread like ≡ false → (is_unread run ≡ false → b ≡ a) → Link a b
+link_read law a b run like old now same read still = by (is_unread run) refl
+  where
+    by : (x : Bool) → is_unread run ≡ x → Link a b
+    by false h = kept (ap (λ (p : Shown). p.work) (still h)) (ap (λ (p : Shown). p.due) (still h))
+    by true h = free (ap is_writing (idle_between law b like now (same.phase ∙ (unread_is run.sight run.phase (due_for run) h).1) read)) (looks_unawaited a run.sight (unread_looks law a run old h))
+
+pub turned_behind : (law : JcrLaw) (a b c : Shown) (run like now : SessionRun) (t : Turn) → Stands law a run → Stands law b like → IsBeside law a b → IsSame run like → is_unread like ≡ false → (is_unread run ≡ false → b ≡ a) → HasTurned law b c like now t → HasTurned law a c run now t
+turned_behind law a b c run like now t old stands beside same read still turned =
+    has_turned_later law a b c run now t old.nodes (link_read law a b run like old stands same read still) beside (turned_like law b c run like now t same.index turned)
+
+-- where memory was refused for reading, and the command is answered so
+pub forgone_behind : (law : JcrLaw) (a b c : Shown) (run like now : SessionRun) (t : Turn) → Stands law a run → IsBeside law a b → IsSame run like → is_unread run ≡ true → IsRefused b like → HasTurned law b c like now t → HasTurned law a c run now t
+forgone_behind law a b c run like now t old beside same unread refused turned =
+    has_turned_later law a b c run now t old.nodes (free (ap is_writing refused.idle) (looks_unawaited a run.sight (unread_looks law a run old unread))) beside (turned_like law b c run like now t same.index turned)
 
 -- a session that has left makes no step
-pub over_ends : (law : JcrLaw) (p : Shown) (run : SessionRun) → Stands law p run → HasTurned law p p run run turn.Ended
-over_ends law p run stands = record { others = []; own = []; grows = record { grown = refl; theirs = refl; run = stands.run_is }; tells = refl; stands = stands }
+pub over_ends : (law : JcrLaw) (p : Shown) (run : SessionRun) → Stands law p run → run.phase ≡ phase.Over → HasTurned law p p run run turn.Ended
+over_ends law p run stands over = let gone = subst (λ (f : Phase). StandsAt law p run f) over stands.at in record {
+  others = [];
+  own = [];
+  grows = record { grown = refl; theirs = refl; run = stands.run_is };
+  beside = refl;
+  alone = nobody p.beside.seats;
+  tells = refl;
+  made = (gone.left, gone.all);
+  stands = stands;
+}

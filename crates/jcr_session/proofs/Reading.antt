@@ -1,5 +1,6 @@
 -- What the calls of a reading step leave: the session is in, others alone added events, and the walk reads the tree at the session's base.
 use Rattle.std.proofs.Common.{◌≡◌, inl, inr, ℕ, Bool, true, false, Some, None, Option, List, [], ◌∷◌, ◌++◌, is_some, map, refl, sym, ap, ◌∙◌, subst}
+use Rattle.std.specs.Prelude.{IfSome}
 use Rattle.std.specs.BTreeMap.{insert_entry}
 use Rattle.jr_path.specs.Names.{path_cmp}
 use Rattle.jr_path.specs.declared.name.Name.{Name}
@@ -11,7 +12,7 @@ use Rattle.oak_machine.specs.declared.event.StepKind.{StepKind}
 use Rattle.oak_machine.specs.History.{History, Past}
 use Rattle.oak_machine.specs.Laws.{AreOthers, after, is_event_of}
 use Rattle.oak_machine.specs.Runs.{AreNodes, IsRun}
-use Rattle.oak_port.specs.Ports.{Grows, Idle, Makes, Shown, Starting, Steps, Waits, Work}
+use Rattle.oak_port.specs.Ports.{Beside, Grows, Idle, Makes, Seat, Shown, Starting, Steps, Waits, Work}
 use Rattle.oak_port.specs.declared.task.StepOut.{StepOut}
 use Rattle.oak_port.specs.declared.task.StepOut.TheVariants as out
 use Rattle.oak_port.specs.declared.task.Task.{Task}
@@ -20,29 +21,29 @@ use Rattle.oak_port.specs.declared.task.TaskEnd.{TaskEnd}
 use Rattle.oak_port.specs.declared.task.TaskEnd.TheVariants as end
 use Rattle.core_law.specs.State.{base_tree}
 use Rattle.jcr_session.specs.declared.law.JcrLaw.{JcrLaw}
-use Rattle.jcr_session.specs.Sights.{IsFetching, IsIn, IsPart, says_of, starts_of}
+use Rattle.jcr_session.specs.Sights.{IsBeside, IsFetching, IsIn, IsPart, says_of, starts_of}
 use Rattle.jcr_session.proofs.Others.{append_assoc, others_both}
-use Rattle.jcr_session.proofs.Waiting.{in_then, tree_then}
+use Rattle.jcr_session.proofs.Waiting.{in_beside, in_then, tree_beside, tree_then}
 use Rattle.jcr_session.proofs.Walking.{part_node, part_none, part_children, part_next, part_whole, node_there}
 
--- only events of others were added, whatever is being done then
-abbrev pub Beside : JcrLaw → Shown → Shown → Type 0
-Beside law old new = Waits (starts_of law) (says_of law) old new new.work old.room
-
-pub beside : (law : JcrLaw) (old new : Shown) (work : Work) → Waits (starts_of law) (says_of law) old new work old.room → Beside law old new
-beside law old new work waits = record { others = waits.others; grows = waits.grows; session = waits.session; work_is = refl; room_is = waits.room_is }
-
 -- nothing was added
-pub beside_itself : (law : JcrLaw) (p : Shown) → IsRun (starts_of law) (says_of law) p.history → Beside law p p
-beside_itself law p run = record { others = []; grows = record { grown = refl; theirs = refl; run = run }; session = refl; work_is = refl; room_is = refl }
+pub nobody : (o : Option (List Seat)) → IfSome o (λ seats. ◌≡◌ {A = Past} [] [])
+nobody None = tt
+nobody (Some seats) = refl
+
+pub beside_itself : (law : JcrLaw) (p : Shown) → IsRun (starts_of law) (says_of law) p.history → IsBeside law p p
+beside_itself law p run = record { others = []; grows = record { grown = refl; theirs = refl; run = run }; session = refl; beside = refl; alone = nobody p.beside.seats }
 
 pub after_both : (later added : Past) (h : History) → after later (after added h) ≡ after (later ++ added) h
 after_both later added h = ap (λ (p : Past). record h { past = p }) (sym (append_assoc later added h.past))
 
 -- one after another
-pub waits_both : (law : JcrLaw) (a b c : Shown) (first_work second_work : Work) (first_room second_room : Option ℕ) → AreNodes a.history.clusters a.history.sessions
-    → Waits (starts_of law) (says_of law) a b first_work first_room → Waits (starts_of law) (says_of law) b c second_work second_room → Waits (starts_of law) (says_of law) a c second_work second_room
-waits_both law a b c first_work second_work first_room second_room nodes first second = record {
+pub alone_both : (o : Option (List Seat)) (later added : Past) → IfSome o (λ seats. added ≡ []) → IfSome o (λ seats. later ≡ []) → IfSome o (λ seats. later ++ added ≡ [])
+alone_both None later added first second = tt
+alone_both (Some seats) later added first second = ap (λ (p : Past). p ++ added) second ∙ first
+
+pub beside_both : (law : JcrLaw) (a b c : Shown) → AreNodes a.history.clusters a.history.sessions → IsBeside law a b → IsBeside law b c → IsBeside law a c
+beside_both law a b c nodes first second = record {
   others = second.others ++ first.others;
   grows = record {
     grown = second.grows.grown ∙ (ap (λ (h : History). after second.others h) first.grows.grown ∙ after_both second.others first.others a.history);
@@ -54,13 +55,9 @@ waits_both law a b c first_work second_work first_room second_room nodes first s
     run = second.grows.run;
   };
   session = second.session ∙ first.session;
-  work_is = second.work_is;
-  room_is = second.room_is;
+  beside = second.beside ∙ first.beside;
+  alone = alone_both a.beside.seats second.others first.others first.alone (subst (λ (o : Option (List Seat)). IfSome o (λ seats. second.others ≡ [])) (ap (λ (x : Beside). x.seats) first.beside) second.alone);
 }
-
-pub beside_both : (law : JcrLaw) (a b c : Shown) → AreNodes a.history.clusters a.history.sessions → Beside law a b → Beside law b c → Beside law a c
-beside_both law a b c nodes first second =
-    waits_both law a b c b.work c.work a.room a.room nodes first (subst (λ (r : Option ℕ). Waits (starts_of law) (says_of law) b c c.work r) first.room_is second)
 
 -- ---- a step that adds nothing
 
@@ -72,20 +69,20 @@ module _ (law : JcrLaw) (old new : Shown) (t : Task) (answer : StepOut) (inside 
   makes = subst (λ (w : Work). Makes (after steps.others old.history) old.session w answer steps.own new.work) busy steps.makes
 
   module _ (none : steps.own ≡ []) where
-    waited : Beside law old new
+    waited : IsBeside law old new
     waited = record {
       others = steps.others;
       grows = subst (λ (own : Past). Grows (starts_of law) (says_of law) old.session old.history new.history steps.others own) none steps.grows;
       session = steps.session;
-      work_is = refl;
-      room_is = steps.room;
+      beside = steps.beside;
+      alone = steps.alone;
     }
 
     in_new : IsIn law new
-    in_new = in_then law old new new.work old.room waited inside.nodes inside.run inside
+    in_new = in_beside law old new waited inside.nodes inside.run inside
 
     tree_new : base_at new ≡ base_at old
-    tree_new = tree_then law old new new.work old.room waited inside.nodes inside.run
+    tree_new = tree_beside law old new waited inside.nodes inside.run
 
     tree_there : base_tree (steps.others ++ old.history.past) old.session ≡ base_at new
     tree_there =
@@ -122,7 +119,7 @@ module _ (law : JcrLaw) (old new : Shown) (inside : IsIn law old) where
 -- what a step of reading leaves: the session is in, others alone added events, and its tree is the same
 pub record HasStepped (law : JcrLaw) (old new : Shown) (work : Work) : Type 0 where
   pub inside : IsIn law new
-  pub beside : Beside law old new
+  pub beside : IsBeside law old new
   pub tree : base_at new ≡ base_at old
   pub work_is : new.work ≡ work
   pub room : new.room ≡ old.room

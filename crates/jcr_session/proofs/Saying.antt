@@ -1,5 +1,5 @@
 -- What a session may answer where it stands, and where it stands once that is said.
-use Rattle.std.proofs.Common.{◌≡◌, inl, inr, ℕ, ◌+◌, Bool, true, false, cond, not, ◌||◌, Some, None, Option, List, [], ◌∷◌, ◌++◌, is_some, refl, sym, ap, ◌∙◌, subst, arith}
+use Rattle.std.proofs.Common.{◌≡◌, inl, inr, ℕ, zero, suc, ◌+◌, ◌<◌, ◌≤◌, length, Bool, true, false, cond, not, ◌||◌, Some, None, Option, List, [], ◌∷◌, ◌++◌, is_some, refl, sym, ap, ◌∙◌, subst, arith}
 use Rattle.std.specs.Prelude.{◌==◌, slice_get}
 use Rattle.std.specs.Option.{option_map_or}
 use Rattle.std.proofs.lemmas.Bool.Decides.{nat_tests}
@@ -41,24 +41,29 @@ use Rattle.jcr_session.specs.declared.sight.Sight.{Sight}
 use Rattle.jcr_session.specs.declared.sight.Sight.TheVariants as sight
 use Rattle.jcr_session.specs.declared.turn.Turn.{Turn}
 use Rattle.jcr_session.specs.declared.turn.Turn.TheVariants as turn
-use Rattle.jcr_session.specs.Sights.{IsFetching, IsIn, says_of, starts_of}
-use Rattle.jcr_session.specs.Standing.{HasCommitted, HasTurned, IsTurned, MayAnswer, Sees, SeesThen, Stands, Tells}
+use Rattle.jcr_session.specs.Sights.{IsBeside, IsFetching, IsIn, says_of, starts_of}
+use Rattle.jcr_session.specs.Standing.{HasCommitted, HasTurned, IsSeenFor, IsTurned, MayAnswer, Sees, SeesThen, Stands, Tells}
 use Rattle.jcr_session.proofs.Others.{append_assoc, others_both}
 use Rattle.jcr_session.proofs.Reading.{after_both}
-use Rattle.jcr_session.proofs.Waiting.{in_then, over_still, tree_still, turn_still}
+use Rattle.jcr_session.proofs.Waiting.{in_beside, over_still, tree_still, turn_still}
 
 -- ---- a reply is said
 
+pub get_within : {X : Type 0} (xs : List X) (i : ℕ) (x : X) → slice_get xs i ≡ Some x → i < length xs
+get_within [] i x h = absurd (false≢true (ap is_some h))
+get_within (y ∷ xs) zero x h = omega arith
+get_within (y ∷ xs) (suc i) x h = let r : i < length xs = get_within xs i x h in omega arith
+
 module _ (law : JcrLaw) (old new : Shown) (run : SessionRun) (text : Text) (may : MayAnswer law old run text) where
   -- what may be answered may still be answered after events of others
-  pub answer_waits : (room : Option ℕ) → Waits (starts_of law) (says_of law) old new Idle room → MayAnswer law new run text
-  answer_waits room waits = record {
-    inside = in_then law old new Idle room waits may.inside.nodes may.inside.run may.inside;
+  pub answer_waits : IsBeside law old new → new.work ≡ Idle → MayAnswer law new run text
+  answer_waits waits idle = record {
+    inside = in_beside law old new waits may.inside.nodes may.inside.run may.inside;
     session = waits.session ∙ may.session;
     few = may.few;
     commands = may.commands;
     index = may.index ∙ sym (moved (λ h s. next_index h.past run.session ≡ next_index old.history.past run.session) (subst (λ s. next_index (waits.others ++ old.history.past) s ≡ next_index old.history.past s) may.session (next_stays (waits.others ++ old.history.past) waits.others old.history.past old.session waits.grows.theirs)));
-    idle = waits.work_is;
+    idle = idle;
     says = moved (λ h s. SaysBy law.sessions h s run.index text) (says_last law.sessions old.history waits.others old.session run.index text may.inside.nodes may.inside.run later waits.grows.theirs may.says);
     leaves = λ more run_more others. moved_then more run_more others;
   }
@@ -91,7 +96,16 @@ module _ (law : JcrLaw) (old new : Shown) (run : SessionRun) (text : Text) (may 
     others = done.others;
     own = event.Said old.session run.index text ∷ [];
     grows = done.grows;
+    beside = done.beside;
+    alone = done.alone;
     tells = (refl, text, refl);
+    made = record {
+      stays = inside_before.stays;
+      seen = subst (λ (w : Work). IsSeenFor (after done.others old.history) w) (sym may.idle) tt;
+      as_due = refl;
+      quiet = λ still. refl;
+      ended = tt;
+    };
     stands = record {
       nodes = moved (λ h s. AreNodes h.clusters h.sessions) may.inside.nodes;
       run_is = done.grows.run;
@@ -99,10 +113,18 @@ module _ (law : JcrLaw) (old new : Shown) (run : SessionRun) (text : Text) (may 
       few = may.few;
       commands = may.commands;
       index = sym (moved (λ h s. next_index h.past run.session ≡ run.index + 1) counted);
+      within = behind;
       at = (inside_now, sees_now run.sight (may.leaves done.others before done.grows.theirs));
     };
   }
     where
+      behind : run.index + 1 ≤ length run.commands
+      behind =
+          let c = may.says in
+          let at : slice_get run.commands run.index ≡ Some c.0 = sym (may.commands run.index) ∙ (ap (λ s. command_at law.sessions s run.index) (sym may.session) ∙ c.2) in
+          let w : run.index < length run.commands = get_within run.commands run.index c.0 at in
+          omega arith
+
       said : Past
       said = event.Said old.session run.index text ∷ (done.others ++ old.history.past)
 
@@ -129,7 +151,7 @@ module _ (law : JcrLaw) (old new : Shown) (run : SessionRun) (text : Text) (may 
       before_shown = record old { history = after done.others old.history }
 
       inside_before : IsIn law before_shown
-      inside_before = in_then law old before_shown old.work old.room (record { others = done.others; grows = record { grown = refl; theirs = done.grows.theirs; run = before }; session = refl; work_is = refl; room_is = refl }) may.inside.nodes may.inside.run may.inside
+      inside_before = in_beside law old before_shown (record { others = done.others; grows = record { grown = refl; theirs = done.grows.theirs; run = before }; session = refl; beside = refl; alone = done.alone }) may.inside.nodes may.inside.run may.inside
 
       inside_said : IsIn law (record old { history = record old.history { past = said } })
       inside_said = record { nodes = inside_before.nodes; run = whole; login = inside_before.login; stays = inside_before.stays; detached = inside_before.detached; tree = inside_before.tree }

@@ -1,5 +1,5 @@
 -- A session leaves, moves its base, and begins to commit.
-use Rattle.std.proofs.Common.{◌≡◌, ℕ, ◌+◌, ◌≤◌, length, Bool, true, false, cond, not, ◌||◌, Some, None, Option, List, [], ◌∷◌, ◌++◌, is_some, refl, sym, ap, ◌∙◌, subst, arith}
+use Rattle.std.proofs.Common.{◌≡◌, inl, ℕ, zero, suc, ◌+◌, ◌≤◌, length, Bool, true, false, cond, not, ◌||◌, Some, None, Option, List, [], ◌∷◌, ◌++◌, is_some, refl, sym, ap, ◌∙◌, subst, arith}
 use Rattle.std.specs.Prelude.{◌==◌, slice_get}
 use Rattle.std.proofs.lemmas.Bool.Decides.{nat_tests}
 use mathlib.Core.Bool.{false≢true}
@@ -28,6 +28,7 @@ use Rattle.oak_port.specs.declared.task.Task.TheVariants as task
 use Rattle.oak_port.specs.declared.task.TaskEnd.TheVariants as end
 use Rattle.jcr_trans.specs.declared.command.Command.{Command}
 use Rattle.jcr_trans.specs.declared.command.Command.TheVariants as command
+use Rattle.jcr_trans.specs.Commands.{Built, built}
 use Rattle.jcr_trans.proofs.Passing.{only_refresh, only_save}
 use Rattle.core_heads.proofs.Runs.{fresh_run}
 use Rattle.core_law.specs.Law.{MayStart, has_few_nodes, may_save}
@@ -46,13 +47,13 @@ use Rattle.jcr_session.specs.declared.sight.Sight.TheVariants as sight
 use Rattle.jcr_session.specs.declared.turn.Turn.{Turn}
 use Rattle.jcr_session.specs.declared.turn.Turn.TheVariants as turn
 use Rattle.jcr_session.specs.Sights.{IsIn, says_of, starts_of}
-use Rattle.jcr_session.specs.Standing.{HasTurned, HasView, IsInSave, IsRefreshed, IsSaving, Sees, Stands, StandsAt, due_for, is_unread}
+use Rattle.jcr_session.specs.Standing.{HasTurned, HasView, IsInSave, IsRefreshed, IsSaving, Sees, Stands, StandsAt, due_by, due_for, due_of, is_unread, is_writing}
 use Rattle.jcr_session.proofs.Committing.{committing_drawn}
-use Rattle.jcr_session.proofs.Next.{between_at, idle_between, refresh_by, save_is, sees}
+use Rattle.jcr_session.proofs.Replying.{between_at, idle_between, never_leaves, refresh_by, save_is, sees}
 use Rattle.jcr_session.proofs.Saying.{IsBetween}
 use Rattle.jcr_session.proofs.Trees.{base_is_tree}
-use Rattle.jcr_session.proofs.Turning.{turned_later}
-use Rattle.jcr_session.proofs.Waiting.{in_then, turn_still, tree_still}
+use Rattle.jcr_session.proofs.Turning.{free, is_awaiting, plain_step, turned_later}
+use Rattle.jcr_session.proofs.Waiting.{by_waits, in_beside, in_then, turn_still, tree_still}
 
 own : (s : ℕ) → (s == s) ≡ true
 own s = grind (arith, nat_tests)
@@ -89,7 +90,7 @@ module _ (law : JcrLaw) (old mid new : Shown) (t : Task) (answer : StepOut) (roo
       dropped (e ∷ own) h run = dropped own h run.1
 
   pub inside_moment : IsIn law (record mid { history = moment })
-  inside_moment = in_then law mid (record mid { history = moment }) mid.work mid.room (record { others = steps.others; grows = record { grown = refl; theirs = steps.grows.theirs; run = run_moment }; session = refl; work_is = refl; room_is = refl }) inside_mid.nodes inside_mid.run inside_mid
+  inside_moment = in_beside law mid (record mid { history = moment }) (record { others = steps.others; grows = record { grown = refl; theirs = steps.grows.theirs; run = run_moment }; session = refl; beside = refl; alone = steps.alone }) inside_mid.nodes inside_mid.run inside_mid
 
   pub moved : (F : History → ℕ → Type 0) → F (after steps.own moment) s → F new.history new.session
   moved F x = subst (λ (h : History). F h new.session) (sym steps.grows.grown) (subst (λ (n : ℕ). F (after steps.own moment) n) (sym steps.session) x)
@@ -114,6 +115,7 @@ module _ (law : JcrLaw) (old mid new : Shown) (t : Task) (answer : StepOut) (roo
       run_is = steps.grows.run;
       session = same_session ∙ sym session;
       few = subst (λ (cs : List Command). length cs ≤ 10000) (sym commands) stands.few;
+      within = subst (λ (cs : List Command). now.index ≤ length cs) (sym commands) (subst (λ (i : ℕ). i ≤ length run.commands) (sym index) stands.within);
       commands = λ i. ap (λ n. command_at law.sessions n i) session ∙ (stands.commands i ∙ ap (λ (cs : List Command). slice_get cs i) (sym commands));
       index =
           index ∙ (stands.index ∙ (ap (next_index old.history.past) (sym stands.session)
@@ -132,23 +134,42 @@ leave_begins law p run stands between = let i = inside_of law p run stands betwe
 pub refresh_begins : (law : JcrLaw) (p : Shown) (run : SessionRun) → Stands law p run → run.phase ≡ phase.Between → MayBegin (starts_of law) p.history p.session task.Refresh
 refresh_begins law p run stands between = let i = inside_of law p run stands between in (i.login, i.stays, i.detached)
 
+-- a session that has nothing left to do has answered each command
+all_answered : (commands : List Command) (i s : ℕ) → i ≤ length commands → due_of s commands i ≡ due.Leave → i ≡ length commands
+all_answered [] zero s within h = refl
+all_answered [] (suc i) s within h = absurd (omega arith)
+all_answered (c ∷ commands) zero s within h = absurd (leaves (built c) h)
+  where
+    leaves : (b : Built) → due_by b s ≡ due.Leave → ⊥
+    leaves b h = never_leaves b s h
+all_answered (c ∷ commands) (suc i) s within h = let r : i ≡ length commands = all_answered commands i s (omega arith) h in omega arith
+
 -- it leaves
-pub left : (law : JcrLaw) (old mid new : Shown) (room : Option ℕ) (run now : SessionRun) (t : Turn) → Stands law old run → run.phase ≡ phase.Between
+pub left : (law : JcrLaw) (old mid new : Shown) (room : Option ℕ) (run now : SessionRun) (t : Turn) → Stands law old run → run.phase ≡ phase.Between → is_unread run ≡ false → due_for run ≡ due.Leave
     → Waits (starts_of law) (says_of law) old mid (Starting task.End) room → Steps (starts_of law) (says_of law) mid new (out.Ready end.Ended)
     → now ≡ record run { phase = phase.Over } → t ≡ turn.Stepped kind.End → HasTurned law old new run now t
-left law old mid new room run now t stands between waits steps is told =
+left law old mid new room run now t stands between read next waits steps is told =
     let inside = inside_of law old run stands between in
     let m = made law old mid new task.End (out.Ready end.Ended) room inside waits steps in
+    let moment = inside_moment law old mid new task.End (out.Ready end.Ended) room inside waits steps in
     subst (λ (x : Turn). HasTurned law old new run now x) (sym told)
     (subst (λ (x : SessionRun). HasTurned law old new run x (turn.Stepped kind.End)) (sym is)
-    (turned_later law old mid new (Starting task.End) room run (record run { phase = phase.Over }) (turn.Stepped kind.End) stands.nodes waits
+    (turned_later law old mid new run (record run { phase = phase.Over }) (turn.Stepped kind.End) stands.nodes (free (ap is_writing waits.work_is) (ap is_awaiting (idle_between law old run stands between read))) (by_waits law old mid (Starting task.End) room waits)
     record {
       others = steps.others;
       own = steps.own;
       grows = steps.grows;
-      tells = of_step law old mid new task.End (out.Ready end.Ended) room inside waits steps;
+      beside = steps.beside;
+      alone = steps.alone;
+      tells = (of_step law old mid new task.End (out.Ready end.Ended) room inside waits steps, inl (event.Went mid.session kind.End, m.0, refl));
+      made = plain_step (after steps.others mid.history) mid new steps.own (event.Went mid.session kind.End ∷ []) m.0 moment.stays (ap is_awaiting waits.work_is) refl tt;
       stands = stands_by law old mid new task.End (out.Ready end.Ended) room inside waits steps run stands (record run { phase = phase.Over }) refl refl refl
-          (subst (λ (e : Past). next_index (e ++ (steps.others ++ mid.history.past)) mid.session ≡ next_index (steps.others ++ mid.history.past) mid.session) (sym m.0) refl) m.1;
+          (subst (λ (e : Past). next_index (e ++ (steps.others ++ mid.history.past)) mid.session ≡ next_index (steps.others ++ mid.history.past) mid.session) (sym m.0) refl)
+          record {
+            idle = m.1;
+            left = added law old mid new task.End (out.Ready end.Ended) room inside waits steps (event.Went mid.session kind.End ∷ []) m.0 (λ h n. has_left h.past n ≡ true) (ap (λ b. b || has_left (steps.others ++ mid.history.past) mid.session) (own mid.session));
+            all = all_answered run.commands run.index run.session stands.within next;
+          };
     }))
 
 -- ---- its base moves
@@ -196,7 +217,7 @@ module _ (law : JcrLaw) (old mid new : Shown) (room : Option ℕ) (run : Session
     login = by_moved (λ h n. has_login h.past n ≡ true) inside_then.login;
     stays = by_moved (λ h n. has_left h.past n ≡ false) inside_then.stays;
     detached = by_moved (λ h n. is_attached h.past n ≡ false) (ap (λ b. cond b false (is_attached behind mid.session)) (own mid.session));
-    tree = by_moved (λ h n. IsTree (base_tree h.past n)) (base_is_tree law moved_history mid.session inside_then.nodes run_moved inside_then.login);
+    tree = by_moved (λ h n. IsTree (base_tree h.past n)) (base_is_tree law moved_history mid.session inside_then.nodes run_moved);
   }
 
   refreshing_is : command_at law.sessions run.session run.index ≡ Some (command.Refresh false)
@@ -205,18 +226,21 @@ module _ (law : JcrLaw) (old mid new : Shown) (room : Option ℕ) (run : Session
       stands.commands run.index ∙ (c.1.command ∙ ap (λ (d : Command). Some d) (only_refresh c.0 (refresh_by (Rattle.jcr_trans.specs.Commands.built c.0) run.session c.2)))
     where
       leave_apart : due.Leave ≡ due.Refresh → ⊥
-      leave_apart h = Rattle.jcr_session.proofs.Next.apart due.Leave due.Refresh refl h
+      leave_apart h = Rattle.jcr_session.proofs.Replying.apart due.Leave due.Refresh refl h
 
   pub moves_base : (now : SessionRun) (t : Turn) → now ≡ record run { phase = phase.Refreshed pin.base; sight = sight.Unread } → t ≡ turn.Stepped kind.Pin → HasTurned law old new run now t
   moves_base now t is told =
       subst (λ (x : Turn). HasTurned law old new run now x) (sym told)
       (subst (λ (x : SessionRun). HasTurned law old new run x (turn.Stepped kind.Pin)) (sym is)
-      (turned_later law old mid new (Starting task.Refresh) room run (record run { phase = phase.Refreshed pin.base; sight = sight.Unread }) (turn.Stepped kind.Pin) stands.nodes waits
+      (turned_later law old mid new run (record run { phase = phase.Refreshed pin.base; sight = sight.Unread }) (turn.Stepped kind.Pin) stands.nodes (free (ap is_writing waits.work_is) (ap is_awaiting (idle_between law old run stands between read))) (by_waits law old mid (Starting task.Refresh) room waits)
       record {
         others = steps.others;
         own = steps.own;
         grows = steps.grows;
-        tells = of_step law old mid new task.Refresh (out.Ready (end.Pinned pin)) room inside_old waits steps;
+        beside = steps.beside;
+        alone = steps.alone;
+        tells = (of_step law old mid new task.Refresh (out.Ready (end.Pinned pin)) room inside_old waits steps, inl (event.Refresh mid.session pin.base, made_refresh.0, refl));
+        made = plain_step (after steps.others mid.history) mid new steps.own (event.Refresh mid.session pin.base ∷ []) made_refresh.0 inside_then.stays (ap is_awaiting waits.work_is) refl tt;
         stands = stands_by law old mid new task.Refresh (out.Ready (end.Pinned pin)) room inside_old waits steps run stands (record run { phase = phase.Refreshed pin.base; sight = sight.Unread }) refl refl refl
             (subst (λ (e : Past). next_index (e ++ behind) mid.session ≡ next_index behind mid.session) (sym made_refresh.0) refl) (
               inside_moved,

@@ -1,12 +1,27 @@
 -- In a run by the law each session reads a tree at its base.
-use Rattle.std.proofs.Common.{◌≡◌, ℕ, true, List}
-use Rattle.jr_tree.specs.Trees.{IsTree}
+use Rattle.std.proofs.Common.{◌≡◌, ℕ, true, Option, Some, None, List, refl}
+use Rattle.std.specs.Option.{option_map_or}
+use Rattle.jr_rev.specs.declared.vector.RevVec.{RevVec}
+use Rattle.jr_tree.specs.Trees.{IsTree, initial_tree}
 use Rattle.oak_machine.specs.History.{History}
+use Rattle.oak_machine.specs.Commits.{tree_at}
 use Rattle.oak_machine.specs.Runs.{AreNodes, IsRun}
-use Rattle.oak_machine.specs.Sessions.{has_login}
+use Rattle.oak_machine.specs.Sessions.{base_of}
+use Rattle.core_heads.proofs.Runs.{closed_run, sound_run}
+use Rattle.core_law.proofs.Lasting.{proper_starts}
 use Rattle.core_law.specs.State.{base_tree}
+use Rattle.core_merge.proofs.Merged.{law_marks_parents, tree_merged}
 use Rattle.jcr_session.specs.declared.law.JcrLaw.{JcrLaw}
 use Rattle.jcr_session.specs.Sights.{says_of, starts_of}
 
-pub base_is_tree : (law : JcrLaw) (h : History) (s : ℕ) → AreNodes h.clusters h.sessions → IsRun (starts_of law) (says_of law) h → has_login h.past s ≡ true → IsTree (base_tree h.past s)
-base_is_tree law h s nodes run login = ?
+initial_is_tree : IsTree initial_tree
+initial_is_tree = record { paths = refl; names = refl; root = refl; parents = refl }
+
+pub base_is_tree : (law : JcrLaw) (h : History) (s : ℕ) → AreNodes h.clusters h.sessions → IsRun (starts_of law) (says_of law) h → IsTree (base_tree h.past s)
+base_is_tree law h s nodes run = by (base_of h.past s) refl
+  where
+    by : (o : Option RevVec) → base_of h.past s ≡ o → IsTree (option_map_or (tree_at h.past) o initial_tree)
+    by None is = initial_is_tree
+    by (Some v) is =
+        tree_merged h.clusters h.sessions nodes (starts_of law) (says_of law) (proper_starts law.sessions) (law_marks_parents law.sessions) h.past run v
+        (closed_run h.clusters h.sessions nodes (starts_of law) (says_of law) h.past run v ((sound_run h.clusters h.sessions nodes (starts_of law) (says_of law) h.past run).bases s v is))

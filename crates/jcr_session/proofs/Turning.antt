@@ -1,6 +1,6 @@
 -- Each turn leaves its session where the history says.
 use Rattle.std.proofs.Common.{◌≡◌, ◌⊎◌, inl, inr, ℕ, zero, suc, ◌+◌, ◌<◌, ◌≤◌, length, Bool, true, false, cond, not, ◌||◌, ◌&&◌, Some, None, Option, List, [], ◌∷◌, ◌++◌, is_some, refl, sym, ap, ◌∙◌, subst, arith}
-use Rattle.std.specs.Prelude.{◌==◌, reverse, slice_get}
+use Rattle.std.specs.Prelude.{◌==◌, IfSome, reverse, slice_get}
 use Rattle.std.specs.Option.{option_map_or}
 use Rattle.std.proofs.lemmas.Bool.Decides.{nat_tests}
 use mathlib.Core.Bool.{false≢true}
@@ -13,12 +13,13 @@ use Rattle.oak_machine.specs.declared.event.Event.TheVariants as event
 use Rattle.oak_machine.specs.declared.event.StepKind.{StepKind}
 use Rattle.oak_machine.specs.declared.event.StepKind.TheVariants as kind
 use Rattle.oak_machine.specs.History.{History, Past}
+use Rattle.oak_machine.specs.Commits.{is_committed}
 use Rattle.oak_machine.specs.Laws.{AreOthers, after}
 use Rattle.oak_machine.specs.Runs.{AreNodes, IsRun}
 use Rattle.oak_machine.specs.Sessions.{has_left, has_login, is_attached, is_login_of, next_index}
 use Rattle.oak_machine.specs.Steps.{is_appended_by}
 use Rattle.oak_machine.proofs.Stays.{any_later}
-use Rattle.oak_port.specs.Ports.{Answers, AreOfStep, Awaiting, Deciding, Grows, HasRoom, Idle, IsFinish, Makes, Shown, Starting, Steps, Undoing, Waits, Work, Writing, WritesOn}
+use Rattle.oak_port.specs.Ports.{Answers, AreOfStep, Awaiting, Beside, Deciding, Grows, HasRoom, Idle, IsFinish, Makes, Seat, Shown, Starting, Steps, Undoing, Waits, Work, Writing, WritesOn, is_by_due}
 use Rattle.oak_port.specs.declared.task.CommitEnd.{CommitEnd}
 use Rattle.oak_port.specs.declared.task.CommitEnd.TheVariants as commit
 use Rattle.oak_port.specs.declared.task.StepOut.{StepOut}
@@ -39,20 +40,78 @@ use Rattle.jcr_session.specs.declared.sight.Sight.{Sight}
 use Rattle.jcr_session.specs.declared.sight.Sight.TheVariants as sight
 use Rattle.jcr_session.specs.declared.turn.Turn.{Turn}
 use Rattle.jcr_session.specs.declared.turn.Turn.TheVariants as turn
-use Rattle.jcr_session.specs.Sights.{IsIn, says_of, starts_of}
-use Rattle.jcr_session.specs.Standing.{HasCommitted, HasSaved, HasTurned, IsCommitting, IsInSave, IsSaving, IsTurned, MayAnswer, Stands, StandsAt, Tells, kind_of_end, phase_by, turn_by}
+use Rattle.jcr_session.specs.Sights.{IsBeside, IsIn, says_of, starts_of}
+use Rattle.jcr_session.specs.Standing.{HasAwaited, HasCommitted, HasSaved, HasTurned, IsCommitting, IsInSave, IsMade, IsOneStep, IsSaving, IsSeenFor, IsStep, IsTurned, IsUnseen, MayAnswer, Stands, StandsAt, Tells, is_writing, kind_of_end, phase_by, turn_by}
 use Rattle.jcr_session.proofs.Committing.{committed_moved, committed_undone, committing_finish, committing_undo, committing_write}
 use Rattle.jcr_session.proofs.Others.{append_assoc, others_both}
-use Rattle.jcr_session.proofs.Reading.{after_both}
-use Rattle.jcr_session.proofs.Saying.{answer_waits, answered_turns}
+use Rattle.jcr_session.proofs.Reading.{after_both, alone_both}
+use Rattle.jcr_session.proofs.Saying.{answer_waits, answered_turns, get_within}
 use Rattle.jcr_session.proofs.Trees.{base_is_tree}
-use Rattle.jcr_session.proofs.Waiting.{committing_still, in_then}
+use Rattle.jcr_session.proofs.Waiting.{by_waits, committing_still, in_beside}
+
+-- ---- a counted step
+
+abbrev pub is_awaiting : Work → Bool
+is_awaiting (Awaiting r) = true
+is_awaiting _ = false
+
+-- what is made where nothing is due may be made whatever is due
+pub any_due : (due : Option StepKind) (own : Past) → is_by_due None own ≡ true → is_by_due due own ≡ true
+any_due due (event.Went s kind.Write ∷ []) h = absurd (false≢true h)
+any_due due (event.Went s kind.Mark ∷ []) h = absurd (false≢true h)
+any_due due (event.Commit r ∷ []) h = absurd (false≢true h)
+any_due due own h = h
+
+pub unawaited : (h : History) (w : Work) → is_awaiting w ≡ false → IsSeenFor h w
+unawaited h Idle never = tt
+unawaited h (Starting t) never = tt
+unawaited h (Writing r) never = tt
+unawaited h (Undoing r e) never = tt
+unawaited h (Deciding r) never = tt
+unawaited h (Awaiting r) never = absurd (false≢true (sym never))
+
+-- a step by which nothing is written, before which nothing was waited for
+pub plain_step : (h : History) (old new : Shown) (own made : Past) → own ≡ made → has_left h.past old.session ≡ false → is_awaiting old.work ≡ false → is_by_due None made ≡ true → HasAwaited h.past made new.work → IsStep h old new own
+plain_step h old new own made is stays awaits due ended = subst (λ (e : Past). IsStep h old new e) (sym is) record {
+  stays = stays;
+  seen = unawaited h old.work awaits;
+  as_due = any_due old.due made due;
+  quiet = λ still. due;
+  ended = ended;
+}
 
 -- ---- a turn behind events of others
 
-pub turned_later : (law : JcrLaw) (a b c : Shown) (work : Work) (room : Option ℕ) (run now : SessionRun) (answer : Turn) → AreNodes a.history.clusters a.history.sessions → Waits (starts_of law) (says_of law) a b work room
-    → IsTurned law b c run now answer → IsTurned law a c run now answer
-turned_later law a b c work room run now answer nodes waits turned = record {
+-- what was being done and due is so still; or the turn writes nothing, and nothing was waited for
+pub data Link (old mid : Shown) : Type 0 where
+  kept : mid.work ≡ old.work → mid.due ≡ old.due → Link old mid
+  free : is_writing mid.work ≡ false → is_awaiting old.work ≡ false → Link old mid
+
+step_later : (h : History) (old mid new : Shown) (own : Past) → Link old mid → mid.session ≡ old.session → IsStep h mid new own → IsStep h old new own
+step_later h old mid new own (kept work due) session step = record {
+  stays = subst (λ (s : ℕ). has_left h.past s ≡ false) session step.stays;
+  seen = subst (λ (w : Work). IsSeenFor h w) work step.seen;
+  as_due = subst (λ (d : Option StepKind). is_by_due d own ≡ true) due step.as_due;
+  quiet = λ still. step.quiet (ap is_writing work ∙ still);
+  ended = step.ended;
+}
+step_later h old mid new own (free still awaits) session step = record {
+  stays = subst (λ (s : ℕ). has_left h.past s ≡ false) session step.stays;
+  seen = unawaited h old.work awaits;
+  as_due = any_due old.due own (step.quiet still);
+  quiet = λ again. step.quiet still;
+  ended = step.ended;
+}
+
+made_later : (h : History) (old mid new : Shown) (now : SessionRun) (own : Past) (t : Turn) → Link old mid → mid.session ≡ old.session → IsMade h mid new now own t → IsMade h old new now own t
+made_later h old mid new now own (turn.Stepped k) link session made = step_later h old mid new own link session made
+made_later h old mid new now own (turn.Said i) link session made = step_later h old mid new own link session made
+made_later h old mid new now own (turn.Waiting q) link session made = (made.0, subst (λ (s : ℕ). IsUnseen h s made.0) session made.1)
+made_later h old mid new now own turn.Ended link session made = (subst (λ (s : ℕ). has_left h.past s ≡ true) session made.0, made.1)
+made_later h old mid new now own turn.Memory link session made = made
+
+pub turned_later : (law : JcrLaw) (a b c : Shown) (run now : SessionRun) (answer : Turn) → AreNodes a.history.clusters a.history.sessions → Link a b → IsBeside law a b → IsTurned law b c run now answer → IsTurned law a c run now answer
+turned_later law a b c run now answer nodes link waits turned = record {
   others = turned.others ++ waits.others;
   own = turned.own;
   grows = record {
@@ -61,7 +120,10 @@ turned_later law a b c work room run now answer nodes waits turned = record {
         (subst (λ (s : ℕ). AreOthers s turned.others (waits.others ++ a.history.past)) waits.session (subst (λ (h : History). AreOthers b.session turned.others h.past) waits.grows.grown turned.grows.theirs));
     run = turned.grows.run;
   };
+  beside = turned.beside ∙ waits.beside;
+  alone = alone_both a.beside.seats turned.others waits.others waits.alone (subst (λ (o : Option (List Seat)). IfSome o (λ seats. turned.others ≡ [])) (ap (λ (x : Beside). x.seats) waits.beside) turned.alone);
   tells = subst (λ (h : History). Tells h a.session run.index answer turned.own) moment (subst (λ (s : ℕ). Tells (after turned.others b.history) s run.index answer turned.own) waits.session turned.tells);
+  made = subst (λ (h : History). IsMade h a c now turned.own answer) moment (made_later (after turned.others b.history) a b c now turned.own answer link waits.session turned.made);
   stands = turned.stands;
 }
   where
@@ -99,6 +161,32 @@ quiet_write s r k e now (inr (inl (a, same, work))) = quiet_by s e (event.Went s
 quiet_write s r k e now (inr (inr (inl (a, same, work)))) = quiet_by s e (event.Commit r ∷ []) same record { left = λ q. refl; next = λ q. refl; attached = λ q. refl }
 quiet_write s r k e now (inr (inr (inr (item, o, same, work)))) = quiet_by s e (event.Refuse r item o ∷ []) same record { left = λ q. refl; next = λ q. refl; attached = λ q. refl }
 
+-- ---- the events of a step of a commit
+
+one_write : (s : ℕ) (r : Revision) (k : StepKind) (e : Past) (now : Work) → WritesOn s r k e now → IsOneStep e
+one_write s r k e now (inl (a, same, work)) = inl (event.Went s kind.Write, same, refl)
+one_write s r k e now (inr (inl (a, same, work))) = inl (event.Went s kind.Mark, same, refl)
+one_write s r k e now (inr (inr (inl (a, same, work)))) = inl (event.Commit r, same, refl)
+one_write s r k e now (inr (inr (inr (item, o, same, work)))) = inl (event.Refuse r item o, same, refl)
+
+awaited_write : (s : ℕ) (r : Revision) (k : StepKind) (e : Past) (now : Work) (past : Past) → WritesOn s r k e now → HasAwaited past e now
+awaited_write s r k e now past (inl (a, same, work)) = subst (λ (p : Past). HasAwaited past p now) (sym same) tt
+awaited_write s r k e now past (inr (inl (a, same, work))) = subst (λ (p : Past). HasAwaited past p now) (sym same) tt
+awaited_write s r k e now past (inr (inr (inl (a, same, work)))) = subst (λ (p : Past). HasAwaited past p now) (sym same) tt
+awaited_write s r k e now past (inr (inr (inr (item, o, same, work)))) = subst (λ (p : Past). HasAwaited past p now) (sym same) tt
+
+one_finish : (r : Revision) (e : Past) → IsFinish r e → IsOneStep e
+one_finish r e (inl same) = inl (event.End r, same, refl)
+one_finish r e (inr (k, v, same)) = inr (k, v, r, same)
+
+due_finish : (r : Revision) (e : Past) → IsFinish r e → is_by_due None e ≡ true
+due_finish r e (inl same) = subst (λ (p : Past). is_by_due None p ≡ true) (sym same) refl
+due_finish r e (inr (k, v, same)) = subst (λ (p : Past). is_by_due None p ≡ true) (sym same) refl
+
+awaited_finish : (r : Revision) (e : Past) (now : Work) (past : Past) → IsFinish r e → (is_committed past r ≡ true → now ≡ Awaiting r) → HasAwaited past e now
+awaited_finish r e now past (inl same) h = subst (λ (p : Past). HasAwaited past p now) (sym same) h
+awaited_finish r e now past (inr (k, v, same)) h = subst (λ (p : Past). HasAwaited past p now) (sym same) h
+
 -- ---- a step
 
 module _ (law : JcrLaw) (old new : Shown) (answer : StepOut) (run : SessionRun) (stands : Stands law old run) (inside : IsIn law old) (steps : Steps (starts_of law) (says_of law) old new answer) where
@@ -116,7 +204,7 @@ module _ (law : JcrLaw) (old new : Shown) (answer : StepOut) (run : SessionRun) 
       dropped (e ∷ own) h run = dropped own h run.1
 
   inside_moment : IsIn law (record old { history = moment })
-  inside_moment = in_then law old (record old { history = moment }) old.work old.room (record { others = steps.others; grows = record { grown = refl; theirs = steps.grows.theirs; run = run_moment }; session = refl; work_is = refl; room_is = refl }) inside.nodes inside.run inside
+  inside_moment = in_beside law old (record old { history = moment }) (record { others = steps.others; grows = record { grown = refl; theirs = steps.grows.theirs; run = run_moment }; session = refl; beside = refl; alone = steps.alone }) inside.nodes inside.run inside
 
   -- what holds of the history after the step holds of what is shown
   moved : (F : History → ℕ → Type 0) → F (after steps.own moment) old.session → F new.history new.session
@@ -132,7 +220,7 @@ module _ (law : JcrLaw) (old new : Shown) (answer : StepOut) (run : SessionRun) 
     login = moved (λ h s. has_login h.past s ≡ true) login_then;
     stays = moved (λ h s. has_left h.past s ≡ false) (quiet.left moment.past ∙ inside_moment.stays);
     detached = moved (λ h s. is_attached h.past s ≡ false) (quiet.attached moment.past ∙ inside_moment.detached);
-    tree = moved (λ h s. IsTree (base_tree h.past s)) (base_is_tree law (after steps.own moment) old.session inside.nodes run_new login_then);
+    tree = moved (λ h s. IsTree (base_tree h.past s)) (base_is_tree law (after steps.own moment) old.session inside.nodes run_new);
   }
 
   stands_quiet : (f : Phase) → next_index (steps.own ++ moment.past) old.session ≡ next_index moment.past old.session → StandsAt law new (record run { phase = f }) f → Stands law new (record run { phase = f })
@@ -145,11 +233,13 @@ module _ (law : JcrLaw) (old new : Shown) (answer : StepOut) (run : SessionRun) 
     index = stands.index ∙ sym (moved (λ h s. next_index h.past run.session ≡ next_index old.history.past run.session)
         (subst (λ (s : ℕ). next_index (steps.own ++ moment.past) s ≡ next_index old.history.past s) stands.session
         (next ∙ next_stays moment.past steps.others old.history.past old.session steps.grows.theirs)));
+    within = stands.within;
     at = at;
   }
 
-  turned_quiet : (f : Phase) (t : Turn) → Tells moment old.session run.index t steps.own → next_index (steps.own ++ moment.past) old.session ≡ next_index moment.past old.session → StandsAt law new (record run { phase = f }) f → IsTurned law old new run (record run { phase = f }) t
-  turned_quiet f t tells next at = record { others = steps.others; own = steps.own; grows = steps.grows; tells = tells; stands = stands_quiet f next at }
+  turned_quiet : (f : Phase) (t : Turn) → Tells moment old.session run.index t steps.own → IsMade moment old new (record run { phase = f }) steps.own t → next_index (steps.own ++ moment.past) old.session ≡ next_index moment.past old.session → StandsAt law new (record run { phase = f }) f
+      → IsTurned law old new run (record run { phase = f }) t
+  turned_quiet f t tells made next at = record { others = steps.others; own = steps.own; grows = steps.grows; beside = steps.beside; alone = steps.alone; tells = tells; made = made; stands = stands_quiet f next at }
 
   -- ---- a step of a commit
 
@@ -188,7 +278,7 @@ module _ (law : JcrLaw) (old new : Shown) (answer : StepOut) (run : SessionRun) 
       login = moved (λ h s. has_login h.past s ≡ true) login_then;
       stays = moved (λ h s. has_left h.past s ≡ false) (subst (λ (own : Past). has_left (own ++ moment.past) old.session ≡ false) (sym same) inside_moment.stays);
       detached = moved (λ h s. is_attached h.past s ≡ false) (subst (λ (own : Past). is_attached (own ++ moment.past) old.session ≡ false) (sym same) (ap (λ b. cond b false (is_attached moment.past old.session)) mine));
-      tree = moved (λ h s. IsTree (base_tree h.past s)) (base_is_tree law (after steps.own moment) old.session inside.nodes run_new login_then);
+      tree = moved (λ h s. IsTree (base_tree h.past s)) (base_is_tree law (after steps.own moment) old.session inside.nodes run_new);
     }
       where
         mine : (old.session == old.session) ≡ true
@@ -202,61 +292,81 @@ module _ (law : JcrLaw) (old new : Shown) (answer : StepOut) (run : SessionRun) 
     kind_undone r e commit.Memory same told = refl
     kind_undone r e (commit.Committed q) same told = absurd (subst (λ (x : CommitEnd). Rattle.jcr_session.specs.Standing.IsToldEnd old.history.past r x) (sym same) told)
 
-    step_by : (work : Work) (a : StepOut) (seen : Seen) → run.sight ≡ sight.Seen seen → IsSaving law old run → IsCommitting law.sessions old.history.past old.session seen.base seen.view work
+    -- the step, where it awaited what it needs, and writes where that is due
+    made_by : (work : Work) → old.work ≡ work → IsSeenFor moment work → (is_writing work ≡ false → is_by_due None steps.own ≡ true) → HasAwaited moment.past steps.own new.work → IsStep moment old new steps.own
+    made_by work at seen quiet ended = record {
+      stays = inside_moment.stays;
+      seen = subst (λ (w : Work). IsSeenFor moment w) (sym at) seen;
+      as_due = steps.as_due;
+      quiet = λ still. quiet (ap is_writing (sym at) ∙ still);
+      ended = ended;
+    }
+
+    step_by : (work : Work) (a : StepOut) (seen : Seen) → old.work ≡ work → run.sight ≡ sight.Seen seen → IsSaving law old run → IsCommitting law.sessions old.history.past old.session seen.base seen.view work
         → Makes moment old.session work a steps.own new.work → AreOfStep moment old.session work a steps.own → Turned a
-    step_by (Writing r) (out.Went k) seen same is committing m told =
+    step_by (Writing r) (out.Went k) seen at same is committing m told =
         let quiet = quiet_write old.session r k steps.own new.work m in
-        turned_quiet phase.Saving (turn.Stepped k) told (quiet.next moment.past) (goes_on seen same is quiet (committing_write law.sessions moment.past old.session r k steps.own new.work seen.base seen.view (still seen.base seen.view (Writing r) committing) m))
-    step_by (Writing r) (out.Ready e) seen same is committing m told = absurd m
-    step_by (Writing r) (out.Wait q) seen same is committing m told = absurd m
-    step_by (Writing r) out.Memory seen same is committing m told = tt
-    step_by (Undoing r e) (out.Went k) seen same is committing (a, own, work) told =
+        turned_quiet phase.Saving (turn.Stepped k) (told, one_write old.session r k steps.own new.work m)
+        (made_by (Writing r) at tt (λ still. absurd (false≢true (sym still))) (awaited_write old.session r k steps.own new.work moment.past m))
+        (quiet.next moment.past) (goes_on seen same is quiet (committing_write law.sessions moment.past old.session r k steps.own new.work seen.base seen.view (still seen.base seen.view (Writing r) committing) m))
+    step_by (Writing r) (out.Ready e) seen at same is committing m told = absurd m
+    step_by (Writing r) (out.Wait q) seen at same is committing m told = absurd m
+    step_by (Writing r) out.Memory seen at same is committing m told = tt
+    step_by (Undoing r e) (out.Went k) seen at same is committing (a, own, work) told =
         let quiet = quiet_by old.session steps.own (event.Went old.session kind.Undo ∷ []) own record { left = λ q. refl; next = λ q. refl; attached = λ q. refl } in
-        turned_quiet phase.Saving (turn.Stepped k) told (quiet.next moment.past) (goes_on seen same is quiet (committing_undo law.sessions moment.past old.session r e steps.own new.work seen.base seen.view (still seen.base seen.view (Undoing r e) committing) own work))
-    step_by (Undoing r e) (out.Ready (end.Commit f)) seen same is committing (end_is, finish, idle) told =
+        turned_quiet phase.Saving (turn.Stepped k) (told, inl (event.Went old.session kind.Undo, own, refl))
+        (made_by (Undoing r e) at tt (λ still. subst (λ (p : Past). is_by_due None p ≡ true) (sym own) refl) (subst (λ (p : Past). HasAwaited moment.past p new.work) (sym own) tt))
+        (quiet.next moment.past) (goes_on seen same is quiet (committing_undo law.sessions moment.past old.session r e steps.own new.work seen.base seen.view (still seen.base seen.view (Undoing r e) committing) own work))
+    step_by (Undoing r e) (out.Ready (end.Commit f)) seen at same is committing (end_is, finish, idle) told =
         let quiet = quiet_finish old.session r steps.own finish in
+        let now = still seen.base seen.view (Undoing r e) committing in
         turned_quiet (phase.Saved f) (turn.Stepped (kind_of_end f))
-        (subst (λ (k : StepKind). is_appended_by moment old.session k (reverse steps.own) ≡ true) (kind_undone r e f end_is committing.3) told)
+        (subst (λ (k : StepKind). is_appended_by moment old.session k (reverse steps.own) ≡ true) (kind_undone r e f end_is committing.3) told, one_finish r steps.own finish)
+        (made_by (Undoing r e) at tt (λ still. due_finish r steps.own finish) (awaited_finish r steps.own new.work moment.past finish (λ made. absurd (false≢true (sym now.2 ∙ made)))))
         (quiet.next moment.past)
         (has_ended seen f same is idle (inside_quiet quiet)
         (subst (λ (x : CommitEnd). HasCommitted law.sessions (steps.own ++ moment.past) old.session seen.base seen.view x) (sym end_is)
-        (committed_undone law.sessions moment.past old.session r e steps.own seen.base seen.view (still seen.base seen.view (Undoing r e) committing) finish)))
-    step_by (Undoing r e) (out.Ready (end.Node n)) seen same is committing m told = absurd m
-    step_by (Undoing r e) (out.Ready (end.Children n)) seen same is committing m told = absurd m
-    step_by (Undoing r e) (out.Ready (end.Pinned n)) seen same is committing m told = absurd m
-    step_by (Undoing r e) (out.Ready end.Ended) seen same is committing m told = absurd m
-    step_by (Undoing r e) (out.Wait q) seen same is committing m told = absurd m
-    step_by (Undoing r e) out.Memory seen same is committing m told = tt
-    step_by (Deciding r) (out.Went k) seen same is committing (a, finish, work) told =
+        (committed_undone law.sessions moment.past old.session r e steps.own seen.base seen.view now finish)))
+    step_by (Undoing r e) (out.Ready (end.Node n)) seen at same is committing m told = absurd m
+    step_by (Undoing r e) (out.Ready (end.Children n)) seen at same is committing m told = absurd m
+    step_by (Undoing r e) (out.Ready (end.Pinned n)) seen at same is committing m told = absurd m
+    step_by (Undoing r e) (out.Ready end.Ended) seen at same is committing m told = absurd m
+    step_by (Undoing r e) (out.Wait q) seen at same is committing m told = absurd m
+    step_by (Undoing r e) out.Memory seen at same is committing m told = tt
+    step_by (Deciding r) (out.Went k) seen at same is committing (a, finish, work) told =
         let quiet = quiet_finish old.session r steps.own finish in
-        turned_quiet phase.Saving (turn.Stepped k) told (quiet.next moment.past) (goes_on seen same is quiet (committing_finish law.sessions moment.past old.session r steps.own new.work seen.base seen.view (still seen.base seen.view (Deciding r) committing) finish work))
-    step_by (Deciding r) (out.Ready e) seen same is committing m told = absurd m
-    step_by (Deciding r) (out.Wait q) seen same is committing m told = absurd m
-    step_by (Deciding r) out.Memory seen same is committing m told = tt
-    step_by (Awaiting r) (out.Wait q) seen same is committing (own, work) told =
+        turned_quiet phase.Saving (turn.Stepped k) (told, one_finish r steps.own finish)
+        (made_by (Deciding r) at tt (λ still. due_finish r steps.own finish) (awaited_finish r steps.own new.work moment.past finish (λ made. work)))
+        (quiet.next moment.past) (goes_on seen same is quiet (committing_finish law.sessions moment.past old.session r steps.own new.work seen.base seen.view (still seen.base seen.view (Deciding r) committing) finish work))
+    step_by (Deciding r) (out.Ready e) seen at same is committing m told = absurd m
+    step_by (Deciding r) (out.Wait q) seen at same is committing m told = absurd m
+    step_by (Deciding r) out.Memory seen at same is committing m told = tt
+    step_by (Awaiting r) (out.Wait q) seen at same is committing (own, work, unseen) told =
         let quiet = quiet_by old.session steps.own [] own record { left = λ q. refl; next = λ q. refl; attached = λ q. refl } in
-        turned_quiet phase.Saving (turn.Waiting q) own (quiet.next moment.past)
+        let now = still seen.base seen.view (Awaiting r) committing in
+        turned_quiet phase.Saving (turn.Waiting q) own (r, record { theirs = now.0.theirs; committed = now.1; ended = now.2; unseen = unseen }) (quiet.next moment.past)
         (goes_on seen same is quiet (subst (λ (w : Work). IsCommitting law.sessions (steps.own ++ moment.past) old.session seen.base seen.view w) (sym work)
-        (subst (λ (e : Past). IsCommitting law.sessions (e ++ moment.past) old.session seen.base seen.view (Awaiting r)) (sym own) (still seen.base seen.view (Awaiting r) committing))))
-    step_by (Awaiting r) (out.Ready (end.Commit f)) seen same is committing (end_is, v, sees_it, own, idle) told =
+        (subst (λ (e : Past). IsCommitting law.sessions (e ++ moment.past) old.session seen.base seen.view (Awaiting r)) (sym own) now)))
+    step_by (Awaiting r) (out.Ready (end.Commit f)) seen at same is committing (end_is, head_sees, v, sees_it, own, idle) told =
         turned_quiet (phase.Saved f) (turn.Stepped (kind_of_end f))
-        (subst (λ (x : CommitEnd). is_appended_by moment old.session (kind_of_end x) (reverse steps.own) ≡ true) (sym end_is) told)
+        (subst (λ (x : CommitEnd). is_appended_by moment old.session (kind_of_end x) (reverse steps.own) ≡ true) (sym end_is) told, inl (event.Refresh old.session v, own, refl))
+        (made_by (Awaiting r) at head_sees (λ still. subst (λ (p : Past). is_by_due None p ≡ true) (sym own) refl) (subst (λ (p : Past). HasAwaited moment.past p new.work) (sym own) tt))
         (subst (λ (e : Past). next_index (e ++ moment.past) old.session ≡ next_index moment.past old.session) (sym own) refl)
         (has_ended seen f same is idle (inside_moved v own)
         (subst (λ (x : CommitEnd). HasCommitted law.sessions (steps.own ++ moment.past) old.session seen.base seen.view x) (sym end_is)
         (committed_moved law.sessions moment.past old.session r v steps.own seen.base seen.view (still seen.base seen.view (Awaiting r) committing) sees_it own)))
-    step_by (Awaiting r) (out.Ready (end.Node n)) seen same is committing m told = absurd m
-    step_by (Awaiting r) (out.Ready (end.Children n)) seen same is committing m told = absurd m
-    step_by (Awaiting r) (out.Ready (end.Pinned n)) seen same is committing m told = absurd m
-    step_by (Awaiting r) (out.Ready end.Ended) seen same is committing m told = absurd m
-    step_by (Awaiting r) (out.Went k) seen same is committing m told = absurd m
-    step_by (Awaiting r) out.Memory seen same is committing m told = tt
-    step_by Idle a seen same is committing m told = absurd committing
-    step_by (Starting t) a seen same is committing m told = absurd committing
+    step_by (Awaiting r) (out.Ready (end.Node n)) seen at same is committing m told = absurd m
+    step_by (Awaiting r) (out.Ready (end.Children n)) seen at same is committing m told = absurd m
+    step_by (Awaiting r) (out.Ready (end.Pinned n)) seen at same is committing m told = absurd m
+    step_by (Awaiting r) (out.Ready end.Ended) seen at same is committing m told = absurd m
+    step_by (Awaiting r) (out.Went k) seen at same is committing m told = absurd m
+    step_by (Awaiting r) out.Memory seen at same is committing m told = tt
+    step_by Idle a seen at same is committing m told = absurd committing
+    step_by (Starting t) a seen at same is committing m told = absurd committing
 
     -- a step of a commit is a turn
     pub commit_turns : Turned answer
-    commit_turns = let x = seen_by run.sight at_save in step_by old.work answer x.0 x.1 x.2 x.3 steps.makes steps.of_step
+    commit_turns = let x = seen_by run.sight at_save in step_by old.work answer x.0 refl x.1 x.2 x.3 steps.makes steps.of_step
 
     same_run : record run { phase = phase.Saving } ≡ run
     same_run = ap (λ (f : Phase). record run { phase = f }) (sym saving)
@@ -267,37 +377,46 @@ module _ (law : JcrLaw) (old new : Shown) (answer : StepOut) (run : SessionRun) 
         (subst (λ (x : SessionRun). HasTurned law old new run x (turn_by answer)) (sym (is ∙ ap (λ (f : Phase). record run { phase = phase_by answer f }) saving)) commit_turns)
 
     -- a step for which memory was refused leaves the session in its commit
-    refused_by : (work : Work) (seen : Seen) → run.sight ≡ sight.Seen seen → IsSaving law old run → IsCommitting law.sessions old.history.past old.session seen.base seen.view work
-        → Makes moment old.session work out.Memory steps.own new.work → Stands law new (record run { phase = phase.Saving }) × (steps.own ≡ [])
+    record IsRefusedStep (work : Work) : Type 0 where
+      pub still_stands : Stands law new (record run { phase = phase.Saving })
+      pub none : steps.own ≡ []
+      pub undoing : is_writing new.work ≡ false
+      pub unawaited : is_awaiting work ≡ false
+
+    refused_by : (work : Work) (seen : Seen) → run.sight ≡ sight.Seen seen → IsSaving law old run → IsCommitting law.sessions old.history.past old.session seen.base seen.view work → Makes moment old.session work out.Memory steps.own new.work → IsRefusedStep work
     refused_by (Writing r) seen same is committing (own, work) =
-        let quiet = quiet_by old.session steps.own [] own record { left = λ q. refl; next = λ q. refl; attached = λ q. refl } in (
-          stands_quiet phase.Saving (quiet.next moment.past)
+        let quiet = quiet_by old.session steps.own [] own record { left = λ q. refl; next = λ q. refl; attached = λ q. refl } in record {
+          still_stands = stands_quiet phase.Saving (quiet.next moment.past)
               (goes_on seen same is quiet (subst (λ (w : Work). IsCommitting law.sessions (steps.own ++ moment.past) old.session seen.base seen.view w) (sym work)
               (subst (λ (e : Past). IsCommitting law.sessions (e ++ moment.past) old.session seen.base seen.view (Undoing r commit.Memory)) (sym own)
-              (let c = still seen.base seen.view (Writing r) committing in (c.0, c.1, c.2, tt))))),
-          own,
-        )
+              (let c = still seen.base seen.view (Writing r) committing in (c.0, c.1, c.2, tt)))));
+          none = own;
+          undoing = ap is_writing work;
+          unawaited = refl;
+        }
     refused_by (Undoing r e) seen same is committing m = absurd m
     refused_by (Deciding r) seen same is committing m = absurd m
     refused_by (Awaiting r) seen same is committing m = absurd m
     refused_by Idle seen same is committing m = absurd committing
     refused_by (Starting t) seen same is committing m = absurd committing
 
-    pub commit_refused : answer ≡ out.Memory → Stands law new run × Waits (starts_of law) (says_of law) old new new.work old.room
+    refused : answer ≡ out.Memory → IsRefusedStep old.work
+    refused memory = let x = seen_by run.sight at_save in refused_by old.work x.0 x.1 x.2 x.3 (subst (λ (a : StepOut). Makes moment old.session old.work a steps.own new.work) memory steps.makes)
+
+    pub commit_refused : answer ≡ out.Memory → Stands law new run × IsBeside law old new × Link old new
     commit_refused memory =
-        let x = seen_by run.sight at_save in
-        let r = refused_by old.work x.0 x.1 x.2 x.3 (subst (λ (a : StepOut). Makes moment old.session old.work a steps.own new.work) memory steps.makes) in (
-          subst (λ (x : SessionRun). Stands law new x) same_run r.0,
-          record { others = steps.others; grows = subst (λ (e : Past). Grows (starts_of law) (says_of law) old.session old.history new.history steps.others e) r.1 steps.grows; session = steps.session; work_is = refl; room_is = steps.room },
+        let r = refused memory in (
+          subst (λ (x : SessionRun). Stands law new x) same_run r.still_stands,
+          record { others = steps.others; grows = subst (λ (e : Past). Grows (starts_of law) (says_of law) old.session old.history new.history steps.others e) r.none steps.grows; session = steps.session; beside = steps.beside; alone = steps.alone },
+          free r.undoing r.unawaited,
         )
 
-pub has_turned_later : (law : JcrLaw) (a b c : Shown) (work : Work) (room : Option ℕ) (run now : SessionRun) (t : Turn) → AreNodes a.history.clusters a.history.sessions → Waits (starts_of law) (says_of law) a b work room
-    → HasTurned law b c run now t → HasTurned law a c run now t
-has_turned_later law a b c work room run now (turn.Stepped k) nodes waits turned = turned_later law a b c work room run now (turn.Stepped k) nodes waits turned
-has_turned_later law a b c work room run now (turn.Said i) nodes waits turned = turned_later law a b c work room run now (turn.Said i) nodes waits turned
-has_turned_later law a b c work room run now (turn.Waiting q) nodes waits turned = turned_later law a b c work room run now (turn.Waiting q) nodes waits turned
-has_turned_later law a b c work room run now turn.Ended nodes waits turned = turned_later law a b c work room run now turn.Ended nodes waits turned
-has_turned_later law a b c work room run now turn.Memory nodes waits turned = tt
+pub has_turned_later : (law : JcrLaw) (a b c : Shown) (run now : SessionRun) (t : Turn) → AreNodes a.history.clusters a.history.sessions → Link a b → IsBeside law a b → HasTurned law b c run now t → HasTurned law a c run now t
+has_turned_later law a b c run now (turn.Stepped k) nodes link waits turned = turned_later law a b c run now (turn.Stepped k) nodes link waits turned
+has_turned_later law a b c run now (turn.Said i) nodes link waits turned = turned_later law a b c run now (turn.Said i) nodes link waits turned
+has_turned_later law a b c run now (turn.Waiting q) nodes link waits turned = turned_later law a b c run now (turn.Waiting q) nodes link waits turned
+has_turned_later law a b c run now turn.Ended nodes link waits turned = turned_later law a b c run now turn.Ended nodes link waits turned
+has_turned_later law a b c run now turn.Memory nodes link waits turned = tt
 
 inside_saving : (law : JcrLaw) (p : Shown) (run : SessionRun) → Stands law p run → run.phase ≡ phase.Saving → IsIn law p
 inside_saving law p run stands saving = (subst (λ (f : Phase). StandsAt law p run f) saving stands.at).0
@@ -312,7 +431,7 @@ pub commit_twice : (law : JcrLaw) (old mid new : Shown) (answer : StepOut) (run 
     → now ≡ record run { phase = phase_by answer run.phase } → t ≡ turn_by answer → HasTurned law old new run now t
 commit_twice law old mid new answer run now t stands saving first second is told =
     let r = commit_refused law old mid out.Memory run stands (inside_saving law old run stands saving) first saving refl in
-    has_turned_later law old mid new mid.work old.room run now t stands.nodes r.1 (commit_once law mid new answer run now t r.0 saving second is told)
+    has_turned_later law old mid new run now t stands.nodes r.2 r.1 (commit_once law mid new answer run now t r.0 saving second is told)
 
 -- a commit under way is something that is being done
 pub commit_busy : (law : JcrLaw) (p : Shown) (run : SessionRun) → Stands law p run → run.phase ≡ phase.Saving → p.work ≡ Idle → ⊥
@@ -328,11 +447,6 @@ refused_busy law old mid run stands saving first idle =
     commit_busy law mid run (commit_refused law old mid out.Memory run stands (inside_saving law old run stands saving) first saving refl).0 saving idle
 
 -- ---- a reply
-
-get_within : {X : Type 0} (xs : List X) (i : ℕ) (x : X) → slice_get xs i ≡ Some x → i < length xs
-get_within [] i x h = absurd (false≢true (ap is_some h))
-get_within (y ∷ xs) zero x h = omega arith
-get_within (y ∷ xs) (suc i) x h = let r : i < length xs = get_within xs i x h in omega arith
 
 module _ (law : JcrLaw) (old : Shown) (run : SessionRun) (text : Text) (may : MayAnswer law old run text) where
   -- there are at most 10,000 replies
@@ -360,10 +474,10 @@ module _ (law : JcrLaw) (old : Shown) (run : SessionRun) (text : Text) (may : Ma
 
   -- with a place kept, and events of others before
   pub answer_later : (new : Shown) (room : Option ℕ) → Waits (starts_of law) (says_of law) old new old.work room → MayAnswer law new run text
-  answer_later new room waits = answer_waits law old new run text may room (subst (λ (w : Work). Waits (starts_of law) (says_of law) old new w room) may.idle waits)
+  answer_later new room waits = answer_waits law old new run text may (by_waits law old new old.work room waits) (waits.work_is ∙ may.idle)
 
   pub said_later : (mid new : Shown) (room : Option ℕ) (now : SessionRun) (t : Turn) → Waits (starts_of law) (says_of law) old mid old.work room → HasTurned law mid new run now t → HasTurned law old new run now t
-  said_later mid new room now t waits turned = has_turned_later law old mid new old.work room run now t may.inside.nodes waits turned
+  said_later mid new room now t waits turned = has_turned_later law old mid new run now t may.inside.nodes (kept waits.work_is (waits.same_due refl)) (by_waits law old mid old.work room waits) turned
 
 pub room_kept : (starts : _) (says : _) (old new : Shown) (work : Work) (n : ℕ) → Waits starts says old new work (Some n) → HasRoom new.room n
 room_kept starts says old new work n waits = subst (λ (x : Option ℕ). HasRoom x n) (sym waits.room_is) (let h : n ≤ n = omega arith in h)

@@ -40,7 +40,7 @@ use Rattle.jcr_session.specs.declared.sight.Sight.TheVariants as sight
 use Rattle.jcr_session.specs.declared.sight.Walk.{Walk}
 use Rattle.jcr_session.specs.declared.turn.Turn.{Turn}
 use Rattle.jcr_session.specs.declared.turn.Turn.TheVariants as turn
-use Rattle.jcr_session.specs.Sights.{IsFetching, IsIn, IsPart, Reads, says_of, starts_of}
+use Rattle.jcr_session.specs.Sights.{IsBeside, IsFetching, IsIn, IsPart, Reads, says_of, starts_of}
 use Rattle.jcr_session.specs.Standing.{HasCommitted, HasDrawn, HasSaved, HasTurned, HasView, IsCommitting, IsInSave, IsOutside, IsRefreshed, IsSaving, IsToldEnd, IsTurned, MayAnswer, Sees, SeesThen, Stands, StandsAt, Tells}
 use Rattle.jcr_session.proofs.Others.{append_assoc, last_others, others_both, refusal_own, revision_stays, uncommitted_own}
 
@@ -121,40 +121,62 @@ module _ (law : JcrLaw) (clusters : ℕ) (sessions : List ℕ) (nodes : AreNodes
 
 -- ---- by what a port shows
 
-module _ (law : JcrLaw) (old new : Shown) (work : Work) (room : Option ℕ) (waits : Waits (starts_of law) (says_of law) old new work room) where
+module _ (law : JcrLaw) (old new : Shown) (beside : IsBeside law old new) where
   abbrev added : Past
-  added = waits.others
+  added = beside.others
 
   same : new.history ≡ after added old.history
-  same = waits.grows.grown
+  same = beside.grows.grown
+
+  -- what holds of the history with the others' events holds of what is shown
+  pub shown_beside : (F : History → ℕ → Type 0) → F (after beside.others old.history) old.session → F new.history new.session
+  shown_beside F x = subst (λ (h : History). F h new.session) (sym same) (subst (λ (n : ℕ). F (after added old.history) n) (sym beside.session) x)
+
+  pub next_beside : next_index new.history.past new.session ≡ next_index old.history.past old.session
+  next_beside = shown_beside (λ h n. next_index h.past n ≡ next_index old.history.past old.session) (next_stays (added ++ old.history.past) added old.history.past old.session beside.grows.theirs)
 
   module _ (nodes : AreNodes old.history.clusters old.history.sessions) (run : IsRun (starts_of law) (says_of law) old.history) where
     later : IsRun (starts_of law) (says_of law) (after added old.history)
-    later = subst (λ (h : History). IsRun (starts_of law) (says_of law) h) same waits.grows.run
+    later = subst (λ (h : History). IsRun (starts_of law) (says_of law) h) same beside.grows.run
 
-    pub nodes_then : AreNodes new.history.clusters new.history.sessions
-    nodes_then = subst (λ (h : History). AreNodes h.clusters h.sessions) (sym same) nodes
+    pub nodes_beside : AreNodes new.history.clusters new.history.sessions
+    nodes_beside = shown_beside (λ h n. AreNodes h.clusters h.sessions) nodes
 
-    pub tree_then : base_tree new.history.past new.session ≡ base_tree old.history.past old.session
-    tree_then = ap (λ (h : History). base_tree h.past new.session) same ∙ (ap (base_tree (added ++ old.history.past)) waits.session ∙ tree_still law old.history.clusters old.history.sessions nodes old.session added old.history.past run later waits.grows.theirs)
+    pub tree_beside : base_tree new.history.past new.session ≡ base_tree old.history.past old.session
+    tree_beside = shown_beside (λ h n. base_tree h.past n ≡ base_tree old.history.past old.session) (tree_still law old.history.clusters old.history.sessions nodes old.session added old.history.past run later beside.grows.theirs)
 
-    pub in_then : IsIn law old → IsIn law new
-    in_then inside = record {
-      nodes = nodes_then;
-      run = waits.grows.run;
-      login = ap (λ (h : History). has_login h.past new.session) same ∙ (ap (has_login (added ++ old.history.past)) waits.session ∙ any_later (is_login_of old.session) added old.history.past inside.login);
-      stays = ap (λ (h : History). has_left h.past new.session) same ∙ (ap (has_left (added ++ old.history.past)) waits.session ∙ left_stays (added ++ old.history.past) added old.history.past old.session waits.grows.theirs inside.stays);
-      detached = ap (λ (h : History). is_attached h.past new.session) same ∙ (ap (is_attached (added ++ old.history.past)) waits.session ∙ attached_stays (added ++ old.history.past) added old.history.past old.session waits.grows.theirs inside.detached);
-      tree = subst IsTree (sym tree_then) inside.tree;
+    pub in_beside : IsIn law old → IsIn law new
+    in_beside inside = record {
+      nodes = nodes_beside;
+      run = beside.grows.run;
+      login = shown_beside (λ h n. has_login h.past n ≡ true) (any_later (is_login_of old.session) added old.history.past inside.login);
+      stays = shown_beside (λ h n. has_left h.past n ≡ false) (left_stays (added ++ old.history.past) added old.history.past old.session beside.grows.theirs inside.stays);
+      detached = shown_beside (λ h n. is_attached h.past n ≡ false) (attached_stays (added ++ old.history.past) added old.history.past old.session beside.grows.theirs inside.detached);
+      tree = subst IsTree (sym tree_beside) inside.tree;
     }
 
+    pub turn_beside : (base view : Nodes) → IsTurn law.sessions old.history.past old.session base view → IsTurn law.sessions new.history.past new.session base view
+    turn_beside base view turn = shown_beside (λ h n. IsTurn law.sessions h.past n base view) (turn_still law old.history.clusters old.history.sessions nodes old.session added old.history.past run later beside.grows.theirs base view turn)
+
+    pub committing_beside : (base view : Nodes) (work : Work) → IsCommitting law.sessions old.history.past old.session base view work → IsCommitting law.sessions new.history.past new.session base view work
+    committing_beside base view work is = shown_beside (λ h n. IsCommitting law.sessions h.past n base view work) (committing_still law old.history.clusters old.history.sessions nodes old.session added old.history.past run later beside.grows.theirs base view work is)
+
+    pub committed_beside : (base view : Nodes) (e : CommitEnd) → HasCommitted law.sessions old.history.past old.session base view e → HasCommitted law.sessions new.history.past new.session base view e
+    committed_beside base view e is = shown_beside (λ h n. HasCommitted law.sessions h.past n base view e) (committed_still law old.history.clusters old.history.sessions nodes old.session added old.history.past run later beside.grows.theirs base view e is)
+
+pub by_waits : (law : JcrLaw) (old new : Shown) (work : Work) (room : Option ℕ) → Waits (starts_of law) (says_of law) old new work room → IsBeside law old new
+by_waits law old new work room waits = record { others = waits.others; grows = waits.grows; session = waits.session; beside = waits.beside; alone = waits.alone }
+
+module _ (law : JcrLaw) (old new : Shown) (work : Work) (room : Option ℕ) (waits : Waits (starts_of law) (says_of law) old new work room) where
+  module _ (nodes : AreNodes old.history.clusters old.history.sessions) (run : IsRun (starts_of law) (says_of law) old.history) where
+    pub tree_then : base_tree new.history.past new.session ≡ base_tree old.history.past old.session
+    tree_then = tree_beside law old new (by_waits law old new work room waits) nodes run
+
+    pub in_then : IsIn law old → IsIn law new
+    in_then inside = in_beside law old new (by_waits law old new work room waits) nodes run inside
+
     pub turn_waits : (base view : Nodes) → IsTurn law.sessions old.history.past old.session base view → IsTurn law.sessions new.history.past new.session base view
-    turn_waits base view turn =
-        subst (λ (h : History). IsTurn law.sessions h.past new.session base view) (sym same)
-        (subst (λ (n : ℕ). IsTurn law.sessions (added ++ old.history.past) n base view) (sym waits.session)
-        (turn_still law old.history.clusters old.history.sessions nodes old.session added old.history.past run later waits.grows.theirs base view turn))
+    turn_waits base view turn = turn_beside law old new (by_waits law old new work room waits) nodes run base view turn
 
   pub next_waits : next_index new.history.past new.session ≡ next_index old.history.past old.session
-  next_waits =
-      ap (λ (h : History). next_index h.past new.session) same
-      ∙ (ap (next_index (added ++ old.history.past)) waits.session ∙ next_stays (added ++ old.history.past) added old.history.past old.session waits.grows.theirs)
+  next_waits = next_beside law old new (by_waits law old new work room waits)

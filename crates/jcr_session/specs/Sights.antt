@@ -1,15 +1,16 @@
 -- How a session reads the tree at its base, and what it knows of the history meanwhile.
-use Rattle.std.specs.Prelude.{◌≡◌, ◌⊎◌, Bool, List, [], ◌∷◌, Some, is_some, IsTrue, IsFalse}
+use Rattle.std.specs.Prelude.{◌≡◌, ◌⊎◌, Bool, List, [], ◌∷◌, Some, is_some, IfSome, IsTrue, IsFalse}
 use Rattle.std.specs.List.{list_any}
 use Rattle.std.specs.FinMap.{is_sorted}
 use Rattle.jr_path.specs.Names.{is_under, path_cmp}
 use Rattle.jr_path.specs.declared.path.Path.{Path}
 use Rattle.jr_tree.specs.declared.tree.Node.{Node}
 use Rattle.jr_tree.specs.Trees.{IsTree, Nodes, node_at}
+use Rattle.oak_machine.specs.History.{Past}
 use Rattle.oak_machine.specs.Laws.{Says, Starts}
 use Rattle.oak_machine.specs.Runs.{AreNodes, IsRun}
 use Rattle.oak_machine.specs.Sessions.{has_left, has_login, is_attached}
-use Rattle.oak_port.specs.Ports.{Idle, Shown, Starting, Work}
+use Rattle.oak_port.specs.Ports.{Grows, Idle, Shown, Starting, Work}
 use Rattle.oak_port.specs.declared.task.Task.TheVariants as task
 use Rattle.core_law.specs.Law.{MayStart, SaysBy}
 use Rattle.core_law.specs.State.{base_tree}
@@ -26,6 +27,14 @@ starts_of law = λ h s edit marks. MayStart law.sessions h s edit marks
 
 abbrev pub says_of : JcrLaw → Says
 says_of law = λ h s i text. SaysBy law.sessions h s i text
+
+-- only events of others were added, none where nobody else steps the world
+pub record IsBeside (law : JcrLaw) (old new : Shown) : Type 0 where
+  pub others : Past
+  pub grows : Grows (starts_of law) (says_of law) old.session old.history new.history others []
+  pub session : new.session ≡ old.session
+  pub beside : new.beside ≡ old.beside
+  pub alone : IfSome old.beside.seats (λ seats. others ≡ [])
 
 -- the history is a run by the law, in which the session has logged in, hasn't left and isn't attached, and reads a tree at its base
 pub record IsIn (law : JcrLaw) (p : Shown) : Type 0 where

@@ -1,5 +1,5 @@
 -- Where a session stands between its turns, and what a turn makes of that.
-use Rattle.std.specs.Prelude.{◌≡◌, ◌≢◌, ◌⊎◌, ◌≤◌, ℕ, ◌+◌, ◌++◌, Bool, true, false, cond, ◌&&◌, ⊤, List, [], ◌∷◌, length, slice_get, reverse, Option, None, Some, IsTrue, IsFalse}
+use Rattle.std.specs.Prelude.{◌≡◌, ◌≢◌, ◌⊎◌, ◌≤◌, ℕ, ◌+◌, ◌++◌, Bool, true, false, cond, ◌&&◌, ⊤, List, [], ◌∷◌, length, slice_get, reverse, Option, None, Some, IfSome, IsTrue, IsFalse}
 use Rattle.std.specs.Option.{option_map_or}
 use Rattle.jr_path.specs.declared.path.Item.{Item}
 use Rattle.jr_path.specs.declared.text.Text.{Text}
@@ -8,17 +8,19 @@ use Rattle.jr_rev.specs.declared.vector.RevVec.{RevVec}
 use Rattle.jr_rev.specs.Vectors.{sees}
 use Rattle.jr_tree.specs.Trees.{IsTree, Nodes}
 use Rattle.jr_tree.specs.Edits.{changes}
+use Rattle.oak_machine.specs.declared.event.Event.{Event}
 use Rattle.oak_machine.specs.declared.event.Event.TheVariants as event
 use Rattle.oak_machine.specs.declared.event.StepKind.{StepKind}
 use Rattle.oak_machine.specs.declared.event.StepKind.TheVariants as kind
 use Rattle.oak_machine.specs.History.{History, Past}
 use Rattle.oak_machine.specs.Marks.{marks_for}
 use Rattle.oak_machine.specs.Commits.{is_committed, is_ended, refusal_of}
+use Rattle.oak_machine.specs.Heads.{head_of}
 use Rattle.oak_machine.specs.Laws.{AreOthers, after, is_revision_of}
 use Rattle.oak_machine.specs.Runs.{AreNodes, IsRun}
-use Rattle.oak_machine.specs.Sessions.{base_of, drawn_since, has_login, is_drawing, next_index, refreshed_since}
+use Rattle.oak_machine.specs.Sessions.{base_of, drawn_since, has_left, has_login, is_drawing, next_index, refreshed_since}
 use Rattle.oak_machine.specs.Steps.{is_appended_by}
-use Rattle.oak_port.specs.Ports.{Awaiting, Deciding, Grows, HasRoom, Idle, Shown, Undoing, Work, Writing}
+use Rattle.oak_port.specs.Ports.{Awaiting, Deciding, Grows, HasRoom, Idle, Shown, Undoing, Work, Writing, is_by_due}
 use Rattle.oak_port.specs.declared.task.CommitEnd.{CommitEnd}
 use Rattle.oak_port.specs.declared.task.CommitEnd.TheVariants as commit
 use Rattle.oak_port.specs.declared.task.StepOut.{StepOut}
@@ -155,13 +157,19 @@ pub record IsRefreshed (law : JcrLaw) (p : Shown) (run : SessionRun) (v : RevVec
   pub refreshing : command_at law.sessions run.session run.index ≡ Some (command.Refresh false)
   pub still : IsFalse (is_drawing p.history.past p.session)
 
+-- it has answered all its commands, and has left
+pub record IsGone (p : Shown) (run : SessionRun) : Type 0 where
+  pub idle : p.work ≡ Idle
+  pub left : IsTrue (has_left p.history.past p.session)
+  pub all : run.index ≡ length run.commands
+
 abbrev pub StandsAt : JcrLaw → Shown → SessionRun → Phase → Type 0
 StandsAt law p run phase.Outside = IsOutside law p run
 StandsAt law p run phase.Between = IsIn law p × Sees law p run run.sight
 StandsAt law p run (phase.Refreshed v) = IsIn law p × IsRefreshed law p run v
 StandsAt law p run phase.Saving = IsIn law p × IsInSave law p run run.sight
 StandsAt law p run (phase.Saved e) = IsIn law p × HasSaved law p run e run.sight
-StandsAt law p run phase.Over = p.work ≡ Idle
+StandsAt law p run phase.Over = IsGone p run
 
 -- the port is the session's, its history a run by the law, which has the session's commands; the session's replies are those of the history, and it stands where these say
 pub record Stands (law : JcrLaw) (p : Shown) (run : SessionRun) : Type 0 where
@@ -171,24 +179,81 @@ pub record Stands (law : JcrLaw) (p : Shown) (run : SessionRun) : Type 0 where
   pub few : length run.commands ≤ 10000
   pub commands : (i : ℕ) → command_at law.sessions run.session i ≡ slice_get run.commands i
   pub index : run.index ≡ next_index p.history.past run.session
+  pub within : run.index ≤ length run.commands
   pub at : StandsAt law p run run.phase
 
 -- ---- what a turn makes
 
+-- an event of a step that is neither a reading step nor a reply
+abbrev pub is_step_event : Event → Bool
+is_step_event (event.Login t v) = true
+is_step_event (event.Refresh t v) = true
+is_step_event (event.Draw d) = true
+is_step_event (event.Commit r) = true
+is_step_event (event.Refuse r item o) = true
+is_step_event (event.End r) = true
+is_step_event (event.Went t k) = true
+is_step_event _ = false
+
+-- one such event, or the end of a revision with the head that it moves
+abbrev pub IsOneStep : Past → Type 0
+IsOneStep own = ((e : Event) × (own ≡ e ∷ []) × IsTrue (is_step_event e)) ⊎ ((k : ℕ) × (v : RevVec) × (r : Revision) × (own ≡ event.Head k v ∷ event.End r ∷ []))
+
 -- the events that a turn adds, the newest first: those of one counted step of its kind, or the next reply, or none
 abbrev pub Tells : History → ℕ → ℕ → Turn → Past → Type 0
-Tells h s i (turn.Stepped k) own = IsTrue (is_appended_by h s k (reverse own))
+Tells h s i (turn.Stepped k) own = IsTrue (is_appended_by h s k (reverse own)) × IsOneStep own
 Tells h s i (turn.Said j) own = (j ≡ i) × (text : Text) × (own ≡ event.Said s i text ∷ [])
 Tells h s i (turn.Waiting q) own = own ≡ []
 Tells h s i turn.Ended own = own ≡ []
 Tells h s i turn.Memory own = ⊥
 
--- events of others were added, and then those of the turn; the session stands where the history says
+-- what was committed is seen by the head, where the session waits for that
+abbrev pub IsSeenFor : History → Work → Type 0
+IsSeenFor h (Awaiting r) = IsTrue (sees (head_of h.clusters h.past r.cluster) r)
+IsSeenFor h _ = ⊤
+
+-- a committed revision that ends is then waited for
+abbrev pub HasAwaited : Past → Past → Work → Type 0
+HasAwaited past (event.End r ∷ []) work = IsTrue (is_committed past r) → work ≡ Awaiting r
+HasAwaited past (event.Head k v ∷ event.End r ∷ []) work = IsTrue (is_committed past r) → work ≡ Awaiting r
+HasAwaited past _ work = ⊤
+
+abbrev pub is_writing : Work → Bool
+is_writing (Writing r) = true
+is_writing _ = false
+
+-- a counted step of a session that has not left: a write, a mark or a last write where it is due, and none where nothing is being written
+pub record IsStep (h : History) (old new : Shown) (own : Past) : Type 0 where
+  pub stays : IsFalse (has_left h.past old.session)
+  pub seen : IsSeenFor h old.work
+  pub as_due : IsTrue (is_by_due old.due own)
+  pub quiet : IsFalse (is_writing old.work) → IsTrue (is_by_due None own)
+  pub ended : HasAwaited h.past own new.work
+
+-- the session committed r, which the head doesn't see yet
+pub record IsUnseen (h : History) (s : ℕ) (r : Revision) : Type 0 where
+  pub theirs : IsTrue (is_revision_of h.past s r)
+  pub committed : IsTrue (is_committed h.past r)
+  pub ended : IsTrue (is_ended h.past r)
+  pub unseen : IsFalse (sees (head_of h.clusters h.past r.cluster) r)
+
+-- when a turn is of each kind
+abbrev pub IsMade : History → Shown → Shown → SessionRun → Past → Turn → Type 0
+IsMade h old new now own (turn.Stepped k) = IsStep h old new own
+IsMade h old new now own (turn.Said j) = IsStep h old new own
+IsMade h old new now own (turn.Waiting q) = (r : Revision) × IsUnseen h old.session r
+IsMade h old new now own turn.Ended = IsTrue (has_left h.past old.session) × (now.index ≡ length now.commands)
+IsMade h old new now own turn.Memory = ⊥
+
+-- events of others were added, none where nobody else steps the world, and then those of the turn; the session stands where the history says
 pub record IsTurned (law : JcrLaw) (old new : Shown) (run now : SessionRun) (answer : Turn) : Type 0 where
   pub others : Past
   pub own : Past
   pub grows : Grows (starts_of law) (says_of law) old.session old.history new.history others own
+  pub beside : new.beside ≡ old.beside
+  pub alone : IfSome old.beside.seats (λ seats. others ≡ [])
   pub tells : Tells (after others old.history) old.session run.index answer own
+  pub made : IsMade (after others old.history) old new now own answer
   pub stands : Stands law new now
 
 -- memory was refused, and the run ends; or the turn was made

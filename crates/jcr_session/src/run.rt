@@ -10,10 +10,11 @@ ghost use Rattle.jcr_session.specs.Sights.{says_of, starts_of};
 ghost use Rattle.jcr_session.specs.Standing.{HasEnded, HasSeen, HasTurned, IsNew, IsPlanFor, IsPlanOf, IsRefused, IsReply, IsSame, MayAnswer, Stands, due_for, is_unread, kind_of_end, phase_by, turn_by};
 ghost use Rattle.jcr_session.specs.declared.run.Due.TheVariants as due;
 ghost use Rattle.jcr_session.specs.declared.run.Phase.TheVariants as phase;
+ghost use Rattle.jcr_session.specs.declared.run.Plan.TheVariants as plan;
 
 use crate::law::JcrLaw;
 use crate::next::may_save;
-use crate::sight::{Seen, Sight, read_first, read_on};
+use crate::sight::{Seen, Sight, look};
 use crate::turn::Turn;
 use jcr_plan::marks_of;
 use jcr_trans::{
@@ -113,15 +114,13 @@ impl SessionRun {
         ensures same { IsSame self.old self.new }
         ensures beside { Waits (starts_of (P.law port.old)) (says_of (P.law port.old)) (P.shown port.old) (P.shown port.new) (P.shown port.new).work (P.shown port.old).room }
         ensures done { IfOk result (λ made. made ≡ is_unread self.old) }
+        ensures err { OnErr result (IsRefused (P.shown port.new) self.new) }
     {
         if !self.is_unread() {
             return Ok(false);
         }
-        self.sight = match mem::replace(&mut self.sight, Sight::Unread) {
-            Sight::Unread => read_first(self.alloc, port)?,
-            Sight::Reading(walk) => read_on(port, walk)?,
-            Sight::Seen(seen) => Sight::Seen(seen),
-        };
+        let sight = mem::replace(&mut self.sight, Sight::Unread);
+        self.sight = look(self.alloc, port, sight)?;
         Ok(true)
     }
 
@@ -247,7 +246,7 @@ impl SessionRun {
     }
 
     // Leaves.
-    #[tactic(auto, using(crate::proofs::Next::idle_between, crate::proofs::Starting::leave_begins, crate::proofs::Starting::left))]
+    #[tactic(auto, using(crate::proofs::Replying::idle_between, crate::proofs::Starting::leave_begins, crate::proofs::Starting::left))]
     fn leave<P: Port<L = JcrLaw>>(&mut self, port: &mut P) -> Turn
         requires stands { Stands (P.law port.old) (P.shown port.old) self.old }
         requires between { self.old.phase ≡ phase.Between }
@@ -280,14 +279,12 @@ impl SessionRun {
         let Some(pin) = port.pin() else {
             return Turn::Memory;
         };
-        match vector_reply(self.alloc, &pin.base) {
-            Ok(text) => self.say(port, text.as_str()),
-            Err(AllocError) => self.say_memory(port),
-        }
+        let text = vector_reply(self.alloc, &pin.base);
+        self.say_made(port, text)
     }
 
     // Refuses the command, which this session may not make.
-    #[tactic(auto, using(crate::proofs::Next::forgo_refuse, crate::proofs::Next::refuse_save))]
+    #[tactic(auto, using(crate::proofs::Replying::forgo_refuse, crate::proofs::Replying::refuse_save))]
     fn refuse<P: Port<L = JcrLaw>>(&mut self, port: &mut P) -> Turn
         requires stands { Stands (P.law port.old) (P.shown port.old) self.old }
         requires between { self.old.phase ≡ phase.Between }
@@ -296,14 +293,12 @@ impl SessionRun {
         ensures law { P.law port.new ≡ P.law port.old }
         ensures turned { HasTurned (P.law port.old) (P.shown port.old) (P.shown port.new) self.old self.new result }
     {
-        match unsupported_reply(self.alloc, &Command::Save) {
-            Ok(text) => self.say(port, text.as_str()),
-            Err(AllocError) => self.say_memory(port),
-        }
+        let text = unsupported_reply(self.alloc, &Command::Save);
+        self.say_made(port, text)
     }
 
     // Moves the base to the head. What was pending is dropped, and the tree there isn't read yet.
-    #[tactic(auto, using(crate::proofs::Next::idle_between, crate::proofs::Next::forgo_refresh, crate::proofs::Starting::refresh_begins, crate::proofs::Starting::moves_base, crate::proofs::Turning::answer_later, crate::proofs::Turning::said_later))]
+    #[tactic(auto, using(crate::proofs::Replying::idle_between, crate::proofs::Replying::forgo_refresh, crate::proofs::Starting::refresh_begins, crate::proofs::Starting::moves_base, crate::proofs::Turning::answer_later, crate::proofs::Turning::said_later))]
     fn refresh<P: Port<L = JcrLaw>>(&mut self, port: &mut P) -> Turn
         requires stands { Stands (P.law port.old) (P.shown port.old) self.old }
         requires between { self.old.phase ≡ phase.Between }
@@ -348,10 +343,8 @@ impl SessionRun {
         ensures law { P.law port.new ≡ P.law port.old }
         ensures turned { HasTurned (P.law port.old) (P.shown port.old) (P.shown port.new) self.old self.new result }
     {
-        match self.seen_reply() {
-            Ok(text) => self.say(port, text.as_str()),
-            Err(AllocError) => self.say_memory(port),
-        }
+        let text = self.seen_reply();
+        self.say_made(port, text)
     }
 
     // The reply by the view.
@@ -383,16 +376,31 @@ impl SessionRun {
         ensures turned { HasTurned (P.law port.old) (P.shown port.old) (P.shown port.new) self.old self.new result }
     {
         match self.plan() {
-            Ok(Plan::Nothing) => match null_reply(self.alloc) {
-                Ok(text) => self.say(port, text.as_str()),
-                Err(AllocError) => self.say_memory(port),
-            },
-            Ok(Plan::TooMany) => match too_many_reply(self.alloc) {
-                Ok(text) => self.say(port, text.as_str()),
-                Err(AllocError) => self.say_memory(port),
-            },
-            Ok(Plan::Commit(edit, marks)) => self.commit(port, edit, marks),
+            Ok(plan) => self.save_by(port, plan),
             Err(AllocError) => self.say_memory(port),
+        }
+    }
+
+    // Answers a save that commits nothing, or begins its commit.
+    fn save_by<P: Port<L = JcrLaw>>(&mut self, port: &mut P, plan: Plan) -> Turn
+        requires stands { Stands (P.law port.old) (P.shown port.old) self.old }
+        requires between { self.old.phase ≡ phase.Between }
+        requires read { IsFalse (is_unread self.old) }
+        requires next { due_for self.old ≡ due.Save }
+        requires plan { IsPlanOf self.old.sight plan }
+        ensures law { P.law port.new ≡ P.law port.old }
+        ensures turned { HasTurned (P.law port.old) (P.shown port.old) (P.shown port.new) self.old self.new result }
+    {
+        match plan {
+            Plan::Nothing => {
+                let text = null_reply(self.alloc);
+                self.say_made(port, text)
+            }
+            Plan::TooMany => {
+                let text = too_many_reply(self.alloc);
+                self.say_made(port, text)
+            }
+            Plan::Commit(edit, marks) => self.commit(port, edit, marks),
         }
     }
 
@@ -412,7 +420,15 @@ impl SessionRun {
         port: &mut P,
         edit: Edit,
         marks: List<MarkAt>,
-    ) -> Turn {
+    ) -> Turn
+        requires stands { Stands (P.law port.old) (P.shown port.old) self.old }
+        requires between { self.old.phase ≡ phase.Between }
+        requires read { IsFalse (is_unread self.old) }
+        requires next { due_for self.old ≡ due.Save }
+        requires plan { IsPlanOf self.old.sight (plan.Commit edit marks) }
+        ensures law { P.law port.new ≡ P.law port.old }
+        ensures turned { HasTurned (P.law port.old) (P.shown port.old) (P.shown port.new) self.old self.new result }
+    {
         let Ok(()) = port.reserve_say(COMMIT_REPLY_BYTES) else {
             return self.say_memory(port);
         };
@@ -484,6 +500,23 @@ impl SessionRun {
                 }
             }
             _ => self.say_kept(port, MEMORY_REPLY),
+        }
+    }
+
+    // Says a reply, or that memory was refused for it.
+    fn say_made<P: Port<L = JcrLaw>>(
+        &mut self,
+        port: &mut P,
+        text: Result<String, AllocError>,
+    ) -> Turn
+        requires answer { IfOk text (λ text. MayAnswer (P.law port.old) (P.shown port.old) self.old (string_bytes text)) }
+        requires memory { OnErr text (MayAnswer (P.law port.old) (P.shown port.old) self.old memory_text) }
+        ensures law { P.law port.new ≡ P.law port.old }
+        ensures turned { HasTurned (P.law port.old) (P.shown port.old) (P.shown port.new) self.old self.new result }
+    {
+        match text {
+            Ok(text) => self.say(port, text.as_str()),
+            Err(AllocError) => self.say_memory(port),
         }
     }
 

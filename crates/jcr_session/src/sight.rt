@@ -4,7 +4,7 @@ ghost use Rattle.jr_tree.specs.Trees.{children_of, node_at};
 ghost use Rattle.oak_port.specs.Ports.{Idle, Starting, Waits};
 ghost use Rattle.oak_port.specs.declared.task.Task.TheVariants as task;
 ghost use Rattle.core_law.specs.State.{base_tree};
-ghost use Rattle.jcr_session.specs.Sights.{HasRead, IsIn, IsPart, Reads, says_of, starts_of};
+ghost use Rattle.jcr_session.specs.Sights.{HasRead, IsIn, IsPart, Looks, Reads, says_of, starts_of};
 
 use crate::law::JcrLaw;
 use jr_path::{DeepCopy, Name, Path};
@@ -44,8 +44,29 @@ pub(crate) enum Fetch {
     Names(Path),
 }
 
+// Makes the reading step that is due where the tree isn't read yet. Where memory is refused, what was read is given up.
+pub(crate) fn look<P: Port<L = JcrLaw>>(
+    alloc: Global,
+    port: &mut P,
+    sight: Sight,
+) -> Result<Sight, AllocError>
+    requires inside { IsIn (P.law port.old) (P.shown port.old) }
+    requires looks { Looks (P.shown port.old) sight }
+    ensures law { P.law port.new ≡ P.law port.old }
+    ensures inside { IsIn (P.law port.old) (P.shown port.new) }
+    ensures beside { Waits (starts_of (P.law port.old)) (says_of (P.law port.old)) (P.shown port.old) (P.shown port.new) (P.shown port.new).work (P.shown port.old).room }
+    ensures ok { IfOk result (HasRead (P.shown port.new)) }
+    ensures err { OnErr result ((P.shown port.new).work ≡ Idle) }
+{
+    match sight {
+        Sight::Unread => read_first(alloc, port),
+        Sight::Reading(walk) => read_on(port, walk),
+        Sight::Seen(seen) => Ok(Sight::Seen(seen)),
+    }
+}
+
 // Begins to read the tree, and makes the first step. Where memory is refused, nothing is being read.
-pub(crate) fn read_first<P: Port<L = JcrLaw>>(
+fn read_first<P: Port<L = JcrLaw>>(
     alloc: Global,
     port: &mut P,
 ) -> Result<Sight, AllocError>
@@ -62,7 +83,7 @@ pub(crate) fn read_first<P: Port<L = JcrLaw>>(
 }
 
 // Makes a reading step. Where memory is refused, the walk is given up.
-pub(crate) fn read_on<P: Port<L = JcrLaw>>(port: &mut P, walk: Walk) -> Result<Sight, AllocError>
+fn read_on<P: Port<L = JcrLaw>>(port: &mut P, walk: Walk) -> Result<Sight, AllocError>
     requires inside { IsIn (P.law port.old) (P.shown port.old) }
     requires reads { Reads (P.shown port.old) walk }
     ensures law { P.law port.new ≡ P.law port.old }

@@ -108,6 +108,17 @@ refuse_is = save_by due.Refuse false which (λ x h. (λ k. apart due.See due.Ref
     which true h = apart due.Save due.Refuse refl h
     which false h = refl
 
+-- a command is something to do
+pub never_leaves : (b : Built) (s : ℕ) → due_by b s ≡ due.Leave → ⊥
+never_leaves (Adds p) s h = apart due.See due.Leave refl h
+never_leaves (Sets p n x) s h = apart due.See due.Leave refl h
+never_leaves (Gets p) s h = apart due.See due.Leave refl h
+never_leaves (Lists p) s h = apart due.See due.Leave refl h
+never_leaves (NotBuilt w) s h = apart due.See due.Leave refl h
+never_leaves Saves s h = saves_due (may_save s) due.Leave h (apart due.Save due.Leave refl) (apart due.Refuse due.Leave refl)
+never_leaves Refreshes s h = apart due.Refresh due.Leave refl h
+never_leaves ShowsBase s h = apart due.ShowBase due.Leave refl h
+
 -- the next command, where there is one
 pub next_is : (commands : List Command) (i s : ℕ) (d : Due) → due_of s commands i ≡ d → (due.Leave ≡ d → ⊥) → (c : Command) × (slice_get commands i ≡ Some c) × (due_by (built c) s ≡ d)
 next_is commands i s d h some = by (slice_get commands i) refl h
@@ -186,8 +197,8 @@ may_like law p run like text may session commands index sight_is =
 
 -- a turn by its index alone
 pub turned_like : (law : JcrLaw) (old new : Shown) (run like now : SessionRun) (t : Turn) → like.index ≡ run.index → HasTurned law old new like now t → HasTurned law old new run now t
-turned_like law old new run like now (turn.Stepped k) index h = record { others = h.others; own = h.own; grows = h.grows; tells = h.tells; stands = h.stands }
-turned_like law old new run like now (turn.Said i) index h = record { others = h.others; own = h.own; grows = h.grows; tells = subst (λ n. Rattle.jcr_session.specs.Standing.Tells (Rattle.oak_machine.specs.Laws.after h.others old.history) old.session n (turn.Said i) h.own) index h.tells; stands = h.stands }
-turned_like law old new run like now (turn.Waiting q) index h = record { others = h.others; own = h.own; grows = h.grows; tells = h.tells; stands = h.stands }
-turned_like law old new run like now turn.Ended index h = record { others = h.others; own = h.own; grows = h.grows; tells = h.tells; stands = h.stands }
+turned_like law old new run like now (turn.Stepped k) index h = record { others = h.others; own = h.own; grows = h.grows; beside = h.beside; alone = h.alone; made = h.made; tells = h.tells; stands = h.stands }
+turned_like law old new run like now (turn.Said i) index h = record { others = h.others; own = h.own; grows = h.grows; beside = h.beside; alone = h.alone; made = h.made; tells = subst (λ n. Rattle.jcr_session.specs.Standing.Tells (Rattle.oak_machine.specs.Laws.after h.others old.history) old.session n (turn.Said i) h.own) index h.tells; stands = h.stands }
+turned_like law old new run like now (turn.Waiting q) index h = record { others = h.others; own = h.own; grows = h.grows; beside = h.beside; alone = h.alone; made = h.made; tells = h.tells; stands = h.stands }
+turned_like law old new run like now turn.Ended index h = record { others = h.others; own = h.own; grows = h.grows; beside = h.beside; alone = h.alone; made = h.made; tells = h.tells; stands = h.stands }
 turned_like law old new run like now turn.Memory index h = tt
