@@ -15,4 +15,4 @@ mod Ending
 mod Looking
 mod Answering
 mod Drawing
-mod Staying
+pub mod Staying

@@ -21,8 +21,8 @@ use Rattle.oak_machine.specs.Runs.{AreNodes, IsRun}
 use Rattle.oak_machine.specs.Sessions.{base_of, drawn_since, has_left, has_login, is_drawing, next_index, refreshed_since}
 use Rattle.oak_machine.specs.Steps.{is_appended_by}
 use Rattle.oak_port.specs.Ports.{Awaiting, Deciding, Grows, HasRoom, Idle, Shown, Undoing, Work, Writing, is_by_due}
-use Rattle.oak_port.specs.declared.task.CommitEnd.{CommitEnd}
-use Rattle.oak_port.specs.declared.task.CommitEnd.TheVariants as commit
+use Rattle.oak_commit.specs.declared.outcome.CommitEnd.{CommitEnd}
+use Rattle.oak_commit.specs.declared.outcome.CommitEnd.TheVariants as commit
 use Rattle.oak_port.specs.declared.task.StepOut.{StepOut}
 use Rattle.oak_port.specs.declared.task.StepOut.TheVariants as out
 use Rattle.oak_port.specs.declared.task.TaskEnd.TheVariants as end
@@ -241,8 +241,8 @@ pub record IsUnseen (h : History) (s : ℕ) (r : Revision) : Type 0 where
 abbrev pub IsMade : History → Shown → Shown → SessionRun → Past → Turn → Type 0
 IsMade h old new now own (turn.Stepped k) = IsStep h old new own
 IsMade h old new now own (turn.Said j) = IsStep h old new own
-IsMade h old new now own (turn.Waiting q) = (r : Revision) × IsUnseen h old.session r
-IsMade h old new now own turn.Ended = IsTrue (has_left h.past old.session) × (now.index ≡ length now.commands)
+IsMade h old new now own (turn.Waiting q) = (r : Revision) × (old.work ≡ Awaiting r) × (new.work ≡ Awaiting r) × IsUnseen h old.session r
+IsMade h old new now own turn.Ended = (new ≡ old) × IsTrue (has_left h.past old.session) × (now.index ≡ length now.commands)
 IsMade h old new now own turn.Memory = ⊥
 
 -- events of others were added, none where nobody else steps the world, and then those of the turn; the session stands where the history says

@@ -26,7 +26,8 @@ use jr_rev::{Pin, RevVec, Revision};
 use jr_tree::{Datum, Edit, Refusal, changes};
 use oak_clash::MarkAt;
 use oak_machine::StepKind;
-use oak_port::{CommitEnd, Port, StepOut, Task, TaskEnd};
+use oak_commit::CommitEnd;
+use oak_port::{Port, StepOut, Task, TaskEnd};
 use std::alloc::{AllocError, Global};
 use std::mem;
 
@@ -114,6 +115,7 @@ impl SessionRun {
         ensures same { IsSame self.old self.new }
         ensures beside { Waits (starts_of (P.law port.old)) (says_of (P.law port.old)) (P.shown port.old) (P.shown port.new) (P.shown port.new).work (P.shown port.old).room }
         ensures done { IfOk result (λ made. made ≡ is_unread self.old) }
+        ensures still { IsFalse (is_unread self.old) → P.shown port.new ≡ P.shown port.old }
         ensures err { OnErr result (IsRefused (P.shown port.new) self.new) }
     {
         if !self.is_unread() {

@@ -4,6 +4,7 @@ use Rattle.std.specs.Prelude.{codes, reverse}
 use Rattle.oak_machine.specs.declared.event.Event.TheVariants.{Login, Refresh, Commit, Refuse, End, Head, Said, Went}
 use Rattle.oak_machine.specs.declared.event.StepKind.TheVariants as kind
 use Rattle.oak_machine.specs.declared.event.Journal.{Journal}
+use Rattle.oak_machine.specs.History.{history_of}
 use Rattle.jcr_trans.specs.declared.command.Command.TheVariants as command
 use Rattle.jr_script.specs.declared.script.Script.{Script}
 use Rattle.jr_script.specs.declared.script.Entry.TheVariants as entry
@@ -57,7 +58,7 @@ leaving = closing 1 (Went 1 kind.End ∷ []) ∷ closing 0 (Went 0 kind.End ∷ 
 abbrev reading_journal : Journal
 reading_journal = record { clusters = 1; sessions = 1 ∷ 1 ∷ []; events = reverse (events_of (leaving ++ reading_parts)) }
 
-reading_scheduled : Scheduled reading reading_journal
+reading_scheduled : Scheduled reading (history_of reading_journal)
 reading_scheduled = record {
   scheduled = reading_parts;
   replied = [];
@@ -115,7 +116,7 @@ meeting_closed =
 abbrev meeting_journal : Journal
 meeting_journal = record { clusters = 1; sessions = 1 ∷ 1 ∷ []; events = reverse (events_of (meeting_closed ++ meeting_parts)) }
 
-meeting_scheduled : Scheduled meeting meeting_journal
+meeting_scheduled : Scheduled meeting (history_of meeting_journal)
 meeting_scheduled = record {
   scheduled = meeting_parts;
   replied = [];

@@ -28,7 +28,7 @@ use Rattle.jr_work.specs.declared.stage.Stage.{Stage}
 use Rattle.jr_work.specs.Awaited.{IsSeenBut}
 use Rattle.jr_work.specs.Flights.{IsFlight, flight_with}
 use Rattle.jr_work.specs.Parts.{Part, Rule}
-use Rattle.jr_work.specs.Places.{commands_of, history_at, is_over, is_waiting}
+use Rattle.jr_work.specs.Places.{history_at, is_over, is_waiting}
 use Rattle.jr_work.specs.SoFar.{IsCutSoFar, IsStepAt, is_last_due}
 
 -- ---- the stage
@@ -49,10 +49,9 @@ abbrev pub awaited : Work → Option Revision
 awaited (Awaiting r) = Some r
 awaited _ = None
 
--- session s stands where the history says; what is kept of its commit is what the history tells; and the head sees each of its commits that has ended but the one that it awaits
+-- the seat is of session s, which stands where the history says; what is kept of its commit is what the history tells; and the head sees each of its commits that has ended but the one that it awaits
 pub record IsSeated (script : Script) (w : WorldOf JcrLaw) (s : ℕ) (seat : Seat) : Type 0 where
   pub session : seat.run.session ≡ s
-  pub commands : seat.run.commands ≡ commands_of script s
   pub stands : (n : GName) → Stands w.law (shown_at n w s) seat.run
   pub flight : IsFlight w.history.past s seat.flight
   pub seen : IsSeenBut script w.history.past s (awaited (shown_work (work_in w.actors s)))

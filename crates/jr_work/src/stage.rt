@@ -6,7 +6,8 @@ ghost use Rattle.oak_world.specs.Seen.{shown_at};
 ghost use Rattle.jcr_session.specs.Standing.{Stands};
 ghost use Rattle.jr_work.specs.Places.{flying_sessions};
 ghost use Rattle.jr_work.specs.Parts.{Part, Rule, by_entry, to_end, to_reply};
-ghost use Rattle.jr_work.specs.Stages.{Closes, HasCome, HasRead, HasTurnedIn, IsBegun, IsStage, has_come};
+ghost use Rattle.jr_script.specs.declared.script.Entry.TheVariants as entry;
+ghost use Rattle.jr_work.specs.Stages.{Closes, HasCome, HasRead, HasTurnedIn, IsBegun, IsOfCommit, IsStage, flight_behind, has_come, law_of};
 
 use crate::flight::{Flight, flight_after};
 use jcr_session::{JcrLaw, SessionRun, Turn};
