@@ -61,7 +61,6 @@ pub record IsStage (stage : Stage) : Type 0 where
   pub law : stage.world.law ≡ law_of stage.script
   pub history : stage.world.history ≡ history_at stage.script (past_of stage)
   pub seats : length stage.seats.items ≡ length stage.script.sessions
-  pub actors : length stage.world.actors ≡ length stage.script.sessions
   pub each : (s : ℕ) (seat : Seat) → slice_get stage.seats.items s ≡ Some seat → IsSeated stage.script stage.world s seat
 
 -- before any turn
