@@ -50,13 +50,13 @@ use Rattle.jr_work.proofs.SoFar.{one_session}
 
 -- ---- seats
 
-down : (i j : ℕ) → (suc j == suc i) ≡ false → (j == i) ≡ false
+pub down : (i j : ℕ) → (suc j == suc i) ≡ false → (j == i) ≡ false
 down i j h = grind (arith, nat_tests)
 
-itself : (n : ℕ) → (n == n) ≡ true
+pub itself : (n : ℕ) → (n == n) ≡ true
 itself n = grind (arith, nat_tests)
 
-set_other : {X : Type 0} (xs : List X) (i j : ℕ) (x : X) → (j == i) ≡ false → slice_get (slice_set xs i x) j ≡ slice_get xs j
+pub set_other : {X : Type 0} (xs : List X) (i j : ℕ) (x : X) → (j == i) ≡ false → slice_get (slice_set xs i x) j ≡ slice_get xs j
 set_other [] i j x h = refl
 set_other (e ∷ xs) zero zero x h = absurd (false≢true (sym h ∙ itself 0))
 set_other (e ∷ xs) zero (suc j) x h = refl
@@ -148,7 +148,7 @@ or_none true b h k = absurd (false≢true (sym h))
 or_none false b h k = k
 
 -- two lists that answer alike at each place are as long
-same_length : {X : Type 0} (a b : List X) → ((i : ℕ) → slice_get a i ≡ slice_get b i) → length a ≡ length b
+pub same_length : {X : Type 0} (a b : List X) → ((i : ℕ) → slice_get a i ≡ slice_get b i) → length a ≡ length b
 same_length [] [] h = refl
 same_length [] (y ∷ b) h = none_is_some y (h 0)
 same_length (x ∷ a) [] h = none_is_some x (sym (h 0))
@@ -181,16 +181,16 @@ module _ (script : Script) (n : GName) (s : ℕ) (old new : WorldOf JcrLaw) (sea
   pub history_now : new.history ≡ history_at script new.history.past
   history_now = grown ∙ ap (λ (p : Past). history_at script p) (sym past_now)
 
-  nodes : AreNodes script.clusters (map (λ x. x.cluster) script.sessions)
+  pub nodes : AreNodes script.clusters (map (λ x. x.cluster) script.sessions)
   nodes = subst (λ (h : History). AreNodes h.clusters h.sessions) history (seated.stands n).nodes
 
-  run_new : IsRunOf (starts_of old.law) (says_of old.law) script.clusters (map (λ x. x.cluster) script.sessions) (own ++ past)
+  pub run_new : IsRunOf (starts_of old.law) (says_of old.law) script.clusters (map (λ x. x.cluster) script.sessions) (own ++ past)
   run_new = subst (λ (h : History). IsRun (starts_of old.law) (says_of old.law) h) grown turned.grows.run
 
-  tells : Tells (history_at script past) s seat.run.index answer own
+  pub tells : Tells (history_at script past) s seat.run.index answer own
   tells = subst (λ (h : History). Tells h s seat.run.index answer own) moment turned.tells
 
-  made : IsMade (history_at script past) (shown_at n old s) (shown_at n new s) now own answer
+  pub made : IsMade (history_at script past) (shown_at n old s) (shown_at n new s) now own answer
   made = subst (λ (h : History). IsMade h (shown_at n old s) (shown_at n new s) now own answer) moment turned.made
 
   -- ---- what isn't seen
@@ -217,7 +217,7 @@ module _ (script : Script) (n : GName) (s : ℕ) (old new : WorldOf JcrLaw) (sea
         by false h = refl
         by true h = absurd (false≢true (unseen_sees (is_committed past r) (is_ended past r) _ h (awaited_seen (shown_work (work_in old.actors s)) r (seated.seen r mine h) step.seen)))
 
-    awake : is_resting script past s ≡ false
+    pub awake : is_resting script past s ≡ false
     awake = or_none (is_waiting script past s) _ (not_waiting script.clusters (map (λ x. x.cluster) script.sessions) nodes (starts_of old.law) (says_of old.law) script refl past (earlier own run_new) s all_seen)
         (ap (λ b. (next_index past s == length (commands_of script s)) && b) step.stays ∙ and_none _)
       where
@@ -302,7 +302,7 @@ module _ (script : Script) (n : GName) (s : ℕ) (old new : WorldOf JcrLaw) (sea
               let same : x.cluster ≡ r.cluster = some_is_some x.cluster r.cluster (sym (slice_get-map (λ (x : SessionScript). x.cluster) script.sessions s ∙ ap (option_map (λ (x : SessionScript). x.cluster)) h) ∙ at_node) in
               ap (λ (o : Option SessionScript). option_map_or (λ x. x.cluster == c) o false) h ∙ (ap (λ m. m == c) same ∙ near_cluster)
 
-    stepped : (k : StepKind) → is_appended_by (history_at script past) s k (reverse own) ≡ true → IsOneStep own → IsStepAt script past s (due_at old s) own × (list_any (is_reply_of s) own ≡ false)
+    pub stepped : (k : StepKind) → is_appended_by (history_at script past) s k (reverse own) ≡ true → IsOneStep own → IsStepAt script past s (due_at old s) own × (list_any (is_reply_of s) own ≡ false)
     stepped k appended (inl (e, is, plain)) =
         let one : list_any (is_kind k) (kinds_for (history_at script past) s (e ∷ [])) ≡ true = sym (appended_one (history_at script past) s k e []) ∙ subst (λ (o : Past). is_appended_by (history_at script past) s k (reverse o) ≡ true) is appended in
         (
@@ -337,7 +337,7 @@ module _ (script : Script) (n : GName) (s : ℕ) (old new : WorldOf JcrLaw) (sea
     run_as : (o : Past) → own ≡ o → IsRunOf (starts_of old.law) (says_of old.law) script.clusters (map (λ x. x.cluster) script.sessions) (o ++ past)
     run_as o is = subst (λ (o : Past). IsRunOf (starts_of old.law) (says_of old.law) script.clusters (map (λ x. x.cluster) script.sessions) (o ++ past)) is run_new
 
-    flight_stepped : (k : StepKind) → is_appended_by (history_at script past) s k (reverse own) ≡ true → IsOneStep own → IsFlight (own ++ past) s (flight_behind (own ++ past) seat.flight)
+    pub flight_stepped : (k : StepKind) → is_appended_by (history_at script past) s k (reverse own) ≡ true → IsOneStep own → IsFlight (own ++ past) s (flight_behind (own ++ past) seat.flight)
     flight_stepped k appended (inl (e, is, plain)) =
         let one : list_any (is_kind k) (kinds_for (history_at script past) s (e ∷ [])) ≡ true = sym (appended_one (history_at script past) s k e []) ∙ subst (λ (o : Past). is_appended_by (history_at script past) s k (reverse o) ≡ true) is appended in
         subst (λ (o : Past). IsFlight (o ++ past) s (flight_behind (o ++ past) seat.flight)) (sym is)
@@ -346,7 +346,7 @@ module _ (script : Script) (n : GName) (s : ℕ) (old new : WorldOf JcrLaw) (sea
         subst (λ (o : Past). IsFlight (o ++ past) s (flight_behind (o ++ past) seat.flight)) (sym is)
         (flight_head script.clusters (map (λ x. x.cluster) script.sessions) nodes (starts_of old.law) (says_of old.law) s c v (event.End r ∷ past) (idle_mid k c v r is appended))
 
-    flight_said : (i : ℕ) (text : _) → own ≡ event.Said s i text ∷ [] → IsFlight (own ++ past) s seat.flight
+    pub flight_said : (i : ℕ) (text : _) → own ≡ event.Said s i text ∷ [] → IsFlight (own ++ past) s seat.flight
     flight_said i text is =
         subst (λ (o : Past). IsFlight (o ++ past) s seat.flight) (sym is)
         (flight_own script.clusters (map (λ x. x.cluster) script.sessions) nodes (starts_of old.law) (says_of old.law) s (event.Said s i text) past seat.flight (run_as (event.Said s i text ∷ []) is) (itself s) seated.flight)
@@ -358,7 +358,7 @@ module _ (script : Script) (n : GName) (s : ℕ) (old new : WorldOf JcrLaw) (sea
         cases (inl (m, u)) = absurd (false≢true (sym (all_seen r m) ∙ u))
         cases (inr (same, m, committed)) = ap awaited (subst (λ (o : Past). HasAwaited past o work_now) (is ∙ ap (λ x. x ∷ []) same) step.ended committed)
 
-    seen_stepped : (k : StepKind) → is_appended_by (history_at script past) s k (reverse own) ≡ true → IsOneStep own → IsSeenBut script (own ++ past) s (awaited work_now)
+    pub seen_stepped : (k : StepKind) → is_appended_by (history_at script past) s k (reverse own) ≡ true → IsOneStep own → IsSeenBut script (own ++ past) s (awaited work_now)
     seen_stepped k appended (inl (e, is, plain)) = subst (λ (o : Past). IsSeenBut script (o ++ past) s (awaited work_now)) (sym is) (seen_single e is)
     seen_stepped k appended (inr (c, v, r, is)) = subst (λ (o : Past). IsSeenBut script (o ++ past) s (awaited work_now)) (sym is) head_seen
       where
@@ -369,10 +369,10 @@ module _ (script : Script) (n : GName) (s : ℕ) (old new : WorldOf JcrLaw) (sea
             cases (inl (m, u)) = absurd (false≢true (sym (mid_seen k c v r is appended q m) ∙ u))
             cases (inr (same, m, committed)) = absurd (false≢true (ap is_end same))
 
-    seen_said : (i : ℕ) (text : _) → own ≡ event.Said s i text ∷ [] → IsSeenBut script (own ++ past) s (awaited work_now)
+    pub seen_said : (i : ℕ) (text : _) → own ≡ event.Said s i text ∷ [] → IsSeenBut script (own ++ past) s (awaited work_now)
     seen_said i text is = subst (λ (o : Past). IsSeenBut script (o ++ past) s (awaited work_now)) (sym is) (seen_single (event.Said s i text) is)
 
-    said : (i : ℕ) (text : _) → own ≡ event.Said s i text ∷ [] → IsStepAt script past s (due_at old s) own
+    pub said : (i : ℕ) (text : _) → own ≡ event.Said s i text ∷ [] → IsStepAt script past s (due_at old s) own
     said i text is = record {
       events = inl (record { event = event.Said s i text; is = is; theirs = itself s });
       step = subst (λ (o : Past). is_one_step (history_at script past) s (reverse o) ≡ true) (sym is) (ap (λ b. list_any (λ j. true) (cond b (kind.Say ∷ []) [])) (itself s));

@@ -29,7 +29,7 @@ use Rattle.jr_work.specs.Awaited.{IsSeenBut}
 use Rattle.jr_work.specs.Flights.{IsFlight, flight_with}
 use Rattle.jr_work.specs.Parts.{Part, Rule}
 use Rattle.jr_work.specs.Places.{history_at, is_over, is_waiting}
-use Rattle.jr_work.specs.SoFar.{IsCutSoFar, IsStepAt, is_last_due}
+use Rattle.jr_work.specs.SoFar.{IsCutSoFar, IsStepAt, IsUnderWay, is_last_due}
 
 -- ---- the stage
 
@@ -126,6 +126,15 @@ IsOfCommit s (entry.Draw t) = t ≡ s
 IsOfCommit s (entry.Write t n) = t ≡ s
 IsOfCommit s (entry.Last t) = t ≡ s
 IsOfCommit s e = ⊥
+
+-- a part under way by its rule: its events since the first stage, the newest first, behind whatever parts the journal was cut into before
+pub record IsUnder (first stage : Stage) (rule : Rule) (part : Past) : Type 0 where
+  pub script : stage.script ≡ first.script
+  pub stage : IsStage stage
+  pub over : (t : ℕ) → IsTrue (is_over first.script (past_of first) t) → IsTrue (is_over first.script (past_of stage) t)
+  pub whole : past_of stage ≡ part ++ past_of first
+  pub way : IsUnderWay first.script rule (past_of first) part
+  pub cut : (parts : List Part) → IsCutSoFar first.script (due_at first.world) parts [] (past_of first) → IsCutSoFar first.script (due_at stage.world) parts part (past_of stage)
 
 -- turns were made that are a part by its rule, behind whatever parts the journal was cut into before
 pub record Closes (old new : Stage) (rule : Rule) : Type 0 where
