@@ -119,7 +119,7 @@ flight_at_last past s f h all undecided =
     ap (λ (o : Option Draw). option_map_or (is_written_out past s) o false) h.last
     ∙ by (is_committed past h.draw.revision) (is_refused past h.draw.revision) (list_any (is_undo_of s) (since_draw past s))
         (flight_written past s (length (marked_paths h.draw.marks)) f h ∙ (ap (λ n. nat_le n f.written) (sym h.documents) ∙ all))
-        (h.undecided undecided)
+        (sym h.undecided ∙ undecided)
   where
     by : (c r u : Bool) → has_written (length (marked_paths h.draw.marks)) past s ≡ true → (not c && not r && not u) ≡ true → (has_written (length (marked_paths h.draw.marks)) past s && not c && not r && not u) ≡ true
     by false false false w k = ap (λ b. b && true && true && true) w
@@ -133,6 +133,16 @@ flight_not_at_last past s f h short =
     ap (λ (o : Option Draw). option_map_or (is_written_out past s) o false) h.last
     ∙ ap (λ b. b && not (is_committed past h.draw.revision) && not (is_refused past h.draw.revision) && not (list_any (is_undo_of s) (since_draw past s)))
         (flight_written past s (length (marked_paths h.draw.marks)) f h ∙ (ap (λ n. nat_le n f.written) (sym h.documents) ∙ short))
+
+-- nor is one that is decided, or undone
+pub flight_decided : (past : Past) (s : ℕ) (f : Flight) → IsFlightOf past s f → f.undecided ≡ false → is_at_last past s ≡ false
+flight_decided past s f h settled =
+    ap (λ (o : Option Draw). option_map_or (is_written_out past s) o false) h.last
+    ∙ by (has_written (length (marked_paths h.draw.marks)) past s) (not (is_committed past h.draw.revision)) (not (is_refused past h.draw.revision)) (not (list_any (is_undo_of s) (since_draw past s))) (sym h.undecided ∙ settled)
+  where
+    by : (w c r u : Bool) → (c && r && u) ≡ false → (w && c && r && u) ≡ false
+    by true c r u k = k
+    by false c r u k = refl
 
 pub idle_not_at_last : (past : Past) (s : ℕ) → is_drawing past s ≡ false → is_at_last past s ≡ false
 idle_not_at_last past s idle = by (slice_get (draws_of past s) 0)
@@ -149,7 +159,7 @@ pub record IsCalm (past : Past) (s : ℕ) (e : Event) : Type 0 where
   pub drawn : (r : Revision) (d : Draw) → draw_of past r ≡ Some d → draw_of (e ∷ past) r ≡ Some d
   pub written : count_by (is_write_of s) (since_draw (e ∷ past) s) ≡ count_by (is_write_of s) (since_draw past s)
   pub ended : (r : Revision) → is_revision_of past s r ≡ true → is_ended (e ∷ past) r ≡ is_ended past r
-  pub undecided : (d : Draw) → is_revision_of past s d.revision ≡ true → is_undecided past s d ≡ true → is_undecided (e ∷ past) s d ≡ true
+  pub undecided : (d : Draw) → is_revision_of past s d.revision ≡ true → is_undecided (e ∷ past) s d ≡ is_undecided past s d
   pub idle : is_drawing past s ≡ false → is_drawing (e ∷ past) s ≡ false
   pub last : (r : Revision) → is_drawing (event.End r ∷ past) s ≡ false → is_drawing (event.End r ∷ e ∷ past) s ≡ false
 
@@ -172,7 +182,7 @@ stays_of past s e calm f h =
       revision = h.revision;
       documents = h.documents;
       written = h.written ∙ sym calm.written;
-      undecided = λ u. calm.undecided h.draw known (h.undecided u);
+      undecided = h.undecided ∙ sym (calm.undecided h.draw known);
     }
 
 pub stays_calm : (past : Past) (s : ℕ) (e : Event) → IsCalm past s e → (o : Option Flight) → IsFlight past s o → IsFlight (e ∷ past) s o
@@ -195,7 +205,7 @@ calm_plain e past s draws drawn written ended undecided among = record {
   drawn = λ r d h. drawn r ∙ h;
   written = written;
   ended = λ r h. ended r;
-  undecided = λ d h k. undecided d ∙ k;
+  undecided = λ d h. undecided d;
   idle = λ h. among (e ∷ past) ∙ calm_idle e past s (λ r k. ended r ∙ k) h;
   last = λ r h. among (event.End r ∷ e ∷ past) ∙ calm_last e past s r h;
 }
@@ -245,7 +255,7 @@ module _ (past : Past) (s : ℕ) where
     drawn = λ r d h. h;
     written = refl;
     ended = λ r h. refl;
-    undecided = λ d mine k. ap (λ b. not (b || is_committed past d.revision) && not (is_refused past d.revision) && not (list_any (is_undo_of s) (since_draw past s))) (apart past s d.revision q mine theirs) ∙ k;
+    undecided = λ d mine. ap (λ b. not (b || is_committed past d.revision) && not (is_refused past d.revision) && not (list_any (is_undo_of s) (since_draw past s))) (apart past s d.revision q mine theirs);
     idle = calm_idle (event.Commit q) past s (λ r k. k);
     last = λ r h. calm_last (event.Commit q) past s r h;
   }
@@ -256,7 +266,7 @@ module _ (past : Past) (s : ℕ) where
     drawn = λ r d h. h;
     written = refl;
     ended = λ r h. refl;
-    undecided = λ d mine k. ap (λ b. not (is_committed past d.revision) && not (b || is_refused past d.revision) && not (list_any (is_undo_of s) (since_draw past s))) (apart past s d.revision q mine theirs) ∙ k;
+    undecided = λ d mine. ap (λ b. not (is_committed past d.revision) && not (b || is_refused past d.revision) && not (list_any (is_undo_of s) (since_draw past s))) (apart past s d.revision q mine theirs);
     idle = calm_idle (event.Refuse q item o) past s (λ r k. k);
     last = λ r h. calm_last (event.Refuse q item o) past s r h;
   }
@@ -267,7 +277,7 @@ module _ (past : Past) (s : ℕ) where
     drawn = λ r d h. h;
     written = refl;
     ended = λ r mine. ap (λ b. b || is_ended past r) (apart past s r q mine theirs);
-    undecided = λ d mine k. k;
+    undecided = λ d mine. refl;
     idle = calm_idle (event.End q) past s (λ r k. or_later (is_same r q) _ k);
     last = λ r h. calm_last (event.End q) past s r h;
   }
@@ -282,7 +292,7 @@ module _ (past : Past) (s : ℕ) where
     drawn = λ r f h. known r f h (is_same r d.revision) refl;
     written = ap (λ b. count_by (is_write_of s) (cond b [] (event.Draw d ∷ since_draw past s))) other;
     ended = λ r h. refl;
-    undecided = λ f mine k. ap (λ b. not (is_committed past f.revision) && not (is_refused past f.revision) && not (list_any (is_undo_of s) (cond b [] (event.Draw d ∷ since_draw past s)))) other ∙ k;
+    undecided = λ f mine. ap (λ b. not (is_committed past f.revision) && not (is_refused past f.revision) && not (list_any (is_undo_of s) (cond b [] (event.Draw d ∷ since_draw past s)))) other;
     idle = λ h. ap (λ b. (b && not (is_ended past d.revision)) || is_drawing_among (event.Draw d ∷ past) past s) other ∙ calm_idle (event.Draw d) past s (λ r k. k) h;
     last = λ r h. ap (λ b. (b && not (is_ended (event.End r ∷ past) d.revision)) || is_drawing_among (event.End r ∷ event.Draw d ∷ past) past s) other ∙ calm_last (event.Draw d) past s r h;
   }
@@ -344,8 +354,8 @@ module _ (clusters : ℕ) (sessions : List ℕ) (nodes : AreNodes clusters sessi
     -- the commit is decided, or undone
     settles : (e : Event) (x : Flight) → draws_of (e ∷ past) s ≡ draws_of past s → ((r : Revision) → draw_of (e ∷ past) r ≡ draw_of past r)
         → count_by (is_write_of s) (since_draw (e ∷ past) s) ≡ count_by (is_write_of s) (since_draw past s) → ((r : Revision) → is_ended (e ∷ past) r ≡ is_ended past r)
-        → ((now : Past) → is_drawing_among now (e ∷ past) s ≡ is_drawing_among now past s) → IsFlightOf past s x → IsFlightOf (e ∷ past) s (decided x)
-    settles e x draws drawn written ended among h = record {
+        → ((now : Past) → is_drawing_among now (e ∷ past) s ≡ is_drawing_among now past s) → (h : IsFlightOf past s x) → is_undecided (e ∷ past) s h.draw ≡ false → IsFlightOf (e ∷ past) s (decided x)
+    settles e x draws drawn written ended among h settled = record {
       draw = h.draw;
       last = ap (λ l. slice_get l 0) draws ∙ h.last;
       known = drawn h.draw.revision ∙ h.known;
@@ -355,8 +365,50 @@ module _ (clusters : ℕ) (sessions : List ℕ) (nodes : AreNodes clusters sessi
       revision = h.revision;
       documents = h.documents;
       written = h.written ∙ sym written;
-      undecided = λ u. absurd (false≢true u);
+      undecided = sym settled;
     }
+
+    -- what the session has in flight is its last draw
+    the_flight : (r : Revision) (f : Flight) (h : IsFlightOf past s f) → is_in_flight past r ≡ true → is_revision_of past s r ≡ true → is_same r h.draw.revision ≡ true
+    the_flight r f h flies own = by (draw_of past r) refl own
+      where
+        open_before : is_ended past r ≡ false
+        open_before = not_true (is_ended past r) (halves (is_drawn past r) _ flies).1
+          where
+            not_true : (b : Bool) → not b ≡ true → b ≡ false
+            not_true true k = absurd (false≢true k)
+            not_true false k = refl
+
+        by : (d : Option Draw) → draw_of past r ≡ d → option_map_or (λ x. x.session == s) d false ≡ true → is_same r h.draw.revision ≡ true
+        by None is mine = absurd (false≢true mine)
+        by (Some d) is mine = elim (is_same r h.draw.revision) as (λ b. is_same r h.draw.revision ≡ b → b ≡ true) [
+          | true ↦ λ same. refl
+          | false ↦ λ same. absurd (false≢true (sym h.alone ∙ flying_by (event.End h.draw.revision ∷ past) past s r d is mine (ap (λ b. b || is_ended past r) same ∙ open_before)))
+        ] refl
+
+    same_back : (r q : Revision) → is_same r q ≡ true → is_same q r ≡ true
+    same_back r q h = subst (λ (x : Revision). is_same q x ≡ true) (sym (same_revision r q h)) (same_itself q)
+
+    settled_commit : (r : Revision) (f : Flight) (h : IsFlightOf past s f) → is_in_flight past r ≡ true → is_revision_of past s r ≡ true → is_undecided (event.Commit r ∷ past) s h.draw ≡ false
+    settled_commit r f h flies own = ap (λ b. not (b || is_committed past h.draw.revision) && not (is_refused past h.draw.revision) && not (list_any (is_undo_of s) (since_draw past s))) (same_back r h.draw.revision (the_flight r f h flies own))
+
+    settled_refuse : (r : Revision) (item : _) (o : Revision) (f : Flight) (h : IsFlightOf past s f) → is_in_flight past r ≡ true → is_revision_of past s r ≡ true → is_undecided (event.Refuse r item o ∷ past) s h.draw ≡ false
+    settled_refuse r item o f h flies own =
+        ap (λ b. not (is_committed past h.draw.revision) && not (b || is_refused past h.draw.revision) && not (list_any (is_undo_of s) (since_draw past s))) (same_back r h.draw.revision (the_flight r f h flies own))
+        ∙ none (not (is_committed past h.draw.revision)) (not (list_any (is_undo_of s) (since_draw past s)))
+      where
+        none : (a b : Bool) → (a && false && b) ≡ false
+        none true b = refl
+        none false b = refl
+
+    settled_undo : (t : ℕ) (f : Flight) (h : IsFlightOf past s f) → (t == s) ≡ true → is_undecided (event.Went t kind.Undo ∷ past) s h.draw ≡ false
+    settled_undo t f h own =
+        ap (λ b. not (is_committed past h.draw.revision) && not (is_refused past h.draw.revision) && not (b || list_any (is_undo_of s) (since_draw past s))) own
+        ∙ none (not (is_committed past h.draw.revision) && not (is_refused past h.draw.revision))
+      where
+        none : (a : Bool) → (a && false) ≡ false
+        none true = refl
+        none false = refl
 
     -- a new draw
     draws_first : (d : Draw) → IsRunOf starts says clusters sessions (event.Draw d ∷ past) → (d.session == s) ≡ true → IsFlight (event.Draw d ∷ past) s (flight_with (event.Draw d) None)
@@ -371,10 +423,10 @@ module _ (clusters : ℕ) (sessions : List ℕ) (nodes : AreNodes clusters sessi
       revision = refl;
       documents = refl;
       written = sym (ap (λ b. count_by (is_write_of s) (cond b [] (event.Draw d ∷ since_draw past s))) own);
-      undecided = λ u.
-          ap (λ b. not b && not (is_refused past d.revision) && not (list_any (is_undo_of s) (since_draw (event.Draw d ∷ past) s))) (uncommitted past run.1)
+      undecided = sym
+          (ap (λ b. not b && not (is_refused past d.revision) && not (list_any (is_undo_of s) (since_draw (event.Draw d ∷ past) s))) (uncommitted past run.1)
           ∙ (ap (λ b. not b && not (list_any (is_undo_of s) (since_draw (event.Draw d ∷ past) s))) (unrefused past run.1)
-          ∙ ap (λ b. not (list_any (is_undo_of s) (cond b [] (event.Draw d ∷ since_draw past s)))) own);
+          ∙ ap (λ b. not (list_any (is_undo_of s) (cond b [] (event.Draw d ∷ since_draw past s)))) own));
     }
       where
         fresh : draw_of past d.revision ≡ None
@@ -468,12 +520,12 @@ module _ (clusters : ℕ) (sessions : List ℕ) (nodes : AreNodes clusters sessi
   -- an event of the session changes what is kept as it does
   pub flight_own : (e : Event) (past : Past) (o : Option Flight) → IsRunOf starts says clusters sessions (e ∷ past) → is_own past s e ≡ true → IsFlight past s o → IsFlight (e ∷ past) s (flight_with e o)
   flight_own (event.Draw d) past o run own h = draws_first past d run own
-  flight_own (event.Commit r) past o run own h = mapped past (event.Commit r) decided o (λ idle. calm_idle (event.Commit r) past s (λ q k. k) idle) (λ x k. settles past (event.Commit r) x refl (λ q. refl) refl (λ q. refl) (λ now. refl) k) h
-  flight_own (event.Refuse r item q) past o run own h = mapped past (event.Refuse r item q) decided o (λ idle. calm_idle (event.Refuse r item q) past s (λ q k. k) idle) (λ x k. settles past (event.Refuse r item q) x refl (λ q. refl) refl (λ q. refl) (λ now. refl) k) h
+  flight_own (event.Commit r) past o run own h = mapped past (event.Commit r) decided o (λ idle. calm_idle (event.Commit r) past s (λ q k. k) idle) (λ x k. settles past (event.Commit r) x refl (λ q. refl) refl (λ q. refl) (λ now. refl) k (settled_commit past r x k run.0.open_.in_flight own)) h
+  flight_own (event.Refuse r item q) past o run own h = mapped past (event.Refuse r item q) decided o (λ idle. calm_idle (event.Refuse r item q) past s (λ q k. k) idle) (λ x k. settles past (event.Refuse r item q) x refl (λ q. refl) refl (λ q. refl) (λ now. refl) k (settled_refuse past r item q x k run.0.open_.in_flight own)) h
   flight_own (event.End r) past o run own h = ends_last past r o run own h
   flight_own (event.Head k v) past o run own h = absurd (false≢true own)
   flight_own (event.Went t kind.Write) past o run own h = mapped past (event.Went t kind.Write) written_more o (λ idle. calm_idle (event.Went t kind.Write) past s (λ q k. k) idle) (λ x k. wrote past t own x k) h
-  flight_own (event.Went t kind.Undo) past o run own h = mapped past (event.Went t kind.Undo) decided o (λ idle. calm_idle (event.Went t kind.Undo) past s (λ q k. k) idle) (λ x k. settles past (event.Went t kind.Undo) x refl (λ q. refl) refl (λ q. refl) (λ now. refl) k) h
+  flight_own (event.Went t kind.Undo) past o run own h = mapped past (event.Went t kind.Undo) decided o (λ idle. calm_idle (event.Went t kind.Undo) past s (λ q k. k) idle) (λ x k. settles past (event.Went t kind.Undo) x refl (λ q. refl) refl (λ q. refl) (λ now. refl) k (settled_undo past t x k own)) h
   flight_own (event.Went t k) past o run own h = stays_calm past s _ (calm_plain (event.Went t k) past s refl (λ r. refl) refl (λ r. refl) (λ d. refl) (λ now. refl)) o h
   flight_own (event.Login t v) past o run own h = stays_calm past s _ (calm_login past s t v) o h
   flight_own (event.Refresh t v) past o run own h = stays_calm past s _ (calm_refresh past s t v) o h

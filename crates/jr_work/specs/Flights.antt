@@ -27,7 +27,7 @@ pub record IsFlightOf (past : Past) (s : ℕ) (f : Flight) : Type 0 where
   pub revision : f.revision ≡ draw.revision
   pub documents : f.documents ≡ length (marked_paths draw.marks)
   pub written : f.written ≡ count_by (is_write_of s) (since_draw past s)
-  pub undecided : IsTrue f.undecided → IsTrue (is_undecided past s draw)
+  pub undecided : f.undecided ≡ is_undecided past s draw
 
 -- what is kept is what the history tells
 abbrev pub IsFlight : Past → ℕ → Option Flight → Type 0

@@ -130,7 +130,7 @@ IsOfCommit s e = ⊥
 -- a part under way by its rule: its events since the first stage, the newest first, behind whatever parts the journal was cut into before
 pub record IsUnder (first stage : Stage) (rule : Rule) (part : Past) : Type 0 where
   pub script : stage.script ≡ first.script
-  pub stage : IsStage stage
+  pub stage_is : IsStage stage
   pub over : (t : ℕ) → IsTrue (is_over first.script (past_of first) t) → IsTrue (is_over first.script (past_of stage) t)
   pub whole : past_of stage ≡ part ++ past_of first
   pub way : IsUnderWay first.script rule (past_of first) part
