@@ -6,7 +6,8 @@ use Rattle.jr_script.specs.declared.script.Script.{Script}
 use Rattle.oak_world.specs.Worlds.{WorldOf}
 use Rattle.jcr_session.specs.declared.law.JcrLaw.{JcrLaw}
 use Rattle.repo_run.specs.Ends.{BreaksRule, Call, Ends, EndsWith, FailsNowhere, Faults, HasLine, HasRunAll, IsCalm, IsCause, IsFault, IsPart, IsReadWhole, IsRefused, IsUnread, Output, Prints, Spells, Tells, longest}
-use Rattle.repo_run.specs.Headline.{HasRun}
+use Rattle.jr_work.specs.Runs.{HasRun}
+use Rattle.repo_run.specs.Headline.{replies_of}
 use Rattle.repo_run.specs.Statuses.{fault_line, status_of}
 use Rattle.repo_run.specs.declared.status.Unrun.{Unrun}
 use Rattle.repo_run.specs.declared.status.Unrun.TheVariants as unrun

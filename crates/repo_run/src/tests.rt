@@ -6,7 +6,7 @@ use jr_path::{DeepCopy, List};
 use jr_rev::RevVec;
 use jr_script::read_script;
 use oak_doc::Document;
-use oak_machine::{Event, Journal, StepKind};
+use oak_machine::{Event, Events, Journal, StepKind};
 use oak_world::World;
 use std::alloc::{AllocError, Global};
 use std::test::Fail;
@@ -160,7 +160,7 @@ fn documents_of_the_first_example(rt: HostRuntime) -> Result<(), Fail> {
         "Login", "Said", "Said", "Draw", "Write", "Write", "Commit", "End", "Head", "Refresh",
         "Said", "Said", "Said", "Left",
     ];
-    let events = world.journal().events.inner();
+    let events = world.journal().events.as_slice();
     assert_eq!(rt; events.len(), steps.len());
     for (event, step) in events.iter().zip(steps) {
         assert_eq!(rt; name_of(event), step);
@@ -193,10 +193,10 @@ fn replies_follow_from_the_journal(rt: HostRuntime) -> Result<(), Fail> {
         let mut before = Journal {
             clusters: 1,
             sessions: List::new(alloc),
-            events: List::new(alloc),
+            events: Events::new(alloc),
         };
         let mut replies: usize = 0;
-        for event in world.journal().events.inner() {
+        for event in world.journal().events.as_slice() {
             if let Event::Said(session, _, text) = event {
                 let found = match eval(alloc, &law, &before, *session)? {
                     Some(found) => found,
@@ -218,8 +218,26 @@ fn law_of(alloc: Global, input: &str) -> Result<JcrLaw, Fail> {
         return Err(AllocError.into());
     };
     let mut sessions = List::new(alloc);
-    for session in script.sessions.inner() {
+    for session in script.sessions.as_slice() {
         sessions.push((session.cluster, session.commands.copy()?))?;
     }
     Ok(JcrLaw { sessions })
+}
+
+// Session 1 reads `/a` before and after the second save of session 0, and between its writes.
+const STEADY: &str = r#"{"sessions":[{"commands":[["add","/a"],["add","/b"],["save"],["set","/a","p",1],["set","/b","p",1],["save"]]},{"commands":[["refresh",false],["get","/a/p"],["refresh",false],["get","/a/p"]]}],"schedule":[[0,"say",5],[0,"write",1],[1,"say",2],[0,"say",1],[1,"say",2]]}"#;
+
+const STEADY_REPLIES: &str = "0 0 ok\n0 1 ok\n0 2 ok \"r1-0-1\"\n0 3 ok\n0 4 ok\n0 5 ok \"r2-0-1\"\n1 0 ok \"r1-0-1\"\n1 1 no 1 [\"/a/p\"]\n1 2 ok \"r2-0-1\"\n1 3 ok 1\n";
+
+#[test]
+fn a_reader_is_steady(rt: HostRuntime) -> Result<(), Fail> {
+    let alloc = rt.alloc();
+    let (status, sink, left) = run(alloc, "steps", STEADY, &[], &[])?;
+    assert_eq!(rt; status, Status::Done);
+    assert_eq!(rt; sink.written(), STEADY_REPLIES.as_bytes());
+    let Some(world) = left else {
+        return Err(AllocError.into());
+    };
+    assert!(rt; world.reads(1) >= 2);
+    Ok(())
 }

@@ -1,18 +1,18 @@
 // The top calls.
 ghost use Rattle.std.specs.Prelude.{◌≡◌, ℕ, List, None, IfOk, IfErr, IfSome, IsNone, map, string_bytes};
 ghost use Rattle.repo_run.specs.Ends.{Ends, Faults, IsReadWhole, IsUnread, Prints, Spells, Tells, call, input, output};
-ghost use Rattle.repo_run.specs.Headline.{HasRun};
-ghost use Rattle.repo_run.specs.Turns.{IsSmall};
+ghost use Rattle.jr_script.specs.Bounds.{IsWithin};
+ghost use Rattle.jr_work.specs.Runs.{HasRun};
 ghost use Rattle.repo_run.specs.declared.status.Unrun.TheVariants as unrun;
 
-use crate::session::run_steps;
 use crate::status::{Status, Unrun, script_line};
 use crate::words::{Words, words_meant};
 use jcr_session::JcrLaw;
 use jr_io::{Failed, Sink, Source, read_all, write_all};
 use jr_path::Text;
 use jr_print::lines;
-use jr_script::{Script, read_script};
+use jr_script::{Script, read_script, scripts_are_within};
+use jr_work::run_steps;
 use oak_world::World;
 use std::alloc::{AllocError, Global};
 use std::sync::Wait;
@@ -51,7 +51,10 @@ pub fn steps_main<S: Source, K: Sink>(
         return unrun(alloc, sink, &Unrun::Words);
     };
     match script_of(alloc, source) {
-        Ok(script) => run_script(alloc, script, sink, left),
+        Ok(script) => {
+            scripts_are_within();
+            run_script(alloc, script, sink, left)
+        }
         Err(why) => unrun(alloc, sink, &why),
     }
 }
@@ -72,7 +75,7 @@ fn run_script<K: Sink>(
     sink: &mut K,
     left: &mut Option<World<JcrLaw>>,
 ) -> Status
-    requires small { IsSmall script.sessions }
+    requires within { IsWithin script }
     requires none { IsNone left.old }
     ensures ran { IfSome left.new (HasRun script) }
     ensures replies { Prints (output (K.written sink.old) (K.fault_count sink.old)) (output (K.written sink.new) (K.fault_count sink.new)) left.new result }
