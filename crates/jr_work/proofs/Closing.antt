@@ -59,6 +59,14 @@ under_begins stage rule is = record {
   cut = λ parts h. h;
 }
 
+-- what is due stays a last write for each session, where it does for one and the others' stays
+still_due : (due now : ℕ → Option StepKind) (s t : ℕ) → ((x : ℕ) → (x == s) ≡ false → now x ≡ due x) → (is_last_due (due s) ≡ true → is_last_due (now s) ≡ true) → is_last_due (due t) ≡ true → is_last_due (now t) ≡ true
+still_due due now s t others mine last = by (t == s) refl
+  where
+    by : (b : Bool) → (t == s) ≡ b → is_last_due (now t) ≡ true
+    by true same = subst (λ (x : ℕ). is_last_due (now x) ≡ true) (sym (equal t s same)) (mine (subst (λ (x : ℕ). is_last_due (due x) ≡ true) (equal t s same) last))
+    by false apart = ap is_last_due (others t apart) ∙ last
+
 -- ---- a turn of the part's session
 
 module _ (first stage new : Stage) (rule : Rule) (part : Past) (s : ℕ) (answer : Turn) (under : IsUnder first stage rule part) (come : HasCome stage new s answer) where
@@ -111,14 +119,8 @@ module _ (first stage new : Stage) (rule : Rule) (part : Past) (s : ℕ) (answer
     whole = past_stays none ∙ under.whole;
     way = under.way;
     cut = λ parts h. subst (λ (p : Past). IsCutSoFar first.script (due_at new.world) parts part p) (sym (past_stays none))
-        (cut_due first.script (due_at stage.world) (due_at new.world) (λ t last. still t last) parts part (past_of stage) (under.cut parts h));
+        (cut_due first.script (due_at stage.world) (due_at new.world) (λ t last. still_due (due_at stage.world) (due_at new.world) s t come.others (come.still none) last) parts part (past_of stage) (under.cut parts h));
   }
-    where
-      still : (t : ℕ) → is_last_due (due_at stage.world t) ≡ true → is_last_due (due_at new.world t) ≡ true
-      still t last = elim (t == s) as (λ b. (t == s) ≡ b → is_last_due (due_at new.world t) ≡ true) [
-        | true ↦ λ same. subst (λ (x : ℕ). is_last_due (due_at new.world x) ≡ true) (sym (equal t s same)) (come.still none (subst (λ (x : ℕ). is_last_due (due_at stage.world x) ≡ true) (equal t s same) last))
-        | false ↦ λ apart. subst (λ (d : Option StepKind). is_last_due d ≡ true) (sym (come.others t apart)) last
-      ] refl
 
 -- ---- a part is closed
 

@@ -231,7 +231,7 @@ fn law_of(alloc: Global, script: &Script) -> Result<JcrLaw, AllocError>
 // A turn of a session in its world.
 fn turn_once(world: &mut World<JcrLaw>, run: &mut SessionRun, s: u32) -> Turn
     requires there { IsTrue (is_some (slice_get world.old.history.sessions s)) }
-    requires stands { Stands world.old.law (shown_at world.entry.ghost_name world.old s) run.old }
+    requires stands { Stands world.old.law (shown_at world.ghost_name world.old s) run.old }
     ensures { HasTurnedIn world.entry.ghost_name s world.old world.new run.old run.new result }
 {
     let mut port = SoloPort::new(world, s);
@@ -241,7 +241,7 @@ fn turn_once(world: &mut World<JcrLaw>, run: &mut SessionRun, s: u32) -> Turn
 // A reading step of a session in its world, where one is due.
 fn read_one(world: &mut World<JcrLaw>, run: &mut SessionRun, s: u32) -> Result<bool, AllocError>
     requires there { IsTrue (is_some (slice_get world.old.history.sessions s)) }
-    requires stands { Stands world.old.law (shown_at world.entry.ghost_name world.old s) run.old }
+    requires stands { Stands world.old.law (shown_at world.ghost_name world.old s) run.old }
     ensures { OnOk result (HasRead world.entry.ghost_name s world.old world.new run.old run.new) }
 {
     let mut port = SoloPort::new(world, s);
