@@ -15,7 +15,7 @@ use Rattle.oak_machine.specs.Commits.{is_commit_of, is_committed, is_ended, is_e
 use Rattle.oak_machine.specs.Laws.{Starts, Says, StartsProper, is_event_of, is_of_item}
 use Rattle.oak_machine.specs.Marks.{marks_for}
 use Rattle.oak_machine.specs.Runs.{IsRunOf, AreNodes, StartsLast, SaysLast, SaysLastBehind, is_task_end}
-use Rattle.oak_machine.specs.Sessions.{base_of, drawn_since}
+use Rattle.oak_machine.specs.Sessions.{drawn_since}
 use Rattle.oak_machine.proofs.Induction.{base_stays}
 use Rattle.oak_machine.proofs.Stays.{any_later}
 use Rattle.jcr_trans.specs.declared.command.Command.{Command}

@@ -169,6 +169,12 @@ one_more : (t : Nodes) (r : Revision) (ws : List Write) (es : List (Revision × 
 one_more t r ws [] = refl
 one_more t r ws (e ∷ es) = one_more (applied t e.1) r ws es
 
+-- bases that see all that is committed see one tree
+pub one_tree : (past : Past) (v w : RevVec) → ((q : Revision) → is_committed past q ≡ true → sees v q ≡ true) → ((q : Revision) → is_committed past q ≡ true → sees w q ≡ true) → tree_at past v ≡ tree_at past w
+one_tree past v w seen seen_too =
+    ap (λ (es : List (Revision × List Write)). applied_all initial_tree es)
+    (all_seen v (committed_edits past) (each_more _ _ seen (committed_edits past) (edits_committed past)) ∙ sym (all_seen w (committed_edits past) (each_more _ _ seen_too (committed_edits past) (edits_committed past))))
+
 -- ---- a save that is committed
 
 own : (s : ℕ) → (s == s) ≡ true

@@ -1,5 +1,5 @@
 -- What a session answers by its view, and to a save by what it comes to.
-use Rattle.std.proofs.Common.{◌≡◌, ◌⊎◌, inl, inr, ℕ, Bool, true, false, Some, None, Option, List, [], ◌∷◌, refl, sym, ap, ◌∙◌, subst}
+use Rattle.std.proofs.Common.{◌≡◌, ◌⊎◌, inl, inr, ℕ, Bool, true, false, Some, None, Option, List, [], ◌∷◌, Result, Ok, Err, IfOk, OnErr, refl, sym, ap, ◌∙◌, subst}
 use Rattle.std.specs.Prelude.{slice_get}
 use Rattle.jr_path.specs.declared.text.Text.{Text}
 use Rattle.jr_tree.specs.Trees.{Nodes}
@@ -68,3 +68,21 @@ module _ (law : JcrLaw) (p : Shown) (run : SessionRun) (stands : Stands law p ru
       by sight.Unread at h = absurd h
       by (sight.Reading w) at h = absurd h
       by (sight.Seen seen) at h = save_too_many law p run stands between read seen at next text h.1 told
+
+-- ---- a text that was made, or for which memory was refused
+
+pub made_ok : {T E : Type 0} (bytes : T → List ℕ) (made : Result T E) (P : Text → Type 0) (is : Text) → P is → IfOk made (λ t. bytes t ≡ is) → IfOk made (λ t. P (bytes t))
+made_ok bytes (Ok t) P is h told = subst P (sym told) h
+made_ok bytes (Err e) P is h told = tt
+
+pub made_err : {T E : Type 0} (made : Result T E) (A : Type 0) → A → OnErr made A
+made_err (Ok t) A h = tt
+made_err (Err e) A h = h
+
+pub made_if : {T E : Type 0} (made : Result T E) (P Q : T → Type 0) → ((t : T) → P t → Q t) → IfOk made P → IfOk made Q
+made_if (Ok t) P Q f h = f t h
+made_if (Err e) P Q f h = tt
+
+pub made_or : {T E : Type 0} (made : Result T E) (A B : Type 0) → (A → B) → OnErr made A → OnErr made B
+made_or (Ok t) A B f h = tt
+made_or (Err e) A B f h = f h

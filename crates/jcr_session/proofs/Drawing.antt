@@ -53,7 +53,7 @@ use Rattle.jcr_session.proofs.Replying.{apart, between_at, forgo_save, idle_betw
 use Rattle.jcr_session.proofs.Reading.{beside_both}
 use Rattle.jcr_session.proofs.Saying.{IsBetween, answer_waits}
 use Rattle.jcr_session.proofs.Trees.{base_is_tree}
-use Rattle.jcr_session.proofs.Turning.{Link, free, has_turned_later, is_awaiting, kept, plain_step}
+use Rattle.jcr_session.proofs.Turning.{Link, free, has_turned_later, is_awaiting, kept, never_ends, not_ended, plain_step, turned_later}
 use Rattle.jcr_session.proofs.Waiting.{by_waits, in_beside, in_then, next_beside, next_waits, turn_beside, turn_still, turn_waits}
 
 -- what is seen where there is something to commit
@@ -223,12 +223,14 @@ module _ (law : JcrLaw) (old : Shown) (run : SessionRun) (stands : Stands law ol
             alone = steps.alone;
             tells = (told, inl (event.Draw made.0, made.3, refl));
             made = plain_step moment begun new steps.own (event.Draw made.0 ∷ []) made.3 in_behind.stays (ap is_awaiting begins.work_is) refl tt;
+            same = (refl, refl);
             stands = stands_new;
           }
 
           draws_old : HasTurned law old new run saving (turn.Stepped kind.Draw)
-          draws_old = has_turned_later law old mid new run saving (turn.Stepped kind.Draw) in_old.nodes (kept waits.work_is (waits.same_due refl)) (by_waits law old mid old.work room waits)
-              (has_turned_later law mid begun new run saving (turn.Stepped kind.Draw) in_mid.nodes (free (ap is_writing begins.work_is) (ap is_awaiting (waits.work_is ∙ idle_old))) (by_waits law mid begun (Starting (task.Commit edit marks)) more begins) draws_new)
+          draws_old = turned_later law old mid new run saving (turn.Stepped kind.Draw) in_old.nodes (kept waits.work_is (waits.same_due refl)) (by_waits law old mid old.work room waits) (not_ended (turn.Stepped kind.Draw) refl)
+              (turned_later law mid begun new run saving (turn.Stepped kind.Draw) in_mid.nodes (free (ap is_writing begins.work_is) (ap is_awaiting begins.work_is) (ap is_awaiting (waits.work_is ∙ idle_old))) (by_waits law mid begun (Starting (task.Commit edit marks)) more begins)
+              (not_ended (turn.Stepped kind.Draw) refl) draws_new)
 
         -- memory is refused for the draw
         module _ (steps : Steps (starts_of law) (says_of law) begun new out.Memory) where
@@ -246,7 +248,7 @@ module _ (law : JcrLaw) (old : Shown) (run : SessionRun) (stands : Stands law ol
               })
 
           links : Link old new
-          links = free (ap is_writing stopped.1) (ap is_awaiting idle_old)
+          links = free (ap is_writing stopped.1) (ap is_awaiting stopped.1) (ap is_awaiting idle_old)
 
   -- ---- by the plan
 
@@ -272,4 +274,5 @@ module _ (law : JcrLaw) (old : Shown) (run : SessionRun) (stands : Stands law ol
 
         pub commit_stopped : (last : Shown) (now : SessionRun) (t : Turn) → HasTurned law new last run now t → HasTurned law old last run now t
         commit_stopped last now t turned = let x = plan_seen run.sight edit marks planned in
-            has_turned_later law old new last run now t in_old.nodes (links edit marks x.0 x.1 x.2 mid room waits begun new more begins steps) (stops edit marks x.0 x.1 x.2 mid room waits begun new more begins steps) turned
+            has_turned_later law old new last run now t in_old.nodes (links edit marks x.0 x.1 x.2 mid room waits begun new more begins steps) (stops edit marks x.0 x.1 x.2 mid room waits begun new more begins steps)
+            (never_ends law new last run now (in_beside law old new (stops edit marks x.0 x.1 x.2 mid room waits begun new more begins steps) in_old.nodes in_old.run in_old)) turned

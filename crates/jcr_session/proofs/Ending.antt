@@ -11,8 +11,8 @@ use Rattle.oak_machine.specs.Laws.{AreOthers, after}
 use Rattle.oak_machine.specs.Runs.{IsRun}
 use Rattle.oak_machine.specs.Sessions.{is_drawing}
 use Rattle.oak_port.specs.Ports.{HasRoom, Idle, Shown}
-use Rattle.oak_commit.specs.declared.outcome.CommitEnd.{CommitEnd}
-use Rattle.oak_commit.specs.declared.outcome.CommitEnd.TheVariants as commit
+use Rattle.oak_port.specs.declared.task.CommitEnd.{CommitEnd}
+use Rattle.oak_port.specs.declared.task.CommitEnd.TheVariants as commit
 use Rattle.jcr_trans.specs.declared.command.Command.TheVariants as command
 use Rattle.jcr_trans.specs.Answers.{Refused, ShowsRevision, ShowsVector}
 use Rattle.jcr_trans.specs.Texts.{answer_text, memory_text}
@@ -30,6 +30,7 @@ use Rattle.jcr_session.specs.declared.sight.Sight.{Sight}
 use Rattle.jcr_session.specs.declared.sight.Sight.TheVariants as sight
 use Rattle.jcr_session.specs.Sights.{IsIn, says_of, starts_of}
 use Rattle.jcr_session.specs.Standing.{HasCommitted, HasSaved, IsRefreshed, IsSaving, MayAnswer, SeesThen, Stands, StandsAt}
+use Rattle.jcr_session.proofs.Replying.{may_like}
 use Rattle.jcr_session.proofs.Waiting.{over_still, tree_still}
 
 module _ (law : JcrLaw) (p : Shown) (run : SessionRun) (stands : Stands law p run) where
@@ -135,3 +136,35 @@ module _ (law : JcrLaw) (p : Shown) (run : SessionRun) (stands : Stands law p ru
 
     pub forgoes_ended : e ≡ commit.Memory → MayAnswer law p run memory_text
     forgoes_ended end = forgoes_save (subst (λ (f : CommitEnd). HasCommitted law.sessions p.history.past p.session here.0.base here.0.view f) end here.4)
+
+-- ---- by the end of the commit, where the run has left its phase
+
+module _ (law : JcrLaw) (p : Shown) (run : SessionRun) where
+  pub ended_room : (e : CommitEnd) → Stands law p (record run { phase = phase.Saved e }) → HasRoom p.room 40
+  ended_room e stands = saved_room law p (record run { phase = phase.Saved e }) stands e refl
+
+  pub ended_revision : (r : Revision) → Stands law p (record run { phase = phase.Saved (commit.Committed r) }) → (now : SessionRun) (text : Text) → now ≡ record run { sight = sight.Unread } → text ≡ answer_text (ShowsRevision r) → MayAnswer law p now text
+  ended_revision r stands now text is told =
+      subst (λ (t : Text). MayAnswer law p now t) (sym told)
+      (may_like law p (record run { phase = phase.Saved (commit.Committed r); sight = sight.Unread }) now (answer_text (ShowsRevision r))
+      (shows_revision law p (record run { phase = phase.Saved (commit.Committed r) }) stands (commit.Committed r) refl r refl)
+      (ap (λ (x : SessionRun). x.session) is) (ap (λ (x : SessionRun). x.commands) is) (ap (λ (x : SessionRun). x.index) is) (ap (λ (x : SessionRun). x.sight) is))
+
+  module _ (item : Item) (o : Revision) (stands : Stands law p (record run { phase = phase.Saved (commit.Clash item o) })) where
+    pub ended_clash : (text : Text) → text ≡ answer_text (Refused 10 (datum.Item item ∷ datum.Revision o ∷ [])) → MayAnswer law p run text
+    ended_clash text told =
+        subst (λ (t : Text). MayAnswer law p run t) (sym told)
+        (may_like law p (record run { phase = phase.Saved (commit.Clash item o) }) run (answer_text (Refused 10 (datum.Item item ∷ datum.Revision o ∷ [])))
+        (shows_clash law p (record run { phase = phase.Saved (commit.Clash item o) }) stands (commit.Clash item o) refl item o refl) refl refl refl refl)
+
+    pub ended_unshown : MayAnswer law p run memory_text
+    ended_unshown = may_like law p (record run { phase = phase.Saved (commit.Clash item o) }) run memory_text (forgoes_clash law p (record run { phase = phase.Saved (commit.Clash item o) }) stands (commit.Clash item o) refl item o refl) refl refl refl refl
+
+  pub ended_memory : Stands law p (record run { phase = phase.Saved commit.Memory }) → MayAnswer law p run memory_text
+  ended_memory stands = may_like law p (record run { phase = phase.Saved commit.Memory }) run memory_text (forgoes_ended law p (record run { phase = phase.Saved commit.Memory }) stands commit.Memory refl refl) refl refl refl refl
+
+-- the phase is put back
+pub stands_saved : (law : JcrLaw) (p : Shown) (run now : SessionRun) (f : Phase) (e : CommitEnd) → Stands law p run → f ≡ run.phase → f ≡ phase.Saved e → now ≡ record run { phase = phase.Between } → Stands law p (record now { phase = phase.Saved e })
+stands_saved law p run now f e stands same saved is =
+    subst (λ (x : SessionRun). Stands law p (record x { phase = phase.Saved e })) (sym is)
+    (subst (λ (g : Phase). Stands law p (record run { phase = g })) (sym same ∙ saved) stands)

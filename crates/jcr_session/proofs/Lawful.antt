@@ -22,7 +22,7 @@ use Rattle.core_law.specs.Law.{MaySay, SaysBy, has_few_nodes, may_save, plain, h
 use Rattle.core_law.specs.State.{Orders, command_at, pending_of, view_of}
 use Rattle.jcr_session.specs.Eval.{answer_next, answer_by, answer_of, clash_answer, ended_answer, save_answer, unsaved_answer, vector_answer}
 
-some_is : {A : Type 0} {x y : A} → Some x ≡ Some y → x ≡ y
+pub some_is : {A : Type 0} {x y : A} → Some x ≡ Some y → x ≡ y
 some_is {A} {x} h = ap (λ (o : Option A). unwrap_or o x) h
 
 none_some : {A B : Type 0} {x : A} → None ≡ Some x → B

@@ -16,3 +16,4 @@ mod Looking
 mod Answering
 mod Drawing
 pub mod Staying
+mod Lengths

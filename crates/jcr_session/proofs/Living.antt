@@ -35,7 +35,7 @@ use Rattle.jcr_session.specs.declared.turn.Turn.TheVariants as turn
 use Rattle.jcr_session.specs.Sights.{IsIn, says_of, starts_of}
 use Rattle.jcr_session.specs.Standing.{HasTurned, IsOutside, IsTurned, Sees, Stands, StandsAt, Tells, is_writing}
 use Rattle.jcr_session.proofs.Trees.{base_is_tree}
-use Rattle.jcr_session.proofs.Turning.{free, is_awaiting, plain_step, turned_later}
+use Rattle.jcr_session.proofs.Turning.{free, is_awaiting, not_ended, plain_step, turned_later}
 use Rattle.jcr_session.proofs.Waiting.{by_waits, login_stays}
 
 own : (s : ℕ) → (s == s) ≡ true
@@ -176,7 +176,7 @@ module _ (law : JcrLaw) (old mid new : Shown) (run : SessionRun) (stands : Stand
   logged_in now t is told =
       subst (λ (x : Turn). HasTurned law old new run now x) (sym told)
       (subst (λ (x : SessionRun). HasTurned law old new run x (turn.Stepped kind.Login)) (sym is)
-      (turned_later law old mid new run run_now (turn.Stepped kind.Login) stands.nodes (free (ap is_writing waits.work_is) (ap is_awaiting is_out.idle)) (by_waits law old mid (Starting task.Login) room waits)
+      (turned_later law old mid new run run_now (turn.Stepped kind.Login) stands.nodes (free (ap is_writing waits.work_is) (ap is_awaiting waits.work_is) (ap is_awaiting is_out.idle)) (by_waits law old mid (Starting task.Login) room waits) (not_ended (turn.Stepped kind.Login) refl)
       record {
         others = steps.others;
         own = steps.own;
@@ -185,5 +185,6 @@ module _ (law : JcrLaw) (old mid new : Shown) (run : SessionRun) (stands : Stand
         alone = steps.alone;
         tells = (of_step, inl (event.Login s pin.base, made.0, refl));
         made = plain_step (after steps.others mid.history) mid new steps.own (event.Login s pin.base ∷ []) made.0 (not_left (starts_of law) (says_of law) mid.history.clusters mid.history.sessions q run_logged.1 s out_now) (ap is_awaiting waits.work_is) refl tt;
+        same = (refl, refl);
         stands = stands_now;
       }))

@@ -24,11 +24,11 @@ use Rattle.jcr_session.specs.declared.turn.Turn.TheVariants as turn
 use Rattle.jcr_session.specs.Sights.{HasRead, IsBeside, IsFetching, IsIn, Looks, says_of, starts_of}
 use Rattle.jcr_session.specs.declared.sight.Fetch.{Fetch}
 use Rattle.jcr_session.specs.declared.sight.Fetch.TheVariants as fetch
-use Rattle.jcr_session.specs.Standing.{HasTurned, IsRefused, IsSame, MayAnswer, Sees, Stands, StandsAt, due_by, due_for, due_of, is_between, is_seen, is_unread, is_writing, needs_tree}
+use Rattle.jcr_session.specs.Standing.{HasLooked, HasTurned, IsTurned, IsRefused, IsSame, MayAnswer, Sees, Stands, StandsAt, due_by, due_for, due_of, is_between, is_seen, is_unread, is_writing, needs_tree}
 use Rattle.jcr_session.proofs.Replying.{apart, idle_between, next_is, turned_like}
 use Rattle.jcr_session.proofs.Reading.{beside_both, beside_itself, nobody}
 use Rattle.jcr_session.proofs.Saying.{IsBetween, forgoes}
-use Rattle.jcr_session.proofs.Turning.{Link, free, has_turned_later, is_awaiting, kept}
+use Rattle.jcr_session.proofs.Turning.{Link, free, has_turned_later, is_awaiting, kept, never_ends}
 use Rattle.jcr_session.proofs.Waiting.{next_beside, tree_beside, turn_beside}
 
 -- ---- a session that doesn't see the tree which its next command needs
@@ -112,24 +112,60 @@ module _ (law : JcrLaw) (p : Shown) (run : SessionRun) (stands : Stands law p ru
 pub same_by : (run now : SessionRun) (x : Sight) → now ≡ record run { sight = x } → IsSame run now
 same_by run now x is = subst (λ (r : SessionRun). IsSame run r) (sym is) record { session = refl; commands = refl; index = refl; phase = refl }
 
--- ---- several steps
+-- ---- reading steps
 
-pub stays_beside : (law : JcrLaw) (p : Shown) (run : SessionRun) → Stands law p run → IsBeside law p p
-stays_beside law p run stands = beside_itself law p stands.run_is
-
-pub more_beside : (law : JcrLaw) (a b c : Shown) (run : SessionRun) → Stands law a run → IsBeside law a b → IsBeside law b c → IsBeside law a c
-more_beside law a b c run stands first second = beside_both law a b c stands.nodes first second
-
-pub same_itself : (a : SessionRun) → IsSame a a
-same_itself a = record { session = refl; commands = refl; index = refl; phase = refl }
-
-pub same_both : (a b c : SessionRun) → IsSame a b → IsSame b c → IsSame a c
-same_both a b c first second = record {
-  session = second.session ∙ first.session;
-  commands = second.commands ∙ first.commands;
-  index = second.index ∙ first.index;
-  phase = second.phase ∙ first.phase;
+pub looked_nothing : (law : JcrLaw) (p : Shown) (run : SessionRun) → Stands law p run → HasLooked law p p run run
+looked_nothing law p run stands = record {
+  stands = stands;
+  same = record { session = refl; commands = refl; index = refl; phase = refl };
+  beside = beside_itself law p stands.run_is;
+  still = λ read. (refl, refl);
 }
+
+module _ (law : JcrLaw) (p : Shown) (run : SessionRun) (stands : Stands law p run) (unread : is_unread run ≡ true) (new : Shown) (beside : IsBeside law p new) (inside : IsIn law new) (now : SessionRun) where
+  pub looked_read : (x : Sight) → now ≡ record run { sight = x } → HasRead new x → HasLooked law p new run now
+  looked_read x is read = record {
+    stands = read_stands law p run stands unread new beside inside now x is read;
+    same = same_by run now x is;
+    beside = beside;
+    still = λ not_due. absurd (false≢true (sym not_due ∙ unread));
+  }
+
+  pub looked_refused : now ≡ record run { sight = sight.Unread } → new.work ≡ Idle → HasLooked law p new run now × IsRefused new now
+  looked_refused is idle = (
+    record {
+      stands = refused_stands law p run stands unread new beside inside now is idle;
+      same = same_by run now sight.Unread is;
+      beside = beside;
+      still = λ not_due. absurd (false≢true (sym not_due ∙ unread));
+    },
+    refused_is law p run stands unread new beside inside now is idle,
+  )
+
+pub looked_both : (law later : JcrLaw) (a b c : Shown) (r s t : SessionRun) → later ≡ law → AreNodes a.history.clusters a.history.sessions → HasLooked law a b r s → HasLooked later b c s t → HasLooked law a c r t
+looked_both law later a b c r s t laws nodes first then =
+    let second : HasLooked law b c s t = subst (λ (l : JcrLaw). HasLooked l b c s t) laws then in record {
+      stands = second.stands;
+      same = record {
+        session = second.same.session ∙ first.same.session;
+        commands = second.same.commands ∙ first.same.commands;
+        index = second.same.index ∙ first.same.index;
+        phase = second.same.phase ∙ first.same.phase;
+      };
+      beside = beside_both law a b c nodes first.beside second.beside;
+      still = λ read. (let x = first.still read in let y = second.still (ap is_unread x.1 ∙ read) in (y.0 ∙ x.0, y.1 ∙ x.1));
+    }
+
+pub looked_first : (law : JcrLaw) (a b : Shown) (r s : SessionRun) → HasLooked law a b r s → is_unread s ≡ true → is_unread r ≡ true
+looked_first law a b r s looked unread = by (is_unread r) refl
+  where
+    by : (x : Bool) → is_unread r ≡ x → x ≡ true
+    by true h = refl
+    by false h = absurd (false≢true (sym h ∙ (sym (ap is_unread (looked.still h).1) ∙ unread)))
+
+-- nothing is due where a step that was asked for wasn't made
+pub looked_last : (law : JcrLaw) (a b : Shown) (r s : SessionRun) → HasLooked law a b r s → is_unread r ≡ false → is_unread s ≡ false
+looked_last law a b r s looked read = ap is_unread (looked.still read).1 ∙ read
 
 -- ---- memory was refused for reading: the command that needs the tree is answered so
 
@@ -165,16 +201,28 @@ link_read law a b run like old now same read still = by (is_unread run) refl
   where
     by : (x : Bool) → is_unread run ≡ x → Link a b
     by false h = kept (ap (λ (p : Shown). p.work) (still h)) (ap (λ (p : Shown). p.due) (still h))
-    by true h = free (ap is_writing (idle_between law b like now (same.phase ∙ (unread_is run.sight run.phase (due_for run) h).1) read)) (looks_unawaited a run.sight (unread_looks law a run old h))
+    by true h =
+        let idle = idle_between law b like now (same.phase ∙ (unread_is run.sight run.phase (due_for run) h).1) read in
+        free (ap is_writing idle) (ap is_awaiting idle) (looks_unawaited a run.sight (unread_looks law a run old h))
 
-pub turned_behind : (law : JcrLaw) (a b c : Shown) (run like now : SessionRun) (t : Turn) → Stands law a run → Stands law b like → IsBeside law a b → IsSame run like → is_unread like ≡ false → (is_unread run ≡ false → b ≡ a) → HasTurned law b c like now t → HasTurned law a c run now t
-turned_behind law a b c run like now t old stands beside same read still turned =
-    has_turned_later law a b c run now t old.nodes (link_read law a b run like old stands same read still) beside (turned_like law b c run like now t same.index turned)
+-- no reading step is due for a session that has ended
+ends_read : (law : JcrLaw) (a b c : Shown) (run like now : SessionRun) → HasLooked law a b run like → IsTurned law b c run now turn.Ended → b ≡ a
+ends_read law a b c run like now looked turned = by (is_unread run) refl
+  where
+    by : (x : Bool) → is_unread run ≡ x → b ≡ a
+    by false h = (looked.still h).0
+    by true h = never_ends law b c run now (subst (λ (f : Phase). StandsAt law b like f) (looked.same.phase ∙ (unread_is run.sight run.phase (due_for run) h).1) looked.stands.at).0 turned
+
+pub turned_behind : (law : JcrLaw) (a b c : Shown) (run like now : SessionRun) (t : Turn) → Stands law a run → HasLooked law a b run like → is_unread like ≡ false → HasTurned law b c like now t → HasTurned law a c run now t
+turned_behind law a b c run like now t old looked read turned =
+    has_turned_later law a b c run now t old.nodes (link_read law a b run like old looked.stands looked.same read (λ h. (looked.still h).0)) looked.beside (ends_read law a b c run like now looked)
+    (turned_like law b c run like now t looked.same.session looked.same.commands looked.same.index turned)
 
 -- where memory was refused for reading, and the command is answered so
-pub forgone_behind : (law : JcrLaw) (a b c : Shown) (run like now : SessionRun) (t : Turn) → Stands law a run → IsBeside law a b → IsSame run like → is_unread run ≡ true → IsRefused b like → HasTurned law b c like now t → HasTurned law a c run now t
-forgone_behind law a b c run like now t old beside same unread refused turned =
-    has_turned_later law a b c run now t old.nodes (free (ap is_writing refused.idle) (looks_unawaited a run.sight (unread_looks law a run old unread))) beside (turned_like law b c run like now t same.index turned)
+pub forgone_behind : (law : JcrLaw) (a b c : Shown) (run like now : SessionRun) (t : Turn) → Stands law a run → HasLooked law a b run like → is_unread run ≡ true → IsRefused b like → HasTurned law b c like now t → HasTurned law a c run now t
+forgone_behind law a b c run like now t old looked unread refused turned =
+    has_turned_later law a b c run now t old.nodes (free (ap is_writing refused.idle) (ap is_awaiting refused.idle) (looks_unawaited a run.sight (unread_looks law a run old unread))) looked.beside (ends_read law a b c run like now looked)
+    (turned_like law b c run like now t looked.same.session looked.same.commands looked.same.index turned)
 
 -- a session that has left makes no step
 pub over_ends : (law : JcrLaw) (p : Shown) (run : SessionRun) → Stands law p run → run.phase ≡ phase.Over → HasTurned law p p run run turn.Ended
@@ -185,6 +233,7 @@ over_ends law p run stands over = let gone = subst (λ (f : Phase). StandsAt law
   beside = refl;
   alone = nobody p.beside.seats;
   tells = refl;
-  made = (gone.left, gone.all);
+  made = (refl, gone.left, gone.all);
+  same = (refl, refl);
   stands = stands;
 }

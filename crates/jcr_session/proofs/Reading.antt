@@ -21,7 +21,13 @@ use Rattle.oak_port.specs.declared.task.TaskEnd.{TaskEnd}
 use Rattle.oak_port.specs.declared.task.TaskEnd.TheVariants as end
 use Rattle.core_law.specs.State.{base_tree}
 use Rattle.jcr_session.specs.declared.law.JcrLaw.{JcrLaw}
-use Rattle.jcr_session.specs.Sights.{IsBeside, IsFetching, IsIn, IsPart, says_of, starts_of}
+use Rattle.jcr_session.specs.declared.sight.Fetch.{Fetch}
+use Rattle.jcr_session.specs.declared.sight.Fetch.TheVariants as fetch
+use Rattle.jcr_session.specs.declared.sight.Listed.{Listed}
+use Rattle.jcr_session.specs.declared.sight.Listed.TheVariants as listed
+use Rattle.jcr_session.specs.declared.sight.Loaded.{Loaded}
+use Rattle.jcr_session.specs.declared.sight.Loaded.TheVariants as loaded
+use Rattle.jcr_session.specs.Sights.{IsBeside, IsFetching, IsIn, IsPart, listed_by, loaded_by, says_of, starts_of}
 use Rattle.jcr_session.proofs.Others.{append_assoc, others_both}
 use Rattle.jcr_session.proofs.Waiting.{in_beside, in_then, tree_beside, tree_then}
 use Rattle.jcr_session.proofs.Walking.{part_node, part_none, part_children, part_next, part_whole, node_there}
@@ -33,6 +39,9 @@ nobody (Some seats) = refl
 
 pub beside_itself : (law : JcrLaw) (p : Shown) → IsRun (starts_of law) (says_of law) p.history → IsBeside law p p
 beside_itself law p run = record { others = []; grows = record { grown = refl; theirs = refl; run = run }; session = refl; beside = refl; alone = nobody p.beside.seats }
+
+pub beside_in : (law : JcrLaw) (p : Shown) → IsIn law p → IsBeside law p p
+beside_in law p inside = beside_itself law p inside.run
 
 pub after_both : (later added : Past) (h : History) → after later (after added h) ≡ after (later ++ added) h
 after_both later added h = ap (λ (p : Past). record h { past = p }) (sym (append_assoc later added h.past))
@@ -102,17 +111,20 @@ module _ (law : JcrLaw) (old new : Shown) (inside : IsIn law old) where
   pub in_refused : Waits (starts_of law) (says_of law) old new Idle old.room → IsIn law new
   in_refused waits = in_then law old new Idle old.room waits inside.nodes inside.run inside
 
-  pub node_started : (tree : Nodes) (left : List Path) (path : Path) → Waits (starts_of law) (says_of law) old new (Starting (task.Load path)) old.room → IsPart (base_at old) tree (path ∷ left)
+  pub node_started : (tree : Nodes) (left : List Path) (path copy : Path) → copy ≡ path → Waits (starts_of law) (says_of law) old new (Starting (task.Load copy)) old.room → IsPart (base_at old) tree (path ∷ left)
       → (new.work ≡ Starting (task.Load path)) × IsPart (base_at new) tree (path ∷ left)
-  node_started tree left path waits part = (waits.work_is, subst (λ (t : Nodes). IsPart t tree (path ∷ left)) (sym (tree_started (task.Load path) waits)) part)
+  node_started tree left path copy same waits part =
+      (waits.work_is ∙ ap (λ (p : Path). Starting (task.Load p)) same, subst (λ (t : Nodes). IsPart t tree (path ∷ left)) (sym (tree_started (task.Load copy) waits)) part)
 
-  pub names_started : (tree : Nodes) (left : List Path) (path : Path) (node : Node) → Waits (starts_of law) (says_of law) old new (Starting (task.List path)) old.room → IsPart (base_at old) tree (path ∷ left) → node_at (base_at old) path ≡ Some node
-      → (new.work ≡ Starting (task.List path)) × IsPart (base_at new) (insert_entry path_cmp tree path node) (path ∷ left) × (is_some (node_at (insert_entry path_cmp tree path node) path) ≡ true)
-  names_started tree left path node waits part there = (
-    waits.work_is,
-    subst (λ (t : Nodes). IsPart t (insert_entry path_cmp tree path node) (path ∷ left)) (sym (tree_started (task.List path) waits)) (part_node (base_at old) inside.tree tree path left node part there),
-    node_there (base_at old) inside.tree tree path node,
-  )
+  pub names_started : (tree now : Nodes) (left : List Path) (path key copy : Path) (node : Node) → now ≡ insert_entry path_cmp tree key node → key ≡ path → copy ≡ path → Waits (starts_of law) (says_of law) old new (Starting (task.List copy)) old.room → IsPart (base_at old) tree (path ∷ left)
+      → node_at (base_at old) path ≡ Some node → (new.work ≡ Starting (task.List path)) × IsPart (base_at new) now (path ∷ left) × (is_some (node_at now path) ≡ true)
+  names_started tree now left path key copy node put put_at same waits part there =
+      let is : now ≡ insert_entry path_cmp tree path node = put ∙ ap (λ (p : Path). insert_entry path_cmp tree p node) put_at in (
+        waits.work_is ∙ ap (λ (p : Path). Starting (task.List p)) same,
+        subst (λ (t : Nodes). IsPart t now (path ∷ left)) (sym (tree_started (task.List copy) waits))
+            (subst (λ (n : Nodes). IsPart (base_at old) n (path ∷ left)) (sym is) (part_node (base_at old) inside.tree tree path left node part there)),
+        subst (λ (n : Nodes). is_some (node_at n path) ≡ true) (sym is) (node_there (base_at old) inside.tree tree path node),
+      )
 
 -- ---- a reading step
 
@@ -186,3 +198,111 @@ module _ (law : JcrLaw) (old new : Shown) (path : Path) (inside : IsIn law old) 
       by (task.Load p) m = done m.0 m.1
       by (task.List p) m = done m.0 m.1
       by (task.Commit e ms) m = done m.0 m.1
+
+-- ---- what is read of a tree stays
+
+pub part_kept : (law : JcrLaw) (old new : Shown) (work : Work) (tree : Nodes) (left : List Path) → HasStepped law old new work → IsPart (base_at old) tree left → IsPart (base_at new) tree left
+part_kept law old new work tree left stepped part = subst (λ (t : Nodes). IsPart t tree left) (sym stepped.tree) part
+
+-- what a step of reading a node came to
+abbrev pub AfterLoad : Shown → Path → Nodes → List Path → Loaded → Type 0
+AfterLoad new path tree left loaded.Going = (new.work ≡ Starting (task.Load path)) × IsPart (base_at new) tree (path ∷ left)
+AfterLoad new path tree left (loaded.Found (Some node)) = (new.work ≡ Idle) × IsPart (base_at new) tree (path ∷ left) × (node_at (base_at new) path ≡ Some node)
+AfterLoad new path tree left (loaded.Found None) = (new.work ≡ Idle) × IsPart (base_at new) tree left
+AfterLoad new path tree left loaded.Refused = new.work ≡ Idle
+
+-- the same of the names of the children of a path
+abbrev pub AfterList : Shown → Path → Nodes → List Path → Listed → Type 0
+AfterList new path tree left listed.Going = (new.work ≡ Starting (task.List path)) × IsPart (base_at new) tree (path ∷ left)
+AfterList new path tree left (listed.Names names) = (new.work ≡ Idle) × IsPart (base_at new) tree (left ++ map (λ n. path ++ n ∷ []) names)
+AfterList new path tree left listed.Refused = new.work ≡ Idle
+
+-- the session is in, only events of others were added, and so much is read
+pub record HasLoaded (law : JcrLaw) (old new : Shown) (path : Path) (tree : Nodes) (left : List Path) (came : Loaded) : Type 0 where
+  pub inside : IsIn law new
+  pub beside : IsBeside law old new
+  pub after : AfterLoad new path tree left came
+
+pub record HasListed (law : JcrLaw) (old new : Shown) (path : Path) (tree : Nodes) (left : List Path) (came : Listed) : Type 0 where
+  pub inside : IsIn law new
+  pub beside : IsBeside law old new
+  pub after : AfterList new path tree left came
+
+module _ (law : JcrLaw) (old new : Shown) (path : Path) (tree : Nodes) (left : List Path) (inside : IsIn law old) (part : IsPart (base_at old) tree (path ∷ left)) where
+  loaded_with : (answer : StepOut) → old.work ≡ Starting (task.Load path) → Steps (starts_of law) (says_of law) old new answer → HasLoaded law old new path tree left (loaded_by answer)
+  loaded_with (out.Went k) busy steps = let h = node_went law old new path inside k busy steps in record { inside = h.inside; beside = h.beside; after = (h.work_is, part_kept law old new (Starting (task.Load path)) tree (path ∷ left) h part) }
+  loaded_with (out.Ready (end.Node (Some node))) busy steps =
+      let h = node_found law old new path inside (Some node) busy steps in record { inside = h.0.inside; beside = h.0.beside; after = (h.0.work_is, part_kept law old new Idle tree (path ∷ left) h.0 part, h.1) }
+  loaded_with (out.Ready (end.Node None)) busy steps =
+      let h = node_found law old new path inside None busy steps in record {
+        inside = h.0.inside;
+        beside = h.0.beside;
+        after = (h.0.work_is, part_none (base_at new) h.0.inside.tree tree path left (part_kept law old new Idle tree (path ∷ left) h.0 part) h.1);
+      }
+  loaded_with out.Memory busy steps = let h = task_refused law old new path inside (task.Load path) busy steps in record { inside = h.inside; beside = h.beside; after = h.work_is }
+  loaded_with (out.Ready (end.Children names)) busy steps = absurd (makes law old new (task.Load path) (out.Ready (end.Children names)) inside busy steps)
+  loaded_with (out.Ready (end.Pinned pin)) busy steps = absurd (makes law old new (task.Load path) (out.Ready (end.Pinned pin)) inside busy steps)
+  loaded_with (out.Ready (end.Commit e)) busy steps = absurd (makes law old new (task.Load path) (out.Ready (end.Commit e)) inside busy steps)
+  loaded_with (out.Ready end.Ended) busy steps = absurd (makes law old new (task.Load path) (out.Ready end.Ended) inside busy steps)
+  loaded_with (out.Wait r) busy steps = absurd (makes law old new (task.Load path) (out.Wait r) inside busy steps)
+
+  pub has_loaded : (answer : StepOut) (came : Loaded) → old.work ≡ Starting (task.Load path) → Steps (starts_of law) (says_of law) old new answer → came ≡ loaded_by answer → HasLoaded law old new path tree left came
+  has_loaded answer came busy steps is = subst (λ (c : Loaded). HasLoaded law old new path tree left c) (sym is) (loaded_with answer busy steps)
+
+  listed_with : (answer : StepOut) → old.work ≡ Starting (task.List path) → is_some (node_at tree path) ≡ true → Steps (starts_of law) (says_of law) old new answer → HasListed law old new path tree left (listed_by answer)
+  listed_with (out.Went k) busy there steps = let h = names_went law old new path inside k busy steps in record { inside = h.inside; beside = h.beside; after = (h.work_is, part_kept law old new (Starting (task.List path)) tree (path ∷ left) h part) }
+  listed_with (out.Ready (end.Children names)) busy there steps =
+      let h = names_found law old new path inside names busy steps in record {
+        inside = h.0.inside;
+        beside = h.0.beside;
+        after = (h.0.work_is, part_children (base_at new) h.0.inside.tree tree path left names (part_kept law old new Idle tree (path ∷ left) h.0 part) there h.1);
+      }
+  listed_with out.Memory busy there steps = let h = task_refused law old new path inside (task.List path) busy steps in record { inside = h.inside; beside = h.beside; after = h.work_is }
+  listed_with (out.Ready (end.Node found)) busy there steps = absurd (makes law old new (task.List path) (out.Ready (end.Node found)) inside busy steps)
+  listed_with (out.Ready (end.Pinned pin)) busy there steps = absurd (makes law old new (task.List path) (out.Ready (end.Pinned pin)) inside busy steps)
+  listed_with (out.Ready (end.Commit e)) busy there steps = absurd (makes law old new (task.List path) (out.Ready (end.Commit e)) inside busy steps)
+  listed_with (out.Ready end.Ended) busy there steps = absurd (makes law old new (task.List path) (out.Ready end.Ended) inside busy steps)
+  listed_with (out.Wait r) busy there steps = absurd (makes law old new (task.List path) (out.Wait r) inside busy steps)
+
+  pub has_listed : (answer : StepOut) (came : Listed) → old.work ≡ Starting (task.List path) → is_some (node_at tree path) ≡ true → Steps (starts_of law) (says_of law) old new answer → came ≡ listed_by answer → HasListed law old new path tree left came
+  has_listed answer came busy there steps is = subst (λ (c : Listed). HasListed law old new path tree left c) (sym is) (listed_with answer busy there steps)
+
+-- by what the step came to
+pub loaded_going : (law : JcrLaw) (old new : Shown) (path : Path) (tree : Nodes) (left : List Path) (came : Loaded) → came ≡ loaded.Going → HasLoaded law old new path tree left came → (new.work ≡ Starting (task.Load path)) × IsPart (base_at new) tree (path ∷ left)
+loaded_going law old new path tree left came is has = subst (λ (c : Loaded). AfterLoad new path tree left c) is has.after
+
+pub loaded_found : (law : JcrLaw) (old new : Shown) (path : Path) (tree : Nodes) (left : List Path) (came : Loaded) (node : Node) → came ≡ loaded.Found (Some node) → HasLoaded law old new path tree left came
+    → (new.work ≡ Idle) × IsPart (base_at new) tree (path ∷ left) × (node_at (base_at new) path ≡ Some node)
+loaded_found law old new path tree left came node is has = subst (λ (c : Loaded). AfterLoad new path tree left c) is has.after
+
+pub loaded_none : (law : JcrLaw) (old new : Shown) (path : Path) (tree : Nodes) (left : List Path) (came : Loaded) → came ≡ loaded.Found None → HasLoaded law old new path tree left came → (new.work ≡ Idle) × IsPart (base_at new) tree left
+loaded_none law old new path tree left came is has = subst (λ (c : Loaded). AfterLoad new path tree left c) is has.after
+
+pub loaded_refused : (law : JcrLaw) (old new : Shown) (path : Path) (tree : Nodes) (left : List Path) (came : Loaded) → came ≡ loaded.Refused → HasLoaded law old new path tree left came → new.work ≡ Idle
+loaded_refused law old new path tree left came is has = subst (λ (c : Loaded). AfterLoad new path tree left c) is has.after
+
+pub listed_going : (law : JcrLaw) (old new : Shown) (path : Path) (tree : Nodes) (left : List Path) (came : Listed) → came ≡ listed.Going → HasListed law old new path tree left came → (new.work ≡ Starting (task.List path)) × IsPart (base_at new) tree (path ∷ left)
+listed_going law old new path tree left came is has = subst (λ (c : Listed). AfterList new path tree left c) is has.after
+
+pub listed_names : (law : JcrLaw) (old new : Shown) (path : Path) (tree : Nodes) (left : List Path) (came : Listed) (names : List Name) → came ≡ listed.Names names → HasListed law old new path tree left came → (new.work ≡ Idle) × IsPart (base_at new) tree (left ++ map (λ n. path ++ n ∷ []) names)
+listed_names law old new path tree left came names is has = subst (λ (c : Listed). AfterList new path tree left c) is has.after
+
+pub listed_refused : (law : JcrLaw) (old new : Shown) (path : Path) (tree : Nodes) (left : List Path) (came : Listed) → came ≡ listed.Refused → HasListed law old new path tree left came → new.work ≡ Idle
+listed_refused law old new path tree left came is has = subst (λ (c : Listed). AfterList new path tree left c) is has.after
+
+-- a law that a call leaves as it was
+pub beside_more : (law later : JcrLaw) (a b c : Shown) → later ≡ law → AreNodes a.history.clusters a.history.sessions → IsBeside law a b → IsBeside later b c → IsBeside law a c
+beside_more law later a b c same nodes first second = beside_both law a b c nodes first (subst (λ (l : JcrLaw). IsBeside l b c) same second)
+
+pub in_more : (law later : JcrLaw) (p : Shown) → later ≡ law → IsIn later p → IsIn law p
+in_more law later p same inside = subst (λ (l : JcrLaw). IsIn l p) same inside
+
+pub in_less : (law later : JcrLaw) (p : Shown) → later ≡ law → IsIn law p → IsIn later p
+in_less law later p same inside = subst (λ (l : JcrLaw). IsIn l p) (sym same) inside
+
+-- a walk by what it reads
+pub walk_node : (t : Nodes) (work : Work) (tree : Nodes) (left : List Path) (f : Fetch) (path : Path) → f ≡ fetch.Node path → IsFetching t work tree left f → (work ≡ Starting (task.Load path)) × IsPart t tree (path ∷ left)
+walk_node t work tree left f path is reads = subst (λ (x : Fetch). IsFetching t work tree left x) is reads
+
+pub walk_names : (t : Nodes) (work : Work) (tree : Nodes) (left : List Path) (f : Fetch) (path : Path) → f ≡ fetch.Names path → IsFetching t work tree left f → (work ≡ Starting (task.List path)) × IsPart t tree (path ∷ left) × (is_some (node_at tree path) ≡ true)
+walk_names t work tree left f path is reads = subst (λ (x : Fetch). IsFetching t work tree left x) is reads

@@ -195,10 +195,10 @@ may_like law p run like text may session commands index sight_is =
     let d : MayAnswer law p (record run { session = like.session; commands = like.commands; index = like.index; sight = like.sight }) text = subst (λ (x : Sight). MayAnswer law p (record run { session = like.session; commands = like.commands; index = like.index; sight = x }) text) (sym sight_is) c in
     record { inside = d.inside; session = d.session; few = d.few; commands = d.commands; index = d.index; idle = d.idle; says = d.says; leaves = d.leaves }
 
--- a turn by its index alone
-pub turned_like : (law : JcrLaw) (old new : Shown) (run like now : SessionRun) (t : Turn) → like.index ≡ run.index → HasTurned law old new like now t → HasTurned law old new run now t
-turned_like law old new run like now (turn.Stepped k) index h = record { others = h.others; own = h.own; grows = h.grows; beside = h.beside; alone = h.alone; made = h.made; tells = h.tells; stands = h.stands }
-turned_like law old new run like now (turn.Said i) index h = record { others = h.others; own = h.own; grows = h.grows; beside = h.beside; alone = h.alone; made = h.made; tells = subst (λ n. Rattle.jcr_session.specs.Standing.Tells (Rattle.oak_machine.specs.Laws.after h.others old.history) old.session n (turn.Said i) h.own) index h.tells; stands = h.stands }
-turned_like law old new run like now (turn.Waiting q) index h = record { others = h.others; own = h.own; grows = h.grows; beside = h.beside; alone = h.alone; made = h.made; tells = h.tells; stands = h.stands }
-turned_like law old new run like now turn.Ended index h = record { others = h.others; own = h.own; grows = h.grows; beside = h.beside; alone = h.alone; made = h.made; tells = h.tells; stands = h.stands }
-turned_like law old new run like now turn.Memory index h = tt
+-- a turn by what it needs of the session
+pub turned_like : (law : JcrLaw) (old new : Shown) (run like now : SessionRun) (t : Turn) → like.session ≡ run.session → like.commands ≡ run.commands → like.index ≡ run.index → HasTurned law old new like now t → HasTurned law old new run now t
+turned_like law old new run like now (turn.Stepped k) session commands index h = record { others = h.others; own = h.own; grows = h.grows; beside = h.beside; alone = h.alone; made = h.made; same = (h.same.0 ∙ session, h.same.1 ∙ commands); tells = h.tells; stands = h.stands }
+turned_like law old new run like now (turn.Said i) session commands index h = record { others = h.others; own = h.own; grows = h.grows; beside = h.beside; alone = h.alone; made = h.made; same = (h.same.0 ∙ session, h.same.1 ∙ commands); tells = subst (λ n. Rattle.jcr_session.specs.Standing.Tells (Rattle.oak_machine.specs.Laws.after h.others old.history) old.session n (turn.Said i) h.own) index h.tells; stands = h.stands }
+turned_like law old new run like now (turn.Waiting q) session commands index h = record { others = h.others; own = h.own; grows = h.grows; beside = h.beside; alone = h.alone; made = h.made; same = (h.same.0 ∙ session, h.same.1 ∙ commands); tells = h.tells; stands = h.stands }
+turned_like law old new run like now turn.Ended session commands index h = record { others = h.others; own = h.own; grows = h.grows; beside = h.beside; alone = h.alone; made = h.made; same = (h.same.0 ∙ session, h.same.1 ∙ commands); tells = h.tells; stands = h.stands }
+turned_like law old new run like now turn.Memory session commands index h = tt

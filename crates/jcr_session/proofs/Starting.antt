@@ -20,7 +20,7 @@ use Rattle.oak_machine.specs.Marks.{marks_for}
 use Rattle.oak_machine.specs.Runs.{AreNodes, IsRun}
 use Rattle.oak_machine.specs.Sessions.{has_left, has_login, is_attached, is_drawing, next_index, refreshed_since}
 use Rattle.oak_machine.proofs.Induction.{committed_is_drawn}
-use Rattle.oak_port.specs.Ports.{AreOfStep, HasRoom, Idle, Makes, MayBegin, Shown, Starting, Steps, Waits, Work, Writing}
+use Rattle.oak_port.specs.Ports.{AreOfStep, Grows, HasRoom, Idle, Makes, MayBegin, Shown, Starting, Steps, Waits, Work, Writing}
 use Rattle.oak_port.specs.declared.task.StepOut.{StepOut}
 use Rattle.oak_port.specs.declared.task.StepOut.TheVariants as out
 use Rattle.oak_port.specs.declared.task.Task.{Task}
@@ -29,6 +29,7 @@ use Rattle.oak_port.specs.declared.task.TaskEnd.TheVariants as end
 use Rattle.jcr_trans.specs.declared.command.Command.{Command}
 use Rattle.jcr_trans.specs.declared.command.Command.TheVariants as command
 use Rattle.jcr_trans.specs.Commands.{Built, built}
+use Rattle.jcr_trans.specs.Texts.{memory_text}
 use Rattle.jcr_trans.proofs.Passing.{only_refresh, only_save}
 use Rattle.core_heads.proofs.Runs.{fresh_run}
 use Rattle.core_law.specs.Law.{MayStart, has_few_nodes, may_save}
@@ -46,13 +47,15 @@ use Rattle.jcr_session.specs.declared.sight.Sight.{Sight}
 use Rattle.jcr_session.specs.declared.sight.Sight.TheVariants as sight
 use Rattle.jcr_session.specs.declared.turn.Turn.{Turn}
 use Rattle.jcr_session.specs.declared.turn.Turn.TheVariants as turn
-use Rattle.jcr_session.specs.Sights.{IsIn, says_of, starts_of}
-use Rattle.jcr_session.specs.Standing.{HasTurned, HasView, IsInSave, IsRefreshed, IsSaving, Sees, Stands, StandsAt, due_by, due_for, due_of, is_unread, is_writing}
+use Rattle.jcr_session.specs.Sights.{IsBeside, IsIn, says_of, starts_of}
+use Rattle.jcr_session.specs.Standing.{HasTurned, HasView, IsInSave, IsRefreshed, IsSaving, MayAnswer, Sees, Stands, StandsAt, due_by, due_for, due_of, is_unread, is_writing, pinned_by}
 use Rattle.jcr_session.proofs.Committing.{committing_drawn}
-use Rattle.jcr_session.proofs.Replying.{between_at, idle_between, never_leaves, refresh_by, save_is, sees}
-use Rattle.jcr_session.proofs.Saying.{IsBetween}
+use Rattle.jcr_session.proofs.Reading.{beside_both}
+use Rattle.jcr_session.proofs.Replying.{between_at, forgo_refresh, idle_between, never_leaves, refresh_by, save_is, sees}
+use Rattle.jcr_session.proofs.Lawful.{some_is}
+use Rattle.jcr_session.proofs.Saying.{IsBetween, answer_waits}
 use Rattle.jcr_session.proofs.Trees.{base_is_tree}
-use Rattle.jcr_session.proofs.Turning.{free, is_awaiting, plain_step, turned_later}
+use Rattle.jcr_session.proofs.Turning.{free, has_turned_later, is_awaiting, never_ends, not_ended, plain_step, turned_later}
 use Rattle.jcr_session.proofs.Waiting.{by_waits, in_beside, in_then, turn_still, tree_still}
 
 own : (s : ℕ) → (s == s) ≡ true
@@ -154,7 +157,7 @@ left law old mid new room run now t stands between read next waits steps is told
     let moment = inside_moment law old mid new task.End (out.Ready end.Ended) room inside waits steps in
     subst (λ (x : Turn). HasTurned law old new run now x) (sym told)
     (subst (λ (x : SessionRun). HasTurned law old new run x (turn.Stepped kind.End)) (sym is)
-    (turned_later law old mid new run (record run { phase = phase.Over }) (turn.Stepped kind.End) stands.nodes (free (ap is_writing waits.work_is) (ap is_awaiting (idle_between law old run stands between read))) (by_waits law old mid (Starting task.End) room waits)
+    (turned_later law old mid new run (record run { phase = phase.Over }) (turn.Stepped kind.End) stands.nodes (free (ap is_writing waits.work_is) (ap is_awaiting waits.work_is) (ap is_awaiting (idle_between law old run stands between read))) (by_waits law old mid (Starting task.End) room waits) (not_ended (turn.Stepped kind.End) refl)
     record {
       others = steps.others;
       own = steps.own;
@@ -163,6 +166,7 @@ left law old mid new room run now t stands between read next waits steps is told
       alone = steps.alone;
       tells = (of_step law old mid new task.End (out.Ready end.Ended) room inside waits steps, inl (event.Went mid.session kind.End, m.0, refl));
       made = plain_step (after steps.others mid.history) mid new steps.own (event.Went mid.session kind.End ∷ []) m.0 moment.stays (ap is_awaiting waits.work_is) refl tt;
+      same = (refl, refl);
       stands = stands_by law old mid new task.End (out.Ready end.Ended) room inside waits steps run stands (record run { phase = phase.Over }) refl refl refl
           (subst (λ (e : Past). next_index (e ++ (steps.others ++ mid.history.past)) mid.session ≡ next_index (steps.others ++ mid.history.past) mid.session) (sym m.0) refl)
           record {
@@ -232,7 +236,7 @@ module _ (law : JcrLaw) (old mid new : Shown) (room : Option ℕ) (run : Session
   moves_base now t is told =
       subst (λ (x : Turn). HasTurned law old new run now x) (sym told)
       (subst (λ (x : SessionRun). HasTurned law old new run x (turn.Stepped kind.Pin)) (sym is)
-      (turned_later law old mid new run (record run { phase = phase.Refreshed pin.base; sight = sight.Unread }) (turn.Stepped kind.Pin) stands.nodes (free (ap is_writing waits.work_is) (ap is_awaiting (idle_between law old run stands between read))) (by_waits law old mid (Starting task.Refresh) room waits)
+      (turned_later law old mid new run (record run { phase = phase.Refreshed pin.base; sight = sight.Unread }) (turn.Stepped kind.Pin) stands.nodes (free (ap is_writing waits.work_is) (ap is_awaiting waits.work_is) (ap is_awaiting (idle_between law old run stands between read))) (by_waits law old mid (Starting task.Refresh) room waits) (not_ended (turn.Stepped kind.Pin) refl)
       record {
         others = steps.others;
         own = steps.own;
@@ -241,6 +245,7 @@ module _ (law : JcrLaw) (old mid new : Shown) (room : Option ℕ) (run : Session
         alone = steps.alone;
         tells = (of_step law old mid new task.Refresh (out.Ready (end.Pinned pin)) room inside_old waits steps, inl (event.Refresh mid.session pin.base, made_refresh.0, refl));
         made = plain_step (after steps.others mid.history) mid new steps.own (event.Refresh mid.session pin.base ∷ []) made_refresh.0 inside_then.stays (ap is_awaiting waits.work_is) refl tt;
+        same = (refl, refl);
         stands = stands_by law old mid new task.Refresh (out.Ready (end.Pinned pin)) room inside_old waits steps run stands (record run { phase = phase.Refreshed pin.base; sight = sight.Unread }) refl refl refl
             (subst (λ (e : Past). next_index (e ++ behind) mid.session ≡ next_index behind mid.session) (sym made_refresh.0) refl) (
               inside_moved,
@@ -253,3 +258,54 @@ module _ (law : JcrLaw) (old mid new : Shown) (room : Option ℕ) (run : Session
               },
             );
       }))
+
+-- ---- memory was refused for a refresh
+
+pinned_is : (answer : StepOut) (pin : Pin) → pinned_by answer ≡ Some pin → answer ≡ out.Ready (end.Pinned pin)
+pinned_is (out.Ready (end.Pinned p)) pin h = ap (λ (x : Pin). out.Ready (end.Pinned x)) (some_is h)
+pinned_is (out.Ready (end.Node f)) pin h = absurd (false≢true (ap is_some h))
+pinned_is (out.Ready (end.Children f)) pin h = absurd (false≢true (ap is_some h))
+pinned_is (out.Ready (end.Commit f)) pin h = absurd (false≢true (ap is_some h))
+pinned_is (out.Ready end.Ended) pin h = absurd (false≢true (ap is_some h))
+pinned_is (out.Went k) pin h = absurd (false≢true (ap is_some h))
+pinned_is (out.Wait q) pin h = absurd (false≢true (ap is_some h))
+pinned_is out.Memory pin h = absurd (false≢true (ap is_some h))
+
+-- the step by its answer's pin
+pub refresh_moves : (law : JcrLaw) (old mid new : Shown) (room : Option ℕ) (run : SessionRun) (pin : Pin) (answer : StepOut) → Stands law old run → run.phase ≡ phase.Between → is_unread run ≡ false → due_for run ≡ due.Refresh
+    → Waits (starts_of law) (says_of law) old mid (Starting task.Refresh) room → Steps (starts_of law) (says_of law) mid new answer → pinned_by answer ≡ Some pin
+    → (now : SessionRun) (t : Turn) → now ≡ record run { phase = phase.Refreshed pin.base; sight = sight.Unread } → t ≡ turn.Stepped kind.Pin → HasTurned law old new run now t
+refresh_moves law old mid new room run pin answer stands between read next waits steps is =
+    moves_base law old mid new room run pin stands between read next waits (subst (λ (a : StepOut). Steps (starts_of law) (says_of law) mid new a) (pinned_is answer pin is) steps)
+
+module _ (law : JcrLaw) (old mid new : Shown) (room : Option ℕ) (run : SessionRun) (answer : StepOut) (stands : Stands law old run) (between : run.phase ≡ phase.Between) (read : is_unread run ≡ false) (next : due_for run ≡ due.Refresh)
+    (waits : Waits (starts_of law) (says_of law) old mid (Starting task.Refresh) room) (steps : Steps (starts_of law) (says_of law) mid new answer) (none : pinned_by answer ≡ None) where
+  refused_step : (steps.own ≡ []) × (new.work ≡ Idle)
+  refused_step = by answer none (made law old mid new task.Refresh answer room (inside_of law old run stands between) waits steps)
+    where
+      by : (a : StepOut) → pinned_by a ≡ None → Makes (after steps.others mid.history) mid.session (Starting task.Refresh) a steps.own new.work → (steps.own ≡ []) × (new.work ≡ Idle)
+      by out.Memory never m = m
+      by (out.Ready (end.Pinned p)) never m = absurd (false≢true (ap is_some (sym never)))
+      by (out.Ready (end.Node f)) never m = absurd m
+      by (out.Ready (end.Children f)) never m = absurd m
+      by (out.Ready (end.Commit f)) never m = absurd m
+      by (out.Ready end.Ended) never m = absurd m
+      by (out.Went k) never m = absurd m
+      by (out.Wait q) never m = absurd m
+
+  refused_beside : IsBeside law old new
+  refused_beside = let inside = inside_of law old run stands between in
+      beside_both law old mid new inside.nodes (by_waits law old mid (Starting task.Refresh) room waits) record {
+        others = steps.others;
+        grows = subst (λ (own : Past). Grows (starts_of law) (says_of law) mid.session mid.history new.history steps.others own) refused_step.0 steps.grows;
+        session = steps.session;
+        beside = steps.beside;
+        alone = steps.alone;
+      }
+
+  pub refresh_stops : MayAnswer law new run memory_text
+  refresh_stops = answer_waits law old new run memory_text (forgo_refresh law old run stands between read next) refused_beside refused_step.1
+
+  pub refresh_stopped : (last : Shown) (now : SessionRun) (t : Turn) → HasTurned law new last run now t → HasTurned law old last run now t
+  refresh_stopped last now t turned = has_turned_later law old new last run now t stands.nodes (free (ap is_writing refused_step.1) (ap is_awaiting refused_step.1) (ap is_awaiting (idle_between law old run stands between read))) refused_beside
+      (never_ends law new last run now (in_beside law old new refused_beside stands.nodes stands.run_is (inside_of law old run stands between))) turned

@@ -9,8 +9,8 @@ use Rattle.oak_machine.specs.Laws.{is_event_of}
 use Rattle.oak_machine.specs.Runs.{AreNodes, IsRun}
 use Rattle.oak_machine.specs.Sessions.{has_left, has_login, is_drawing, is_end_of_session, next_index, refreshed_since}
 use Rattle.oak_machine.proofs.Stays.{any_later}
-use Rattle.oak_port.specs.Ports.{HasRoom, Idle, Shown, Work}
-use Rattle.oak_commit.specs.declared.outcome.CommitEnd.{CommitEnd}
+use Rattle.oak_port.specs.Ports.{HasRoom, Idle, Shown, Waits, Work}
+use Rattle.oak_port.specs.declared.task.CommitEnd.{CommitEnd}
 use Rattle.jcr_trans.specs.declared.command.Command.{Command}
 use Rattle.core_law.specs.State.{base_tree, command_at, pending_of}
 use Rattle.core_law.specs.Turns.{IsTurn}
@@ -26,7 +26,7 @@ use Rattle.jcr_session.specs.declared.sight.Sight.TheVariants as sight
 use Rattle.jcr_session.specs.declared.sight.Walk.{Walk}
 use Rattle.jcr_session.specs.Sights.{IsBeside, IsFetching, IsIn, IsPart, Reads, says_of, starts_of}
 use Rattle.jcr_session.specs.Standing.{HasCommitted, HasSaved, IsCommitting, IsInSave, IsNew, IsSaving, Sees, Stands, StandsAt}
-use Rattle.jcr_session.proofs.Waiting.{committed_beside, committing_beside, in_beside, login_stays, next_beside, nodes_beside, shown_beside, tree_beside, turn_beside}
+use Rattle.jcr_session.proofs.Waiting.{by_waits, committed_beside, committing_beside, in_beside, login_stays, next_beside, nodes_beside, shown_beside, tree_beside, turn_beside}
 
 module _ (law : JcrLaw) (p q : Shown) (run : SessionRun) (stands : Stands law p run) (beside : IsBeside law p q) (work : q.work ≡ p.work) (room : q.room ≡ p.room) where
   abbrev added : Past
@@ -109,6 +109,9 @@ module _ (law : JcrLaw) (p q : Shown) (run : SessionRun) (stands : Stands law p 
     within = stands.within;
     at = at_now run.phase stands.at;
   }
+
+pub stands_waits : (law : JcrLaw) (p q : Shown) (run : SessionRun) → Stands law p run → Waits (starts_of law) (says_of law) p q p.work p.room → Stands law q run
+stands_waits law p q run stands waits = stands_beside law p q run stands (by_waits law p q p.work p.room waits) waits.work_is waits.room_is
 
 -- ---- a new session
 

@@ -20,8 +20,8 @@ use Rattle.oak_machine.specs.Sessions.{has_left, has_login, is_attached, is_logi
 use Rattle.oak_machine.specs.Steps.{is_appended_by}
 use Rattle.oak_machine.proofs.Stays.{any_later}
 use Rattle.oak_port.specs.Ports.{Answers, AreOfStep, Awaiting, Beside, Deciding, Grows, HasRoom, Idle, IsFinish, Makes, Seat, Shown, Starting, Steps, Undoing, Waits, Work, Writing, WritesOn, is_by_due}
-use Rattle.oak_commit.specs.declared.outcome.CommitEnd.{CommitEnd}
-use Rattle.oak_commit.specs.declared.outcome.CommitEnd.TheVariants as commit
+use Rattle.oak_port.specs.declared.task.CommitEnd.{CommitEnd}
+use Rattle.oak_port.specs.declared.task.CommitEnd.TheVariants as commit
 use Rattle.oak_port.specs.declared.task.StepOut.{StepOut}
 use Rattle.oak_port.specs.declared.task.StepOut.TheVariants as out
 use Rattle.oak_port.specs.declared.task.Task.{Task}
@@ -47,7 +47,7 @@ use Rattle.jcr_session.proofs.Others.{append_assoc, others_both}
 use Rattle.jcr_session.proofs.Reading.{after_both, alone_both}
 use Rattle.jcr_session.proofs.Saying.{answer_waits, answered_turns, get_within}
 use Rattle.jcr_session.proofs.Trees.{base_is_tree}
-use Rattle.jcr_session.proofs.Waiting.{by_waits, committing_still, in_beside}
+use Rattle.jcr_session.proofs.Waiting.{by_waits, committing_still, in_beside, left_stays}
 
 -- ---- a counted step
 
@@ -85,7 +85,7 @@ plain_step h old new own made is stays awaits due ended = subst (λ (e : Past). 
 -- what was being done and due is so still; or the turn writes nothing, and nothing was waited for
 pub data Link (old mid : Shown) : Type 0 where
   kept : mid.work ≡ old.work → mid.due ≡ old.due → Link old mid
-  free : is_writing mid.work ≡ false → is_awaiting old.work ≡ false → Link old mid
+  free : is_writing mid.work ≡ false → is_awaiting mid.work ≡ false → is_awaiting old.work ≡ false → Link old mid
 
 step_later : (h : History) (old mid new : Shown) (own : Past) → Link old mid → mid.session ≡ old.session → IsStep h mid new own → IsStep h old new own
 step_later h old mid new own (kept work due) session step = record {
@@ -95,7 +95,7 @@ step_later h old mid new own (kept work due) session step = record {
   quiet = λ still. step.quiet (ap is_writing work ∙ still);
   ended = step.ended;
 }
-step_later h old mid new own (free still awaits) session step = record {
+step_later h old mid new own (free still unwaited awaits) session step = record {
   stays = subst (λ (s : ℕ). has_left h.past s ≡ false) session step.stays;
   seen = unawaited h old.work awaits;
   as_due = any_due old.due own (step.quiet still);
@@ -103,15 +103,19 @@ step_later h old mid new own (free still awaits) session step = record {
   ended = step.ended;
 }
 
-made_later : (h : History) (old mid new : Shown) (now : SessionRun) (own : Past) (t : Turn) → Link old mid → mid.session ≡ old.session → IsMade h mid new now own t → IsMade h old new now own t
-made_later h old mid new now own (turn.Stepped k) link session made = step_later h old mid new own link session made
-made_later h old mid new now own (turn.Said i) link session made = step_later h old mid new own link session made
-made_later h old mid new now own (turn.Waiting q) link session made = (made.0, subst (λ (s : ℕ). IsUnseen h s made.0) session made.1)
-made_later h old mid new now own turn.Ended link session made = (subst (λ (s : ℕ). has_left h.past s ≡ true) session made.0, made.1)
-made_later h old mid new now own turn.Memory link session made = made
+made_later : (h : History) (old mid new : Shown) (now : SessionRun) (own : Past) (t : Turn) → Link old mid → mid.session ≡ old.session → IsMade h mid new now own t → (t ≡ turn.Ended → ⊥) → IsMade h old new now own t
+made_later h old mid new now own (turn.Stepped k) link session made never = step_later h old mid new own link session made
+made_later h old mid new now own (turn.Said i) link session made never = step_later h old mid new own link session made
+made_later h old mid new now own (turn.Waiting q) link session made never = by link
+  where
+    by : Link old mid → IsMade h old new now own (turn.Waiting q)
+    by (kept work due) = (made.0, sym work ∙ made.1, made.2, subst (λ (s : ℕ). IsUnseen h s made.0) session made.3)
+    by (free still unwaited awaits) = absurd (false≢true (sym unwaited ∙ ap is_awaiting made.1))
+made_later h old mid new now own turn.Ended link session made never = absurd (never refl)
+made_later h old mid new now own turn.Memory link session made never = made
 
-pub turned_later : (law : JcrLaw) (a b c : Shown) (run now : SessionRun) (answer : Turn) → AreNodes a.history.clusters a.history.sessions → Link a b → IsBeside law a b → IsTurned law b c run now answer → IsTurned law a c run now answer
-turned_later law a b c run now answer nodes link waits turned = record {
+pub turned_later : (law : JcrLaw) (a b c : Shown) (run now : SessionRun) (answer : Turn) → AreNodes a.history.clusters a.history.sessions → Link a b → IsBeside law a b → (answer ≡ turn.Ended → ⊥) → IsTurned law b c run now answer → IsTurned law a c run now answer
+turned_later law a b c run now answer nodes link waits never turned = record {
   others = turned.others ++ waits.others;
   own = turned.own;
   grows = record {
@@ -123,7 +127,8 @@ turned_later law a b c run now answer nodes link waits turned = record {
   beside = turned.beside ∙ waits.beside;
   alone = alone_both a.beside.seats turned.others waits.others waits.alone (subst (λ (o : Option (List Seat)). IfSome o (λ seats. turned.others ≡ [])) (ap (λ (x : Beside). x.seats) waits.beside) turned.alone);
   tells = subst (λ (h : History). Tells h a.session run.index answer turned.own) moment (subst (λ (s : ℕ). Tells (after turned.others b.history) s run.index answer turned.own) waits.session turned.tells);
-  made = subst (λ (h : History). IsMade h a c now turned.own answer) moment (made_later (after turned.others b.history) a b c now turned.own answer link waits.session turned.made);
+  made = subst (λ (h : History). IsMade h a c now turned.own answer) moment (made_later (after turned.others b.history) a b c now turned.own answer link waits.session turned.made never);
+  same = turned.same;
   stands = turned.stands;
 }
   where
@@ -239,7 +244,7 @@ module _ (law : JcrLaw) (old new : Shown) (answer : StepOut) (run : SessionRun) 
 
   turned_quiet : (f : Phase) (t : Turn) → Tells moment old.session run.index t steps.own → IsMade moment old new (record run { phase = f }) steps.own t → next_index (steps.own ++ moment.past) old.session ≡ next_index moment.past old.session → StandsAt law new (record run { phase = f }) f
       → IsTurned law old new run (record run { phase = f }) t
-  turned_quiet f t tells made next at = record { others = steps.others; own = steps.own; grows = steps.grows; beside = steps.beside; alone = steps.alone; tells = tells; made = made; stands = stands_quiet f next at }
+  turned_quiet f t tells made next at = record { others = steps.others; own = steps.own; grows = steps.grows; beside = steps.beside; alone = steps.alone; tells = tells; made = made; same = (refl, refl); stands = stands_quiet f next at }
 
   -- ---- a step of a commit
 
@@ -344,7 +349,7 @@ module _ (law : JcrLaw) (old new : Shown) (answer : StepOut) (run : SessionRun) 
     step_by (Awaiting r) (out.Wait q) seen at same is committing (own, work, unseen) told =
         let quiet = quiet_by old.session steps.own [] own record { left = λ q. refl; next = λ q. refl; attached = λ q. refl } in
         let now = still seen.base seen.view (Awaiting r) committing in
-        turned_quiet phase.Saving (turn.Waiting q) own (r, record { theirs = now.0.theirs; committed = now.1; ended = now.2; unseen = unseen }) (quiet.next moment.past)
+        turned_quiet phase.Saving (turn.Waiting q) own (r, at, work, record { theirs = now.0.theirs; committed = now.1; ended = now.2; unseen = unseen }) (quiet.next moment.past)
         (goes_on seen same is quiet (subst (λ (w : Work). IsCommitting law.sessions (steps.own ++ moment.past) old.session seen.base seen.view w) (sym work)
         (subst (λ (e : Past). IsCommitting law.sessions (e ++ moment.past) old.session seen.base seen.view (Awaiting r)) (sym own) now)))
     step_by (Awaiting r) (out.Ready (end.Commit f)) seen at same is committing (end_is, head_sees, v, sees_it, own, idle) told =
@@ -381,6 +386,7 @@ module _ (law : JcrLaw) (old new : Shown) (answer : StepOut) (run : SessionRun) 
       pub still_stands : Stands law new (record run { phase = phase.Saving })
       pub none : steps.own ≡ []
       pub undoing : is_writing new.work ≡ false
+      pub waitless : is_awaiting new.work ≡ false
       pub unawaited : is_awaiting work ≡ false
 
     refused_by : (work : Work) (seen : Seen) → run.sight ≡ sight.Seen seen → IsSaving law old run → IsCommitting law.sessions old.history.past old.session seen.base seen.view work → Makes moment old.session work out.Memory steps.own new.work → IsRefusedStep work
@@ -392,6 +398,7 @@ module _ (law : JcrLaw) (old new : Shown) (answer : StepOut) (run : SessionRun) 
               (let c = still seen.base seen.view (Writing r) committing in (c.0, c.1, c.2, tt)))));
           none = own;
           undoing = ap is_writing work;
+          waitless = ap is_awaiting work;
           unawaited = refl;
         }
     refused_by (Undoing r e) seen same is committing m = absurd m
@@ -408,15 +415,30 @@ module _ (law : JcrLaw) (old new : Shown) (answer : StepOut) (run : SessionRun) 
         let r = refused memory in (
           subst (λ (x : SessionRun). Stands law new x) same_run r.still_stands,
           record { others = steps.others; grows = subst (λ (e : Past). Grows (starts_of law) (says_of law) old.session old.history new.history steps.others e) r.none steps.grows; session = steps.session; beside = steps.beside; alone = steps.alone },
-          free r.undoing r.unawaited,
+          free r.undoing r.waitless r.unawaited,
         )
 
-pub has_turned_later : (law : JcrLaw) (a b c : Shown) (run now : SessionRun) (t : Turn) → AreNodes a.history.clusters a.history.sessions → Link a b → IsBeside law a b → HasTurned law b c run now t → HasTurned law a c run now t
-has_turned_later law a b c run now (turn.Stepped k) nodes link waits turned = turned_later law a b c run now (turn.Stepped k) nodes link waits turned
-has_turned_later law a b c run now (turn.Said i) nodes link waits turned = turned_later law a b c run now (turn.Said i) nodes link waits turned
-has_turned_later law a b c run now (turn.Waiting q) nodes link waits turned = turned_later law a b c run now (turn.Waiting q) nodes link waits turned
-has_turned_later law a b c run now turn.Ended nodes link waits turned = turned_later law a b c run now turn.Ended nodes link waits turned
-has_turned_later law a b c run now turn.Memory nodes link waits turned = tt
+abbrev pub turn_number : Turn → ℕ
+turn_number (turn.Stepped k) = 0
+turn_number (turn.Said i) = 1
+turn_number (turn.Waiting q) = 2
+turn_number turn.Ended = 3
+turn_number turn.Memory = 4
+
+pub not_ended : {A : Type 0} (t : Turn) → Rattle.std.specs.Prelude.nat_eq (turn_number t) 3 ≡ false → t ≡ turn.Ended → A
+not_ended t other same = absurd (false≢true (sym other ∙ ap (λ (x : Turn). Rattle.std.specs.Prelude.nat_eq (turn_number x) 3) same))
+
+-- a session that is in doesn't end
+pub never_ends : {A : Type 0} (law : JcrLaw) (b c : Shown) (run now : SessionRun) → IsIn law b → IsTurned law b c run now turn.Ended → A
+never_ends law b c run now inside turned =
+    absurd (false≢true (sym (left_stays (turned.others ++ b.history.past) turned.others b.history.past b.session turned.grows.theirs inside.stays) ∙ turned.made.1))
+
+pub has_turned_later : (law : JcrLaw) (a b c : Shown) (run now : SessionRun) (t : Turn) → AreNodes a.history.clusters a.history.sessions → Link a b → IsBeside law a b → (IsTurned law b c run now turn.Ended → b ≡ a) → HasTurned law b c run now t → HasTurned law a c run now t
+has_turned_later law a b c run now (turn.Stepped k) nodes link waits ends turned = turned_later law a b c run now (turn.Stepped k) nodes link waits (not_ended (turn.Stepped k) refl) turned
+has_turned_later law a b c run now (turn.Said i) nodes link waits ends turned = turned_later law a b c run now (turn.Said i) nodes link waits (not_ended (turn.Said i) refl) turned
+has_turned_later law a b c run now (turn.Waiting q) nodes link waits ends turned = turned_later law a b c run now (turn.Waiting q) nodes link waits (not_ended (turn.Waiting q) refl) turned
+has_turned_later law a b c run now turn.Ended nodes link waits ends turned = subst (λ (p : Shown). IsTurned law p c run now turn.Ended) (ends turned) turned
+has_turned_later law a b c run now turn.Memory nodes link waits ends turned = tt
 
 inside_saving : (law : JcrLaw) (p : Shown) (run : SessionRun) → Stands law p run → run.phase ≡ phase.Saving → IsIn law p
 inside_saving law p run stands saving = (subst (λ (f : Phase). StandsAt law p run f) saving stands.at).0
@@ -431,7 +453,7 @@ pub commit_twice : (law : JcrLaw) (old mid new : Shown) (answer : StepOut) (run 
     → now ≡ record run { phase = phase_by answer run.phase } → t ≡ turn_by answer → HasTurned law old new run now t
 commit_twice law old mid new answer run now t stands saving first second is told =
     let r = commit_refused law old mid out.Memory run stands (inside_saving law old run stands saving) first saving refl in
-    has_turned_later law old mid new run now t stands.nodes r.2 r.1 (commit_once law mid new answer run now t r.0 saving second is told)
+    has_turned_later law old mid new run now t stands.nodes r.2 r.1 (never_ends law mid new run now (inside_saving law mid run r.0 saving)) (commit_once law mid new answer run now t r.0 saving second is told)
 
 -- a commit under way is something that is being done
 pub commit_busy : (law : JcrLaw) (p : Shown) (run : SessionRun) → Stands law p run → run.phase ≡ phase.Saving → p.work ≡ Idle → ⊥
@@ -477,7 +499,17 @@ module _ (law : JcrLaw) (old : Shown) (run : SessionRun) (text : Text) (may : Ma
   answer_later new room waits = answer_waits law old new run text may (by_waits law old new old.work room waits) (waits.work_is ∙ may.idle)
 
   pub said_later : (mid new : Shown) (room : Option ℕ) (now : SessionRun) (t : Turn) → Waits (starts_of law) (says_of law) old mid old.work room → HasTurned law mid new run now t → HasTurned law old new run now t
-  said_later mid new room now t waits turned = has_turned_later law old mid new run now t may.inside.nodes (kept waits.work_is (waits.same_due refl)) (by_waits law old mid old.work room waits) turned
+  said_later mid new room now t waits turned = has_turned_later law old mid new run now t may.inside.nodes (kept waits.work_is (waits.same_due refl)) (by_waits law old mid old.work room waits) (never_ends law mid new run now (in_beside law old mid (by_waits law old mid old.work room waits) may.inside.nodes may.inside.run may.inside)) turned
+
+-- where nothing was being done, and is not now
+module _ (law : JcrLaw) (old new : Shown) (room : Option ℕ) (waits : Waits (starts_of law) (says_of law) old new Idle room) (run : SessionRun) where
+  pub answer_idle : (text : Text) → MayAnswer law old run text → MayAnswer law new run text
+  answer_idle text may = answer_waits law old new run text may (by_waits law old new Idle room waits) waits.work_is
+
+  pub said_idle : (last : Shown) (now : SessionRun) (t : Turn) (text : Text) → MayAnswer law old run text → HasTurned law new last run now t → HasTurned law old last run now t
+  said_idle last now t text may turned =
+      has_turned_later law old new last run now t may.inside.nodes (free (ap is_writing waits.work_is) (ap is_awaiting waits.work_is) (ap is_awaiting may.idle)) (by_waits law old new Idle room waits)
+      (never_ends law new last run now (in_beside law old new (by_waits law old new Idle room waits) may.inside.nodes may.inside.run may.inside)) turned
 
 pub room_kept : (starts : _) (says : _) (old new : Shown) (work : Work) (n : ℕ) → Waits starts says old new work (Some n) → HasRoom new.room n
 room_kept starts says old new work n waits = subst (λ (x : Option ℕ). HasRoom x n) (sym waits.room_is) (let h : n ≤ n = omega arith in h)

@@ -19,8 +19,8 @@ use Rattle.oak_machine.specs.Sessions.{base_of, drawn_since, has_left, has_login
 use Rattle.oak_machine.proofs.Induction.{neither, other}
 use Rattle.oak_machine.proofs.Stays.{any_later}
 use Rattle.oak_port.specs.Ports.{Awaiting, Deciding, Grows, HasRoom, Idle, Shown, Starting, Undoing, Waits, Work, Writing}
-use Rattle.oak_commit.specs.declared.outcome.CommitEnd.{CommitEnd}
-use Rattle.oak_commit.specs.declared.outcome.CommitEnd.TheVariants as commit
+use Rattle.oak_port.specs.declared.task.CommitEnd.{CommitEnd}
+use Rattle.oak_port.specs.declared.task.CommitEnd.TheVariants as commit
 use Rattle.oak_port.specs.declared.task.Task.TheVariants as task
 use Rattle.core_law.specs.Law.{SaysBy}
 use Rattle.core_law.specs.State.{Orders, base_tree, pending_of}
@@ -51,7 +51,7 @@ login_stays whole [] past s others h = h
 login_stays whole (event.Login t v ∷ added) past s others h = let n = neither _ _ others in ap (λ b. b || has_login (added ++ past) s) n.0 ∙ login_stays whole added past s n.1 h
 login_stays whole (e ∷ added) past s others h = login_stays whole added past s (neither (is_event_of whole s e) _ others).1 h
 
-left_stays : (whole added past : Past) (s : ℕ) → list_any (is_event_of whole s) added ≡ false → has_left past s ≡ false → has_left (added ++ past) s ≡ false
+pub left_stays : (whole added past : Past) (s : ℕ) → list_any (is_event_of whole s) added ≡ false → has_left past s ≡ false → has_left (added ++ past) s ≡ false
 left_stays whole [] past s others h = h
 left_stays whole (event.Went t kind.End ∷ added) past s others h = let n = neither _ _ others in ap (λ b. b || has_left (added ++ past) s) n.0 ∙ left_stays whole added past s n.1 h
 left_stays whole (e ∷ added) past s others h = left_stays whole added past s (neither (is_event_of whole s e) _ others).1 h

@@ -4,6 +4,7 @@ use Rattle.std.specs.Option.{option_map_or}
 use Rattle.jr_path.specs.declared.path.Item.{Item}
 use Rattle.jr_path.specs.declared.text.Text.{Text}
 use Rattle.jr_rev.specs.declared.revision.Revision.{Revision}
+use Rattle.jr_rev.specs.declared.vector.Pin.{Pin}
 use Rattle.jr_rev.specs.declared.vector.RevVec.{RevVec}
 use Rattle.jr_rev.specs.Vectors.{sees}
 use Rattle.jr_tree.specs.Trees.{IsTree, Nodes}
@@ -21,8 +22,8 @@ use Rattle.oak_machine.specs.Runs.{AreNodes, IsRun}
 use Rattle.oak_machine.specs.Sessions.{base_of, drawn_since, has_left, has_login, is_drawing, next_index, refreshed_since}
 use Rattle.oak_machine.specs.Steps.{is_appended_by}
 use Rattle.oak_port.specs.Ports.{Awaiting, Deciding, Grows, HasRoom, Idle, Shown, Undoing, Work, Writing, is_by_due}
-use Rattle.oak_commit.specs.declared.outcome.CommitEnd.{CommitEnd}
-use Rattle.oak_commit.specs.declared.outcome.CommitEnd.TheVariants as commit
+use Rattle.oak_port.specs.declared.task.CommitEnd.{CommitEnd}
+use Rattle.oak_port.specs.declared.task.CommitEnd.TheVariants as commit
 use Rattle.oak_port.specs.declared.task.StepOut.{StepOut}
 use Rattle.oak_port.specs.declared.task.StepOut.TheVariants as out
 use Rattle.oak_port.specs.declared.task.TaskEnd.TheVariants as end
@@ -46,7 +47,7 @@ use Rattle.jcr_session.specs.declared.sight.Sight.{Sight}
 use Rattle.jcr_session.specs.declared.sight.Sight.TheVariants as sight
 use Rattle.jcr_session.specs.declared.turn.Turn.{Turn}
 use Rattle.jcr_session.specs.declared.turn.Turn.TheVariants as turn
-use Rattle.jcr_session.specs.Sights.{IsIn, Reads, says_of, starts_of}
+use Rattle.jcr_session.specs.Sights.{IsBeside, IsIn, Reads, says_of, starts_of}
 
 -- ---- the next command
 
@@ -254,6 +255,7 @@ pub record IsTurned (law : JcrLaw) (old new : Shown) (run now : SessionRun) (ans
   pub alone : IfSome old.beside.seats (λ seats. others ≡ [])
   pub tells : Tells (after others old.history) old.session run.index answer own
   pub made : IsMade (after others old.history) old new now own answer
+  pub same : (now.session ≡ run.session) × (now.commands ≡ run.commands)
   pub stands : Stands law new now
 
 -- memory was refused, and the run ends; or the turn was made
@@ -275,6 +277,13 @@ pub record IsSame (old new : SessionRun) : Type 0 where
   pub commands : new.commands ≡ old.commands
   pub index : new.index ≡ old.index
   pub phase : new.phase ≡ old.phase
+
+-- reading steps: the session stands where it stood with what was read by now; none were made where none is due
+pub record HasLooked (law : JcrLaw) (old new : Shown) (run now : SessionRun) : Type 0 where
+  pub stands : Stands law new now
+  pub same : IsSame run now
+  pub beside : IsBeside law old new
+  pub still : IsFalse (is_unread run) → (new ≡ old) × (now ≡ run)
 
 -- memory was refused for reading: nothing is being read, and the next command needs the tree
 pub record IsRefused (p : Shown) (run : SessionRun) : Type 0 where
@@ -345,3 +354,8 @@ turn_by _ = turn.Memory
 abbrev pub phase_by : StepOut → Phase → Phase
 phase_by (out.Ready (end.Commit e)) now = phase.Saved e
 phase_by _ now = now
+
+-- the pin with which a step's answer ends a task
+abbrev pub pinned_by : StepOut → Option Pin
+pinned_by (out.Ready (end.Pinned pin)) = Some pin
+pinned_by _ = None

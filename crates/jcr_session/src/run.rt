@@ -1,13 +1,13 @@
 // A session's turns: what it asks of its world, one counted step after another.
 ghost use Rattle.std.specs.Prelude.{◌≡◌, ◌≤◌, ◌∷◌, [], IfOk, IfSome, OnErr, IsTrue, IsFalse, length, string_bytes};
 ghost use Rattle.jr_tree.specs.declared.shared.Datum.TheVariants as datum;
-ghost use Rattle.oak_port.specs.Ports.{HasRoom, Waits};
+ghost use Rattle.oak_port.specs.Ports.{HasRoom};
+ghost use Rattle.oak_port.specs.declared.task.CommitEnd.TheVariants as commit;
 ghost use Rattle.oak_port.specs.declared.task.StepOut.TheVariants as out;
 ghost use Rattle.oak_port.specs.declared.task.TaskEnd.TheVariants as end;
 ghost use Rattle.jcr_trans.specs.Answers.{Refused};
 ghost use Rattle.jcr_trans.specs.Texts.{answer_text, memory_text};
-ghost use Rattle.jcr_session.specs.Sights.{says_of, starts_of};
-ghost use Rattle.jcr_session.specs.Standing.{HasEnded, HasSeen, HasTurned, IsNew, IsPlanFor, IsPlanOf, IsRefused, IsReply, IsSame, MayAnswer, Stands, due_for, is_unread, kind_of_end, phase_by, turn_by};
+ghost use Rattle.jcr_session.specs.Standing.{HasEnded, HasLooked, HasSeen, HasTurned, IsNew, IsPlanFor, IsPlanOf, IsRefused, IsReply, IsSame, MayAnswer, Stands, due_for, is_unread, kind_of_end, phase_by, pinned_by, turn_by};
 ghost use Rattle.jcr_session.specs.declared.run.Due.TheVariants as due;
 ghost use Rattle.jcr_session.specs.declared.run.Phase.TheVariants as phase;
 ghost use Rattle.jcr_session.specs.declared.run.Plan.TheVariants as plan;
@@ -26,8 +26,7 @@ use jr_rev::{Pin, RevVec, Revision};
 use jr_tree::{Datum, Edit, Refusal, changes};
 use oak_clash::MarkAt;
 use oak_machine::StepKind;
-use oak_commit::CommitEnd;
-use oak_port::{Port, StepOut, Task, TaskEnd};
+use oak_port::{CommitEnd, Port, StepOut, Task, TaskEnd};
 use std::alloc::{AllocError, Global};
 use std::mem;
 
@@ -108,15 +107,13 @@ impl SessionRun {
 
     /// Makes one step of reading the tree at the base, where one is due, and tells whether it did. Where memory is refused, what
     /// was read is given up.
+    #[tactic(auto, using(crate::proofs::Looking::unread_in, crate::proofs::Looking::unread_looks, crate::proofs::Looking::looked_nothing, crate::proofs::Looking::looked_read, crate::proofs::Looking::looked_refused))]
     pub fn read<P: Port<L = JcrLaw>>(&mut self, port: &mut P) -> Result<bool, AllocError>
         requires stands { Stands (P.law port.old) (P.shown port.old) self.old }
         ensures law { P.law port.new ≡ P.law port.old }
-        ensures stands { Stands (P.law port.old) (P.shown port.new) self.new }
-        ensures same { IsSame self.old self.new }
-        ensures beside { Waits (starts_of (P.law port.old)) (says_of (P.law port.old)) (P.shown port.old) (P.shown port.new) (P.shown port.new).work (P.shown port.old).room }
+        ensures looked { HasLooked (P.law port.old) (P.shown port.old) (P.shown port.new) self.old self.new }
         ensures done { IfOk result (λ made. made ≡ is_unread self.old) }
-        ensures still { IsFalse (is_unread self.old) → P.shown port.new ≡ P.shown port.old }
-        ensures err { OnErr result (IsRefused (P.shown port.new) self.new) }
+        ensures err { OnErr result (IsTrue (is_unread self.old) × IsRefused (P.shown port.new) self.new) }
     {
         if !self.is_unread() {
             return Ok(false);
@@ -129,6 +126,7 @@ impl SessionRun {
     /// Makes the reading steps that are due and then exactly one counted step, or none where the session waits or has ended.
     /// Where memory is refused for a command, that command is answered so; where it is refused for the place of a reply, or for the
     /// login or the leave, the run ends.
+    #[tactic(auto, using(crate::proofs::Looking::turned_behind, crate::proofs::Looking::refused_forgoes, crate::proofs::Looking::forgone_behind))]
     pub fn turn<P: Port<L = JcrLaw>>(&mut self, port: &mut P) -> Turn
         requires stands { Stands (P.law port.old) (P.shown port.old) self.old }
         ensures law { P.law port.new ≡ P.law port.old }
@@ -142,6 +140,7 @@ impl SessionRun {
     }
 
     // Makes exactly one counted step, or none where the session waits or has ended.
+    #[tactic(auto, using(crate::proofs::Looking::over_ends))]
     fn counted<P: Port<L = JcrLaw>>(&mut self, port: &mut P) -> Turn
         requires stands { Stands (P.law port.old) (P.shown port.old) self.old }
         requires read { IsFalse (is_unread self.old) }
@@ -162,14 +161,13 @@ impl SessionRun {
     }
 
     // Makes all reading steps that are due, and tells whether it did.
+    #[tactic(auto, using(crate::proofs::Looking::looked_nothing, crate::proofs::Looking::looked_both, crate::proofs::Looking::looked_first, crate::proofs::Looking::looked_last))]
     fn read_all<P: Port<L = JcrLaw>>(&mut self, port: &mut P) -> Result<bool, AllocError>
         requires stands { Stands (P.law port.old) (P.shown port.old) self.old }
         ensures law { P.law port.new ≡ P.law port.old }
-        ensures stands { Stands (P.law port.old) (P.shown port.new) self.new }
-        ensures same { IsSame self.old self.new }
-        ensures beside { Waits (starts_of (P.law port.old)) (says_of (P.law port.old)) (P.shown port.old) (P.shown port.new) (P.shown port.new).work (P.shown port.old).room }
+        ensures looked { HasLooked (P.law port.old) (P.shown port.old) (P.shown port.new) self.old self.new }
         ensures ok { IfOk result (λ done. IsTrue done → IsFalse (is_unread self.new)) }
-        ensures err { OnErr result (IsRefused (P.shown port.new) self.new) }
+        ensures err { OnErr result (IsTrue (is_unread self.old) × IsRefused (P.shown port.new) self.new) }
     {
         for _ in 0..u64::MAX {
             if !self.read(port)? {
@@ -270,6 +268,7 @@ impl SessionRun {
     }
 
     // Shows the base.
+    #[tactic(auto, using(crate::proofs::Replying::forgo_head, crate::proofs::Replying::show_base, crate::proofs::Turning::answer_later, crate::proofs::Turning::said_later, crate::proofs::Answering::made_ok, crate::proofs::Answering::made_err))]
     fn show_base<P: Port<L = JcrLaw>>(&mut self, port: &mut P) -> Turn
         requires stands { Stands (P.law port.old) (P.shown port.old) self.old }
         requires between { self.old.phase ≡ phase.Between }
@@ -286,7 +285,7 @@ impl SessionRun {
     }
 
     // Refuses the command, which this session may not make.
-    #[tactic(auto, using(crate::proofs::Replying::forgo_refuse, crate::proofs::Replying::refuse_save))]
+    #[tactic(auto, using(crate::proofs::Replying::forgo_refuse, crate::proofs::Replying::refuse_save, crate::proofs::Answering::made_ok, crate::proofs::Answering::made_err))]
     fn refuse<P: Port<L = JcrLaw>>(&mut self, port: &mut P) -> Turn
         requires stands { Stands (P.law port.old) (P.shown port.old) self.old }
         requires between { self.old.phase ≡ phase.Between }
@@ -300,7 +299,7 @@ impl SessionRun {
     }
 
     // Moves the base to the head. What was pending is dropped, and the tree there isn't read yet.
-    #[tactic(auto, using(crate::proofs::Replying::idle_between, crate::proofs::Replying::forgo_refresh, crate::proofs::Starting::refresh_begins, crate::proofs::Starting::moves_base, crate::proofs::Turning::answer_later, crate::proofs::Turning::said_later))]
+    #[tactic(auto, using(crate::proofs::Replying::idle_between, crate::proofs::Replying::forgo_refresh, crate::proofs::Starting::refresh_begins, crate::proofs::Starting::refresh_moves, crate::proofs::Starting::refresh_stops, crate::proofs::Starting::refresh_stopped, crate::proofs::Turning::answer_idle, crate::proofs::Turning::said_idle))]
     fn refresh<P: Port<L = JcrLaw>>(&mut self, port: &mut P) -> Turn
         requires stands { Stands (P.law port.old) (P.shown port.old) self.old }
         requires between { self.old.phase ≡ phase.Between }
@@ -337,6 +336,7 @@ impl SessionRun {
     }
 
     // Answers by the view.
+    #[tactic(auto, using(crate::proofs::Answering::sees_reply, crate::proofs::Answering::sees_memory, crate::proofs::Answering::made_if, crate::proofs::Answering::made_or, crate::proofs::Replying::turned_like))]
     fn see<P: Port<L = JcrLaw>>(&mut self, port: &mut P) -> Turn
         requires stands { Stands (P.law port.old) (P.shown port.old) self.old }
         requires between { self.old.phase ≡ phase.Between }
@@ -369,6 +369,7 @@ impl SessionRun {
     }
 
     // Commits what is pending, where there is something and the tree after it has few nodes.
+    #[tactic(auto, using(crate::proofs::Replying::forgo_save))]
     fn save<P: Port<L = JcrLaw>>(&mut self, port: &mut P) -> Turn
         requires stands { Stands (P.law port.old) (P.shown port.old) self.old }
         requires between { self.old.phase ≡ phase.Between }
@@ -384,6 +385,7 @@ impl SessionRun {
     }
 
     // Answers a save that commits nothing, or begins its commit.
+    #[tactic(auto, using(crate::proofs::Answering::answers_nothing, crate::proofs::Answering::answers_too_many, crate::proofs::Answering::made_ok, crate::proofs::Answering::made_err, crate::proofs::Replying::forgo_save))]
     fn save_by<P: Port<L = JcrLaw>>(&mut self, port: &mut P, plan: Plan) -> Turn
         requires stands { Stands (P.law port.old) (P.shown port.old) self.old }
         requires between { self.old.phase ≡ phase.Between }
@@ -417,6 +419,7 @@ impl SessionRun {
     }
 
     // Begins a commit. The place of its reply is kept before.
+    #[tactic(auto, using(crate::proofs::Replying::forgo_save, crate::proofs::Replying::idle_between, crate::proofs::Drawing::commit_begins, crate::proofs::Drawing::commit_draws, crate::proofs::Drawing::commit_stops, crate::proofs::Drawing::commit_stopped, crate::proofs::Turning::answer_later, crate::proofs::Turning::said_later, crate::proofs::Turning::room_kept, crate::proofs::Turning::room_stays, crate::proofs::Lengths::memory_room))]
     fn commit<P: Port<L = JcrLaw>>(
         &mut self,
         port: &mut P,
@@ -442,7 +445,8 @@ impl SessionRun {
                 self.phase = Phase::Saving;
                 Turn::Stepped(StepKind::Draw)
             }
-            _ => self.say_kept(port, MEMORY_REPLY),
+            StepOut::Memory => self.say_kept(port, MEMORY_REPLY),
+            _ => Turn::Memory,
         }
     }
 
@@ -481,6 +485,7 @@ impl SessionRun {
     }
 
     // Answers a save whose commit has ended.
+    #[tactic(auto, using(crate::proofs::Ending::stands_saved, crate::proofs::Replying::turned_like))]
     fn say_end<P: Port<L = JcrLaw>>(&mut self, port: &mut P) -> Turn
         requires stands { Stands (P.law port.old) (P.shown port.old) self.old }
         requires saved { HasEnded self.old.phase }
@@ -488,20 +493,49 @@ impl SessionRun {
         ensures turned { HasTurned (P.law port.old) (P.shown port.old) (P.shown port.new) self.old self.new result }
     {
         match mem::replace(&mut self.phase, Phase::Between) {
-            Phase::Saved(CommitEnd::Committed(r)) => {
-                self.sight = Sight::Unread;
-                match revision_reply(self.alloc, &r) {
-                    Ok(text) => self.say_kept(port, text.as_str()),
-                    Err(AllocError) => Turn::Memory,
-                }
-            }
-            Phase::Saved(CommitEnd::Clash { item, other }) => {
-                match clash_reply(self.alloc, item, other) {
-                    Ok(text) => self.say_or_memory(port, text.as_str()),
-                    Err(AllocError) => self.say_kept(port, MEMORY_REPLY),
-                }
-            }
-            _ => self.say_kept(port, MEMORY_REPLY),
+            Phase::Saved(end) => self.say_saved(port, end),
+            _ => Turn::Memory,
+        }
+    }
+
+    // Answers a save whose commit has ended so.
+    #[tactic(auto, using(crate::proofs::Ending::ended_memory, crate::proofs::Ending::ended_room, crate::proofs::Lengths::memory_room))]
+    fn say_saved<P: Port<L = JcrLaw>>(&mut self, port: &mut P, end: CommitEnd) -> Turn
+        requires stands { Stands (P.law port.old) (P.shown port.old) (record self.old { phase = phase.Saved end }) }
+        ensures law { P.law port.new ≡ P.law port.old }
+        ensures turned { HasTurned (P.law port.old) (P.shown port.old) (P.shown port.new) self.old self.new result }
+    {
+        match end {
+            CommitEnd::Committed(r) => self.say_revision(port, r),
+            CommitEnd::Clash { item, other } => self.say_clash(port, item, other),
+            CommitEnd::Memory => self.say_kept(port, MEMORY_REPLY),
+        }
+    }
+
+    // Answers a save with its revision. The tree at the base that sees it isn't read yet.
+    #[tactic(auto, using(crate::proofs::Ending::ended_revision, crate::proofs::Ending::ended_room, crate::proofs::Lengths::short_reply, crate::proofs::Replying::turned_like))]
+    fn say_revision<P: Port<L = JcrLaw>>(&mut self, port: &mut P, r: Revision) -> Turn
+        requires stands { Stands (P.law port.old) (P.shown port.old) (record self.old { phase = phase.Saved (commit.Committed r) }) }
+        ensures law { P.law port.new ≡ P.law port.old }
+        ensures turned { HasTurned (P.law port.old) (P.shown port.old) (P.shown port.new) self.old self.new result }
+    {
+        self.sight = Sight::Unread;
+        match revision_reply(self.alloc, &r) {
+            Ok(text) => self.say_kept(port, text.as_str()),
+            Err(AllocError) => Turn::Memory,
+        }
+    }
+
+    // Answers a save with the clash for which it was refused, or that memory was refused for that.
+    #[tactic(auto, using(crate::proofs::Ending::ended_clash, crate::proofs::Ending::ended_unshown, crate::proofs::Ending::ended_room, crate::proofs::Lengths::memory_room))]
+    fn say_clash<P: Port<L = JcrLaw>>(&mut self, port: &mut P, item: Item, other: Revision) -> Turn
+        requires stands { Stands (P.law port.old) (P.shown port.old) (record self.old { phase = phase.Saved (commit.Clash item other) }) }
+        ensures law { P.law port.new ≡ P.law port.old }
+        ensures turned { HasTurned (P.law port.old) (P.shown port.old) (P.shown port.new) self.old self.new result }
+    {
+        match clash_reply(self.alloc, item, other) {
+            Ok(text) => self.say_or_memory(port, text.as_str()),
+            Err(AllocError) => self.say_kept(port, MEMORY_REPLY),
         }
     }
 
@@ -523,6 +557,7 @@ impl SessionRun {
     }
 
     // Says the reply where memory was refused.
+    #[tactic(auto, using(crate::proofs::Lengths::memory_reply_is))]
     fn say_memory<P: Port<L = JcrLaw>>(&mut self, port: &mut P) -> Turn
         requires answer { MayAnswer (P.law port.old) (P.shown port.old) self.old memory_text }
         ensures law { P.law port.new ≡ P.law port.old }
@@ -577,10 +612,10 @@ impl SessionRun {
 
 // The pin with which a task ended.
 fn pinned(answer: StepOut) -> Option<Pin>
-    ensures some { IfSome result (λ pin. answer ≡ out.Ready (end.Pinned pin)) }
+    ensures { result ≡ pinned_by answer }
 {
-    match answer {
-        StepOut::Ready(TaskEnd::Pinned(pin)) => Some(pin),
+    match &answer {
+        StepOut::Ready(TaskEnd::Pinned(pin)) => Some(*pin),
         _ => None,
     }
 }

@@ -1,13 +1,13 @@
 // How a session reads the tree at its base: node by node, from the root on.
 ghost use Rattle.std.specs.Prelude.{◌≡◌, ◌∷◌, [], ◌++◌, OnErr, OnOk, IfOk, IsTrue, is_some, map};
 ghost use Rattle.jr_tree.specs.Trees.{children_of, node_at};
-ghost use Rattle.oak_port.specs.Ports.{Idle, Starting, Waits};
+ghost use Rattle.oak_port.specs.Ports.{Idle, Starting};
 ghost use Rattle.oak_port.specs.declared.task.Task.TheVariants as task;
 ghost use Rattle.core_law.specs.State.{base_tree};
-ghost use Rattle.jcr_session.specs.Sights.{HasRead, IsIn, IsPart, Looks, Reads, says_of, starts_of};
+ghost use Rattle.jcr_session.specs.Sights.{HasRead, IsBeside, IsIn, IsPart, Looks, Reads, listed_by, loaded_by};
 
 use crate::law::JcrLaw;
-use jr_path::{DeepCopy, Name, Path};
+use jr_path::{DeepCopy, List, Name, Path};
 use jr_tree::{Node, Tree};
 use oak_port::{Port, StepOut, Task, TaskEnd};
 use std::alloc::{AllocError, Global};
@@ -44,6 +44,42 @@ pub(crate) enum Fetch {
     Names(Path),
 }
 
+// What a step of reading a node came to: its task goes on, the node was found, or not, or memory was refused.
+#[derive(Drop)]
+pub(crate) enum Loaded {
+    Going,
+    Found(Option<Node>),
+    Refused,
+}
+
+// The same of a step of reading the names of the children of a node.
+#[derive(Drop)]
+pub(crate) enum Listed {
+    Going,
+    Names(List<Name>),
+    Refused,
+}
+
+fn load_came(answer: StepOut) -> Loaded
+    ensures { result ≡ loaded_by answer }
+{
+    match answer {
+        StepOut::Went(_) => Loaded::Going,
+        StepOut::Ready(TaskEnd::Node(found)) => Loaded::Found(found),
+        _ => Loaded::Refused,
+    }
+}
+
+fn list_came(answer: StepOut) -> Listed
+    ensures { result ≡ listed_by answer }
+{
+    match answer {
+        StepOut::Went(_) => Listed::Going,
+        StepOut::Ready(TaskEnd::Children(names)) => Listed::Names(names),
+        _ => Listed::Refused,
+    }
+}
+
 // Makes the reading step that is due where the tree isn't read yet. Where memory is refused, what was read is given up.
 pub(crate) fn look<P: Port<L = JcrLaw>>(
     alloc: Global,
@@ -54,7 +90,7 @@ pub(crate) fn look<P: Port<L = JcrLaw>>(
     requires looks { Looks (P.shown port.old) sight }
     ensures law { P.law port.new ≡ P.law port.old }
     ensures inside { IsIn (P.law port.old) (P.shown port.new) }
-    ensures beside { Waits (starts_of (P.law port.old)) (says_of (P.law port.old)) (P.shown port.old) (P.shown port.new) (P.shown port.new).work (P.shown port.old).room }
+    ensures beside { IsBeside (P.law port.old) (P.shown port.old) (P.shown port.new) }
     ensures ok { IfOk result (HasRead (P.shown port.new)) }
     ensures err { OnErr result ((P.shown port.new).work ≡ Idle) }
 {
@@ -74,7 +110,7 @@ fn read_first<P: Port<L = JcrLaw>>(
     requires idle { (P.shown port.old).work ≡ Idle }
     ensures law { P.law port.new ≡ P.law port.old }
     ensures inside { IsIn (P.law port.old) (P.shown port.new) }
-    ensures beside { Waits (starts_of (P.law port.old)) (says_of (P.law port.old)) (P.shown port.old) (P.shown port.new) (P.shown port.new).work (P.shown port.old).room }
+    ensures beside { IsBeside (P.law port.old) (P.shown port.old) (P.shown port.new) }
     ensures ok { IfOk result (HasRead (P.shown port.new)) }
     ensures err { OnErr result ((P.shown port.new).work ≡ Idle) }
 {
@@ -83,12 +119,13 @@ fn read_first<P: Port<L = JcrLaw>>(
 }
 
 // Makes a reading step. Where memory is refused, the walk is given up.
+#[tactic(auto, using(crate::proofs::Reading::walk_node, crate::proofs::Reading::walk_names))]
 fn read_on<P: Port<L = JcrLaw>>(port: &mut P, walk: Walk) -> Result<Sight, AllocError>
     requires inside { IsIn (P.law port.old) (P.shown port.old) }
     requires reads { Reads (P.shown port.old) walk }
     ensures law { P.law port.new ≡ P.law port.old }
     ensures inside { IsIn (P.law port.old) (P.shown port.new) }
-    ensures beside { Waits (starts_of (P.law port.old)) (says_of (P.law port.old)) (P.shown port.old) (P.shown port.new) (P.shown port.new).work (P.shown port.old).room }
+    ensures beside { IsBeside (P.law port.old) (P.shown port.old) (P.shown port.new) }
     ensures ok { IfOk result (HasRead (P.shown port.new)) }
     ensures err { OnErr result ((P.shown port.new).work ≡ Idle) }
 {
@@ -100,7 +137,7 @@ fn read_on<P: Port<L = JcrLaw>>(port: &mut P, walk: Walk) -> Result<Sight, Alloc
 }
 
 // Begins to read the node at a path.
-#[tactic(auto, using(crate::proofs::Reading::in_started, crate::proofs::Reading::in_refused, crate::proofs::Reading::node_started, crate::proofs::Reading::beside))]
+#[tactic(auto, using(crate::proofs::Reading::in_started, crate::proofs::Reading::in_refused, crate::proofs::Reading::node_started, crate::proofs::Reading::beside_in, crate::proofs::Waiting::by_waits))]
 fn fetch_node<P: Port<L = JcrLaw>>(
     port: &mut P,
     tree: Tree,
@@ -112,7 +149,7 @@ fn fetch_node<P: Port<L = JcrLaw>>(
     requires part { IsPart (base_tree (P.shown port.old).history.past (P.shown port.old).session) tree (path ∷ left.items) }
     ensures law { P.law port.new ≡ P.law port.old }
     ensures inside { IsIn (P.law port.old) (P.shown port.new) }
-    ensures beside { Waits (starts_of (P.law port.old)) (says_of (P.law port.old)) (P.shown port.old) (P.shown port.new) (P.shown port.new).work (P.shown port.old).room }
+    ensures beside { IsBeside (P.law port.old) (P.shown port.old) (P.shown port.new) }
     ensures ok { IfOk result (Reads (P.shown port.new)) }
     ensures err { OnErr result ((P.shown port.new).work ≡ Idle) }
 {
@@ -126,6 +163,7 @@ fn fetch_node<P: Port<L = JcrLaw>>(
 }
 
 // Begins to read the names of the children of a path whose node is read.
+#[tactic(auto, using(crate::proofs::Reading::in_started, crate::proofs::Reading::in_refused, crate::proofs::Reading::names_started, crate::proofs::Reading::beside_in, crate::proofs::Waiting::by_waits))]
 fn fetch_names<P: Port<L = JcrLaw>>(
     port: &mut P,
     mut tree: Tree,
@@ -139,7 +177,7 @@ fn fetch_names<P: Port<L = JcrLaw>>(
     requires there { node_at (base_tree (P.shown port.old).history.past (P.shown port.old).session) path ≡ Some node }
     ensures law { P.law port.new ≡ P.law port.old }
     ensures inside { IsIn (P.law port.old) (P.shown port.new) }
-    ensures beside { Waits (starts_of (P.law port.old)) (says_of (P.law port.old)) (P.shown port.old) (P.shown port.new) (P.shown port.new).work (P.shown port.old).room }
+    ensures beside { IsBeside (P.law port.old) (P.shown port.old) (P.shown port.new) }
     ensures ok { IfOk result (Reads (P.shown port.new)) }
     ensures err { OnErr result ((P.shown port.new).work ≡ Idle) }
 {
@@ -154,6 +192,7 @@ fn fetch_names<P: Port<L = JcrLaw>>(
 }
 
 // A step of reading the node at a path.
+#[tactic(auto, using(crate::proofs::Reading::has_loaded, crate::proofs::Reading::loaded_going, crate::proofs::Reading::loaded_found, crate::proofs::Reading::loaded_none, crate::proofs::Reading::loaded_refused, crate::proofs::Reading::beside_more, crate::proofs::Reading::in_more, crate::proofs::Reading::in_less))]
 fn read_node<P: Port<L = JcrLaw>>(
     port: &mut P,
     tree: Tree,
@@ -165,25 +204,27 @@ fn read_node<P: Port<L = JcrLaw>>(
     requires part { IsPart (base_tree (P.shown port.old).history.past (P.shown port.old).session) tree (path ∷ left.items) }
     ensures law { P.law port.new ≡ P.law port.old }
     ensures inside { IsIn (P.law port.old) (P.shown port.new) }
-    ensures beside { Waits (starts_of (P.law port.old)) (says_of (P.law port.old)) (P.shown port.old) (P.shown port.new) (P.shown port.new).work (P.shown port.old).room }
+    ensures beside { IsBeside (P.law port.old) (P.shown port.old) (P.shown port.new) }
     ensures ok { IfOk result (HasRead (P.shown port.new)) }
     ensures err { OnErr result ((P.shown port.new).work ≡ Idle) }
 {
-    match port.step() {
-        StepOut::Went(_) => Ok(Sight::Reading(Walk {
+    match load_came(port.step()) {
+        Loaded::Going => Ok(Sight::Reading(Walk {
             tree,
             left,
             fetch: Fetch::Node(path),
         })),
-        StepOut::Ready(TaskEnd::Node(Some(node))) => {
-            Ok(Sight::Reading(fetch_names(port, tree, left, path, node)?))
+        Loaded::Found(Some(node)) => {
+            let walk = fetch_names(port, tree, left, path, node)?;
+            Ok(Sight::Reading(walk))
         }
-        StepOut::Ready(TaskEnd::Node(None)) => read_next(port, tree, left),
-        _ => Err(AllocError),
+        Loaded::Found(None) => read_next(port, tree, left),
+        Loaded::Refused => Err(AllocError),
     }
 }
 
 // A step of reading the names of the children of a path.
+#[tactic(auto, using(crate::proofs::Reading::has_listed, crate::proofs::Reading::listed_going, crate::proofs::Reading::listed_names, crate::proofs::Reading::listed_refused, crate::proofs::Reading::beside_more, crate::proofs::Reading::in_more, crate::proofs::Reading::in_less))]
 fn read_names<P: Port<L = JcrLaw>>(
     port: &mut P,
     tree: Tree,
@@ -196,21 +237,21 @@ fn read_names<P: Port<L = JcrLaw>>(
     requires there { IsTrue (is_some (node_at tree path)) }
     ensures law { P.law port.new ≡ P.law port.old }
     ensures inside { IsIn (P.law port.old) (P.shown port.new) }
-    ensures beside { Waits (starts_of (P.law port.old)) (says_of (P.law port.old)) (P.shown port.old) (P.shown port.new) (P.shown port.new).work (P.shown port.old).room }
+    ensures beside { IsBeside (P.law port.old) (P.shown port.old) (P.shown port.new) }
     ensures ok { IfOk result (HasRead (P.shown port.new)) }
     ensures err { OnErr result ((P.shown port.new).work ≡ Idle) }
 {
-    match port.step() {
-        StepOut::Went(_) => Ok(Sight::Reading(Walk {
+    match list_came(port.step()) {
+        Listed::Going => Ok(Sight::Reading(Walk {
             tree,
             left,
             fetch: Fetch::Names(path),
         })),
-        StepOut::Ready(TaskEnd::Children(names)) => {
+        Listed::Names(names) => {
             push_children(&mut left, &path, names.as_slice())?;
             read_next(port, tree, left)
         }
-        _ => Err(AllocError),
+        Listed::Refused => Err(AllocError),
     }
 }
 
@@ -235,12 +276,15 @@ fn read_next<P: Port<L = JcrLaw>>(
     requires part { IsPart (base_tree (P.shown port.old).history.past (P.shown port.old).session) tree left.items }
     ensures law { P.law port.new ≡ P.law port.old }
     ensures inside { IsIn (P.law port.old) (P.shown port.new) }
-    ensures beside { Waits (starts_of (P.law port.old)) (says_of (P.law port.old)) (P.shown port.old) (P.shown port.new) (P.shown port.new).work (P.shown port.old).room }
+    ensures beside { IsBeside (P.law port.old) (P.shown port.old) (P.shown port.new) }
     ensures ok { IfOk result (HasRead (P.shown port.new)) }
     ensures err { OnErr result ((P.shown port.new).work ≡ Idle) }
 {
     match left.pop() {
-        Some(path) => Ok(Sight::Reading(fetch_node(port, tree, left, path)?)),
+        Some(path) => {
+            let walk = fetch_node(port, tree, left, path)?;
+            Ok(Sight::Reading(walk))
+        }
         None => {
             let view = tree.copy()?;
             Ok(Sight::Seen(Seen { base: tree, view }))

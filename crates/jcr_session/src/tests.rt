@@ -5,7 +5,7 @@ use jcr_trans::Command;
 use jr_path::{List, Path, Text};
 use jr_rev::{RevVec, Revision};
 use jr_tree::{Edit, Write};
-use oak_machine::{Draw, Event, Journal};
+use oak_machine::{Draw, Event, Journal, next_index};
 use std::alloc::{AllocError, Global};
 use std::test::Fail;
 
@@ -98,7 +98,12 @@ fn revision(time: u64) -> Revision
 }
 
 // The next reply of a session, or nothing.
-fn reply(alloc: Global, law: &JcrLaw, journal: &Journal, session: u32) -> Result<String, AllocError> {
+fn reply(
+    alloc: Global,
+    law: &JcrLaw,
+    journal: &Journal,
+    session: u32,
+) -> Result<String, AllocError> {
     match eval(alloc, law, journal, session)? {
         Some(text) => Ok(text),
         None => String::from_str(alloc, "nothing"),
@@ -119,6 +124,13 @@ fn commit(alloc: Global, events: &mut List<Event>, time: u64) -> Result<(), Allo
     events.push(Event::End(revision(time)))
 }
 
+fn say(events: &mut List<Event>, session: u32, text: String) -> Result<(), AllocError> {
+    let Ok(index) = u32::try_from(next_index(events.as_slice(), session)) else {
+        return Err(AllocError);
+    };
+    events.push(Event::Said(session, index, Text::of(text)))
+}
+
 #[test]
 fn replies_of_two_sessions(rt: HostRuntime) -> Result<(), Fail> {
     let alloc = rt.alloc();
@@ -128,7 +140,6 @@ fn replies_of_two_sessions(rt: HostRuntime) -> Result<(), Fail> {
         sessions: List::new(alloc),
         events: List::new(alloc),
     };
-    let mut said: [u32; 2] = [0, 0];
     for step in STEPS {
         match step {
             Step::Login(session) => journal.events.push(Event::Login(session, base(0)))?,
@@ -141,13 +152,11 @@ fn replies_of_two_sessions(rt: HostRuntime) -> Result<(), Fail> {
             Step::Says(session, want) => {
                 let found = reply(alloc, &law, &journal, session)?;
                 assert_eq!(rt; found.as_str(), want, "at {step:?}");
-                if let Some(index) = said.get_mut(session as usize) {
-                    journal.events.push(Event::Said(session, *index, Text::of(found)))?;
-                    *index = index.wrapping_add(1);
-                }
+                say(&mut journal.events, session, found)?;
             }
         }
     }
-    assert_eq!(rt; said, [5, 8]);
+    assert_eq!(rt; next_index(journal.events.as_slice(), 0), 5);
+    assert_eq!(rt; next_index(journal.events.as_slice(), 1), 8);
     Ok(())
 }

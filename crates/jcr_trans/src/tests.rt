@@ -1,5 +1,6 @@
 use crate::{
-    Command, memory_reply, null_reply, refusal_text, revision_reply, run, too_many_reply, unsupported_reply, vector_reply,
+    Command, memory_reply, null_reply, refusal_text, revision_reply, run, too_many_reply,
+    unsupported_reply, vector_reply,
 };
 use jr_path::{DeepCopy, Name, Path};
 use jr_rev::{RevVec, Revision};
@@ -132,13 +133,19 @@ fn replies_of_saves(rt: HostRuntime) -> Result<(), Fail> {
 fn replies_of_bases(rt: HostRuntime) -> Result<(), Fail> {
     let alloc = rt.alloc();
     let mut base = RevVec::start(2);
-    assert_eq!(rt; vector_reply(alloc, &base)?.as_str(), "ok \"r0-0-1,r0-0-2\"");
+    assert_eq!(rt;
+        vector_reply(alloc, &base)?.as_str(),
+        "ok \"r0-0-1,r0-0-2\""
+    );
     base.set(Revision {
         time: 201,
         counter: 0,
         cluster: 2,
     });
-    assert_eq!(rt; vector_reply(alloc, &base)?.as_str(), "ok \"r0-0-1,rc9-0-2\"");
+    assert_eq!(rt;
+        vector_reply(alloc, &base)?.as_str(),
+        "ok \"r0-0-1,rc9-0-2\""
+    );
     assert_eq!(rt; vector_reply(alloc, &RevVec::none())?.as_str(), "ok \"\"");
     Ok(())
 }
@@ -148,6 +155,9 @@ fn replies_of_refusals(rt: HostRuntime) -> Result<(), Fail> {
     let alloc = rt.alloc();
     assert_eq!(rt; memory_reply(alloc)?.as_str(), "no 16 []");
     assert_eq!(rt; too_many_reply(alloc)?.as_str(), "no 15 [\"nodes\",100000]");
-    assert_eq!(rt; unsupported_reply(alloc, &Command::Save)?.as_str(), "no 12 [\"save\"]");
+    assert_eq!(rt;
+        unsupported_reply(alloc, &Command::Save)?.as_str(),
+        "no 12 [\"save\"]"
+    );
     Ok(())
 }

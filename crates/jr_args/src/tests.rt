@@ -37,14 +37,8 @@ const FORMS: [(&str, &str); 20] = [
     (r#"["stop","1"]"#, "5 "),
     (r#"["query","q",[]]"#, "5 "),
     (r#"["tree","x",{"more":1}]"#, "5 "),
-    (
-        r#"["tree","/x",{"nodes":{"a":{"nodes":{"b":[]}}}}]"#,
-        "5 ",
-    ),
-    (
-        r#"["tree","/x",{"mixins":["a",1]}]"#,
-        "5 ",
-    ),
+    (r#"["tree","/x",{"nodes":{"a":{"nodes":{"b":[]}}}}]"#, "5 "),
+    (r#"["tree","/x",{"mixins":["a",1]}]"#, "5 "),
     (r#"["restore","/","any/text"]"#, "ok restore"),
     (r#"["stop",-1.5]"#, "ok stop"),
     (r#"["orderBefore","/a",null]"#, "ok orderBefore"),
@@ -59,29 +53,17 @@ const GRAMMARS: [(&str, &str); 20] = [
     (r#"["add","a"]"#, "6 /1"),
     (r#"["add","/a","b:c:d"]"#, "6 /2"),
     (r#"["add","."]"#, "6 /1"),
-    (
-        r#"["set","a b:c","a b:c",null]"#,
-        "6 /1",
-    ),
+    (r#"["set","a b:c","a b:c",null]"#, "6 /1"),
     (r#"["set","/","a b:c",null]"#, "6 /2"),
     (r#"["set","/","e",null]"#, "7 /3"),
     (r#"["set","/","e",[1,"a"]]"#, "7 /3"),
     (r#"["move","/a","b"]"#, "6 /2"),
     (r#"["observe","x",true,127]"#, "6 /1"),
-    (
-        r#"["label","/","1.0","a/b",true]"#,
-        "6 /3",
-    ),
+    (r#"["label","/","1.0","a/b",true]"#, "6 /3"),
     (r#"["orderBefore","/",".."]"#, "6 /2"),
-    (
-        r#"["query","q",{"a/b":1}]"#,
-        "6 /2/a~1b",
-    ),
+    (r#"["query","q",{"a/b":1}]"#, "6 /2/a~1b"),
     (r#"["query","q",{"a":[1]}]"#, "7 /2/a"),
-    (
-        r#"["query","q",{"a":{"empty":"long"}}]"#,
-        "7 /2/a",
-    ),
+    (r#"["query","q",{"a":{"empty":"long"}}]"#, "7 /2/a"),
     (
         r#"["tree","/x",{"type":"a/b","mixins":["*"]}]"#,
         "6 /2/type",
@@ -102,10 +84,7 @@ const GRAMMARS: [(&str, &str); 20] = [
         r#"["tree","/x",{"nodes":{"b":{"nodes":{"a b":{"props":{"p":{}}}}},"c":{"type":"/"}}}]"#,
         "7 /2/nodes/b/nodes/a b/props/p",
     ),
-    (
-        r#"["tree","/x",{"nodes":{"b":{},"|":{}}}]"#,
-        "6 /2/nodes/|",
-    ),
+    (r#"["tree","/x",{"nodes":{"b":{},"|":{}}}]"#, "6 /2/nodes/|"),
 ];
 
 #[test]
@@ -140,8 +119,7 @@ fn put_path(text: &mut String, path: &Path) -> Result<(), AllocError> {
 #[test]
 fn nodes_of_a_tree(rt: HostRuntime) -> Result<(), Fail> {
     let alloc = rt.alloc();
-    let input =
-        r#"["tree","/x",{"nodes":{"b":{},"a":{"nodes":{"c":{"type":"t"}}},"a-":{}}}]"#;
+    let input = r#"["tree","/x",{"nodes":{"b":{},"a":{"nodes":{"c":{"type":"t"}}},"a-":{}}}]"#;
     let Ok(json) = Json::from_slice(alloc, input.as_bytes()) else {
         return Ok(());
     };

@@ -2,20 +2,23 @@
 use Rattle.std.proofs.Common.{◌≡◌, ◌∙◌, ℕ, ◌<◌, ◌≤◌, suc, true, false, List, [], ◌∷◌, Result, Err, Option, Some, None, Bool, not, Bor, option_map, Global, String, codes, inl, inr, is_some, ap, arith, le-leb, leb, length, refl, sym, subst}
 use Rattle.std.proofs.lemmas.Bool.Decides.{leb_tells}
 use Rattle.std.specs.BTreeMap.{BTreeMap}
-use Rattle.serde_json.specs.Data.{Data, Members, object}
+use Rattle.std.specs.declared.vec.Vec.{Vec}
+use Rattle.serde_json.specs.Data.{Data, Items, Members, array, object}
 use Rattle.serde_json.specs.Events.{items_len}
 use Rattle.serde_json.specs.Find.{get}
 use Rattle.serde_json.specs.View.{items_view, members_view, view}
 use Rattle.serde_json.specs.declared.value.Value as json
-use Rattle.serde_json.proofs.Views.{view-Object}
+use Rattle.serde_json.proofs.Views.{view-Array, view-Object}
 use Rattle.jr_args.specs.declared.fault.Fault.{Fault}
 use Rattle.jr_args.specs.declared.fault.Fault.TheVariants as fault
-use Rattle.jr_args.specs.Outcomes.{Answers, Reading}
-use Rattle.jr_args.specs.Trees.{list_of}
-use Rattle.jr_args.proofs.Readings.{fails, passes}
+use Rattle.std.specs.Result.{IsErrAnd}
+use Rattle.jr_args.specs.Outcomes.{Answers, Reading, Then}
+use Rattle.jr_args.specs.Trees.{list_of, optional_of}
+use Rattle.jr_args.proofs.Readings.{exits, fails, passes}
+use Rattle.jr_script.specs.declared.script.Entry.{Entry}
 use Rattle.jr_script.specs.declared.script.Script.{Script}
 use Rattle.jr_script.specs.declared.script.SessionScript.{SessionScript}
-use Rattle.jr_script.specs.Scripts.{are_keys, counted_of, script_in, script_of, session_in, session_of}
+use Rattle.jr_script.specs.Scripts.{are_keys, counted_of, few_of, schedule_of, script_in, script_of, session_in, session_of}
 
 -- ---- lists of at most so many items
 
@@ -31,6 +34,21 @@ too_many most rule M vs e many same = fails _ rule _ e (ap (λ n. leb n most) (a
 
 pub few_enough : {X : Type 0} (most rule : ℕ) (M : Data → Reading X) (vs : List json.Value) (r : Result (List X) Fault) → length vs ≤ most → Answers (list_of M 0 (items_view vs)) r → Answers (counted_of most rule M (items_view vs)) r
 few_enough most rule M vs r few h = passes _ rule _ r (ap (λ n. leb n most) (as_many vs) ∙ le-leb _ _ few) h
+
+pub list_view : (j : json.Value) (v : Vec json.Value Global) (vs : List json.Value) → j ≡ json.Array v → vs ≡ v.items → view j ≡ array (items_view vs)
+list_view j v vs is same = ap view is ∙ (view-Array v ∙ ap (λ (xs : List json.Value). array (items_view xs)) (sym same))
+
+pub few_listed : {X : Type 0} (most rule : ℕ) (M : Data → Reading X) (d : Data) (ds : Items) (r : Result (List X) Fault) → d ≡ array ds → Answers (counted_of most rule M ds) r → Answers (few_of most rule M d) r
+few_listed most rule M d ds r is h = subst (λ (x : Data). Answers (few_of most rule M x) r) (sym is) h
+
+-- the schedule of as many sessions as were read
+pub schedule_read : (n : ℕ) (ss : List SessionScript) (o : Option Data) (r : Result (List Entry) Fault) → n ≡ length ss → Answers (optional_of (codes "schedule") [] (schedule_of n) o) r → Answers (optional_of (codes "schedule") [] (schedule_of (length ss)) o) r
+schedule_read n ss o r same h = subst (λ (k : ℕ). Answers (optional_of (codes "schedule") [] (schedule_of k) o) r) same h
+
+-- the same where `?` hands its fault on
+pub schedule_exits : {X : Type 0} (n : ℕ) (ss : List SessionScript) (o : Option Data) (f : List Entry → Reading X) (e : Fault) (r : Result X Fault) → n ≡ length ss → IsErrAnd r (λ broken. broken ≡ e)
+    → Answers (optional_of (codes "schedule") [] (schedule_of n) o) (Err e) → Answers (Then (optional_of (codes "schedule") [] (schedule_of (length ss)) o) f) r
+schedule_exits n ss o f e r same is h = exits _ f e r is (schedule_read n ss o (Err e) same h)
 
 -- ---- guards of objects, by what these are seen as
 

@@ -6,7 +6,6 @@ use Rattle.std.proofs.lemmas.List.Elements.{All-cons}
 use Rattle.serde_json.specs.Data.{Data, Items, null, boolean, number, string, array, object, no_items, item}
 use Rattle.serde_json.specs.Events.{items_len}
 use Rattle.serde_json.specs.Find.{get}
-use Rattle.jcr_trans.specs.declared.command.Command.{Command}
 use Rattle.jr_args.specs.declared.fault.Step.TheVariants.{Index}
 use Rattle.jr_args.specs.Commands.{command_of}
 use Rattle.jr_args.specs.Outcomes.{Outcome, Means, Breaks, Reading, Then, guard, onward, under}
@@ -14,7 +13,6 @@ use Rattle.jr_args.specs.Trees.{list_of, optional_of}
 use Rattle.jr_script.specs.Bounds.{IsSessionWithin, IsWithin}
 use Rattle.jr_script.specs.Schedules.{IsEntryWithin, entry_of}
 use Rattle.jr_script.specs.Scripts.{IsScript, absent, are_keys, cluster_of, clusters_of, commands_of, counted_of, few_of, member_of, schedule_of, script_in, session_in, session_of, sessions_of}
-use Rattle.jr_script.specs.declared.script.Entry.{Entry}
 use Rattle.jr_script.specs.declared.script.Script.{Script}
 use Rattle.jr_script.specs.declared.script.SessionScript.{SessionScript}
 use mathlib.Core.Bool.{false≢true}
@@ -139,8 +137,8 @@ script_inside d s h =
     let nodes = optional_holds (IsUpTo 8) (codes "clusters") 1 clusters_of (omega arith, omega arith) (λ e n g. (g.1, g.2)) (get (codes "clusters") d) a.0 a.1 in
     let sessions = member_holds (IsShort 64 (IsSessionWithin a.0)) (codes "sessions") 2 (sessions_of a.0) (few_short (IsSessionWithin a.0) 64 4 (session_of a.0) (session_within a.0 nodes.0)) (get (codes "sessions") d) b.0 b.1 in
     let entries =
-        optional_holds (IsShort 1000000 (IsEntryWithin (length b.0))) (codes "schedule") [] (schedule_of (length b.0)) (omega arith, none_read _) (few_short (IsEntryWithin (length b.0)) 1000000 8 (entry_of (length b.0)) (λ e x g. g.1))
-        (get (codes "schedule") d) c.0 c.1 in
+    optional_holds (IsShort 1000000 (IsEntryWithin (length b.0))) (codes "schedule") [] (schedule_of (length b.0)) (omega arith, none_read (IsEntryWithin (length b.0))) (few_short (IsEntryWithin (length b.0)) 1000000 8 (entry_of (length b.0)) (λ e x g. g.1))
+    (get (codes "schedule") d) c.0 c.1 in
     subst IsWithin (sym (same _ _ c.2)) (record { some = nodes.0; nodes = nodes.1; few = sessions.0; sessions = sessions.1; short = entries.0; entries = entries.1 })
 
 pub script_within : (d : Data) (s : Script) → IsScript d s → IsWithin s

@@ -60,10 +60,7 @@ const SCRIPTS: [(&str, &str); 38] = [
     (r#"{"sessions":[{}]}"#, "4 /sessions/0"),
     (r#"{"sessions":[{"commands":1,"~":2}]}"#, "4 /sessions/0"),
     (r#"{"sessions":[{"cluster":2,"x":2}]}"#, "4 /sessions/0"),
-    (
-        r#"{"sessions":[{"cluster":2}]}"#,
-        "4 /sessions/0/cluster",
-    ),
+    (r#"{"sessions":[{"cluster":2}]}"#, "4 /sessions/0/cluster"),
     (
         r#"{"sessions":[{"commands":1,"cluster":0}]}"#,
         "4 /sessions/0/cluster",
@@ -79,7 +76,10 @@ const SCRIPTS: [(&str, &str); 38] = [
     (r#"{"sessions":[]}"#, "ok 1"),
     (r#"{"sessions":7,"sessions":[]}"#, "ok 1"),
     (r#"{"sessions":[],"schedule":[]}"#, "ok 1"),
-    (r#"{"clusters":8,"sessions":[{"commands":[]}]}"#, "ok 8 at 1"),
+    (
+        r#"{"clusters":8,"sessions":[{"commands":[]}]}"#,
+        "ok 8 at 1",
+    ),
     (
         r#"{"sessions":[{"commands":["save"]}]}"#,
         "5 /sessions/0/commands/0",
@@ -144,8 +144,14 @@ fn scripts(rt: HostRuntime) -> Result<(), Fail> {
         assert_eq!(rt; outcome(alloc, input)?.as_str(), want, "at {input}");
     }
     for entry in ENTRIES {
-        let input = format!(in alloc; "{{\"sessions\":[{{\"commands\":[]}},{{\"commands\":[]}}],\"schedule\":[0,{entry},7]}}")?;
-        assert_eq!(rt; outcome(alloc, input.as_str())?.as_str(), "8 /schedule/1", "at {entry}");
+        let input = format!(in alloc;
+            "{{\"sessions\":[{{\"commands\":[]}},{{\"commands\":[]}}],\"schedule\":[0,{entry},7]}}"
+        )?;
+        assert_eq!(rt;
+            outcome(alloc, input.as_str())?.as_str(),
+            "8 /schedule/1",
+            "at {entry}"
+        );
     }
     Ok(())
 }
@@ -162,23 +168,21 @@ fn repeated(alloc: Global, part: &str, times: usize) -> Result<String, AllocErro
     Ok(text)
 }
 
+// At most 64 sessions, of at most 10,000 commands each.
 #[test]
 fn limits(rt: HostRuntime) -> Result<(), Fail> {
     let alloc = rt.alloc();
-    let most = repeated(alloc, "[\"save\"]", 10000)?;
-    let input = format!(in alloc; "{{\"sessions\":[{{\"commands\":[{most}]}}]}}")?;
-    assert!(rt; read_script(alloc, input.as_bytes()).is_ok());
-    let more = repeated(alloc, "7", 10001)?;
-    let input = format!(in alloc; "{{\"sessions\":[{{\"commands\":[{more}]}}]}}")?;
-    assert_eq!(rt; outcome(alloc, input.as_str())?.as_str(), "4 /sessions/0/commands");
     let most = repeated(alloc, "{\"commands\":[]}", 64)?;
     let input = format!(in alloc; "{{\"sessions\":[{most}],\"schedule\":[63]}}")?;
     assert!(rt; read_script(alloc, input.as_bytes()).is_ok());
     let more = repeated(alloc, "7", 65)?;
     let input = format!(in alloc; "{{\"sessions\":[{more}]}}")?;
     assert_eq!(rt; outcome(alloc, input.as_str())?.as_str(), "4 /sessions");
-    let more = repeated(alloc, "0", 1000001)?;
-    let input = format!(in alloc; "{{\"sessions\":[],\"schedule\":[{more}]}}")?;
-    assert_eq!(rt; outcome(alloc, input.as_str())?.as_str(), "8 /schedule");
+    let more = repeated(alloc, "7", 10001)?;
+    let input = format!(in alloc; "{{\"sessions\":[{{\"commands\":[{more}]}}]}}")?;
+    assert_eq!(rt;
+        outcome(alloc, input.as_str())?.as_str(),
+        "4 /sessions/0/commands"
+    );
     Ok(())
 }

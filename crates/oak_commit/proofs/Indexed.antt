@@ -1,11 +1,11 @@
 -- What stands at the places of each path.
-use Rattle.std.proofs.Common.{◌≡◌, ℕ, ◌+◌, ◌<◌, Bool, true, false, cond, List, [], ◌∷◌, ◌++◌, length, take, get_or, map, filter, Option, Some, None, refl, sym, ap, ◌∙◌, append-nil, append_assoc, arith, zero, suc}
+use Rattle.std.proofs.Common.{◌≡◌, ℕ, ◌+◌, ◌<◌, ◌≤◌, Bool, true, false, cond, List, [], ◌∷◌, ◌++◌, length, take, get_or, map, Option, Some, None, refl, sym, ap, ◌∙◌, append-nil, append_assoc, arith, zero, suc}
 use Rattle.std.specs.Prelude.{slice_get}
 use Rattle.std.specs.Option.{option_map_or, unwrap_or}
 use Rattle.std.specs.Ordering.{eq_by_cmp}
 use Rattle.std.specs.Map.{keys_of, lookup, set_value}
 use Rattle.std.specs.BTreeMap.{is_at, insert_entry}
-use Rattle.std.specs.List.{cons_option, filter_map, flat_map}
+use Rattle.std.specs.List.{cons_option, flat_map}
 use Rattle.std.specs.List.Sorted.{IsStrictlySortedBy}
 use Rattle.std.proofs.lemmas.List.{take_more}
 use Rattle.std.proofs.lemmas.List.Concat.{flat_map-append, flat_map_single}
@@ -34,6 +34,15 @@ get_there [] i d h = absurd (omega arith)
 get_there (x ∷ xs) zero d h = refl
 get_there (x ∷ xs) (suc i) d h = get_there xs i d (omega arith)
 
+get_past : {X : Type 0} (xs : List X) (i : ℕ) → length xs ≤ i → slice_get xs i ≡ None
+get_past [] i past = refl
+get_past (x ∷ xs) zero past = absurd (omega arith)
+get_past (x ∷ xs) (suc i) past = get_past xs i (omega arith)
+
+-- nothing is made of what isn't there
+pub nothing_made : {X C : Type 0} (f : X → List C) (xs : List X) (i : ℕ) (cs : List C) → length xs ≤ i → cs ≡ cs ++ option_map_or f (slice_get xs i) []
+nothing_made f xs i cs past = sym (ap (λ o. cs ++ option_map_or f o []) (get_past xs i past) ∙ append-nil cs)
+
 module _ {X : Type 0} (all : List X) where
   -- what is made of the items of one more place
   pub made_more : {C : Type 0} (f : X → List C) (ns : List ℕ) (i d : ℕ) (start now next : List C) → i < length ns → now ≡ start ++ flat_map f (items_at all (take i ns)) → next ≡ now ++ option_map_or f (slice_get all (get_or ns i d)) [] → next ≡ start ++ flat_map f (items_at all (take (i + 1) ns))
@@ -59,6 +68,7 @@ module _ {X : Type 0} (all : List X) where
     where
       same : eq_by_cmp path_cmp p (path x) ≡ true → p ≡ path x
       same h = (tested path_total path_exact p (path x)).0 h
+
       by : (b : Bool) → eq_by_cmp path_cmp p (path x) ≡ b → items_at all (unwrap_or (cond b (Some (places_of places (path x) ++ i ∷ [])) (lookup (is_at (path_cmp p)) places)) []) ≡ of_path path p (take i all) ++ cond b (x ∷ []) []
       by true h =
           filter_map-append (slice_get all) (places_of places (path x)) (i ∷ [])

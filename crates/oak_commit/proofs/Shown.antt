@@ -1,10 +1,10 @@
 -- What a committer is seen as, step by step.
-use Rattle.std.proofs.Common.{◌≡◌, ℕ, zero, suc, ◌+◌, ◌<◌, ◌≤◌, Bool, true, false, cond, List, [], ◌∷◌, ◌++◌, length, take, drop, get_or, map, fold, Option, Some, None, refl, sym, ap, ◌∙◌, arith, All}
+use Rattle.std.proofs.Common.{subst, ◌≡◌, ℕ, zero, suc, ◌+◌, ◌<◌, ◌≤◌, Bool, true, false, cond, List, [], ◌∷◌, ◌++◌, length, take, drop, get_or, map, fold, Option, Some, None, refl, sym, ap, ◌∙◌, arith, All}
 use Rattle.std.specs.Prelude.{slice_get}
 use Rattle.std.specs.Option.{option_map}
 use Rattle.std.proofs.Math.ListN.{drop_of_length-le}
 use Rattle.std.proofs.lemmas.List.{take_more, drop-append-le, get_or-map, get_or-take, length-drop, length-map, length-take, length-take-le}
-use Rattle.std.proofs.lemmas.List.Elements.{All-get_or}
+use Rattle.std.proofs.lemmas.List.Elements.{All-get_or, All-nil}
 use Rattle.std.proofs.lemmas.Map.Views.{All-keys-insert_entry}
 use Rattle.std.specs.Map.{keys_of}
 use Rattle.std.specs.BTreeMap.{insert_entry}
@@ -12,56 +12,53 @@ use Rattle.jr_rev.specs.declared.revision.Revision.{Revision}
 use Rattle.jr_rev.specs.declared.vector.RevVec.{RevVec}
 use Rattle.oak_doc.specs.declared.asks.Ask.TheVariants as ask
 use Rattle.oak_doc.specs.declared.asks.MemoryAsk.TheVariants as memory
+use Rattle.oak_doc.specs.declared.asks.Reply.TheVariants as reply
 use Rattle.jr_path.specs.Ids.{id_cmp, names_of}
 use Rattle.jr_path.specs.declared.path.Path.{Path}
 use Rattle.jr_path.specs.declared.path.DocId.{DocId}
 use Rattle.jr_path.specs.declared.path.DocId.TheVariants as id
 use Rattle.oak_clash.specs.declared.mark.MarkAt.{MarkAt}
 use Rattle.oak_doc.specs.declared.document.Document.{Document}
-use Rattle.oak_commit.specs.Clashing.{Met}
-use Rattle.oak_commit.specs.Committing.{Committing, asks_undo, due_by, due_of, ended_by, mark_due, roots_in, undo_due, with_undone, write_due, written_paths}
+use Rattle.oak_commit.specs.Clashing.{Met, found}
+use Rattle.oak_commit.specs.Committing.{Committing, asks_undo, due_by, due_of, ended_by, mark_due, roots_in, tells_written, undo_due, wanting, with_undone, write_due, written_by, written_paths}
 use Rattle.oak_commit.specs.Kept.{met_by, shown}
 use Rattle.oak_commit.specs.Places.{Planned}
-use Rattle.oak_commit.specs.Writing.{written_ids}
+use Rattle.oak_commit.specs.Stages.{undo_stage}
+use Rattle.oak_commit.specs.Writing.{write_op, written_ids}
 use Rattle.oak_commit.specs.declared.outcome.CommitEnd.{CommitEnd}
 use Rattle.oak_commit.specs.declared.outcome.CommitEnd.TheVariants as end
-use Rattle.oak_commit.specs.Meeting.{due_in, dues_in}
+use Rattle.oak_commit.specs.Meeting.{dues_in, root_in}
 use Rattle.oak_commit.specs.declared.met.Due.{Due}
+use Rattle.oak_commit.specs.declared.stage.Stage.TheVariants as stage
 
 dropped : {X : Type 0} (xs : List X) (i : ℕ) (d : X) → i < length xs → drop i xs ≡ get_or xs i d ∷ drop (i + 1) xs
 dropped [] i d h = absurd (omega arith)
 dropped (x ∷ xs) zero d h = refl
 dropped (x ∷ xs) (suc i) d h = let p : suc i + 1 ≡ suc (i + 1) = omega arith in rw p (dropped xs i d (omega arith))
 
-get_of : (ids : List DocId) (k : ℕ) (x : DocId) → slice_get ids k ≡ Some x → (k < length (map names_of ids)) × ((d : Path) → get_or (map names_of ids) k d ≡ names_of x)
-get_of [] k x h = cc
-get_of (y ∷ ids) zero x h = (omega arith, λ d. ap names_of (some h))
-  where
-    some : Some y ≡ Some x → y ≡ x
-    some refl = refl
-get_of (y ∷ ids) (suc k) x h = let rest = get_of ids k x h in (omega (arith, rest.0), rest.1)
+-- an item at a place of a list
+pub record IsAt (ids : List DocId) (k : ℕ) (x : DocId) : Type 0 where
+  pub within : k < length ids
+  pub is : x ≡ get_or ids k x
 
-none_of : (ids : List DocId) (k : ℕ) → slice_get ids k ≡ None → length (map names_of ids) ≤ k
-none_of [] k h = omega arith
-none_of (y ∷ ids) zero h = cc
-none_of (y ∷ ids) (suc k) h = let rest = none_of ids k h in omega (arith, rest)
+pub at_of : (ids all : List DocId) (k : ℕ) (x : DocId) → ids ≡ all → k < length ids → x ≡ get_or ids k x → IsAt all k x
+at_of ids all k x same within is = subst (λ xs. IsAt xs k x) same (record { within = within; is = is })
 
 -- the next document
-pub left_first : (ids : List DocId) (k : ℕ) (x : DocId) → slice_get ids k ≡ Some x → drop k (map names_of ids) ≡ names_of x ∷ drop (k + 1) (map names_of ids)
-left_first ids k x there = let at = get_of ids k x there in dropped (map names_of ids) k [] at.0 ∙ ap (λ p. p ∷ drop (k + 1) (map names_of ids)) (at.1 [])
+pub left_first : (ids : List DocId) (k : ℕ) (x : DocId) → IsAt ids k x → drop k (map names_of ids) ≡ names_of x ∷ drop (k + 1) (map names_of ids)
+left_first ids k x at =
+    dropped (map names_of ids) k [] (omega (arith, length-map ids names_of, at.within))
+    ∙ ap (λ p. p ∷ drop (k + 1) (map names_of ids)) (get_or-map names_of ids k x [] at.within ∙ ap names_of (sym at.is))
 
-pub left_none : (ids : List DocId) (k : ℕ) → slice_get ids k ≡ None → drop k (map names_of ids) ≡ []
-left_none ids k none = drop_of_length-le (map names_of ids) (none_of ids k none)
-
-pub left_within : (ids : List DocId) (k : ℕ) (x : DocId) → slice_get ids k ≡ Some x → k + 1 ≤ length (map names_of ids)
-left_within ids k x there = let at = get_of ids k x there in omega (arith, at.0)
+pub left_none : (ids : List DocId) (k : ℕ) → length ids ≤ k → drop k (map names_of ids) ≡ []
+left_none ids k none = drop_of_length-le (map names_of ids) (omega (arith, length-map ids names_of, none))
 
 -- one more document is written
-pub written_more : (ids : List DocId) (undone k : ℕ) (x : DocId) → undone ≤ k → slice_get ids k ≡ Some x → drop undone (take (k + 1) (map names_of ids)) ≡ drop undone (take k (map names_of ids)) ++ names_of x ∷ []
-written_more ids undone k x low there =
-    let at = get_of ids k x there in
-    ap (drop undone) (take_more (map names_of ids) k [] at.0 ∙ ap (λ p. take k (map names_of ids) ++ p ∷ []) (at.1 []))
-    ∙ drop-append-le undone (take k (map names_of ids)) (names_of x ∷ []) (let long : length (take k (map names_of ids)) ≡ k = length-take-le k (map names_of ids) (omega (arith, at.0)) in omega (arith, long, low))
+pub written_more : (ids : List DocId) (undone k : ℕ) (x : DocId) → undone ≤ k → IsAt ids k x → drop undone (take (k + 1) (map names_of ids)) ≡ drop undone (take k (map names_of ids)) ++ names_of x ∷ []
+written_more ids undone k x low at =
+    let within : k < length (map names_of ids) = omega (arith, length-map ids names_of, at.within) in
+    ap (drop undone) (take_more (map names_of ids) k [] within ∙ ap (λ p. take k (map names_of ids) ++ p ∷ []) (get_or-map names_of ids k x [] at.within ∙ ap names_of (sym at.is)))
+    ∙ drop-append-le undone (take k (map names_of ids)) (names_of x ∷ []) (let long : length (take k (map names_of ids)) ≡ k = length-take-le k (map names_of ids) (omega (arith, within)) in omega (arith, long, low))
 
 -- ---- undoing
 
@@ -72,10 +69,6 @@ undone_first ps written undone low high =
 
 undone_none : (ps : List Path) (written undone : ℕ) → written ≤ undone → drop undone (take written ps) ≡ []
 undone_none ps written undone low = drop_of_length-le (take written ps) (omega (arith, length-take written ps, low))
-
--- something is written and not undone
-pub undo_first : (c : Committing) (ps : List Path) (written undone : ℕ) → undone < written → written ≤ length ps → ask.Undo c.revision ≡ undo_due c (drop undone (take written ps))
-undo_first c ps written undone low high = rw (undone_first ps written undone low high) refl
 
 not_ended : (c : Committing) (b : Bool) → asks_undo (cond b ask.Done (ask.Memory (memory.Finish c.revision))) ≡ true → ⊥
 not_ended c true h = cc
@@ -105,7 +98,7 @@ node_keys [] es all = all
 node_keys (m ∷ ms) es all = node_keys ms (insert_entry id_cmp es (id.Node m.path) true) (All-keys-insert_entry id_cmp (id.Node m.path) true (λ x. id.Node (names_of x) ≡ x) es all refl)
 
 pub nodes : (ms : List MarkAt) → All (λ x. id.Node (names_of x) ≡ x) (written_ids ms)
-nodes ms = node_keys ms [] tt
+nodes ms = node_keys ms [] (All-nil (λ x. id.Node (names_of x) ≡ x))
 
 -- the id of the first of them is lent
 pub lent : (ms : List MarkAt) (written undone : ℕ) (x : DocId) → undone < written → written ≤ length (written_paths ms) → x ≡ get_or (written_ids ms) undone x → option_map id.Node (slice_get (drop undone (take written (written_paths ms))) 0) ≡ Some x
@@ -114,32 +107,6 @@ lent ms written undone x low high is =
     ap (λ ps. option_map id.Node (slice_get ps 0)) (undone_first (written_paths ms) written undone low high)
     ∙ ap (λ p. Some (id.Node p)) (get_or-take written (written_paths ms) undone [] low ∙ get_or-map names_of (written_ids ms) undone x [] within)
     ∙ ap Some (All-get_or (λ y. id.Node (names_of y) ≡ y) (written_ids ms) undone x within (nodes ms) ∙ sym is)
-
-module _ (r : Revision) (base : RevVec) (plan : Planned) (written undone : ℕ) (dues : List Due) (outcome : Option CommitEnd) (ended : Bool) where
-  abbrev c : Committing
-  c = shown r base plan written undone dues outcome ended
-
-  -- how many documents are written, where one is to be undone
-  pub undoing_within : asks_undo (due_of c) ≡ true → undone < written
-  undoing_within h =
-      let some : 0 < length (drop undone (take written (written_paths plan.marks))) = some_due c outcome h in
-      omega (arith, some, length-drop undone (take written (written_paths plan.marks)), length-take written (written_paths plan.marks))
-
-  pub count_shown : undone < written → written ≤ length (written_paths plan.marks) → shown r base plan written (undone + 1) dues outcome ended ≡ with_undone c
-  count_shown low high =
-      ap {A = List Path} {B = Committing} (λ ps. record c { writer = record c.writer { written = ps } })
-      (sym (ap (drop 1) (undone_first (written_paths plan.marks) written undone low high)))
-
-  pub count_none : written ≤ undone → c ≡ with_undone c
-  count_none low =
-      let none : drop undone (take written (written_paths plan.marks)) ≡ [] = undone_none (written_paths plan.marks) written undone low in
-      ap {A = List Path} {B = Committing} (λ ps. record c { writer = record c.writer { written = ps } }) (none ∙ sym (ap (drop 1) none))
-
-  pub ended_shown : written ≤ undone → shown r base plan written undone dues outcome true ≡ ended_by c (drop undone (take written (written_paths plan.marks)))
-  ended_shown low = rw (undone_none (written_paths plan.marks) written undone low) refl
-
-  pub ended_not : undone < written → written ≤ length (written_paths plan.marks) → c ≡ ended_by c (drop undone (take written (written_paths plan.marks)))
-  ended_not low high = rw (undone_first (written_paths plan.marks) written undone low high) refl
 
 -- ---- going on
 
@@ -152,4 +119,68 @@ dues_met (Some d) (f ∷ fs) none = ap (λ gs. f ∷ gs) (dues_met (Some d) fs (
 pub dues_roots : (before : Option Document) (fs : List Met) → map (λ d. d.root) (dues_in before fs) ≡ roots_in before fs
 dues_roots None fs = refl
 dues_roots (Some d) [] = refl
-dues_roots (Some d) (f ∷ fs) = ap (λ (ps : List Path). _ ∷ ps) (dues_roots (Some d) fs)
+dues_roots (Some d) (f ∷ fs) = ap (λ (ps : List Path). root_in d f.other ∷ ps) (dues_roots (Some d) fs)
+
+-- ---- a committer as its fields say
+
+module _ (r : Revision) (base : RevVec) (plan : Planned) (written undone : ℕ) (outcome : Option CommitEnd) (ended : Bool) (dues : List Due) where
+  abbrev paths : List Path
+  paths = written_paths plan.marks
+
+  abbrev c : Committing
+  c = shown r base plan written undone dues outcome ended
+
+  abbrev with_writer : List Path → List Path → List Met → List Path → Committing
+  with_writer left ws fs roots = record c { writer = record c.writer { left = left; written = ws; due = fs }; roots = roots }
+
+  -- how many documents are written, where one is to be undone
+  pub undoing_within : asks_undo (due_of c) ≡ true → undone < written
+  undoing_within h =
+      let some : 0 < length (drop undone (take written paths)) = some_due c outcome h in
+      omega (arith, some, length-drop undone (take written paths), length-take written paths)
+
+  pub undo_shown : undone < written → written ≤ length paths → ask.Undo r ≡ undo_due c c.writer.written
+  undo_shown low high = rw (undone_first paths written undone low high) refl
+
+  pub undo_stage_shown : undone < written → written ≤ length paths → stage.Undo ≡ undo_stage c
+  undo_stage_shown low high = rw (undone_first paths written undone low high) refl
+
+  pub count_shown : undone < written → written ≤ length paths → shown r base plan written (undone + 1) dues outcome ended ≡ with_undone c
+  count_shown low high =
+      ap {A = List Path} {B = Committing} (λ ps. record c { writer = record c.writer { written = ps } })
+      (sym (ap (drop 1) (undone_first paths written undone low high)))
+
+  pub ended_not : undone < written → written ≤ length paths → c ≡ ended_by c c.writer.written
+  ended_not low high = rw (undone_first paths written undone low high) refl
+
+  -- a document is to be written
+  pub write_shown : (x : DocId) → length dues ≤ 0 → IsAt (written_ids plan.marks) written x → ask.Update (write_op r plan.edit.writes plan.marks (names_of x)) ≡ mark_due c c.writer.due
+  write_shown x none at = by dues none
+    where
+      by : (ds : List Due) → length ds ≤ 0 → ask.Update (write_op r plan.edit.writes plan.marks (names_of x)) ≡ mark_due c (map met_by ds)
+      by [] none = rw (left_first (written_ids plan.marks) written x at) refl
+      by (d ∷ ds) none = absurd (omega arith)
+
+  -- a document is written
+  pub written_shown : (new : List Due) (before : Option Document) (x : DocId) → undone ≤ written → IsAt (written_ids plan.marks) written x → new ≡ dues_in before (found base r (names_of x) plan.marks before) → shown r base plan (written + 1) undone new outcome ended ≡ written_by c c.writer.left before
+  written_shown new before x low at is =
+      ap {A = List Path} {B = Committing} (λ ws. with_writer (drop (written + 1) paths) ws (map met_by new) (map (λ d. d.root) new)) (written_more (written_ids plan.marks) undone written x low at)
+      ∙ ap {A = List Met} {B = Committing} (λ fs. with_writer (drop (written + 1) paths) (c.writer.written ++ names_of x ∷ []) fs (map (λ d. d.root) new)) (ap (map met_by) is ∙ dues_met before met (none before refl))
+      ∙ ap {A = List Path} {B = Committing} (with_writer (drop (written + 1) paths) (c.writer.written ++ names_of x ∷ []) met) (ap (map (λ d. d.root)) is ∙ dues_roots before met)
+      ∙ ap {A = List Path} {B = Committing} (λ left. written_by c left before) (sym (left_first (written_ids plan.marks) written x at))
+    where
+      met : List Met
+      met = found base r (names_of x) plan.marks before
+
+      none : (b : Option Document) → before ≡ b → before ≡ None → met ≡ []
+      none b is e = rw e refl
+
+  -- a document is written, but memory is wanted for what is found
+  pub wanting_shown : (before : Option Document) (x : DocId) → undone ≤ written → IsAt (written_ids plan.marks) written x → wanting (shown r base plan (written + 1) undone dues outcome ended) ≡ wanting (written_by c c.writer.left before)
+  wanting_shown before x low at =
+      ap {A = List Path} {B = Committing} (λ ws. wanting (with_writer (drop (written + 1) paths) ws [] [])) (written_more (written_ids plan.marks) undone written x low at)
+      ∙ ap {A = List Path} {B = Committing} (λ left. wanting (written_by c left before)) (sym (left_first (written_ids plan.marks) written x at))
+
+-- the reply tells of a document that is written
+pub tells : (c : Committing) (before : Option Document) (p : Path) (ps : List Path) → c.outcome ≡ None → c.writer.due ≡ [] → c.writer.left ≡ p ∷ ps → tells_written c (reply.Updated before) ≡ true
+tells c before p ps going none left = rw (going, none, left) refl

@@ -1,5 +1,5 @@
 -- A committer: what it asks for, and what it keeps after a reply (Oak, DocumentNodeStore: commit).
-use Rattle.std.specs.Prelude.{ℕ, Bool, true, false, cond, List, [], ◌∷◌, ◌++◌, map, take, drop, Option, None, Some, slice_get}
+use Rattle.std.specs.Prelude.{Bool, true, false, cond, List, [], ◌∷◌, ◌++◌, map, drop, Option, None, Some, slice_get}
 use Rattle.std.specs.Option.{option_map}
 use Rattle.jr_path.specs.Ids.{names_of}
 use Rattle.jr_path.specs.declared.path.Path.{Path}
@@ -161,9 +161,11 @@ module _ (c : Committing) where
       by_kept (kept.Entry o item) = refused c item o
       by_kept (kept.Number n) = c
       by_kept kept.Nothing = c
+
       by_left : List Path → Committing
       by_left (p ∷ ps) = c
       by_left [] = by_kept k
+
       by_due : List Met → Committing
       by_due (f ∷ fs) = refused c f.mine f.other
       by_due [] = by_left c.writer.left

@@ -194,9 +194,10 @@ impl Committer {
         if !self.due.is_empty() {
             return Stage::Mark;
         }
-        match self.plan.ids().get(self.written) {
-            Some(_) => Stage::Write,
-            None => Stage::Last,
+        if self.written < self.plan.ids().len() {
+            Stage::Write
+        } else {
+            Stage::Last
         }
     }
 
@@ -204,7 +205,11 @@ impl Committer {
     fn end_stage(&self) -> Stage
         ensures { result ≡ end_stage self.now }
     {
-        if self.ended { Stage::Done } else { Stage::Finish }
+        if self.ended {
+            Stage::Done
+        } else {
+            Stage::Finish
+        }
     }
 
     // Which kind is due while it undoes.
@@ -300,7 +305,9 @@ impl Committer {
             self.outcome = Some(CommitEnd::Committed(self.revision));
             return Ok(());
         };
-        let found = self.plan.found(&self.base, self.revision, id, before.as_ref());
+        let found = self
+            .plan
+            .found(&self.base, self.revision, id, before.as_ref());
         self.written += 1;
         match found {
             Ok(due) => {

@@ -9,6 +9,8 @@ mod outcome;
 mod places;
 mod plan;
 mod stage;
+#[cfg(test)]
+mod tests;
 
 pub use committer::Committer;
 pub use ops::{last_op, write_of, write_op, written_ids};

@@ -7,10 +7,7 @@ use jr_rev::Revision;
 pub enum CommitEnd {
     Committed(Revision),
     /// It was refused for another commit that it clashes with in its item.
-    Clash {
-        item: Item,
-        other: Revision,
-    },
+    Clash { item: Item, other: Revision },
     /// Memory was refused before the commit point.
     Memory,
 }

@@ -34,12 +34,7 @@ pub(crate) fn places_of_marks(alloc: Global, marks: &[MarkAt]) -> Result<Places,
 }
 
 // Puts one more place of a path.
-fn put_place(
-    alloc: Global,
-    places: &mut Places,
-    path: &Path,
-    at: usize,
-) -> Result<(), AllocError>
+fn put_place(alloc: Global, places: &mut Places, path: &Path, at: usize) -> Result<(), AllocError>
     ensures { OnOk result (places.new ≡ with_place places.old path.now at) }
 {
     if let Some(known) = places.inner_mut().get_mut(path) {

@@ -80,7 +80,13 @@ impl Plan {
         ensures { IfOk result (λ op. op ≡ write_op r self.now.edit.writes self.now.marks path.now) }
     {
         let mut changes = List::new(self.alloc);
-        put_entries_at(&mut changes, r, path, self.edit.writes.as_slice(), &self.writes)?;
+        put_entries_at(
+            &mut changes,
+            r,
+            path,
+            self.edit.writes.as_slice(),
+            &self.writes,
+        )?;
         put_rooting(&mut changes, r, path, &self.root)?;
         let mine = self.marks_at(path)?;
         put_markings_of(&mut changes, r, mine.as_slice())?;

@@ -1,5 +1,6 @@
 -- What a world keeps after each call for one of its sessions, and what a port tells of it.
-use Rattle.std.proofs.Common.{◌≡◌, ◌⊎◌, inl, inr, ℕ, zero, suc, ◌+◌, ◌-◌, ◌*◌, ◌^◌, ◌<◌, ◌≤◌, Bool, true, false, cond, ◌||◌, Option, Some, None, List, [], ◌∷◌, ◌++◌, length, map, is_some, refl, sym, ap, subst, ◌∙◌, arith}
+use mathlib.Core.Bool.{false≢true}
+use Rattle.std.proofs.Common.{◌≡◌, ◌≢◌, ◌↔◌, ◌⊎◌, inl, inr, ℕ, zero, suc, ◌+◌, ◌-◌, ◌*◌, ◌^◌, ◌<◌, ◌≤◌, Bool, true, false, cond, ◌||◌, Option, Some, None, List, [], ◌∷◌, ◌++◌, length, map, is_some, refl, sym, ap, subst, ◌∙◌, arith}
 use Rattle.std.specs.Prelude.{◌==◌, slice_get, slice_set, IsSome}
 use Rattle.std.specs.Borrow.{GName}
 use Rattle.std.specs.declared.alloc.Global.{Global}
@@ -11,6 +12,11 @@ use Rattle.jr_rev.specs.declared.revision.Revision.{Revision}
 use Rattle.jr_rev.specs.declared.vector.Pin.{Pin}
 use Rattle.oak_commit.specs.Clashing.{Met}
 use Rattle.oak_commit.specs.Committing.{Committing}
+use Rattle.oak_commit.specs.Stages.{stage_of}
+use Rattle.oak_commit.specs.declared.outcome.CommitEnd.{CommitEnd}
+use Rattle.oak_commit.specs.declared.outcome.CommitEnd.TheVariants as end
+use Rattle.oak_commit.specs.declared.stage.Stage.{Stage}
+use Rattle.oak_commit.specs.declared.stage.Stage.TheVariants as stage
 use Rattle.oak_machine.specs.declared.event.Event.{Event}
 use Rattle.oak_machine.specs.declared.event.Event.TheVariants as event
 use Rattle.oak_machine.specs.declared.event.StepKind.{StepKind}
@@ -45,10 +51,11 @@ use Rattle.oak_world.specs.declared.actor.Work.{Work}
 use Rattle.oak_world.specs.declared.actor.Work.TheVariants as work
 use Rattle.oak_world.specs.Kept.{IsAtWork, IsWorld, May}
 use Rattle.oak_world.specs.Parts.{CanCommit, CanMove, CanStep, needed}
-use Rattle.oak_world.specs.Seen.{no_seat, seat_of, shown_at, shown_work}
-use Rattle.oak_world.specs.Steps.{Begins, HasCome, IsIdle, StepsIn, kind_due}
+use Rattle.oak_world.specs.Seen.{no_seat, seat_of, shown_at, shown_by, shown_work}
+use Rattle.oak_world.specs.Steps.{Begins, HasCome, IsIdle, StepsIn, kind_due, kind_of}
 use Rattle.oak_world.specs.Worlds.{ActorState, WorldOf, actor_in, node_in, reading_of, running_as, running_of, said_in, state_of, state_with, with_reply, with_work, work_in}
 use Rattle.oak_world.proofs.States.{actor_other, actor_set, session_same, session_set}
+use Rattle.oak_world.proofs.Stages.{done_stage}
 use Rattle.oak_world.proofs.Staying.{may_last}
 use Rattle.oak_world.proofs.Walking.{IsStepOf, any_step}
 
@@ -100,6 +107,43 @@ still_waits starts says w s name run = record {
   alone = refl;
 }
 
+-- a session that is shown to do nothing does nothing
+pub idle_shown : (v : Work) → shown_work v ≡ Idle → v ≡ work.Rest
+idle_shown work.Rest h = refl
+idle_shown work.Login h = cc
+idle_shown work.End h = cc
+idle_shown work.Refresh h = cc
+idle_shown (work.Read r) h = cc
+idle_shown (work.Plan edit marks) h = cc
+idle_shown (work.Commit c) h = absurd (by c.outcome h)
+  where
+    by : (o : Option CommitEnd) → shown_by c.revision o ≡ Idle → ⊥
+    by None k = cc
+    by (Some (end.Committed r)) k = cc
+    by (Some (end.Clash item r)) k = cc
+    by (Some end.Memory) k = cc
+idle_shown (work.Move r) h = cc
+
+-- what is due of a commit that hasn't ended
+staged : (c : Committing) → c.ended ≡ false → (x : Stage) → stage_of c ≡ x → is_some (kind_of x) ≡ true
+staged c unended stage.Mark e = refl
+staged c unended stage.Write e = refl
+staged c unended stage.Last e = refl
+staged c unended stage.Undo e = refl
+staged c unended stage.Finish e = refl
+staged c unended stage.Done e = let k = done_stage c e in cc
+
+-- a step is due of each session that does something
+pub busy_due : (starts : Starts) (h : History) (s : ℕ) (v : Work) → May starts h s v → (is_some (kind_due v) ≡ true) ↔ (v ≢ work.Rest)
+busy_due starts h s work.Rest may = (λ k e. absurd (false≢true k), λ busy. absurd (busy refl))
+busy_due starts h s work.Login may = (λ k e. cc, λ busy. refl)
+busy_due starts h s work.End may = (λ k e. cc, λ busy. refl)
+busy_due starts h s work.Refresh may = (λ k e. cc, λ busy. refl)
+busy_due starts h s (work.Read r) may = (λ k e. cc, λ busy. refl)
+busy_due starts h s (work.Plan edit marks) may = (λ k e. cc, λ busy. refl)
+busy_due starts h s (work.Commit c) may = (λ k e. cc, λ busy. staged c may.unended (stage_of c) refl)
+busy_due starts h s (work.Move r) may = (λ k e. cc, λ busy. refl)
+
 -- a task that begins
 pub begins_shown : (pin : Option Pin) (t : Task) (v : Work) → Begins pin t v → shown_work v ≡ Starting t
 begins_shown pin task.Login v h = ap shown_work h
@@ -125,7 +169,7 @@ module _ (starts : Starts) (says : Says) (proper : StartsProper starts) (last : 
   -- ---- what a step takes
 
   come_pinned : HasCome w.history s → IsSome (pin_of (memory_of (state_of w) s) s)
-  come_pinned come = subst (λ (o : Option Pin). IsSome o) (sym (pin_there starts says proper (state_of w) is.kept s come.login come.stays).0) tt
+  come_pinned come = subst (λ (o : Option Pin). IsSome o) (sym (pin_there starts says proper (state_of w) is.kept s come.login come.stays).0) refl
 
   on : slice_get w.history.sessions s ≡ Some (node_in w.history s)
   on = on_node starts says proper (state_of w) is.kept s there
@@ -146,7 +190,7 @@ module _ (starts : Starts) (says : Says) (proper : StartsProper starts) (last : 
   can_by work.Refresh at may places kept short = come_pinned may
   can_by (work.Read r) at may places kept short = tt
   can_by (work.Plan edit marks) at may places kept short = let t : known_time (memory_of (state_of w) s) ≤ length w.history.past = time_known starts says proper (state_of w) is.kept (node_in w.history s) node in omega arith
-  can_by (work.Commit c) at may places kept short = record { flying = flies_there starts says proper (state_of w) is.kept s (running_as s c) (ap (running_of s) at); unended = may.unended; places = kept }
+  can_by (work.Commit c) at may places kept short = record { flying = flies_there starts says proper (state_of w) is.kept s (running_as s c) (ap (running_of s) at); unended = may.unended; kept = kept }
   can_by (work.Move r) at may places kept short = record { ended = moved_ended r may; pinned = come_pinned may.0; place = kept }
 
   pub can_step : (places : ℕ) → needed (work_in w.actors s) ≤ places → length w.history.past < 2 ^ 63 → CanStep s (memory_of (state_of w) s) places (work_in w.actors s)

@@ -179,8 +179,11 @@ module _ {L : Type 0} (w : WorldOf L) (s : ℕ) (there : s < length w.actors) wh
           by : (d ≡ fed_made w.table c) ⊎ (d ≡ wanting (fed_made w.table c))
               → ((now ≡ after_write (state_of w) s (running_as s c) at.first at.rest) × (d ≡ stands)) ⊎ ((now ≡ after_write_in_want (state_of w) s (running_as s c) at.first at.rest) × (d ≡ wanting stands))
           by (inl e) = inl (update_is (event.Went s kind.Write) (after_update w.table (write_op c.revision c.edit.writes c.marks at.first)) stands m.list (table_written m.made) (e ∙ fed_is), e ∙ fed_is)
-          by (inr e) = inr (update_is (event.Went s kind.Write) (after_update w.table (write_op c.revision c.edit.writes c.marks at.first)) (wanting stands) m.list (table_written m.made) (e ∙ ap wanting fed_is)
-              ∙ ap (λ (b : Bool). record (state_of w) { past = event.Went s kind.Write ∷ w.history.past; table = after_update w.table (write_op c.revision c.edit.writes c.marks at.first); running = with_session (state_of w).running s (Some (record (running_as s (wanting stands)) { committed = b })) }) (sym (ap is_past at.going)), e ∙ ap wanting fed_is)
+          by (inr e) = inr (
+            update_is (event.Went s kind.Write) (after_update w.table (write_op c.revision c.edit.writes c.marks at.first)) (wanting stands) m.list (table_written m.made) (e ∙ ap wanting fed_is)
+                ∙ ap (λ (b : Bool). record (state_of w) { past = event.Went s kind.Write ∷ w.history.past; table = after_update w.table (write_op c.revision c.edit.writes c.marks at.first); running = with_session (state_of w).running s (Some (record (running_as s (wanting stands)) { committed = b })) }) (sym (ap is_past at.going)),
+            e ∙ ap wanting fed_is,
+          )
 
     -- the last write
     module _ (at : IsLastStage c) where

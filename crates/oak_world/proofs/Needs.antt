@@ -1,9 +1,9 @@
 -- The places that a commit needs, from step to step.
-use Rattle.std.proofs.Common.{◌≡◌, ◌≤◌, ◌+◌, ◌*◌, ℕ, List, [], ◌∷◌, ◌++◌, length, drop, Option, Some, None, ◌⊎◌, inl, inr, true, false, refl, sym, ap, ◌∙◌, arith, length-append}
+use Rattle.std.proofs.Common.{◌≡◌, ◌≤◌, ◌+◌, ◌*◌, ℕ, List, [], ◌∷◌, ◌++◌, length, drop, Option, Some, None, ◌⊎◌, inl, inr, true, refl, sym, ap, subst, ◌∙◌, arith, length-append}
 use Rattle.jr_path.specs.declared.path.Path.{Path}
-use Rattle.oak_clash.specs.declared.mark.MarkAt.{MarkAt}
+use Rattle.jr_rev.specs.declared.revision.Revision.{Revision}
 use Rattle.oak_commit.specs.Clashing.{Writer}
-use Rattle.oak_commit.specs.Committing.{Committing, begun, refused, wanting, with_undone, written, written_paths}
+use Rattle.oak_commit.specs.Committing.{Committing, wanting, with_undone, written}
 use Rattle.oak_commit.specs.Kept.{undoes}
 use Rattle.oak_commit.specs.Stages.{stage_of}
 use Rattle.oak_commit.specs.declared.outcome.CommitEnd.{CommitEnd}
@@ -11,7 +11,7 @@ use Rattle.oak_commit.specs.declared.outcome.CommitEnd.TheVariants as end
 use Rattle.oak_commit.specs.declared.stage.Stage.TheVariants as stage
 use Rattle.oak_machine.specs.declared.event.Event.{Event}
 use Rattle.oak_store.specs.Tables.{Table, found}
-use Rattle.oak_world.specs.Parts.{IsLast, IsMarked, IsUndone, IsWritten, committed, marked, needed_by, needed_for, op_due}
+use Rattle.oak_world.specs.Parts.{fed_made, IsLast, IsMarked, IsUndone, IsWritten, marked, needed_by, needed_for, op_due}
 use Rattle.oak_world.proofs.Feeding.{blocked_last, blocked_mark, fed_last, fed_mark, fed_undo, fed_write}
 use Rattle.oak_world.proofs.Stages.{IsLastStage, IsMarkStage, IsUndoStage, IsWriteStage, last_stage, mark_stage, undo_stage, write_stage}
 
@@ -21,6 +21,19 @@ going_needs c going = ap (needed_for c.writer) going
 
 pub want_needs : (c : Committing) → c.outcome ≡ None → needed_by (wanting c) ≤ needed_by c
 want_needs c going = let n = going_needs c going in omega (arith, n)
+
+settled_by : (w : Writer) (e : CommitEnd) → 2 ≤ needed_for w (Some e)
+settled_by w (end.Committed r) = omega arith
+settled_by w (end.Clash item o) = omega arith
+settled_by w end.Memory = omega arith
+
+-- behind it: its end and the head
+pub settled_needs : (c : Committing) (e : CommitEnd) → c.outcome ≡ Some e → 2 ≤ needed_by c
+settled_needs c e is = subst (λ (o : Option CommitEnd). 2 ≤ needed_for c.writer o) (sym is) (settled_by c.writer e)
+
+-- committed: the move of the base too
+pub committed_needs : (c : Committing) (r : Revision) → c.outcome ≡ Some (end.Committed r) → needed_by c ≡ 3
+committed_needs c r is = ap (needed_for c.writer) is
 
 module _ (s : ℕ) (t u : Table) (es fs : List Event) (c d : Committing) where
   pub mark_needs : stage_of c ≡ stage.Mark → IsMarked s t u es fs c d → needed_by d ≤ needed_by c
@@ -40,7 +53,7 @@ module _ (s : ℕ) (t u : Table) (es fs : List Event) (c d : Committing) where
   pub write_needs : stage_of c ≡ stage.Write → IsWritten s t u es fs c d → needed_by d + 1 ≤ needed_by c
   write_needs h m = by (write_stage c h) m.committer
     where
-      by : IsWriteStage c → (d ≡ Rattle.oak_world.specs.Parts.fed_made t c) ⊎ (d ≡ wanting (Rattle.oak_world.specs.Parts.fed_made t c)) → needed_by d + 1 ≤ needed_by c
+      by : IsWriteStage c → (d ≡ fed_made t c) ⊎ (d ≡ wanting (fed_made t c)) → needed_by d + 1 ≤ needed_by c
       by at (inl e) =
           let now : d ≡ written c at.first at.rest (found t (op_due c).id) = e ∙ fed_write c at.going at.first at.rest at.unmet at.left (found t (op_due c).id) in
           let k : needed_by d ≡ 2 * length at.rest + length (c.writer.written ++ at.first ∷ []) + 4 = ap needed_by now ∙ ap (needed_for (written c at.first at.rest (found t (op_due c).id)).writer) at.going in

@@ -52,7 +52,7 @@ login_left q own before others = left_by (own ++ before) q is_login_of (login_is
 pub stay_left : (q : ℕ) (own before : Past) → AreOthers q own before → has_left (own ++ before) q ≡ has_left before q
 stay_left q own before others = left_by (own ++ before) q is_end_of_session (end_is (own ++ before) q) own before others
 
-come_left : (h : History) (q : ℕ) (own : Past) → AreOthers q own h.past → HasCome h q → HasCome (after own h) q
+pub come_left : (h : History) (q : ℕ) (own : Past) → AreOthers q own h.past → HasCome h q → HasCome (after own h) q
 come_left h q own others come = record { login = login_left q own h.past others ∙ come.login; stays = stay_left q own h.past others ∙ come.stays }
 
 -- ---- what lasts

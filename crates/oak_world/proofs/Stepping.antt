@@ -96,24 +96,26 @@ module _ {L : Type 0} (w : WorldOf L) (s : ℕ) (there : s < length w.actors) (q
         ∙ ap (λ (x : Option Reader). with_reader (state_of w) s x) (reading_now y is))
 
     read_makes : (o : StepOut) → Steps s node (parts_at w s) (work.Read r) q v o → Makes s (state_of w) (work.Read r) now v o
-    read_makes (answers.Went kind.Read) h = (reads_on (work.Read (read_on w.table r)) h.1 refl h.0, h.1, h.2)
-    read_makes (answers.Ready e) h = (reads_on work.Rest h.1 refl h.0, h.1, h.2)
+    read_makes (answers.Went kind.Read) h = (reads_on (work.Read (read_on w.table r)) h.1.0 refl h.0, h.1.0, h.1.1)
+    read_makes (answers.Ready e) h = (reads_on work.Rest h.1.0 refl h.0, h.1.0, h.1.1)
     read_makes answers.Memory h = (reads_on work.Rest h.1 refl h.0, h.1)
     read_makes (answers.Went _) h = absurd h.1
     read_makes (answers.Wait o) h = absurd h.1
 
   plan_makes : (edit : Edit) (marks : List MarkAt) → work_in w.actors s ≡ work.Plan edit marks → (o : StepOut) → Steps s node (parts_at w s) (work.Plan edit marks) q v o → Makes s (state_of w) (work.Plan edit marks) now v o
-  plan_makes edit marks here (answers.Went kind.Draw) h =
-      (ap (λ (p : Parts). state_of (with_parts w s p a)) h.0
-      ∙ begins_is w s there (event.Draw (record { revision = next_draw memory; session = s; base = base_at memory s; edit = edit; marks = marks })) (with_notes (next_draw memory) (with_draw memory (next_draw memory)) (marked_paths marks)) a
-      (Some (running_as s (begun (next_draw memory) (base_at memory s) edit marks))) (running_now _ h.1) (ap reading_of here ∙ sym (reading_now _ h.1)), h.1)
+  plan_makes edit marks here (answers.Went kind.Draw) h = (
+    ap (λ (p : Parts). state_of (with_parts w s p a)) h.0
+        ∙ begins_is w s there (event.Draw (record { revision = next_draw memory; session = s; base = base_at memory s; edit = edit; marks = marks })) (with_notes (next_draw memory) (with_draw memory (next_draw memory)) (marked_paths marks)) a
+        (Some (running_as s (begun (next_draw memory) (base_at memory s) edit marks))) (running_now _ h.1) (ap reading_of here ∙ sym (reading_now _ h.1)),
+    h.1,
+  )
   plan_makes edit marks here answers.Memory h = (still (work.Plan edit marks) work.Rest here h.1 refl refl h.0, h.1)
   plan_makes edit marks here _ h = absurd h
 
   move_makes : (r : Revision) → work_in w.actors s ≡ work.Move r → (o : StepOut) → Steps s node (parts_at w s) (work.Move r) q v o → Makes s (state_of w) (work.Move r) now v o
-  move_makes r here (answers.Wait o) h = (still (work.Move r) (work.Move r) here h.3 refl refl (same_parts q (parts_at w s) h.0 h.1 h.2), h.3, h.4)
+  move_makes r here (answers.Wait o) h = (still (work.Move r) (work.Move r) here h.1.2 refl refl (same_parts q (parts_at w s) h.0 h.1.0 h.1.1), h.1.2, h.1.3)
   move_makes r here (answers.Ready (ends.Commit (end.Committed o))) h =
-      (tells (work.Move r) work.Rest here h.5 refl refl (event.Refresh s memory.head) (with_pin memory s (pin_now memory)) (same_parts q (parts w.table (with_pin memory s (pin_now memory)) (reverse w.history.past ++ event.Refresh s memory.head ∷ [])) h.0 h.3 h.4), h.5, h.1, h.2)
+      (tells (work.Move r) work.Rest here h.1.4 refl refl (event.Refresh s memory.head) (with_pin memory s (pin_now memory)) (same_parts q (parts w.table (with_pin memory s (pin_now memory)) (reverse w.history.past ++ event.Refresh s memory.head ∷ [])) h.0 h.1.2 h.1.3), h.1.4, h.1.0, h.1.1)
   move_makes r here _ h = absurd h.1
 
   -- ---- a commit

@@ -15,10 +15,10 @@ use Rattle.jr_rev.specs.Revisions.{is_at_most, is_before, is_same}
 use Rattle.jr_rev.specs.Vectors.{sees}
 use Rattle.jr_tree.specs.declared.edit.Edit.{Edit}
 use Rattle.jr_tree.specs.declared.tree.Node.{Node}
-use Rattle.jr_tree.specs.Trees.{Nodes, initial_tree, node_at}
+use Rattle.jr_tree.specs.Trees.{Nodes, children_of, initial_tree, node_at}
 use Rattle.oak_clash.specs.declared.mark.MarkAt.{MarkAt}
-use Rattle.oak_clash.specs.Clashes.{marked_paths}
-use Rattle.oak_commit.specs.Clashing.{Met, found}
+use Rattle.oak_clash.specs.Clashes.{commit_root, marked_paths}
+use Rattle.oak_commit.specs.Clashing.{Met, found, mark_op}
 use Rattle.oak_commit.specs.Committing.{Committing, begun, is_past, refused, roots_in, wanting, with_undone, written}
 use Rattle.oak_commit.specs.Kept.{undoes}
 use Rattle.oak_commit.specs.Stages.{stage_of}
@@ -26,6 +26,9 @@ use Rattle.oak_commit.specs.declared.outcome.CommitEnd.{CommitEnd}
 use Rattle.oak_commit.specs.declared.outcome.CommitEnd.TheVariants as end
 use Rattle.oak_commit.specs.declared.stage.Stage.{Stage}
 use Rattle.oak_commit.specs.declared.stage.Stage.TheVariants as stage
+use Rattle.oak_commit.specs.Writing.{last_op}
+use Rattle.oak_doc.specs.Updates.{updated}
+use Rattle.oak_store.specs.Tables.{next_number}
 use Rattle.oak_doc.specs.declared.document.Document.{Document}
 use Rattle.oak_doc.specs.declared.update.OpFault.{OpFault}
 use Rattle.oak_doc.specs.declared.update.OpFault.TheVariants as fault
@@ -53,6 +56,7 @@ use Rattle.oak_read.specs.declared.reader.Step.TheVariants as step
 use Rattle.oak_read.specs.Meaning.{commit_root_of}
 use Rattle.oak_read.specs.Reading.{IsTable, answer, due}
 use Rattle.core_read.proofs.Latest.{at_most_both, before_itself, not_before}
+use Rattle.core_heads.specs.Sound.{IsSound}
 use Rattle.core_heads.proofs.Runs.{sound_run}
 use Rattle.core_heads.proofs.Steps.{later_end}
 use Rattle.core_clash.specs.Core.{root_of}
@@ -61,13 +65,14 @@ use Rattle.core_clash.specs.Sound.{IsRooted}
 use Rattle.core_clash.specs.Views.{In}
 use Rattle.core_clash.proofs.Basics.{is_same_self, or_left, same_revision}
 use Rattle.core_clash.proofs.Pasts.{in_flight}
+use Rattle.core_nodes.specs.Nodes.{IsMemoryOf}
 use Rattle.core_nodes.proofs.Events.{end_run}
 use Rattle.core_nodes.proofs.Memories.{own_is}
 use Rattle.core_watch.specs.Moments.{IsFor}
 use Rattle.core_watch.specs.Standing.{path_read}
 use Rattle.core_watch.proofs.Moments.{fed_keeps}
 use Rattle.core_world.specs.Kept.{IsKept}
-use Rattle.core_world.specs.States.{State, base_in, history_in, memory_of, node_of, nodes_in, with_session}
+use Rattle.core_world.specs.States.{State, base_in, history_in, memory_at, memory_of, node_of, nodes_in, with_session}
 use Rattle.core_world.specs.Steps.{IsThrough, after_draw, after_finish, after_last, after_leave, after_login, after_mark, after_refresh, after_undoing, after_want, after_write, after_write_in_want, draw_in, lasted_by, marked_by, with_reader}
 use Rattle.core_world.proofs.Commits.{its, last_keeps, mark_keeps, on_its_node, undo_keeps, want_keeps, write_in_want_keeps, write_keeps}
 use Rattle.core_world.proofs.Draws.{draw_keeps, finish_keeps}
@@ -219,6 +224,9 @@ props_same None (Some n) h = cc
 props_same (Some m) None h = cc
 props_same (Some m) (Some n) h = ap (λ o. option_map (λ ps. record { props = ps }) o) h
 
+same_end : (a b : TaskEnd) → Some a ≡ Some b → a ≡ b
+same_end a b h = cc
+
 -- ---- a step
 
 module _ (starts : Starts) (says : Says) (proper : StartsProper starts) (w : State) (kept : IsKept starts says w) (s : ℕ) (there : is_some (slice_get w.sessions s) ≡ true) where
@@ -351,18 +359,24 @@ module _ (starts : Starts) (says : Says) (proper : StartsProper starts) (w : Sta
     module _ (e : TaskEnd) where
       given : (parent : Option Path) → next.parent ≡ parent → (st : Step) → next.step ≡ st → end_of_reading st ≡ Some e → Tells h s (Starting (task_of parent (path_read r))) (answers.Ready e) [] Idle
       given None is (step.Done (out.Node n)) done gives =
-          subst (λ (x : TaskEnd). Tells h s (Starting (task.Load (path_read r))) (answers.Ready x) [] Idle) (let k : Some (ends.Node n) ≡ Some e = gives in cc)
-          (props_same n (node_at (tree_of w.past s) (path_read r))
-          (node_given starts says proper (with_reader w s (Some next)) read_kept s next next_here (out.Node n) is done
-          ∙ (ap (λ (t : Nodes). option_map (λ m. m.props) (node_at t (path_read next))) tree_is
-          ∙ ap (λ (p : Path). option_map (λ m. m.props) (node_at (tree_of w.past s) p)) for_same.same_path)), refl, refl)
+          subst (λ (x : TaskEnd). Tells h s (Starting (task.Load (path_read r))) (answers.Ready x) [] Idle) (same_end (ends.Node n) e gives) (
+            props_same n (node_at (tree_of w.past s) (path_read r))
+                (node_given starts says proper (with_reader w s (Some next)) read_kept s next next_here (out.Node n) is done
+                ∙ (ap (λ (t : Nodes). option_map (λ m. m.props) (node_at t (path_read next))) tree_is
+                ∙ ap (λ (p : Path). option_map (λ m. m.props) (node_at (tree_of w.past s) p)) for_same.same_path)),
+            refl,
+            refl,
+          )
       given None is (step.Done (out.Children ns)) done gives = absurd (node_given starts says proper (with_reader w s (Some next)) read_kept s next next_here (out.Children ns) is done)
       given (Some p) is (step.Done (out.Node n)) done gives = absurd (children_given starts says proper (with_reader w s (Some next)) read_kept s next next_here p (out.Node n) is done)
       given (Some p) is (step.Done (out.Children ns)) done gives =
-          subst (λ (x : TaskEnd). Tells h s (Starting (task.List (path_read r))) (answers.Ready x) [] Idle) (let k : Some (ends.Children ns) ≡ Some e = gives in cc)
-          (children_given starts says proper (with_reader w s (Some next)) read_kept s next next_here p (out.Children ns) is done
-          ∙ (ap (λ (t : Nodes). Rattle.jr_tree.specs.Trees.children_of t p) tree_is
-          ∙ ap (λ (q : Path). Rattle.jr_tree.specs.Trees.children_of (tree_of w.past s) q) (sym (ap (λ (o : Option Path). unwrap_or o next.at) is) ∙ for_same.same_path)), refl, refl)
+          subst (λ (x : TaskEnd). Tells h s (Starting (task.List (path_read r))) (answers.Ready x) [] Idle) (same_end (ends.Children ns) e gives) (
+            children_given starts says proper (with_reader w s (Some next)) read_kept s next next_here p (out.Children ns) is done
+                ∙ (ap (λ (t : Nodes). children_of t p) tree_is
+                ∙ ap (λ (q : Path). children_of (tree_of w.past s) q) (sym (ap (λ (o : Option Path). unwrap_or o next.at) is) ∙ for_same.same_path)),
+            refl,
+            refl,
+          )
       given parent is st done gives = cc
 
       last_read : (parent : Option Path) (p : Path) → AreOfStep h s (Starting (task_of parent p)) (answers.Ready e) []
@@ -434,7 +448,7 @@ module _ (starts : Starts) (says : Says) (proper : StartsProper starts) (w : Sta
       still_writing : (d : Committing) → d.revision ≡ c.revision → d.outcome ≡ c.outcome → shown_work (work.Commit d) ≡ Writing c.revision
       still_writing d same out = ap (λ (r : Revision). shown_by r d.outcome) same ∙ ap (shown_by c.revision) (out ∙ going)
 
-      abbrev refusal_tells : (k : StepKind) (item : Item) (o : Revision) (d : Committing) → d ≡ refused c item o → Tells h s (shown_work (work.Commit c)) (answers.Went k) (event.Refuse c.revision item o ∷ []) (shown_work (work.Commit d))
+      refusal_tells : (k : StepKind) (item : Item) (o : Revision) (d : Committing) → d ≡ refused c item o → Tells h s (shown_work (work.Commit c)) (answers.Went k) (event.Refuse c.revision item o ∷ []) (shown_work (work.Commit d))
       refusal_tells k item o d is = writing (answers.Went k) (event.Refuse c.revision item o ∷ []) (shown_work (work.Commit d)) (inr (inr (inr (item, o, refl, ap (λ (y : Committing). shown_work (work.Commit y)) is))))
 
       -- it gives up for want of memory
@@ -456,7 +470,7 @@ module _ (starts : Starts) (says : Says) (proper : StartsProper starts) (w : Sta
         mark_kept = mark_keeps starts says proper w kept s x here uncommitted unundone f rest due_is
 
         mark_grown : (own : Past) → (after_mark w s x f rest).past ≡ own ++ w.past → history_in (after_mark w s x f rest) ≡ after own h
-        mark_grown own is = by (Rattle.oak_doc.specs.Updates.updated (nodes_in w.table (root_of w.past f.other)) (Rattle.oak_commit.specs.Clashing.mark_op (root_of w.past f.other) f.other x.draw.revision f.theirs) (Rattle.oak_store.specs.Tables.next_number w.table)) ∙ ap (λ (past : Past). record h { past = past }) is
+        mark_grown own is = by (updated (nodes_in w.table (root_of w.past f.other)) (mark_op (root_of w.past f.other) f.other x.draw.revision f.theirs) (next_number w.table)) ∙ ap (λ (past : Past). record h { past = past }) is
           where
             by : (result : Result Document OpFault) → history_in (marked_by w s x f rest result) ≡ record h { past = (marked_by w s x f rest result).past }
             by (Ok d) = refl
@@ -521,7 +535,7 @@ module _ (starts : Starts) (says : Says) (proper : StartsProper starts) (w : Sta
         last_kept = last_keeps starts says proper w kept s x here uncommitted unundone unmet none_left
 
         last_grown : (own : Past) → (after_last w s x).past ≡ own ++ w.past → history_in (after_last w s x) ≡ after own h
-        last_grown own is = by (Rattle.oak_doc.specs.Updates.updated (nodes_in w.table (Rattle.oak_clash.specs.Clashes.commit_root x.draw.marks)) (Rattle.oak_commit.specs.Writing.last_op x.draw.revision x.draw.marks) (Rattle.oak_store.specs.Tables.next_number w.table)) ∙ ap (λ (past : Past). record h { past = past }) is
+        last_grown own is = by (updated (nodes_in w.table (commit_root x.draw.marks)) (last_op x.draw.revision x.draw.marks) (next_number w.table)) ∙ ap (λ (past : Past). record h { past = past }) is
           where
             by : (result : Result Document OpFault) → history_in (lasted_by w s x result) ≡ record h { past = (lasted_by w s x result).past }
             by (Ok d) = refl
@@ -612,25 +626,26 @@ module _ (starts : Starts) (says : Says) (proper : StartsProper starts) (w : Sta
           is_node : IsNode w.clusters k
           is_node = kept.nodes.node s k on
 
+          sound : IsSound w.clusters w.sessions w.past
           sound = sound_run w.clusters w.sessions kept.nodes starts says w.past kept.run
 
-          its_memory : Rattle.core_nodes.specs.Nodes.IsMemoryOf w.clusters w.past k memory
-          its_memory = subst (λ (j : ℕ). Rattle.core_nodes.specs.Nodes.IsMemoryOf w.clusters w.past k (Rattle.core_world.specs.States.memory_at w.memories j)) (sym at_node) (kept.memories.memory k is_node)
+          its_memory : IsMemoryOf w.clusters w.past k memory
+          its_memory = subst (λ (j : ℕ). IsMemoryOf w.clusters w.past k (memory_at w.memories j)) (sym at_node) (kept.memories.memory k is_node)
 
           rises : moved ≡ is_before (local w.past k) (local later k)
           rises =
               ap (λ e. is_before e (own_entry done)) (own_is w.clusters w.sessions kept.nodes w.past sound k is_node memory its_memory)
               ∙ ap (is_before (local w.past k)) (own_is w.clusters w.sessions kept.nodes later (sound_run w.clusters w.sessions kept.nodes starts says later run) k is_node done (end_run starts says w.clusters w.sessions kept.nodes c.revision w.past run memory its_memory))
 
+          before : (b : Bool) → is_before (local w.past k) (local later k) ≡ b → is_same (local later k) (local w.past k) ≡ false → b ≡ true
+          before true e apart = refl
+          before false e apart =
+              let same : local w.past k ≡ local later k = at_most_both (local w.past k) (local later k) ((later_end w.clusters w.sessions kept.nodes w.past sound c.revision).locals k) (not_before (local w.past k) (local later k) e) in
+              sym apart ∙ (ap (λ (r : Revision). is_same r (local w.past k)) (sym same) ∙ is_same_self (local w.past k))
+
           by : (b : Bool) → is_same (local later k) (local w.past k) ≡ b → is_before (local w.past k) (local later k) ≡ not b
           by true same = ap (is_before (local w.past k)) (same_revision (local later k) (local w.past k) same) ∙ before_itself (local w.past k)
-          by false apart = before (is_before (local w.past k) (local later k)) refl
-            where
-              before : (b : Bool) → is_before (local w.past k) (local later k) ≡ b → b ≡ true
-              before true e = refl
-              before false e =
-                  let same : local w.past k ≡ local later k = at_most_both (local w.past k) (local later k) ((later_end w.clusters w.sessions kept.nodes w.past sound c.revision).locals k) (not_before (local w.past k) (local later k) e) in
-                  sym apart ∙ (ap (λ (r : Revision). is_same r (local w.past k)) (sym same) ∙ is_same_self (local w.past k))
+          by false apart = before (is_before (local w.past k) (local later k)) refl apart
 
       finish_kept : IsKept starts says (after_finish w s x)
       finish_kept = finish_keeps starts says proper w kept s x here through

@@ -178,6 +178,15 @@ pub record IsLastRefused (t u : Table) (es fs : List Event) (c d : Committing) :
   pub list : fs ≡ es ++ event.Refuse c.revision item other ∷ []
   pub committer : d ≡ fed c (reply.Unmet cause (kept.Entry other item))
 
+-- it is refused by this fault, which tells a collision
+pub record IsRefusedBy (f : OpFault) (es fs : List Event) (c d : Committing) : Type 0 where
+  pub cause : Cond
+  pub other : Revision
+  pub item : Item
+  pub is : f ≡ fault.Unmet cause (kept.Entry other item)
+  pub list : fs ≡ es ++ event.Refuse c.revision item other ∷ []
+  pub committer : d ≡ fed c (reply.Unmet cause (kept.Entry other item))
+
 abbrev pub IsLast : Table → Table → List Event → List Event → Committing → Committing → Type 0
 IsLast t u es fs c d = IsLastMade t u es fs c d ⊎ IsLastRefused t u es fs c d
 
@@ -305,7 +314,7 @@ needed _ = 0
 pub record CanCommit (m : NodeState) (places : ℕ) (c : Committing) : Type 0 where
   pub flying : IsInFlight m c.revision
   pub unended : c.ended ≡ false
-  pub places : needed_by c ≤ places
+  pub kept : needed_by c ≤ places
 
 -- the revision has ended by the memory, the session is pinned, and a place is kept
 pub record CanMove (s : ℕ) (m : NodeState) (places : ℕ) (r : Revision) : Type 0 where

@@ -117,7 +117,8 @@ impl Actor {
 
     // Keeps room for the next reply, and a place of the journal. Where memory is refused nothing changes.
     pub(crate) fn reserve(&mut self, events: &mut Events, room: Room) -> Result<(), AllocError>
-        requires { IsPlaced self.old }
+        requires placed { IsPlaced self.old }
+        requires places { self.old.places ≤ events.old.places }
         ensures ok { OnOk result (shown_actor self.new ≡ record (shown_actor self.old) { reply = Some room }) }
         ensures err { OnErr result (shown_actor self.new ≡ shown_actor self.old) }
         ensures list { events.new.list ≡ events.old.list }
@@ -126,6 +127,7 @@ impl Actor {
     {
         if self.reply.is_none() {
             events.keep(1)?;
+            let _all = events.places();
             self.places += 1;
         }
         self.reply = Some(room);

@@ -1,23 +1,24 @@
 // The steps of a commit.
 ghost use Rattle.std.specs.Prelude.{◌≡◌, ◌<◌, ◌≤◌, ◌+◌, ◌*◌, ◌-◌, ◌^◌, ◌∷◌, ◌++◌, [], IfOk, OnErr, OnOk, length};
 ghost use Rattle.oak_clash.specs.Clashes.{marked_paths};
-ghost use Rattle.oak_commit.specs.Committing.{begun, written_paths};
+ghost use Rattle.oak_commit.specs.Committing.{begun, due_of, written_paths};
 ghost use Rattle.oak_commit.specs.Stages.{stage_of};
 ghost use Rattle.oak_commit.specs.declared.stage.Stage.TheVariants as stage;
+ghost use Rattle.oak_doc.specs.declared.asks.Ask.TheVariants as ask;
 ghost use Rattle.oak_machine.specs.declared.event.Event.TheVariants as event;
 ghost use Rattle.oak_node.specs.Heads.{IsInFlight, finished, known_time, next_draw, with_draw};
 ghost use Rattle.oak_node.specs.Notes.{with_notes};
 ghost use Rattle.oak_read.specs.Reading.{IsTable};
-ghost use Rattle.oak_world.specs.Parts.{IsLast, IsMarked, IsUndone, IsWritten, base_at, end_events, refusal_at};
+ghost use Rattle.oak_world.specs.Parts.{IsLast, IsMarked, IsRefusedBy, IsUndone, IsWritten, base_at, end_events, needed_by, refusal_at};
 
 use crate::session::base_of;
 use crate::store;
-use jr_path::{DeepCopy, List};
-use jr_rev::Revision;
+use jr_path::{DeepCopy, Item, List};
+use jr_rev::{RevVec, Revision};
 use jr_tree::Edit;
 use oak_clash::{MarkAt, marked_paths};
 use oak_commit::Committer;
-use oak_doc::{Ask, Kept, OpFault, Reply};
+use oak_doc::{Ask, Kept, OpFault, Reply, UpdateOp};
 use oak_machine::{Draw, Event, Events, StepKind};
 use oak_node::NodeMem;
 use oak_store::DocTable;
@@ -44,18 +45,14 @@ pub(crate) fn begin(
 {
     let base = base_of(memory, s);
     let revision = memory.next_draw();
-    let paths = marked_paths(alloc, marks.as_slice())?;
-    let committer = Committer::new(alloc, revision, &base, edit.copy()?, marks.copy()?)?;
-    let documents = committer.documents();
-    if documents > u32::MAX as usize {
-        return Err(AllocError);
-    }
-    let places = 2 * documents + 5;
-    events.keep(places)?;
-    if memory.draw_noting(paths.as_slice()).is_err() {
-        events.give_back(places);
-        return Err(AllocError);
-    }
+    let committer = prepared(alloc, revision, &base, &edit, &marks)?;
+    draw(
+        alloc,
+        memory,
+        events,
+        committer.documents(),
+        marks.as_slice(),
+    )?;
     events.push_kept(Event::Draw(Draw {
         revision,
         session: s,
@@ -64,6 +61,57 @@ pub(crate) fn begin(
         marks,
     }));
     Ok(committer)
+}
+
+// The committer of copies of an edit and its marks.
+fn prepared(
+    alloc: Global,
+    revision: Revision,
+    base: &RevVec,
+    edit: &Edit,
+    marks: &List<MarkAt>,
+) -> Result<Committer, AllocError>
+    ensures { IfOk result (λ committer. committer ≡ begun revision base.now edit.now marks.now) }
+{
+    Committer::new(alloc, revision, base, edit.copy()?, marks.copy()?)
+}
+
+// The draw of a commit of so many documents, with the paths of its marks and with places for all its events but its marks.
+fn draw(
+    alloc: Global,
+    memory: &mut NodeMem,
+    events: &mut Events,
+    documents: usize,
+    marks: &[MarkAt],
+) -> Result<(), AllocError>
+    requires { known_time memory.old < 2 ^ 64 - 1 }
+    ensures memory { OnOk result (memory.new ≡ with_notes (next_draw memory.old) (with_draw memory.old (next_draw memory.old)) (marked_paths marks.now)) }
+    ensures places { OnOk result (events.new.places ≡ events.old.places + 2 * documents + 5) }
+    ensures kept { OnErr result (memory.new ≡ memory.old) }
+    ensures back { OnErr result (events.new.places ≡ events.old.places) }
+    ensures list { events.new.list ≡ events.old.list }
+{
+    if documents > u32::MAX as usize {
+        return Err(AllocError);
+    }
+    let paths = marked_paths(alloc, marks)?;
+    let places = 2 * documents + 5;
+    events.keep(places)?;
+    if memory.draw_noting(paths.as_slice()).is_err() {
+        events.give_back(places);
+        return Err(AllocError);
+    }
+    Ok(())
+}
+
+// The update that is due.
+fn next_update(committer: &Committer) -> Result<UpdateOp, AllocError>
+    ensures { IfOk result (λ op. ask.Update op ≡ due_of committer.now) }
+{
+    match committer.next()? {
+        Ask::Update(op) => Ok(op),
+        _ => Err(AllocError),
+    }
 }
 
 // The mark that is due: it is made, or the commit is refused since the other is committed. Where memory is refused nothing
@@ -77,25 +125,50 @@ pub(crate) fn mark(
     requires table { IsTable table.old.documents }
     requires stage { stage_of committer.old ≡ stage.Mark }
     ensures made { OnOk result (IsMarked s table.old table.new events.old.list events.new.list committer.old committer.new) }
+    ensures needs { OnOk result (needed_by committer.new ≤ needed_by committer.old) }
     ensures table { OnErr result (table.new ≡ table.old) }
     ensures list { OnErr result (events.new.list ≡ events.old.list) }
     ensures committer { OnErr result (committer.new ≡ committer.old) }
     ensures places { events.new.places ≡ events.old.places }
     ensures order { IsTable table.new.documents }
 {
-    let refused = refusal(committer)?;
-    let Ask::Update(op) = committer.next()? else {
-        return Err(AllocError);
-    };
+    let (item, other) = met(committer)?;
+    let op = next_update(committer)?;
     events.keep(1)?;
-    match store::update(table, &op) {
+    mark_by(table, events, committer, s, &op, item, other)
+}
+
+// The same, with its update, its own item and the other revision, and with a place that is kept for it.
+fn mark_by(
+    table: &mut DocTable,
+    events: &mut Events,
+    committer: &mut Committer,
+    s: u32,
+    op: &UpdateOp,
+    item: Item,
+    other: Revision,
+) -> Result<(), AllocError>
+    requires table { IsTable table.old.documents }
+    requires stage { stage_of committer.old ≡ stage.Mark }
+    requires due { ask.Update op.now ≡ due_of committer.old }
+    requires refusal { refusal_at committer.old (event.Refuse committer.old.revision item other) }
+    requires place { 0 < events.old.places }
+    ensures made { OnOk result (IsMarked s table.old table.new events.old.list events.new.list committer.old committer.new) }
+    ensures needs { OnOk result (needed_by committer.new ≤ needed_by committer.old) }
+    ensures table { OnErr result (table.new ≡ table.old) }
+    ensures list { OnErr result (events.new.list ≡ events.old.list) }
+    ensures committer { OnErr result (committer.new ≡ committer.old) }
+    ensures place { events.new.places + 1 ≡ events.old.places }
+    ensures order { IsTable table.new.documents }
+{
+    match store::update(table, op) {
         Ok(before) => {
             events.push_kept(Event::Went(s, StepKind::Mark));
             let _ = committer.feed(Reply::Updated(before));
             Ok(())
         }
         Err(OpFault::Unmet(cond, kept)) => {
-            events.push_kept(refused);
+            events.push_kept(Event::Refuse(committer.revision(), item, other));
             let _ = committer.feed(Reply::Unmet(cond, kept));
             Ok(())
         }
@@ -106,14 +179,14 @@ pub(crate) fn mark(
     }
 }
 
-// The event of a refusal by the mark that is due.
-fn refusal(committer: &Committer) -> Result<Event, AllocError>
-    ensures { IfOk result (λ e. refusal_at committer.now e) }
+// Its own item and the other revision of the mark that is due.
+fn met(committer: &Committer) -> Result<(Item, Revision), AllocError>
+    ensures { IfOk result (λ met. refusal_at committer.now (event.Refuse committer.now.revision met.0 met.1)) }
 {
-    let (Some(item), Some(other)) = (committer.due_item(), committer.due_other()) else {
-        return Err(AllocError);
-    };
-    Ok(Event::Refuse(committer.revision(), item.copy()?, other))
+    match (committer.due_item(), committer.due_other()) {
+        (Some(item), Some(other)) => Ok((item.copy()?, other)),
+        _ => Err(AllocError),
+    }
 }
 
 // The write of the document that is next, with a place that is kept for it. Where memory is refused for the write nothing
@@ -128,6 +201,7 @@ pub(crate) fn write(
     requires stage { stage_of committer.old ≡ stage.Write }
     requires place { 0 < events.old.places }
     ensures made { OnOk result (IsWritten s table.old table.new events.old.list events.new.list committer.old committer.new) }
+    ensures needs { OnOk result (needed_by committer.new + 1 ≤ needed_by committer.old) }
     ensures place { OnOk result (events.new.places + 1 ≡ events.old.places) }
     ensures table { OnErr result (table.new ≡ table.old) }
     ensures list { OnErr result (events.new.list ≡ events.old.list) }
@@ -135,15 +209,15 @@ pub(crate) fn write(
     ensures places { OnErr result (events.new.places ≡ events.old.places) }
     ensures order { IsTable table.new.documents }
 {
-    let Ask::Update(op) = committer.next()? else {
-        return Err(AllocError);
-    };
-    let Ok(before) = store::update(table, &op) else {
-        return Err(AllocError);
-    };
-    events.push_kept(Event::Went(s, StepKind::Write));
-    let _ = committer.feed(Reply::Updated(before));
-    Ok(())
+    let op = next_update(committer)?;
+    match store::update(table, &op) {
+        Ok(before) => {
+            events.push_kept(Event::Went(s, StepKind::Write));
+            let _ = committer.feed(Reply::Updated(before));
+            Ok(())
+        }
+        Err(_) => Err(AllocError),
+    }
 }
 
 // The last write, with a place that is kept for it: the revision is committed, or it is refused since another has marked it.
@@ -157,6 +231,7 @@ pub(crate) fn last(
     requires stage { stage_of committer.old ≡ stage.Last }
     requires place { 0 < events.old.places }
     ensures made { OnOk result (IsLast table.old table.new events.old.list events.new.list committer.old committer.new) }
+    ensures needs { OnOk result (needed_by committer.new + 1 ≤ needed_by committer.old) }
     ensures place { OnOk result (events.new.places + 1 ≡ events.old.places) }
     ensures table { OnErr result (table.new ≡ table.old) }
     ensures list { OnErr result (events.new.list ≡ events.old.list) }
@@ -164,22 +239,39 @@ pub(crate) fn last(
     ensures places { OnErr result (events.new.places ≡ events.old.places) }
     ensures order { IsTable table.new.documents }
 {
+    let op = next_update(committer)?;
     let r = committer.revision();
-    let Ask::Update(op) = committer.next()? else {
-        return Err(AllocError);
-    };
     match store::update(table, &op) {
         Ok(before) => {
             events.push_kept(Event::Commit(r));
             let _ = committer.feed(Reply::Updated(before));
             Ok(())
         }
-        Err(OpFault::Unmet(cond, Kept::Entry(other, item))) => {
-            events.push_kept(Event::Refuse(r, item.copy()?, other));
+        Err(fault) => refused_last(events, committer, fault),
+    }
+}
+
+// The last write was refused: the commit is, where a collision is noted there; and else memory was.
+fn refused_last(
+    events: &mut Events,
+    committer: &mut Committer,
+    fault: OpFault,
+) -> Result<(), AllocError>
+    requires place { 0 < events.old.places }
+    requires stage { stage_of committer.old ≡ stage.Last }
+    ensures made { OnOk result (IsRefusedBy fault events.old.list events.new.list committer.old committer.new) }
+    ensures place { OnOk result (events.new.places + 1 ≡ events.old.places) }
+    ensures list { OnErr result (events.new.list ≡ events.old.list) }
+    ensures committer { OnErr result (committer.new ≡ committer.old) }
+    ensures places { OnErr result (events.new.places ≡ events.old.places) }
+{
+    match fault {
+        OpFault::Unmet(cond, Kept::Entry(other, item)) => {
+            events.push_kept(Event::Refuse(committer.revision(), item.copy()?, other));
             let _ = committer.feed(Reply::Unmet(cond, Kept::Entry(other, item)));
             Ok(())
         }
-        Err(_) => Err(AllocError),
+        _ => Err(AllocError),
     }
 }
 
@@ -189,6 +281,7 @@ pub(crate) fn undo(table: &mut DocTable, events: &mut Events, committer: &mut Co
     requires stage { stage_of committer.old ≡ stage.Undo }
     requires place { 0 < events.old.places }
     ensures made { IsUndone s table.old table.new events.old.list events.new.list committer.old committer.new }
+    ensures needs { needed_by committer.new + 1 ≤ needed_by committer.old }
     ensures places { events.new.places + 1 ≡ events.old.places }
     ensures order { IsTable table.new.documents }
 {

@@ -36,6 +36,7 @@ impl<'a, L: Law + Drop> Port for SoloPort<'a, L> {
     ghost shown = { λ p. shown_at p.world.ghost_name p.world.now p.actor };
 
     fn start(&mut self, task: Task) -> Result<(), AllocError> {
+        self.world.journal();
         self.world.start(self.actor, task)
     }
 
@@ -44,18 +45,23 @@ impl<'a, L: Law + Drop> Port for SoloPort<'a, L> {
     }
 
     fn due(&mut self) -> Option<StepKind> {
+        self.world.journal();
         self.world.due(self.actor)
     }
 
     fn pin(&mut self) -> Option<Pin> {
+        self.world.journal();
         self.world.pin(self.actor)
     }
 
     fn reserve_say(&mut self, bytes: usize) -> Result<(), AllocError> {
+        self.world.journal();
         self.world.reserve_say(self.actor, bytes)
     }
 
     fn say(&mut self, index: u32, text: &str) {
+        self.world.journal();
         self.world.say(self.actor, index, text);
+        self.world.journal();
     }
 }

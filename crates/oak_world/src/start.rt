@@ -1,6 +1,5 @@
 // The documents before any step.
-ghost use Rattle.std.specs.Prelude.{◌≡◌, ◌≤◌, [], ◌∷◌, All, IfOk, OnOk};
-ghost use Rattle.jr_path.specs.Grammar.{IsName};
+ghost use Rattle.std.specs.Prelude.{◌≡◌, ◌≤◌, [], ◌∷◌, IfOk};
 ghost use Rattle.jr_rev.specs.Vectors.{start_of};
 ghost use Rattle.core_world.specs.Start.{start_document, start_documents, start_root, start_settings, system_path, versions_path};
 
@@ -17,13 +16,10 @@ pub(crate) fn start_documents(
     sessions: u32,
 ) -> Result<Vec<Document>, AllocError>
     requires { 1 ≤ clusters × clusters ≤ 8 }
-    ensures documents { IfOk result (λ documents. documents.items ≡ start_documents clusters sessions) }
-    ensures names { OnOk result (All IsName system_path × All IsName versions_path) }
+    ensures { IfOk result (λ documents. documents.items ≡ start_documents clusters sessions) }
 {
     let system = system_path(alloc)?;
     let versions = versions_path(alloc)?;
-    system.in_grammar();
-    versions.in_grammar();
     let mut documents = Vec::new(alloc);
     documents.push(start_root(alloc, clusters)?)?;
     documents.push(start_document(alloc, system, "rep:system", 2)?)?;

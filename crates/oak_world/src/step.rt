@@ -88,6 +88,7 @@ fn commit_on(
 }
 
 // The operation on a document that is due. Where memory is refused for it nothing changes, and the commit turns to undoing.
+#[tactic(auto, using(crate::proofs::Feeding::want_is, crate::proofs::Needs::want_needs))]
 fn update_on(
     table: &mut DocTable,
     events: &mut Events,
@@ -112,6 +113,7 @@ fn update_on(
 }
 
 // The operation on a document that is due, with its kind. Where memory is refused nothing changes; none is refused for undoing.
+#[tactic(auto, using(crate::proofs::Acting::mark_going, crate::proofs::Acting::write_going, crate::proofs::Acting::last_going))]
 fn update(
     table: &mut DocTable,
     events: &mut Events,
@@ -169,6 +171,7 @@ fn end_on(
 }
 
 // What a session does whose commit's revision has ended.
+#[tactic(auto, using(crate::proofs::Needs::settled_needs, crate::proofs::Needs::committed_needs))]
 fn ended(committer: Committer) -> (Work, StepOut)
     requires { IsOver committer }
     ensures made { EndsSo committer result.0 result.1 }
@@ -239,7 +242,13 @@ fn reads_after(reading: bool, out: &StepOut, reads: u64) -> u64
 {
     match out {
         StepOut::Memory => reads,
-        _ => { if reading { reads.saturating_add(1) } else { reads } }
+        _ => {
+            if reading {
+                reads.saturating_add(1)
+            } else {
+                reads
+            }
+        }
     }
 }
 

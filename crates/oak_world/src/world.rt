@@ -1,5 +1,5 @@
 // A world under a law.
-ghost use Rattle.std.specs.Prelude.{◌≡◌, ◌≢◌, ◌≤◌, Some, IfOk, OnErr, OnOk, IsFalse, IsTrue, is_some, length, map, slice_get};
+ghost use Rattle.std.specs.Prelude.{◌≡◌, ◌≢◌, ◌≤◌, ◌↔◌, Some, IfOk, OnErr, OnOk, IsFalse, IsSome, IsTrue, is_some, length, map, slice_get};
 ghost use Rattle.std.specs.Borrow.{GName};
 ghost use Rattle.std.specs.List.{range_with_len};
 ghost use Rattle.std.specs.Option.{option_map};
@@ -19,7 +19,7 @@ ghost use Rattle.core_world.specs.States.{memory_of};
 ghost use Rattle.oak_world.specs.declared.actor.Work.{Work};
 ghost use Rattle.oak_world.specs.declared.actor.Work.TheVariants as work;
 ghost use Rattle.oak_world.specs.Seen.{shown_at};
-ghost use Rattle.oak_world.specs.Steps.{Begins, IsIdle, MaySay, Plays, StepsIn, kind_due};
+ghost use Rattle.oak_world.specs.Steps.{Begins, IsIdle, MaySay, Plays, StepsIn, Turns, kind_due};
 ghost use Rattle.oak_world.specs.Worlds.{actor_in, said_in, start_world, state_of, with_reply, with_work, work_in};
 
 use crate::actor::{Actor, Room, Work};
@@ -170,7 +170,8 @@ impl<L: Law + Drop> World<L> {
     /// The kind of the session's next step; None where it has no task. It takes no memory.
     pub fn due(&self, actor: u32) -> Option<StepKind>
         requires { IsTrue (is_some (slice_get self.now.history.sessions actor)) }
-        ensures { result ≡ kind_due (work_in self.now.actors actor) }
+        ensures due { result ≡ kind_due (work_in self.now.actors actor) }
+        ensures busy { IsSome result ↔ (work_in self.now.actors actor ≢ work.Rest) }
     {
         self.actors[actor as usize].work.due()
     }
@@ -209,9 +210,19 @@ impl<L: Law + Drop> World<L> {
         ensures { Plays self.old schedule.now self.new }
     {
         for actor in schedule {
-            if (*actor as usize) < self.actors.len() && self.due(*actor).is_some() {
-                self.step(*actor);
-            }
+            self.turn(*actor);
+        }
+    }
+
+    // A step of what is named, where it is a session with a task.
+    fn turn(&mut self, actor: u32)
+        ensures { Turns self.old actor self.new }
+    {
+        if actor as usize >= self.actors.len() {
+            return;
+        }
+        if self.due(actor).is_some() {
+            self.step(actor);
         }
     }
 }

@@ -1,0 +1,185 @@
+-- What a world keeps, by its fields, after the calls of one of its sessions.
+use Rattle.std.proofs.Common.{◌≡◌, ◌≢◌, ℕ, zero, suc, ◌+◌, ◌-◌, ◌^◌, ◌<◌, ◌≤◌, Bool, true, false, cond, Option, Some, None, List, [], ◌∷◌, ◌++◌, length, map, is_some, refl, sym, ap, subst, ◌∙◌, arith}
+use Rattle.std.proofs.Math.ListN.{get_or}
+use Rattle.std.specs.Prelude.{reverse, slice_get, slice_set}
+use Rattle.std.specs.Option.{option_map, unwrap_or}
+use Rattle.std.specs.Borrow.{GName}
+use Rattle.std.proofs.lemmas.List.{length-reverse, reverse-append, reverse-reverse}
+use Rattle.std.proofs.lemmas.Option.{get_or_from_slice_get, slice_get-map, slice_get_within}
+use Rattle.oak_commit.specs.Clashing.{Met}
+use Rattle.oak_commit.specs.Committing.{Committing}
+use Rattle.jr_path.specs.declared.text.Text.{Text}
+use Rattle.oak_machine.specs.declared.event.Event.{Event}
+use Rattle.oak_machine.specs.declared.event.Event.TheVariants as event
+use Rattle.oak_machine.specs.declared.event.Journal.{Journal}
+use Rattle.oak_machine.specs.Recorded.{Recorded}
+use Rattle.oak_machine.specs.History.{Past}
+use Rattle.oak_machine.specs.Laws.{Says, Starts, StartsProper}
+use Rattle.oak_machine.specs.Runs.{StartsLast}
+use Rattle.oak_node.specs.Memory.{NodeState}
+use Rattle.oak_read.specs.Reading.{IsTable}
+use Rattle.oak_store.specs.Tables.{Table}
+use Rattle.core_clash.specs.Core.{root_of}
+use Rattle.core_world.specs.States.{memory_at, memory_of, with_memory}
+use Rattle.oak_port.specs.declared.task.StepOut.{StepOut}
+use Rattle.oak_port.specs.Ports.{Steps as StepSeen}
+use Rattle.oak_world.specs.declared.actor.Actor.{Actor}
+use Rattle.oak_world.specs.declared.actor.Work.{Work}
+use Rattle.oak_world.specs.declared.actor.Work.TheVariants as work
+use Rattle.oak_world.specs.Kept.{ArePlaced, IsAtWork, IsPlaced, IsWorld, May}
+use Rattle.oak_world.specs.Parts.{CanStep, Parts, Steps, needed, parts}
+use Rattle.oak_world.specs.Steps.{Makes, StepsIn, reads_after}
+use Rattle.oak_world.specs.Seen.{shown_at}
+use Rattle.oak_world.specs.Worlds.{ActorState, WorldOf, actor_in, idle, node_in, parts_at, said_in, shown_actor, shown_world, state_of, with_parts, with_reply, with_work, work_in}
+use Rattle.oak_world.proofs.Keeping.{can_step, seat, step_keeps, step_seen}
+use Rattle.oak_world.proofs.Placing.{own_places, placed_set}
+use Rattle.oak_world.proofs.Stepping.{makes}
+
+-- a session's seat is set, and so is what is seen of it
+pub map_set : {X Y : Type 0} (f : X → Y) (xs : List X) (s : ℕ) (a : X) → map f (slice_set xs s a) ≡ slice_set (map f xs) s (f a)
+map_set f [] s a = refl
+map_set f (x ∷ xs) zero a = refl
+map_set f (x ∷ xs) (suc s) a = ap (λ ys. f x ∷ ys) (map_set f xs s a)
+
+set_same : {X : Type 0} (xs : List X) (s : ℕ) (x : X) → slice_get xs s ≡ Some x → slice_set xs s x ≡ xs
+set_same [] s x h = refl
+set_same (y ∷ ys) zero x h = let same : x ≡ y = cc in ap (λ z. z ∷ ys) same
+set_same (y ∷ ys) (suc s) x h = ap (λ zs. y ∷ zs) (set_same ys s x h)
+
+pub actor_shown : (actors : List Actor) (s : ℕ) (a : Actor) → slice_get actors s ≡ Some a → actor_in (map shown_actor actors) s ≡ shown_actor a
+actor_shown actors s a here = ap (λ (o : Option ActorState). unwrap_or o idle) (slice_get-map shown_actor actors s ∙ ap (option_map shown_actor) here)
+
+module _ (starts : Starts) (says : Says) (proper : StartsProper starts) (last : StartsLast starts says) {L : Type 0} (law : L) (j : Journal) (t : Table) (ms : List NodeState) (actors : List Actor) (is : IsWorld starts says (shown_world law j t ms actors)) (placed : ArePlaced actors j.events.places)
+    (s k : ℕ) (on : slice_get j.sessions s ≡ Some k) (a : Actor) (here : slice_get actors s ≡ Some a) where
+  abbrev w : WorldOf L
+  w = shown_world law j t ms actors
+
+  there : is_some (slice_get j.sessions s) ≡ true
+  there = ap is_some on
+
+  within : s < length actors
+  within = slice_get_within actors s a here
+
+  seated : s < length w.actors
+  seated = seat starts says proper last w is s there
+
+  node_is : node_in w.history s ≡ k
+  node_is = ap (λ o. unwrap_or o 0) on
+
+  actor_is : actor_in w.actors s ≡ shown_actor a
+  actor_is = actor_shown actors s a here
+
+  work_is : work_in w.actors s ≡ a.work
+  work_is = ap (λ (b : ActorState). b.work) actor_is
+
+  -- its places are among those of the journal
+  pub own_are : a.places ≤ j.events.places
+  own_are = subst (λ (b : Actor). b.places ≤ j.events.places) (get_or_from_slice_get actors s a a here) (own_places actors j.events.places s a within placed)
+
+  pub its_placed : IsPlaced a
+  its_placed = placed.each s a here
+
+  -- the places, where it keeps more or fewer
+  pub set_placed : (b : Actor) (places : ℕ) → IsPlaced b → places + a.places ≡ j.events.places + b.places → ArePlaced (slice_set actors s b) places
+  set_placed b places its same = placed_set actors j.events.places places s b a within placed its (ap (λ (x : Actor). places + x.places) (get_or_from_slice_get actors s a a here) ∙ same)
+
+  module _ (m : NodeState) (at : memory_at ms k ≡ m) where
+    memory_is : memory_at ms (node_in w.history s) ≡ m
+    memory_is = ap (memory_at ms) node_is ∙ at
+
+    -- what its step takes
+    pub can : length j.events.list < 2 ^ 63 → CanStep s m j.events.places a.work
+    can short =
+        let n : needed a.work + cond (is_some a.reply) 1 0 ≤ a.places = its_placed in
+        let o = own_are in
+        let need : needed a.work ≤ j.events.places = omega (arith, n, o) in
+        let l : length (reverse j.events.list) ≡ length j.events.list = length-reverse j.events.list in
+        let few : length (reverse j.events.list) < 2 ^ 63 = subst (λ (n : ℕ). n < 2 ^ 63) (sym l) short in
+        subst (λ (x : NodeState). CanStep s x j.events.places a.work) memory_is
+        (subst (λ (v : Work). CanStep s (memory_at ms (node_in w.history s)) j.events.places v) work_is
+        (can_step starts says proper last w is s there j.events.places (subst (λ (v : Work). needed v ≤ j.events.places) (sym work_is) need) few))
+
+    -- its step
+    module _ (u : Table) (n : NodeState) (es : Recorded) (b : Actor) (o : StepOut) where
+      abbrev now : WorldOf L
+      now = shown_world law (record j { events = es }) u (slice_set ms (k - 1) n) (slice_set actors s b)
+
+      abbrev after : Parts
+      after = parts u n es.list
+
+      same_world : with_parts w s after (shown_actor b) ≡ now
+      same_world =
+          ap (λ (i : ℕ). record (with_parts w s after (shown_actor b)) { memories = with_memory ms i n }) node_is
+          ∙ ap (λ (xs : List ActorState). record now { actors = xs }) (sym (map_set shown_actor actors s b))
+
+      parts_are : parts_at w s ≡ parts t m j.events.list
+      parts_are = ap (λ (x : NodeState). parts t x (reverse (reverse j.events.list))) memory_is ∙ ap (λ (xs : List Event). parts t m xs) (reverse-reverse j.events.list)
+
+      roots : (c : Committing) → work_in w.actors s ≡ work.Commit c → c.roots ≡ map (λ (f : Met). root_of w.history.past f.other) c.writer.due
+      roots c does = (subst (λ (v : Work). May starts w.history s v) does (is.may s)).roots
+
+      module _ (busy : a.work ≢ work.Rest) (made : Steps s k (parts t m j.events.list) a.work after b.work o) where
+        made_there : Steps s (node_in w.history s) (parts_at w s) (work_in w.actors s) after b.work o
+        made_there =
+            subst (λ (i : ℕ). Steps s i (parts_at w s) (work_in w.actors s) after b.work o) (sym node_is)
+            (subst (λ (p : Parts). Steps s k p (work_in w.actors s) after b.work o) (sym parts_are)
+            (subst (λ (v : Work). Steps s k (parts t m j.events.list) v after b.work o) (sym work_is) made))
+
+        makes_now : Makes s (state_of w) (work_in w.actors s) (state_of now) b.work o
+        makes_now = subst (λ (x : WorldOf L). Makes s (state_of w) (work_in w.actors s) (state_of x) b.work o) same_world
+            (makes w s seated after b.work (shown_actor b) refl (work_in w.actors s) refl (λ e. busy (sym work_is ∙ e)) roots o made_there)
+
+        pub steps_in : b.began ≡ a.began → b.reply ≡ a.reply → b.reads ≡ reads_after a.work o a.reads → StepsIn w s now o
+        steps_in began reply reads = record {
+          does = b.work;
+          makes = makes_now;
+          actors = map_set shown_actor actors s b ∙ ap (slice_set (map shown_actor actors) s) shown;
+          law = refl;
+        }
+          where
+            shown : shown_actor b ≡ record (actor_in w.actors s) { work = b.work; reads = reads_after (work_in w.actors s) o (actor_in w.actors s).reads }
+            shown =
+                ap (λ (x : ℕ). record (shown_actor b) { began = x }) began
+                ∙ (ap (λ (x : Option ℕ). record (shown_actor b) { began = a.began; reply = x }) reply
+                ∙ (ap (λ (x : ℕ). record (shown_actor b) { began = a.began; reply = a.reply; reads = x }) reads
+                ∙ sym (ap (λ (x : ActorState). record x { work = b.work; reads = reads_after x.work o x.reads }) actor_is)))
+
+        pub step_keeps_all : b.began ≡ a.began → b.reply ≡ a.reply → b.reads ≡ reads_after a.work o a.reads → IsTable u.documents → IsPlaced b → es.places + a.places ≡ j.events.places + b.places → IsWorld starts says now × ArePlaced (slice_set actors s b) es.places
+        step_keeps_all began reply reads table its places = (step_keeps starts says proper last w is s there now o (steps_in began reply reads) table, set_placed b es.places its places)
+
+        pub seen : b.began ≡ a.began → b.reply ≡ a.reply → b.reads ≡ reads_after a.work o a.reads → (name : GName) → StepSeen starts says (shown_at name w s) (shown_at name now s) o
+        seen began reply reads name = step_seen starts says proper last w is s there now o (steps_in began reply reads) name
+
+  -- ---- other calls
+
+  module _ (b : Actor) (es : Recorded) where
+    abbrev seated_now : WorldOf L
+    seated_now = shown_world law (record j { events = es }) t ms (slice_set actors s b)
+
+    -- what is seen of the seats
+    seats_are : (x : ActorState) → shown_actor b ≡ x → map shown_actor (slice_set actors s b) ≡ slice_set (map shown_actor actors) s x
+    seats_are x shown = map_set shown_actor actors s b ∙ ap (slice_set (map shown_actor actors) s) shown
+
+    -- it begins a task
+    pub begun_is : (v : Work) → shown_actor b ≡ record (shown_actor a) { work = v; began = length j.events.list } → es.list ≡ j.events.list → seated_now ≡ with_work w s v
+    begun_is v shown list =
+        ap (λ (xs : List Event). record seated_now { history = record w.history { past = reverse xs } }) list
+        ∙ ap (λ (xs : List ActorState). record w { actors = xs }) (seats_are _ (shown ∙ (ap (λ (n : ℕ). record (shown_actor a) { work = v; began = n }) (sym (length-reverse j.events.list)) ∙ sym (ap (λ (x : ActorState). record x { work = v; began = length (reverse j.events.list) }) actor_is))))
+
+    -- room for a reply is kept, or none is
+    pub replied_is : (room : Option ℕ) → shown_actor b ≡ record (shown_actor a) { reply = room } → es.list ≡ j.events.list → seated_now ≡ with_reply w s room
+    replied_is room shown list =
+        ap (λ (xs : List Event). record seated_now { history = record w.history { past = reverse xs } }) list
+        ∙ ap (λ (xs : List ActorState). record w { actors = xs }) (seats_are _ (shown ∙ sym (ap (λ (x : ActorState). record x { reply = room }) actor_is)))
+
+    -- its reply is said
+    pub said_is : (i : ℕ) (text : Text) → shown_actor b ≡ record (shown_actor a) { reply = None } → es.list ≡ j.events.list ++ event.Said s i text ∷ [] → seated_now ≡ said_in w s i text
+    said_is i text shown list =
+        ap (λ (past : Past). record seated_now { history = record w.history { past = past } }) (ap reverse list ∙ (reverse-append j.events.list (event.Said s i text ∷ [])))
+        ∙ ap (λ (xs : List ActorState). record (said_in w s i text) { actors = xs }) (seats_are _ (shown ∙ sym (ap (λ (x : ActorState). record x { reply = None }) actor_is)))
+
+    -- nothing changes
+    pub same_is : shown_actor b ≡ shown_actor a → es.list ≡ j.events.list → seated_now ≡ w
+    same_is shown list =
+        ap (λ (xs : List Event). record seated_now { history = record w.history { past = reverse xs } }) list
+        ∙ ap (λ (xs : List ActorState). record w { actors = xs }) (seats_are (shown_actor a) shown ∙ set_same (map shown_actor actors) s (shown_actor a) (slice_get-map shown_actor actors s ∙ ap (option_map shown_actor) here))

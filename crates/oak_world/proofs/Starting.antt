@@ -1,0 +1,102 @@
+-- The world before any step.
+use Rattle.std.proofs.Common.{◌≡◌, ℕ, zero, suc, ◌+◌, ◌-◌, ◌≤◌, ◌<◌, List, [], ◌∷◌, ◌++◌, length, map, Option, Some, None, refl, sym, ap, subst, ◌∙◌, arith}
+use Rattle.std.specs.Prelude.{reverse, slice_get, sum_by}
+use Rattle.std.specs.List.{range_with_len}
+use Rattle.std.specs.List.Sorted.{IsStrictlySortedBy}
+use Rattle.std.proofs.lemmas.List.{length-map}
+use Rattle.std.proofs.lemmas.List.Elements.{All-from_recursion}
+use Rattle.oak_doc.specs.declared.document.Document.{Document}
+use Rattle.oak_machine.specs.Laws.{Says, Starts}
+use Rattle.oak_machine.specs.Runs.{AreNodes}
+use Rattle.jr_rev.specs.Vectors.{start}
+use Rattle.oak_machine.specs.Recorded.{Recorded}
+use Rattle.oak_node.specs.Memory.{NodeState, begun}
+use Rattle.oak_store.specs.Tables.{AreStored, Table}
+use Rattle.core_world.specs.Kept.{IsKept}
+use Rattle.core_world.specs.Start.{start_documents, start_state, start_table}
+use Rattle.core_world.specs.States.{State}
+use Rattle.core_world.proofs.Begun.{start_kept}
+use Rattle.core_world.proofs.Named.{start_in_order}
+use Rattle.oak_read.specs.declared.reader.Reader.{Reader}
+use Rattle.core_clash.specs.Sessions.{Running}
+use Rattle.std.proofs.Math.Path.{fun_ext}
+use Rattle.oak_world.specs.declared.actor.Actor.{Actor}
+use Rattle.oak_world.specs.declared.actor.Work.{Work}
+use Rattle.oak_world.specs.declared.actor.Work.TheVariants as work
+use Rattle.oak_world.specs.Kept.{ArePlaced, IsPlaced, IsWorld, May}
+use Rattle.oak_world.specs.Worlds.{ActorState, WorldOf, idle, reading_of, running_of, shown_actor, shown_world, start_world, state_of, work_in}
+
+-- the seat of a session that does nothing
+abbrev pub idle_actor : Actor
+idle_actor = record { work = work.Rest; began = 0; reply = None; places = 0; reads = 0 }
+
+-- ---- documents
+
+stored : (clusters sessions : ℕ) → AreStored (start_documents clusters sessions) 4
+unfolding IsStrictlySortedBy
+stored clusters sessions = record {
+  ordered = ((refl, (refl, (refl, tt))), ((refl, (refl, tt)), ((refl, tt), (tt, tt))));
+  drawn = All-from_recursion (λ d. d.mod_count ≤ 4) (start_documents clusters sessions) (omega arith, (omega arith, (omega arith, (omega arith, tt))));
+}
+
+pub start_stored : (ds : List Document) (clusters sessions : ℕ) → ds ≡ start_documents clusters sessions → AreStored ds 4
+start_stored ds clusters sessions is = subst (λ (xs : List Document). AreStored xs 4) (sym is) (stored clusters sessions)
+
+-- ---- sessions
+
+idle_works : (sessions : List ℕ) (s : ℕ) → work_in (map (λ k. idle) sessions) s ≡ work.Rest
+idle_works [] s = refl
+idle_works (k ∷ ks) zero = refl
+idle_works (k ∷ ks) (suc s) = idle_works ks s
+
+start_same : {L : Type 0} (law : L) (clusters : ℕ) (sessions : List ℕ) → state_of (start_world law clusters sessions) ≡ start_state clusters sessions
+start_same law clusters sessions =
+    ap (λ (f : ℕ → Option Running). record (start_state clusters sessions) { running = f; reading = λ s. reading_of (work_in (map (λ k. idle) sessions) s) }) (fun_ext (λ s. ap (running_of s) (idle_works sessions s)))
+    ∙ ap (λ (f : ℕ → Option Reader). record (start_state clusters sessions) { reading = f }) (fun_ext (λ s. ap reading_of (idle_works sessions s)))
+
+pub start_is_world : (starts : Starts) (says : Says) {L : Type 0} (law : L) (clusters : ℕ) (sessions : List ℕ) → AreNodes clusters sessions → IsWorld starts says (start_world law clusters sessions)
+start_is_world starts says law clusters sessions nodes = record {
+  kept = subst (λ (t : State). IsKept starts says t) (sym (start_same law clusters sessions)) (start_kept starts says clusters sessions nodes);
+  table = start_in_order clusters (length sessions);
+  seats = length-map sessions (λ k. idle);
+  may = λ s. subst (λ (v : Work). May starts (start_world law clusters sessions).history s v) (sym (idle_works sessions s)) tt;
+}
+
+-- ---- places
+
+no_places : (sessions : List ℕ) → sum_by (λ a. a.places) (map (λ k. idle_actor) sessions) ≡ 0
+no_places [] = refl
+no_places (k ∷ ks) = no_places ks
+
+idle_placed : (sessions : List ℕ) (s : ℕ) (a : Actor) → slice_get (map (λ k. idle_actor) sessions) s ≡ Some a → IsPlaced a
+idle_placed [] s a h = cc
+idle_placed (k ∷ ks) zero a h = let same : idle_actor ≡ a = cc in subst IsPlaced same (omega arith)
+idle_placed (k ∷ ks) (suc s) a h = idle_placed ks s a h
+
+pub start_placed : (sessions : List ℕ) → ArePlaced (map (λ k. idle_actor) sessions) 0
+start_placed sessions = record { all = no_places sessions; each = idle_placed sessions }
+
+-- ---- the fields of the start
+
+seen_idle : (sessions : List ℕ) → map shown_actor (map (λ k. idle_actor) sessions) ≡ map (λ k. idle) sessions
+seen_idle [] = refl
+seen_idle (k ∷ ks) = ap (λ xs. idle ∷ xs) (seen_idle ks)
+
+module _ {L : Type 0} (law : L) (clusters : ℕ) (sessions numbers : List ℕ) (es : Recorded) (t : Table) (ms : List NodeState) (actors : List Actor) (same : numbers ≡ sessions) (none : es ≡ record { list = []; places = 0 })
+    (table : t ≡ start_table clusters (length sessions)) (memories : ms ≡ map (λ k. begun k (start clusters)) (range_with_len 1 clusters)) (seats : actors ≡ map (λ k. idle_actor) sessions) where
+  abbrev now : WorldOf L
+  now = shown_world law (record { clusters = clusters; sessions = numbers; events = es }) t ms actors
+
+  pub start_is : now ≡ start_world law clusters sessions
+  start_is =
+      ap (λ (ns : List ℕ). record now { history = record { clusters = clusters; sessions = ns; past = reverse es.list } }) same
+      ∙ (ap (λ (e : Recorded). record now { history = record { clusters = clusters; sessions = sessions; past = reverse e.list } }) none
+      ∙ (ap (λ (u : Table). record (start_world law clusters sessions) { table = u; memories = ms; actors = map shown_actor actors }) table
+      ∙ (ap (λ (ns : List NodeState). record (start_world law clusters sessions) { memories = ns; actors = map shown_actor actors }) memories
+      ∙ ap (λ (xs : List ActorState). record (start_world law clusters sessions) { actors = xs }) (ap (map shown_actor) seats ∙ seen_idle sessions))))
+
+  pub start_call : (starts : Starts) (says : Says) → AreNodes clusters sessions → IsWorld starts says now × ArePlaced actors es.places
+  start_call starts says nodes = (
+    subst (λ (w : WorldOf L). IsWorld starts says w) (sym start_is) (start_is_world starts says law clusters sessions nodes),
+    subst (λ (n : ℕ). ArePlaced actors n) (sym (ap (λ (e : Recorded). e.places) none)) (subst (λ (xs : List Actor). ArePlaced xs 0) (sym seats) (start_placed sessions)),
+  )
