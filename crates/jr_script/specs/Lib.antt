@@ -2,4 +2,3 @@ pub mod Bounds
 pub mod Numbers
 pub mod Schedules
 pub mod Scripts
-pub mod Unbuilt

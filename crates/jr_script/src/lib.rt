@@ -6,11 +6,9 @@ mod numbers;
 mod reading;
 mod schedule;
 mod script;
-mod stage;
 #[cfg(test)]
 mod tests;
 
 pub use laws::{scripts_are_unique, scripts_are_within};
 pub use reading::{MAX_CLUSTERS, MAX_COMMANDS, MAX_SESSIONS, read_script};
 pub use script::{Entry, Script, ScriptFault, SessionScript};
-pub use stage::unbuilt;

@@ -1,5 +1,5 @@
 -- A removed node is collected, while another collection that has read it is behind. Single turns of session 1.
-use Rattle.std.proofs.Common.{None, List, [], ◌∷◌, ◌++◌, refl}
+use Rattle.std.proofs.Common.{List, [], ◌∷◌, ◌++◌, refl}
 use Rattle.std.specs.Prelude.{codes, reverse}
 use Rattle.jr_path.specs.declared.path.DocId.TheVariants.{Node}
 use Rattle.jr_tree.specs.declared.edit.Write.TheVariants.{Here, Gone, Put, Unset}
@@ -8,6 +8,7 @@ use Rattle.oak_clash.specs.declared.mark.Mark.TheVariants as mark
 use Rattle.oak_machine.specs.declared.event.Event.TheVariants.{Login, Refresh, Commit, End, Head, Out, Bound, Collected, Said, Went}
 use Rattle.oak_machine.specs.declared.event.StepKind.TheVariants as kind
 use Rattle.oak_machine.specs.declared.event.Journal.{Journal}
+use Rattle.oak_machine.specs.History.{history_of}
 use Rattle.jcr_trans.specs.declared.command.Command.TheVariants as command
 use Rattle.jr_script.specs.declared.script.Script.{Script}
 use Rattle.jr_script.specs.declared.script.Entry.TheVariants as entry
@@ -19,7 +20,7 @@ abbrev script : Script
 script = record {
   clusters = 1;
   sessions =
-      record { cluster = 1; commands = command.Add a None ∷ command.Save ∷ command.Remove a ∷ command.Save ∷ command.BackWrite ∷ command.Add a None ∷ command.Save ∷ [] }
+      record { cluster = 1; commands = command.Add a ∷ command.Save ∷ command.Remove a ∷ command.Save ∷ command.BackWrite ∷ command.Add a ∷ command.Save ∷ [] }
       ∷ record { cluster = 1; commands = command.Collect ∷ [] }
       ∷ record { cluster = 1; commands = command.Collect ∷ [] }
       ∷ [];
@@ -116,7 +117,7 @@ leaving = closing 2 (Went 2 kind.End ∷ []) ∷ closing 1 (Went 1 kind.End ∷ 
 abbrev journal : Journal
 journal = record { clusters = 1; sessions = 1 ∷ 1 ∷ 1 ∷ []; events = reverse (events_of (leaving ++ parts)) }
 
-scheduled : Scheduled script journal
+scheduled : Scheduled script (history_of journal)
 scheduled = record {
   scheduled = parts;
   replied = [];

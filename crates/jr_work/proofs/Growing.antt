@@ -1,5 +1,6 @@
 -- How a cut grows along a run: a part that is one stays one when events come later.
 use Rattle.std.proofs.Common.{◌≡◌, ℕ, Bool, true, false, cond, not, ◌&&◌, ◌||◌, None, Some, Option, List, [], ◌∷◌, ◌++◌, refl, sym, ap, ◌∙◌}
+use Rattle.std.specs.Prelude.{reverse}
 use Rattle.std.specs.Option.{option_map_or}
 use mathlib.Core.Bool.{false≢true}
 use Rattle.oak_machine.specs.declared.event.Event.{Event}
@@ -8,7 +9,7 @@ use Rattle.jr_script.specs.declared.script.Script.{Script}
 use Rattle.jr_script.specs.declared.script.Entry.TheVariants as entry
 use Rattle.jr_work.specs.Places.{is_own, is_at_last, is_next, next_of, is_commit, is_write_or_mark, is_of_turn}
 use Rattle.jr_work.specs.Parts.{Rule, by_entry, Part, session_of, is_done, must_end, may_end, goes_on, is_turn, is_part, events_of, IsCut}
-use Rattle.jr_work.specs.Growing.{looks_ahead, LookBack, are_own_at_last, is_steady, may_wait, StaysPart, StayParts}
+use Rattle.jr_work.specs.Growing.{looks_ahead, LookBack, knows_next, is_quiet, StaysPart, StayParts}
 
 both : (a b x c d : Bool) → a ≡ b → c ≡ d → (not a && x && c) ≡ (not b && x && d)
 both a b x c d p q = ap (λ (u : Bool). not u && x && c) p ∙ ap (λ (w : Bool). not b && x && w) q
@@ -70,23 +71,23 @@ module _ (script : Script) (s : ℕ) where
   abbrev waits : Rule
   waits = by_entry (entry.Last s)
 
-  -- whether the part must end before an event doesn't hang on what comes behind that, where it is own or s isn't at its last write
+  -- what must end looks at the first event that is the session's own, where it looks ahead at all
   same_last_must : (before part : Past) (e : Event) (l m : List Event) → (is_own (part ++ before) s e || not (is_at_last (part ++ before) s)) ≡ true → must_end script waits before part (e ∷ l) ≡ must_end script waits before part (e ∷ m)
-  same_last_must before part e l m either = by (is_own (part ++ before) s e) (is_at_last (part ++ before) s) refl refl either
+  same_last_must before part e l m knows = by (is_own (part ++ before) s e) (is_at_last (part ++ before) s) refl refl knows
     where
-      by : (o a : Bool) → is_own (part ++ before) s e ≡ o → is_at_last (part ++ before) s ≡ a → (o || not a) ≡ true → must_end script waits before part (e ∷ l) ≡ must_end script waits before part (e ∷ m)
-      by true a own at h =
+      by : (own last : Bool) → is_own (part ++ before) s e ≡ own → is_at_last (part ++ before) s ≡ last → (own || not last) ≡ true → must_end script waits before part (e ∷ l) ≡ must_end script waits before part (e ∷ m)
+      by true last own at k =
           ap (λ (b : Bool). is_done script waits before part || (is_at_last (part ++ before) s && b))
           (own_is_next is_commit (part ++ before) s e l own ∙ sym (own_is_next is_commit (part ++ before) s e m own))
-      by false true own at h = absurd (false≢true h)
-      by false false own at h =
-          let none = λ (n : List Event). ap (λ (b : Bool). is_done script waits before part || (b && is_next is_commit (part ++ before) s n)) at in
-          none (e ∷ l) ∙ sym (none (e ∷ m))
+      by false false own at k =
+          ap (λ (b : Bool). is_done script waits before part || (b && is_next is_commit (part ++ before) s (e ∷ l))) at
+          ∙ sym (ap (λ (b : Bool). is_done script waits before part || (b && is_next is_commit (part ++ before) s (e ∷ m))) at)
+      by false true own at k = absurd (false≢true k)
 
-  same_last_way : (before part : Past) (l m : List Event) → are_own_at_last s before part ≡ true → goes_on script waits before part l ≡ goes_on script waits before part m
-  same_last_way before [] l m own = refl
-  same_last_way before (e ∷ part) l m own =
-      let h = halves _ _ own in
+  same_last_way : (before part : Past) (l m : List Event) → knows_next s before part ≡ true → goes_on script waits before part l ≡ goes_on script waits before part m
+  same_last_way before [] l m knows = refl
+  same_last_way before (e ∷ part) l m knows =
+      let h = halves _ _ knows in
       both _ _ (is_of_turn script (part ++ before) s e) _ _ (same_last_must before part e l m h.0) (same_last_way before part (e ∷ l) (e ∷ m) h.1)
 
   still : (d a n k : Bool) → (d || (a && not n)) ≡ true → (d || not k) ≡ true → (d || (a && not k)) ≡ true
@@ -94,13 +95,13 @@ module _ (script : Script) (s : ℕ) where
   still false true n k h e = e
   still false false n k h e = h
 
-  -- a part that waits for a last write stays one, where it may wait
-  pub last_part_stays : (before part : Past) (l m : List Event) → are_own_at_last s before part ≡ true → may_wait script s before part m ≡ true
+  -- a part that waits for a last write stays one, where the next event of its session, once there is one, is no Write or Mark
+  pub last_part_stays : (before part : Past) (l m : List Event) → knows_next s before part ≡ true → is_quiet script waits s before part m ≡ true
       → is_part script waits before part l ≡ true → is_part script waits before part m ≡ true
-  last_part_stays before part l m own wait h =
+  last_part_stays before part l m knows quiet h =
       let k = halves _ _ h in
-      let ends : may_end script waits before part m ≡ true = still (is_done script waits before part) (is_at_last (part ++ before) s) (is_next is_write_or_mark (part ++ before) s l) (is_next is_write_or_mark (part ++ before) s m) k.0 wait in
-      ap (λ (b : Bool). b && goes_on script waits before part m) ends ∙ (sym (same_last_way before part l m own) ∙ k.1)
+      let ends : may_end script waits before part m ≡ true = still (is_done script waits before part) (is_at_last (part ++ before) s) (is_next is_write_or_mark (part ++ before) s l) (is_next is_write_or_mark (part ++ before) s m) k.0 quiet in
+      ap (λ (b : Bool). b && goes_on script waits before part m) ends ∙ (sym (same_last_way before part l m knows) ∙ k.1)
 
 module _ (script : Script) where
   part_stays : (rule : Rule) (before part : Past) (l m : List Event) → StaysPart script rule before part m → is_part script rule before part l ≡ true → is_part script rule before part m ≡ true
@@ -112,17 +113,13 @@ module _ (script : Script) where
   cut_grows [] l m stay cut = tt
   cut_grows (p ∷ parts) l m stay cut = (part_stays p.rule (events_of parts) p.events l m stay.0 cut.0, cut_grows parts _ _ stay.1 cut.1)
 
-  -- whether a steady part goes on doesn't hang on what comes later
-  pub steady_way : (rule : Rule) (before part : Past) (l m : List Event) → is_steady rule before part ≡ true → goes_on script rule before part l ≡ goes_on script rule before part m
-  steady_way (by_entry (entry.Last s)) before part l m steady = same_last_way script s before part l m steady
-  steady_way rule before part l m steady = same_way script rule before part l m refl
-
-  steady_before : (rule : Rule) (before part : Past) (e : Event) → is_steady rule before (e ∷ part) ≡ true → is_steady rule before part ≡ true
-  steady_before (by_entry (entry.Last s)) before part e steady = (halves _ _ steady).1
-  steady_before rule before part e steady = refl
+  -- what is under way doesn't hang on what comes later, where each place knows the next event that counts there
+  pub way_stays : (rule : Rule) (before part : Past) (l m : List Event) → knows_next (session_of rule) before part ≡ true → goes_on script rule before part l ≡ goes_on script rule before part m
+  way_stays (by_entry (entry.Last s)) before part l m knows = same_last_way script s before part l m knows
+  way_stays rule before part l m knows = same_way script rule before part l m refl
 
   -- the part under way goes on by an event of its session's turns, where it need not have ended before
-  pub part_grows : (rule : Rule) (before part : Past) (e : Event) → is_steady rule before (e ∷ part) ≡ true → goes_on script rule before part [] ≡ true
+  pub part_grows : (rule : Rule) (before part : Past) (e : Event) → knows_next (session_of rule) before part ≡ true → goes_on script rule before part [] ≡ true
       → must_end script rule before part (e ∷ []) ≡ false → is_of_turn script (part ++ before) (session_of rule) e ≡ true → goes_on script rule before (e ∷ part) [] ≡ true
-  part_grows rule before part e steady goes may own =
-      both _ false _ _ true may (sym (steady_way rule before part [] (e ∷ []) (steady_before rule before part e steady)) ∙ goes) ∙ ap (λ (w : Bool). w && true) own
+  part_grows rule before part e knows goes may own =
+      both _ false _ _ true may (sym (way_stays rule before part [] (e ∷ []) knows) ∙ goes) ∙ ap (λ (w : Bool). w && true) own

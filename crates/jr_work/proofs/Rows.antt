@@ -1,9 +1,10 @@
 -- A save that stands in mid-stream while another session reads; and two saves that meet each other.
-use Rattle.std.proofs.Common.{false, None, Some, List, [], ◌∷◌, ◌++◌, refl}
+use Rattle.std.proofs.Common.{false, Some, List, [], ◌∷◌, ◌++◌, refl}
 use Rattle.std.specs.Prelude.{codes, reverse}
 use Rattle.oak_machine.specs.declared.event.Event.TheVariants.{Login, Refresh, Commit, Refuse, End, Head, Said, Went}
 use Rattle.oak_machine.specs.declared.event.StepKind.TheVariants as kind
 use Rattle.oak_machine.specs.declared.event.Journal.{Journal}
+use Rattle.oak_machine.specs.History.{history_of}
 use Rattle.jcr_trans.specs.declared.command.Command.TheVariants as command
 use Rattle.jr_script.specs.declared.script.Script.{Script}
 use Rattle.jr_script.specs.declared.script.Entry.TheVariants as entry
@@ -16,7 +17,7 @@ abbrev reading : Script
 reading = record {
   clusters = 1;
   sessions =
-      record { cluster = 1; commands = command.Add a None ∷ command.Add b None ∷ command.Save ∷ set a 1 ∷ set b 1 ∷ command.Save ∷ [] }
+      record { cluster = 1; commands = command.Add a ∷ command.Add b ∷ command.Save ∷ set a 1 ∷ set b 1 ∷ command.Save ∷ [] }
       ∷ record { cluster = 1; commands = command.Refresh false ∷ get ∷ command.Refresh false ∷ get ∷ [] }
       ∷ [];
   schedule = entry.Say 0 5 ∷ entry.Write 0 1 ∷ entry.Say 1 2 ∷ entry.Say 0 1 ∷ entry.Say 1 2 ∷ [];
@@ -57,7 +58,7 @@ leaving = closing 1 (Went 1 kind.End ∷ []) ∷ closing 0 (Went 0 kind.End ∷ 
 abbrev reading_journal : Journal
 reading_journal = record { clusters = 1; sessions = 1 ∷ 1 ∷ []; events = reverse (events_of (leaving ++ reading_parts)) }
 
-reading_scheduled : Scheduled reading reading_journal
+reading_scheduled : Scheduled reading (history_of reading_journal)
 reading_scheduled = record {
   scheduled = reading_parts;
   replied = [];
@@ -74,7 +75,7 @@ abbrev meeting : Script
 meeting = record {
   clusters = 1;
   sessions =
-      record { cluster = 1; commands = command.Add a None ∷ command.Add b None ∷ command.Save ∷ set a 1 ∷ set b 1 ∷ command.Save ∷ command.Refresh false ∷ get ∷ [] }
+      record { cluster = 1; commands = command.Add a ∷ command.Add b ∷ command.Save ∷ set a 1 ∷ set b 1 ∷ command.Save ∷ command.Refresh false ∷ get ∷ [] }
       ∷ record { cluster = 1; commands = set a 2 ∷ set b 2 ∷ command.Save ∷ [] }
       ∷ [];
   schedule = entry.Say 0 5 ∷ entry.Say 1 2 ∷ entry.Write 0 1 ∷ entry.Write 1 1 ∷ entry.Write 1 2 ∷ entry.Last 0 ∷ entry.Say 0 1 ∷ entry.Say 1 1 ∷ [];
@@ -115,7 +116,7 @@ meeting_closed =
 abbrev meeting_journal : Journal
 meeting_journal = record { clusters = 1; sessions = 1 ∷ 1 ∷ []; events = reverse (events_of (meeting_closed ++ meeting_parts)) }
 
-meeting_scheduled : Scheduled meeting meeting_journal
+meeting_scheduled : Scheduled meeting (history_of meeting_journal)
 meeting_scheduled = record {
   scheduled = meeting_parts;
   replied = [];

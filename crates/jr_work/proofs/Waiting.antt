@@ -1,5 +1,5 @@
 -- Two commits at their last writes; the later one ends first and waits for the other. And cuts that are none.
-use Rattle.std.proofs.Common.{◌≡◌, ℕ, true, false, None, List, [], ◌∷◌, ◌++◌, refl}
+use Rattle.std.proofs.Common.{◌≡◌, ℕ, true, false, List, [], ◌∷◌, ◌++◌, refl}
 use Rattle.std.specs.Prelude.{codes, reverse}
 use Rattle.jr_tree.specs.declared.edit.Write.TheVariants.{Here, Put}
 use Rattle.oak_clash.specs.declared.mark.MarkAt.{MarkAt}
@@ -8,7 +8,7 @@ use Rattle.oak_machine.specs.declared.event.Event.{Event}
 use Rattle.oak_machine.specs.declared.event.Event.TheVariants.{Login, Refresh, Commit, End, Head, Said, Went}
 use Rattle.oak_machine.specs.declared.event.StepKind.TheVariants as kind
 use Rattle.oak_machine.specs.declared.event.Journal.{Journal}
-use Rattle.oak_machine.specs.History.{Past}
+use Rattle.oak_machine.specs.History.{Past, history_of}
 use Rattle.jcr_trans.specs.declared.command.Command.TheVariants as command
 use Rattle.jr_script.specs.declared.script.Script.{Script}
 use Rattle.jr_script.specs.declared.script.Entry.TheVariants as entry
@@ -31,8 +31,8 @@ abbrev script : Script
 script = record {
   clusters = 1;
   sessions =
-      record { cluster = 1; commands = command.Add a None ∷ command.Save ∷ command.Add x None ∷ command.Save ∷ [] }
-      ∷ record { cluster = 1; commands = command.Add y None ∷ command.Save ∷ command.List a ∷ [] }
+      record { cluster = 1; commands = command.Add a ∷ command.Save ∷ command.Add x ∷ command.Save ∷ [] }
+      ∷ record { cluster = 1; commands = command.Add y ∷ command.Save ∷ command.List a ∷ [] }
       ∷ [];
   schedule = entry.Say 0 3 ∷ entry.Say 1 1 ∷ entry.Last 0 ∷ entry.Last 1 ∷ entry.Say 1 1 ∷ entry.Say 0 1 ∷ entry.Say 1 2 ∷ [];
 }
@@ -85,7 +85,7 @@ leaving = closing 1 (Went 1 kind.End ∷ []) ∷ closing 0 (Went 0 kind.End ∷ 
 abbrev journal : Journal
 journal = record { clusters = 1; sessions = 1 ∷ 1 ∷ []; events = reverse (events_of (leaving ++ parts)) }
 
-scheduled : Scheduled script journal
+scheduled : Scheduled script (history_of journal)
 scheduled = record {
   scheduled = parts;
   replied = [];
@@ -116,7 +116,7 @@ short_closed = closing 1 (Said 1 2 (codes "ok [\"x\",\"y\"]") ∷ Went 1 kind.En
 abbrev short_journal : Journal
 short_journal = record { clusters = 1; sessions = 1 ∷ 1 ∷ []; events = reverse (events_of (short_closed ++ reply_parts ++ short_parts)) }
 
-short_scheduled : Scheduled short short_journal
+short_scheduled : Scheduled short (history_of short_journal)
 short_scheduled = record {
   scheduled = short_parts;
   replied = reply_parts;
@@ -161,3 +161,4 @@ waiting = reverse (ends_y) ++ reverse (writes_x ++ writes_y) ++ before
 
 nothing : is_part script (by_entry (entry.Turn 1)) waiting [] [] ≡ true
 nothing = refl
+

@@ -1,4 +1,9 @@
+pub mod Awaited
+pub mod Flights
 pub mod Growing
 pub mod Parts
 pub mod Places
+pub mod Runs
 pub mod Schedules
+pub mod SoFar
+pub mod Stages

@@ -1,18 +1,20 @@
 -- How a call ends, from how its parts ended.
-use Rattle.std.proofs.Common.{◌≡◌, ℕ, ◌<◌, ◌≤◌, Option, Some, None, IfSome, List, length, inl, inr, refl, sym, subst, arith}
+use Rattle.std.proofs.Common.{◌≡◌, ℕ, ◌<◌, ◌≤◌, Option, Some, None, IfSome, IsSome, IsNone, List, length, inl, inr, refl, sym, subst, arith}
 use Rattle.repo_run.specs.declared.status.Status.{Status}
 use Rattle.repo_run.specs.declared.status.Status.TheVariants as status
 use Rattle.jr_script.specs.declared.script.Script.{Script}
 use Rattle.oak_world.specs.Worlds.{WorldOf}
 use Rattle.jcr_session.specs.declared.law.JcrLaw.{JcrLaw}
 use Rattle.repo_run.specs.Ends.{BreaksRule, Call, Ends, EndsWith, FailsNowhere, Faults, HasLine, HasRunAll, IsCalm, IsCause, IsFault, IsPart, IsReadWhole, IsRefused, IsUnread, Output, Prints, Spells, Tells, longest}
-use Rattle.repo_run.specs.Headline.{HasRun}
+use Rattle.jr_work.specs.Runs.{HasRun}
+use Rattle.repo_run.specs.Headline.{replies_of}
 use Rattle.repo_run.specs.Statuses.{fault_line, status_of}
 use Rattle.repo_run.specs.declared.status.Unrun.{Unrun}
 use Rattle.repo_run.specs.declared.status.Unrun.TheVariants as unrun
 use Rattle.repo_run.specs.Words.{Means}
 use Rattle.repo_run.specs.declared.words.Words.{Words}
 use Rattle.repo_run.specs.declared.words.Words.TheVariants.{Steps}
+use mathlib.Core.Bool.{false≢true}
 
 -- ---- no script is run
 

@@ -1,9 +1,3 @@
 pub mod Faulty
 pub mod Given
-pub mod Kept
-pub mod Loaded
-pub mod Pinned
-pub mod Runs
-pub mod Small
-pub mod Stands
-pub mod Turned
+pub mod Told

@@ -5,14 +5,13 @@ use Rattle.jr_io.specs.Causes.{Rose, RoseBy, RoseExactly}
 use Rattle.jr_io.specs.Told.{Grows, IsDrained}
 use Rattle.jr_script.specs.declared.script.Script.{Script}
 use Rattle.jr_script.specs.Scripts.{IsFault as IsBadScript, IsJson, IsScript}
-use Rattle.jr_script.specs.Unbuilt.{unbuilt}
 use Rattle.jr_script.specs.declared.script.ScriptFault.TheVariants as bad
 use Rattle.repo_run.specs.declared.status.Status.{Status}
 use Rattle.repo_run.specs.declared.status.Status.TheVariants as status
 use Rattle.jcr_session.specs.declared.law.JcrLaw.{JcrLaw}
-use Rattle.jr_print.specs.Replies.{reply_text}
 use Rattle.oak_world.specs.Worlds.{WorldOf}
-use Rattle.repo_run.specs.Headline.{HasRun}
+use Rattle.jr_work.specs.Runs.{HasRun}
+use Rattle.repo_run.specs.Headline.{replies_of}
 use Rattle.repo_run.specs.Statuses.{fault_line, script_line, status_of}
 use Rattle.repo_run.specs.declared.status.Unrun.{Unrun}
 use Rattle.repo_run.specs.declared.status.Unrun.TheVariants as unrun
@@ -25,32 +24,12 @@ abbrev pub longest : ℕ
 longest = 16777216
 
 -- the bytes are the JSON of this script
-abbrev pub IsScriptOf : List ℕ → Script → Type 0
-IsScriptOf bytes script = (d : Data) × IsJson bytes d × IsScript d script
-
--- the bytes are the JSON of this script, and all of it is run today
 abbrev pub Spells : List ℕ → Script → Type 0
-Spells bytes script = IsScriptOf bytes script × (unbuilt script ≡ None)
-
--- the bytes are a script of which the part at this pointer isn't run yet: rule 0
-abbrev pub IsUnbuilt : List ℕ → ℕ → List ℕ → Type 0
-IsUnbuilt bytes rule pointer = (script : Script) × IsScriptOf bytes script × (unbuilt script ≡ Some pointer) × (rule ≡ 0)
+Spells bytes script = (d : Data) × IsJson bytes d × IsScript d script
 
 -- the bytes break a rule of scripts, at the place of a pointer
 abbrev pub BreaksRule : List ℕ → ℕ → List ℕ → Type 0
-BreaksRule bytes rule pointer = IsBadScript bytes (bad.Bad rule pointer) ⊎ IsUnbuilt bytes rule pointer
-
--- why the bytes are no script that is run: they break a rule, or memory was refused
-abbrev pub IsUnscripted : List ℕ → Unrun → Type 0
-IsUnscripted bytes (unrun.Script rule pointer) = BreaksRule bytes rule pointer
-IsUnscripted bytes unrun.Memory = ⊤
-IsUnscripted bytes _ = ⊥
-
--- rule 0 at this place; or memory was refused
-abbrev pub IsNotYet : List ℕ → Unrun → Type 0
-IsNotYet place (unrun.Script rule pointer) = (rule ≡ 0) × (pointer ≡ place)
-IsNotYet place unrun.Memory = ⊤
-IsNotYet place _ = ⊥
+BreaksRule bytes rule pointer = IsBadScript bytes (bad.Bad rule pointer)
 
 -- ---- a call
 
@@ -130,7 +109,7 @@ Faults before now why result = Tells before now (fault_line why) (status_of why)
 abbrev pub Prints : {L : Type 0} → Output → Output → Option (WorldOf L) → Status → Type 0
 Prints before now None result = IsRefused before now result
 Prints before now (Some world) result =
-    Tells before now (reply_text world.journal) status.Done result
+    Tells before now (replies_of world.history) status.Done result
     ⊎ IsRefused before now result
 
 -- ---- how a call ends
@@ -154,12 +133,12 @@ abbrev pub IsCause : Call → Unrun → Type 0
 IsCause c unrun.Words = (meaning : Words) → ¬ Means c.words meaning
 IsCause c why = Means c.words Steps × IsUnread c.source c.source_now why
 
--- a script was run to its end, its world is left, and the replies of the world's journal are written
+-- a script was run to its end, its world is left, and the replies of its history are written
 pub record IsDone (c : Call) : Type 0 where
   pub world : WorldOf JcrLaw
   pub left : c.left ≡ Some world
   pub ran : HasRunAll c world
-  pub replies : GrowsBy c.sink c.sink_now (reply_text world.journal)
+  pub replies : GrowsBy c.sink c.sink_now (replies_of world.history)
 
 -- no script was run, for a cause that has this status, and its line is written
 pub record IsFault (c : Call) (s : Status) : Type 0 where
@@ -172,7 +151,7 @@ pub record IsFault (c : Call) (s : Status) : Type 0 where
 -- what was written before a sink failed: of the replies of the world that is left, or, where none is left, of the line that says why no
 -- script was run, which is so
 abbrev pub IsPart : Call → Option (WorldOf JcrLaw) → Type 0
-IsPart c (Some world) = HasRunAll c world × GrowsUpTo c.sink c.sink_now (reply_text world.journal)
+IsPart c (Some world) = HasRunAll c world × GrowsUpTo c.sink c.sink_now (replies_of world.history)
 IsPart c None = (why : Unrun) × HasLine why × IsCause c why × GrowsUpTo c.sink c.sink_now (fault_line why)
 
 -- the sink failed

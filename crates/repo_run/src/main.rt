@@ -1,7 +1,6 @@
 //! The program: reads a script, runs it, prints the replies.
 #![tactic(auto)]
 
-mod session;
 mod status;
 #[cfg(test)]
 mod tests;

@@ -6,7 +6,7 @@ use jr_path::{DeepCopy, List};
 use jr_rev::RevVec;
 use jr_script::read_script;
 use oak_doc::Document;
-use oak_machine::{Event, Journal, StepKind};
+use oak_machine::{Event, Events, Journal, StepKind};
 use oak_world::World;
 use std::alloc::{AllocError, Global};
 use std::test::Fail;
@@ -16,22 +16,6 @@ const FIRST: &str =
 
 const REPLIES: &str =
     "0 0 ok\n0 1 ok\n0 2 ok \"r1-0-1\"\n0 3 ok 5\n0 4 ok [\"a\",\"jcr:system\"]\n";
-
-const BASES: &str =
-    r#"{"sessions":[{"commands":[["head"],["add","/a"],["refresh",false],["list","/"],["add","/b"],["save"],["head"],["refresh",false],["list","/"],["refresh",true],["save"]]}]}"#;
-
-const BASES_SHOWN: &str = r#"0 0 ok "r0-0-1"
-0 1 ok
-0 2 ok "r0-0-1"
-0 3 ok ["jcr:system"]
-0 4 ok
-0 5 ok "r1-0-1"
-0 6 ok "r1-0-1"
-0 7 ok "r1-0-1"
-0 8 ok ["b","jcr:system"]
-0 9 no 12 ["refresh"]
-0 10 ok null
-"#;
 
 // The status, the bytes written, and the world that is left, for a word, an input and the calls that fail.
 fn run(
@@ -54,42 +38,9 @@ fn run(
 #[test]
 fn statuses_and_what_is_written(rt: HostRuntime) -> Result<(), Fail> {
     let alloc = rt.alloc();
-    let rows: [(&str, &str, &[u64], &[u64], Status, &str); 13] = [
+    let rows: [(&str, &str, &[u64], &[u64], Status, &str); 8] = [
         ("steps", FIRST, &[], &[], Status::Done, REPLIES),
-        ("steps", BASES, &[], &[], Status::Done, BASES_SHOWN),
         ("steps", r#"{"sessions":[]}"#, &[], &[], Status::Done, ""),
-        (
-            "steps",
-            r#"{"clusters":1,"schedule":[],"sessions":[{"cluster":1,"commands":[]}]}"#,
-            &[],
-            &[],
-            Status::Done,
-            "",
-        ),
-        (
-            "steps",
-            r#"{"clusters":2,"schedule":[0],"sessions":[{"commands":[]},{"commands":[]}]}"#,
-            &[],
-            &[],
-            Status::Script,
-            "bad script 0 \"/clusters\"\n",
-        ),
-        (
-            "steps",
-            r#"{"schedule":[0],"sessions":[{"commands":[]},{"commands":[]}]}"#,
-            &[],
-            &[],
-            Status::Script,
-            "bad script 0 \"/sessions\"\n",
-        ),
-        (
-            "steps",
-            r#"{"schedule":[0],"sessions":[{"commands":[]}]}"#,
-            &[],
-            &[],
-            Status::Script,
-            "bad script 0 \"/schedule\"\n",
-        ),
         ("Steps", FIRST, &[0], &[], Status::Words, "bad words\n"),
         (
             "steps",
@@ -209,7 +160,7 @@ fn documents_of_the_first_example(rt: HostRuntime) -> Result<(), Fail> {
         "Login", "Said", "Said", "Draw", "Write", "Write", "Commit", "End", "Head", "Refresh",
         "Said", "Said", "Said", "Left",
     ];
-    let events = world.journal().events.inner();
+    let events = world.journal().events.as_slice();
     assert_eq!(rt; events.len(), steps.len());
     for (event, step) in events.iter().zip(steps) {
         assert_eq!(rt; name_of(event), step);
@@ -217,7 +168,7 @@ fn documents_of_the_first_example(rt: HostRuntime) -> Result<(), Fail> {
     Ok(())
 }
 
-const SCRIPTS: [(&str, usize); 4] = [
+const SCRIPTS: [(&str, usize); 3] = [
     (FIRST, 5),
     (
         r#"{"sessions":[{"commands":[["save"],["add","/b/c"],["add","/b"],["add","/b"],["set","/b","p",1],["save"],["set","/b","p",1],["save"],["get","/b/p"],["get","/b/q"],["list","/c"]]}]}"#,
@@ -227,7 +178,6 @@ const SCRIPTS: [(&str, usize); 4] = [
         r#"{"sessions":[{"commands":[["add","/a"],["save"],["add","/a/b"],["get","/a/b"],["list","/a"],["save"],["set","/a/b","p",7],["list","/"],["get","/a/b/p"],["save"],["save"]]}]}"#,
         11,
     ),
-    (BASES, 11),
 ];
 
 // Each reply of the world is the one that the law lets the session say by the journal before it.
@@ -243,10 +193,10 @@ fn replies_follow_from_the_journal(rt: HostRuntime) -> Result<(), Fail> {
         let mut before = Journal {
             clusters: 1,
             sessions: List::new(alloc),
-            events: List::new(alloc),
+            events: Events::new(alloc),
         };
         let mut replies: usize = 0;
-        for event in world.journal().events.inner() {
+        for event in world.journal().events.as_slice() {
             if let Event::Said(session, _, text) = event {
                 let found = match eval(alloc, &law, &before, *session)? {
                     Some(found) => found,
@@ -268,8 +218,26 @@ fn law_of(alloc: Global, input: &str) -> Result<JcrLaw, Fail> {
         return Err(AllocError.into());
     };
     let mut sessions = List::new(alloc);
-    for session in script.sessions.inner() {
+    for session in script.sessions.as_slice() {
         sessions.push((session.cluster, session.commands.copy()?))?;
     }
     Ok(JcrLaw { sessions })
+}
+
+// Session 1 reads `/a` before and after the second save of session 0, and between its writes.
+const STEADY: &str = r#"{"sessions":[{"commands":[["add","/a"],["add","/b"],["save"],["set","/a","p",1],["set","/b","p",1],["save"]]},{"commands":[["refresh",false],["get","/a/p"],["refresh",false],["get","/a/p"]]}],"schedule":[[0,"say",5],[0,"write",1],[1,"say",2],[0,"say",1],[1,"say",2]]}"#;
+
+const STEADY_REPLIES: &str = "0 0 ok\n0 1 ok\n0 2 ok \"r1-0-1\"\n0 3 ok\n0 4 ok\n0 5 ok \"r2-0-1\"\n1 0 ok \"r1-0-1\"\n1 1 no 1 [\"/a/p\"]\n1 2 ok \"r2-0-1\"\n1 3 ok 1\n";
+
+#[test]
+fn a_reader_is_steady(rt: HostRuntime) -> Result<(), Fail> {
+    let alloc = rt.alloc();
+    let (status, sink, left) = run(alloc, "steps", STEADY, &[], &[])?;
+    assert_eq!(rt; status, Status::Done);
+    assert_eq!(rt; sink.written(), STEADY_REPLIES.as_bytes());
+    let Some(world) = left else {
+        return Err(AllocError.into());
+    };
+    assert!(rt; world.reads(1) >= 2);
+    Ok(())
 }

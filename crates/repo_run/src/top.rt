@@ -1,18 +1,18 @@
 // The top calls.
 ghost use Rattle.std.specs.Prelude.{◌≡◌, ℕ, List, None, IfOk, IfErr, IfSome, IsNone, map, string_bytes};
-ghost use Rattle.repo_run.specs.Ends.{Ends, Faults, IsNotYet, IsReadWhole, IsUnread, IsUnscripted, Prints, Spells, Tells, call, input, output};
-ghost use Rattle.repo_run.specs.Headline.{HasRun};
-ghost use Rattle.repo_run.specs.Turns.{IsSmall};
+ghost use Rattle.repo_run.specs.Ends.{Ends, Faults, IsReadWhole, IsUnread, Prints, Spells, Tells, call, input, output};
+ghost use Rattle.jr_script.specs.Bounds.{IsWithin};
+ghost use Rattle.jr_work.specs.Runs.{HasRun};
 ghost use Rattle.repo_run.specs.declared.status.Unrun.TheVariants as unrun;
 
-use crate::session::run_steps;
 use crate::status::{Status, Unrun, script_line};
 use crate::words::{Words, words_meant};
 use jcr_session::JcrLaw;
 use jr_io::{Failed, Sink, Source, read_all, write_all};
 use jr_path::Text;
 use jr_print::lines;
-use jr_script::{Script, read_script, unbuilt};
+use jr_script::{Script, read_script, scripts_are_within};
+use jr_work::run_steps;
 use oak_world::World;
 use std::alloc::{AllocError, Global};
 use std::sync::Wait;
@@ -20,9 +20,6 @@ use std::thread::Threads;
 
 /// The greatest number of bytes of an input.
 pub const LONGEST_INPUT: usize = 16_777_216;
-
-// The rule on what isn't run yet.
-const NOT_YET: u8 = 0;
 
 /// All that the program does: takes the words of the command line, a source and a sink, and answers the status. `Ends` says what each
 /// status says of the words, of what was read and written, and of the world that is left.
@@ -54,7 +51,10 @@ pub fn steps_main<S: Source, K: Sink>(
         return unrun(alloc, sink, &Unrun::Words);
     };
     match script_of(alloc, source) {
-        Ok(script) => run_script(alloc, script, sink, left),
+        Ok(script) => {
+            scripts_are_within();
+            run_script(alloc, script, sink, left)
+        }
         Err(why) => unrun(alloc, sink, &why),
     }
 }
@@ -65,32 +65,7 @@ fn script_of<S: Source>(alloc: Global, source: &mut S) -> Result<Script, Unrun>
     ensures unread { IfErr result (IsUnread (input (S.left source.old) (S.given source.old) (S.fault_count source.old)) (input (S.left source.new) (S.given source.new) (S.fault_count source.new))) }
 {
     let bytes = read_all(alloc, source, LONGEST_INPUT)?;
-    built_script(alloc, bytes.as_slice())
-}
-
-// The script that bytes are, where all of it is run today.
-fn built_script(alloc: Global, bytes: &[u8]) -> Result<Script, Unrun>
-    ensures read { IfOk result (Spells bytes.now) }
-    ensures unread { IfErr result (IsUnscripted bytes.now) }
-{
-    let script = read_script(alloc, bytes)?;
-    match unbuilt(&script) {
-        Some(place) => Err(not_yet(alloc, place)),
-        None => Ok(script),
-    }
-}
-
-// The fault of a script of which the part at this place isn't run yet.
-fn not_yet(alloc: Global, place: &str) -> Unrun
-    ensures { IsNotYet place.now result }
-{
-    match Text::copy_of(alloc, place) {
-        Ok(pointer) => Unrun::Script {
-            rule: NOT_YET,
-            pointer,
-        },
-        Err(AllocError) => Unrun::Memory,
-    }
+    Ok(read_script(alloc, bytes.as_slice())?)
 }
 
 // Runs a script, and writes its replies.
@@ -100,7 +75,7 @@ fn run_script<K: Sink>(
     sink: &mut K,
     left: &mut Option<World<JcrLaw>>,
 ) -> Status
-    requires small { IsSmall script }
+    requires within { IsWithin script }
     requires none { IsNone left.old }
     ensures ran { IfSome left.new (HasRun script) }
     ensures replies { Prints (output (K.written sink.old) (K.fault_count sink.old)) (output (K.written sink.new) (K.fault_count sink.new)) left.new result }

@@ -1,11 +1,12 @@
 use Rattle.std.proofs.Common.{◌≡◌, inl, arith}
-use Rattle.jr_print.specs.Replies.{reply_text}
 use Rattle.repo_run.specs.Ends.{output}
+use Rattle.repo_run.specs.Headline.{replies_of}
 use Rattle.repo_run.specs.declared.status.Status.TheVariants as status
 use Rattle.repo_run.proofs.Faulty.{told_text}
+use Rattle.repo_run.proofs.Told.{replies_told}
 use Rattle.repo_run.proofs.top.run_script.Goals as goal
 
 pub returns-in-Ok-text-clause-replies : goal.returns-in-Ok-text-clause-replies
 returns-in-Ok-text-clause-replies g c =
-    let e : c.as_slice.result.now ≡ reply_text c.in-Ok.world.journal = grind (arith, c.as_slice.ensures.value, c.in-Ok-text.ensures, c.journal.ensures) in
-    inl (told_text (output (g.K.Sink.written c.args.sink.now) (g.K.Sink.fault_count c.args.sink.now)) (output (g.K.Sink.written c.written.new.sink) (g.K.Sink.fault_count c.written.new.sink)) c.as_slice.result.now (reply_text c.in-Ok.world.journal) status.Done c.written.result e c.written.ensures)
+    let e : c.as_slice.result.now ≡ replies_of c.in-Ok.world.history = grind (arith, c.as_slice.ensures.value, c.in-Ok-text.ensures, replies_told c.journal.result.now c.in-Ok.world.history c.journal.ensures.journal) in
+    inl (told_text (output (g.K.Sink.written c.args.sink.now) (g.K.Sink.fault_count c.args.sink.now)) (output (g.K.Sink.written c.written.new.sink) (g.K.Sink.fault_count c.written.new.sink)) c.as_slice.result.now (replies_of c.in-Ok.world.history) status.Done c.written.result e c.written.ensures)

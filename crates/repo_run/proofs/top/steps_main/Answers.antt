@@ -4,7 +4,6 @@ use Rattle.std.specs.String.{string_bytes}
 use Rattle.repo_run.proofs.Faulty.{ends, means_steps, ran_ends, unread_cause, unrun_ends}
 use Rattle.repo_run.specs.Ends.{call, input, output}
 use Rattle.repo_run.specs.declared.status.Unrun.TheVariants as unrun
-use Rattle.repo_run.proofs.Small.{read_is_small}
 use Rattle.repo_run.proofs.top.steps_main.Goals as goal
 
 pub returns-in_default : goal.returns-in_default
@@ -32,5 +31,5 @@ returns-in-Ok g c = record {
       c.in-Ok.script (means_steps (map string_bytes c.args.words.now) _ c.in-Some-Steps.ensures) c.in-Ok.ensures.read c.run_script.result c.run_script.ensures.ran c.run_script.ensures.replies);
 }
 
-pub run_script-requires-clause-small : goal.run_script-requires-clause-small
-run_script-requires-clause-small g c = read_is_small c.in-Ok.ensures.read.0 c.in-Ok.script c.in-Ok.ensures.read.2
+pub run_script-requires-clause-within : goal.run_script-requires-clause-within
+run_script-requires-clause-within g c = let spelled = c.in-Ok.ensures.read.2 in c.scripts_are_within.ensures spelled.0 c.in-Ok.script spelled.2

@@ -1,0 +1,36 @@
+-- A script that was run to its end.
+use Rattle.std.specs.Prelude.{◌≡◌, ℕ, cond, ◌==◌, List, Option, None, Some, length, map, reverse, slice_get}
+use Rattle.std.specs.List.{filter_map, range_with_len}
+use Rattle.jr_script.specs.declared.script.Script.{Script}
+use Rattle.jr_script.specs.declared.script.SessionScript.{SessionScript}
+use Rattle.oak_machine.specs.declared.event.Event.{Event}
+use Rattle.oak_machine.specs.declared.event.Event.TheVariants as event
+use Rattle.oak_machine.specs.History.{History}
+use Rattle.oak_machine.specs.Runs.{IsRun}
+use Rattle.oak_world.specs.Worlds.{WorldOf}
+use Rattle.jcr_session.specs.declared.law.JcrLaw.{JcrLaw}
+use Rattle.jcr_session.specs.Sights.{says_of, starts_of}
+use Rattle.jr_work.specs.Schedules.{Scheduled}
+use Rattle.jr_work.specs.Stages.{law_of}
+
+-- the index of a reply of session s
+abbrev pub index_said : ℕ → Event → Option ℕ
+index_said s (event.Said t i text) = cond (t == s) (Some i) None
+index_said s _ = None
+
+-- the indexes of the replies of session s, in the order in which they were said
+abbrev pub indexes_said : History → ℕ → List ℕ
+indexes_said h s = filter_map (index_said s) (reverse h.past)
+
+-- the history is a run of the machine by the law of the script, over its cluster nodes and its sessions, in which each command of a session is answered once, in order; and the schedule cuts it
+pub record FollowsScript (script : Script) (h : History) : Type 0 where
+  pub clusters : h.clusters ≡ script.clusters
+  pub sessions : h.sessions ≡ map (λ s. s.cluster) script.sessions
+  pub run : IsRun (starts_of (law_of script)) (says_of (law_of script)) h
+  pub answered : (s : ℕ) (session : SessionScript) → slice_get script.sessions s ≡ Some session → indexes_said h s ≡ range_with_len 0 (length session.commands)
+  pub scheduled : Scheduled script h
+
+-- the script was run to its end: the world is of its law, and what its journal tells follows the script
+pub record HasRun (script : Script) (w : WorldOf JcrLaw) : Type 0 where
+  pub law : w.law ≡ law_of script
+  pub follows : FollowsScript script w.history

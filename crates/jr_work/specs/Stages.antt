@@ -1,0 +1,144 @@
+-- The world of a script with its sessions, and what their turns make of it.
+use Rattle.std.specs.Prelude.{◌≡◌, ℕ, Bool, true, false, ◌&&◌, ◌||◌, ◌==◌, ⊤, List, [], ◌∷◌, ◌++◌, length, map, nat_le, slice_get, Option, None, Some, IsTrue, IsFalse}
+use Rattle.std.specs.Borrow.{GName}
+use Rattle.std.specs.List.{list_any}
+use Rattle.std.specs.Option.{option_map_or}
+use Rattle.jr_path.specs.declared.text.Text.{Text}
+use Rattle.jr_rev.specs.declared.revision.Revision.{Revision}
+use Rattle.oak_machine.specs.declared.event.Event.TheVariants as event
+use Rattle.oak_machine.specs.declared.event.StepKind.{StepKind}
+use Rattle.oak_machine.specs.History.{Past}
+use Rattle.oak_machine.specs.Sessions.{is_reply_of}
+use Rattle.oak_port.specs.Ports.{Awaiting, Waits, Work}
+use Rattle.oak_world.specs.Seen.{shown_at, shown_work}
+use Rattle.oak_world.specs.Steps.{kind_due}
+use Rattle.oak_world.specs.Worlds.{WorldOf, work_in}
+use Rattle.jcr_session.specs.declared.law.JcrLaw.{JcrLaw}
+use Rattle.jcr_session.specs.declared.run.SessionRun.{SessionRun}
+use Rattle.jcr_session.specs.declared.turn.Turn.{Turn}
+use Rattle.jcr_session.specs.declared.turn.Turn.TheVariants as turn
+use Rattle.jcr_session.specs.Sights.{says_of, starts_of}
+use Rattle.jcr_session.specs.Standing.{IsSame, IsTurned, Stands, is_unread}
+use Rattle.jr_script.specs.declared.script.Entry.{Entry}
+use Rattle.jr_script.specs.declared.script.Entry.TheVariants as entry
+use Rattle.jr_script.specs.declared.script.Script.{Script}
+use Rattle.jr_work.specs.declared.flight.Flight.{Flight}
+use Rattle.jr_work.specs.declared.stage.Seat.{Seat}
+use Rattle.jr_work.specs.declared.stage.Stage.{Stage}
+use Rattle.jr_work.specs.Awaited.{IsSeenBut}
+use Rattle.jr_work.specs.Flights.{IsFlight, flight_with}
+use Rattle.jr_work.specs.Parts.{Part, Rule}
+use Rattle.jr_work.specs.Places.{history_at, is_over, is_waiting}
+use Rattle.jr_work.specs.SoFar.{IsCutSoFar, IsStepAt, IsUnderWay, is_last_due}
+
+-- ---- the stage
+
+-- the law of a script: the cluster node and the commands of each session
+abbrev pub law_of : Script → JcrLaw
+law_of script = record { sessions = map (λ s. (s.cluster, s.commands)) script.sessions }
+
+abbrev pub past_of : Stage → Past
+past_of stage = stage.world.history.past
+
+-- the kind of the next step of each session
+abbrev pub due_at : WorldOf JcrLaw → ℕ → Option StepKind
+due_at w s = kind_due (work_in w.actors s)
+
+-- the revision that a session awaits
+abbrev pub awaited : Work → Option Revision
+awaited (Awaiting r) = Some r
+awaited _ = None
+
+-- the seat is of session s, which stands where the history says; what is kept of its commit is what the history tells; and the head sees each of its commits that has ended but the one that it awaits
+pub record IsSeated (script : Script) (w : WorldOf JcrLaw) (s : ℕ) (seat : Seat) : Type 0 where
+  pub session : seat.run.session ≡ s
+  pub stands : (n : GName) → Stands w.law (shown_at n w s) seat.run
+  pub flight : IsFlight w.history.past s seat.flight
+  pub seen : IsSeenBut script w.history.past s (awaited (shown_work (work_in w.actors s)))
+
+-- the world is of the script's law, cluster nodes and sessions, each of which is seated
+pub record IsStage (stage : Stage) : Type 0 where
+  pub law : stage.world.law ≡ law_of stage.script
+  pub history : stage.world.history ≡ history_at stage.script (past_of stage)
+  pub seats : length stage.seats.items ≡ length stage.script.sessions
+  pub each : (s : ℕ) (seat : Seat) → slice_get stage.seats.items s ≡ Some seat → IsSeated stage.script stage.world s seat
+
+-- before any turn
+pub record IsBegun (script : Script) (stage : Stage) : Type 0 where
+  pub script_is : stage.script ≡ script
+  pub stage_is : IsStage stage
+  pub first : past_of stage ≡ []
+
+-- ---- a turn
+
+-- the events that a turn of s adds to a past, the newest first: a step, no reply among it; a reply; or none, where s waits or all its commands are answered and it has left
+abbrev pub Comes : Script → Past → ℕ → Option StepKind → Turn → Past → Type 0
+Comes script past s due (turn.Stepped k) own = IsStepAt script past s due own × IsFalse (list_any (is_reply_of s) own)
+Comes script past s due (turn.Said i) own = (text : Text) × (own ≡ event.Said s i text ∷ []) × IsStepAt script past s due own
+Comes script past s due (turn.Waiting q) own = (own ≡ []) × IsTrue (is_waiting script past s)
+Comes script past s due turn.Ended own = (own ≡ []) × IsTrue (is_over script past s)
+Comes script past s due turn.Memory own = ⊥
+
+-- a turn of session s was made, or none could be; what is due for the others stays, a last write is due still where no step was made, and who had ended has
+pub record HasCome (old new : Stage) (s : ℕ) (answer : Turn) : Type 0 where
+  pub script : new.script ≡ old.script
+  pub stage : IsStage new
+  pub own : Past
+  pub past : past_of new ≡ own ++ past_of old
+  pub others : (t : ℕ) → (t == s) ≡ false → due_at new.world t ≡ due_at old.world t
+  pub still : own ≡ [] → IsTrue (is_last_due (due_at old.world s)) → IsTrue (is_last_due (due_at new.world s))
+  pub over : (t : ℕ) → IsTrue (is_over old.script (past_of old) t) → IsTrue (is_over old.script (past_of new) t)
+  pub came : Comes old.script (past_of old) s (due_at old.world s) answer own
+
+-- the same of a session's own turn, in the world that it was shown; nothing, where memory was refused
+abbrev pub HasTurnedIn : GName → ℕ → WorldOf JcrLaw → WorldOf JcrLaw → SessionRun → SessionRun → Turn → Type 0
+HasTurnedIn n s old new run now turn.Memory = ⊤
+HasTurnedIn n s old new run now answer = (new.law ≡ old.law) × IsTurned old.law (shown_at n old s) (shown_at n new s) run now answer
+
+-- a reading step of session s, where one is due
+pub record HasRead (n : GName) (s : ℕ) (old new : WorldOf JcrLaw) (run now : SessionRun) : Type 0 where
+  pub law : new.law ≡ old.law
+  pub stands : Stands old.law (shown_at n new s) now
+  pub same : IsSame run now
+  pub beside : Waits (starts_of old.law) (says_of old.law) (shown_at n old s) (shown_at n new s) (shown_work (work_in new.actors s)) (shown_at n old s).room
+  pub still : IsFalse (is_unread run) → shown_at n new s ≡ shown_at n old s
+
+-- what is kept of a commit, by the event that the journal has last
+abbrev pub flight_behind : Past → Option Flight → Option Flight
+flight_behind [] o = o
+flight_behind (e ∷ past) o = flight_with e o
+
+-- ---- an entry
+
+-- a commit has come to where an entry waits for it
+abbrev pub has_come_by : Flight → Option StepKind → Entry → Bool
+has_come_by f due (entry.Draw s) = true
+has_come_by f due (entry.Write s n) = nat_le n f.written
+has_come_by f due (entry.Last s) = nat_le f.documents f.written && f.undecided && is_last_due due
+has_come_by f due e = false
+
+abbrev pub has_come : Stage → ℕ → Entry → Bool
+has_come stage s e = option_map_or (λ seat. option_map_or (λ f. has_come_by f (due_at stage.world s) e) seat.flight false) (slice_get stage.seats.items s) false
+
+-- an entry that waits for a commit of session s
+abbrev pub IsOfCommit : ℕ → Entry → Type 0
+IsOfCommit s (entry.Draw t) = t ≡ s
+IsOfCommit s (entry.Write t n) = t ≡ s
+IsOfCommit s (entry.Last t) = t ≡ s
+IsOfCommit s e = ⊥
+
+-- a part under way by its rule: its events since the first stage, the newest first, behind whatever parts the journal was cut into before
+pub record IsUnder (first stage : Stage) (rule : Rule) (part : Past) : Type 0 where
+  pub script : stage.script ≡ first.script
+  pub stage_is : IsStage stage
+  pub over : (t : ℕ) → IsTrue (is_over first.script (past_of first) t) → IsTrue (is_over first.script (past_of stage) t)
+  pub whole : past_of stage ≡ part ++ past_of first
+  pub way : IsUnderWay first.script rule (past_of first) part
+  pub cut : (parts : List Part) → IsCutSoFar first.script (due_at first.world) parts [] (past_of first) → IsCutSoFar first.script (due_at stage.world) parts part (past_of stage)
+
+-- turns were made that are a part by its rule, behind whatever parts the journal was cut into before
+pub record Closes (old new : Stage) (rule : Rule) : Type 0 where
+  pub script : new.script ≡ old.script
+  pub stage : IsStage new
+  pub over : (t : ℕ) → IsTrue (is_over old.script (past_of old) t) → IsTrue (is_over old.script (past_of new) t)
+  pub closes : (parts : List Part) → IsCutSoFar old.script (due_at old.world) parts [] (past_of old) → (p : Part) × (p.rule ≡ rule) × IsCutSoFar old.script (due_at new.world) (p ∷ parts) [] (past_of new)

@@ -1,0 +1,51 @@
+// What is kept of a commit in flight.
+ghost use Rattle.std.specs.Prelude.{◌≡◌, IfOk};
+ghost use Rattle.jr_work.specs.Flights.{flight_with};
+
+use jr_rev::Revision;
+use oak_clash::marked_paths;
+use oak_machine::{Event, StepKind};
+use std::alloc::{AllocError, Global};
+
+// A commit in flight: its revision, how many documents it has to write, and how many of them are written. While it is undecided, it is
+// neither committed nor refused, and nothing of it is undone.
+#[derive(Clone, Copy, Debug, PartialEq, Eq)]
+pub(crate) struct Flight {
+    pub revision: Revision,
+    pub documents: usize,
+    pub written: usize,
+    pub undecided: bool,
+}
+
+// What is kept once this event of the session is the newest one.
+pub(crate) fn flight_after(
+    alloc: Global,
+    flight: Option<Flight>,
+    event: &Event,
+) -> Result<Option<Flight>, AllocError>
+    ensures { IfOk result (λ after. after ≡ flight_with event.now flight) }
+{
+    match event {
+        Event::Draw(draw) => Ok(Some(Flight {
+            revision: draw.revision,
+            documents: marked_paths(alloc, draw.marks.as_slice())?.len(),
+            written: 0,
+            undecided: true,
+        })),
+        Event::Went(_, StepKind::Write) => match flight {
+            Some(flight) => Ok(Some(Flight {
+                written: flight.written.checked_add(1).ok_or(AllocError)?,
+                ..flight
+            })),
+            None => Ok(None),
+        },
+        Event::Commit(_) | Event::Refuse(_, _, _) | Event::Went(_, StepKind::Undo) => {
+            Ok(flight.map(|flight| Flight {
+                undecided: false,
+                ..flight
+            }))
+        }
+        Event::End(_) | Event::Head(_, _) => Ok(None),
+        _ => Ok(flight),
+    }
+}

@@ -1,0 +1,263 @@
+// The world of a script with its sessions, and the turns that an entry of a schedule asks for.
+ghost use Rattle.std.specs.Prelude.{◌≡◌, ◌<◌, ℕ, IfOk, OnOk, List, IsTrue, is_some, length, slice_get, ◌∷◌};
+ghost use Rattle.jr_script.specs.Bounds.{IsWithin};
+ghost use Rattle.jr_script.specs.Schedules.{IsEntryWithin, session_named};
+ghost use Rattle.oak_world.specs.Seen.{shown_at};
+ghost use Rattle.jcr_session.specs.Standing.{Stands};
+ghost use Rattle.jr_work.specs.Places.{flying_sessions};
+ghost use Rattle.jr_work.specs.Parts.{Part, Rule, by_entry, to_end, to_reply};
+ghost use Rattle.jr_script.specs.declared.script.Entry.TheVariants as entry;
+ghost use Rattle.jr_work.specs.Stages.{Closes, HasCome, HasRead, HasTurnedIn, IsBegun, IsOfCommit, IsStage, flight_behind, has_come, law_of};
+
+use crate::flight::{Flight, flight_after};
+use jcr_session::{JcrLaw, SessionRun, Turn};
+use jr_path::{DeepCopy, List};
+use jr_script::{Entry, Script};
+use oak_machine::StepKind;
+use oak_world::{SoloPort, World};
+use std::alloc::{AllocError, Global};
+use std::collections::BTreeMap;
+
+// The world, the sessions by number, and the script that they are of.
+#[derive(Drop)]
+pub(crate) struct Stage {
+    pub alloc: Global,
+    pub script: Script,
+    pub world: World<JcrLaw>,
+    pub seats: Vec<Seat>,
+}
+
+// A session, and what it has in flight.
+#[derive(Drop)]
+pub(crate) struct Seat {
+    pub run: SessionRun,
+    pub flight: Option<Flight>,
+}
+
+impl Stage {
+    // The sessions of a script before any turn.
+    pub(crate) fn new(alloc: Global, script: Script) -> Result<Stage, AllocError>
+        requires { IsWithin script }
+        ensures { IfOk result (IsBegun script) }
+    {
+        let mut nodes = Vec::new(alloc);
+        let mut seats = Vec::new(alloc);
+        for (s, session) in script.sessions.as_slice().iter().enumerate() {
+            nodes.push(session.cluster)?;
+            let run = SessionRun::new(alloc, s as u32, session.commands.copy()?)?;
+            seats.push(Seat { run, flight: None })?;
+        }
+        let law = law_of(alloc, &script)?;
+        let world = World::new(alloc, law, script.clusters, nodes.as_slice())?;
+        Ok(Stage {
+            alloc,
+            script,
+            world,
+            seats,
+        })
+    }
+
+    // The turns for an entry of the schedule.
+    pub(crate) fn play(&mut self, entry: Entry) -> Result<(), AllocError>
+        requires stage { IsStage self.old }
+        requires entry { IsEntryWithin (length self.old.seats.items) entry }
+        ensures { OnOk result (Closes self.old self.new (by_entry entry)) }
+    {
+        match entry {
+            Entry::Turn(s) => {
+                self.turn(s)?;
+                Ok(())
+            }
+            Entry::Say(s, count) => self.say(s, count),
+            Entry::Read(s) => self.read(s),
+            Entry::Draw(s) | Entry::Write(s, _) | Entry::Last(s) => self.go_to(s, entry),
+        }
+    }
+
+    // Turns of a session until so many more replies are said, or it rests.
+    fn say(&mut self, s: u32, count: u32) -> Result<(), AllocError>
+        requires stage { IsStage self.old }
+        requires there { s < length self.old.seats.items }
+        ensures { OnOk result (Closes self.old self.new (by_entry (entry.Say s count))) }
+    {
+        let mut said = 0;
+        for _ in 0..u64::MAX {
+            if said == count {
+                return Ok(());
+            }
+            match self.turn(s)? {
+                Turn::Said(_) => said += 1,
+                Turn::Stepped(_) => {}
+                _ => return Ok(()),
+            }
+        }
+        Err(AllocError)
+    }
+
+    // Turns of a session until its commit has come to where an entry waits for it, a reply is said, or the session rests.
+    fn go_to(&mut self, s: u32, entry: Entry) -> Result<(), AllocError>
+        requires stage { IsStage self.old }
+        requires there { s < length self.old.seats.items }
+        requires named { IsOfCommit s entry }
+        ensures { OnOk result (Closes self.old self.new (by_entry entry)) }
+    {
+        for _ in 0..u64::MAX {
+            if self.has_come(s, entry) {
+                return Ok(());
+            }
+            match self.turn(s)? {
+                Turn::Stepped(_) => {}
+                _ => return Ok(()),
+            }
+        }
+        Err(AllocError)
+    }
+
+    // Whether the commit of a session has come to where an entry waits for it: its revision is drawn, so many documents are written, or only
+    // the last write is left.
+    fn has_come(&self, s: u32, entry: Entry) -> bool
+        requires there { s < length self.now.seats.items }
+        requires seats { length self.now.seats.items ≡ length self.now.world.history.sessions }
+        ensures { result ≡ has_come self.now s entry }
+    {
+        let Some(flight) = &self.seats[s as usize].flight else {
+            return false;
+        };
+        match entry {
+            Entry::Draw(_) => true,
+            Entry::Write(_, count) => count as usize <= flight.written,
+            Entry::Last(_) => {
+                let all = flight.documents <= flight.written;
+                let last = self.world.due(s) == Some(StepKind::Last);
+                all && flight.undecided && last
+            }
+            _ => false,
+        }
+    }
+
+    // A reading step of a session, where one is due.
+    fn read(&mut self, s: u32) -> Result<(), AllocError>
+        requires stage { IsStage self.old }
+        requires there { s < length self.old.seats.items }
+        ensures { OnOk result (Closes self.old self.new (by_entry (entry.Read s))) }
+    {
+        let seat = &mut self.seats[s as usize];
+        read_one(&mut self.world, &mut seat.run, s)?;
+        Ok(())
+    }
+
+    // Turns of a session to its next reply. Its commit is in flight, and all commits of its node that were drawn before have ended: so the head
+    // sees it once it has ended, and the session never waits.
+    pub(crate) fn reply(&mut self, s: u32) -> Result<(), AllocError>
+        requires stage { IsStage self.old }
+        requires there { s < length self.old.seats.items }
+        ensures { OnOk result (Closes self.old self.new (to_reply s)) }
+    {
+        for _ in 0..u64::MAX {
+            match self.turn(s)? {
+                Turn::Said(_) => return Ok(()),
+                Turn::Stepped(_) => {}
+                _ => return Err(AllocError),
+            }
+        }
+        Err(AllocError)
+    }
+
+    // Turns of a session to its end. No commit of another session is in flight: so the head sees each of its own once that has ended, and the
+    // session never waits.
+    pub(crate) fn finish(&mut self, s: u32) -> Result<(), AllocError>
+        requires stage { IsStage self.old }
+        requires there { s < length self.old.seats.items }
+        ensures { OnOk result (Closes self.old self.new (to_end s)) }
+    {
+        for _ in 0..u64::MAX {
+            match self.turn(s)? {
+                Turn::Ended => return Ok(()),
+                Turn::Waiting(_) => return Err(AllocError),
+                _ => {}
+            }
+        }
+        Err(AllocError)
+    }
+
+    // The sessions whose commits are in flight, in ascending order of their revisions.
+    pub(crate) fn flying(&self) -> Result<List<u32>, AllocError>
+        requires { IsStage self.now }
+        ensures { IfOk result (λ sessions. sessions ≡ flying_sessions self.now.world.history.past) }
+    {
+        let mut flying = BTreeMap::new(self.alloc);
+        for (s, seat) in self.seats.iter().enumerate() {
+            if let Some(flight) = &seat.flight {
+                flying.insert(flight.revision, s as u32)?;
+            }
+        }
+        let mut sessions = List::new(self.alloc);
+        for (_, s) in flying.iter() {
+            sessions.push(*s)?;
+        }
+        Ok(sessions)
+    }
+
+    // A turn of a session. What is kept of its commit goes by the event that the turn added last.
+    fn turn(&mut self, s: u32) -> Result<Turn, AllocError>
+        requires stage { IsStage self.old }
+        requires there { s < length self.old.seats.items }
+        ensures { IfOk result (HasCome self.old self.new s) }
+    {
+        let seat = &mut self.seats[s as usize];
+        let turn = turn_once(&mut self.world, &mut seat.run, s);
+        match turn {
+            Turn::Memory => Err(AllocError),
+            Turn::Stepped(_) => {
+                seat.flight = flight_then(self.alloc, seat.flight, &self.world)?;
+                Ok(turn)
+            }
+            _ => Ok(turn),
+        }
+    }
+}
+
+// The law of a script: the cluster node and the commands of each session.
+fn law_of(alloc: Global, script: &Script) -> Result<JcrLaw, AllocError>
+    ensures { IfOk result (λ law. law ≡ law_of script.now) }
+{
+    let mut sessions = List::new(alloc);
+    for session in script.sessions.as_slice() {
+        sessions.push((session.cluster, session.commands.copy()?))?;
+    }
+    Ok(JcrLaw { sessions })
+}
+
+// A turn of a session in its world.
+fn turn_once(world: &mut World<JcrLaw>, run: &mut SessionRun, s: u32) -> Turn
+    requires there { IsTrue (is_some (slice_get world.old.history.sessions s)) }
+    requires stands { Stands world.old.law (shown_at world.ghost_name world.old s) run.old }
+    ensures { HasTurnedIn world.entry.ghost_name s world.old world.new run.old run.new result }
+{
+    let mut port = SoloPort::new(world, s);
+    run.turn(&mut port)
+}
+
+// A reading step of a session in its world, where one is due.
+fn read_one(world: &mut World<JcrLaw>, run: &mut SessionRun, s: u32) -> Result<bool, AllocError>
+    requires there { IsTrue (is_some (slice_get world.old.history.sessions s)) }
+    requires stands { Stands world.old.law (shown_at world.ghost_name world.old s) run.old }
+    ensures { OnOk result (HasRead world.entry.ghost_name s world.old world.new run.old run.new) }
+{
+    let mut port = SoloPort::new(world, s);
+    run.read(&mut port)
+}
+
+// What is kept of a commit behind a step, by the event that the journal has last.
+fn flight_then(
+    alloc: Global,
+    flight: Option<Flight>,
+    world: &World<JcrLaw>,
+) -> Result<Option<Flight>, AllocError>
+    ensures { IfOk result (λ after. after ≡ flight_behind world.now.history.past flight) }
+{
+    match world.journal().events.as_slice().last() {
+        Some(event) => flight_after(alloc, flight, event),
+        None => Ok(flight),
+    }
+}
