@@ -1,12 +1,15 @@
 // A world under a law.
-ghost use Rattle.std.specs.Prelude.{◌≡◌, ◌≢◌, ◌≤◌, ◌↔◌, Some, IfOk, OnErr, OnOk, IsFalse, IsSome, IsTrue, is_some, length, map, slice_get};
+ghost use Rattle.std.specs.Prelude.{◌≡◌, ◌≢◌, ◌⊎◌, ◌≤◌, ◌↔◌, Some, IfOk, OnErr, OnOk, IsFalse, IsSome, IsTrue, is_some, length, map, slice_get};
 ghost use Rattle.std.specs.Borrow.{GName};
 ghost use Rattle.std.specs.List.{range_with_len};
 ghost use Rattle.std.specs.Option.{option_map};
+ghost use Rattle.jr_path.specs.declared.path.Item.{Item};
 ghost use Rattle.jr_path.specs.declared.path.Path.{Path};
+ghost use Rattle.jr_rev.specs.declared.revision.Revision.{Revision};
 ghost use Rattle.jr_rev.specs.Vectors.{start};
 ghost use Rattle.jr_tree.specs.Trees.{node_at};
-ghost use Rattle.oak_machine.specs.Commits.{IsClosed, IsSettled, tree_at};
+ghost use Rattle.oak_doc.specs.declared.document.Document.{Document};
+ghost use Rattle.oak_machine.specs.Commits.{IsClosed, IsSettled, are_clashing, is_committed, is_ended, is_in_base, refusal_of, tree_at};
 ghost use Rattle.oak_machine.specs.History.{history_of};
 ghost use Rattle.oak_machine.specs.Runs.{AreNodes, IsRun};
 ghost use Rattle.oak_machine.specs.Sessions.{base_of, has_left};
@@ -14,10 +17,12 @@ ghost use Rattle.oak_node.specs.Memory.{begun};
 ghost use Rattle.oak_node.specs.Pins.{pin_of};
 ghost use Rattle.oak_port.specs.Ports.{MayBegin, Steps};
 ghost use Rattle.oak_read.specs.Meaning.{documents_in, found_node};
-ghost use Rattle.core_world.specs.Kept.{IsKept};
-ghost use Rattle.core_world.specs.States.{memory_of};
+ghost use Rattle.core_clash.specs.Sound.{Cause};
+ghost use Rattle.core_world.specs.Kept.{IsFreeOf, IsKept};
+ghost use Rattle.core_world.specs.States.{memory_of, nodes_in};
 ghost use Rattle.oak_world.specs.declared.actor.Work.{Work};
 ghost use Rattle.oak_world.specs.declared.actor.Work.TheVariants as work;
+ghost use Rattle.oak_world.specs.Clashes.{MeetsNone, Wanted};
 ghost use Rattle.oak_world.specs.Seen.{shown_at};
 ghost use Rattle.oak_world.specs.Steps.{Begins, IsIdle, MaySay, Plays, StepsIn, Turns, kind_due};
 ghost use Rattle.oak_world.specs.Worlds.{actor_in, said_in, start_world, state_of, with_reply, with_work, work_in};
@@ -100,20 +105,27 @@ impl<L: Law + Drop> World<L> {
         &self.law
     }
 
-    /// The events so far: a run of the machine by the law. Each of its sessions has a seat.
+    /// The events so far: a run of the machine by the law. Each of its sessions has a seat. Of two commits that are made and
+    /// clash, the base of one sees the other. A refusal names its cause: another's commit, outside the base, made or under way.
+    /// What has ended and clashes with no other draw outside its base is committed, or wanted memory before its commit point.
     pub fn journal(&self) -> &Journal
         ensures journal { history_of result.now ≡ self.now.history }
         ensures run { IsRun (L.may_start self.now.law) (L.may_say self.now.law) self.now.history }
         ensures seats { length self.now.actors ≡ length self.now.history.sessions }
+        ensures apart { (r o : Revision) → (r ≡ o → ⊥) → IsTrue (is_committed self.now.history.past r) → IsTrue (is_committed self.now.history.past o) → IsTrue (are_clashing self.now.history.past r o) → IsTrue (is_in_base self.now.history.past r o) ⊎ IsTrue (is_in_base self.now.history.past o r) }
+        ensures causes { (r : Revision) (item : Item) (o : Revision) → refusal_of self.now.history.past r ≡ Some (item, o) → Cause self.now.history.past r item o }
+        ensures through { (r : Revision) → IsTrue (is_ended self.now.history.past r) → MeetsNone self.now.history.past r → IsTrue (is_committed self.now.history.past r) ⊎ Wanted self.now.history.past r }
     {
         &self.journal
     }
 
     /// The documents. With the journal, the memories and the sessions they keep what each world keeps: the documents hold what
     /// the journal tells, the committers are sound, the memories are those of the journal, and the readers read the tree at their pins.
+    /// Of what has ended without a commit no document of a node has an entry but collisions.
     pub fn documents(&self) -> &DocTable
         ensures table { result.now ≡ self.now.table }
         ensures kept { IsKept (L.may_start self.now.law) (L.may_say self.now.law) (state_of self.now) }
+        ensures undone { (r : Revision) (p : Path) (d : Document) → IsTrue (is_ended self.now.history.past r) → IsFalse (is_committed self.now.history.past r) → nodes_in self.now.table p ≡ Some d → IsFreeOf r d }
     {
         &self.table
     }
