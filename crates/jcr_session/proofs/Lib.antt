@@ -17,3 +17,5 @@ mod Answering
 mod Drawing
 pub mod Staying
 mod Lengths
+mod Seeing
+mod Laws

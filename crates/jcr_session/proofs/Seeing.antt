@@ -1,0 +1,50 @@
+-- What a session sees of the tree, case by case, and what it replies by its view.
+use Rattle.std.proofs.Common.{◌≡◌, ◌⊎◌, inl, inr, ℕ, List, [], ◌∷◌, length, Result, IfOk, refl, sym, ap, ◌∙◌, subst}
+use Rattle.jr_path.specs.declared.path.Path.{Path}
+use Rattle.jr_path.specs.declared.text.Text.{Text}
+use Rattle.jr_tree.specs.declared.shared.Datum.{Datum}
+use Rattle.jr_tree.specs.declared.shared.Refusal.{Refusal}
+use Rattle.jr_tree.specs.Trees.{IsTree, Nodes}
+use Rattle.oak_port.specs.Ports.{Idle, Shown}
+use Rattle.jcr_trans.specs.declared.command.Command.{Command}
+use Rattle.jcr_trans.specs.Answers.{Refused}
+use Rattle.jcr_trans.specs.Texts.{answer_text}
+use Rattle.jcr_trans.specs.Views.{IsMemory, answered}
+use Rattle.core_law.proofs.Refused.{refused_keeps}
+use Rattle.jcr_session.specs.declared.sight.Seen.{Seen}
+use Rattle.jcr_session.specs.declared.sight.Sight.{Sight}
+use Rattle.jcr_session.specs.declared.sight.Sight.TheVariants as sight
+use Rattle.jcr_session.specs.declared.sight.Walk.{Walk}
+use Rattle.jcr_session.specs.Sights.{IsPart, IsWhole, Looks, Reads}
+use Rattle.jcr_session.specs.Standing.{IsReply}
+use Rattle.jcr_session.proofs.Answering.{made_if}
+use Rattle.jcr_session.proofs.Reading.{base_at}
+use Rattle.jcr_session.proofs.Walking.{part_last}
+
+-- ---- what is seen, by its case
+
+module _ (p : Shown) (x : Sight) (looks : Looks p x) where
+  pub looks_unread : x ≡ sight.Unread → p.work ≡ Idle
+  looks_unread is = subst (λ (y : Sight). Looks p y) is looks
+
+  pub looks_reading : (walk : Walk) → x ≡ sight.Reading walk → Reads p walk
+  looks_reading walk is = subst (λ (y : Sight). Looks p y) is looks
+
+  -- nothing is due where the whole tree is seen
+  pub looks_seen : {A : Type 0} (seen : Seen) → x ≡ sight.Seen seen → A
+  looks_seen seen is = absurd (subst (λ (y : Sight). Looks p y) is looks)
+
+-- no path is left: the whole tree is seen
+pub whole_seen : (p : Shown) → IsTree (base_at p) → (tree view : Nodes) (left : List Path) → p.work ≡ Idle → length left ≡ 0 → view ≡ tree → IsPart (base_at p) tree left → IsWhole p (record { base = tree; view = view })
+whole_seen p is tree view left idle none same part = record { idle = idle; base = part_last (base_at p) is tree left none part; view = same }
+
+-- ---- the reply of a command that was refused
+
+refused_by : (c : Command) (old new : Nodes) (r : Refusal) (text : Text) → new ≡ old → text ≡ answer_text (Refused r.number r.parts) → IsMemory r ⊎ (answered c old ≡ Refused r.number r.parts) → IsReply c old new text
+refused_by c old new r text kept told (inl memory) =
+    inr (told ∙ (ap (λ n. answer_text (Refused n r.parts)) memory.0 ∙ ap (λ (ds : List Datum). answer_text (Refused 16 ds)) memory.1), kept)
+refused_by c old new r text kept told (inr refused) = inl (told ∙ ap answer_text (sym refused), kept ∙ sym (refused_keeps c old r.number r.parts refused))
+
+pub refused_reply : {T E : Type 0} (bytes : T → List ℕ) (made : Result T E) (c : Command) (old new : Nodes) (r : Refusal) → new ≡ old → IsMemory r ⊎ (answered c old ≡ Refused r.number r.parts) → IfOk made (λ t. bytes t ≡ answer_text (Refused r.number r.parts)) → IfOk made (λ t. IsReply c old new (bytes t))
+refused_reply bytes made c old new r kept refused =
+    made_if made (λ t. bytes t ≡ answer_text (Refused r.number r.parts)) (λ t. IsReply c old new (bytes t)) (λ t told. refused_by c old new r (bytes t) kept told refused)
