@@ -19,3 +19,4 @@ pub mod Staying
 mod Lengths
 mod Seeing
 mod Laws
+mod Calling

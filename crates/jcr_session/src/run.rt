@@ -218,12 +218,12 @@ impl SessionRun {
         let Ok(()) = port.start(Task::Login) else {
             return Turn::Memory;
         };
-        match port.step() {
-            StepOut::Ready(TaskEnd::Pinned(_)) => {
+        match pinned(port.step()) {
+            Some(_) => {
                 self.phase = Phase::Between;
                 Turn::Stepped(StepKind::Login)
             }
-            _ => Turn::Memory,
+            None => Turn::Memory,
         }
     }
 
