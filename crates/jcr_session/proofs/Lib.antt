@@ -18,5 +18,5 @@ mod Drawing
 pub mod Staying
 mod Lengths
 mod Seeing
-mod Laws
 mod Calling
+mod Beginning

@@ -5,20 +5,28 @@ use Rattle.jr_path.specs.declared.text.Text.{Text}
 use Rattle.jr_tree.specs.declared.shared.Datum.{Datum}
 use Rattle.jr_tree.specs.declared.shared.Refusal.{Refusal}
 use Rattle.jr_tree.specs.Trees.{IsTree, Nodes}
-use Rattle.oak_port.specs.Ports.{Idle, Shown}
+use Rattle.oak_port.specs.Ports.{Idle, Shown, Steps}
+use Rattle.oak_port.specs.declared.task.StepOut.{StepOut}
+use Rattle.oak_port.specs.declared.task.StepOut.TheVariants as out
 use Rattle.jcr_trans.specs.declared.command.Command.{Command}
 use Rattle.jcr_trans.specs.Answers.{Refused}
 use Rattle.jcr_trans.specs.Texts.{answer_text}
 use Rattle.jcr_trans.specs.Views.{IsMemory, answered}
 use Rattle.core_law.proofs.Refused.{refused_keeps}
+use Rattle.jcr_session.specs.declared.law.JcrLaw.{JcrLaw}
+use Rattle.jcr_session.specs.declared.run.Phase.TheVariants as phase
+use Rattle.jcr_session.specs.declared.run.SessionRun.{SessionRun}
 use Rattle.jcr_session.specs.declared.sight.Seen.{Seen}
 use Rattle.jcr_session.specs.declared.sight.Sight.{Sight}
 use Rattle.jcr_session.specs.declared.sight.Sight.TheVariants as sight
 use Rattle.jcr_session.specs.declared.sight.Walk.{Walk}
-use Rattle.jcr_session.specs.Sights.{IsPart, IsWhole, Looks, Reads}
-use Rattle.jcr_session.specs.Standing.{IsReply}
+use Rattle.jcr_session.specs.declared.turn.Turn.{Turn}
+use Rattle.jcr_session.specs.Sights.{IsPart, IsWhole, Looks, Reads, says_of, starts_of}
+use Rattle.jcr_session.specs.Standing.{HasTurned, IsReply, Stands, phase_by, turn_by}
 use Rattle.jcr_session.proofs.Answering.{made_if}
+use Rattle.jcr_session.proofs.Calling.{steps_law}
 use Rattle.jcr_session.proofs.Reading.{base_at}
+use Rattle.jcr_session.proofs.Turning.{commit_twice}
 use Rattle.jcr_session.proofs.Walking.{part_last}
 
 -- ---- what is seen, by its case
@@ -48,3 +56,13 @@ refused_by c old new r text kept told (inr refused) = inl (told ∙ ap answer_te
 pub refused_reply : {T E : Type 0} (bytes : T → List ℕ) (made : Result T E) (c : Command) (old new : Nodes) (r : Refusal) → new ≡ old → IsMemory r ⊎ (answered c old ≡ Refused r.number r.parts) → IfOk made (λ t. bytes t ≡ answer_text (Refused r.number r.parts)) → IfOk made (λ t. IsReply c old new (bytes t))
 refused_reply bytes made c old new r kept refused =
     made_if made (λ t. bytes t ≡ answer_text (Refused r.number r.parts)) (λ t. IsReply c old new (bytes t)) (λ t told. refused_by c old new r (bytes t) kept told refused)
+
+-- ---- a step of a commit for which memory was refused, and one more
+
+pub memory_first : (law : JcrLaw) (old mid : Shown) (answer : StepOut) → answer ≡ out.Memory → Steps (starts_of law) (says_of law) old mid answer → Steps (starts_of law) (says_of law) old mid out.Memory
+memory_first law old mid answer is steps = subst (λ (a : StepOut). Steps (starts_of law) (says_of law) old mid a) is steps
+
+pub commit_again : (law later : JcrLaw) → later ≡ law → (old mid new : Shown) (first second : StepOut) (run now : SessionRun) (t : Turn) → Stands law old run → run.phase ≡ phase.Saving → first ≡ out.Memory → Steps (starts_of law) (says_of law) old mid first
+    → Steps (starts_of later) (says_of later) mid new second → now ≡ record run { phase = phase_by second run.phase } → t ≡ turn_by second → HasTurned law old new run now t
+commit_again law later same old mid new first second run now t stands saving memory once twice is told =
+    commit_twice law old mid new second run now t stands saving (memory_first law old mid first memory once) (steps_law law later same mid new second twice) is told
