@@ -1,4 +1,4 @@
-use Rattle.std.proofs.Common.{length, subst}
+use Rattle.std.proofs.Common.{◌∙◌, length, subst}
 use Rattle.jr_path.specs.declared.text.Text.{Text}
 use Rattle.oak_port.specs.Ports.{HasRoom}
 use Rattle.oak_port.specs.declared.task.CommitEnd.TheVariants as commit
@@ -10,7 +10,7 @@ use Rattle.jcr_session.proofs.run.SessionRun.say_clash.Goals as goal
 -- the clash
 pub say_or_memory-requires-clause-answer : goal.say_or_memory-requires-clause-answer
 say_or_memory-requires-clause-answer g c =
-    ended_clash (g.P.Port.law c.args.port.now) (g.P.Port.shown c.args.port.now) c.args.self.now c.args.item c.args.other c.requires.stands c.as_str.result.now c.in-Ok.ensures
+    ended_clash (g.P.Port.law c.args.port.now) (g.P.Port.shown c.args.port.now) c.args.self.now c.args.item c.args.other c.requires.stands c.as_str.result.now (c.as_str.ensures.value ∙ c.in-Ok.ensures)
 
 pub say_or_memory-requires-clause-memory : goal.say_or_memory-requires-clause-memory
 say_or_memory-requires-clause-memory g c =

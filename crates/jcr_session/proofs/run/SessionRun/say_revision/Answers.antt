@@ -1,4 +1,4 @@
-use Rattle.std.proofs.Common.{refl, length, subst, sym}
+use Rattle.std.proofs.Common.{◌∙◌, refl, length, subst, sym}
 use Rattle.jr_path.specs.declared.text.Text.{Text}
 use Rattle.oak_port.specs.Ports.{HasRoom}
 use Rattle.oak_port.specs.declared.task.CommitEnd.TheVariants as commit
@@ -14,11 +14,11 @@ use Rattle.jcr_session.proofs.run.SessionRun.say_revision.Goals as goal
 
 pub say_kept-requires-clause-answer : goal.say_kept-requires-clause-answer
 say_kept-requires-clause-answer g c =
-    ended_revision (g.P.Port.law c.args.port.now) (g.P.Port.shown c.args.port.now) c.args.self.now c.args.r c.requires.stands _ c.as_str.result.now refl c.in-Ok.ensures
+    ended_revision (g.P.Port.law c.args.port.now) (g.P.Port.shown c.args.port.now) c.args.self.now c.args.r c.requires.stands _ c.as_str.result.now refl (c.as_str.ensures.value ∙ c.in-Ok.ensures)
 
 pub say_kept-requires-clause-room : goal.say_kept-requires-clause-room
 say_kept-requires-clause-room g c =
-    subst (λ (text : Text). HasRoom (g.P.Port.shown c.args.port.now).room (length text)) (sym c.in-Ok.ensures)
+    subst (λ (text : Text). HasRoom (g.P.Port.shown c.args.port.now).room (length text)) (sym (c.as_str.ensures.value ∙ c.in-Ok.ensures))
     (room_less (g.P.Port.shown c.args.port.now).room 40 (length (answer_text (ShowsRevision c.args.r))) (short_reply c.args.r (record { time = c.ranges.r.time; counter = c.ranges.r.counter; cluster = c.ranges.r.cluster })) (ended_room (g.P.Port.law c.args.port.now) (g.P.Port.shown c.args.port.now) c.args.self.now (commit.Committed c.args.r) c.requires.stands))
 
 pub returns-in-Ok-clause-turned : goal.returns-in-Ok-clause-turned
