@@ -1,5 +1,5 @@
 -- What a session sees of the tree, case by case, and what it replies by its view.
-use Rattle.std.proofs.Common.{◌≡◌, ◌⊎◌, inl, inr, ℕ, List, [], ◌∷◌, length, Result, IfOk, refl, sym, ap, ◌∙◌, subst}
+use Rattle.std.proofs.Common.{◌≡◌, ◌⊎◌, inl, inr, ℕ, List, [], ◌∷◌, length, Option, Some, Result, IfOk, OnErr, refl, sym, ap, ◌∙◌, subst}
 use Rattle.jr_path.specs.declared.path.Path.{Path}
 use Rattle.jr_path.specs.declared.text.Text.{Text}
 use Rattle.jr_tree.specs.declared.shared.Datum.{Datum}
@@ -22,8 +22,8 @@ use Rattle.jcr_session.specs.declared.sight.Sight.TheVariants as sight
 use Rattle.jcr_session.specs.declared.sight.Walk.{Walk}
 use Rattle.jcr_session.specs.declared.turn.Turn.{Turn}
 use Rattle.jcr_session.specs.Sights.{IsPart, IsWhole, Looks, Reads, says_of, starts_of}
-use Rattle.jcr_session.specs.Standing.{HasTurned, IsReply, Stands, phase_by, turn_by}
-use Rattle.jcr_session.proofs.Answering.{made_if}
+use Rattle.jcr_session.specs.Standing.{HasTurned, IsReply, RepliesBy, Stands, phase_by, turn_by}
+use Rattle.jcr_session.proofs.Answering.{made_if, made_or}
 use Rattle.jcr_session.proofs.Calling.{steps_law}
 use Rattle.jcr_session.proofs.Reading.{base_at}
 use Rattle.jcr_session.proofs.Turning.{commit_twice}
@@ -56,6 +56,21 @@ refused_by c old new r text kept told (inr refused) = inl (told ∙ ap answer_te
 pub refused_reply : {T E : Type 0} (bytes : T → List ℕ) (made : Result T E) (c : Command) (old new : Nodes) (r : Refusal) → new ≡ old → IsMemory r ⊎ (answered c old ≡ Refused r.number r.parts) → IfOk made (λ t. bytes t ≡ answer_text (Refused r.number r.parts)) → IfOk made (λ t. IsReply c old new (bytes t))
 refused_reply bytes made c old new r kept refused =
     made_if made (λ t. bytes t ≡ answer_text (Refused r.number r.parts)) (λ t. IsReply c old new (bytes t)) (λ t told. refused_by c old new r (bytes t) kept told refused)
+
+-- ---- the reply to the next command
+
+pub replies_seen : {T E : Type 0} (bytes : T → List ℕ) (made : Result T E) (o : Option Command) (x y : Sight) (c : Command) (a b : Seen) → o ≡ Some c → x ≡ sight.Seen a → y ≡ sight.Seen b → b.base ≡ a.base → IfOk made (λ t. IsReply c a.view b.view (bytes t)) → IfOk made (λ t. RepliesBy o x y (bytes t))
+replies_seen bytes made o x y c a b at old new base =
+    made_if made (λ t. IsReply c a.view b.view (bytes t)) (λ t. RepliesBy o x y (bytes t)) (λ t h. by (bytes t) h)
+  where
+    by : (text : Text) → IsReply c a.view b.view text → RepliesBy o x y text
+    by text h =
+        subst (λ (d : Option Command). RepliesBy d x y text) (sym at)
+        (subst (λ (z : Sight). RepliesBy (Some c) z y text) (sym old) (subst (λ (z : Sight). RepliesBy (Some c) (sight.Seen a) z text) (sym new) (base, h)))
+
+pub seen_stays : {T E : Type 0} (made : Result T E) (x y : Sight) (a b : Seen) → x ≡ sight.Seen a → y ≡ sight.Seen b → b.base ≡ a.base → OnErr made (b.view ≡ a.view) → OnErr made (y ≡ x)
+seen_stays made x y a b old new base =
+    made_or made (b.view ≡ a.view) (y ≡ x) (λ view. new ∙ (ap (λ (s : Seen). sight.Seen s) (ap (λ (t : Nodes). record b { base = t }) base ∙ ap (λ (t : Nodes). record a { view = t }) view) ∙ sym old))
 
 -- ---- a step of a commit for which memory was refused, and one more
 
