@@ -17,4 +17,6 @@ mod Answering
 mod Drawing
 pub mod Staying
 mod Lengths
+mod Seeing
 mod Calling
+mod Beginning
