@@ -62,15 +62,18 @@ module _ (s : Core) (d : Draw) (item : Item) (other : Revision) where
         before (inl h) = inl (or_right (is_same o r) _ h)
         before (inr h) = inr h
 
-    -- the pair that a refusal names
-    named : (i : Item) (x : Revision) → Some (item, other) ≡ Some (i, x) → (item, other) ≡ (i, x)
-    named i x h = ap (λ (o : Option (Item × Revision)). unwrap_or o (item, other)) h
+    -- what a refusal names
+    named : (c : Item × Revision) (i : Item) (x : Revision) → Some c ≡ Some (i, x) → (c.0 ≡ i) × (c.1 ≡ x)
+    named c i x h = (ap (λ (o : Option (Item × Revision)). (unwrap_or o c).0) h, ap (λ (o : Option (Item × Revision)). (unwrap_or o c).1) h)
 
     refusal : (o : Revision) (i : Item) (x : Revision) → refusal_of t.past o ≡ Some (i, x) → Cause t.past o i x
     refusal o i x h = by (is_same o r) refl h
       where
         by : (b : Bool) → is_same o r ≡ b → cond b (Some (item, other)) (refusal_of s.past o) ≡ Some (i, x) → Cause t.past o i x
-        by true same k = subst (λ (c : Item × Revision). Cause t.past o c.0 c.1) (named i x k) (rw (same_revision o r same) (cause_later (event.Refuse r item other) s.past r item other refl refl cause))
+        by true same k =
+            let is = named (item, other) i x k in
+            let mine : Cause t.past o item other = subst (λ (q : Revision). Cause t.past q item other) (sym (same_revision o r same)) (cause_later (event.Refuse r item other) s.past r item other refl refl cause) in
+            subst (λ (y : Revision). Cause t.past o i y) is.1 (subst (λ (j : Item). Cause t.past o j other) is.0 mine)
         by false apart k = cause_later _ s.past o i x refl refl (sound.refusal o i x k)
 
     is_of : (q : Path) (o : Revision) (m : Mark) → IsOf s q o m → IsOf t q o m
