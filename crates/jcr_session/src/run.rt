@@ -2,7 +2,7 @@
 ghost use Rattle.std.specs.Prelude.{◌≡◌, ◌≤◌, ◌∷◌, [], IfOk, IfSome, OnErr, IsTrue, IsFalse, length, string_bytes};
 ghost use Rattle.jr_tree.specs.declared.shared.Datum.TheVariants as datum;
 ghost use Rattle.oak_port.specs.Ports.{HasRoom};
-ghost use Rattle.oak_port.specs.declared.task.CommitEnd.TheVariants as commit;
+ghost use Rattle.oak_commit.specs.declared.outcome.CommitEnd.TheVariants as commit;
 ghost use Rattle.oak_port.specs.declared.task.StepOut.TheVariants as out;
 ghost use Rattle.oak_port.specs.declared.task.TaskEnd.TheVariants as end;
 ghost use Rattle.jcr_trans.specs.Answers.{Refused};
@@ -26,7 +26,8 @@ use jr_rev::{Pin, RevVec, Revision};
 use jr_tree::{Datum, Edit, Refusal, changes};
 use oak_clash::MarkAt;
 use oak_machine::StepKind;
-use oak_port::{CommitEnd, Port, StepOut, Task, TaskEnd};
+use oak_commit::CommitEnd;
+use oak_port::{Port, StepOut, Task, TaskEnd};
 use std::alloc::{AllocError, Global};
 use std::mem;
 
