@@ -8,6 +8,7 @@ ghost use Rattle.oak_port.specs.declared.task.TaskEnd.TheVariants as end;
 ghost use Rattle.jcr_trans.specs.Answers.{Refused};
 ghost use Rattle.jcr_trans.specs.Texts.{answer_text, memory_text};
 ghost use Rattle.jcr_session.specs.Standing.{HasEnded, HasLooked, HasSeen, HasTurned, IsNew, IsPlanFor, IsPlanOf, IsRefused, IsReply, IsSame, MayAnswer, Stands, due_for, is_unread, kind_of_end, phase_by, pinned_by, turn_by};
+ghost use Rattle.jcr_session.specs.Leaving.{ended_by};
 ghost use Rattle.jcr_session.specs.declared.run.Due.TheVariants as due;
 ghost use Rattle.jcr_session.specs.declared.run.Phase.TheVariants as phase;
 ghost use Rattle.jcr_session.specs.declared.run.Plan.TheVariants as plan;
@@ -258,13 +259,11 @@ impl SessionRun {
         let Ok(()) = port.start(Task::End) else {
             return Turn::Memory;
         };
-        match port.step() {
-            StepOut::Ready(TaskEnd::Ended) => {
-                self.phase = Phase::Over;
-                Turn::Stepped(StepKind::End)
-            }
-            _ => Turn::Memory,
+        if !has_ended(port.step()) {
+            return Turn::Memory;
         }
+        self.phase = Phase::Over;
+        Turn::Stepped(StepKind::End)
     }
 
     // Shows the base.
@@ -609,6 +608,16 @@ fn pinned(answer: StepOut) -> Option<Pin>
     match &answer {
         StepOut::Ready(TaskEnd::Pinned(pin)) => Some(*pin),
         _ => None,
+    }
+}
+
+// Whether a leave has ended.
+fn has_ended(answer: StepOut) -> bool
+    ensures { result ≡ ended_by answer }
+{
+    match &answer {
+        StepOut::Ready(TaskEnd::Ended) => true,
+        _ => false,
     }
 }
 

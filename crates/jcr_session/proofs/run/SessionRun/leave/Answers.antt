@@ -1,8 +1,7 @@
-use Rattle.std.proofs.Common.{refl, ap, ◌∙◌}
-use Rattle.oak_port.specs.declared.task.StepOut.TheVariants as out
+use Rattle.std.proofs.Common.{refl, sym, ◌∙◌}
 use Rattle.oak_port.specs.declared.task.Task.TheVariants as task
-use Rattle.oak_port.specs.declared.task.TaskEnd.{TaskEnd}
 use Rattle.jcr_session.proofs.Calling.{busy_by, leave_by}
+use Rattle.jcr_session.proofs.Leaving.{ended_is}
 use Rattle.jcr_session.proofs.Replying.{idle_between}
 use Rattle.jcr_session.proofs.Starting.{leave_begins}
 use Rattle.jcr_session.proofs.run.SessionRun.leave.Goals as goal
@@ -17,19 +16,15 @@ pub step-requires : goal.step-requires
 step-requires g c = record { busy = λ idle. busy_by (g.P.Port.shown c.start.new.self).work task.End c.in-Ok.ensures.ok.work_is idle }
 
 -- it has left
-pub returns-in-Ready-Ended-clause-turned : goal.returns-in-Ready-Ended-clause-turned
-returns-in-Ready-Ended-clause-turned g c =
+pub returns-clause-turned : goal.returns-clause-turned
+returns-clause-turned g c =
     let law = g.P.Port.law c.args.port.now in
     let p = g.P.Port.shown c.args.port.now in
-    leave_by law (g.P.Port.law c.start.new.self) c.in-Ok.ensures.law p (g.P.Port.shown c.start.new.self) (g.P.Port.shown c.step.new.self) p.room c.args.self.now _ c.requires.stands c.in-Ready-Ended.ensures.steps
-    c.requires.between c.requires.read c.requires.next c.in-Ok.ensures.ok (ap (λ (e : TaskEnd). out.Ready e) c.in-Ready-Ended.field-0-is) _ _ refl refl
+    leave_by law (g.P.Port.law c.start.new.self) c.in-Ok.ensures.law p (g.P.Port.shown c.start.new.self) (g.P.Port.shown c.step.new.self) p.room c.args.self.now c.step.result c.requires.stands c.step.ensures.steps
+    c.requires.between c.requires.read c.requires.next c.in-Ok.ensures.ok (ended_is c.step.result (sym c.has_ended.ensures ∙ c.if-not-has_ended.false)) _ _ refl refl
 
-pub returns-in-Ready-Ended-clause-law : goal.returns-in-Ready-Ended-clause-law
-returns-in-Ready-Ended-clause-law g c = c.step.ensures.law ∙ c.in-Ok.ensures.law
-
--- another answer is none of a leave
 pub returns-clause-law : goal.returns-clause-law
 returns-clause-law g c = c.step.ensures.law ∙ c.in-Ok.ensures.law
 
-pub returns-clause-turned : goal.returns-clause-turned
-returns-clause-turned g c = tt
+pub returns-then-not-has_ended-clause-law : goal.returns-then-not-has_ended-clause-law
+returns-then-not-has_ended-clause-law g c = c.step.ensures.law ∙ c.in-Ok.ensures.law
