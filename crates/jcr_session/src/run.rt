@@ -109,7 +109,6 @@ impl SessionRun {
 
     /// Makes one step of reading the tree at the base, where one is due, and tells whether it did. Where memory is refused, what
     /// was read is given up.
-    #[tactic(none)]
     pub fn read<P: Port<L = JcrLaw>>(&mut self, port: &mut P) -> Result<bool, AllocError>
         requires stands { Stands (P.law port.old) (P.shown port.old) self.old }
         ensures law { P.law port.new ≡ P.law port.old }
@@ -128,7 +127,6 @@ impl SessionRun {
     /// Makes the reading steps that are due and then exactly one counted step, or none where the session waits or has ended.
     /// Where memory is refused for a command, that command is answered so; where it is refused for the place of a reply, or for the
     /// login or the leave, the run ends.
-    #[tactic(none)]
     pub fn turn<P: Port<L = JcrLaw>>(&mut self, port: &mut P) -> Turn
         requires stands { Stands (P.law port.old) (P.shown port.old) self.old }
         ensures law { P.law port.new ≡ P.law port.old }
@@ -142,7 +140,6 @@ impl SessionRun {
     }
 
     // Makes exactly one counted step, or none where the session waits or has ended.
-    #[tactic(none)]
     fn counted<P: Port<L = JcrLaw>>(&mut self, port: &mut P) -> Turn
         requires stands { Stands (P.law port.old) (P.shown port.old) self.old }
         requires read { IsFalse (is_unread self.old) }
@@ -163,7 +160,6 @@ impl SessionRun {
     }
 
     // Makes all reading steps that are due, and tells whether it did.
-    #[tactic(none)]
     fn read_all<P: Port<L = JcrLaw>>(&mut self, port: &mut P) -> Result<bool, AllocError>
         requires stands { Stands (P.law port.old) (P.shown port.old) self.old }
         ensures law { P.law port.new ≡ P.law port.old }
@@ -229,7 +225,6 @@ impl SessionRun {
     }
 
     // The next command.
-    #[tactic(none)]
     fn go_on<P: Port<L = JcrLaw>>(&mut self, port: &mut P) -> Turn
         requires stands { Stands (P.law port.old) (P.shown port.old) self.old }
         requires between { self.old.phase ≡ phase.Between }
