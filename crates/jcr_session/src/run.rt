@@ -26,8 +26,8 @@ use jr_path::{DeepCopy, Item, List};
 use jr_rev::{Pin, RevVec, Revision};
 use jr_tree::{Datum, Edit, Refusal, changes};
 use oak_clash::MarkAt;
-use oak_machine::StepKind;
 use oak_commit::CommitEnd;
+use oak_machine::StepKind;
 use oak_port::{Port, StepOut, Task, TaskEnd};
 use std::alloc::{AllocError, Global};
 use std::mem;
@@ -326,7 +326,7 @@ impl SessionRun {
     }
 
     // Answers by the view.
-    #[tactic(auto, using(crate::proofs::Answering::sees_reply, crate::proofs::Answering::sees_memory, crate::proofs::Answering::made_if, crate::proofs::Answering::made_or, crate::proofs::Replying::turned_like))]
+    #[tactic(none)]
     fn see<P: Port<L = JcrLaw>>(&mut self, port: &mut P) -> Turn
         requires stands { Stands (P.law port.old) (P.shown port.old) self.old }
         requires between { self.old.phase ≡ phase.Between }
@@ -340,6 +340,7 @@ impl SessionRun {
     }
 
     // The reply by the view.
+    #[tactic(none)]
     fn seen_reply(&mut self) -> Result<String, AllocError>
         ensures same { IsSame self.old self.new }
         ensures text { IfOk result (λ text. HasSeen self.old self.new (string_bytes text)) }
@@ -359,7 +360,7 @@ impl SessionRun {
     }
 
     // Commits what is pending, where there is something and the tree after it has few nodes.
-    #[tactic(auto, using(crate::proofs::Replying::forgo_save))]
+    #[tactic(none)]
     fn save<P: Port<L = JcrLaw>>(&mut self, port: &mut P) -> Turn
         requires stands { Stands (P.law port.old) (P.shown port.old) self.old }
         requires between { self.old.phase ≡ phase.Between }
@@ -375,7 +376,7 @@ impl SessionRun {
     }
 
     // Answers a save that commits nothing, or begins its commit.
-    #[tactic(auto, using(crate::proofs::Answering::answers_nothing, crate::proofs::Answering::answers_too_many, crate::proofs::Answering::made_ok, crate::proofs::Answering::made_err, crate::proofs::Replying::forgo_save))]
+    #[tactic(none)]
     fn save_by<P: Port<L = JcrLaw>>(&mut self, port: &mut P, plan: Plan) -> Turn
         requires stands { Stands (P.law port.old) (P.shown port.old) self.old }
         requires between { self.old.phase ≡ phase.Between }
@@ -409,7 +410,7 @@ impl SessionRun {
     }
 
     // Begins a commit. The place of its reply is kept before.
-    #[tactic(auto, using(crate::proofs::Replying::forgo_save, crate::proofs::Replying::idle_between, crate::proofs::Drawing::commit_begins, crate::proofs::Drawing::commit_draws, crate::proofs::Drawing::commit_stops, crate::proofs::Drawing::commit_stopped, crate::proofs::Turning::answer_later, crate::proofs::Turning::said_later, crate::proofs::Turning::room_kept, crate::proofs::Turning::room_stays, crate::proofs::Lengths::memory_room))]
+    #[tactic(none)]
     fn commit<P: Port<L = JcrLaw>>(
         &mut self,
         port: &mut P,
@@ -441,7 +442,7 @@ impl SessionRun {
     }
 
     // Makes a step of a commit. Where memory is refused, the commit turns to undoing, and makes a step of that.
-    #[tactic(auto, using(crate::proofs::Turning::commit_once, crate::proofs::Turning::commit_twice, crate::proofs::Turning::commit_busy, crate::proofs::Turning::refused_busy))]
+    #[tactic(none)]
     fn commit_on<P: Port<L = JcrLaw>>(&mut self, port: &mut P) -> Turn
         requires stands { Stands (P.law port.old) (P.shown port.old) self.old }
         requires saving { self.old.phase ≡ phase.Saving }
@@ -475,7 +476,7 @@ impl SessionRun {
     }
 
     // Answers a save whose commit has ended.
-    #[tactic(auto, using(crate::proofs::Ending::stands_saved, crate::proofs::Replying::turned_like))]
+    #[tactic(none)]
     fn say_end<P: Port<L = JcrLaw>>(&mut self, port: &mut P) -> Turn
         requires stands { Stands (P.law port.old) (P.shown port.old) self.old }
         requires saved { HasEnded self.old.phase }
@@ -489,7 +490,7 @@ impl SessionRun {
     }
 
     // Answers a save whose commit has ended so.
-    #[tactic(auto, using(crate::proofs::Ending::ended_memory, crate::proofs::Ending::ended_room, crate::proofs::Lengths::memory_room))]
+    #[tactic(none)]
     fn say_saved<P: Port<L = JcrLaw>>(&mut self, port: &mut P, end: CommitEnd) -> Turn
         requires stands { Stands (P.law port.old) (P.shown port.old) (record self.old { phase = phase.Saved end }) }
         ensures law { P.law port.new ≡ P.law port.old }
@@ -503,7 +504,7 @@ impl SessionRun {
     }
 
     // Answers a save with its revision. The tree at the base that sees it isn't read yet.
-    #[tactic(auto, using(crate::proofs::Ending::ended_revision, crate::proofs::Ending::ended_room, crate::proofs::Lengths::short_reply, crate::proofs::Replying::turned_like))]
+    #[tactic(none)]
     fn say_revision<P: Port<L = JcrLaw>>(&mut self, port: &mut P, r: Revision) -> Turn
         requires stands { Stands (P.law port.old) (P.shown port.old) (record self.old { phase = phase.Saved (commit.Committed r) }) }
         ensures law { P.law port.new ≡ P.law port.old }
@@ -517,7 +518,7 @@ impl SessionRun {
     }
 
     // Answers a save with the clash for which it was refused, or that memory was refused for that.
-    #[tactic(auto, using(crate::proofs::Ending::ended_clash, crate::proofs::Ending::ended_unshown, crate::proofs::Ending::ended_room, crate::proofs::Lengths::memory_room))]
+    #[tactic(none)]
     fn say_clash<P: Port<L = JcrLaw>>(&mut self, port: &mut P, item: Item, other: Revision) -> Turn
         requires stands { Stands (P.law port.old) (P.shown port.old) (record self.old { phase = phase.Saved (commit.Clash item other) }) }
         ensures law { P.law port.new ≡ P.law port.old }
@@ -652,6 +653,7 @@ fn last_kind(end: &CommitEnd) -> StepKind
 }
 
 // The reply to a reading or view command, or to one that isn't built; it changes the view.
+#[tactic(none)]
 fn reply_of(alloc: Global, command: &Command, seen: &mut Seen) -> Result<String, AllocError>
     ensures base { seen.new.base ≡ seen.old.base }
     ensures text { IfOk result (λ text. IsReply command.now seen.old.view seen.new.view (string_bytes text)) }
