@@ -4,3 +4,4 @@ pub mod Worlds
 pub mod Steps
 pub mod Kept
 pub mod Seen
+pub mod Ending
