@@ -1,4 +1,5 @@
 -- A task ends whose session alone takes steps.
+use mathlib.Core.Bool.{false≢true}
 use Rattle.std.proofs.Common.{◌≡◌, ◌≢◌, ◌⊎◌, inl, inr, ℕ, zero, suc, ◌+◌, ◌<◌, ◌≤◌, Bool, true, false, cond, Option, Some, None, List, [], ◌∷◌, ◌++◌, length, map, drop, is_some, refl, sym, ap, subst, ◌∙◌, arith, length-append}
 use Rattle.std.specs.Prelude.{◌||◌, slice_get, slice_set}
 use Rattle.std.specs.BTreeMap.{is_at}
@@ -27,7 +28,6 @@ use Rattle.oak_commit.specs.declared.outcome.CommitEnd.TheVariants as end
 use Rattle.oak_commit.specs.declared.stage.Stage.TheVariants as stage
 use Rattle.oak_doc.specs.declared.asks.Ask.TheVariants as ask
 use Rattle.oak_doc.specs.declared.document.Document.{Document}
-use Rattle.oak_machine.specs.declared.event.Event.TheVariants as event
 use Rattle.oak_machine.specs.declared.event.StepKind.{StepKind}
 use Rattle.oak_machine.specs.declared.event.StepKind.TheVariants as kind
 use Rattle.oak_node.specs.Heads.{next_draw}
@@ -55,11 +55,32 @@ use Rattle.oak_world.specs.Worlds.{ActorState, WorldOf, actor_in, idle, running_
 use Rattle.oak_world.proofs.Stages.{finish_stage}
 use Rattle.oak_world.proofs.States.{actor_set}
 
+-- ---- basics
+
+none_some : {A : Type 0} (o : Option A) (x : A) → o ≡ None → o ≡ Some x → ⊥
+none_some o x a b = false≢true (ap is_some (sym a ∙ b))
+
+none_cons : {A : Type 0} (xs : List A) (y : A) (ys : List A) → xs ≡ [] → xs ≡ y ∷ ys → ⊥
+none_cons xs y ys a b = let k : [] ≡ y ∷ ys = sym a ∙ b in cc
+
+none_settled : {A : Type 0} (o : Option A) → o ≡ None → is_some o ≡ true → ⊥
+none_settled o a h = false≢true (sym (ap is_some a) ∙ h)
+
+one_more : (n : ℕ) → n ≤ suc n
+one_more n = omega arith
+
+appended : (ps : List Path) (p : Path) → length (ps ++ p ∷ []) ≤ suc (length ps)
+appended ps p = let l : length (ps ++ p ∷ []) ≡ length ps + 1 = length-append ps (p ∷ []) in omega (arith, l)
+
 -- ---- steps and their number
 
 -- who has no seat has no task
 seatless : (actors : List ActorState) (s : ℕ) → slice_get actors s ≡ None → work_in actors s ≡ work.Rest
 seatless actors s none = ap (λ (o : Option ActorState). (unwrap_or o idle).work) none
+
+-- what a session does, where that is set
+set_work : (actors xs : List ActorState) (s : ℕ) (a : ActorState) → xs ≡ slice_set actors s a → s < length actors → work_in xs s ≡ a.work
+set_work actors xs s a is seat = ap (λ (ys : List ActorState). work_in ys s) is ∙ ap (λ (b : ActorState). b.work) (actor_set actors s a seat)
 
 -- what a session does after its step
 does_now : {L : Type 0} (w : WorldOf L) (s : ℕ) (u : WorldOf L) (o : StepOut) (m : StepsIn w s u o) → work_in u.actors s ≡ m.does
@@ -67,7 +88,7 @@ does_now w s u o m = by (slice_get w.actors s) refl
   where
     by : (a : Option ActorState) → slice_get w.actors s ≡ a → work_in u.actors s ≡ m.does
     by None none = let never : Makes s (state_of w) work.Rest (state_of u) m.does o = subst (λ (v : Work). Makes s (state_of w) v (state_of u) m.does o) (seatless w.actors s none) m.makes in absurd never
-    by (Some a) there = ap (λ (xs : List ActorState). work_in xs s) m.actors ∙ ap (λ (a : ActorState). a.work) (actor_set w.actors s _ (slice_get_within w.actors s a there))
+    by (Some a) there = set_work w.actors u.actors s _ m.actors (slice_get_within w.actors s a there)
 
 resting : {L : Type 0} (w : WorldOf L) (s : ℕ) → work_in w.actors s ≡ work.Rest → (n : ℕ) → EndsIn n w s
 resting w s h zero = h
@@ -122,9 +143,6 @@ short_ends w s n v short is = stepped w s n v is (λ u o x m now. elim (at_once 
 
 -- ---- a commit that is settled
 
-none_some : {A : Type 0} (o : Option A) (x : A) → o ≡ None → o ≡ Some x → ⊥
-none_some o x a b = let k : ◌≡◌ {A = Option A} None (Some x) = sym a ∙ b in cc
-
 -- it rests, its base is to move, or a document is undone
 abbrev GoesDown : Committing → Work → Type 0
 GoesDown c x = (x ≡ work.Rest) ⊎ ((x ≡ work.Move c.revision) ⊎ ((x ≡ work.Commit (with_undone c)) × (p : Path) × (rest : List Path) × (c.writer.written ≡ p ∷ rest)))
@@ -155,10 +173,7 @@ goes_down s n u c x now (inr (inr k)) f = f k.1 k.2 k.3 (now ∙ k.0)
 -- what is written is undone, the revision ends, and the base moves
 settled_ends : {L : Type 0} (s : ℕ) (ps : List Path) (w : WorldOf L) (c : Committing) (e : CommitEnd) → work_in w.actors s ≡ work.Commit c → c.outcome ≡ Some e → c.writer.written ≡ ps → EndsIn (suc (suc (length ps))) w s
 settled_ends s [] w c e at is written =
-    stepped w s (suc zero) (work.Commit c) at (λ u o x m now. inr (goes_down s zero u c x now (settled_step s (state_of w) (state_of u) c e x o is m) (λ p rest first there. absurd (apart p rest (sym written ∙ first)))))
-  where
-    apart : (p : Path) (rest : List Path) → [] ≡ p ∷ rest → ⊥
-    apart p rest k = cc
+    stepped w s (suc zero) (work.Commit c) at (λ u o x m now. inr (goes_down s zero u c x now (settled_step s (state_of w) (state_of u) c e x o is m) (λ p rest first there. absurd (none_cons c.writer.written p rest written first))))
 settled_ends s (q ∷ qs) w c e at is written =
     stepped w s (suc (suc (length qs))) (work.Commit c) at (λ u o x m now. inr (goes_down s (suc (length qs)) u c x now (settled_step s (state_of w) (state_of u) c e x o is m) (λ p rest first there. settled_ends s qs u (with_undone c) e there is (ap (drop 1) written))))
 
@@ -196,29 +211,26 @@ turns_at_once L s t c steps = (suc (steps_after c), λ w is at. stepped w s (ste
 of_cons : {A : Type 0} (P : A → List A → Type 0) (x y : A) (xs ys : List A) → x ∷ xs ≡ y ∷ ys → P x xs → P y ys
 of_cons P x y xs ys e h = subst (λ (z : A). P z ys) (let k : x ∷ xs ≡ y ∷ ys = e in cc) (subst (λ (zs : List A). P x zs) (let k : x ∷ xs ≡ y ∷ ys = e in cc) h)
 
-none_cons : {A : Type 0} (xs : List A) (y : A) (ys : List A) → xs ≡ [] → xs ≡ y ∷ ys → ⊥
-none_cons xs y ys a b = let k : [] ≡ y ∷ ys = sym a ∙ b in cc
-
 module _ (s : ℕ) (t u : State) (c : Committing) (x : Work) (going : c.outcome ≡ None) where
   -- it turns to undoing, for want of memory or refused
   turns_wanting : x ≡ work.Commit (wanting c) → Turns c x
-  turns_wanting is = (wanting c, end.Memory, is, refl, omega arith)
+  turns_wanting is = (wanting c, end.Memory, is, refl, one_more (length c.writer.written))
 
   turns_refused : (d : Committing) (item : Item) (o : Revision) → x ≡ work.Commit d → d ≡ refused c item o → Turns c x
-  turns_refused d item o is same = (refused c item o, end.Clash item o, is ∙ ap work.Commit same, refl, omega arith)
+  turns_refused d item o is same = (refused c item o, end.Clash item o, is ∙ ap work.Commit same, refl, one_more (length c.writer.written))
 
   turns_committed : (d : Committing) → x ≡ work.Commit d → d ≡ committed c → Turns c x
-  turns_committed d is same = (committed c, end.Committed c.revision, is ∙ ap work.Commit same, refl, omega arith)
+  turns_committed d is same = (committed c, end.Committed c.revision, is ∙ ap work.Commit same, refl, one_more (length c.writer.written))
 
   turns_written : (p : Path) (rest : List Path) (d : Committing) → x ≡ work.Commit d → d ≡ wanting (written c p rest (nodes_in t.table p)) → Turns c x
-  turns_written p rest d is same = (wanting (written c p rest (nodes_in t.table p)), end.Memory, is ∙ ap work.Commit same, refl, let l = length-append c.writer.written (p ∷ []) in omega (arith, l))
+  turns_written p rest d is same = (wanting (written c p rest (nodes_in t.table p)), end.Memory, is ∙ ap work.Commit same, refl, appended c.writer.written p)
 
   -- it doesn't undo, and it doesn't end
   undoes_not : undoes c.outcome ≡ true → ⊥
-  undoes_not h = let k : false ≡ true = sym (ap undoes going) ∙ h in cc
+  undoes_not h = false≢true (sym (ap undoes going) ∙ h)
 
   finishes_not : stage_of c ≡ stage.Finish → ⊥
-  finishes_not h = let k : false ≡ true = sym (ap (λ (o : Option CommitEnd). is_some o) going) ∙ (finish_stage c h).settled in cc
+  finishes_not h = none_settled c.outcome going (finish_stage c h).settled
 
   -- the next mark is due
   marks_next : (o : StepOut) (f : Met) (rest : List Met) → c.writer.due ≡ f ∷ rest → MakesCommit s t c u x o → ((u ≡ after_mark t s (running_as s c) f rest) × (x ≡ work.Commit (marked c rest))) ⊎ Turns c x
