@@ -107,9 +107,9 @@ stepped : {L : Type 0} (w : WorldOf L) (s n : ℕ) (v : Work) → work_in w.acto
 stepped w s n v is f = inr (λ u o m. f u o m.does (subst (λ (y : Work). Makes s (state_of w) y (state_of u) m.does o) is m.makes) (does_now w s u o m))
 
 -- a step that isn't told to wait lowers the number
-pub lowers : {L : Type 0} (w u : WorldOf L) (s : ℕ) (o : StepOut) → StepsIn w s u o → work_in w.actors s ≢ work.Rest → (n : ℕ) → EndsIn (suc n) w s → (IsWait o → ⊥) → EndsIn n u s
-lowers w u s o m busy n (inl rest) told = absurd (busy rest)
-lowers w u s o m busy n (inr f) told = elim (f u o m) [ inl k ↦ absurd (told k) | inr k ↦ k ]
+pub lowers : {L : Type 0} (w u : WorldOf L) (s n : ℕ) (o : StepOut) → StepsIn w s u o → work_in w.actors s ≢ work.Rest → EndsIn (suc n) w s → IsWait o ⊎ EndsIn n u s
+lowers w u s n o m busy (inl rest) = absurd (busy rest)
+lowers w u s n o m busy (inr f) = f u o m
 
 -- ---- tasks of one step
 

@@ -4,6 +4,7 @@
 
 mod actor;
 mod commit;
+mod ending;
 mod load;
 mod port;
 mod session;
@@ -12,5 +13,6 @@ mod step;
 mod store;
 mod world;
 
+pub use ending::tasks_end;
 pub use port::SoloPort;
 pub use world::World;
