@@ -4,15 +4,15 @@
 
 mod actor;
 mod commit;
-mod ending;
 mod load;
 mod port;
 mod session;
 mod start;
 mod step;
 mod store;
+mod tasks;
 mod world;
 
-pub use ending::tasks_end;
 pub use port::SoloPort;
+pub use tasks::tasks_end;
 pub use world::World;

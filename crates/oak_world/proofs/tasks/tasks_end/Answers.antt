@@ -1,5 +1,5 @@
 use Rattle.oak_world.proofs.Ending.{lowers, task_ends}
-use Rattle.oak_world.proofs.ending.tasks_end.Goals as goal
+use Rattle.oak_world.proofs.tasks.tasks_end.Goals as goal
 
 pub returns-clause-ends : goal.returns-clause-ends
 returns-clause-ends c w s table = task_ends w s table
