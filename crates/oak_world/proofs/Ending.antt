@@ -209,7 +209,7 @@ turns_at_once L s t c steps = (suc (steps_after c), λ w is at. stepped w s (ste
 
 -- what is said of the parts of a list is said of those of an equal one
 of_cons : {A : Type 0} (P : A → List A → Type 0) (x y : A) (xs ys : List A) → x ∷ xs ≡ y ∷ ys → P x xs → P y ys
-of_cons P x y xs ys e h = subst (λ (z : A). P z ys) (let k : x ∷ xs ≡ y ∷ ys = e in cc) (subst (λ (zs : List A). P x zs) (let k : x ∷ xs ≡ y ∷ ys = e in cc) h)
+of_cons {A} P x y xs ys e h = subst (λ (z : A). P z ys) (let k : x ∷ xs ≡ y ∷ ys = e in cc) (subst (λ (zs : List A). P x zs) (let k : x ∷ xs ≡ y ∷ ys = e in cc) h)
 
 module _ (s : ℕ) (t u : State) (c : Committing) (x : Work) (going : c.outcome ≡ None) where
   -- it turns to undoing, for want of memory or refused

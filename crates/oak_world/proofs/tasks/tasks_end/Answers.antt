@@ -2,7 +2,7 @@ use Rattle.oak_world.proofs.Ending.{lowers, task_ends}
 use Rattle.oak_world.proofs.tasks.tasks_end.Goals as goal
 
 pub returns-clause-ends : goal.returns-clause-ends
-returns-clause-ends c w s table = task_ends w s table
+returns-clause-ends g c w s table = task_ends w s table
 
 pub returns-clause-lowers : goal.returns-clause-lowers
-returns-clause-lowers c w u s n o m busy h = lowers w u s n o m busy h
+returns-clause-lowers g c w u s n o m busy h = lowers w u s n o m busy h
