@@ -1,6 +1,6 @@
 -- A task ends whose session alone takes steps.
 use mathlib.Core.Bool.{false≢true}
-use Rattle.std.proofs.Common.{◌≡◌, ◌≢◌, ◌⊎◌, inl, inr, ℕ, zero, suc, ◌+◌, ◌<◌, ◌≤◌, Bool, true, false, cond, Option, Some, None, List, [], ◌∷◌, ◌++◌, length, map, drop, is_some, refl, sym, ap, subst, ◌∙◌, arith, length-append}
+use Rattle.std.proofs.Common.{◌≡◌, ◌≢◌, ◌⊎◌, inl, inr, ℕ, zero, suc, ◌+◌, ◌<◌, ◌≤◌, Bool, true, false, cond, Option, Some, None, List, [], ◌∷◌, ◌++◌, length, drop, is_some, refl, sym, ap, subst, ◌∙◌, arith, length-append}
 use Rattle.std.specs.Prelude.{◌||◌, slice_get, slice_set}
 use Rattle.std.specs.BTreeMap.{is_at}
 use Rattle.std.specs.List.{list_any}
@@ -20,18 +20,16 @@ use Rattle.jr_tree.specs.declared.edit.Edit.{Edit}
 use Rattle.oak_clash.specs.Clashes.{marked_paths}
 use Rattle.oak_clash.specs.declared.mark.MarkAt.{MarkAt}
 use Rattle.oak_commit.specs.Clashing.{Met, found}
-use Rattle.oak_commit.specs.Committing.{Committing, begun, is_past, refused, wanting, with_undone, written, written_paths}
+use Rattle.oak_commit.specs.Committing.{Committing, begun, refused, wanting, with_undone, written, written_paths}
 use Rattle.oak_commit.specs.Kept.{undoes}
 use Rattle.oak_commit.specs.Stages.{stage_of}
 use Rattle.oak_commit.specs.declared.outcome.CommitEnd.{CommitEnd}
 use Rattle.oak_commit.specs.declared.outcome.CommitEnd.TheVariants as end
 use Rattle.oak_commit.specs.declared.stage.Stage.TheVariants as stage
 use Rattle.oak_doc.specs.declared.asks.Ask.TheVariants as ask
-use Rattle.oak_doc.specs.declared.document.Document.{Document}
 use Rattle.oak_machine.specs.declared.event.StepKind.{StepKind}
 use Rattle.oak_machine.specs.declared.event.StepKind.TheVariants as kind
 use Rattle.oak_node.specs.Heads.{next_draw}
-use Rattle.oak_read.specs.Meaning.{documents_in}
 use Rattle.oak_read.specs.Reading.{IsTable, due}
 use Rattle.oak_read.specs.Wanted.{Known}
 use Rattle.oak_read.specs.declared.reader.Reader.{Reader}
@@ -44,14 +42,13 @@ use Rattle.core_world.specs.States.{State, base_in, memory_of, nodes_in}
 use Rattle.core_world.specs.Steps.{after_draw, after_mark, after_write}
 use Rattle.oak_port.specs.declared.task.StepOut.{StepOut}
 use Rattle.oak_port.specs.declared.task.StepOut.TheVariants as answers
-use Rattle.oak_port.specs.declared.task.TaskEnd.{TaskEnd}
 use Rattle.oak_port.specs.declared.task.TaskEnd.TheVariants as ends
 use Rattle.oak_world.specs.declared.actor.Work.{Work}
 use Rattle.oak_world.specs.declared.actor.Work.TheVariants as work
 use Rattle.oak_world.specs.Ending.{EndsIn, IsWait}
 use Rattle.oak_world.specs.Parts.{EndsSo, committed, marked, read_on}
 use Rattle.oak_world.specs.Steps.{Makes, MakesCommit, MakesUpdate, StepsIn}
-use Rattle.oak_world.specs.Worlds.{ActorState, WorldOf, actor_in, idle, running_as, state_of, work_in}
+use Rattle.oak_world.specs.Worlds.{ActorState, WorldOf, idle, running_as, state_of, work_in}
 use Rattle.oak_world.proofs.Stages.{finish_stage}
 use Rattle.oak_world.proofs.States.{actor_set}
 

@@ -14,5 +14,4 @@ use oak_machine::Law;
 pub fn tasks_end<L: Law>(law: &L)
     ensures ends { (w : WorldOf L) (s : ℕ) → IsTable w.table.documents → (n : ℕ) × EndsIn n w s }
     ensures lowers { (w u : WorldOf L) (s n : ℕ) (o : StepOut) → StepsIn w s u o → work_in w.actors s ≢ work.Rest → EndsIn (suc n) w s → IsWait o ⊎ EndsIn n u s }
-{
-}
+{}
