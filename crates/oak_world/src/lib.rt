@@ -13,6 +13,9 @@ mod store;
 mod tasks;
 mod world;
 
+#[cfg(test)]
+mod tests;
+
 pub use port::SoloPort;
 pub use tasks::tasks_end;
 pub use world::World;
