@@ -79,12 +79,16 @@ seatless actors s none = ap (λ (o : Option ActorState). (unwrap_or o idle).work
 set_work : (actors xs : List ActorState) (s : ℕ) (a : ActorState) → xs ≡ slice_set actors s a → s < length actors → work_in xs s ≡ a.work
 set_work actors xs s a is seat = ap (λ (ys : List ActorState). work_in ys s) is ∙ ap (λ (b : ActorState). b.work) (actor_set actors s a seat)
 
+-- a session without a task takes no step
+rests_on : {L : Type 0} (w : WorldOf L) (s : ℕ) (u : WorldOf L) (o : StepOut) → StepsIn w s u o → work_in w.actors s ≡ work.Rest → ⊥
+rests_on w s u o m rest = subst (λ (v : Work). Makes s (state_of w) v (state_of u) m.does o) rest m.makes
+
 -- what a session does after its step
 does_now : {L : Type 0} (w : WorldOf L) (s : ℕ) (u : WorldOf L) (o : StepOut) (m : StepsIn w s u o) → work_in u.actors s ≡ m.does
 does_now w s u o m = by (slice_get w.actors s) refl
   where
     by : (a : Option ActorState) → slice_get w.actors s ≡ a → work_in u.actors s ≡ m.does
-    by None none = let never : Makes s (state_of w) work.Rest (state_of u) m.does o = subst (λ (v : Work). Makes s (state_of w) v (state_of u) m.does o) (seatless w.actors s none) m.makes in absurd never
+    by None none = absurd (rests_on w s u o m (seatless w.actors s none))
     by (Some a) there = set_work w.actors u.actors s _ m.actors (slice_get_within w.actors s a there)
 
 resting : {L : Type 0} (w : WorldOf L) (s : ℕ) → work_in w.actors s ≡ work.Rest → (n : ℕ) → EndsIn n w s
@@ -103,10 +107,10 @@ stepped : {L : Type 0} (w : WorldOf L) (s n : ℕ) (v : Work) → work_in w.acto
     → ((u : WorldOf L) (o : StepOut) (x : Work) → Makes s (state_of w) v (state_of u) x o → work_in u.actors s ≡ x → IsWait o ⊎ EndsIn n u s) → EndsIn (suc n) w s
 stepped w s n v is f = inr (λ u o m. f u o m.does (subst (λ (y : Work). Makes s (state_of w) y (state_of u) m.does o) is m.makes) (does_now w s u o m))
 
--- a step that isn't told to wait lowers the number
-pub lowers : {L : Type 0} (w u : WorldOf L) (s n : ℕ) (o : StepOut) → StepsIn w s u o → work_in w.actors s ≢ work.Rest → EndsIn (suc n) w s → IsWait o ⊎ EndsIn n u s
-lowers w u s n o m busy (inl rest) = absurd (busy rest)
-lowers w u s n o m busy (inr f) = f u o m
+-- a step lowers the number, or it waits
+pub lowers : {L : Type 0} (w u : WorldOf L) (s n : ℕ) (o : StepOut) → StepsIn w s u o → EndsIn (suc n) w s → IsWait o ⊎ EndsIn n u s
+lowers w u s n o m (inl rest) = absurd (rests_on w s u o m rest)
+lowers w u s n o m (inr f) = f u o m
 
 -- ---- tasks of one step
 

@@ -5,4 +5,4 @@ pub returns-clause-ends : goal.returns-clause-ends
 returns-clause-ends g c w s table = task_ends w s table
 
 pub returns-clause-lowers : goal.returns-clause-lowers
-returns-clause-lowers g c w u s n o m busy h = lowers w u s n o m busy h
+returns-clause-lowers g c w u s n o m h = lowers w u s n o m h
