@@ -10,10 +10,12 @@ mod session;
 mod start;
 mod step;
 mod store;
+mod tasks;
 mod world;
 
 #[cfg(test)]
 mod tests;
 
 pub use port::SoloPort;
+pub use tasks::tasks_end;
 pub use world::World;

@@ -1,0 +1,380 @@
+-- A task ends whose session alone takes steps.
+use mathlib.Core.Bool.{false≢true}
+use Rattle.std.proofs.Common.{◌≡◌, ◌≢◌, ◌⊎◌, inl, inr, ℕ, zero, suc, ◌+◌, ◌<◌, ◌≤◌, Bool, true, false, cond, Option, Some, None, List, [], ◌∷◌, ◌++◌, length, drop, is_some, refl, sym, ap, subst, ◌∙◌, arith, length-append}
+use Rattle.std.specs.Prelude.{◌||◌, slice_get, slice_set}
+use Rattle.std.specs.BTreeMap.{is_at}
+use Rattle.std.specs.List.{list_any}
+use Rattle.std.specs.Map.{keys_of, lookup}
+use Rattle.std.specs.Option.{unwrap_or}
+use Rattle.std.specs.Ordering.{eq_by_cmp}
+use Rattle.std.specs.declared.alloc.Global.{Global}
+use Rattle.std.proofs.lemmas.Option.{slice_get_within}
+use Rattle.jr_path.specs.Ids.{id_cmp}
+use Rattle.jr_path.specs.declared.name.Name.{Name}
+use Rattle.jr_path.specs.declared.path.DocId.{DocId}
+use Rattle.jr_path.specs.declared.path.Item.{Item}
+use Rattle.jr_path.specs.declared.path.Path.{Path}
+use Rattle.jr_rev.specs.declared.revision.Revision.{Revision}
+use Rattle.jr_rev.specs.declared.vector.Pin.{Pin}
+use Rattle.jr_tree.specs.declared.edit.Edit.{Edit}
+use Rattle.oak_clash.specs.Clashes.{marked_paths}
+use Rattle.oak_clash.specs.declared.mark.MarkAt.{MarkAt}
+use Rattle.oak_commit.specs.Clashing.{Met, found}
+use Rattle.oak_commit.specs.Committing.{Committing, begun, refused, wanting, with_undone, written, written_paths}
+use Rattle.oak_commit.specs.Kept.{undoes}
+use Rattle.oak_commit.specs.Stages.{stage_of}
+use Rattle.oak_commit.specs.declared.outcome.CommitEnd.{CommitEnd}
+use Rattle.oak_commit.specs.declared.outcome.CommitEnd.TheVariants as end
+use Rattle.oak_commit.specs.declared.stage.Stage.TheVariants as stage
+use Rattle.oak_doc.specs.declared.asks.Ask.TheVariants as ask
+use Rattle.oak_machine.specs.declared.event.StepKind.{StepKind}
+use Rattle.oak_machine.specs.declared.event.StepKind.TheVariants as kind
+use Rattle.oak_node.specs.Heads.{next_draw}
+use Rattle.oak_read.specs.Reading.{IsTable, due}
+use Rattle.oak_read.specs.Wanted.{Known}
+use Rattle.oak_read.specs.declared.reader.Reader.{Reader}
+use Rattle.oak_read.specs.declared.reader.Step.{Step}
+use Rattle.oak_read.specs.declared.reader.Step.TheVariants as step
+use Rattle.oak_store.specs.Tables.{Table}
+use Rattle.core_watch.specs.Moments.{IsDone, Moment, after_moments, first_of}
+use Rattle.core_watch.proofs.Finite.{ends as readers_end}
+use Rattle.core_world.specs.States.{State, base_in, memory_of, nodes_in}
+use Rattle.core_world.specs.Steps.{after_draw, after_mark, after_write}
+use Rattle.oak_port.specs.declared.task.StepOut.{StepOut}
+use Rattle.oak_port.specs.declared.task.StepOut.TheVariants as answers
+use Rattle.oak_port.specs.declared.task.TaskEnd.TheVariants as ends
+use Rattle.oak_world.specs.declared.actor.Work.{Work}
+use Rattle.oak_world.specs.declared.actor.Work.TheVariants as work
+use Rattle.oak_world.specs.Ending.{EndsIn, IsWait}
+use Rattle.oak_world.specs.Parts.{EndsSo, committed, marked, read_on}
+use Rattle.oak_world.specs.Steps.{Makes, MakesCommit, MakesUpdate, StepsIn}
+use Rattle.oak_world.specs.Worlds.{ActorState, WorldOf, idle, running_as, state_of, work_in}
+use Rattle.oak_world.proofs.Stages.{finish_stage}
+use Rattle.oak_world.proofs.States.{actor_set}
+
+-- ---- basics
+
+none_some : {A : Type 0} (o : Option A) (x : A) → o ≡ None → o ≡ Some x → ⊥
+none_some o x a b = false≢true (ap is_some (sym a ∙ b))
+
+none_cons : {A : Type 0} (xs : List A) (y : A) (ys : List A) → xs ≡ [] → xs ≡ y ∷ ys → ⊥
+none_cons xs y ys a b = let k : [] ≡ y ∷ ys = sym a ∙ b in cc
+
+none_settled : {A : Type 0} (o : Option A) → o ≡ None → is_some o ≡ true → ⊥
+none_settled o a h = false≢true (sym (ap is_some a) ∙ h)
+
+one_more : (n : ℕ) → n ≤ suc n
+one_more n = omega arith
+
+appended : (ps : List Path) (p : Path) → length (ps ++ p ∷ []) ≤ suc (length ps)
+appended ps p = let l : length (ps ++ p ∷ []) ≡ length ps + 1 = length-append ps (p ∷ []) in omega (arith, l)
+
+-- ---- steps and their number
+
+-- who has no seat has no task
+seatless : (actors : List ActorState) (s : ℕ) → slice_get actors s ≡ None → work_in actors s ≡ work.Rest
+seatless actors s none = ap (λ (o : Option ActorState). (unwrap_or o idle).work) none
+
+-- what a session does, where that is set
+set_work : (actors xs : List ActorState) (s : ℕ) (a : ActorState) → xs ≡ slice_set actors s a → s < length actors → work_in xs s ≡ a.work
+set_work actors xs s a is seat = ap (λ (ys : List ActorState). work_in ys s) is ∙ ap (λ (b : ActorState). b.work) (actor_set actors s a seat)
+
+-- a session without a task takes no step
+rests_on : {L : Type 0} (w : WorldOf L) (s : ℕ) (u : WorldOf L) (o : StepOut) → StepsIn w s u o → work_in w.actors s ≡ work.Rest → ⊥
+rests_on w s u o m rest = subst (λ (v : Work). Makes s (state_of w) v (state_of u) m.does o) rest m.makes
+
+-- what a session does after its step
+does_now : {L : Type 0} (w : WorldOf L) (s : ℕ) (u : WorldOf L) (o : StepOut) (m : StepsIn w s u o) → work_in u.actors s ≡ m.does
+does_now w s u o m = by (slice_get w.actors s) refl
+  where
+    by : (a : Option ActorState) → slice_get w.actors s ≡ a → work_in u.actors s ≡ m.does
+    by None none = absurd (rests_on w s u o m (seatless w.actors s none))
+    by (Some a) there = set_work w.actors u.actors s _ m.actors (slice_get_within w.actors s a there)
+
+resting : {L : Type 0} (w : WorldOf L) (s : ℕ) → work_in w.actors s ≡ work.Rest → (n : ℕ) → EndsIn n w s
+resting w s h zero = h
+resting w s h (suc n) = inl h
+
+-- what ends in so many steps ends in more
+more : {L : Type 0} (w : WorldOf L) (s n m : ℕ) → n ≤ m → EndsIn n w s → EndsIn m w s
+more w s zero m le h = resting w s h m
+more w s (suc n) zero le h = let none : ⊥ = omega (arith, le) in absurd none
+more w s (suc n) (suc m) le (inl h) = inl h
+more w s (suc n) (suc m) le (inr f) = inr (λ u o st. elim (f u o st) [ inl k ↦ inl k | inr k ↦ inr (more u s n m (omega (arith, le)) k) ])
+
+-- it ends in one step more than after each first one
+stepped : {L : Type 0} (w : WorldOf L) (s n : ℕ) (v : Work) → work_in w.actors s ≡ v
+    → ((u : WorldOf L) (o : StepOut) (x : Work) → Makes s (state_of w) v (state_of u) x o → work_in u.actors s ≡ x → IsWait o ⊎ EndsIn n u s) → EndsIn (suc n) w s
+stepped w s n v is f = inr (λ u o m. f u o m.does (subst (λ (y : Work). Makes s (state_of w) y (state_of u) m.does o) is m.makes) (does_now w s u o m))
+
+-- a step lowers the number, or it waits
+pub lowers : {L : Type 0} (w u : WorldOf L) (s n : ℕ) (o : StepOut) → StepsIn w s u o → EndsIn (suc n) w s → IsWait o ⊎ EndsIn n u s
+lowers w u s n o m (inl rest) = absurd (rests_on w s u o m rest)
+lowers w u s n o m (inr f) = f u o m
+
+-- ---- tasks of one step
+
+abbrev IsShort : Work → Type 0
+IsShort work.Login = Unit {0}
+IsShort work.End = Unit {0}
+IsShort work.Refresh = Unit {0}
+IsShort (work.Move r) = Unit {0}
+IsShort _ = ⊥
+
+at_once : (s : ℕ) (t u : State) (v x : Work) (o : StepOut) → IsShort v → Makes s t v u x o → IsWait o ⊎ (x ≡ work.Rest)
+at_once s t u work.Login x (answers.Ready (ends.Pinned pin)) short m = inr m.1
+at_once s t u work.Login x answers.Memory short m = inr m.1
+at_once s t u work.Login x _ short m = absurd m
+at_once s t u work.End x (answers.Ready ends.Ended) short m = inr m.1
+at_once s t u work.End x answers.Memory short m = inr m.1
+at_once s t u work.End x _ short m = absurd m
+at_once s t u work.Refresh x (answers.Ready (ends.Pinned pin)) short m = inr m.1
+at_once s t u work.Refresh x answers.Memory short m = inr m.1
+at_once s t u work.Refresh x _ short m = absurd m
+at_once s t u (work.Move r) x (answers.Wait q) short m = inl tt
+at_once s t u (work.Move r) x (answers.Ready (ends.Commit (end.Committed o))) short m = inr m.1
+at_once s t u (work.Move r) x _ short m = absurd m
+at_once s t u work.Rest x o short m = absurd short
+at_once s t u (work.Read r) x o short m = absurd short
+at_once s t u (work.Plan edit marks) x o short m = absurd short
+at_once s t u (work.Commit c) x o short m = absurd short
+
+short_ends : {L : Type 0} (w : WorldOf L) (s n : ℕ) (v : Work) → IsShort v → work_in w.actors s ≡ v → EndsIn (suc n) w s
+short_ends w s n v short is = stepped w s n v is (λ u o x m now. elim (at_once s (state_of w) (state_of u) v x o short m) [ inl k ↦ inl k | inr k ↦ inr (resting u s (now ∙ k) n) ])
+
+-- ---- a commit that is settled
+
+-- it rests, its base is to move, or a document is undone
+abbrev GoesDown : Committing → Work → Type 0
+GoesDown c x = (x ≡ work.Rest) ⊎ ((x ≡ work.Move c.revision) ⊎ ((x ≡ work.Commit (with_undone c)) × (p : Path) × (rest : List Path) × (c.writer.written ≡ p ∷ rest)))
+
+ends_so : (c : Committing) (x : Work) (o : StepOut) → EndsSo c x o → GoesDown c x
+ends_so c x (answers.Went kind.Finish) m = inr (inl m.1)
+ends_so c x (answers.Ready (ends.Commit e)) m = inl m.2
+ends_so c x _ m = absurd m
+
+settled_step : (s : ℕ) (t u : State) (c : Committing) (e : CommitEnd) (x : Work) (o : StepOut) → c.outcome ≡ Some e → MakesCommit s t c u x o → GoesDown c x
+settled_step s t u c e x o is (inl m) = by m.0 m.4
+  where
+    by : (k : StepKind) → MakesUpdate s t c u m.2 k → GoesDown c x
+    by kind.Mark g = absurd (none_some c.outcome e g.2 is)
+    by kind.Write g = absurd (none_some c.outcome e g.2 is)
+    by kind.Last g = absurd (none_some c.outcome e g.0 is)
+    by kind.Undo g = inr (inr (m.3 ∙ ap work.Commit g.5, g.0, g.1, g.3))
+    by _ g = absurd g
+settled_step s t u c e x o is (inr (inl m)) = ends_so c x o m.2
+settled_step s t u c e x o is (inr (inr m)) = absurd (none_some c.outcome e m.1 is)
+
+goes_down : {L : Type 0} (s n : ℕ) (u : WorldOf L) (c : Committing) (x : Work) → work_in u.actors s ≡ x → GoesDown c x
+    → ((p : Path) (rest : List Path) → c.writer.written ≡ p ∷ rest → work_in u.actors s ≡ work.Commit (with_undone c) → EndsIn (suc n) u s) → EndsIn (suc n) u s
+goes_down s n u c x now (inl k) f = resting u s (now ∙ k) (suc n)
+goes_down s n u c x now (inr (inl k)) f = short_ends u s n (work.Move c.revision) tt (now ∙ k)
+goes_down s n u c x now (inr (inr k)) f = f k.1 k.2 k.3 (now ∙ k.0)
+
+-- what is written is undone, the revision ends, and the base moves
+settled_ends : {L : Type 0} (s : ℕ) (ps : List Path) (w : WorldOf L) (c : Committing) (e : CommitEnd) → work_in w.actors s ≡ work.Commit c → c.outcome ≡ Some e → c.writer.written ≡ ps → EndsIn (suc (suc (length ps))) w s
+settled_ends s [] w c e at is written =
+    stepped w s (suc zero) (work.Commit c) at (λ u o x m now. inr (goes_down s zero u c x now (settled_step s (state_of w) (state_of u) c e x o is m) (λ p rest first there. absurd (none_cons c.writer.written p rest written first))))
+settled_ends s (q ∷ qs) w c e at is written =
+    stepped w s (suc (suc (length qs))) (work.Commit c) at (λ u o x m now. inr (goes_down s (suc (length qs)) u c x now (settled_step s (state_of w) (state_of u) c e x o is m) (λ p rest first there. settled_ends s qs u (with_undone c) e there is (ap (drop 1) written))))
+
+-- ---- a commit that is going on
+
+-- it has been settled how it ends
+abbrev Turns : Committing → Work → Type 0
+Turns c x = (d : Committing) × (e : CommitEnd) × (x ≡ work.Commit d) × (d.outcome ≡ Some e) × (length d.writer.written ≤ suc (length c.writer.written))
+
+abbrev steps_after : Committing → ℕ
+steps_after c = suc (suc (suc (length c.writer.written)))
+
+turned_ends : {L : Type 0} (s n : ℕ) (u : WorldOf L) (c : Committing) (x : Work) → work_in u.actors s ≡ x → Turns c x → steps_after c ≤ n → EndsIn n u s
+turned_ends s n u c x now k le = let few = k.4 in more u s (suc (suc (length k.0.writer.written))) n (omega (arith, le, few)) (settled_ends s k.0.writer.written u k.0 k.1 (now ∙ k.2) k.3 refl)
+
+-- in each world of this state where session s has this committer, it ends in the same number of steps
+abbrev Bounded : (L : Type 0) → ℕ → State → Committing → Type 0
+Bounded L s t c = (n : ℕ) × ((w : WorldOf L) → state_of w ≡ t → work_in w.actors s ≡ work.Commit c → EndsIn n w s)
+
+-- it goes on so, or turns
+abbrev GoesOnTo : ℕ → State → Committing → State → Committing → Type 0
+GoesOnTo s t c t' d = (u : State) (x : Work) (o : StepOut) → MakesCommit s t c u x o → ((u ≡ t') × (x ≡ work.Commit d)) ⊎ Turns c x
+
+goes_on : (L : Type 0) (s : ℕ) (t : State) (c : Committing) (t' : State) (d : Committing) → GoesOnTo s t c t' d → Bounded L s t' d → Bounded L s t c
+goes_on L s t c t' d steps next = (suc (next.0 + steps_after c), λ w is at. stepped w s (next.0 + steps_after c) (work.Commit c) at (λ u o x m now. inr (by u x now (steps (state_of u) x o (subst (λ (y : State). MakesCommit s y c (state_of u) x o) is m)))))
+  where
+    by : (u : WorldOf L) (x : Work) → work_in u.actors s ≡ x → ((state_of u ≡ t') × (x ≡ work.Commit d)) ⊎ Turns c x → EndsIn (next.0 + steps_after c) u s
+    by u x now (inl k) = more u s next.0 (next.0 + steps_after c) (omega arith) (next.1 u k.0 (now ∙ k.1))
+    by u x now (inr k) = turned_ends s (next.0 + steps_after c) u c x now k (omega arith)
+
+turns_at_once : (L : Type 0) (s : ℕ) (t : State) (c : Committing) → ((u : State) (x : Work) (o : StepOut) → MakesCommit s t c u x o → Turns c x) → Bounded L s t c
+turns_at_once L s t c steps = (suc (steps_after c), λ w is at. stepped w s (steps_after c) (work.Commit c) at (λ u o x m now. inr (turned_ends s (steps_after c) u c x now (steps (state_of u) x o (subst (λ (y : State). MakesCommit s y c (state_of u) x o) is m)) (omega arith))))
+
+-- what is said of the parts of a list is said of those of an equal one
+of_cons : {A : Type 0} (P : A → List A → Type 0) (x y : A) (xs ys : List A) → x ∷ xs ≡ y ∷ ys → P x xs → P y ys
+of_cons {A} P x y xs ys e h = subst (λ (z : A). P z ys) (let k : x ∷ xs ≡ y ∷ ys = e in cc) (subst (λ (zs : List A). P x zs) (let k : x ∷ xs ≡ y ∷ ys = e in cc) h)
+
+module _ (s : ℕ) (t u : State) (c : Committing) (x : Work) (going : c.outcome ≡ None) where
+  -- it turns to undoing, for want of memory or refused
+  turns_wanting : x ≡ work.Commit (wanting c) → Turns c x
+  turns_wanting is = (wanting c, end.Memory, is, refl, one_more (length c.writer.written))
+
+  turns_refused : (d : Committing) (item : Item) (o : Revision) → x ≡ work.Commit d → d ≡ refused c item o → Turns c x
+  turns_refused d item o is same = (refused c item o, end.Clash item o, is ∙ ap work.Commit same, refl, one_more (length c.writer.written))
+
+  turns_committed : (d : Committing) → x ≡ work.Commit d → d ≡ committed c → Turns c x
+  turns_committed d is same = (committed c, end.Committed c.revision, is ∙ ap work.Commit same, refl, one_more (length c.writer.written))
+
+  turns_written : (p : Path) (rest : List Path) (d : Committing) → x ≡ work.Commit d → d ≡ wanting (written c p rest (nodes_in t.table p)) → Turns c x
+  turns_written p rest d is same = (wanting (written c p rest (nodes_in t.table p)), end.Memory, is ∙ ap work.Commit same, refl, appended c.writer.written p)
+
+  -- it doesn't undo, and it doesn't end
+  undoes_not : undoes c.outcome ≡ true → ⊥
+  undoes_not h = false≢true (sym (ap undoes going) ∙ h)
+
+  finishes_not : stage_of c ≡ stage.Finish → ⊥
+  finishes_not h = none_settled c.outcome going (finish_stage c h).settled
+
+  -- the next mark is due
+  marks_next : (o : StepOut) (f : Met) (rest : List Met) → c.writer.due ≡ f ∷ rest → MakesCommit s t c u x o → ((u ≡ after_mark t s (running_as s c) f rest) × (x ≡ work.Commit (marked c rest))) ⊎ Turns c x
+  marks_next o f rest due (inl m) = by m.0 m.4
+    where
+      Next : Met → List Met → Type 0
+      Next f rest = ((u ≡ after_mark t s (running_as s c) f rest) × (x ≡ work.Commit (marked c rest))) ⊎ Turns c x
+
+      by : (k : StepKind) → MakesUpdate s t c u m.2 k → Next f rest
+      by kind.Mark g = of_cons Next g.0 f g.1 rest (sym g.3 ∙ due)
+          (elim g.5 [ inl k ↦ inl (g.4, m.3 ∙ ap work.Commit k.1) | inr k ↦ inr (turns_refused m.2 g.0.mine g.0.other m.3 k.1) ])
+      by kind.Write g = absurd (none_cons c.writer.due f rest g.3 due)
+      by kind.Last g = absurd (none_cons c.writer.due f rest g.1 due)
+      by kind.Undo g = absurd (undoes_not g.2)
+      by _ g = absurd g
+  marks_next o f rest due (inr (inl m)) = absurd (finishes_not m.0)
+  marks_next o f rest due (inr (inr m)) = inr (turns_wanting m.3)
+
+  -- the next document is due
+  writes_next : (o : StepOut) (p : Path) (rest : List Path) → c.writer.due ≡ [] → c.writer.left ≡ p ∷ rest → MakesCommit s t c u x o → ((u ≡ after_write t s (running_as s c) p rest) × (x ≡ work.Commit (written c p rest (nodes_in t.table p)))) ⊎ Turns c x
+  writes_next o p rest due left (inl m) = by m.0 m.4
+    where
+      Next : Path → List Path → Type 0
+      Next p rest = ((u ≡ after_write t s (running_as s c) p rest) × (x ≡ work.Commit (written c p rest (nodes_in t.table p)))) ⊎ Turns c x
+
+      by : (k : StepKind) → MakesUpdate s t c u m.2 k → Next p rest
+      by kind.Mark g = absurd (none_cons c.writer.due g.0 g.1 due g.3)
+      by kind.Write g = of_cons Next g.0 p g.1 rest (sym g.4 ∙ left)
+          (elim g.5 [ inl k ↦ inl (k.0, m.3 ∙ ap work.Commit k.1) | inr k ↦ inr (turns_written g.0 g.1 m.2 m.3 k.1) ])
+      by kind.Last g = absurd (none_cons c.writer.left p rest g.2 left)
+      by kind.Undo g = absurd (undoes_not g.2)
+      by _ g = absurd g
+  writes_next o p rest due left (inr (inl m)) = absurd (finishes_not m.0)
+  writes_next o p rest due left (inr (inr m)) = inr (turns_wanting m.3)
+
+  -- the last write is due
+  lasts_next : (o : StepOut) → c.writer.due ≡ [] → c.writer.left ≡ [] → MakesCommit s t c u x o → Turns c x
+  lasts_next o due left (inl m) = by m.0 m.4
+    where
+      by : (k : StepKind) → MakesUpdate s t c u m.2 k → Turns c x
+      by kind.Mark g = absurd (none_cons c.writer.due g.0 g.1 due g.3)
+      by kind.Write g = absurd (none_cons c.writer.left g.0 g.1 left g.4)
+      by kind.Last g = elim g.4 [ inl k ↦ turns_committed m.2 m.3 k.1 | inr k ↦ turns_refused m.2 k.0 k.1 m.3 k.3 ]
+      by kind.Undo g = absurd (undoes_not g.2)
+      by _ g = absurd g
+  lasts_next o due left (inr (inl m)) = absurd (finishes_not m.0)
+  lasts_next o due left (inr (inr m)) = turns_wanting m.3
+
+-- a commit ends with these documents left, where it does with no marks due
+marks_end : (L : Type 0) (s : ℕ) (ps : List Path) → ((t : State) (c : Committing) → c.outcome ≡ None → c.writer.due ≡ [] → c.writer.left ≡ ps → Bounded L s t c)
+    → (fs : List Met) (t : State) (c : Committing) → c.outcome ≡ None → c.writer.due ≡ fs → c.writer.left ≡ ps → Bounded L s t c
+marks_end L s ps unmet [] t c going due left = unmet t c going due left
+marks_end L s ps unmet (f ∷ fs) t c going due left =
+    goes_on L s t c (after_mark t s (running_as s c) f fs) (marked c fs) (λ u x o m. marks_next s t u c x going o f fs due m) (marks_end L s ps unmet fs (after_mark t s (running_as s c) f fs) (marked c fs) going refl left)
+
+writes_end : (L : Type 0) (s : ℕ) (ps : List Path) (t : State) (c : Committing) → c.outcome ≡ None → c.writer.due ≡ [] → c.writer.left ≡ ps → Bounded L s t c
+writes_end L s [] t c going due left = turns_at_once L s t c (λ u x o m. lasts_next s t u c x going o due left m)
+writes_end L s (p ∷ ps) t c going due left =
+    goes_on L s t c (after_write t s (running_as s c) p ps) (written c p ps (nodes_in t.table p)) (λ u x o m. writes_next s t u c x going o p ps due left m)
+    (marks_end L s ps (λ t' d a b e. writes_end L s ps t' d a b e) (found c.base c.revision p c.marks (nodes_in t.table p)) (after_write t s (running_as s c) p ps) (written c p ps (nodes_in t.table p)) going refl refl)
+
+commit_ends : {L : Type 0} (w : WorldOf L) (s : ℕ) (c : Committing) → work_in w.actors s ≡ work.Commit c → (n : ℕ) × EndsIn n w s
+commit_ends {L} w s c at = by c.outcome refl
+  where
+    by : (e : Option CommitEnd) → c.outcome ≡ e → (n : ℕ) × EndsIn n w s
+    by (Some e) is = (suc (suc (length c.writer.written)), settled_ends s c.writer.written w c e at is refl)
+    by None is =
+        let b = marks_end L s c.writer.left (λ t' d a b e. writes_end L s c.writer.left t' d a b e) c.writer.due (state_of w) c is refl refl in
+        (b.0, b.1 w refl at)
+
+plan_ends : {L : Type 0} (w : WorldOf L) (s : ℕ) (edit : Edit) (marks : List MarkAt) → work_in w.actors s ≡ work.Plan edit marks → (n : ℕ) × EndsIn n w s
+plan_ends {L} w s edit marks at = (suc drawn.0, stepped w s drawn.0 (work.Plan edit marks) at (λ u o x m now. inr (by u o x m now)))
+  where
+    drawn : Bounded L s (after_draw (state_of w) s edit marks (marked_paths marks)) (begun (next_draw (memory_of (state_of w) s)) (base_in (state_of w) s) edit marks)
+    drawn = writes_end L s (written_paths marks) (after_draw (state_of w) s edit marks (marked_paths marks)) (begun (next_draw (memory_of (state_of w) s)) (base_in (state_of w) s) edit marks) refl refl refl
+
+    by : (u : WorldOf L) (o : StepOut) (x : Work) → Makes s (state_of w) (work.Plan edit marks) (state_of u) x o → work_in u.actors s ≡ x → EndsIn drawn.0 u s
+    by u (answers.Went kind.Draw) x m now = drawn.1 u m.0 (now ∙ m.1)
+    by u answers.Memory x m now = resting u s (now ∙ m.1) drawn.0
+    by u _ x m now = absurd m
+
+-- ---- a load or a list
+
+-- documents at rest
+abbrev at_rest : Table → Moment
+at_rest t = record { table = t.documents; past = [] }
+
+done_due : (t : Table) (r : Reader) → IsDone r.step → due (read_on t r) ≡ ask.Done
+done_due t r = by r.alloc r.pin r.parent r.at r.known r.names r.step
+  where
+    by : (a : Global) (pin : Pin) (parent : Option Path) (at : Path) (known : Known) (names : List Name) (x : Step) → IsDone x
+        → due (read_on t (record { alloc = a; pin = pin; parent = parent; at = at; known = known; names = names; step = x })) ≡ ask.Done
+    by a pin parent at known names (step.Done o) done = refl
+    by a pin parent at known names step.Main done = absurd done
+    by a pin parent at known names step.Next done = absurd done
+    by a pin parent at known names (step.Previous left) done = absurd done
+    by a pin parent at known names (step.Roots left) done = absurd done
+
+-- a step of a load: it reads on over the same documents, or its task has ended
+read_step : (s : ℕ) (t u : State) (r : Reader) (x : Work) (o : StepOut) → Makes s t (work.Read r) u x o → (x ≡ work.Rest) ⊎ ((u.table ≡ t.table) × (x ≡ work.Read (read_on t.table r)) × (due (read_on t.table r) ≢ ask.Done))
+read_step s t u r x (answers.Went kind.Read) m = inr (ap (λ (y : State). y.table) m.0, m.1, m.2)
+read_step s t u r x (answers.Ready e) m = inl m.1
+read_step s t u r x answers.Memory m = inl m.1
+read_step s t u r x _ m = absurd m
+
+reads_on : {L : Type 0} (s n : ℕ) (t : Table) (w : WorldOf L) (r : Reader) → work_in w.actors s ≡ work.Read r → w.table ≡ t
+    → ((u : WorldOf L) → u.table ≡ t → work_in u.actors s ≡ work.Read (read_on t r) → due (read_on t r) ≢ ask.Done → EndsIn n u s) → EndsIn (suc n) w s
+reads_on {L} s n t w r at same f = stepped w s n (work.Read r) at (λ u o x m now. inr (by u x now (read_step s (state_of w) (state_of u) r x o m)))
+  where
+    by : (u : WorldOf L) (x : Work) → work_in u.actors s ≡ x → (x ≡ work.Rest) ⊎ ((u.table ≡ w.table) × (x ≡ work.Read (read_on w.table r)) × (due (read_on w.table r) ≢ ask.Done)) → EndsIn n u s
+    by u x now (inl k) = resting u s (now ∙ k) n
+    by u x now (inr k) = f u (k.0 ∙ same) (now ∙ (k.1 ∙ ap (λ (y : Table). work.Read (read_on y r)) same)) (subst (λ (y : Table). due (read_on y r) ≢ ask.Done) same k.2)
+
+read_ends : {L : Type 0} (s n : ℕ) (t : Table) (w : WorldOf L) (r : Reader) → work_in w.actors s ≡ work.Read r → w.table ≡ t → IsDone (after_moments (first_of n (λ i. at_rest t)) r).step → EndsIn (suc n) w s
+read_ends s zero t w r at same done = reads_on s zero t w r at same (λ u still now more. absurd (more (done_due t r done)))
+read_ends s (suc n) t w r at same done = reads_on s (suc n) t w r at same (λ u still now more. read_ends s n t u (read_on t r) now still done)
+
+-- a document that is found is under one of the ids
+ids_known : {X : Type 0} (es : List (DocId × X)) (x : DocId) → is_some (lookup (is_at (id_cmp x)) es) ≡ true → list_any (eq_by_cmp id_cmp x) (keys_of es) ≡ true
+ids_known [] x h = h
+ids_known (e ∷ es) x h = by (eq_by_cmp id_cmp x e.0) h (ids_known es x)
+  where
+    by : (b : Bool) → is_some (cond b (Some e.1) (lookup (is_at (id_cmp x)) es)) ≡ true → (is_some (lookup (is_at (id_cmp x)) es) ≡ true → list_any (eq_by_cmp id_cmp x) (keys_of es) ≡ true) → (b || list_any (eq_by_cmp id_cmp x) (keys_of es)) ≡ true
+    by true h rest = refl
+    by false h rest = rest h
+
+load_ends : {L : Type 0} (w : WorldOf L) (s : ℕ) (r : Reader) → IsTable w.table.documents → work_in w.actors s ≡ work.Read r → (n : ℕ) × EndsIn n w s
+load_ends w s r table at =
+    let e = readers_end (keys_of w.table.documents) (λ i. at_rest w.table) r (λ i. record { ordered = table; among = ids_known w.table.documents }) in
+    (suc e.0, read_ends s e.0 w.table w r at refl e.1)
+
+-- ---- all
+
+ends_by : {L : Type 0} (w : WorldOf L) (s : ℕ) → IsTable w.table.documents → (v : Work) → work_in w.actors s ≡ v → (n : ℕ) × EndsIn n w s
+ends_by w s table work.Rest at = (zero, at)
+ends_by w s table work.Login at = (suc zero, short_ends w s zero work.Login tt at)
+ends_by w s table work.End at = (suc zero, short_ends w s zero work.End tt at)
+ends_by w s table work.Refresh at = (suc zero, short_ends w s zero work.Refresh tt at)
+ends_by w s table (work.Read r) at = load_ends w s r table at
+ends_by w s table (work.Plan edit marks) at = plan_ends w s edit marks at
+ends_by w s table (work.Commit c) at = commit_ends w s c at
+ends_by w s table (work.Move r) at = (suc zero, short_ends w s zero (work.Move r) tt at)
+
+-- each task of a session that alone takes steps ends, unless it is told to wait
+pub task_ends : {L : Type 0} (w : WorldOf L) (s : ℕ) → IsTable w.table.documents → (n : ℕ) × EndsIn n w s
+task_ends w s table = ends_by w s table (work_in w.actors s) refl
