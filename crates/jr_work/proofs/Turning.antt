@@ -41,12 +41,12 @@ use Rattle.jr_work.proofs.Due.{at_commit, last_commits}
 use Rattle.jr_work.proofs.Flying.{halves, none_is_some, some_is_some}
 use Rattle.jr_work.proofs.Seen.{waits_for}
 
-set_same : {X : Type 0} (xs : List X) (i : ℕ) (x y : X) → slice_get xs i ≡ Some y → slice_get (slice_set xs i x) i ≡ Some x
+pub set_same : {X : Type 0} (xs : List X) (i : ℕ) (x y : X) → slice_get xs i ≡ Some y → slice_get (slice_set xs i x) i ≡ Some x
 set_same [] i x y h = none_is_some y h
 set_same (e ∷ xs) zero x y h = refl
 set_same (e ∷ xs) (suc i) x y h = set_same xs i x y h
 
-set_long : {X : Type 0} (xs : List X) (i : ℕ) (x : X) → length (slice_set xs i x) ≡ length xs
+pub set_long : {X : Type 0} (xs : List X) (i : ℕ) (x : X) → length (slice_set xs i x) ≡ length xs
 set_long [] i x = refl
 set_long (e ∷ xs) zero x = refl
 set_long (e ∷ xs) (suc i) x = ap suc (set_long xs i x)

@@ -1,10 +1,10 @@
 // The world of a script with its sessions, and the turns that an entry of a schedule asks for.
-ghost use Rattle.std.specs.Prelude.{◌≡◌, ◌<◌, ℕ, IfOk, OnOk, List, IsTrue, is_some, length, slice_get, ◌∷◌};
+ghost use Rattle.std.specs.Prelude.{◌≡◌, ◌<◌, ℕ, All, IfOk, OnOk, List, IsTrue, is_some, length, slice_get, ◌∷◌};
 ghost use Rattle.jr_script.specs.Bounds.{IsWithin};
 ghost use Rattle.jr_script.specs.Schedules.{IsEntryWithin, session_named};
 ghost use Rattle.oak_world.specs.Seen.{shown_at};
 ghost use Rattle.jcr_session.specs.Standing.{Stands};
-ghost use Rattle.jr_work.specs.Places.{flying_sessions};
+ghost use Rattle.jr_work.specs.Places.{flying_sessions, is_over};
 ghost use Rattle.jr_work.specs.Parts.{Part, Rule, by_entry, to_end, to_reply};
 ghost use Rattle.jr_script.specs.declared.script.Entry.TheVariants as entry;
 ghost use Rattle.jr_work.specs.Stages.{Closes, HasCome, HasRead, HasTurnedIn, IsBegun, IsOfCommit, IsStage, flight_behind, has_come, law_of};
@@ -141,6 +141,7 @@ impl Stage {
         requires there { s < length self.old.seats.items }
         ensures { OnOk result (Closes self.old self.new (by_entry (entry.Read s))) }
     {
+        self.world.journal();
         let seat = &mut self.seats[s as usize];
         read_one(&mut self.world, &mut seat.run, s)?;
         Ok(())
@@ -168,7 +169,8 @@ impl Stage {
     pub(crate) fn finish(&mut self, s: u32) -> Result<(), AllocError>
         requires stage { IsStage self.old }
         requires there { s < length self.old.seats.items }
-        ensures { OnOk result (Closes self.old self.new (to_end s)) }
+        ensures closes { OnOk result (Closes self.old self.new (to_end s)) }
+        ensures over { OnOk result (IsTrue (is_over self.new.script self.new.world.history.past s)) }
     {
         for _ in 0..u64::MAX {
             match self.turn(s)? {
@@ -183,8 +185,10 @@ impl Stage {
     // The sessions whose commits are in flight, in ascending order of their revisions.
     pub(crate) fn flying(&self) -> Result<List<u32>, AllocError>
         requires { IsStage self.now }
-        ensures { IfOk result (λ sessions. sessions ≡ flying_sessions self.now.world.history.past) }
+        ensures flying { IfOk result (λ sessions. sessions ≡ flying_sessions self.now.world.history.past) }
+        ensures seats { IfOk result (All (λ s. s < length self.now.seats.items)) }
     {
+        self.world.journal();
         let mut flying = BTreeMap::new(self.alloc);
         for (s, seat) in self.seats.iter().enumerate() {
             if let Some(flight) = &seat.flight {
