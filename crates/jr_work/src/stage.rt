@@ -196,8 +196,8 @@ impl Stage {
             }
         }
         let mut sessions = List::new(self.alloc);
-        for (_, s) in flying.iter() {
-            sessions.push(*s)?;
+        for (_, session) in flying.iter() {
+            sessions.push(*session)?;
         }
         Ok(sessions)
     }
