@@ -200,3 +200,8 @@ module _ (n : GName) (s : ℕ) (old new : Stage) (seat seat_now : Seat)
               (cut_due old.script (due_at old.world) (due_at new.world) last_stays parts [] (past_of old) h) refl tt),
         );
   }
+
+-- ---- what a reading step asks
+
+pub stands_at : (stage : Stage) (s : ℕ) (seat : Seat) → IsStage stage → slice_get stage.seats.items s ≡ Some seat → (n : GName) → Stands stage.world.law (shown_at n stage.world s) seat.run
+stands_at stage s seat is at n = (is.each s seat at).stands n

@@ -1,16 +1,18 @@
 -- Turns until a commit has come to where an entry waits for it.
-use Rattle.std.proofs.Common.{◌≡◌, ◌⊎◌, inl, inr, ℕ, Bool, true, false, not, ◌||◌, ◌&&◌, Some, None, Option, List, [], ◌∷◌, ◌++◌, refl, sym, ap, ◌∙◌, subst}
+use Rattle.std.proofs.Common.{◌≡◌, ◌⊎◌, inl, inr, ℕ, zero, suc, ◌<◌, length, map, Bool, true, false, not, ◌||◌, ◌&&◌, Some, None, Option, List, [], ◌∷◌, ◌++◌, refl, sym, ap, ◌∙◌, subst, arith, is_some}
 use Rattle.std.specs.Prelude.{nat_le, slice_get}
 use Rattle.std.specs.Option.{option_map_or}
 use Rattle.std.specs.List.{count_by}
+use Rattle.std.proofs.lemmas.List.{length-map}
 use mathlib.Core.Bool.{false≢true}
 use Rattle.oak_machine.specs.declared.event.StepKind.{StepKind}
-use Rattle.oak_machine.specs.History.{Past}
+use Rattle.oak_machine.specs.History.{History, Past}
 use Rattle.oak_machine.specs.Sessions.{is_drawing}
 use Rattle.jcr_session.specs.declared.turn.Turn.{Turn}
 use Rattle.jcr_session.specs.declared.turn.Turn.TheVariants as turn
 use Rattle.jr_script.specs.Schedules.{session_named}
 use Rattle.jr_script.specs.declared.script.Script.{Script}
+use Rattle.jr_script.specs.declared.script.SessionScript.{SessionScript}
 use Rattle.jr_script.specs.declared.script.Entry.{Entry}
 use Rattle.jr_script.specs.declared.script.Entry.TheVariants as entry
 use Rattle.jr_work.specs.declared.flight.Flight.{Flight}
@@ -221,3 +223,52 @@ module _ (first stage : Stage) (s : ℕ) (e : Entry) (named : IsOfCommit s e) (h
 
     pub go_over : HasCome stage new s turn.Ended → Closes first new (by_entry e)
     go_over come = at_rest turn.Ended come come.came.0 (rests stage.script (past_of stage) s (inr come.came.1))
+
+-- ---- the turns of an entry
+
+no_place : {A : Type 0} (i : ℕ) → i < 0 → A
+no_place i h = absurd (omega arith)
+
+earlier_place : (j n : ℕ) → suc j < suc n → j < n
+earlier_place j n h = omega arith
+
+-- a seat stands at each place
+pub seat_at : {X : Type 0} (xs : List X) (i : ℕ) → i < length xs → (x : X) × (slice_get xs i ≡ Some x)
+seat_at [] i below = no_place i below
+seat_at (x ∷ xs) zero below = (x, refl)
+seat_at (x ∷ xs) (suc j) below = seat_at xs j (earlier_place j (length xs) below)
+
+-- the script, and so the number of seats, stays
+pub seats_stay : (first stage : Stage) → IsStage first → IsStage stage → stage.script ≡ first.script → length stage.seats.items ≡ length first.seats.items
+seats_stay first stage is now same = now.seats ∙ (ap (λ (x : Script). length x.sessions) same ∙ sym is.seats)
+
+-- each seat is of a session of the world
+pub session_there : (stage : Stage) (s : ℕ) → IsStage stage → s < length stage.seats.items → s < length stage.world.history.sessions
+session_there stage s is below = subst (λ (n : ℕ). s < n) (is.seats ∙ sym (ap (λ (h : History). length h.sessions) is.history ∙ length-map stage.script.sessions (λ (x : SessionScript). x.cluster))) below
+
+pub has_session : (stage : Stage) (s : ℕ) → IsStage stage → s < length stage.seats.items → is_some (slice_get stage.world.history.sessions s) ≡ true
+has_session stage s is below = ap is_some (seat_at stage.world.history.sessions s (session_there stage s is below)).1
+
+pub as_many : (stage : Stage) → IsStage stage → length stage.seats.items ≡ length stage.world.history.sessions
+as_many stage is = is.seats ∙ sym (ap (λ (h : History). length h.sessions) is.history ∙ length-map stage.script.sessions (λ (x : SessionScript). x.cluster))
+
+module _ (first stage : Stage) (s : ℕ) (e : Entry) (named : IsOfCommit s e) (has : HasGone first stage (by_entry e) s) where
+  pub still_there : IsStage first → s < length first.seats.items → s < length stage.seats.items
+  still_there is below = subst (λ (n : ℕ). s < n) (sym (seats_stay first stage is has.under.stage_is has.under.script)) below
+
+  module _ (below : s < length stage.seats.items) where
+    pub go_closes : has_come stage s e ≡ true → Closes first stage (by_entry e)
+    go_closes come = let p = seat_at stage.seats.items s below in go_done first stage s e named has p.0 p.1 come
+
+    pub goes : has_come stage s e ≡ false → (new : Stage) (k : StepKind) → HasCome stage new s (turn.Stepped k) → HasGone first new (by_entry e) s
+    goes short new k come = let p = seat_at stage.seats.items s below in go_steps first stage s e named has p.0 p.1 short new k come
+
+    pub go_ends : has_come stage s e ≡ false → (new : Stage) (answer : Turn) → HasCome stage new s answer → ((k : StepKind) → answer ≡ turn.Stepped k → ⊥) → Closes first new (by_entry e)
+    go_ends short new answer come apart = by (seat_at stage.seats.items s below) answer come apart
+      where
+        by : (seat : Seat) × (slice_get stage.seats.items s ≡ Some seat) → (answer : Turn) → HasCome stage new s answer → ((k : StepKind) → answer ≡ turn.Stepped k → ⊥) → Closes first new (by_entry e)
+        by (seat, at) (turn.Stepped k) come apart = absurd (apart k refl)
+        by (seat, at) (turn.Said i) come apart = go_said first stage s e named has seat at short new i come
+        by (seat, at) (turn.Waiting q) come apart = go_waits first stage s e named has seat at short new q come
+        by (seat, at) turn.Ended come apart = go_over first stage s e named has seat at short new come
+        by (seat, at) turn.Memory come apart = absurd come.came

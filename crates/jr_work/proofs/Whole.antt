@@ -1,16 +1,19 @@
 -- A script's run, put together from its entries, its last replies and its ends.
-use Rattle.std.proofs.Common.{◌≡◌, ℕ, ◌+◌, ◌<◌, length, get_or, map, take, Bool, true, false, cond, Some, None, Option, List, [], ◌∷◌, ◌++◌, refl, sym, ap, ◌∙◌, subst, arith}
+use Rattle.std.proofs.Common.{◌≡◌, ℕ, ◌+◌, ◌<◌, ◌≤◌, length, get_or, map, take, Bool, true, false, cond, Some, None, Option, List, [], ◌∷◌, ◌++◌, refl, sym, ap, ◌∙◌, subst, arith}
 use Rattle.std.specs.Prelude.{◌==◌, reverse, slice_get}
 use Rattle.std.specs.Option.{option_map_or}
-use Rattle.std.specs.List.{range_with_len}
+use Rattle.std.specs.List.{All, range_with_len}
 use Rattle.std.proofs.lemmas.Bool.Decides.{nat_tests}
-use Rattle.std.proofs.lemmas.List.{map-append, reverse-append, take_more}
+use Rattle.std.proofs.lemmas.List.{map-append, reverse-append, take_all, take_more}
+use Rattle.std.proofs.lemmas.List.Elements.{All-get_or}
 use Rattle.std.proofs.lemmas.Option.{slice_get_within}
 use Rattle.oak_machine.specs.History.{History, Past}
 use Rattle.oak_machine.specs.Runs.{IsRun}
 use Rattle.oak_machine.specs.Sessions.{has_left, next_index}
 use Rattle.jcr_session.specs.declared.law.JcrLaw.{JcrLaw}
 use Rattle.jcr_session.specs.Sights.{says_of, starts_of}
+use Rattle.jr_script.specs.Bounds.{IsWithin}
+use Rattle.jr_script.specs.Schedules.{IsEntryWithin}
 use Rattle.jr_script.specs.declared.script.Entry.{Entry}
 use Rattle.jr_script.specs.declared.script.Script.{Script}
 use Rattle.jr_script.specs.declared.script.SessionScript.{SessionScript}
@@ -23,6 +26,7 @@ use Rattle.jr_work.specs.SoFar.{IsCutSoFar}
 use Rattle.jr_work.specs.Stages.{AreOver, Closes, ClosesAll, IsBegun, IsStage, due_at, law_of, past_of}
 use Rattle.jr_work.proofs.Answering.{range_more, said_so_far}
 use Rattle.jr_work.proofs.Flying.{halves}
+use Rattle.jr_work.proofs.Reaching.{seats_stay}
 
 append_nil : {X : Type 0} (a : List X) → a ++ [] ≡ a
 append_nil [] = refl
@@ -70,6 +74,48 @@ take_one_more f xs i x below is = ap (map f) (take_more xs i x below ∙ ap (λ 
 
 pub range_one_more : (f : ℕ → Rule) (n : ℕ) → map f (range_with_len 0 (n + 1)) ≡ map f (range_with_len 0 n) ++ f n ∷ []
 range_one_more f n = ap (map f) (range_more n) ∙ map-append f (range_with_len 0 n) (n ∷ [])
+
+-- ---- the entries
+
+module _ (first stage : Stage) (rules : List Rule) (all : ClosesAll first stage rules) where
+  pub seats_still : IsStage first → length stage.seats.items ≡ length first.seats.items
+  seats_still is = seats_stay first stage is all.stage all.script
+
+  pub below_still : IsStage first → (s : ℕ) → s < length first.seats.items → s < length stage.seats.items
+  below_still is s below = subst (λ (n : ℕ). s < n) (sym (seats_still is)) below
+
+  -- an entry is in the schedule still, and of a session with a seat
+  pub entry_there : (i : ℕ) → i < length first.script.schedule → i < length stage.script.schedule
+  entry_there i below = subst (λ (x : Script). i < length x.schedule) (sym all.script) below
+
+  pub entry_within : IsWithin first.script → (i : ℕ) (e : Entry) → i < length first.script.schedule → e ≡ get_or stage.script.schedule i e → IsEntryWithin (length stage.seats.items) e
+  entry_within within i e below is =
+      subst (λ (n : ℕ). IsEntryWithin n e) (sym (all.stage.seats ∙ ap (λ (x : Script). length x.sessions) all.script))
+      (subst (λ (x : Entry). IsEntryWithin (length first.script.sessions) x) (sym (is ∙ ap (λ (x : Script). get_or x.schedule i e) all.script))
+      (All-get_or (IsEntryWithin (length first.script.sessions)) first.script.schedule i e below within.entries))
+
+  pub listed_there : IsStage first → (xs : List ℕ) → All (λ s. s < length first.seats.items) xs → (i s : ℕ) → i < length xs → s ≡ get_or xs i s → s < length stage.seats.items
+  listed_there is xs there i s below at =
+      below_still is s (subst (λ (x : ℕ). x < length first.seats.items) (sym at) (All-get_or (λ x. x < length first.seats.items) xs i s below there))
+
+pub played_more : (first stage new : Stage) (i : ℕ) (e : Entry) → ClosesAll first stage (map by_entry (take i first.script.schedule)) → i < length first.script.schedule → e ≡ get_or stage.script.schedule i e → Closes stage new (by_entry e) → ClosesAll first new (map by_entry (take (i + 1) first.script.schedule))
+played_more first stage new i e all below is one =
+    subst (λ (rules : List Rule). ClosesAll first new rules) (sym (take_one_more by_entry first.script.schedule i e below (is ∙ ap (λ (x : Script). get_or x.schedule i e) all.script)))
+    (all_more first stage new (map by_entry (take i first.script.schedule)) (by_entry e) all one)
+
+pub replied_more : (first stage new : Stage) (xs : List ℕ) (i s : ℕ) → ClosesAll first stage (map to_reply (take i xs)) → i < length xs → s ≡ get_or xs i s → Closes stage new (to_reply s) → ClosesAll first new (map to_reply (take (i + 1) xs))
+replied_more first stage new xs i s all below is one =
+    subst (λ (rules : List Rule). ClosesAll first new rules) (sym (take_one_more to_reply xs i s below is))
+    (all_more first stage new (map to_reply (take i xs)) (to_reply s) all one)
+
+pub finished_more : (first stage new : Stage) (s : ℕ) → ClosesAll first stage (map to_end (range_with_len 0 s)) → Closes stage new (to_end s) → ClosesAll first new (map to_end (range_with_len 0 (s + 1)))
+finished_more first stage new s all one =
+    subst (λ (rules : List Rule). ClosesAll first new rules) (sym (range_one_more to_end s))
+    (all_more first stage new (map to_end (range_with_len 0 s)) (to_end s) all one)
+
+-- all of a list
+pub all_taken : {X : Type 0} (f : X → Rule) (first stage : Stage) (xs : List X) (i : ℕ) → length xs ≤ i → ClosesAll first stage (map f (take i xs)) → ClosesAll first stage (map f xs)
+all_taken f first stage xs i long all = subst (λ (l : List _). ClosesAll first stage (map f l)) (take_all i xs long) all
 
 -- ---- who has ended
 
