@@ -13,6 +13,5 @@ mod stage;
 mod tests;
 
 pub use committer::Committer;
-pub use ops::{last_op, write_of, write_op, written_ids};
 pub use outcome::CommitEnd;
 pub use stage::Stage;

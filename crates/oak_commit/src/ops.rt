@@ -2,7 +2,6 @@
 ghost use Rattle.std.specs.Prelude.{◌≡◌, ◌++◌, [], IfOk, OnOk, slice_get};
 ghost use Rattle.std.specs.List.{flat_map};
 ghost use Rattle.std.specs.Option.{option_map_or};
-ghost use Rattle.jr_path.specs.Ids.{names_of};
 ghost use Rattle.oak_clash.specs.Clashes.{commit_root};
 ghost use Rattle.oak_commit.specs.Clashing.{mark_op};
 ghost use Rattle.oak_commit.specs.Places.{items_at, places_of};
@@ -11,68 +10,10 @@ ghost use Rattle.oak_commit.specs.Writing as writing;
 use crate::places::Places;
 use jr_path::{DeepCopy, DocId, Item, Keyed, List, Path};
 use jr_rev::Revision;
-use jr_tree::{Edit, Write};
+use jr_tree::Write;
 use oak_clash::{Mark, MarkAt};
 use oak_doc::{Change, Cond, UpdateOp};
 use std::alloc::{AllocError, Global};
-
-/// The write of the document of a marked node: the entries of the edit there, the depth of the commit root (but in the
-/// commit root itself), and the notes of Touch and Guard.
-pub fn write_op(
-    alloc: Global,
-    r: Revision,
-    edit: &Edit,
-    marks: &[MarkAt],
-    root: &Path,
-    path: &Path,
-) -> Result<UpdateOp, AllocError>
-    requires { root.now ≡ commit_root marks.now }
-    ensures { IfOk result (λ op. op ≡ writing.write_op r edit.now.writes marks.now path.now) }
-{
-    let mut changes = List::new(alloc);
-    put_entries(&mut changes, r, path, edit.writes.inner().as_slice())?;
-    put_rooting(&mut changes, r, path, root)?;
-    put_markings(&mut changes, r, path, marks)?;
-    Ok(UpdateOp {
-        id: DocId::Node(path.copy()?),
-        create: true,
-        cond: None,
-        changes,
-    })
-}
-
-/// The write of the document of this id, which is that of a marked node.
-pub fn write_of(
-    alloc: Global,
-    r: Revision,
-    edit: &Edit,
-    marks: &[MarkAt],
-    root: &Path,
-    id: &DocId,
-) -> Result<UpdateOp, AllocError>
-    requires { root.now ≡ commit_root marks.now }
-    ensures { IfOk result (λ op. op ≡ writing.write_op r edit.now.writes marks.now (names_of id.now)) }
-{
-    match id {
-        DocId::Node(path) | DocId::Prev(_, path) => write_op(alloc, r, edit, marks, root, path),
-        DocId::Settings => write_op(alloc, r, edit, marks, root, &Path::root(alloc)),
-    }
-}
-
-// Puts the entries of an edit in the document of a node.
-fn put_entries(
-    changes: &mut List<Change>,
-    r: Revision,
-    path: &Path,
-    writes: &[Write],
-) -> Result<(), AllocError>
-    ensures { OnOk result (changes.new ≡ changes.old ++ writing.entries_at r path.now writes.now) }
-{
-    for write in writes {
-        put_entry(changes, r, path, write)?;
-    }
-    Ok(())
-}
 
 // Puts the entries of those writes of an edit that stand at the places of a path.
 pub(crate) fn put_entries_at(
@@ -166,23 +107,6 @@ pub(crate) fn put_rooting(
     changes.push(Change::CommitRoot(r, depth))
 }
 
-// Puts the notes of Touch and Guard of a node.
-fn put_markings(
-    changes: &mut List<Change>,
-    r: Revision,
-    path: &Path,
-    marks: &[MarkAt],
-) -> Result<(), AllocError>
-    ensures { OnOk result (changes.new ≡ changes.old ++ writing.markings_at r path.now marks.now) }
-{
-    for mark in marks {
-        if *path == mark.path {
-            put_marking(changes, r, &mark.mark)?;
-        }
-    }
-    Ok(())
-}
-
 // Puts the notes of Touch and Guard among the marks of a node.
 pub(crate) fn put_markings_of(
     changes: &mut List<Change>,
@@ -208,8 +132,8 @@ fn put_marking(changes: &mut List<Change>, r: Revision, mark: &Mark) -> Result<(
     }
 }
 
-/// The last write, which is the commit point: on the commit root, where no collision with the revision is noted.
-pub fn last_op(
+// The last write, which is the commit point: on the commit root, where no collision with the revision is noted.
+pub(crate) fn last_op(
     alloc: Global,
     r: Revision,
     marks: &[MarkAt],
@@ -249,8 +173,8 @@ pub(crate) fn mark_op(
     })
 }
 
-/// The ids of the marked nodes' documents, each once, in store order.
-pub fn written_ids(alloc: Global, marks: &[MarkAt]) -> Result<List<DocId>, AllocError>
+// The ids of the marked nodes' documents, each once, in store order.
+pub(crate) fn written_ids(alloc: Global, marks: &[MarkAt]) -> Result<List<DocId>, AllocError>
     ensures { IfOk result (λ ids. ids ≡ writing.written_ids marks.now) }
 {
     let mut marked = Keyed::new(alloc);
@@ -262,67 +186,4 @@ pub fn written_ids(alloc: Global, marks: &[MarkAt]) -> Result<List<DocId>, Alloc
         ids.push(id)?;
     }
     Ok(ids)
-}
-
-#[cfg(test)]
-mod tests {
-    use super::*;
-    use jr_path::{Name, PathFault};
-    use jr_value::{Property, Value};
-    use std::test::Fail;
-
-    fn revision() -> Revision {
-        Revision {
-            time: 1,
-            counter: 0,
-            cluster: 1,
-        }
-    }
-
-    // The node `/a` comes with a property.
-    fn edit(alloc: Global) -> Result<Edit, PathFault> {
-        let five = Property::Single(Value::Long(5));
-        let a = Path::parse(alloc, "/a")?;
-        let mut writes = List::new(alloc);
-        writes.push(Write::Here(a.copy()?))?;
-        writes.push(Write::Put(a, Name::parse(alloc, "p")?, five))?;
-        Ok(Edit { writes })
-    }
-
-    fn mark_at(alloc: Global, text: &str, mark: Mark) -> Result<MarkAt, PathFault> {
-        let path = Path::parse(alloc, text)?;
-        Ok(MarkAt { path, mark })
-    }
-
-    fn marks(alloc: Global) -> Result<Vec<MarkAt>, PathFault> {
-        let mut marks = Vec::new(alloc);
-        marks.push(mark_at(alloc, "/a", Mark::Exists)?)?;
-        marks.push(mark_at(alloc, "/", Mark::Touch)?)?;
-        Ok(marks)
-    }
-
-    #[test]
-    fn writes_of_a_new_node(rt: HostRuntime) -> Result<(), Fail> {
-        let alloc = rt.alloc();
-        let r = revision();
-        let edit = edit(alloc)?;
-        let marks = marks(alloc)?;
-        let root = oak_clash::commit_root(alloc, &marks)?;
-        let ids = written_ids(alloc, &marks)?;
-        let [top, node] = ids.inner().as_slice() else {
-            return Err(AllocError.into());
-        };
-        let op = write_of(alloc, r, &edit, &marks, &root, top)?;
-        assert_eq!(rt; op.id.text(alloc)?.as_str(), "0:/");
-        assert_eq!(rt; op.changes.inner().len(), 1);
-        let op = write_of(alloc, r, &edit, &marks, &root, node)?;
-        assert_eq!(rt; op.id.text(alloc)?.as_str(), "1:/a");
-        assert_eq!(rt; op.changes.inner().len(), 3);
-        assert!(rt; op.create && op.cond.is_none());
-        let last = last_op(alloc, r, &marks, &root)?;
-        assert_eq!(rt; last.id.text(alloc)?.as_str(), "0:/");
-        assert_eq!(rt; last.cond, Some(Cond::NoCollision(r)));
-        assert!(rt; matches!(last.changes.inner().as_slice(), [Change::Revisions(_)]));
-        Ok(())
-    }
 }
