@@ -123,6 +123,7 @@ module _ (script : Script) (within : IsWithin script) where
       stage_is = record {
         law = ap (λ (w : WorldOf JcrLaw). w.law) world_is ∙ ap law_of (sym script_is);
         history = subst (λ (x : Script). stage.world.history ≡ history_at x stage.world.history.past) (sym script_is) (subst (λ (w : WorldOf JcrLaw). w.history ≡ history_at script w.history.past) (sym world_is) refl);
+        few = subst (λ (x : Script). length x.sessions ≤ 64) (sym script_is) within.few;
         seats = ap (λ (l : List Seat). length l) seats_are ∙ (new.many ∙ ap (λ (x : Script). length x.sessions) (sym script_is));
         each = λ s seat at.
           subst (λ (x : Script). IsSeated x stage.world s seat) (sym script_is)

@@ -1,5 +1,5 @@
 -- A turn brings the stage on.
-use Rattle.std.proofs.Common.{◌≡◌, ◌⊎◌, inl, inr, ℕ, zero, suc, length, map, Bool, true, false, cond, not, ◌||◌, ◌&&◌, Some, None, Option, List, [], ◌∷◌, ◌++◌, refl, sym, ap, ◌∙◌, subst, arith}
+use Rattle.std.proofs.Common.{◌≡◌, ◌⊎◌, inl, inr, ℕ, ◌≤◌, zero, suc, length, map, Bool, true, false, cond, not, ◌||◌, ◌&&◌, Some, None, Option, List, [], ◌∷◌, ◌++◌, refl, sym, ap, ◌∙◌, subst, arith}
 use Rattle.std.specs.Prelude.{◌==◌, slice_get, slice_set}
 use Rattle.std.specs.Borrow.{GName}
 use Rattle.std.specs.Option.{option_and_then, option_map, option_map_or}
@@ -41,12 +41,12 @@ use Rattle.jr_work.proofs.Due.{at_commit, last_commits}
 use Rattle.jr_work.proofs.Flying.{halves, none_is_some, some_is_some}
 use Rattle.jr_work.proofs.Seen.{waits_for}
 
-set_same : {X : Type 0} (xs : List X) (i : ℕ) (x y : X) → slice_get xs i ≡ Some y → slice_get (slice_set xs i x) i ≡ Some x
+pub set_same : {X : Type 0} (xs : List X) (i : ℕ) (x y : X) → slice_get xs i ≡ Some y → slice_get (slice_set xs i x) i ≡ Some x
 set_same [] i x y h = none_is_some y h
 set_same (e ∷ xs) zero x y h = refl
 set_same (e ∷ xs) (suc i) x y h = set_same xs i x y h
 
-set_long : {X : Type 0} (xs : List X) (i : ℕ) (x : X) → length (slice_set xs i x) ≡ length xs
+pub set_long : {X : Type 0} (xs : List X) (i : ℕ) (x : X) → length (slice_set xs i x) ≡ length xs
 set_long [] i x = refl
 set_long (e ∷ xs) zero x = refl
 set_long (e ∷ xs) (suc i) x = ap suc (set_long xs i x)
@@ -212,6 +212,7 @@ module _ (n : GName) (s : ℕ) (old new : Stage) (seat seat_now : Seat) (answer 
   stage_now = record {
     law = law_same ∙ (stage.law ∙ ap law_of (sym script_same));
     history = history_now old.script n s old.world new.world seat seat_now.run answer stage.law stage.history seated turned ∙ ap (λ (x : Script). history_at x new.world.history.past) (sym script_same);
+    few = subst (λ (x : Script). length x.sessions ≤ 64) (sym script_same) stage.few;
     seats = ap (λ (l : List Seat). length l) seats_now ∙ (set_long old.seats.items s seat_now ∙ (stage.seats ∙ ap (λ (x : Script). length x.sessions) (sym script_same)));
     each = λ t other is. subst (λ (x : Script). IsSeated x new.world t other) (sym script_same) (each_now t other is);
   }

@@ -7,7 +7,7 @@ ghost use Rattle.jcr_session.specs.Standing.{Stands};
 ghost use Rattle.jr_work.specs.Places.{flying_sessions, is_over};
 ghost use Rattle.jr_work.specs.Parts.{Part, Rule, by_entry, to_end, to_reply};
 ghost use Rattle.jr_script.specs.declared.script.Entry.TheVariants as entry;
-ghost use Rattle.jr_work.specs.Stages.{Closes, HasCome, HasRead, HasTurnedIn, IsBegun, IsOfCommit, IsStage, flight_behind, flight_by, has_come, law_of, past_of};
+ghost use Rattle.jr_work.specs.Stages.{Closes, HasCome, HasRead, HasTurnedIn, IsBegun, IsOfCommit, IsStage, flight_behind, flight_by, has_come, law_of};
 ghost use Rattle.jr_work.specs.Seats.{AreNew};
 
 use crate::flight::{Flight, flight_after};
@@ -141,6 +141,7 @@ impl Stage {
         requires there { s < length self.old.seats.items }
         ensures { OnOk result (Closes self.old self.new (by_entry (entry.Read s))) }
     {
+        self.world.journal();
         let seat = &mut self.seats[s as usize];
         read_one(&mut self.world, &mut seat.run, s)?;
         Ok(())
@@ -169,7 +170,7 @@ impl Stage {
         requires stage { IsStage self.old }
         requires there { s < length self.old.seats.items }
         ensures closes { OnOk result (Closes self.old self.new (to_end s)) }
-        ensures over { OnOk result (IsTrue (is_over self.old.script (past_of self.new) s)) }
+        ensures over { OnOk result (IsTrue (is_over self.new.script self.new.world.history.past s)) }
     {
         for _ in 0..u64::MAX {
             match self.turn(s)? {
@@ -184,8 +185,10 @@ impl Stage {
     // The sessions whose commits are in flight, in ascending order of their revisions.
     pub(crate) fn flying(&self) -> Result<List<u32>, AllocError>
         requires { IsStage self.now }
-        ensures { IfOk result (λ sessions. sessions ≡ flying_sessions self.now.world.history.past) }
+        ensures flying { IfOk result (λ sessions. sessions ≡ flying_sessions self.now.world.history.past) }
+        ensures seats { IfOk result (All (λ s. s < length self.now.seats.items)) }
     {
+        self.world.journal();
         let mut flying = BTreeMap::new(self.alloc);
         for (s, seat) in self.seats.iter().enumerate() {
             if let Some(flight) = &seat.flight {
@@ -193,8 +196,8 @@ impl Stage {
             }
         }
         let mut sessions = List::new(self.alloc);
-        for (_, s) in flying.iter() {
-            sessions.push(*s)?;
+        for (_, session) in flying.iter() {
+            sessions.push(*session)?;
         }
         Ok(sessions)
     }
