@@ -4,11 +4,16 @@ use Rattle.std.specs.Prelude.{◌==◌, slice_get, slice_set}
 use Rattle.std.specs.Borrow.{GName}
 use Rattle.std.proofs.lemmas.Bool.Decides.{nat_tests}
 use mathlib.Core.Bool.{false≢true}
+use Rattle.jr_path.specs.declared.path.Path.{Path}
 use Rattle.jr_rev.specs.declared.revision.Revision.{Revision}
+use Rattle.jr_tree.specs.Trees.{Nodes}
 use Rattle.oak_machine.specs.declared.event.StepKind.{StepKind}
 use Rattle.oak_machine.specs.History.{History, Past}
 use Rattle.oak_machine.specs.Laws.{after}
 use Rattle.oak_port.specs.Ports.{Awaiting, Beside, Deciding, Idle, Seat as PortSeat, Shown, Starting, Undoing, Work, Writing}
+use Rattle.oak_port.specs.declared.task.Task.{Task}
+use Rattle.oak_port.specs.declared.task.Task.TheVariants as task
+use Rattle.core_law.specs.State.{base_tree}
 use Rattle.oak_world.specs.Seen.{seat_of, shown_at, shown_work}
 use Rattle.oak_world.specs.Steps.{kind_due}
 use Rattle.oak_world.specs.Worlds.{ActorState, WorldOf, actor_in, work_in}
@@ -54,16 +59,16 @@ pub record IsUncommitted (w : Work) : Type 0 where
 idles : (w : Work) → w ≡ Idle → IsUncommitted w
 idles w idle = record { none = ap awaited idle; apart = ap at_commit idle }
 
-starts : (w : Work) (t : _) → w ≡ Starting t → IsUncommitted w
+starts : (w : Work) (t : Task) → w ≡ Starting t → IsUncommitted w
 starts w t is = record { none = ap awaited is; apart = ap at_commit is }
 
 module _ (law : JcrLaw) (p : Shown) (run : SessionRun) where
-  fetches : (t read : _) (left : _) (f : Fetch) → IsFetching t p.work read left f → IsUncommitted p.work
-  fetches t read left (fetch.Node path) h = starts p.work _ h.0
-  fetches t read left (fetch.Names path) h = starts p.work _ h.0
+  fetches : (t read : Nodes) (left : List Path) (f : Fetch) → IsFetching t p.work read left f → IsUncommitted p.work
+  fetches t read left (fetch.Node path) h = starts p.work (task.Load path) h.0
+  fetches t read left (fetch.Names path) h = starts p.work (task.List path) h.0
 
   reads : (w : Walk) → Reads p w → IsUncommitted p.work
-  reads w h = fetches _ _ _ w.fetch h
+  reads w h = fetches (base_tree p.history.past p.session) w.tree w.left.items w.fetch h
 
   sees_uncommitted : (x : Sight) → Sees law p run x → IsUncommitted p.work
   sees_uncommitted sight.Unread h = idles p.work h.0
@@ -119,8 +124,11 @@ module _ (n : GName) (s : ℕ) (old new : Stage) (seat seat_now : Seat)
   same_past : past_of new ≡ past_of old
   same_past = ap (λ (h : History). h.past) same_history
 
+  seats_are : (a b : List PortSeat) → Some a ≡ Some b → a ≡ b
+  seats_are a b h = some_is_some a b h
+
   other_seat : (t : ℕ) → (t == s) ≡ false → seat_of (actor_in new.world.actors t) ≡ seat_of (actor_in old.world.actors t)
-  other_seat t other = other_seats old.world.actors new.world.actors s t (some_is_some _ _ (ap (λ (b : Beside). b.seats) looked.beside.beside)) other
+  other_seat t other = other_seats old.world.actors new.world.actors s t (seats_are _ _ (ap (λ (b : Beside). b.seats) looked.beside.beside)) other
 
   uncommitted : is_unread seat.run ≡ true → IsUncommitted (shown_work (work_in old.world.actors s))
   uncommitted unread = unread_uncommitted old.world.law (shown_at n old.world s) seat.run (seated.stands n) unread
