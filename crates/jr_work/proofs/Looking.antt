@@ -1,5 +1,5 @@
 -- A reading step leaves the stage where it was, but for what its session has read.
-use Rattle.std.proofs.Common.{◌≡◌, ◌⊎◌, inl, inr, ℕ, ◌≤◌, length, map, Bool, true, false, cond, ◌&&◌, Some, None, Option, List, [], ◌∷◌, ◌++◌, refl, sym, ap, ◌∙◌, subst, arith}
+use Rattle.std.proofs.Common.{◌≡◌, ◌⊎◌, inl, inr, ℕ, length, map, Bool, true, false, cond, ◌&&◌, Some, None, Option, List, [], ◌∷◌, ◌++◌, refl, sym, ap, ◌∙◌, subst, arith}
 use Rattle.std.specs.Prelude.{◌==◌, slice_get, slice_set}
 use Rattle.std.specs.Borrow.{GName}
 use Rattle.std.proofs.lemmas.Bool.Decides.{nat_tests}
@@ -29,6 +29,7 @@ use Rattle.jcr_session.specs.declared.sight.Walk.{Walk}
 use Rattle.jcr_session.specs.Sights.{IsFetching, Reads}
 use Rattle.jcr_session.specs.Standing.{HasLooked, Sees, Stands, StandsAt, due_for, is_between, is_seen, is_unread, needs_tree}
 use Rattle.jr_script.specs.declared.script.Entry.TheVariants as entry
+use Rattle.jr_script.specs.Bounds.{IsWithin}
 use Rattle.jr_script.specs.declared.script.Script.{Script}
 use Rattle.jr_work.specs.declared.flight.Flight.{Flight}
 use Rattle.jr_work.specs.declared.stage.Seat.{Seat}
@@ -188,7 +189,7 @@ module _ (n : GName) (s : ℕ) (old new : Stage) (seat seat_now : Seat)
   stage_now = record {
     law = read.0 ∙ (stage.law ∙ ap law_of (sym script_same));
     history = same_history ∙ (stage.history ∙ (ap (λ (x : Script). history_at x (past_of old)) (sym script_same) ∙ ap (history_at new.script) (sym same_past)));
-    few = subst (λ (x : Script). length x.sessions ≤ 64) (sym script_same) stage.few;
+    within = subst (λ (x : Script). IsWithin x) (sym script_same) stage.within;
     seats = ap (λ (l : List Seat). length l) seats_now ∙ (set_long old.seats.items s seat_now ∙ (stage.seats ∙ ap (λ (x : Script). length x.sessions) (sym script_same)));
     each = λ t other is. subst (λ (x : Script). IsSeated x new.world t other) (sym script_same) (each_now t other is);
   }
