@@ -214,3 +214,28 @@ module _ (n : GName) (s : ℕ) (old new : Stage) (seat seat_now : Seat)
 
 pub stands_at : (stage : Stage) (s : ℕ) (seat : Seat) → IsStage stage → slice_get stage.seats.items s ≡ Some seat → (n : GName) → Stands stage.world.law (shown_at n stage.world s) seat.run
 stands_at stage s seat is at n = (is.each s seat at).stands n
+
+-- ---- through a port
+
+read_in : (n m : GName) (s t : ℕ) (old new : WorldOf JcrLaw) (run now : SessionRun) → new.law ≡ old.law → HasLooked old.law (shown_at n old s) (shown_at m new t) run now → HasRead n s old new run now
+read_in n m s t old new run now law looked =
+    (
+      law,
+      subst (λ (x : ℕ). HasLooked old.law (shown_at n old s) (shown_at n new x) run now) looked.beside.session
+        (subst (λ (x : GName). HasLooked old.law (shown_at n old s) (shown_at x new t) run now) (ap (λ (b : Beside). b.name) looked.beside.beside) looked),
+    )
+
+-- what was read through a port of the world is read in the world
+pub read_through : (n m k : GName) (s t u : ℕ) (old start new : WorldOf JcrLaw) (run now : SessionRun) → start ≡ old → k ≡ n → u ≡ s → new.law ≡ start.law → HasLooked start.law (shown_at k start u) (shown_at m new t) run now → HasRead n s old new run now
+read_through n m k s t u old start new run now world name session law looked =
+    subst (λ (x : WorldOf JcrLaw). HasRead n s x new run now) world
+    (subst (λ (x : GName). HasRead x s start new run now) name
+    (subst (λ (x : ℕ). HasRead k x start new run now) session
+    (read_in k m u t start new run now law looked)))
+
+-- and where a session stands in a world, it stands at a port of the world
+pub stands_through : (n k : GName) (s u : ℕ) (old start : WorldOf JcrLaw) (run : SessionRun) → start ≡ old → k ≡ n → u ≡ s → Stands old.law (shown_at n old s) run → Stands start.law (shown_at k start u) run
+stands_through n k s u old start run world name session stands =
+    subst (λ (x : WorldOf JcrLaw). Stands x.law (shown_at k x u) run) (sym world)
+    (subst (λ (x : GName). Stands old.law (shown_at x old u) run) (sym name)
+    (subst (λ (x : ℕ). Stands old.law (shown_at n old x) run) (sym session) stands))
