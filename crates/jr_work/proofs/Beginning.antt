@@ -4,12 +4,11 @@ use Rattle.std.specs.Prelude.{slice_get}
 use Rattle.std.specs.Borrow.{GName}
 use Rattle.std.specs.Option.{option_map, option_map_or, unwrap_or}
 use Rattle.std.specs.List.{All}
-use Rattle.std.proofs.lemmas.Option.{get_or_from_slice_get, slice_get-map, slice_get_read, slice_get_within}
+use Rattle.std.proofs.lemmas.Option.{slice_get_read}
 use mathlib.Core.Bool.{false≢true}
 use Rattle.jr_rev.specs.declared.revision.Revision.{Revision}
 use Rattle.oak_machine.specs.declared.event.Draw.{Draw}
 use Rattle.oak_machine.specs.History.{Past}
-use Rattle.oak_machine.specs.Runs.{AreNodes, IsNode}
 use Rattle.oak_port.specs.Ports.{Idle}
 use Rattle.oak_world.specs.Seen.{shown_at, shown_work}
 use Rattle.oak_world.specs.Worlds.{ActorState, WorldOf, idle, start_world, work_in}
@@ -18,7 +17,7 @@ use Rattle.core_law.specs.State.{command_at}
 use Rattle.jcr_session.specs.declared.law.JcrLaw.{JcrLaw}
 use Rattle.jcr_session.specs.Standing.{Stands}
 use Rattle.jcr_session.proofs.Staying.{new_stands}
-use Rattle.jr_script.specs.Bounds.{IsSessionWithin, IsWithin}
+use Rattle.jr_script.specs.Bounds.{IsWithin}
 use Rattle.jr_script.specs.declared.script.Script.{Script}
 use Rattle.jr_script.specs.declared.script.SessionScript.{SessionScript}
 use Rattle.jr_work.specs.declared.flight.Flight.{Flight}
@@ -30,6 +29,7 @@ use Rattle.jr_work.specs.Seats.{AreNew, IsNewSeat}
 use Rattle.jr_work.specs.Stages.{IsBegun, IsSeated, IsStage, law_of, past_of}
 use Rattle.jr_work.proofs.Flying.{none_is_some, some_is_some}
 use Rattle.jr_work.proofs.Turning.{commands_at}
+use Rattle.jr_work.proofs.Within.{session_within, within_nodes}
 
 -- ---- one session more
 
@@ -63,25 +63,8 @@ one_more_new sessions n seats x seat within there are new = record {
 -- ---- what a script keeps
 
 module _ (script : Script) (within : IsWithin script) where
-  session_within : (s : ℕ) (session : SessionScript) → slice_get script.sessions s ≡ Some session → IsSessionWithin script.clusters session
-  session_within s session at = subst (λ (x : SessionScript). IsSessionWithin script.clusters x) (get_or_from_slice_get script.sessions s session session at) (within.sessions s session (slice_get_within script.sessions s session at))
-
   pub few_commands : All (λ (s : SessionScript). length s.commands ≤ 10000) script.sessions
   few_commands k d h = (within.sessions k d h).few
-
-  pub are_nodes : AreNodes script.clusters (map (λ s. s.cluster) script.sessions)
-  are_nodes = record {
-    eight = within.nodes;
-    some = within.some;
-    node = λ s k at. by s k (slice_get script.sessions s) refl (sym (slice_get-map (λ (x : SessionScript). x.cluster) script.sessions s) ∙ at);
-  }
-    where
-      by : (s k : ℕ) (o : Option SessionScript) → slice_get script.sessions s ≡ o → option_map (λ (x : SessionScript). x.cluster) (slice_get script.sessions s) ≡ Some k → IsNode script.clusters k
-      by s k None is at = none_is_some k (sym (ap (option_map (λ (x : SessionScript). x.cluster)) is) ∙ at)
-      by s k (Some x) is at =
-          let same : x.cluster ≡ k = some_is_some x.cluster k (sym (ap (option_map (λ (x : SessionScript). x.cluster)) is) ∙ at) in
-          let w = session_within s x is in
-          subst (λ (n : ℕ). IsNode script.clusters n) same (w.placed, w.near)
 
   -- ---- the stage
 
@@ -110,7 +93,7 @@ module _ (script : Script) (within : IsWithin script) where
             record {
               session = is.run.session_is;
               stands = λ n.
-                new_stands (law_of script) (shown_at n start s) s session.commands seat.run is.run (session_within s session there).few are_nodes tt refl
+                new_stands (law_of script) (shown_at n start s) s session.commands seat.run is.run (session_within script within s session there).few (within_nodes script within) tt refl
                 (λ i. commands_at script s i ∙ ap (λ (o : Option SessionScript). slice_get (option_map_or (λ x. x.commands) o []) i) there)
                 (idle_at (map (λ s. s.cluster) script.sessions) s) refl;
               flight = subst (λ (o : Option Flight). IsFlight [] s o) (sym is.flight) refl;
@@ -123,7 +106,7 @@ module _ (script : Script) (within : IsWithin script) where
       stage_is = record {
         law = ap (λ (w : WorldOf JcrLaw). w.law) world_is ∙ ap law_of (sym script_is);
         history = subst (λ (x : Script). stage.world.history ≡ history_at x stage.world.history.past) (sym script_is) (subst (λ (w : WorldOf JcrLaw). w.history ≡ history_at script w.history.past) (sym world_is) refl);
-        few = subst (λ (x : Script). length x.sessions ≤ 64) (sym script_is) within.few;
+        within = subst (λ (x : Script). IsWithin x) (sym script_is) within;
         seats = ap (λ (l : List Seat). length l) seats_are ∙ (new.many ∙ ap (λ (x : Script). length x.sessions) (sym script_is));
         each = λ s seat at.
           subst (λ (x : Script). IsSeated x stage.world s seat) (sym script_is)

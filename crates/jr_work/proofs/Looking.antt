@@ -1,14 +1,19 @@
 -- A reading step leaves the stage where it was, but for what its session has read.
-use Rattle.std.proofs.Common.{◌≡◌, ◌⊎◌, inl, inr, ℕ, ◌≤◌, length, map, Bool, true, false, cond, ◌&&◌, Some, None, Option, List, [], ◌∷◌, ◌++◌, refl, sym, ap, ◌∙◌, subst, arith}
+use Rattle.std.proofs.Common.{◌≡◌, ◌⊎◌, inl, inr, ℕ, length, map, Bool, true, false, cond, ◌&&◌, Some, None, Option, List, [], ◌∷◌, ◌++◌, refl, sym, ap, ◌∙◌, subst, arith}
 use Rattle.std.specs.Prelude.{◌==◌, slice_get, slice_set}
 use Rattle.std.specs.Borrow.{GName}
 use Rattle.std.proofs.lemmas.Bool.Decides.{nat_tests}
 use mathlib.Core.Bool.{false≢true}
+use Rattle.jr_path.specs.declared.path.Path.{Path}
 use Rattle.jr_rev.specs.declared.revision.Revision.{Revision}
+use Rattle.jr_tree.specs.Trees.{Nodes}
 use Rattle.oak_machine.specs.declared.event.StepKind.{StepKind}
 use Rattle.oak_machine.specs.History.{History, Past}
 use Rattle.oak_machine.specs.Laws.{after}
 use Rattle.oak_port.specs.Ports.{Awaiting, Beside, Deciding, Idle, Seat as PortSeat, Shown, Starting, Undoing, Work, Writing}
+use Rattle.oak_port.specs.declared.task.Task.{Task}
+use Rattle.oak_port.specs.declared.task.Task.TheVariants as task
+use Rattle.core_law.specs.State.{base_tree}
 use Rattle.oak_world.specs.Seen.{seat_of, shown_at, shown_work}
 use Rattle.oak_world.specs.Steps.{kind_due}
 use Rattle.oak_world.specs.Worlds.{ActorState, WorldOf, actor_in, work_in}
@@ -24,6 +29,7 @@ use Rattle.jcr_session.specs.declared.sight.Walk.{Walk}
 use Rattle.jcr_session.specs.Sights.{IsFetching, Reads}
 use Rattle.jcr_session.specs.Standing.{HasLooked, Sees, Stands, StandsAt, due_for, is_between, is_seen, is_unread, needs_tree}
 use Rattle.jr_script.specs.declared.script.Entry.TheVariants as entry
+use Rattle.jr_script.specs.Bounds.{IsWithin}
 use Rattle.jr_script.specs.declared.script.Script.{Script}
 use Rattle.jr_work.specs.declared.flight.Flight.{Flight}
 use Rattle.jr_work.specs.declared.stage.Seat.{Seat}
@@ -54,16 +60,16 @@ pub record IsUncommitted (w : Work) : Type 0 where
 idles : (w : Work) → w ≡ Idle → IsUncommitted w
 idles w idle = record { none = ap awaited idle; apart = ap at_commit idle }
 
-starts : (w : Work) (t : _) → w ≡ Starting t → IsUncommitted w
+starts : (w : Work) (t : Task) → w ≡ Starting t → IsUncommitted w
 starts w t is = record { none = ap awaited is; apart = ap at_commit is }
 
 module _ (law : JcrLaw) (p : Shown) (run : SessionRun) where
-  fetches : (t read : _) (left : _) (f : Fetch) → IsFetching t p.work read left f → IsUncommitted p.work
-  fetches t read left (fetch.Node path) h = starts p.work _ h.0
-  fetches t read left (fetch.Names path) h = starts p.work _ h.0
+  fetches : (t read : Nodes) (left : List Path) (f : Fetch) → IsFetching t p.work read left f → IsUncommitted p.work
+  fetches t read left (fetch.Node path) h = starts p.work (task.Load path) h.0
+  fetches t read left (fetch.Names path) h = starts p.work (task.List path) h.0
 
   reads : (w : Walk) → Reads p w → IsUncommitted p.work
-  reads w h = fetches _ _ _ w.fetch h
+  reads w h = fetches (base_tree p.history.past p.session) w.tree w.left.items w.fetch h
 
   sees_uncommitted : (x : Sight) → Sees law p run x → IsUncommitted p.work
   sees_uncommitted sight.Unread h = idles p.work h.0
@@ -119,8 +125,11 @@ module _ (n : GName) (s : ℕ) (old new : Stage) (seat seat_now : Seat)
   same_past : past_of new ≡ past_of old
   same_past = ap (λ (h : History). h.past) same_history
 
+  seats_are : (a b : List PortSeat) → Some a ≡ Some b → a ≡ b
+  seats_are a b h = some_is_some a b h
+
   other_seat : (t : ℕ) → (t == s) ≡ false → seat_of (actor_in new.world.actors t) ≡ seat_of (actor_in old.world.actors t)
-  other_seat t other = other_seats old.world.actors new.world.actors s t (some_is_some _ _ (ap (λ (b : Beside). b.seats) looked.beside.beside)) other
+  other_seat t other = other_seats old.world.actors new.world.actors s t (seats_are _ _ (ap (λ (b : Beside). b.seats) looked.beside.beside)) other
 
   uncommitted : is_unread seat.run ≡ true → IsUncommitted (shown_work (work_in old.world.actors s))
   uncommitted unread = unread_uncommitted old.world.law (shown_at n old.world s) seat.run (seated.stands n) unread
@@ -180,7 +189,7 @@ module _ (n : GName) (s : ℕ) (old new : Stage) (seat seat_now : Seat)
   stage_now = record {
     law = read.0 ∙ (stage.law ∙ ap law_of (sym script_same));
     history = same_history ∙ (stage.history ∙ (ap (λ (x : Script). history_at x (past_of old)) (sym script_same) ∙ ap (history_at new.script) (sym same_past)));
-    few = subst (λ (x : Script). length x.sessions ≤ 64) (sym script_same) stage.few;
+    within = subst (λ (x : Script). IsWithin x) (sym script_same) stage.within;
     seats = ap (λ (l : List Seat). length l) seats_now ∙ (set_long old.seats.items s seat_now ∙ (stage.seats ∙ ap (λ (x : Script). length x.sessions) (sym script_same)));
     each = λ t other is. subst (λ (x : Script). IsSeated x new.world t other) (sym script_same) (each_now t other is);
   }
@@ -205,3 +214,28 @@ module _ (n : GName) (s : ℕ) (old new : Stage) (seat seat_now : Seat)
 
 pub stands_at : (stage : Stage) (s : ℕ) (seat : Seat) → IsStage stage → slice_get stage.seats.items s ≡ Some seat → (n : GName) → Stands stage.world.law (shown_at n stage.world s) seat.run
 stands_at stage s seat is at n = (is.each s seat at).stands n
+
+-- ---- through a port
+
+read_in : (n m : GName) (s t : ℕ) (old new : WorldOf JcrLaw) (run now : SessionRun) → new.law ≡ old.law → HasLooked old.law (shown_at n old s) (shown_at m new t) run now → HasRead n s old new run now
+read_in n m s t old new run now law looked =
+    (
+      law,
+      subst (λ (x : ℕ). HasLooked old.law (shown_at n old s) (shown_at n new x) run now) looked.beside.session
+        (subst (λ (x : GName). HasLooked old.law (shown_at n old s) (shown_at x new t) run now) (ap (λ (b : Beside). b.name) looked.beside.beside) looked),
+    )
+
+-- what was read through a port of the world is read in the world
+pub read_through : (n m k : GName) (s t u : ℕ) (old start new : WorldOf JcrLaw) (run now : SessionRun) → start ≡ old → k ≡ n → u ≡ s → new.law ≡ start.law → HasLooked start.law (shown_at k start u) (shown_at m new t) run now → HasRead n s old new run now
+read_through n m k s t u old start new run now world name session law looked =
+    subst (λ (x : WorldOf JcrLaw). HasRead n s x new run now) world
+    (subst (λ (x : GName). HasRead x s start new run now) name
+    (subst (λ (x : ℕ). HasRead k x start new run now) session
+    (read_in k m u t start new run now law looked)))
+
+-- and where a session stands in a world, it stands at a port of the world
+pub stands_through : (n k : GName) (s u : ℕ) (old start : WorldOf JcrLaw) (run : SessionRun) → start ≡ old → k ≡ n → u ≡ s → Stands old.law (shown_at n old s) run → Stands start.law (shown_at k start u) run
+stands_through n k s u old start run world name session stands =
+    subst (λ (x : WorldOf JcrLaw). Stands x.law (shown_at k x u) run) (sym world)
+    (subst (λ (x : GName). Stands old.law (shown_at x old u) run) (sym name)
+    (subst (λ (x : ℕ). Stands old.law (shown_at n old x) run) (sym session) stands))

@@ -1,9 +1,10 @@
 -- Turns until a commit has come to where an entry waits for it.
-use Rattle.std.proofs.Common.{◌≡◌, ◌⊎◌, inl, inr, ℕ, zero, suc, ◌<◌, length, map, Bool, true, false, not, ◌||◌, ◌&&◌, Some, None, Option, List, [], ◌∷◌, ◌++◌, refl, sym, ap, ◌∙◌, subst, arith, is_some}
+use Rattle.std.proofs.Common.{◌≡◌, ◌⊎◌, inl, inr, ℕ, zero, suc, ◌<◌, length, get_or, map, Bool, true, false, not, ◌||◌, ◌&&◌, Some, None, Option, List, [], ◌∷◌, ◌++◌, refl, sym, ap, ◌∙◌, subst, arith, is_some}
 use Rattle.std.specs.Prelude.{nat_le, slice_get}
 use Rattle.std.specs.Option.{option_map_or}
 use Rattle.std.specs.List.{count_by}
 use Rattle.std.proofs.lemmas.List.{length-map}
+use Rattle.std.proofs.lemmas.Option.{slice_get_read}
 use mathlib.Core.Bool.{false≢true}
 use Rattle.oak_machine.specs.declared.event.StepKind.{StepKind}
 use Rattle.oak_machine.specs.History.{History, Past}
@@ -272,3 +273,18 @@ module _ (first stage : Stage) (s : ℕ) (e : Entry) (named : IsOfCommit s e) (h
         by (seat, at) (turn.Waiting q) come apart = go_waits first stage s e named has seat at short new q come
         by (seat, at) turn.Ended come apart = go_over first stage s e named has seat at short new come
         by (seat, at) turn.Memory come apart = absurd come.came
+
+-- ---- whether a commit has come
+
+module _ (stage : Stage) (s : ℕ) (e : Entry) (seat : Seat) (below : s < length stage.seats.items) (at : seat ≡ get_or stage.seats.items s seat) where
+  seat_is : slice_get stage.seats.items s ≡ Some seat
+  seat_is = slice_get_read stage.seats.items (length stage.seats.items) s seat refl below at
+
+  come_of_seat : has_come stage s e ≡ comes (due_at stage.world s) e seat.flight
+  come_of_seat = ap (λ (o : Option Seat). option_map_or (λ x. option_map_or (λ f. has_come_by f (due_at stage.world s) e) x.flight false) o false) seat_is
+
+  pub come_flying : (f : Flight) → seat.flight ≡ Some f → has_come stage s e ≡ has_come_by f (due_at stage.world s) e
+  come_flying f has = come_of_seat ∙ ap (comes (due_at stage.world s) e) has
+
+  pub come_idle : seat.flight ≡ None → has_come stage s e ≡ false
+  come_idle none = come_of_seat ∙ ap (comes (due_at stage.world s) e) none

@@ -1,5 +1,5 @@
 -- A turn brings the stage on.
-use Rattle.std.proofs.Common.{◌≡◌, ◌⊎◌, inl, inr, ℕ, ◌≤◌, zero, suc, length, map, Bool, true, false, cond, not, ◌||◌, ◌&&◌, Some, None, Option, List, [], ◌∷◌, ◌++◌, refl, sym, ap, ◌∙◌, subst, arith}
+use Rattle.std.proofs.Common.{◌≡◌, ◌⊎◌, inl, inr, ℕ, zero, suc, length, map, Bool, true, false, cond, not, ◌||◌, ◌&&◌, Some, None, Option, List, [], ◌∷◌, ◌++◌, refl, sym, ap, ◌∙◌, subst, arith}
 use Rattle.std.specs.Prelude.{◌==◌, slice_get, slice_set}
 use Rattle.std.specs.Borrow.{GName}
 use Rattle.std.specs.Option.{option_and_then, option_map, option_map_or}
@@ -26,6 +26,7 @@ use Rattle.jcr_session.specs.declared.run.SessionRun.{SessionRun}
 use Rattle.jcr_session.specs.declared.turn.Turn.{Turn}
 use Rattle.jcr_session.specs.declared.turn.Turn.TheVariants as turn
 use Rattle.jcr_session.specs.Standing.{IsMade, IsOneStep, IsStep, IsTurned, IsUnseen, Stands, Tells}
+use Rattle.jr_script.specs.Bounds.{IsWithin}
 use Rattle.jr_script.specs.declared.script.Script.{Script}
 use Rattle.jr_script.specs.declared.script.SessionScript.{SessionScript}
 use Rattle.jr_work.specs.declared.flight.Flight.{Flight}
@@ -212,7 +213,7 @@ module _ (n : GName) (s : ℕ) (old new : Stage) (seat seat_now : Seat) (answer 
   stage_now = record {
     law = law_same ∙ (stage.law ∙ ap law_of (sym script_same));
     history = history_now old.script n s old.world new.world seat seat_now.run answer stage.law stage.history seated turned ∙ ap (λ (x : Script). history_at x new.world.history.past) (sym script_same);
-    few = subst (λ (x : Script). length x.sessions ≤ 64) (sym script_same) stage.few;
+    within = subst (λ (x : Script). IsWithin x) (sym script_same) stage.within;
     seats = ap (λ (l : List Seat). length l) seats_now ∙ (set_long old.seats.items s seat_now ∙ (stage.seats ∙ ap (λ (x : Script). length x.sessions) (sym script_same)));
     each = λ t other is. subst (λ (x : Script). IsSeated x new.world t other) (sym script_same) (each_now t other is);
   }

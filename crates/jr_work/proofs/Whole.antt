@@ -12,7 +12,6 @@ use Rattle.oak_machine.specs.Runs.{IsRun}
 use Rattle.oak_machine.specs.Sessions.{has_left, next_index}
 use Rattle.jcr_session.specs.declared.law.JcrLaw.{JcrLaw}
 use Rattle.jcr_session.specs.Sights.{says_of, starts_of}
-use Rattle.jr_script.specs.Bounds.{IsWithin}
 use Rattle.jr_script.specs.Schedules.{IsEntryWithin}
 use Rattle.jr_script.specs.declared.script.Entry.{Entry}
 use Rattle.jr_script.specs.declared.script.Script.{Script}
@@ -88,11 +87,11 @@ module _ (first stage : Stage) (rules : List Rule) (all : ClosesAll first stage 
   pub entry_there : (i : ℕ) → i < length first.script.schedule → i < length stage.script.schedule
   entry_there i below = subst (λ (x : Script). i < length x.schedule) (sym all.script) below
 
-  pub entry_within : IsWithin first.script → (i : ℕ) (e : Entry) → i < length first.script.schedule → e ≡ get_or stage.script.schedule i e → IsEntryWithin (length stage.seats.items) e
-  entry_within within i e below is =
+  pub entry_within : IsStage first → (i : ℕ) (e : Entry) → i < length first.script.schedule → e ≡ get_or stage.script.schedule i e → IsEntryWithin (length stage.seats.items) e
+  entry_within stage_is i e below is =
       subst (λ (n : ℕ). IsEntryWithin n e) (sym (all.stage.seats ∙ ap (λ (x : Script). length x.sessions) all.script))
       (subst (λ (x : Entry). IsEntryWithin (length first.script.sessions) x) (sym (is ∙ ap (λ (x : Script). get_or x.schedule i e) all.script))
-      (All-get_or (IsEntryWithin (length first.script.sessions)) first.script.schedule i e below within.entries))
+      (All-get_or (IsEntryWithin (length first.script.sessions)) first.script.schedule i e below stage_is.within.entries))
 
   pub listed_there : IsStage first → (xs : List ℕ) → All (λ s. s < length first.seats.items) xs → (i s : ℕ) → i < length xs → s ≡ get_or xs i s → s < length stage.seats.items
   listed_there is xs there i s below at =
@@ -115,7 +114,7 @@ finished_more first stage new s all one =
 
 -- all of a list
 pub all_taken : {X : Type 0} (f : X → Rule) (first stage : Stage) (xs : List X) (i : ℕ) → length xs ≤ i → ClosesAll first stage (map f (take i xs)) → ClosesAll first stage (map f xs)
-all_taken f first stage xs i long all = subst (λ (l : List _). ClosesAll first stage (map f l)) (take_all i xs long) all
+all_taken {X = X} f first stage xs i long all = subst (λ (l : List X). ClosesAll first stage (map f l)) (take_all i xs long) all
 
 -- ---- who has ended
 

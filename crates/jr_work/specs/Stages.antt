@@ -1,5 +1,5 @@
 -- The world of a script with its sessions, and what their turns make of it.
-use Rattle.std.specs.Prelude.{◌≡◌, ◌<◌, ◌≤◌, ℕ, Bool, true, false, ◌&&◌, ◌||◌, ◌==◌, ⊤, List, [], ◌∷◌, ◌++◌, length, map, nat_le, slice_get, Option, None, Some, IsTrue, IsFalse}
+use Rattle.std.specs.Prelude.{◌≡◌, ◌<◌, ℕ, Bool, true, false, ◌&&◌, ◌||◌, ◌==◌, ⊤, List, [], ◌∷◌, ◌++◌, length, map, nat_le, slice_get, Option, None, Some, IsTrue, IsFalse}
 use Rattle.std.specs.Borrow.{GName}
 use Rattle.std.specs.List.{list_any}
 use Rattle.std.specs.Option.{option_map_or}
@@ -18,6 +18,7 @@ use Rattle.jcr_session.specs.declared.run.SessionRun.{SessionRun}
 use Rattle.jcr_session.specs.declared.turn.Turn.{Turn}
 use Rattle.jcr_session.specs.declared.turn.Turn.TheVariants as turn
 use Rattle.jcr_session.specs.Standing.{HasLooked, IsTurned, Stands}
+use Rattle.jr_script.specs.Bounds.{IsWithin}
 use Rattle.jr_script.specs.declared.script.Entry.{Entry}
 use Rattle.jr_script.specs.declared.script.Entry.TheVariants as entry
 use Rattle.jr_script.specs.declared.script.Script.{Script}
@@ -56,11 +57,11 @@ pub record IsSeated (script : Script) (w : WorldOf JcrLaw) (s : ℕ) (seat : Sea
   pub flight : IsFlight w.history.past s seat.flight
   pub seen : IsSeenBut script w.history.past s (awaited (shown_work (work_in w.actors s)))
 
--- the world is of the script's law, cluster nodes and sessions, at most 64, each of which is seated
+-- the script keeps its bounds, and the world is of its law, cluster nodes and sessions, each of which is seated
 pub record IsStage (stage : Stage) : Type 0 where
+  pub within : IsWithin stage.script
   pub law : stage.world.law ≡ law_of stage.script
   pub history : stage.world.history ≡ history_at stage.script (past_of stage)
-  pub few : length stage.script.sessions ≤ 64
   pub seats : length stage.seats.items ≡ length stage.script.sessions
   pub each : (s : ℕ) (seat : Seat) → slice_get stage.seats.items s ≡ Some seat → IsSeated stage.script stage.world s seat
 

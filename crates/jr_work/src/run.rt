@@ -34,7 +34,6 @@ impl Stage {
     // The turns for each entry of the schedule.
     fn play_all(&mut self) -> Result<(), AllocError>
         requires stage { IsStage self.old }
-        requires within { IsWithin self.old.script }
         ensures { OnOk result (ClosesAll self.old self.new (map by_entry self.old.script.schedule)) }
     {
         for i in 0..self.script.schedule.len() {

@@ -14,7 +14,6 @@ use crate::flight::{Flight, flight_after};
 use jcr_session::{JcrLaw, SessionRun, Turn};
 use jr_path::{DeepCopy, List};
 use jr_script::{Entry, Script, SessionScript};
-use oak_machine::StepKind;
 use oak_world::{SoloPort, World};
 use std::alloc::{AllocError, Global};
 use std::collections::BTreeMap;
@@ -113,25 +112,16 @@ impl Stage {
         Err(AllocError)
     }
 
-    // Whether the commit of a session has come to where an entry waits for it: its revision is drawn, so many documents are written, or only
-    // the last write is left.
+    // Whether the commit of a session has come to where an entry waits for it.
     fn has_come(&self, s: u32, entry: Entry) -> bool
         requires there { s < length self.now.seats.items }
         requires seats { length self.now.seats.items ≡ length self.now.world.history.sessions }
         ensures { result ≡ has_come self.now s entry }
     {
-        let Some(flight) = &self.seats[s as usize].flight else {
-            return false;
-        };
-        match entry {
-            Entry::Draw(_) => true,
-            Entry::Write(_, count) => count as usize <= flight.written,
-            Entry::Last(_) => {
-                let all = flight.documents <= flight.written;
-                let last = self.world.due(s) == Some(StepKind::Last);
-                all && flight.undecided && last
-            }
-            _ => false,
+        let due = self.world.due(s);
+        match &self.seats[s as usize].flight {
+            Some(flight) => flight.has_come(due, entry),
+            None => false,
         }
     }
 
