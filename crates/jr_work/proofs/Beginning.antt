@@ -15,7 +15,8 @@ use Rattle.oak_world.specs.Worlds.{ActorState, WorldOf, idle, start_world, work_
 use Rattle.jcr_trans.specs.declared.command.Command.{Command}
 use Rattle.core_law.specs.State.{command_at}
 use Rattle.jcr_session.specs.declared.law.JcrLaw.{JcrLaw}
-use Rattle.jcr_session.specs.Standing.{Stands}
+use Rattle.jcr_session.specs.declared.run.SessionRun.{SessionRun}
+use Rattle.jcr_session.specs.Standing.{IsNew, Stands}
 use Rattle.jcr_session.proofs.Staying.{new_stands}
 use Rattle.jr_script.specs.Bounds.{IsWithin}
 use Rattle.jr_script.specs.declared.script.Script.{Script}
@@ -59,6 +60,12 @@ one_more_new sessions n seats x seat within there are new = record {
         let same : k ≡ n = p ∙ are.many in
         let it : x ≡ session = some_is_some x session (sym (slice_get_read sessions (length sessions) n x refl within there) ∙ (ap (slice_get sessions) (sym same) ∙ at)) in
         subst (λ (i : ℕ). IsNewSeat i session other) (sym same) (subst (λ (y : SessionScript). IsNewSeat n y other) it (subst (λ (z : Seat). IsNewSeat n x z) q new))
+
+-- the same, by what the calls of an iteration tell
+pub seats_more : (sessions : List SessionScript) (n : ℕ) (seats next : List Seat) (x : SessionScript) (commands : List Command) (run : SessionRun) → n < length sessions → x ≡ get_or sessions n x → AreNew sessions n seats → commands ≡ x.commands → IsNew n commands run → next ≡ seats ++ record { run = run; flight = None } ∷ [] → AreNew sessions (n + 1) next
+seats_more sessions n seats next x commands run within there are same new is =
+    subst (λ (l : List Seat). AreNew sessions (n + 1) l) (sym is)
+    (one_more_new sessions n seats x (record { run = run; flight = None }) within there are (record { run = subst (λ (c : List Command). IsNew n c run) same new; flight = refl }))
 
 -- ---- what a script keeps
 

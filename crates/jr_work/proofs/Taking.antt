@@ -5,7 +5,7 @@ use Rattle.std.specs.Borrow.{GName}
 use Rattle.std.specs.Option.{option_map}
 use Rattle.std.proofs.lemmas.Option.{slice_get-map}
 use mathlib.Core.Bool.{false≢true}
-use Rattle.oak_machine.specs.declared.event.StepKind.{StepKind}
+use Rattle.jr_rev.specs.declared.revision.Revision.{Revision}
 use Rattle.oak_machine.specs.History.{History, Past}
 use Rattle.oak_port.specs.Ports.{Beside, Shown}
 use Rattle.oak_world.specs.Seen.{shown_at}
@@ -23,7 +23,7 @@ use Rattle.jr_work.specs.declared.stage.Stage.{Stage}
 use Rattle.jr_work.specs.Places.{history_at}
 use Rattle.jr_work.specs.Parts.{Rule}
 use Rattle.jr_work.specs.Stages.{Closes, HasCome, HasTurnedIn, IsSeated, IsStage, IsUnder, flight_behind, flight_by, past_of}
-use Rattle.jr_work.proofs.Flying.{none_is_some}
+use Rattle.jr_work.proofs.Counting.{IsEnding, end_said, end_steps}
 use Rattle.jr_work.proofs.Turning.{has_come}
 
 -- ---- in its world
@@ -76,3 +76,20 @@ there_still first stage rule part s is under within =
     let before = is.seats in
     let same : length stage.script.sessions ≡ length first.script.sessions = ap (λ (x : Script). length x.sessions) under.script in
     omega arith
+
+-- a session stands where it stood, in the world of its port
+pub stands_at : (n m : GName) (s t : ℕ) (w v : WorldOf JcrLaw) (run : SessionRun) → m ≡ n → v ≡ w → t ≡ s → Stands w.law (shown_at n w s) run → Stands v.law (shown_at m v t) run
+stands_at n m s t w v run name world session stands =
+    subst (λ (i : ℕ). Stands v.law (shown_at m v i) run) (sym session) (subst (λ (x : WorldOf JcrLaw). Stands x.law (shown_at m x s) run) (sym world) (subst (λ (g : GName). Stands w.law (shown_at g w s) run) (sym name) stands))
+
+-- an answer that a turn gave, by the arm that it falls to
+pub come_as : (old new : Stage) (s : ℕ) (a b : Turn) → a ≡ b → HasCome old new s a → HasCome old new s b
+come_as old new s a b is come = subst (λ (x : Turn). HasCome old new s x) is come
+
+-- turns towards an end, where none has come
+pub end_goes : (first stage : Stage) (s : ℕ) → IsEnding first stage s → (new : Stage) (answer : Turn) → (answer ≡ turn.Ended → ⊥) → ((q : Revision) → answer ≡ turn.Waiting q → ⊥) → HasCome stage new s answer → IsEnding first new s
+end_goes first stage s has new (turn.Stepped k) more awake come = end_steps first stage s has new k come
+end_goes first stage s has new (turn.Said i) more awake come = end_said first stage s has new i come
+end_goes first stage s has new (turn.Waiting q) more awake come = absurd (awake q refl)
+end_goes first stage s has new turn.Ended more awake come = absurd (more refl)
+end_goes first stage s has new turn.Memory more awake come = absurd come.came
