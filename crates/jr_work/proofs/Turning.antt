@@ -36,7 +36,7 @@ use Rattle.jr_work.specs.Awaited.{IsSeenBut}
 use Rattle.jr_work.specs.Flights.{IsFlight}
 use Rattle.jr_work.specs.Places.{commands_of, history_at, is_over, is_resting, is_unseen, is_waiting}
 use Rattle.jr_work.specs.SoFar.{IsDouble, IsSingle, IsStepAt, is_last_due}
-use Rattle.jr_work.specs.Stages.{Comes, HasCome, HasTurnedIn, IsSeated, IsStage, awaited, due_at, flight_behind, law_of, past_of}
+use Rattle.jr_work.specs.Stages.{Comes, HasCome, HasTurnedIn, IsSeated, IsStage, awaited, due_at, flight_behind, flight_by, law_of, past_of}
 use Rattle.jr_work.proofs.Coming.{down, flight_said, flight_stepped, history_now, itself, made, other_seat, over_other, past_now, run_new, said, same_length, seated_other, seen_said, seen_stepped, session_now, set_other, stands_now, stepped, tells, awake}
 use Rattle.jr_work.proofs.Due.{at_commit, last_commits}
 use Rattle.jr_work.proofs.Flying.{halves, none_is_some, some_is_some}
@@ -56,7 +56,7 @@ equal : (a b : ℕ) → (a == b) ≡ true → a ≡ b
 equal a b h = grind (arith, nat_tests)
 
 -- the commands that the law of a script gives a session
-commands_at : (script : Script) (s i : ℕ) → command_at (law_of script).sessions s i ≡ slice_get (commands_of script s) i
+pub commands_at : (script : Script) (s i : ℕ) → command_at (law_of script).sessions s i ≡ slice_get (commands_of script s) i
 commands_at script s i = by (slice_get script.sessions s) refl
   where
     by : (o : Option SessionScript) → slice_get script.sessions s ≡ o → command_at (law_of script).sessions s i ≡ slice_get (commands_of script s) i
@@ -66,11 +66,6 @@ commands_at script s i = by (slice_get script.sessions s) refl
     by (Some x) is =
         ap (option_and_then (λ all. slice_get all.1 i)) (slice_get-map (λ (x : SessionScript). (x.cluster, x.commands)) script.sessions s ∙ ap (option_map (λ (x : SessionScript). (x.cluster, x.commands))) is)
         ∙ sym (ap (λ (o : Option SessionScript). slice_get (option_map_or (λ x. x.commands) o []) i) is)
-
--- what is kept of a commit behind a turn
-abbrev pub flight_by : Turn → Past → Option Flight → Option Flight
-flight_by (turn.Stepped k) past o = flight_behind past o
-flight_by _ past o = o
 
 module _ (script : Script) (n : GName) (s : ℕ) (old new : WorldOf JcrLaw) (seat : Seat) (now : SessionRun) (answer : Turn)
     (law_is : old.law ≡ law_of script) (history : old.history ≡ history_at script old.history.past) (seated : IsSeated script old s seat)

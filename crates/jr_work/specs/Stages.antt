@@ -106,6 +106,11 @@ abbrev pub flight_behind : Past → Option Flight → Option Flight
 flight_behind [] o = o
 flight_behind (e ∷ past) o = flight_with e o
 
+-- the same behind a turn, which may be a step
+abbrev pub flight_by : Turn → Past → Option Flight → Option Flight
+flight_by (turn.Stepped k) past o = flight_behind past o
+flight_by _ past o = o
+
 -- ---- an entry
 
 -- a commit has come to where an entry waits for it

@@ -1,5 +1,5 @@
 // The world of a script with its sessions, and the turns that an entry of a schedule asks for.
-ghost use Rattle.std.specs.Prelude.{◌≡◌, ◌<◌, ℕ, All, IfOk, OnOk, List, IsTrue, is_some, length, slice_get, ◌∷◌};
+ghost use Rattle.std.specs.Prelude.{◌≡◌, ◌<◌, ◌≤◌, ℕ, All, IfOk, OnOk, List, IsTrue, is_some, length, map, slice_get, ◌∷◌};
 ghost use Rattle.jr_script.specs.Bounds.{IsWithin};
 ghost use Rattle.jr_script.specs.Schedules.{IsEntryWithin, session_named};
 ghost use Rattle.oak_world.specs.Seen.{shown_at};
@@ -7,12 +7,13 @@ ghost use Rattle.jcr_session.specs.Standing.{Stands};
 ghost use Rattle.jr_work.specs.Places.{flying_sessions, is_over};
 ghost use Rattle.jr_work.specs.Parts.{Part, Rule, by_entry, to_end, to_reply};
 ghost use Rattle.jr_script.specs.declared.script.Entry.TheVariants as entry;
-ghost use Rattle.jr_work.specs.Stages.{Closes, HasCome, HasRead, HasTurnedIn, IsBegun, IsOfCommit, IsStage, flight_behind, has_come, law_of};
+ghost use Rattle.jr_work.specs.Stages.{Closes, HasCome, HasRead, HasTurnedIn, IsBegun, IsOfCommit, IsStage, flight_behind, flight_by, has_come, law_of};
+ghost use Rattle.jr_work.specs.Seats.{AreNew};
 
 use crate::flight::{Flight, flight_after};
 use jcr_session::{JcrLaw, SessionRun, Turn};
 use jr_path::{DeepCopy, List};
-use jr_script::{Entry, Script};
+use jr_script::{Entry, Script, SessionScript};
 use oak_world::{SoloPort, World};
 use std::alloc::{AllocError, Global};
 use std::collections::BTreeMap;
@@ -39,13 +40,8 @@ impl Stage {
         requires { IsWithin script }
         ensures { IfOk result (IsBegun script) }
     {
-        let mut nodes = Vec::new(alloc);
-        let mut seats = Vec::new(alloc);
-        for (s, session) in script.sessions.as_slice().iter().enumerate() {
-            nodes.push(session.cluster)?;
-            let run = SessionRun::new(alloc, s as u32, session.commands.copy()?)?;
-            seats.push(Seat { run, flight: None })?;
-        }
+        let nodes = nodes_of(alloc, script.sessions.as_slice())?;
+        let seats = seats_of(alloc, script.sessions.as_slice())?;
         let law = law_of(alloc, &script)?;
         let world = World::new(alloc, law, script.clusters, nodes.as_slice())?;
         Ok(Stage {
@@ -69,7 +65,9 @@ impl Stage {
             }
             Entry::Say(s, count) => self.say(s, count),
             Entry::Read(s) => self.read(s),
-            Entry::Draw(s) | Entry::Write(s, _) | Entry::Last(s) => self.go_to(s, entry),
+            Entry::Draw(s) => self.go_to(s, entry),
+            Entry::Write(s, _) => self.go_to(s, entry),
+            Entry::Last(s) => self.go_to(s, entry),
         }
     }
 
@@ -87,7 +85,9 @@ impl Stage {
             match self.turn(s)? {
                 Turn::Said(_) => said += 1,
                 Turn::Stepped(_) => {}
-                _ => return Ok(()),
+                Turn::Waiting(_) => return Ok(()),
+                Turn::Ended => return Ok(()),
+                Turn::Memory => return Err(AllocError),
             }
         }
         Err(AllocError)
@@ -199,16 +199,39 @@ impl Stage {
         ensures { IfOk result (HasCome self.old self.new s) }
     {
         let seat = &mut self.seats[s as usize];
-        let turn = turn_once(&mut self.world, &mut seat.run, s);
-        match turn {
+        match turn_once(&mut self.world, &mut seat.run, s) {
             Turn::Memory => Err(AllocError),
-            Turn::Stepped(_) => {
-                seat.flight = flight_then(self.alloc, seat.flight, &self.world)?;
+            turn => {
+                seat.flight = flight_by(self.alloc, seat.flight, turn, &self.world)?;
                 Ok(turn)
             }
-            _ => Ok(turn),
         }
     }
+}
+
+// The cluster node of each session.
+fn nodes_of(alloc: Global, sessions: &[SessionScript]) -> Result<Vec<u32>, AllocError>
+    ensures { IfOk result (λ nodes. nodes.items ≡ map (λ s. s.cluster) sessions.now) }
+{
+    let mut nodes = Vec::new(alloc);
+    for session in sessions {
+        nodes.push(session.cluster)?;
+    }
+    Ok(nodes)
+}
+
+// The sessions, none of which has logged in.
+fn seats_of(alloc: Global, sessions: &[SessionScript]) -> Result<Vec<Seat>, AllocError>
+    requires many { length sessions.now ≤ 64 }
+    requires few { All (λ s. length s.commands ≤ 10000) sessions.now }
+    ensures { IfOk result (λ seats. AreNew sessions.now (length sessions.now) seats.items) }
+{
+    let mut seats = Vec::new(alloc);
+    for (s, session) in sessions.iter().enumerate() {
+        let run = SessionRun::new(alloc, s as u32, session.commands.copy()?)?;
+        seats.push(Seat { run, flight: None })?;
+    }
+    Ok(seats)
 }
 
 // The law of a script: the cluster node and the commands of each session.
@@ -240,6 +263,21 @@ fn read_one(world: &mut World<JcrLaw>, run: &mut SessionRun, s: u32) -> Result<b
 {
     let mut port = SoloPort::new(world, s);
     run.read(&mut port)
+}
+
+// What is kept of a commit behind a turn: a step may change it.
+fn flight_by(
+    alloc: Global,
+    flight: Option<Flight>,
+    turn: Turn,
+    world: &World<JcrLaw>,
+) -> Result<Option<Flight>, AllocError>
+    ensures { IfOk result (λ after. after ≡ flight_by turn world.now.history.past flight) }
+{
+    match turn {
+        Turn::Stepped(_) => flight_then(alloc, flight, world),
+        _ => Ok(flight),
+    }
 }
 
 // What is kept of a commit behind a step, by the event that the journal has last.
