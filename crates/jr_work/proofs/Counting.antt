@@ -40,13 +40,13 @@ one_less a b h = omega arith
 least : (n : ℕ) → 0 ≤ n
 least n = omega arith
 
-number_itself : (n : ℕ) → (n == n) ≡ true
+pub number_itself : (n : ℕ) → (n == n) ≡ true
 number_itself n = grind (arith, nat_tests)
 
 -- ---- replies among the events of a step
 
 module _ (s : ℕ) (part : Past) where
-  not_said : (own : Past) (script : Script) (past : Past) → IsSingle past s own ⊎ IsDouble script past s own → list_any (is_reply_of s) own ≡ false → has_just_said s (own ++ part) ≡ false
+  pub not_said : (own : Past) (script : Script) (past : Past) → IsSingle past s own ⊎ IsDouble script past s own → list_any (is_reply_of s) own ≡ false → has_just_said s (own ++ part) ≡ false
   not_said own script past (inl one) none = subst (λ (o : Past). has_just_said s (o ++ part) ≡ false) (sym one.is) (first (is_reply_of s one.event) (subst (λ (o : Past). list_any (is_reply_of s) o ≡ false) one.is none))
     where
       first : (b : Bool) → (b || false) ≡ false → b ≡ false

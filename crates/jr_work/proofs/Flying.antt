@@ -58,7 +58,7 @@ drawing_by now (event.Draw f ∷ past) s d is flies = elim (f.session == s) as (
 drawing_by now (e ∷ past) s d is flies = drawing_by now past s d is flies
 
 -- a revision of s that hasn't ended is in flight
-flying_by : (now past : Past) (s : ℕ) (r : Revision) (d : Draw) → draw_of past r ≡ Some d → (d.session == s) ≡ true → is_ended now r ≡ false → is_drawing_among now past s ≡ true
+pub flying_by : (now past : Past) (s : ℕ) (r : Revision) (d : Draw) → draw_of past r ≡ Some d → (d.session == s) ≡ true → is_ended now r ≡ false → is_drawing_among now past s ≡ true
 flying_by now [] s r d is own flies = none_is_some d is
 flying_by now (event.Draw f ∷ past) s r d is own flies = elim (is_same r f.revision) as (λ b. is_same r f.revision ≡ b → is_drawing_among now (event.Draw f ∷ past) s ≡ true) [
   | true ↦ λ same.
