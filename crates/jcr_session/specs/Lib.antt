@@ -1,3 +1,4 @@
 pub mod Eval
 pub mod Sights
 pub mod Standing
+pub mod Leaving

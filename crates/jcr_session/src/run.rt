@@ -8,6 +8,7 @@ ghost use Rattle.oak_port.specs.declared.task.TaskEnd.TheVariants as end;
 ghost use Rattle.jcr_trans.specs.Answers.{Refused};
 ghost use Rattle.jcr_trans.specs.Texts.{answer_text, memory_text};
 ghost use Rattle.jcr_session.specs.Standing.{HasEnded, HasLooked, HasSeen, HasTurned, IsNew, IsPlanFor, IsPlanOf, IsRefused, IsReply, IsSame, MayAnswer, Stands, due_for, is_unread, kind_of_end, phase_by, pinned_by, turn_by};
+ghost use Rattle.jcr_session.specs.Leaving.{ended_by};
 ghost use Rattle.jcr_session.specs.declared.run.Due.TheVariants as due;
 ghost use Rattle.jcr_session.specs.declared.run.Phase.TheVariants as phase;
 ghost use Rattle.jcr_session.specs.declared.run.Plan.TheVariants as plan;
@@ -24,8 +25,12 @@ use jr_path::{DeepCopy, Item, List};
 use jr_rev::{Pin, RevVec, Revision};
 use jr_tree::{Datum, Edit, Refusal, changes};
 use oak_clash::MarkAt;
-use oak_machine::StepKind;
 use oak_commit::CommitEnd;
+use oak_machine::StepKind;
+<<<<<<< HEAD
+use oak_commit::CommitEnd;
+=======
+>>>>>>> abf1853e41b42c094e47eba52d7b4bdaafe64983
 use oak_port::{Port, StepOut, Task, TaskEnd};
 use std::alloc::{AllocError, Global};
 use std::mem;
@@ -105,7 +110,6 @@ impl SessionRun {
 
     /// Makes one step of reading the tree at the base, where one is due, and tells whether it did. Where memory is refused, what
     /// was read is given up.
-    #[tactic(auto, using(crate::proofs::Looking::unread_in, crate::proofs::Looking::unread_looks, crate::proofs::Looking::looked_nothing, crate::proofs::Looking::looked_read, crate::proofs::Looking::looked_refused))]
     pub fn read<P: Port<L = JcrLaw>>(&mut self, port: &mut P) -> Result<bool, AllocError>
         requires stands { Stands (P.law port.old) (P.shown port.old) self.old }
         ensures law { P.law port.new ≡ P.law port.old }
@@ -124,7 +128,6 @@ impl SessionRun {
     /// Makes the reading steps that are due and then exactly one counted step, or none where the session waits or has ended.
     /// Where memory is refused for a command, that command is answered so; where it is refused for the place of a reply, or for the
     /// login or the leave, the run ends.
-    #[tactic(auto, using(crate::proofs::Looking::turned_behind, crate::proofs::Looking::refused_forgoes, crate::proofs::Looking::forgone_behind))]
     pub fn turn<P: Port<L = JcrLaw>>(&mut self, port: &mut P) -> Turn
         requires stands { Stands (P.law port.old) (P.shown port.old) self.old }
         ensures law { P.law port.new ≡ P.law port.old }
@@ -138,7 +141,6 @@ impl SessionRun {
     }
 
     // Makes exactly one counted step, or none where the session waits or has ended.
-    #[tactic(auto, using(crate::proofs::Looking::over_ends))]
     fn counted<P: Port<L = JcrLaw>>(&mut self, port: &mut P) -> Turn
         requires stands { Stands (P.law port.old) (P.shown port.old) self.old }
         requires read { IsFalse (is_unread self.old) }
@@ -159,7 +161,6 @@ impl SessionRun {
     }
 
     // Makes all reading steps that are due, and tells whether it did.
-    #[tactic(auto, using(crate::proofs::Looking::looked_nothing, crate::proofs::Looking::looked_both, crate::proofs::Looking::looked_first, crate::proofs::Looking::looked_last))]
     fn read_all<P: Port<L = JcrLaw>>(&mut self, port: &mut P) -> Result<bool, AllocError>
         requires stands { Stands (P.law port.old) (P.shown port.old) self.old }
         ensures law { P.law port.new ≡ P.law port.old }
@@ -200,7 +201,6 @@ impl SessionRun {
     }
 
     // Logs in.
-    #[tactic(auto, using(crate::proofs::Living::outside_idle, crate::proofs::Living::outside_begins, crate::proofs::Living::logged_in))]
     fn log_in<P: Port<L = JcrLaw>>(&mut self, port: &mut P) -> Turn
         requires stands { Stands (P.law port.old) (P.shown port.old) self.old }
         requires outside { self.old.phase ≡ phase.Outside }
@@ -237,7 +237,6 @@ impl SessionRun {
     }
 
     // Leaves.
-    #[tactic(auto, using(crate::proofs::Replying::idle_between, crate::proofs::Starting::leave_begins, crate::proofs::Starting::left))]
     fn leave<P: Port<L = JcrLaw>>(&mut self, port: &mut P) -> Turn
         requires stands { Stands (P.law port.old) (P.shown port.old) self.old }
         requires between { self.old.phase ≡ phase.Between }
@@ -249,17 +248,14 @@ impl SessionRun {
         let Ok(()) = port.start(Task::End) else {
             return Turn::Memory;
         };
-        match port.step() {
-            StepOut::Ready(TaskEnd::Ended) => {
-                self.phase = Phase::Over;
-                Turn::Stepped(StepKind::End)
-            }
-            _ => Turn::Memory,
+        if !has_ended(port.step()) {
+            return Turn::Memory;
         }
+        self.phase = Phase::Over;
+        Turn::Stepped(StepKind::End)
     }
 
     // Shows the base.
-    #[tactic(auto, using(crate::proofs::Replying::forgo_head, crate::proofs::Replying::show_base, crate::proofs::Turning::answer_later, crate::proofs::Turning::said_later, crate::proofs::Answering::made_ok, crate::proofs::Answering::made_err))]
     fn show_base<P: Port<L = JcrLaw>>(&mut self, port: &mut P) -> Turn
         requires stands { Stands (P.law port.old) (P.shown port.old) self.old }
         requires between { self.old.phase ≡ phase.Between }
@@ -275,8 +271,23 @@ impl SessionRun {
         self.say_made(port, text)
     }
 
+<<<<<<< HEAD
+=======
+    // Refuses the command, which this session may not make.
+    fn refuse<P: Port<L = JcrLaw>>(&mut self, port: &mut P) -> Turn
+        requires stands { Stands (P.law port.old) (P.shown port.old) self.old }
+        requires between { self.old.phase ≡ phase.Between }
+        requires read { IsFalse (is_unread self.old) }
+        requires next { due_for self.old ≡ due.Refuse }
+        ensures law { P.law port.new ≡ P.law port.old }
+        ensures turned { HasTurned (P.law port.old) (P.shown port.old) (P.shown port.new) self.old self.new result }
+    {
+        let text = unsupported_reply(self.alloc, &Command::Save);
+        self.say_made(port, text)
+    }
+
+>>>>>>> abf1853e41b42c094e47eba52d7b4bdaafe64983
     // Moves the base to the head. What was pending is dropped, and the tree there isn't read yet.
-    #[tactic(auto, using(crate::proofs::Replying::idle_between, crate::proofs::Replying::forgo_refresh, crate::proofs::Starting::refresh_begins, crate::proofs::Starting::refresh_moves, crate::proofs::Starting::refresh_stops, crate::proofs::Starting::refresh_stopped, crate::proofs::Turning::answer_idle, crate::proofs::Turning::said_idle))]
     fn refresh<P: Port<L = JcrLaw>>(&mut self, port: &mut P) -> Turn
         requires stands { Stands (P.law port.old) (P.shown port.old) self.old }
         requires between { self.old.phase ≡ phase.Between }
@@ -285,21 +296,20 @@ impl SessionRun {
         ensures law { P.law port.new ≡ P.law port.old }
         ensures turned { HasTurned (P.law port.old) (P.shown port.old) (P.shown port.new) self.old self.new result }
     {
-        let Ok(()) = port.start(Task::Refresh) else {
-            return self.say_memory(port);
-        };
-        match pinned(port.step()) {
-            Some(pin) => {
-                self.phase = Phase::Refreshed(pin.base);
-                self.sight = Sight::Unread;
-                Turn::Stepped(StepKind::Pin)
-            }
-            None => self.say_memory(port),
+        match port.start(Task::Refresh) {
+            Err(AllocError) => self.say_memory(port),
+            Ok(()) => match pinned(port.step()) {
+                Some(pin) => {
+                    self.phase = Phase::Refreshed(pin.base);
+                    self.sight = Sight::Unread;
+                    Turn::Stepped(StepKind::Pin)
+                }
+                None => self.say_memory(port),
+            },
         }
     }
 
     // Shows the vector to which the base moved.
-    #[tactic(auto, using(crate::proofs::Ending::shows_vector))]
     fn say_vector<P: Port<L = JcrLaw>>(&mut self, port: &mut P, vector: RevVec) -> Turn
         requires stands { Stands (P.law port.old) (P.shown port.old) self.old }
         requires refreshed { self.old.phase ≡ phase.Refreshed vector }
@@ -313,7 +323,7 @@ impl SessionRun {
     }
 
     // Answers by the view.
-    #[tactic(auto, using(crate::proofs::Answering::sees_reply, crate::proofs::Answering::sees_memory, crate::proofs::Answering::made_if, crate::proofs::Answering::made_or, crate::proofs::Replying::turned_like))]
+    #[tactic(none)]
     fn see<P: Port<L = JcrLaw>>(&mut self, port: &mut P) -> Turn
         requires stands { Stands (P.law port.old) (P.shown port.old) self.old }
         requires between { self.old.phase ≡ phase.Between }
@@ -327,6 +337,7 @@ impl SessionRun {
     }
 
     // The reply by the view.
+    #[tactic(none)]
     fn seen_reply(&mut self) -> Result<String, AllocError>
         ensures same { IsSame self.old self.new }
         ensures text { IfOk result (λ text. HasSeen self.old self.new (string_bytes text)) }
@@ -346,7 +357,7 @@ impl SessionRun {
     }
 
     // Commits what is pending, where there is something and the tree after it has few nodes.
-    #[tactic(auto, using(crate::proofs::Replying::forgo_save))]
+    #[tactic(none)]
     fn save<P: Port<L = JcrLaw>>(&mut self, port: &mut P) -> Turn
         requires stands { Stands (P.law port.old) (P.shown port.old) self.old }
         requires between { self.old.phase ≡ phase.Between }
@@ -362,7 +373,7 @@ impl SessionRun {
     }
 
     // Answers a save that commits nothing, or begins its commit.
-    #[tactic(auto, using(crate::proofs::Answering::answers_nothing, crate::proofs::Answering::answers_too_many, crate::proofs::Answering::made_ok, crate::proofs::Answering::made_err, crate::proofs::Replying::forgo_save))]
+    #[tactic(none)]
     fn save_by<P: Port<L = JcrLaw>>(&mut self, port: &mut P, plan: Plan) -> Turn
         requires stands { Stands (P.law port.old) (P.shown port.old) self.old }
         requires between { self.old.phase ≡ phase.Between }
@@ -396,7 +407,7 @@ impl SessionRun {
     }
 
     // Begins a commit. The place of its reply is kept before.
-    #[tactic(auto, using(crate::proofs::Replying::forgo_save, crate::proofs::Replying::idle_between, crate::proofs::Drawing::commit_begins, crate::proofs::Drawing::commit_draws, crate::proofs::Drawing::commit_stops, crate::proofs::Drawing::commit_stopped, crate::proofs::Turning::answer_later, crate::proofs::Turning::said_later, crate::proofs::Turning::room_kept, crate::proofs::Turning::room_stays, crate::proofs::Lengths::memory_room))]
+    #[tactic(none)]
     fn commit<P: Port<L = JcrLaw>>(
         &mut self,
         port: &mut P,
@@ -428,7 +439,7 @@ impl SessionRun {
     }
 
     // Makes a step of a commit. Where memory is refused, the commit turns to undoing, and makes a step of that.
-    #[tactic(auto, using(crate::proofs::Turning::commit_once, crate::proofs::Turning::commit_twice, crate::proofs::Turning::commit_busy, crate::proofs::Turning::refused_busy))]
+    #[tactic(none)]
     fn commit_on<P: Port<L = JcrLaw>>(&mut self, port: &mut P) -> Turn
         requires stands { Stands (P.law port.old) (P.shown port.old) self.old }
         requires saving { self.old.phase ≡ phase.Saving }
@@ -462,7 +473,7 @@ impl SessionRun {
     }
 
     // Answers a save whose commit has ended.
-    #[tactic(auto, using(crate::proofs::Ending::stands_saved, crate::proofs::Replying::turned_like))]
+    #[tactic(none)]
     fn say_end<P: Port<L = JcrLaw>>(&mut self, port: &mut P) -> Turn
         requires stands { Stands (P.law port.old) (P.shown port.old) self.old }
         requires saved { HasEnded self.old.phase }
@@ -476,7 +487,7 @@ impl SessionRun {
     }
 
     // Answers a save whose commit has ended so.
-    #[tactic(auto, using(crate::proofs::Ending::ended_memory, crate::proofs::Ending::ended_room, crate::proofs::Lengths::memory_room))]
+    #[tactic(none)]
     fn say_saved<P: Port<L = JcrLaw>>(&mut self, port: &mut P, end: CommitEnd) -> Turn
         requires stands { Stands (P.law port.old) (P.shown port.old) (record self.old { phase = phase.Saved end }) }
         ensures law { P.law port.new ≡ P.law port.old }
@@ -490,7 +501,7 @@ impl SessionRun {
     }
 
     // Answers a save with its revision. The tree at the base that sees it isn't read yet.
-    #[tactic(auto, using(crate::proofs::Ending::ended_revision, crate::proofs::Ending::ended_room, crate::proofs::Lengths::short_reply, crate::proofs::Replying::turned_like))]
+    #[tactic(none)]
     fn say_revision<P: Port<L = JcrLaw>>(&mut self, port: &mut P, r: Revision) -> Turn
         requires stands { Stands (P.law port.old) (P.shown port.old) (record self.old { phase = phase.Saved (commit.Committed r) }) }
         ensures law { P.law port.new ≡ P.law port.old }
@@ -504,7 +515,7 @@ impl SessionRun {
     }
 
     // Answers a save with the clash for which it was refused, or that memory was refused for that.
-    #[tactic(auto, using(crate::proofs::Ending::ended_clash, crate::proofs::Ending::ended_unshown, crate::proofs::Ending::ended_room, crate::proofs::Lengths::memory_room))]
+    #[tactic(none)]
     fn say_clash<P: Port<L = JcrLaw>>(&mut self, port: &mut P, item: Item, other: Revision) -> Turn
         requires stands { Stands (P.law port.old) (P.shown port.old) (record self.old { phase = phase.Saved (commit.Clash item other) }) }
         ensures law { P.law port.new ≡ P.law port.old }
@@ -534,7 +545,6 @@ impl SessionRun {
     }
 
     // Says the reply where memory was refused.
-    #[tactic(auto, using(crate::proofs::Lengths::memory_reply_is))]
     fn say_memory<P: Port<L = JcrLaw>>(&mut self, port: &mut P) -> Turn
         requires answer { MayAnswer (P.law port.old) (P.shown port.old) self.old memory_text }
         ensures law { P.law port.new ≡ P.law port.old }
@@ -544,7 +554,6 @@ impl SessionRun {
     }
 
     // Says a reply.
-    #[tactic(auto, using(crate::proofs::Turning::may_idle, crate::proofs::Turning::answer_later, crate::proofs::Turning::said_later, crate::proofs::Turning::room_kept))]
     fn say<P: Port<L = JcrLaw>>(&mut self, port: &mut P, text: &str) -> Turn
         requires answer { MayAnswer (P.law port.old) (P.shown port.old) self.old text.now }
         ensures law { P.law port.new ≡ P.law port.old }
@@ -557,7 +566,6 @@ impl SessionRun {
     }
 
     // Says a reply, or that memory was refused, for which there is a place.
-    #[tactic(auto, using(crate::proofs::Turning::may_idle, crate::proofs::Turning::answer_later, crate::proofs::Turning::said_later, crate::proofs::Turning::room_kept, crate::proofs::Turning::room_stays))]
     fn say_or_memory<P: Port<L = JcrLaw>>(&mut self, port: &mut P, text: &str) -> Turn
         requires answer { MayAnswer (P.law port.old) (P.shown port.old) self.old text.now }
         requires memory { MayAnswer (P.law port.old) (P.shown port.old) self.old memory_text }
@@ -565,14 +573,13 @@ impl SessionRun {
         ensures law { P.law port.new ≡ P.law port.old }
         ensures turned { HasTurned (P.law port.old) (P.shown port.old) (P.shown port.new) self.old self.new result }
     {
-        let Ok(()) = port.reserve_say(text.len()) else {
-            return self.say_kept(port, MEMORY_REPLY);
-        };
-        self.say_kept(port, text)
+        match port.reserve_say(text.len()) {
+            Ok(()) => self.say_kept(port, text),
+            Err(AllocError) => self.say_kept(port, MEMORY_REPLY),
+        }
     }
 
     // Says a reply for which there is a place.
-    #[tactic(auto, using(crate::proofs::Turning::index_small, crate::proofs::Turning::may_index, crate::proofs::Turning::may_idle, crate::proofs::Turning::may_says, crate::proofs::Turning::said_kept))]
     fn say_kept<P: Port<L = JcrLaw>>(&mut self, port: &mut P, text: &str) -> Turn
         requires answer { MayAnswer (P.law port.old) (P.shown port.old) self.old text.now }
         requires room { HasRoom (P.shown port.old).room (length text.now) }
@@ -594,6 +601,16 @@ fn pinned(answer: StepOut) -> Option<Pin>
     match &answer {
         StepOut::Ready(TaskEnd::Pinned(pin)) => Some(*pin),
         _ => None,
+    }
+}
+
+// Whether a leave has ended.
+fn has_ended(answer: StepOut) -> bool
+    ensures { result ≡ ended_by answer }
+{
+    match &answer {
+        StepOut::Ready(TaskEnd::Ended) => true,
+        _ => false,
     }
 }
 
@@ -633,6 +650,7 @@ fn last_kind(end: &CommitEnd) -> StepKind
 }
 
 // The reply to a reading or view command, or to one that isn't built; it changes the view.
+#[tactic(none)]
 fn reply_of(alloc: Global, command: &Command, seen: &mut Seen) -> Result<String, AllocError>
     ensures base { seen.new.base ≡ seen.old.base }
     ensures text { IfOk result (λ text. IsReply command.now seen.old.view seen.new.view (string_bytes text)) }
