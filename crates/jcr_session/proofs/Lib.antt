@@ -20,3 +20,4 @@ mod Lengths
 mod Seeing
 mod Calling
 mod Beginning
+mod Leaving

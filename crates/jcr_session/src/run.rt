@@ -10,6 +10,7 @@ ghost use Rattle.jcr_trans.specs.Answers.{Refused};
 ghost use Rattle.jcr_trans.specs.Texts.{answer_text, memory_text};
 ghost use Rattle.jcr_session.specs.Drawn.{has_went};
 ghost use Rattle.jcr_session.specs.Standing.{HasEnded, HasLooked, HasSeen, HasTurned, IsNew, IsPlanFor, IsPlanOf, IsRefused, IsReply, IsSame, MayAnswer, Stands, due_for, is_unread, kind_of_end, phase_by, pinned_by, turn_by};
+ghost use Rattle.jcr_session.specs.Leaving.{ended_by};
 ghost use Rattle.jcr_session.specs.declared.run.Due.TheVariants as due;
 ghost use Rattle.jcr_session.specs.declared.run.Phase.TheVariants as phase;
 ghost use Rattle.jcr_session.specs.declared.run.Plan.TheVariants as plan;
@@ -110,7 +111,6 @@ impl SessionRun {
 
     /// Makes one step of reading the tree at the base, where one is due, and tells whether it did. Where memory is refused, what
     /// was read is given up.
-    #[tactic(auto, using(crate::proofs::Looking::unread_in, crate::proofs::Looking::unread_looks, crate::proofs::Looking::looked_nothing, crate::proofs::Looking::looked_read, crate::proofs::Looking::looked_refused))]
     pub fn read<P: Port<L = JcrLaw>>(&mut self, port: &mut P) -> Result<bool, AllocError>
         requires stands { Stands (P.law port.old) (P.shown port.old) self.old }
         ensures law { P.law port.new ≡ P.law port.old }
@@ -129,7 +129,6 @@ impl SessionRun {
     /// Makes the reading steps that are due and then exactly one counted step, or none where the session waits or has ended.
     /// Where memory is refused for a command, that command is answered so; where it is refused for the place of a reply, or for the
     /// login or the leave, the run ends.
-    #[tactic(auto, using(crate::proofs::Looking::turned_behind, crate::proofs::Looking::refused_forgoes, crate::proofs::Looking::forgone_behind))]
     pub fn turn<P: Port<L = JcrLaw>>(&mut self, port: &mut P) -> Turn
         requires stands { Stands (P.law port.old) (P.shown port.old) self.old }
         ensures law { P.law port.new ≡ P.law port.old }
@@ -143,7 +142,6 @@ impl SessionRun {
     }
 
     // Makes exactly one counted step, or none where the session waits or has ended.
-    #[tactic(auto, using(crate::proofs::Looking::over_ends))]
     fn counted<P: Port<L = JcrLaw>>(&mut self, port: &mut P) -> Turn
         requires stands { Stands (P.law port.old) (P.shown port.old) self.old }
         requires read { IsFalse (is_unread self.old) }
@@ -164,7 +162,6 @@ impl SessionRun {
     }
 
     // Makes all reading steps that are due, and tells whether it did.
-    #[tactic(auto, using(crate::proofs::Looking::looked_nothing, crate::proofs::Looking::looked_both, crate::proofs::Looking::looked_first, crate::proofs::Looking::looked_last))]
     fn read_all<P: Port<L = JcrLaw>>(&mut self, port: &mut P) -> Result<bool, AllocError>
         requires stands { Stands (P.law port.old) (P.shown port.old) self.old }
         ensures law { P.law port.new ≡ P.law port.old }
@@ -211,7 +208,6 @@ impl SessionRun {
     }
 
     // Logs in.
-    #[tactic(auto, using(crate::proofs::Living::outside_idle, crate::proofs::Living::outside_begins, crate::proofs::Living::logged_in))]
     fn log_in<P: Port<L = JcrLaw>>(&mut self, port: &mut P) -> Turn
         requires stands { Stands (P.law port.old) (P.shown port.old) self.old }
         requires outside { self.old.phase ≡ phase.Outside }
@@ -249,7 +245,6 @@ impl SessionRun {
     }
 
     // Leaves.
-    #[tactic(auto, using(crate::proofs::Replying::idle_between, crate::proofs::Starting::leave_begins, crate::proofs::Starting::left))]
     fn leave<P: Port<L = JcrLaw>>(&mut self, port: &mut P) -> Turn
         requires stands { Stands (P.law port.old) (P.shown port.old) self.old }
         requires between { self.old.phase ≡ phase.Between }
@@ -261,17 +256,14 @@ impl SessionRun {
         let Ok(()) = port.start(Task::End) else {
             return Turn::Memory;
         };
-        match port.step() {
-            StepOut::Ready(TaskEnd::Ended) => {
-                self.phase = Phase::Over;
-                Turn::Stepped(StepKind::End)
-            }
-            _ => Turn::Memory,
+        if !has_ended(port.step()) {
+            return Turn::Memory;
         }
+        self.phase = Phase::Over;
+        Turn::Stepped(StepKind::End)
     }
 
     // Shows the base.
-    #[tactic(auto, using(crate::proofs::Replying::forgo_head, crate::proofs::Replying::show_base, crate::proofs::Turning::answer_later, crate::proofs::Turning::said_later, crate::proofs::Answering::made_ok, crate::proofs::Answering::made_err))]
     fn show_base<P: Port<L = JcrLaw>>(&mut self, port: &mut P) -> Turn
         requires stands { Stands (P.law port.old) (P.shown port.old) self.old }
         requires between { self.old.phase ≡ phase.Between }
@@ -288,7 +280,6 @@ impl SessionRun {
     }
 
     // Refuses the command, which this session may not make.
-    #[tactic(auto, using(crate::proofs::Replying::forgo_refuse, crate::proofs::Replying::refuse_save, crate::proofs::Answering::made_ok, crate::proofs::Answering::made_err))]
     fn refuse<P: Port<L = JcrLaw>>(&mut self, port: &mut P) -> Turn
         requires stands { Stands (P.law port.old) (P.shown port.old) self.old }
         requires between { self.old.phase ≡ phase.Between }
@@ -302,7 +293,6 @@ impl SessionRun {
     }
 
     // Moves the base to the head. What was pending is dropped, and the tree there isn't read yet.
-    #[tactic(auto, using(crate::proofs::Replying::idle_between, crate::proofs::Replying::forgo_refresh, crate::proofs::Starting::refresh_begins, crate::proofs::Starting::refresh_moves, crate::proofs::Starting::refresh_stops, crate::proofs::Starting::refresh_stopped, crate::proofs::Turning::answer_idle, crate::proofs::Turning::said_idle))]
     fn refresh<P: Port<L = JcrLaw>>(&mut self, port: &mut P) -> Turn
         requires stands { Stands (P.law port.old) (P.shown port.old) self.old }
         requires between { self.old.phase ≡ phase.Between }
@@ -311,21 +301,20 @@ impl SessionRun {
         ensures law { P.law port.new ≡ P.law port.old }
         ensures turned { HasTurned (P.law port.old) (P.shown port.old) (P.shown port.new) self.old self.new result }
     {
-        let Ok(()) = port.start(Task::Refresh) else {
-            return self.say_memory(port);
-        };
-        match pinned(port.step()) {
-            Some(pin) => {
-                self.phase = Phase::Refreshed(pin.base);
-                self.sight = Sight::Unread;
-                Turn::Stepped(StepKind::Pin)
-            }
-            None => self.say_memory(port),
+        match port.start(Task::Refresh) {
+            Err(AllocError) => self.say_memory(port),
+            Ok(()) => match pinned(port.step()) {
+                Some(pin) => {
+                    self.phase = Phase::Refreshed(pin.base);
+                    self.sight = Sight::Unread;
+                    Turn::Stepped(StepKind::Pin)
+                }
+                None => self.say_memory(port),
+            },
         }
     }
 
     // Shows the vector to which the base moved.
-    #[tactic(auto, using(crate::proofs::Ending::shows_vector))]
     fn say_vector<P: Port<L = JcrLaw>>(&mut self, port: &mut P, vector: RevVec) -> Turn
         requires stands { Stands (P.law port.old) (P.shown port.old) self.old }
         requires refreshed { self.old.phase ≡ phase.Refreshed vector }
@@ -549,7 +538,6 @@ impl SessionRun {
     }
 
     // Says the reply where memory was refused.
-    #[tactic(auto, using(crate::proofs::Lengths::memory_reply_is))]
     fn say_memory<P: Port<L = JcrLaw>>(&mut self, port: &mut P) -> Turn
         requires answer { MayAnswer (P.law port.old) (P.shown port.old) self.old memory_text }
         ensures law { P.law port.new ≡ P.law port.old }
@@ -559,7 +547,6 @@ impl SessionRun {
     }
 
     // Says a reply.
-    #[tactic(auto, using(crate::proofs::Turning::may_idle, crate::proofs::Turning::answer_later, crate::proofs::Turning::said_later, crate::proofs::Turning::room_kept))]
     fn say<P: Port<L = JcrLaw>>(&mut self, port: &mut P, text: &str) -> Turn
         requires answer { MayAnswer (P.law port.old) (P.shown port.old) self.old text.now }
         ensures law { P.law port.new ≡ P.law port.old }
@@ -572,7 +559,6 @@ impl SessionRun {
     }
 
     // Says a reply, or that memory was refused, for which there is a place.
-    #[tactic(auto, using(crate::proofs::Turning::may_idle, crate::proofs::Turning::answer_later, crate::proofs::Turning::said_later, crate::proofs::Turning::room_kept, crate::proofs::Turning::room_stays))]
     fn say_or_memory<P: Port<L = JcrLaw>>(&mut self, port: &mut P, text: &str) -> Turn
         requires answer { MayAnswer (P.law port.old) (P.shown port.old) self.old text.now }
         requires memory { MayAnswer (P.law port.old) (P.shown port.old) self.old memory_text }
@@ -580,14 +566,13 @@ impl SessionRun {
         ensures law { P.law port.new ≡ P.law port.old }
         ensures turned { HasTurned (P.law port.old) (P.shown port.old) (P.shown port.new) self.old self.new result }
     {
-        let Ok(()) = port.reserve_say(text.len()) else {
-            return self.say_kept(port, MEMORY_REPLY);
-        };
-        self.say_kept(port, text)
+        match port.reserve_say(text.len()) {
+            Ok(()) => self.say_kept(port, text),
+            Err(AllocError) => self.say_kept(port, MEMORY_REPLY),
+        }
     }
 
     // Says a reply for which there is a place.
-    #[tactic(auto, using(crate::proofs::Turning::index_small, crate::proofs::Turning::may_index, crate::proofs::Turning::may_idle, crate::proofs::Turning::may_says, crate::proofs::Turning::said_kept))]
     fn say_kept<P: Port<L = JcrLaw>>(&mut self, port: &mut P, text: &str) -> Turn
         requires answer { MayAnswer (P.law port.old) (P.shown port.old) self.old text.now }
         requires room { HasRoom (P.shown port.old).room (length text.now) }
@@ -618,6 +603,16 @@ fn has_went(answer: StepOut) -> bool
 {
     match answer {
         StepOut::Went(_) => true,
+        _ => false,
+    }
+}
+
+// Whether a leave has ended.
+fn has_ended(answer: StepOut) -> bool
+    ensures { result ≡ ended_by answer }
+{
+    match &answer {
+        StepOut::Ready(TaskEnd::Ended) => true,
         _ => false,
     }
 }

@@ -1,4 +1,4 @@
-use Rattle.std.proofs.Common.{refl, sym}
+use Rattle.std.proofs.Common.{refl, sym, ◌∙◌}
 use Rattle.std.specs.String.{string_bytes}
 use Rattle.jr_path.specs.declared.text.Text.{Text}
 use Rattle.jcr_trans.specs.Answers.{ShowsVector}
@@ -39,3 +39,6 @@ returns-clause-turned g c =
     turned_behind_place law (g.P.Port.law c.pin.new.self) c.in-Some.ensures.law p (g.P.Port.shown c.pin.new.self) c.args.self.now memory_text
     (forgo_head law p c.args.self.now c.requires.stands c.requires.between c.requires.read c.requires.next) p.room c.in-Some.ensures.same
     (g.P.Port.shown c.say_made.new.port) c.say_made.new.self c.say_made.result c.say_made.ensures.turned
+
+pub returns-clause-law : goal.returns-clause-law
+returns-clause-law g c = c.say_made.ensures.law ∙ c.in-Some.ensures.law
