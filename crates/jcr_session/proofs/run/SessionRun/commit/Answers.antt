@@ -11,7 +11,7 @@ use Rattle.jcr_session.proofs.run.SessionRun.commit.Goals as goal
 -- no place was kept
 pub say_memory-requires : goal.say_memory-requires
 say_memory-requires g c =
-    save_unplaced (g.P.Port.law c.args.port.now) (g.P.Port.law c.reserve_say.new.self) c.in_default.ensures.law (g.P.Port.shown c.args.port.now) (g.P.Port.shown c.reserve_say.new.self) c.args.self.now c.requires.stands c.requires.between c.requires.read c.requires.next c.in_default.ensures.err
+    record { answer = save_unplaced (g.P.Port.law c.args.port.now) (g.P.Port.law c.reserve_say.new.self) c.in_default.ensures.law (g.P.Port.shown c.args.port.now) (g.P.Port.shown c.reserve_say.new.self) c.args.self.now c.requires.stands c.requires.between c.requires.read c.requires.next c.in_default.ensures.err }
 
 pub returns-in_default-clause-turned : goal.returns-in_default-clause-turned
 returns-in_default-clause-turned g c =
@@ -41,22 +41,22 @@ returns-in_default-start-clause-turned g c =
 
 pub step-requires : goal.step-requires
 step-requires g c =
-    λ idle. busy_by (g.P.Port.shown c.start.new.self).work (task.Commit c.args.edit c.args.marks) c.in-Ok-start.ensures.ok.work_is idle
+    record { busy = λ idle. busy_by (g.P.Port.shown c.start.new.self).work (task.Commit c.args.edit c.args.marks) c.in-Ok-start.ensures.ok.work_is idle }
 
 -- it draws
 pub returns-clause-turned : goal.returns-clause-turned
 returns-clause-turned g c =
-    save_draws (g.P.Port.law c.args.port.now) (g.P.Port.law c.reserve_say.new.self) c.in-Ok.ensures.law (g.P.Port.shown c.args.port.now) (g.P.Port.shown c.reserve_say.new.self) c.args.self.now c.requires.stands c.requires.between c.requires.read c.requires.next c.in-Ok.ensures.ok (g.P.Port.law c.start.new.self) c.in-Ok-start.ensures.law (g.P.Port.shown c.start.new.self) c.args.edit c.args.marks c.requires.plan c.in-Ok-start.ensures.ok (g.P.Port.shown c.step.new.self) c.step.result c.step.ensures.steps (sym c.has_went.ensures ∙ c.if-has_went.true) _ _ refl refl
+    save_draws (g.P.Port.law c.args.port.now) (g.P.Port.law c.reserve_say.new.self) c.in-Ok.ensures.law (g.P.Port.shown c.args.port.now) (g.P.Port.shown c.reserve_say.new.self) c.args.self.now c.requires.stands c.requires.between c.requires.read c.requires.next c.in-Ok.ensures.ok (g.P.Port.law c.start.new.self) c.in-Ok-start.ensures.law (g.P.Port.shown c.start.new.self) c.args.edit c.args.marks c.requires.plan c.in-Ok-start.ensures.ok (g.P.Port.shown c.step.new.self) c.step.result c.step.ensures.steps (sym c.has_went.ensures ∙ c.if-not-has_went.false) _ _ refl refl
 
 -- memory was refused for its draw
 pub say_kept-requires-then-not-has_went-clause-answer : goal.say_kept-requires-then-not-has_went-clause-answer
 say_kept-requires-then-not-has_went-clause-answer g c =
-    subst (λ (text : Text). MayAnswer (g.P.Port.law c.step.new.self) (g.P.Port.shown c.step.new.self) c.args.self.now text) memory_reply_is (save_stops (g.P.Port.law c.args.port.now) (g.P.Port.law c.reserve_say.new.self) c.in-Ok.ensures.law (g.P.Port.shown c.args.port.now) (g.P.Port.shown c.reserve_say.new.self) c.args.self.now c.requires.stands c.requires.between c.requires.read c.requires.next c.in-Ok.ensures.ok (g.P.Port.law c.start.new.self) c.in-Ok-start.ensures.law (g.P.Port.shown c.start.new.self) c.args.edit c.args.marks c.requires.plan c.in-Ok-start.ensures.ok (g.P.Port.shown c.step.new.self) c.step.result c.step.ensures.steps (sym c.has_went.ensures ∙ c.if-has_went.false) (g.P.Port.law c.step.new.self) c.step.ensures.law)
+    subst (λ (text : Text). MayAnswer (g.P.Port.law c.step.new.self) (g.P.Port.shown c.step.new.self) c.args.self.now text) memory_reply_is (save_stops (g.P.Port.law c.args.port.now) (g.P.Port.law c.reserve_say.new.self) c.in-Ok.ensures.law (g.P.Port.shown c.args.port.now) (g.P.Port.shown c.reserve_say.new.self) c.args.self.now c.requires.stands c.requires.between c.requires.read c.requires.next c.in-Ok.ensures.ok (g.P.Port.law c.start.new.self) c.in-Ok-start.ensures.law (g.P.Port.shown c.start.new.self) c.args.edit c.args.marks c.requires.plan c.in-Ok-start.ensures.ok (g.P.Port.shown c.step.new.self) c.step.result c.step.ensures.steps (sym c.has_went.ensures ∙ c.if-not-has_went.true) (g.P.Port.law c.step.new.self) c.step.ensures.law)
 
 pub say_kept-requires-then-not-has_went-clause-room : goal.say_kept-requires-then-not-has_went-clause-room
 say_kept-requires-then-not-has_went-clause-room g c =
-    subst (λ (text : Text). HasRoom (g.P.Port.shown c.step.new.self).room (Rattle.std.proofs.Common.length text)) memory_reply_is (room_stops (g.P.Port.law c.args.port.now) (g.P.Port.law c.reserve_say.new.self) c.in-Ok.ensures.law (g.P.Port.shown c.args.port.now) (g.P.Port.shown c.reserve_say.new.self) c.args.self.now c.requires.stands c.requires.between c.requires.read c.requires.next c.in-Ok.ensures.ok (g.P.Port.law c.start.new.self) c.in-Ok-start.ensures.law (g.P.Port.shown c.start.new.self) c.args.edit c.args.marks c.requires.plan c.in-Ok-start.ensures.ok (g.P.Port.shown c.step.new.self) c.step.result c.step.ensures.steps (sym c.has_went.ensures ∙ c.if-has_went.false))
+    subst (λ (text : Text). HasRoom (g.P.Port.shown c.step.new.self).room (Rattle.std.proofs.Common.length text)) memory_reply_is (room_stops (g.P.Port.law c.args.port.now) (g.P.Port.law c.reserve_say.new.self) c.in-Ok.ensures.law (g.P.Port.shown c.args.port.now) (g.P.Port.shown c.reserve_say.new.self) c.args.self.now c.requires.stands c.requires.between c.requires.read c.requires.next c.in-Ok.ensures.ok (g.P.Port.law c.start.new.self) c.in-Ok-start.ensures.law (g.P.Port.shown c.start.new.self) c.args.edit c.args.marks c.requires.plan c.in-Ok-start.ensures.ok (g.P.Port.shown c.step.new.self) c.step.result c.step.ensures.steps (sym c.has_went.ensures ∙ c.if-not-has_went.true))
 
 pub returns-then-not-has_went-clause-turned : goal.returns-then-not-has_went-clause-turned
 returns-then-not-has_went-clause-turned g c =
-    save_stopped (g.P.Port.law c.args.port.now) (g.P.Port.law c.reserve_say.new.self) c.in-Ok.ensures.law (g.P.Port.shown c.args.port.now) (g.P.Port.shown c.reserve_say.new.self) c.args.self.now c.requires.stands c.requires.between c.requires.read c.requires.next c.in-Ok.ensures.ok (g.P.Port.law c.start.new.self) c.in-Ok-start.ensures.law (g.P.Port.shown c.start.new.self) c.args.edit c.args.marks c.requires.plan c.in-Ok-start.ensures.ok (g.P.Port.shown c.step.new.self) c.step.result c.step.ensures.steps (sym c.has_went.ensures ∙ c.if-has_went.false) (g.P.Port.law c.step.new.self) c.step.ensures.law (g.P.Port.shown c.say_kept-then-not-has_went.new.port) c.say_kept-then-not-has_went.new.self c.say_kept-then-not-has_went.result c.say_kept-then-not-has_went.ensures.turned
+    save_stopped (g.P.Port.law c.args.port.now) (g.P.Port.law c.reserve_say.new.self) c.in-Ok.ensures.law (g.P.Port.shown c.args.port.now) (g.P.Port.shown c.reserve_say.new.self) c.args.self.now c.requires.stands c.requires.between c.requires.read c.requires.next c.in-Ok.ensures.ok (g.P.Port.law c.start.new.self) c.in-Ok-start.ensures.law (g.P.Port.shown c.start.new.self) c.args.edit c.args.marks c.requires.plan c.in-Ok-start.ensures.ok (g.P.Port.shown c.step.new.self) c.step.result c.step.ensures.steps (sym c.has_went.ensures ∙ c.if-not-has_went.true) (g.P.Port.law c.step.new.self) c.step.ensures.law (g.P.Port.shown c.say_kept-then-not-has_went.new.port) c.say_kept-then-not-has_went.new.self c.say_kept-then-not-has_went.result c.say_kept-then-not-has_went.ensures.turned

@@ -5,11 +5,11 @@ use Rattle.jcr_session.proofs.run.SessionRun.commit_on.Goals as goal
 
 pub step-requires : goal.step-requires
 step-requires g c =
-    commit_busy (g.P.Port.law c.args.port.now) (g.P.Port.shown c.args.port.now) c.args.self.now c.requires.stands c.requires.saving
+    record { busy = commit_busy (g.P.Port.law c.args.port.now) (g.P.Port.shown c.args.port.now) c.args.self.now c.requires.stands c.requires.saving }
 
 pub step-answer-requires : goal.step-answer-requires
 step-answer-requires g c =
-    refused_busy (g.P.Port.law c.args.port.now) (g.P.Port.shown c.args.port.now) (g.P.Port.shown c.step.new.self) c.args.self.now c.requires.stands c.requires.saving (memory_first (g.P.Port.law c.args.port.now) (g.P.Port.shown c.args.port.now) (g.P.Port.shown c.step.new.self) c.step.result c.in-Memory.is c.step.ensures.steps)
+    record { busy = refused_busy (g.P.Port.law c.args.port.now) (g.P.Port.shown c.args.port.now) (g.P.Port.shown c.step.new.self) c.args.self.now c.requires.stands c.requires.saving (memory_first (g.P.Port.law c.args.port.now) (g.P.Port.shown c.args.port.now) (g.P.Port.shown c.step.new.self) c.step.result c.in-Memory.is c.step.ensures.steps) }
 
 pub returns-in-Memory-clause-turned : goal.returns-in-Memory-clause-turned
 returns-in-Memory-clause-turned g c =

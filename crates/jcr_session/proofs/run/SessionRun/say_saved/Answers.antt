@@ -11,11 +11,11 @@ use Rattle.jcr_session.proofs.run.SessionRun.say_saved.Goals as goal
 
 pub say_revision-requires : goal.say_revision-requires
 say_revision-requires g c =
-    subst (λ (e : CommitEnd). Stands (g.P.Port.law c.args.port.now) (g.P.Port.shown c.args.port.now) (record c.args.self.now { phase = phase.Saved e })) c.in-Committed.is c.requires.stands
+    record { stands = subst (λ (e : CommitEnd). Stands (g.P.Port.law c.args.port.now) (g.P.Port.shown c.args.port.now) (record c.args.self.now { phase = phase.Saved e })) c.in-Committed.is c.requires.stands }
 
 pub say_clash-requires : goal.say_clash-requires
 say_clash-requires g c =
-    subst (λ (e : CommitEnd). Stands (g.P.Port.law c.args.port.now) (g.P.Port.shown c.args.port.now) (record c.args.self.now { phase = phase.Saved e })) c.in-Clash.is c.requires.stands
+    record { stands = subst (λ (e : CommitEnd). Stands (g.P.Port.law c.args.port.now) (g.P.Port.shown c.args.port.now) (record c.args.self.now { phase = phase.Saved e })) c.in-Clash.is c.requires.stands }
 
 -- memory was refused for it
 pub say_kept-requires-clause-answer : goal.say_kept-requires-clause-answer
