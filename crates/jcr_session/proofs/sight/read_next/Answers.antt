@@ -1,4 +1,5 @@
-use Rattle.std.proofs.Common.{arith}
+use Rattle.std.proofs.Common.{◌≡◌, arith}
+use Rattle.oak_port.specs.Ports.{Idle}
 use Rattle.jcr_session.proofs.Answering.{made_err}
 use Rattle.jcr_session.proofs.Reading.{base_at, beside_in}
 use Rattle.jcr_session.proofs.Seeing.{whole_seen}
@@ -39,10 +40,6 @@ pub fetch_node-requires-clause-idle : goal.fetch_node-requires-clause-idle
 fetch_node-requires-clause-idle g c =
     c.requires.idle
 
-pub returns-in_err-view-in-None-clause-err : goal.returns-in_err-view-in-None-clause-err
-returns-in_err-view-in-None-clause-err g c =
-    made_err _ _ c.requires.idle
-
 pub returns-in_err-walk-in-Some-clause-law : goal.returns-in_err-walk-in-Some-clause-law
 returns-in_err-walk-in-Some-clause-law g c =
     c.in_err-walk-in-Some.ensures.law
@@ -66,6 +63,10 @@ returns-in_ok-walk-in-Some-clause-inside g c =
 pub returns-in_ok-walk-in-Some-clause-beside : goal.returns-in_ok-walk-in-Some-clause-beside
 returns-in_ok-walk-in-Some-clause-beside g c =
     c.in_ok-walk-in-Some.ensures.beside
+
+pub returns-in_err-view-in-None-clause-err : goal.returns-in_err-view-in-None-clause-err
+returns-in_err-view-in-None-clause-err g c =
+    made_err c.from_residual.result ((g.P.Port.shown c.args.port.now).work ≡ Idle) c.requires.idle
 
 pub returns-in_ok-walk-in-Some-clause-ok : goal.returns-in_ok-walk-in-Some-clause-ok
 returns-in_ok-walk-in-Some-clause-ok g c =
