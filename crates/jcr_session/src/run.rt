@@ -29,10 +29,6 @@ use jr_tree::{Datum, Edit, Refusal, changes};
 use oak_clash::MarkAt;
 use oak_commit::CommitEnd;
 use oak_machine::StepKind;
-<<<<<<< HEAD
-use oak_commit::CommitEnd;
-=======
->>>>>>> abf1853e41b42c094e47eba52d7b4bdaafe64983
 use oak_port::{Port, StepOut, Task, TaskEnd};
 use std::alloc::{AllocError, Global};
 use std::mem;
@@ -273,22 +269,6 @@ impl SessionRun {
         self.say_made(port, text)
     }
 
-<<<<<<< HEAD
-=======
-    // Refuses the command, which this session may not make.
-    fn refuse<P: Port<L = JcrLaw>>(&mut self, port: &mut P) -> Turn
-        requires stands { Stands (P.law port.old) (P.shown port.old) self.old }
-        requires between { self.old.phase ≡ phase.Between }
-        requires read { IsFalse (is_unread self.old) }
-        requires next { due_for self.old ≡ due.Refuse }
-        ensures law { P.law port.new ≡ P.law port.old }
-        ensures turned { HasTurned (P.law port.old) (P.shown port.old) (P.shown port.new) self.old self.new result }
-    {
-        let text = unsupported_reply(self.alloc, &Command::Save);
-        self.say_made(port, text)
-    }
-
->>>>>>> abf1853e41b42c094e47eba52d7b4bdaafe64983
     // Moves the base to the head. What was pending is dropped, and the tree there isn't read yet.
     fn refresh<P: Port<L = JcrLaw>>(&mut self, port: &mut P) -> Turn
         requires stands { Stands (P.law port.old) (P.shown port.old) self.old }
