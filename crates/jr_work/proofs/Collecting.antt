@@ -1,5 +1,5 @@
 -- A removed node is collected, while another collection that has read it is behind. Single turns of session 1.
-use Rattle.std.proofs.Common.{List, [], ◌∷◌, ◌++◌, refl}
+use Rattle.std.proofs.Common.{None, List, [], ◌∷◌, ◌++◌, refl}
 use Rattle.std.specs.Prelude.{codes, reverse}
 use Rattle.jr_path.specs.declared.path.DocId.TheVariants.{Node}
 use Rattle.jr_tree.specs.declared.edit.Write.TheVariants.{Here, Gone, Put, Unset}
@@ -20,7 +20,7 @@ abbrev script : Script
 script = record {
   clusters = 1;
   sessions =
-      record { cluster = 1; commands = command.Add a ∷ command.Save ∷ command.Remove a ∷ command.Save ∷ command.BackWrite ∷ command.Add a ∷ command.Save ∷ [] }
+      record { cluster = 1; commands = command.Add a None ∷ command.Save ∷ command.Remove a ∷ command.Save ∷ command.BackWrite ∷ command.Add a None ∷ command.Save ∷ [] }
       ∷ record { cluster = 1; commands = command.Collect ∷ [] }
       ∷ record { cluster = 1; commands = command.Collect ∷ [] }
       ∷ [];

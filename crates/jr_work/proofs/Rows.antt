@@ -1,5 +1,5 @@
 -- A save that stands in mid-stream while another session reads; and two saves that meet each other.
-use Rattle.std.proofs.Common.{false, Some, List, [], ◌∷◌, ◌++◌, refl}
+use Rattle.std.proofs.Common.{false, None, Some, List, [], ◌∷◌, ◌++◌, refl}
 use Rattle.std.specs.Prelude.{codes, reverse}
 use Rattle.oak_machine.specs.declared.event.Event.TheVariants.{Login, Refresh, Commit, Refuse, End, Head, Said, Went}
 use Rattle.oak_machine.specs.declared.event.StepKind.TheVariants as kind
@@ -17,7 +17,7 @@ abbrev reading : Script
 reading = record {
   clusters = 1;
   sessions =
-      record { cluster = 1; commands = command.Add a ∷ command.Add b ∷ command.Save ∷ set a 1 ∷ set b 1 ∷ command.Save ∷ [] }
+      record { cluster = 1; commands = command.Add a None ∷ command.Add b None ∷ command.Save ∷ set a 1 ∷ set b 1 ∷ command.Save ∷ [] }
       ∷ record { cluster = 1; commands = command.Refresh false ∷ get ∷ command.Refresh false ∷ get ∷ [] }
       ∷ [];
   schedule = entry.Say 0 5 ∷ entry.Write 0 1 ∷ entry.Say 1 2 ∷ entry.Say 0 1 ∷ entry.Say 1 2 ∷ [];
@@ -75,7 +75,7 @@ abbrev meeting : Script
 meeting = record {
   clusters = 1;
   sessions =
-      record { cluster = 1; commands = command.Add a ∷ command.Add b ∷ command.Save ∷ set a 1 ∷ set b 1 ∷ command.Save ∷ command.Refresh false ∷ get ∷ [] }
+      record { cluster = 1; commands = command.Add a None ∷ command.Add b None ∷ command.Save ∷ set a 1 ∷ set b 1 ∷ command.Save ∷ command.Refresh false ∷ get ∷ [] }
       ∷ record { cluster = 1; commands = set a 2 ∷ set b 2 ∷ command.Save ∷ [] }
       ∷ [];
   schedule = entry.Say 0 5 ∷ entry.Say 1 2 ∷ entry.Write 0 1 ∷ entry.Write 1 1 ∷ entry.Write 1 2 ∷ entry.Last 0 ∷ entry.Say 0 1 ∷ entry.Say 1 1 ∷ [];

@@ -26,6 +26,7 @@ use Rattle.jcr_session.specs.declared.run.SessionRun.{SessionRun}
 use Rattle.jcr_session.specs.declared.turn.Turn.{Turn}
 use Rattle.jcr_session.specs.declared.turn.Turn.TheVariants as turn
 use Rattle.jcr_session.specs.Standing.{IsMade, IsOneStep, IsStep, IsTurned, IsUnseen, Stands, Tells}
+use Rattle.jr_script.specs.Bounds.{IsWithin}
 use Rattle.jr_script.specs.declared.script.Script.{Script}
 use Rattle.jr_script.specs.declared.script.SessionScript.{SessionScript}
 use Rattle.jr_work.specs.declared.flight.Flight.{Flight}
@@ -35,18 +36,18 @@ use Rattle.jr_work.specs.Awaited.{IsSeenBut}
 use Rattle.jr_work.specs.Flights.{IsFlight}
 use Rattle.jr_work.specs.Places.{commands_of, history_at, is_over, is_resting, is_unseen, is_waiting}
 use Rattle.jr_work.specs.SoFar.{IsDouble, IsSingle, IsStepAt, is_last_due}
-use Rattle.jr_work.specs.Stages.{Comes, HasCome, HasTurnedIn, IsSeated, IsStage, awaited, due_at, flight_behind, law_of, past_of}
+use Rattle.jr_work.specs.Stages.{Comes, HasCome, HasTurnedIn, IsSeated, IsStage, awaited, due_at, flight_behind, flight_by, law_of, past_of}
 use Rattle.jr_work.proofs.Coming.{down, flight_said, flight_stepped, history_now, itself, made, other_seat, over_other, past_now, run_new, said, same_length, seated_other, seen_said, seen_stepped, session_now, set_other, stands_now, stepped, tells, awake}
 use Rattle.jr_work.proofs.Due.{at_commit, last_commits}
 use Rattle.jr_work.proofs.Flying.{halves, none_is_some, some_is_some}
 use Rattle.jr_work.proofs.Seen.{waits_for}
 
-set_same : {X : Type 0} (xs : List X) (i : ℕ) (x y : X) → slice_get xs i ≡ Some y → slice_get (slice_set xs i x) i ≡ Some x
+pub set_same : {X : Type 0} (xs : List X) (i : ℕ) (x y : X) → slice_get xs i ≡ Some y → slice_get (slice_set xs i x) i ≡ Some x
 set_same [] i x y h = none_is_some y h
 set_same (e ∷ xs) zero x y h = refl
 set_same (e ∷ xs) (suc i) x y h = set_same xs i x y h
 
-set_long : {X : Type 0} (xs : List X) (i : ℕ) (x : X) → length (slice_set xs i x) ≡ length xs
+pub set_long : {X : Type 0} (xs : List X) (i : ℕ) (x : X) → length (slice_set xs i x) ≡ length xs
 set_long [] i x = refl
 set_long (e ∷ xs) zero x = refl
 set_long (e ∷ xs) (suc i) x = ap suc (set_long xs i x)
@@ -55,7 +56,7 @@ equal : (a b : ℕ) → (a == b) ≡ true → a ≡ b
 equal a b h = grind (arith, nat_tests)
 
 -- the commands that the law of a script gives a session
-commands_at : (script : Script) (s i : ℕ) → command_at (law_of script).sessions s i ≡ slice_get (commands_of script s) i
+pub commands_at : (script : Script) (s i : ℕ) → command_at (law_of script).sessions s i ≡ slice_get (commands_of script s) i
 commands_at script s i = by (slice_get script.sessions s) refl
   where
     by : (o : Option SessionScript) → slice_get script.sessions s ≡ o → command_at (law_of script).sessions s i ≡ slice_get (commands_of script s) i
@@ -65,11 +66,6 @@ commands_at script s i = by (slice_get script.sessions s) refl
     by (Some x) is =
         ap (option_and_then (λ all. slice_get all.1 i)) (slice_get-map (λ (x : SessionScript). (x.cluster, x.commands)) script.sessions s ∙ ap (option_map (λ (x : SessionScript). (x.cluster, x.commands))) is)
         ∙ sym (ap (λ (o : Option SessionScript). slice_get (option_map_or (λ x. x.commands) o []) i) is)
-
--- what is kept of a commit behind a turn
-abbrev pub flight_by : Turn → Past → Option Flight → Option Flight
-flight_by (turn.Stepped k) past o = flight_behind past o
-flight_by _ past o = o
 
 module _ (script : Script) (n : GName) (s : ℕ) (old new : WorldOf JcrLaw) (seat : Seat) (now : SessionRun) (answer : Turn)
     (law_is : old.law ≡ law_of script) (history : old.history ≡ history_at script old.history.past) (seated : IsSeated script old s seat)
@@ -217,6 +213,7 @@ module _ (n : GName) (s : ℕ) (old new : Stage) (seat seat_now : Seat) (answer 
   stage_now = record {
     law = law_same ∙ (stage.law ∙ ap law_of (sym script_same));
     history = history_now old.script n s old.world new.world seat seat_now.run answer stage.law stage.history seated turned ∙ ap (λ (x : Script). history_at x new.world.history.past) (sym script_same);
+    within = subst (λ (x : Script). IsWithin x) (sym script_same) stage.within;
     seats = ap (λ (l : List Seat). length l) seats_now ∙ (set_long old.seats.items s seat_now ∙ (stage.seats ∙ ap (λ (x : Script). length x.sessions) (sym script_same)));
     each = λ t other is. subst (λ (x : Script). IsSeated x new.world t other) (sym script_same) (each_now t other is);
   }

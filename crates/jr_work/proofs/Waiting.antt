@@ -1,5 +1,5 @@
 -- Two commits at their last writes; the later one ends first and waits for the other. And cuts that are none.
-use Rattle.std.proofs.Common.{◌≡◌, ℕ, true, false, List, [], ◌∷◌, ◌++◌, refl}
+use Rattle.std.proofs.Common.{◌≡◌, ℕ, true, false, None, List, [], ◌∷◌, ◌++◌, refl}
 use Rattle.std.specs.Prelude.{codes, reverse}
 use Rattle.jr_tree.specs.declared.edit.Write.TheVariants.{Here, Put}
 use Rattle.oak_clash.specs.declared.mark.MarkAt.{MarkAt}
@@ -31,8 +31,8 @@ abbrev script : Script
 script = record {
   clusters = 1;
   sessions =
-      record { cluster = 1; commands = command.Add a ∷ command.Save ∷ command.Add x ∷ command.Save ∷ [] }
-      ∷ record { cluster = 1; commands = command.Add y ∷ command.Save ∷ command.List a ∷ [] }
+      record { cluster = 1; commands = command.Add a None ∷ command.Save ∷ command.Add x None ∷ command.Save ∷ [] }
+      ∷ record { cluster = 1; commands = command.Add y None ∷ command.Save ∷ command.List a ∷ [] }
       ∷ [];
   schedule = entry.Say 0 3 ∷ entry.Say 1 1 ∷ entry.Last 0 ∷ entry.Last 1 ∷ entry.Say 1 1 ∷ entry.Say 0 1 ∷ entry.Say 1 2 ∷ [];
 }

@@ -5,5 +5,6 @@ pub mod Parts
 pub mod Places
 pub mod Runs
 pub mod Schedules
+pub mod Seats
 pub mod SoFar
 pub mod Stages

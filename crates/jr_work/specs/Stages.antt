@@ -1,5 +1,5 @@
 -- The world of a script with its sessions, and what their turns make of it.
-use Rattle.std.specs.Prelude.{◌≡◌, ℕ, Bool, true, false, ◌&&◌, ◌||◌, ◌==◌, ⊤, List, [], ◌∷◌, ◌++◌, length, map, nat_le, slice_get, Option, None, Some, IsTrue, IsFalse}
+use Rattle.std.specs.Prelude.{◌≡◌, ◌<◌, ℕ, Bool, true, false, ◌&&◌, ◌||◌, ◌==◌, ⊤, List, [], ◌∷◌, ◌++◌, length, map, nat_le, slice_get, Option, None, Some, IsTrue, IsFalse}
 use Rattle.std.specs.Borrow.{GName}
 use Rattle.std.specs.List.{list_any}
 use Rattle.std.specs.Option.{option_map_or}
@@ -9,7 +9,7 @@ use Rattle.oak_machine.specs.declared.event.Event.TheVariants as event
 use Rattle.oak_machine.specs.declared.event.StepKind.{StepKind}
 use Rattle.oak_machine.specs.History.{Past}
 use Rattle.oak_machine.specs.Sessions.{is_reply_of}
-use Rattle.oak_port.specs.Ports.{Awaiting, Waits, Work}
+use Rattle.oak_port.specs.Ports.{Awaiting, Work}
 use Rattle.oak_world.specs.Seen.{shown_at, shown_work}
 use Rattle.oak_world.specs.Steps.{kind_due}
 use Rattle.oak_world.specs.Worlds.{WorldOf, work_in}
@@ -17,8 +17,8 @@ use Rattle.jcr_session.specs.declared.law.JcrLaw.{JcrLaw}
 use Rattle.jcr_session.specs.declared.run.SessionRun.{SessionRun}
 use Rattle.jcr_session.specs.declared.turn.Turn.{Turn}
 use Rattle.jcr_session.specs.declared.turn.Turn.TheVariants as turn
-use Rattle.jcr_session.specs.Sights.{says_of, starts_of}
-use Rattle.jcr_session.specs.Standing.{IsSame, IsTurned, Stands, is_unread}
+use Rattle.jcr_session.specs.Standing.{HasLooked, IsTurned, Stands}
+use Rattle.jr_script.specs.Bounds.{IsWithin}
 use Rattle.jr_script.specs.declared.script.Entry.{Entry}
 use Rattle.jr_script.specs.declared.script.Entry.TheVariants as entry
 use Rattle.jr_script.specs.declared.script.Script.{Script}
@@ -28,6 +28,7 @@ use Rattle.jr_work.specs.declared.stage.Stage.{Stage}
 use Rattle.jr_work.specs.Awaited.{IsSeenBut}
 use Rattle.jr_work.specs.Flights.{IsFlight, flight_with}
 use Rattle.jr_work.specs.Parts.{Part, Rule}
+use Rattle.jr_work.specs.Schedules.{rules_of}
 use Rattle.jr_work.specs.Places.{history_at, is_over, is_waiting}
 use Rattle.jr_work.specs.SoFar.{IsCutSoFar, IsStepAt, IsUnderWay, is_last_due}
 
@@ -56,8 +57,9 @@ pub record IsSeated (script : Script) (w : WorldOf JcrLaw) (s : ℕ) (seat : Sea
   pub flight : IsFlight w.history.past s seat.flight
   pub seen : IsSeenBut script w.history.past s (awaited (shown_work (work_in w.actors s)))
 
--- the world is of the script's law, cluster nodes and sessions, each of which is seated
+-- the script keeps its bounds, and the world is of its law, cluster nodes and sessions, each of which is seated
 pub record IsStage (stage : Stage) : Type 0 where
+  pub within : IsWithin stage.script
   pub law : stage.world.law ≡ law_of stage.script
   pub history : stage.world.history ≡ history_at stage.script (past_of stage)
   pub seats : length stage.seats.items ≡ length stage.script.sessions
@@ -96,17 +98,18 @@ HasTurnedIn n s old new run now turn.Memory = ⊤
 HasTurnedIn n s old new run now answer = (new.law ≡ old.law) × IsTurned old.law (shown_at n old s) (shown_at n new s) run now answer
 
 -- a reading step of session s, where one is due
-pub record HasRead (n : GName) (s : ℕ) (old new : WorldOf JcrLaw) (run now : SessionRun) : Type 0 where
-  pub law : new.law ≡ old.law
-  pub stands : Stands old.law (shown_at n new s) now
-  pub same : IsSame run now
-  pub beside : Waits (starts_of old.law) (says_of old.law) (shown_at n old s) (shown_at n new s) (shown_work (work_in new.actors s)) (shown_at n old s).room
-  pub still : IsFalse (is_unread run) → shown_at n new s ≡ shown_at n old s
+abbrev pub HasRead : GName → ℕ → WorldOf JcrLaw → WorldOf JcrLaw → SessionRun → SessionRun → Type 0
+HasRead n s old new run now = (new.law ≡ old.law) × HasLooked old.law (shown_at n old s) (shown_at n new s) run now
 
 -- what is kept of a commit, by the event that the journal has last
 abbrev pub flight_behind : Past → Option Flight → Option Flight
 flight_behind [] o = o
 flight_behind (e ∷ past) o = flight_with e o
+
+-- the same behind a turn, which may be a step
+abbrev pub flight_by : Turn → Past → Option Flight → Option Flight
+flight_by (turn.Stepped k) past o = flight_behind past o
+flight_by _ past o = o
 
 -- ---- an entry
 
@@ -142,3 +145,14 @@ pub record Closes (old new : Stage) (rule : Rule) : Type 0 where
   pub stage : IsStage new
   pub over : (t : ℕ) → IsTrue (is_over old.script (past_of old) t) → IsTrue (is_over old.script (past_of new) t)
   pub closes : (parts : List Part) → IsCutSoFar old.script (due_at old.world) parts [] (past_of old) → (p : Part) × (p.rule ≡ rule) × IsCutSoFar old.script (due_at new.world) (p ∷ parts) [] (past_of new)
+
+-- turns were made that are parts by these rules, one after another, behind whatever parts the journal was cut into before
+pub record ClosesAll (old new : Stage) (rules : List Rule) : Type 0 where
+  pub script : new.script ≡ old.script
+  pub stage : IsStage new
+  pub over : (t : ℕ) → IsTrue (is_over old.script (past_of old) t) → IsTrue (is_over old.script (past_of new) t)
+  pub closes : (parts : List Part) → IsCutSoFar old.script (due_at old.world) parts [] (past_of old) → (added : List Part) × (rules_of added ≡ rules) × IsCutSoFar old.script (due_at new.world) (added ++ parts) [] (past_of new)
+
+-- the first sessions have ended
+abbrev pub AreOver : Stage → ℕ → Type 0
+AreOver stage n = (t : ℕ) → t < n → IsTrue (is_over stage.script (past_of stage) t)

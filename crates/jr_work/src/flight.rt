@@ -1,8 +1,11 @@
 // What is kept of a commit in flight.
 ghost use Rattle.std.specs.Prelude.{◌≡◌, IfOk};
 ghost use Rattle.jr_work.specs.Flights.{flight_with};
+ghost use Rattle.jr_work.specs.SoFar.{is_last_due};
+ghost use Rattle.jr_work.specs.Stages.{has_come_by};
 
 use jr_rev::Revision;
+use jr_script::Entry;
 use oak_clash::marked_paths;
 use oak_machine::{Event, StepKind};
 use std::alloc::{AllocError, Global};
@@ -15,6 +18,31 @@ pub(crate) struct Flight {
     pub documents: usize,
     pub written: usize,
     pub undecided: bool,
+}
+
+impl Flight {
+    // Whether it has come to where an entry waits for it: its revision is drawn, so many documents are written, or only the last write is
+    // left, and due.
+    pub(crate) fn has_come(&self, due: Option<StepKind>, entry: Entry) -> bool
+        ensures { result ≡ has_come_by self.now due entry }
+    {
+        match entry {
+            Entry::Draw(_) => true,
+            Entry::Write(_, count) => count as usize <= self.written,
+            Entry::Last(_) => self.documents <= self.written && self.undecided && is_last(due),
+            _ => false,
+        }
+    }
+}
+
+// Whether a last write is due.
+fn is_last(due: Option<StepKind>) -> bool
+    ensures { result ≡ is_last_due due }
+{
+    match due {
+        Some(kind) => matches!(kind, StepKind::Last),
+        None => false,
+    }
 }
 
 // What is kept once this event of the session is the newest one.

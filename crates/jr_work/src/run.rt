@@ -1,7 +1,10 @@
 // A script run by its schedule.
-ghost use Rattle.std.specs.Prelude.{IfOk};
+ghost use Rattle.std.specs.Prelude.{◌≡◌, ◌<◌, All, IfOk, OnOk, length, map};
+ghost use Rattle.std.specs.List.{range_with_len};
 ghost use Rattle.jr_script.specs.Bounds.{IsWithin};
+ghost use Rattle.jr_work.specs.Parts.{by_entry, to_end, to_reply};
 ghost use Rattle.jr_work.specs.Runs.{HasRun};
+ghost use Rattle.jr_work.specs.Stages.{AreOver, ClosesAll, IsStage};
 
 use crate::stage::Stage;
 use jcr_session::JcrLaw;
@@ -18,17 +21,49 @@ pub fn run_steps(alloc: Global, script: Script) -> Result<World<JcrLaw>, AllocEr
     ensures { IfOk result (HasRun script) }
 {
     let mut stage = Stage::new(alloc, script)?;
-    for i in 0..stage.script.schedule.len() {
-        let entry = stage.script.schedule.as_slice()[i];
-        stage.play(entry)?;
-    }
+    stage.play_all()?;
     let flying = stage.flying()?;
-    for s in flying.as_slice() {
-        stage.reply(*s)?;
-    }
-    for s in 0..stage.seats.len() {
-        stage.finish(s as u32)?;
-    }
+    stage.reply_all(flying.as_slice())?;
+    stage.finish_all()?;
+    stage.world.journal();
     let Stage { world, .. } = stage;
     Ok(world)
+}
+
+impl Stage {
+    // The turns for each entry of the schedule.
+    fn play_all(&mut self) -> Result<(), AllocError>
+        requires stage { IsStage self.old }
+        ensures { OnOk result (ClosesAll self.old self.new (map by_entry self.old.script.schedule)) }
+    {
+        for i in 0..self.script.schedule.len() {
+            let entry = self.script.schedule.as_slice()[i];
+            self.play(entry)?;
+        }
+        Ok(())
+    }
+
+    // The turns of some sessions, one after another, each to its next reply.
+    fn reply_all(&mut self, sessions: &[u32]) -> Result<(), AllocError>
+        requires stage { IsStage self.old }
+        requires there { All (λ s. s < length self.old.seats.items) sessions.now }
+        ensures { OnOk result (ClosesAll self.old self.new (map to_reply sessions.now)) }
+    {
+        for s in sessions {
+            self.reply(*s)?;
+        }
+        Ok(())
+    }
+
+    // The turns of all sessions, one after another, each to its end.
+    fn finish_all(&mut self) -> Result<(), AllocError>
+        requires stage { IsStage self.old }
+        ensures closes { OnOk result (ClosesAll self.old self.new (map to_end (range_with_len 0 (length self.old.seats.items)))) }
+        ensures over { OnOk result (AreOver self.new (length self.old.seats.items)) }
+    {
+        for s in 0..self.seats.len() {
+            self.finish(s as u32)?;
+        }
+        Ok(())
+    }
 }

@@ -1,19 +1,19 @@
 // The world of a script with its sessions, and the turns that an entry of a schedule asks for.
-ghost use Rattle.std.specs.Prelude.{◌≡◌, ◌<◌, ℕ, IfOk, OnOk, List, IsTrue, is_some, length, slice_get, ◌∷◌};
+ghost use Rattle.std.specs.Prelude.{◌≡◌, ◌<◌, ◌≤◌, ℕ, All, IfOk, OnOk, List, IsTrue, is_some, length, map, slice_get, ◌∷◌};
 ghost use Rattle.jr_script.specs.Bounds.{IsWithin};
 ghost use Rattle.jr_script.specs.Schedules.{IsEntryWithin, session_named};
 ghost use Rattle.oak_world.specs.Seen.{shown_at};
 ghost use Rattle.jcr_session.specs.Standing.{Stands};
-ghost use Rattle.jr_work.specs.Places.{flying_sessions};
+ghost use Rattle.jr_work.specs.Places.{flying_sessions, is_over};
 ghost use Rattle.jr_work.specs.Parts.{Part, Rule, by_entry, to_end, to_reply};
 ghost use Rattle.jr_script.specs.declared.script.Entry.TheVariants as entry;
-ghost use Rattle.jr_work.specs.Stages.{Closes, HasCome, HasRead, HasTurnedIn, IsBegun, IsOfCommit, IsStage, flight_behind, has_come, law_of};
+ghost use Rattle.jr_work.specs.Stages.{Closes, HasCome, HasRead, HasTurnedIn, IsBegun, IsOfCommit, IsStage, flight_behind, flight_by, has_come, law_of};
+ghost use Rattle.jr_work.specs.Seats.{AreNew};
 
 use crate::flight::{Flight, flight_after};
 use jcr_session::{JcrLaw, SessionRun, Turn};
 use jr_path::{DeepCopy, List};
-use jr_script::{Entry, Script};
-use oak_machine::StepKind;
+use jr_script::{Entry, Script, SessionScript};
 use oak_world::{SoloPort, World};
 use std::alloc::{AllocError, Global};
 use std::collections::BTreeMap;
@@ -40,13 +40,8 @@ impl Stage {
         requires { IsWithin script }
         ensures { IfOk result (IsBegun script) }
     {
-        let mut nodes = Vec::new(alloc);
-        let mut seats = Vec::new(alloc);
-        for (s, session) in script.sessions.as_slice().iter().enumerate() {
-            nodes.push(session.cluster)?;
-            let run = SessionRun::new(alloc, s as u32, session.commands.copy()?)?;
-            seats.push(Seat { run, flight: None })?;
-        }
+        let nodes = nodes_of(alloc, script.sessions.as_slice())?;
+        let seats = seats_of(alloc, script.sessions.as_slice())?;
         let law = law_of(alloc, &script)?;
         let world = World::new(alloc, law, script.clusters, nodes.as_slice())?;
         Ok(Stage {
@@ -70,7 +65,9 @@ impl Stage {
             }
             Entry::Say(s, count) => self.say(s, count),
             Entry::Read(s) => self.read(s),
-            Entry::Draw(s) | Entry::Write(s, _) | Entry::Last(s) => self.go_to(s, entry),
+            Entry::Draw(s) => self.go_to(s, entry),
+            Entry::Write(s, _) => self.go_to(s, entry),
+            Entry::Last(s) => self.go_to(s, entry),
         }
     }
 
@@ -88,7 +85,9 @@ impl Stage {
             match self.turn(s)? {
                 Turn::Said(_) => said += 1,
                 Turn::Stepped(_) => {}
-                _ => return Ok(()),
+                Turn::Waiting(_) => return Ok(()),
+                Turn::Ended => return Ok(()),
+                Turn::Memory => return Err(AllocError),
             }
         }
         Err(AllocError)
@@ -113,25 +112,16 @@ impl Stage {
         Err(AllocError)
     }
 
-    // Whether the commit of a session has come to where an entry waits for it: its revision is drawn, so many documents are written, or only
-    // the last write is left.
+    // Whether the commit of a session has come to where an entry waits for it.
     fn has_come(&self, s: u32, entry: Entry) -> bool
         requires there { s < length self.now.seats.items }
         requires seats { length self.now.seats.items ≡ length self.now.world.history.sessions }
         ensures { result ≡ has_come self.now s entry }
     {
-        let Some(flight) = &self.seats[s as usize].flight else {
-            return false;
-        };
-        match entry {
-            Entry::Draw(_) => true,
-            Entry::Write(_, count) => count as usize <= flight.written,
-            Entry::Last(_) => {
-                let all = flight.documents <= flight.written;
-                let last = self.world.due(s) == Some(StepKind::Last);
-                all && flight.undecided && last
-            }
-            _ => false,
+        let due = self.world.due(s);
+        match &self.seats[s as usize].flight {
+            Some(flight) => flight.has_come(due, entry),
+            None => false,
         }
     }
 
@@ -141,6 +131,7 @@ impl Stage {
         requires there { s < length self.old.seats.items }
         ensures { OnOk result (Closes self.old self.new (by_entry (entry.Read s))) }
     {
+        self.world.journal();
         let seat = &mut self.seats[s as usize];
         read_one(&mut self.world, &mut seat.run, s)?;
         Ok(())
@@ -168,7 +159,8 @@ impl Stage {
     pub(crate) fn finish(&mut self, s: u32) -> Result<(), AllocError>
         requires stage { IsStage self.old }
         requires there { s < length self.old.seats.items }
-        ensures { OnOk result (Closes self.old self.new (to_end s)) }
+        ensures closes { OnOk result (Closes self.old self.new (to_end s)) }
+        ensures over { OnOk result (IsTrue (is_over self.new.script self.new.world.history.past s)) }
     {
         for _ in 0..u64::MAX {
             match self.turn(s)? {
@@ -183,8 +175,10 @@ impl Stage {
     // The sessions whose commits are in flight, in ascending order of their revisions.
     pub(crate) fn flying(&self) -> Result<List<u32>, AllocError>
         requires { IsStage self.now }
-        ensures { IfOk result (λ sessions. sessions ≡ flying_sessions self.now.world.history.past) }
+        ensures flying { IfOk result (λ sessions. sessions ≡ flying_sessions self.now.world.history.past) }
+        ensures seats { IfOk result (All (λ s. s < length self.now.seats.items)) }
     {
+        self.world.journal();
         let mut flying = BTreeMap::new(self.alloc);
         for (s, seat) in self.seats.iter().enumerate() {
             if let Some(flight) = &seat.flight {
@@ -192,8 +186,8 @@ impl Stage {
             }
         }
         let mut sessions = List::new(self.alloc);
-        for (_, s) in flying.iter() {
-            sessions.push(*s)?;
+        for (_, session) in flying.iter() {
+            sessions.push(*session)?;
         }
         Ok(sessions)
     }
@@ -205,16 +199,39 @@ impl Stage {
         ensures { IfOk result (HasCome self.old self.new s) }
     {
         let seat = &mut self.seats[s as usize];
-        let turn = turn_once(&mut self.world, &mut seat.run, s);
-        match turn {
+        match turn_once(&mut self.world, &mut seat.run, s) {
             Turn::Memory => Err(AllocError),
-            Turn::Stepped(_) => {
-                seat.flight = flight_then(self.alloc, seat.flight, &self.world)?;
+            turn => {
+                seat.flight = flight_by(self.alloc, seat.flight, turn, &self.world)?;
                 Ok(turn)
             }
-            _ => Ok(turn),
         }
     }
+}
+
+// The cluster node of each session.
+fn nodes_of(alloc: Global, sessions: &[SessionScript]) -> Result<Vec<u32>, AllocError>
+    ensures { IfOk result (λ nodes. nodes.items ≡ map (λ s. s.cluster) sessions.now) }
+{
+    let mut nodes = Vec::new(alloc);
+    for session in sessions {
+        nodes.push(session.cluster)?;
+    }
+    Ok(nodes)
+}
+
+// The sessions, none of which has logged in.
+fn seats_of(alloc: Global, sessions: &[SessionScript]) -> Result<Vec<Seat>, AllocError>
+    requires many { length sessions.now ≤ 64 }
+    requires few { All (λ s. length s.commands ≤ 10000) sessions.now }
+    ensures { IfOk result (λ seats. AreNew sessions.now (length sessions.now) seats.items) }
+{
+    let mut seats = Vec::new(alloc);
+    for (s, session) in sessions.iter().enumerate() {
+        let run = SessionRun::new(alloc, s as u32, session.commands.copy()?)?;
+        seats.push(Seat { run, flight: None })?;
+    }
+    Ok(seats)
 }
 
 // The law of a script: the cluster node and the commands of each session.
@@ -246,6 +263,21 @@ fn read_one(world: &mut World<JcrLaw>, run: &mut SessionRun, s: u32) -> Result<b
 {
     let mut port = SoloPort::new(world, s);
     run.read(&mut port)
+}
+
+// What is kept of a commit behind a turn: a step may change it.
+fn flight_by(
+    alloc: Global,
+    flight: Option<Flight>,
+    turn: Turn,
+    world: &World<JcrLaw>,
+) -> Result<Option<Flight>, AllocError>
+    ensures { IfOk result (λ after. after ≡ flight_by turn world.now.history.past flight) }
+{
+    match turn {
+        Turn::Stepped(_) => flight_then(alloc, flight, world),
+        _ => Ok(flight),
+    }
 }
 
 // What is kept of a commit behind a step, by the event that the journal has last.

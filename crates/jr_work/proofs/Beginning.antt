@@ -1,0 +1,133 @@
+-- The sessions of a script before any turn.
+use Rattle.std.proofs.Common.{◌≡◌, ◌⊎◌, inl, inr, ℕ, zero, suc, ◌+◌, ◌<◌, ◌≤◌, length, map, Bool, true, false, Some, None, Option, List, [], ◌∷◌, ◌++◌, get_or, refl, sym, ap, ◌∙◌, subst, arith, length-append}
+use Rattle.std.specs.Prelude.{slice_get}
+use Rattle.std.specs.Borrow.{GName}
+use Rattle.std.specs.Option.{option_map, option_map_or, unwrap_or}
+use Rattle.std.specs.List.{All}
+use Rattle.std.proofs.lemmas.Option.{get_or_from_slice_get, slice_get-map, slice_get_read, slice_get_within}
+use mathlib.Core.Bool.{false≢true}
+use Rattle.jr_rev.specs.declared.revision.Revision.{Revision}
+use Rattle.oak_machine.specs.declared.event.Draw.{Draw}
+use Rattle.oak_machine.specs.History.{Past}
+use Rattle.oak_machine.specs.Runs.{AreNodes, IsNode}
+use Rattle.oak_port.specs.Ports.{Idle}
+use Rattle.oak_world.specs.Seen.{shown_at, shown_work}
+use Rattle.oak_world.specs.Worlds.{ActorState, WorldOf, idle, start_world, work_in}
+use Rattle.jcr_trans.specs.declared.command.Command.{Command}
+use Rattle.core_law.specs.State.{command_at}
+use Rattle.jcr_session.specs.declared.law.JcrLaw.{JcrLaw}
+use Rattle.jcr_session.specs.Standing.{Stands}
+use Rattle.jcr_session.proofs.Staying.{new_stands}
+use Rattle.jr_script.specs.Bounds.{IsSessionWithin, IsWithin}
+use Rattle.jr_script.specs.declared.script.Script.{Script}
+use Rattle.jr_script.specs.declared.script.SessionScript.{SessionScript}
+use Rattle.jr_work.specs.declared.flight.Flight.{Flight}
+use Rattle.jr_work.specs.declared.stage.Seat.{Seat}
+use Rattle.jr_work.specs.declared.stage.Stage.{Stage}
+use Rattle.jr_work.specs.Flights.{IsFlight}
+use Rattle.jr_work.specs.Places.{history_at}
+use Rattle.jr_work.specs.Seats.{AreNew, IsNewSeat}
+use Rattle.jr_work.specs.Stages.{IsBegun, IsSeated, IsStage, law_of, past_of}
+use Rattle.jr_work.proofs.Flying.{none_is_some, some_is_some}
+use Rattle.jr_work.proofs.Turning.{commands_at}
+
+-- ---- one session more
+
+-- what stands in a list with one item more is of the list, or is that item
+pushed : {X : Type 0} (xs : List X) (x y : X) (k : ℕ) → slice_get (xs ++ x ∷ []) k ≡ Some y → (slice_get xs k ≡ Some y) ⊎ ((k ≡ length xs) × (x ≡ y))
+pushed [] x y zero h = inr (refl, some_is_some x y h)
+pushed [] x y (suc k) h = none_is_some y h
+pushed (e ∷ xs) x y zero h = inl h
+pushed (e ∷ xs) x y (suc k) h = by (pushed xs x y k h)
+  where
+    by : (slice_get xs k ≡ Some y) ⊎ ((k ≡ length xs) × (x ≡ y)) → (slice_get (e ∷ xs) (suc k) ≡ Some y) ⊎ ((suc k ≡ length (e ∷ xs)) × (x ≡ y))
+    by (inl h) = inl h
+    by (inr (p, q)) = inr (ap suc p, q)
+
+pub none_new : (sessions : List SessionScript) → AreNew sessions 0 []
+none_new sessions = record { many = refl; each = λ k session seat at there. none_is_some seat there }
+
+pub one_more_new : (sessions : List SessionScript) (n : ℕ) (seats : List Seat) (x : SessionScript) (seat : Seat) → n < length sessions → x ≡ get_or sessions n x → AreNew sessions n seats → IsNewSeat n x seat → AreNew sessions (n + 1) (seats ++ seat ∷ [])
+one_more_new sessions n seats x seat within there are new = record {
+  many = let h = length-append seats (seat ∷ []) in let m = are.many in omega arith;
+  each = λ k session other at other_at. by k session other at (pushed seats seat other k other_at);
+}
+  where
+    by : (k : ℕ) (session : SessionScript) (other : Seat) → slice_get sessions k ≡ Some session → (slice_get seats k ≡ Some other) ⊎ ((k ≡ length seats) × (seat ≡ other)) → IsNewSeat k session other
+    by k session other at (inl h) = are.each k session other at h
+    by k session other at (inr (p, q)) =
+        let same : k ≡ n = p ∙ are.many in
+        let it : x ≡ session = some_is_some x session (sym (slice_get_read sessions (length sessions) n x refl within there) ∙ (ap (slice_get sessions) (sym same) ∙ at)) in
+        subst (λ (i : ℕ). IsNewSeat i session other) (sym same) (subst (λ (y : SessionScript). IsNewSeat n y other) it (subst (λ (z : Seat). IsNewSeat n x z) q new))
+
+-- ---- what a script keeps
+
+module _ (script : Script) (within : IsWithin script) where
+  session_within : (s : ℕ) (session : SessionScript) → slice_get script.sessions s ≡ Some session → IsSessionWithin script.clusters session
+  session_within s session at = subst (λ (x : SessionScript). IsSessionWithin script.clusters x) (get_or_from_slice_get script.sessions s session session at) (within.sessions s session (slice_get_within script.sessions s session at))
+
+  pub few_commands : All (λ (s : SessionScript). length s.commands ≤ 10000) script.sessions
+  few_commands k d h = (within.sessions k d h).few
+
+  pub are_nodes : AreNodes script.clusters (map (λ s. s.cluster) script.sessions)
+  are_nodes = record {
+    eight = within.nodes;
+    some = within.some;
+    node = λ s k at. by s k (slice_get script.sessions s) refl (sym (slice_get-map (λ (x : SessionScript). x.cluster) script.sessions s) ∙ at);
+  }
+    where
+      by : (s k : ℕ) (o : Option SessionScript) → slice_get script.sessions s ≡ o → option_map (λ (x : SessionScript). x.cluster) (slice_get script.sessions s) ≡ Some k → IsNode script.clusters k
+      by s k None is at = none_is_some k (sym (ap (option_map (λ (x : SessionScript). x.cluster)) is) ∙ at)
+      by s k (Some x) is at =
+          let same : x.cluster ≡ k = some_is_some x.cluster k (sym (ap (option_map (λ (x : SessionScript). x.cluster)) is) ∙ at) in
+          let w = session_within s x is in
+          subst (λ (n : ℕ). IsNode script.clusters n) same (w.placed, w.near)
+
+  -- ---- the stage
+
+  abbrev start : WorldOf JcrLaw
+  start = start_world (law_of script) script.clusters (map (λ s. s.cluster) script.sessions)
+
+  idle_at : (xs : List ℕ) (s : ℕ) → shown_work (work_in (map (λ k. idle) xs) s) ≡ Idle
+  idle_at [] s = refl
+  idle_at (x ∷ xs) zero = refl
+  idle_at (x ∷ xs) (suc s) = idle_at xs s
+
+  -- where two lists are as long as each other, what stands in one has its like in the other
+  there_too : {X Y : Type 0} (xs : List X) (ys : List Y) (k : ℕ) (y : Y) → length ys ≡ length xs → slice_get ys k ≡ Some y → (x : X) × (slice_get xs k ≡ Some x)
+  there_too xs [] k y h at = none_is_some y at
+  there_too [] (e ∷ ys) k y h at = absurd (omega arith)
+  there_too (x ∷ xs) (e ∷ ys) zero y h at = (x, refl)
+  there_too (x ∷ xs) (e ∷ ys) (suc k) y h at = there_too xs ys k y (let same : length ys ≡ length xs = omega arith in same) at
+
+  module _ (seats : List Seat) (new : AreNew script.sessions (length script.sessions) seats) where
+    seated : (s : ℕ) (seat : Seat) → slice_get seats s ≡ Some seat → IsSeated script start s seat
+    seated s seat at = by (there_too script.sessions seats s seat new.many at)
+      where
+        by : (session : SessionScript) × (slice_get script.sessions s ≡ Some session) → IsSeated script start s seat
+        by (session, there) =
+            let is = new.each s session seat there at in
+            record {
+              session = is.run.session_is;
+              stands = λ n.
+                new_stands (law_of script) (shown_at n start s) s session.commands seat.run is.run (session_within s session there).few are_nodes tt refl
+                (λ i. commands_at script s i ∙ ap (λ (o : Option SessionScript). slice_get (option_map_or (λ x. x.commands) o []) i) there)
+                (idle_at (map (λ s. s.cluster) script.sessions) s) refl;
+              flight = subst (λ (o : Option Flight). IsFlight [] s o) (sym is.flight) refl;
+              seen = λ r theirs unseen. absurd (false≢true theirs);
+            }
+
+    pub begun : (stage : Stage) → stage.script ≡ script → stage.world ≡ start → stage.seats.items ≡ seats → IsBegun script stage
+    begun stage script_is world_is seats_are = record {
+      script_is = script_is;
+      stage_is = record {
+        law = ap (λ (w : WorldOf JcrLaw). w.law) world_is ∙ ap law_of (sym script_is);
+        history = subst (λ (x : Script). stage.world.history ≡ history_at x stage.world.history.past) (sym script_is) (subst (λ (w : WorldOf JcrLaw). w.history ≡ history_at script w.history.past) (sym world_is) refl);
+        few = subst (λ (x : Script). length x.sessions ≤ 64) (sym script_is) within.few;
+        seats = ap (λ (l : List Seat). length l) seats_are ∙ (new.many ∙ ap (λ (x : Script). length x.sessions) (sym script_is));
+        each = λ s seat at.
+          subst (λ (x : Script). IsSeated x stage.world s seat) (sym script_is)
+          (subst (λ (w : WorldOf JcrLaw). IsSeated script w s seat) (sym world_is) (seated s seat (ap (λ (l : List Seat). slice_get l s) (sym seats_are) ∙ at)));
+      };
+      first = ap (λ (w : WorldOf JcrLaw). w.history.past) world_is;
+    }

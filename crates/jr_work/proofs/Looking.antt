@@ -1,0 +1,241 @@
+-- A reading step leaves the stage where it was, but for what its session has read.
+use Rattle.std.proofs.Common.{◌≡◌, ◌⊎◌, inl, inr, ℕ, length, map, Bool, true, false, cond, ◌&&◌, Some, None, Option, List, [], ◌∷◌, ◌++◌, refl, sym, ap, ◌∙◌, subst, arith}
+use Rattle.std.specs.Prelude.{◌==◌, slice_get, slice_set}
+use Rattle.std.specs.Borrow.{GName}
+use Rattle.std.proofs.lemmas.Bool.Decides.{nat_tests}
+use mathlib.Core.Bool.{false≢true}
+use Rattle.jr_path.specs.declared.path.Path.{Path}
+use Rattle.jr_rev.specs.declared.revision.Revision.{Revision}
+use Rattle.jr_tree.specs.Trees.{Nodes}
+use Rattle.oak_machine.specs.declared.event.StepKind.{StepKind}
+use Rattle.oak_machine.specs.History.{History, Past}
+use Rattle.oak_machine.specs.Laws.{after}
+use Rattle.oak_port.specs.Ports.{Awaiting, Beside, Deciding, Idle, Seat as PortSeat, Shown, Starting, Undoing, Work, Writing}
+use Rattle.oak_port.specs.declared.task.Task.{Task}
+use Rattle.oak_port.specs.declared.task.Task.TheVariants as task
+use Rattle.core_law.specs.State.{base_tree}
+use Rattle.oak_world.specs.Seen.{seat_of, shown_at, shown_work}
+use Rattle.oak_world.specs.Steps.{kind_due}
+use Rattle.oak_world.specs.Worlds.{ActorState, WorldOf, actor_in, work_in}
+use Rattle.jcr_session.specs.declared.law.JcrLaw.{JcrLaw}
+use Rattle.jcr_session.specs.declared.run.Phase.{Phase}
+use Rattle.jcr_session.specs.declared.run.Phase.TheVariants as phase
+use Rattle.jcr_session.specs.declared.run.SessionRun.{SessionRun}
+use Rattle.jcr_session.specs.declared.sight.Fetch.{Fetch}
+use Rattle.jcr_session.specs.declared.sight.Fetch.TheVariants as fetch
+use Rattle.jcr_session.specs.declared.sight.Sight.{Sight}
+use Rattle.jcr_session.specs.declared.sight.Sight.TheVariants as sight
+use Rattle.jcr_session.specs.declared.sight.Walk.{Walk}
+use Rattle.jcr_session.specs.Sights.{IsFetching, Reads}
+use Rattle.jcr_session.specs.Standing.{HasLooked, Sees, Stands, StandsAt, due_for, is_between, is_seen, is_unread, needs_tree}
+use Rattle.jr_script.specs.declared.script.Entry.TheVariants as entry
+use Rattle.jr_script.specs.Bounds.{IsWithin}
+use Rattle.jr_script.specs.declared.script.Script.{Script}
+use Rattle.jr_work.specs.declared.flight.Flight.{Flight}
+use Rattle.jr_work.specs.declared.stage.Seat.{Seat}
+use Rattle.jr_work.specs.declared.stage.Stage.{Stage}
+use Rattle.jr_work.specs.Awaited.{IsSeenBut}
+use Rattle.jr_work.specs.Flights.{IsFlight}
+use Rattle.jr_work.specs.Places.{history_at, is_over}
+use Rattle.jr_work.specs.Parts.{Part, by_entry, events_of}
+use Rattle.jr_work.specs.SoFar.{IsCutSoFar, is_last_due}
+use Rattle.jr_work.specs.Stages.{Closes, HasRead, IsSeated, IsStage, awaited, due_at, law_of, past_of}
+use Rattle.jr_work.proofs.Coming.{other_seats, set_other}
+use Rattle.jr_work.proofs.Due.{at_commit, last_commits}
+use Rattle.jr_work.proofs.Flying.{none_is_some, some_is_some}
+use Rattle.jr_work.proofs.Renaming.{stands_renamed}
+use Rattle.jr_work.proofs.SoFar.{cut_closes, cut_due}
+use Rattle.jr_work.proofs.Turning.{set_long, set_same}
+
+equal : (a b : ℕ) → (a == b) ≡ true → a ≡ b
+equal a b h = grind (arith, nat_tests)
+
+-- ---- a session that needs the tree
+
+-- nothing is being done, or something is being read: no commit is under way, and none is awaited
+pub record IsUncommitted (w : Work) : Type 0 where
+  pub none : awaited w ≡ None
+  pub apart : at_commit w ≡ false
+
+idles : (w : Work) → w ≡ Idle → IsUncommitted w
+idles w idle = record { none = ap awaited idle; apart = ap at_commit idle }
+
+starts : (w : Work) (t : Task) → w ≡ Starting t → IsUncommitted w
+starts w t is = record { none = ap awaited is; apart = ap at_commit is }
+
+module _ (law : JcrLaw) (p : Shown) (run : SessionRun) where
+  fetches : (t read : Nodes) (left : List Path) (f : Fetch) → IsFetching t p.work read left f → IsUncommitted p.work
+  fetches t read left (fetch.Node path) h = starts p.work (task.Load path) h.0
+  fetches t read left (fetch.Names path) h = starts p.work (task.List path) h.0
+
+  reads : (w : Walk) → Reads p w → IsUncommitted p.work
+  reads w h = fetches (base_tree p.history.past p.session) w.tree w.left.items w.fetch h
+
+  sees_uncommitted : (x : Sight) → Sees law p run x → IsUncommitted p.work
+  sees_uncommitted sight.Unread h = idles p.work h.0
+  sees_uncommitted (sight.Reading w) h = reads w h.0
+  sees_uncommitted (sight.Seen seen) h = idles p.work h.0
+
+  between_uncommitted : (f : Phase) → is_between f ≡ true → StandsAt law p run f → IsUncommitted p.work
+  between_uncommitted phase.Between h at = sees_uncommitted run.sight at.1
+  between_uncommitted phase.Outside h at = absurd (false≢true h)
+  between_uncommitted (phase.Refreshed v) h at = absurd (false≢true h)
+  between_uncommitted phase.Saving h at = absurd (false≢true h)
+  between_uncommitted (phase.Saved e) h at = absurd (false≢true h)
+  between_uncommitted phase.Over h at = absurd (false≢true h)
+
+  unread_between : (s b n : Bool) → cond s false (b && n) ≡ true → b ≡ true
+  unread_between true b n h = absurd (false≢true h)
+  unread_between false true n h = refl
+  unread_between false false n h = absurd (false≢true h)
+
+  pub unread_uncommitted : Stands law p run → is_unread run ≡ true → IsUncommitted p.work
+  unread_uncommitted stands unread = between_uncommitted run.phase (unread_between (is_seen run.sight) (is_between run.phase) (needs_tree (due_for run)) unread) stands.at
+
+-- ---- where a session stands hangs on the history, its work and its room
+
+module _ (law : JcrLaw) (run : SessionRun) (b : Beside) (d : Option StepKind) where
+  abbrev told : History → ℕ → Work → Option ℕ → Shown
+  told h s w r = record { history = h; session = s; work = w; room = r; due = d; beside = b }
+
+  stands_told : (p : Shown) (h : History) (w : Work) (r : Option ℕ) → h ≡ p.history → w ≡ p.work → r ≡ p.room → Stands law p run → Stands law (record { history = h; session = p.session; work = w; room = r; due = d; beside = b }) run
+  stands_told p h w r hs ws rs stands =
+      subst (λ (x : History). Stands law (told x p.session w r) run) (sym hs)
+      (subst (λ (x : Work). Stands law (told p.history p.session x r) run) (sym ws)
+      (subst (λ (x : Option ℕ). Stands law (told p.history p.session p.work x) run) (sym rs)
+      (stands_renamed law p b d run stands)))
+
+-- ---- a reading step
+
+module _ (n : GName) (s : ℕ) (old new : Stage) (seat seat_now : Seat)
+    (stage : IsStage old) (at : slice_get old.seats.items s ≡ Some seat) (script_same : new.script ≡ old.script) (seats_now : new.seats.items ≡ slice_set old.seats.items s seat_now)
+    (kept : seat_now.flight ≡ seat.flight) (read : HasRead n s old.world new.world seat.run seat_now.run) where
+  looked : HasLooked old.world.law (shown_at n old.world s) (shown_at n new.world s) seat.run seat_now.run
+  looked = read.1
+
+  seated : IsSeated old.script old.world s seat
+  seated = stage.each s seat at
+
+  none_added : looked.beside.others ≡ []
+  none_added = looked.beside.alone
+
+  same_history : new.world.history ≡ old.world.history
+  same_history = looked.beside.grows.grown ∙ ap (λ (o : Past). after o old.world.history) none_added
+
+  same_past : past_of new ≡ past_of old
+  same_past = ap (λ (h : History). h.past) same_history
+
+  seats_are : (a b : List PortSeat) → Some a ≡ Some b → a ≡ b
+  seats_are a b h = some_is_some a b h
+
+  other_seat : (t : ℕ) → (t == s) ≡ false → seat_of (actor_in new.world.actors t) ≡ seat_of (actor_in old.world.actors t)
+  other_seat t other = other_seats old.world.actors new.world.actors s t (seats_are _ _ (ap (λ (b : Beside). b.seats) looked.beside.beside)) other
+
+  uncommitted : is_unread seat.run ≡ true → IsUncommitted (shown_work (work_in old.world.actors s))
+  uncommitted unread = unread_uncommitted old.world.law (shown_at n old.world s) seat.run (seated.stands n) unread
+
+  -- a last write that is due to the session itself stays due, since nothing is read then
+  mine_due : is_last_due (due_at old.world s) ≡ true → is_last_due (due_at new.world s) ≡ true
+  mine_due last = by (is_unread seat.run) refl
+    where
+      by : (b : Bool) → is_unread seat.run ≡ b → is_last_due (due_at new.world s) ≡ true
+      by true unread = absurd (false≢true (sym (uncommitted unread).apart ∙ last_commits (work_in old.world.actors s) last))
+      by false rests = ap (λ (x : Shown). is_last_due x.due) (looked.still rests).0 ∙ last
+
+  last_stays : (t : ℕ) → is_last_due (due_at old.world t) ≡ true → is_last_due (due_at new.world t) ≡ true
+  last_stays t last = elim (t == s) as (λ b. (t == s) ≡ b → is_last_due (due_at new.world t) ≡ true) [
+    | true ↦ λ same. subst (λ (x : ℕ). is_last_due (due_at new.world x) ≡ true) (sym (equal t s same)) (mine_due (subst (λ (x : ℕ). is_last_due (due_at old.world x) ≡ true) (equal t s same) last))
+    | false ↦ λ apart. ap (λ (x : PortSeat). is_last_due x.due) (other_seat t apart) ∙ last
+  ] refl
+
+  -- what it awaits is what it awaited
+  mine_awaited : (r : Revision) → awaited (shown_work (work_in old.world.actors s)) ≡ Some r → awaited (shown_work (work_in new.world.actors s)) ≡ Some r
+  mine_awaited r is = by (is_unread seat.run) refl
+    where
+      by : (b : Bool) → is_unread seat.run ≡ b → awaited (shown_work (work_in new.world.actors s)) ≡ Some r
+      by true unread = none_is_some r (sym (uncommitted unread).none ∙ is)
+      by false rests = ap (λ (x : Shown). awaited x.work) (looked.still rests).0 ∙ is
+
+  mine : IsSeated old.script new.world s seat_now
+  mine = record {
+    session = looked.same.session ∙ seated.session;
+    stands = λ m. subst (λ (l : JcrLaw). Stands l (shown_at m new.world s) seat_now.run) (sym read.0)
+        (stands_renamed old.world.law (shown_at n new.world s) (shown_at m new.world s).beside (shown_at m new.world s).due seat_now.run looked.stands);
+    flight = subst (λ (p : Past). IsFlight p s seat_now.flight) (sym same_past) (subst (λ (o : Option Flight). IsFlight (past_of old) s o) (sym kept) seated.flight);
+    seen = subst (λ (p : Past). IsSeenBut old.script p s (awaited (shown_work (work_in new.world.actors s)))) (sym same_past) (λ r m u. mine_awaited r (seated.seen r m u));
+  }
+
+  -- the others are seated as they were
+  theirs : (t : ℕ) (other : Seat) → (t == s) ≡ false → IsSeated old.script old.world t other → IsSeated old.script new.world t other
+  theirs t other apart is = record {
+    session = is.session;
+    stands = λ m. subst (λ (l : JcrLaw). Stands l (shown_at m new.world t) other.run) (sym read.0)
+        (stands_told old.world.law other.run (shown_at m new.world t).beside (shown_at m new.world t).due (shown_at m old.world t) new.world.history (shown_work (work_in new.world.actors t)) (actor_in new.world.actors t).reply
+          same_history (ap (λ (x : PortSeat). x.work) (other_seat t apart)) (ap (λ (x : PortSeat). x.room) (other_seat t apart)) (is.stands m));
+    flight = subst (λ (p : Past). IsFlight p t other.flight) (sym same_past) is.flight;
+    seen = subst (λ (p : Past). IsSeenBut old.script p t (awaited (shown_work (work_in new.world.actors t)))) (sym same_past) (λ r m u. ap (λ (x : PortSeat). awaited x.work) (other_seat t apart) ∙ is.seen r m u);
+  }
+
+  each_now : (t : ℕ) (other : Seat) → slice_get new.seats.items t ≡ Some other → IsSeated old.script new.world t other
+  each_now t other is = elim (t == s) as (λ b. (t == s) ≡ b → IsSeated old.script new.world t other) [
+    | true ↦ λ same.
+        let e : t ≡ s = equal t s same in
+        let it : seat_now ≡ other = some_is_some seat_now other (sym (set_same old.seats.items s seat_now seat at) ∙ (ap (λ (l : List Seat). slice_get l s) (sym seats_now) ∙ (ap (slice_get new.seats.items) (sym e) ∙ is))) in
+        subst (λ (x : ℕ). IsSeated old.script new.world x other) (sym e) (subst (λ (x : Seat). IsSeated old.script new.world s x) it mine)
+    | false ↦ λ apart. theirs t other apart (stage.each t other (sym (set_other old.seats.items s t seat_now apart) ∙ (ap (λ (l : List Seat). slice_get l t) (sym seats_now) ∙ is)))
+  ] refl
+
+  stage_now : IsStage new
+  stage_now = record {
+    law = read.0 ∙ (stage.law ∙ ap law_of (sym script_same));
+    history = same_history ∙ (stage.history ∙ (ap (λ (x : Script). history_at x (past_of old)) (sym script_same) ∙ ap (history_at new.script) (sym same_past)));
+    within = subst (λ (x : Script). IsWithin x) (sym script_same) stage.within;
+    seats = ap (λ (l : List Seat). length l) seats_now ∙ (set_long old.seats.items s seat_now ∙ (stage.seats ∙ ap (λ (x : Script). length x.sessions) (sym script_same)));
+    each = λ t other is. subst (λ (x : Script). IsSeated x new.world t other) (sym script_same) (each_now t other is);
+  }
+
+  -- its entry has no events
+  pub read_closes : Closes old new (by_entry (entry.Read s))
+  read_closes = record {
+    script = script_same;
+    stage = stage_now;
+    over = λ t over. subst (λ (p : Past). is_over old.script p t ≡ true) (sym same_past) over;
+    closes = λ parts h.
+        (
+          record { rule = by_entry (entry.Read s); events = [] },
+          refl,
+          subst (λ (p : Past). IsCutSoFar old.script (due_at new.world) (record { rule = by_entry (entry.Read s); events = [] } ∷ parts) [] p) (sym same_past)
+            (cut_closes old.script (due_at new.world) (by_entry (entry.Read s)) parts [] (past_of old)
+              (cut_due old.script (due_at old.world) (due_at new.world) last_stays parts [] (past_of old) h) refl tt),
+        );
+  }
+
+-- ---- what a reading step asks
+
+pub stands_at : (stage : Stage) (s : ℕ) (seat : Seat) → IsStage stage → slice_get stage.seats.items s ≡ Some seat → (n : GName) → Stands stage.world.law (shown_at n stage.world s) seat.run
+stands_at stage s seat is at n = (is.each s seat at).stands n
+
+-- ---- through a port
+
+read_in : (n m : GName) (s t : ℕ) (old new : WorldOf JcrLaw) (run now : SessionRun) → new.law ≡ old.law → HasLooked old.law (shown_at n old s) (shown_at m new t) run now → HasRead n s old new run now
+read_in n m s t old new run now law looked =
+    (
+      law,
+      subst (λ (x : ℕ). HasLooked old.law (shown_at n old s) (shown_at n new x) run now) looked.beside.session
+        (subst (λ (x : GName). HasLooked old.law (shown_at n old s) (shown_at x new t) run now) (ap (λ (b : Beside). b.name) looked.beside.beside) looked),
+    )
+
+-- what was read through a port of the world is read in the world
+pub read_through : (n m k : GName) (s t u : ℕ) (old start new : WorldOf JcrLaw) (run now : SessionRun) → start ≡ old → k ≡ n → u ≡ s → new.law ≡ start.law → HasLooked start.law (shown_at k start u) (shown_at m new t) run now → HasRead n s old new run now
+read_through n m k s t u old start new run now world name session law looked =
+    subst (λ (x : WorldOf JcrLaw). HasRead n s x new run now) world
+    (subst (λ (x : GName). HasRead x s start new run now) name
+    (subst (λ (x : ℕ). HasRead k x start new run now) session
+    (read_in k m u t start new run now law looked)))
+
+-- and where a session stands in a world, it stands at a port of the world
+pub stands_through : (n k : GName) (s u : ℕ) (old start : WorldOf JcrLaw) (run : SessionRun) → start ≡ old → k ≡ n → u ≡ s → Stands old.law (shown_at n old s) run → Stands start.law (shown_at k start u) run
+stands_through n k s u old start run world name session stands =
+    subst (λ (x : WorldOf JcrLaw). Stands x.law (shown_at k x u) run) (sym world)
+    (subst (λ (x : GName). Stands old.law (shown_at x old u) run) (sym name)
+    (subst (λ (x : ℕ). Stands old.law (shown_at n old x) run) (sym session) stands))

@@ -1,0 +1,15 @@
+-- Sessions before any turn.
+use Rattle.std.specs.Prelude.{◌≡◌, ℕ, List, length, slice_get, Some, None}
+use Rattle.jcr_session.specs.Standing.{IsNew}
+use Rattle.jr_script.specs.declared.script.SessionScript.{SessionScript}
+use Rattle.jr_work.specs.declared.stage.Seat.{Seat}
+
+-- session s has not logged in, and nothing of it is in flight
+pub record IsNewSeat (s : ℕ) (session : SessionScript) (seat : Seat) : Type 0 where
+  pub run : IsNew s session.commands seat.run
+  pub flight : seat.flight ≡ None
+
+-- the seats are those of the first n sessions, none of which has logged in
+pub record AreNew (sessions : List SessionScript) (n : ℕ) (seats : List Seat) : Type 0 where
+  pub many : length seats ≡ n
+  pub each : (k : ℕ) (session : SessionScript) (seat : Seat) → slice_get sessions k ≡ Some session → slice_get seats k ≡ Some seat → IsNewSeat k session seat
