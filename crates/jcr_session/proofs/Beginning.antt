@@ -1,15 +1,19 @@
 -- A session begins a commit, or can't: by the calls of its port, of which each leaves the law as it was.
-use Rattle.std.proofs.Common.{◌≡◌, ℕ, Bool, false, Some, Option, List, length, ◌≤◌, refl, sym, ap, ◌∙◌, subst, arith}
+use Rattle.std.proofs.Common.{◌≡◌, ℕ, Bool, true, false, Some, Option, List, length, ◌≤◌, refl, sym, ap, ◌∙◌, subst, arith}
+use mathlib.Core.Bool.{false≢true}
 use Rattle.jr_path.specs.declared.text.Text.{Text}
 use Rattle.jr_tree.specs.declared.edit.Edit.{Edit}
 use Rattle.oak_clash.specs.declared.mark.MarkAt.{MarkAt}
 use Rattle.oak_machine.specs.declared.event.StepKind.{StepKind}
 use Rattle.oak_machine.specs.declared.event.StepKind.TheVariants as kind
-use Rattle.oak_port.specs.Ports.{HasRoom, Idle, MayBegin, Shown, Starting, Steps, Waits, Work}
+use Rattle.oak_machine.specs.History.{History, Past}
+use Rattle.oak_machine.specs.Laws.{after}
+use Rattle.oak_port.specs.Ports.{HasRoom, Idle, Makes, MayBegin, Shown, Starting, Steps, Waits, Work}
 use Rattle.oak_port.specs.declared.task.StepOut.{StepOut}
 use Rattle.oak_port.specs.declared.task.StepOut.TheVariants as out
 use Rattle.oak_port.specs.declared.task.Task.{Task}
 use Rattle.oak_port.specs.declared.task.Task.TheVariants as task
+use Rattle.oak_port.specs.declared.task.TaskEnd.TheVariants as end
 use Rattle.jcr_trans.specs.Texts.{memory_text}
 use Rattle.jcr_session.specs.declared.law.JcrLaw.{JcrLaw}
 use Rattle.jcr_session.specs.declared.run.Due.TheVariants as due
@@ -18,6 +22,7 @@ use Rattle.jcr_session.specs.declared.run.Plan.TheVariants as plan
 use Rattle.jcr_session.specs.declared.run.SessionRun.{SessionRun}
 use Rattle.jcr_session.specs.declared.turn.Turn.{Turn}
 use Rattle.jcr_session.specs.declared.turn.Turn.TheVariants as turn
+use Rattle.jcr_session.specs.Drawn.{has_went}
 use Rattle.jcr_session.specs.Sights.{says_of, starts_of}
 use Rattle.jcr_session.specs.Standing.{HasTurned, IsPlanOf, MayAnswer, Stands, due_for, is_unread}
 use Rattle.jcr_session.proofs.Calling.{may_behind, may_law, may_unbegun, steps_law, turned_behind_place, turned_law, turned_unbegun}
@@ -33,6 +38,23 @@ begin_law law later same p t may = subst (λ (l : JcrLaw). MayBegin (starts_of l
 
 place : (o room : Option ℕ) → o ≡ room → HasRoom room 40 → HasRoom o 40
 place o room is h = subst (λ (x : Option ℕ). HasRoom x 40) (sym is) h
+
+went_is : (answer : StepOut) → has_went answer ≡ true → (k : StepKind) × (answer ≡ out.Went k)
+went_is (out.Went k) h = (k, refl)
+went_is (out.Ready e) h = absurd (false≢true h)
+went_is (out.Wait r) h = absurd (false≢true h)
+went_is out.Memory h = absurd (false≢true h)
+
+-- a commit that doesn't draw was refused memory
+memory_is : (h : History) (s : ℕ) (edit : Edit) (marks : List MarkAt) (answer : StepOut) (own : Past) (now : Work) → has_went answer ≡ false → Makes h s (Starting (task.Commit edit marks)) answer own now → answer ≡ out.Memory
+memory_is h s edit marks (out.Went k) own now stood makes = absurd (false≢true (sym stood))
+memory_is h s edit marks (out.Ready (end.Node f)) own now stood makes = absurd makes
+memory_is h s edit marks (out.Ready (end.Children f)) own now stood makes = absurd makes
+memory_is h s edit marks (out.Ready (end.Pinned f)) own now stood makes = absurd makes
+memory_is h s edit marks (out.Ready (end.Commit f)) own now stood makes = absurd makes
+memory_is h s edit marks (out.Ready end.Ended) own now stood makes = absurd makes
+memory_is h s edit marks (out.Wait r) own now stood makes = absurd makes
+memory_is h s edit marks out.Memory own now stood makes = refl
 
 module _ (law first : JcrLaw) (firsts : first ≡ law) (old mid : Shown) (run : SessionRun) (stands : Stands law old run) (between : run.phase ≡ phase.Between) (read : is_unread run ≡ false) (next : due_for run ≡ due.Save) where
   forgo : MayAnswer law old run memory_text
@@ -84,12 +106,19 @@ module _ (law first : JcrLaw) (firsts : first ≡ law) (old mid : Shown) (run : 
         steps_old : (a : StepOut) → answer ≡ a → Steps (starts_of law) (says_of law) begun new a
         steps_old a is = subst (λ (x : StepOut). Steps (starts_of law) (says_of law) begun new x) is (steps_law law second (seconds ∙ firsts) begun new answer steps)
 
-        pub save_draws : (k : StepKind) → answer ≡ out.Went k → (now : SessionRun) (t : Turn) → now ≡ record run { phase = phase.Saving } → t ≡ turn.Stepped kind.Draw → HasTurned law old new run now t
-        save_draws k went now t is told =
+        draws_by : (k : StepKind) → answer ≡ out.Went k → (now : SessionRun) (t : Turn) → now ≡ record run { phase = phase.Saving } → t ≡ turn.Stepped kind.Draw → HasTurned law old new run now t
+        draws_by k went now t is told =
             commit_draws law old run stands between read next edit marks planned mid (Some 40) waits begun new mid.room begins_old now t k (steps_old (out.Went k) went) fits is told
 
+        pub save_draws : has_went answer ≡ true → (now : SessionRun) (t : Turn) → now ≡ record run { phase = phase.Saving } → t ≡ turn.Stepped kind.Draw → HasTurned law old new run now t
+        save_draws went = let w = went_is answer went in draws_by w.0 w.1
+
         -- memory was refused for its draw
-        module _ (memory : answer ≡ out.Memory) where
+        module _ (stood : has_went answer ≡ false) where
+          memory : answer ≡ out.Memory
+          memory = memory_is (after steps.others begun.history) begun.session edit marks answer steps.own new.work stood
+              (subst (λ (w : Work). Makes (after steps.others begun.history) begun.session w answer steps.own new.work) begins.work_is steps.makes)
+
           pub save_stops : (third : JcrLaw) → third ≡ second → MayAnswer third new run memory_text
           save_stops third thirds =
               may_law law third (thirds ∙ (seconds ∙ firsts)) new run memory_text

@@ -1,3 +1,4 @@
+pub mod Drawn
 pub mod Eval
 pub mod Sights
 pub mod Standing

@@ -1,5 +1,6 @@
 // A session's turns: what it asks of its world, one counted step after another.
 ghost use Rattle.std.specs.Prelude.{◌≡◌, ◌≤◌, ◌∷◌, [], IfOk, IfSome, OnErr, IsTrue, IsFalse, length, string_bytes};
+ghost use Rattle.jr_rev.specs.Grammar.{FitsFields};
 ghost use Rattle.jr_tree.specs.declared.shared.Datum.TheVariants as datum;
 ghost use Rattle.oak_port.specs.Ports.{HasRoom};
 ghost use Rattle.oak_commit.specs.declared.outcome.CommitEnd.TheVariants as commit;
@@ -7,6 +8,7 @@ ghost use Rattle.oak_port.specs.declared.task.StepOut.TheVariants as out;
 ghost use Rattle.oak_port.specs.declared.task.TaskEnd.TheVariants as end;
 ghost use Rattle.jcr_trans.specs.Answers.{Refused};
 ghost use Rattle.jcr_trans.specs.Texts.{answer_text, memory_text};
+ghost use Rattle.jcr_session.specs.Drawn.{has_went};
 ghost use Rattle.jcr_session.specs.Standing.{HasEnded, HasLooked, HasSeen, HasTurned, IsNew, IsPlanFor, IsPlanOf, IsRefused, IsReply, IsSame, MayAnswer, Stands, due_for, is_unread, kind_of_end, phase_by, pinned_by, turn_by};
 ghost use Rattle.jcr_session.specs.Leaving.{ended_by};
 ghost use Rattle.jcr_session.specs.declared.run.Due.TheVariants as due;
@@ -303,7 +305,6 @@ impl SessionRun {
     }
 
     // Answers by the view.
-    #[tactic(none)]
     fn see<P: Port<L = JcrLaw>>(&mut self, port: &mut P) -> Turn
         requires stands { Stands (P.law port.old) (P.shown port.old) self.old }
         requires between { self.old.phase ≡ phase.Between }
@@ -317,7 +318,6 @@ impl SessionRun {
     }
 
     // The reply by the view.
-    #[tactic(none)]
     fn seen_reply(&mut self) -> Result<String, AllocError>
         ensures same { IsSame self.old self.new }
         ensures text { IfOk result (λ text. HasSeen self.old self.new (string_bytes text)) }
@@ -337,7 +337,6 @@ impl SessionRun {
     }
 
     // Commits what is pending, where there is something and the tree after it has few nodes.
-    #[tactic(none)]
     fn save<P: Port<L = JcrLaw>>(&mut self, port: &mut P) -> Turn
         requires stands { Stands (P.law port.old) (P.shown port.old) self.old }
         requires between { self.old.phase ≡ phase.Between }
@@ -353,7 +352,6 @@ impl SessionRun {
     }
 
     // Answers a save that commits nothing, or begins its commit.
-    #[tactic(none)]
     fn save_by<P: Port<L = JcrLaw>>(&mut self, port: &mut P, plan: Plan) -> Turn
         requires stands { Stands (P.law port.old) (P.shown port.old) self.old }
         requires between { self.old.phase ≡ phase.Between }
@@ -387,7 +385,6 @@ impl SessionRun {
     }
 
     // Begins a commit. The place of its reply is kept before.
-    #[tactic(none)]
     fn commit<P: Port<L = JcrLaw>>(
         &mut self,
         port: &mut P,
@@ -408,18 +405,14 @@ impl SessionRun {
         let Ok(()) = port.start(Task::Commit(edit, marks)) else {
             return self.say_kept(port, MEMORY_REPLY);
         };
-        match port.step() {
-            StepOut::Went(_) => {
-                self.phase = Phase::Saving;
-                Turn::Stepped(StepKind::Draw)
-            }
-            StepOut::Memory => self.say_kept(port, MEMORY_REPLY),
-            _ => Turn::Memory,
+        if !has_went(port.step()) {
+            return self.say_kept(port, MEMORY_REPLY);
         }
+        self.phase = Phase::Saving;
+        Turn::Stepped(StepKind::Draw)
     }
 
     // Makes a step of a commit. Where memory is refused, the commit turns to undoing, and makes a step of that.
-    #[tactic(none)]
     fn commit_on<P: Port<L = JcrLaw>>(&mut self, port: &mut P) -> Turn
         requires stands { Stands (P.law port.old) (P.shown port.old) self.old }
         requires saving { self.old.phase ≡ phase.Saving }
@@ -453,7 +446,6 @@ impl SessionRun {
     }
 
     // Answers a save whose commit has ended.
-    #[tactic(none)]
     fn say_end<P: Port<L = JcrLaw>>(&mut self, port: &mut P) -> Turn
         requires stands { Stands (P.law port.old) (P.shown port.old) self.old }
         requires saved { HasEnded self.old.phase }
@@ -467,7 +459,6 @@ impl SessionRun {
     }
 
     // Answers a save whose commit has ended so.
-    #[tactic(none)]
     fn say_saved<P: Port<L = JcrLaw>>(&mut self, port: &mut P, end: CommitEnd) -> Turn
         requires stands { Stands (P.law port.old) (P.shown port.old) (record self.old { phase = phase.Saved end }) }
         ensures law { P.law port.new ≡ P.law port.old }
@@ -481,12 +472,12 @@ impl SessionRun {
     }
 
     // Answers a save with its revision. The tree at the base that sees it isn't read yet.
-    #[tactic(none)]
     fn say_revision<P: Port<L = JcrLaw>>(&mut self, port: &mut P, r: Revision) -> Turn
         requires stands { Stands (P.law port.old) (P.shown port.old) (record self.old { phase = phase.Saved (commit.Committed r) }) }
         ensures law { P.law port.new ≡ P.law port.old }
         ensures turned { HasTurned (P.law port.old) (P.shown port.old) (P.shown port.new) self.old self.new result }
     {
+        in_range(&r);
         self.sight = Sight::Unread;
         match revision_reply(self.alloc, &r) {
             Ok(text) => self.say_kept(port, text.as_str()),
@@ -495,7 +486,6 @@ impl SessionRun {
     }
 
     // Answers a save with the clash for which it was refused, or that memory was refused for that.
-    #[tactic(none)]
     fn say_clash<P: Port<L = JcrLaw>>(&mut self, port: &mut P, item: Item, other: Revision) -> Turn
         requires stands { Stands (P.law port.old) (P.shown port.old) (record self.old { phase = phase.Saved (commit.Clash item other) }) }
         ensures law { P.law port.new ≡ P.law port.old }
@@ -584,6 +574,16 @@ fn pinned(answer: StepOut) -> Option<Pin>
     }
 }
 
+// Whether a step was made and its task goes on.
+fn has_went(answer: StepOut) -> bool
+    ensures { result ≡ has_went answer }
+{
+    match answer {
+        StepOut::Went(_) => true,
+        _ => false,
+    }
+}
+
 // Whether a leave has ended.
 fn has_ended(answer: StepOut) -> bool
     ensures { result ≡ ended_by answer }
@@ -629,8 +629,14 @@ fn last_kind(end: &CommitEnd) -> StepKind
     }
 }
 
+// The fields of a revision are in the range of their types.
+fn in_range(r: &Revision)
+    ensures { FitsFields r.now }
+{
+    let _fields = (r.time, r.counter, r.cluster);
+}
+
 // The reply to a reading or view command, or to one that isn't built; it changes the view.
-#[tactic(none)]
 fn reply_of(alloc: Global, command: &Command, seen: &mut Seen) -> Result<String, AllocError>
     ensures base { seen.new.base ≡ seen.old.base }
     ensures text { IfOk result (λ text. IsReply command.now seen.old.view seen.new.view (string_bytes text)) }

@@ -1,4 +1,6 @@
-use Rattle.std.proofs.Common.{◌∙◌}
+use Rattle.std.proofs.Common.{◌≡◌, ◌∙◌}
+use Rattle.oak_port.specs.Ports.{Idle}
+use Rattle.jcr_session.proofs.Answering.{made_err}
 use Rattle.jcr_session.proofs.Reading.{base_at, beside_more, has_listed, in_less, in_more, listed_going, listed_names, listed_refused}
 use Rattle.jcr_session.proofs.Walking.{part_pushed}
 use Rattle.jcr_session.proofs.sight.read_names.Goals as goal
@@ -31,7 +33,7 @@ returns-in_err-push_children-in-Names-clause-beside g c =
 
 pub returns-in_err-push_children-in-Names-clause-err : goal.returns-in_err-push_children-in-Names-clause-err
 returns-in_err-push_children-in-Names-clause-err g c =
-    (listed_names (g.P.Port.law c.args.port.now) (g.P.Port.shown c.args.port.now) (g.P.Port.shown c.step.new.self) c.args.path c.args.tree c.args.left.items c.list_came.result c.in-Names.names c.in-Names.is (has_listed (g.P.Port.law c.args.port.now) (g.P.Port.shown c.args.port.now) (g.P.Port.shown c.step.new.self) c.args.path c.args.tree c.args.left.items c.requires.inside c.requires.part c.step.result c.list_came.result c.requires.busy c.requires.there c.step.ensures.steps c.list_came.ensures)).0
+    made_err c.from_residual.result ((g.P.Port.shown c.step.new.self).work ≡ Idle) (listed_names (g.P.Port.law c.args.port.now) (g.P.Port.shown c.args.port.now) (g.P.Port.shown c.step.new.self) c.args.path c.args.tree c.args.left.items c.list_came.result c.in-Names.names c.in-Names.is (has_listed (g.P.Port.law c.args.port.now) (g.P.Port.shown c.args.port.now) (g.P.Port.shown c.step.new.self) c.args.path c.args.tree c.args.left.items c.requires.inside c.requires.part c.step.result c.list_came.result c.requires.busy c.requires.there c.step.ensures.steps c.list_came.ensures)).0
 
 pub read_next-requires-clause-inside : goal.read_next-requires-clause-inside
 read_next-requires-clause-inside g c =
@@ -43,7 +45,7 @@ read_next-requires-clause-idle g c =
 
 pub read_next-requires-clause-part : goal.read_next-requires-clause-part
 read_next-requires-clause-part g c =
-    part_pushed (base_at (g.P.Port.shown c.step.new.self)) c.args.tree c.args.left.items c.push_children.new.left.items c.args.path c.in-Names.names c.as_slice.result.now c.as_slice.ensures c.in_ok-push_children.ensures (listed_names (g.P.Port.law c.args.port.now) (g.P.Port.shown c.args.port.now) (g.P.Port.shown c.step.new.self) c.args.path c.args.tree c.args.left.items c.list_came.result c.in-Names.names c.in-Names.is (has_listed (g.P.Port.law c.args.port.now) (g.P.Port.shown c.args.port.now) (g.P.Port.shown c.step.new.self) c.args.path c.args.tree c.args.left.items c.requires.inside c.requires.part c.step.result c.list_came.result c.requires.busy c.requires.there c.step.ensures.steps c.list_came.ensures)).1
+    part_pushed (base_at (g.P.Port.shown c.step.new.self)) c.args.tree c.args.left.items c.push_children.new.left.items c.args.path c.in-Names.names c.as_slice.result.now c.as_slice.ensures c.in_ok-push_children-in-Names.ensures (listed_names (g.P.Port.law c.args.port.now) (g.P.Port.shown c.args.port.now) (g.P.Port.shown c.step.new.self) c.args.path c.args.tree c.args.left.items c.list_came.result c.in-Names.names c.in-Names.is (has_listed (g.P.Port.law c.args.port.now) (g.P.Port.shown c.args.port.now) (g.P.Port.shown c.step.new.self) c.args.path c.args.tree c.args.left.items c.requires.inside c.requires.part c.step.result c.list_came.result c.requires.busy c.requires.there c.step.ensures.steps c.list_came.ensures)).1
 
 pub returns-in_ok-push_children-in-Names-clause-law : goal.returns-in_ok-push_children-in-Names-clause-law
 returns-in_ok-push_children-in-Names-clause-law g c =

@@ -36,31 +36,31 @@ fetch_names-requires-clause-there g c =
 
 pub returns-in_err-walk-in-Found-Some-clause-inside : goal.returns-in_err-walk-in-Found-Some-clause-inside
 returns-in_err-walk-in-Found-Some-clause-inside g c =
-    in_more (g.P.Port.law c.args.port.now) (g.P.Port.law c.step.new.self) (g.P.Port.shown c.fetch_names.new.port) c.step.ensures.law c.in_err-walk.ensures.inside
+    in_more (g.P.Port.law c.args.port.now) (g.P.Port.law c.step.new.self) (g.P.Port.shown c.fetch_names.new.port) c.step.ensures.law c.in_err-walk-in-Found-Some.ensures.inside
 
 pub returns-in_err-walk-in-Found-Some-clause-beside : goal.returns-in_err-walk-in-Found-Some-clause-beside
 returns-in_err-walk-in-Found-Some-clause-beside g c =
-    beside_more (g.P.Port.law c.args.port.now) (g.P.Port.law c.step.new.self) (g.P.Port.shown c.args.port.now) (g.P.Port.shown c.step.new.self) (g.P.Port.shown c.fetch_names.new.port) c.step.ensures.law c.requires.inside.nodes (has_loaded (g.P.Port.law c.args.port.now) (g.P.Port.shown c.args.port.now) (g.P.Port.shown c.step.new.self) c.args.path c.args.tree c.args.left.items c.requires.inside c.requires.part c.step.result c.load_came.result c.requires.busy c.step.ensures.steps c.load_came.ensures).beside c.in_err-walk.ensures.beside
+    beside_more (g.P.Port.law c.args.port.now) (g.P.Port.law c.step.new.self) (g.P.Port.shown c.args.port.now) (g.P.Port.shown c.step.new.self) (g.P.Port.shown c.fetch_names.new.port) c.step.ensures.law c.requires.inside.nodes (has_loaded (g.P.Port.law c.args.port.now) (g.P.Port.shown c.args.port.now) (g.P.Port.shown c.step.new.self) c.args.path c.args.tree c.args.left.items c.requires.inside c.requires.part c.step.result c.load_came.result c.requires.busy c.step.ensures.steps c.load_came.ensures).beside c.in_err-walk-in-Found-Some.ensures.beside
 
 pub returns-in_err-walk-in-Found-Some-clause-law : goal.returns-in_err-walk-in-Found-Some-clause-law
 returns-in_err-walk-in-Found-Some-clause-law g c =
-    c.in_err-walk.ensures.law ∙ c.step.ensures.law
+    c.in_err-walk-in-Found-Some.ensures.law ∙ c.step.ensures.law
 
 pub returns-in_ok-walk-in-Found-Some-clause-inside : goal.returns-in_ok-walk-in-Found-Some-clause-inside
 returns-in_ok-walk-in-Found-Some-clause-inside g c =
-    in_more (g.P.Port.law c.args.port.now) (g.P.Port.law c.step.new.self) (g.P.Port.shown c.fetch_names.new.port) c.step.ensures.law c.in_ok-walk.ensures.inside
+    in_more (g.P.Port.law c.args.port.now) (g.P.Port.law c.step.new.self) (g.P.Port.shown c.fetch_names.new.port) c.step.ensures.law c.in_ok-walk-in-Found-Some.ensures.inside
 
 pub returns-in_ok-walk-in-Found-Some-clause-beside : goal.returns-in_ok-walk-in-Found-Some-clause-beside
 returns-in_ok-walk-in-Found-Some-clause-beside g c =
-    beside_more (g.P.Port.law c.args.port.now) (g.P.Port.law c.step.new.self) (g.P.Port.shown c.args.port.now) (g.P.Port.shown c.step.new.self) (g.P.Port.shown c.fetch_names.new.port) c.step.ensures.law c.requires.inside.nodes (has_loaded (g.P.Port.law c.args.port.now) (g.P.Port.shown c.args.port.now) (g.P.Port.shown c.step.new.self) c.args.path c.args.tree c.args.left.items c.requires.inside c.requires.part c.step.result c.load_came.result c.requires.busy c.step.ensures.steps c.load_came.ensures).beside c.in_ok-walk.ensures.beside
+    beside_more (g.P.Port.law c.args.port.now) (g.P.Port.law c.step.new.self) (g.P.Port.shown c.args.port.now) (g.P.Port.shown c.step.new.self) (g.P.Port.shown c.fetch_names.new.port) c.step.ensures.law c.requires.inside.nodes (has_loaded (g.P.Port.law c.args.port.now) (g.P.Port.shown c.args.port.now) (g.P.Port.shown c.step.new.self) c.args.path c.args.tree c.args.left.items c.requires.inside c.requires.part c.step.result c.load_came.result c.requires.busy c.step.ensures.steps c.load_came.ensures).beside c.in_ok-walk-in-Found-Some.ensures.beside
 
 pub returns-in_ok-walk-in-Found-Some-clause-law : goal.returns-in_ok-walk-in-Found-Some-clause-law
 returns-in_ok-walk-in-Found-Some-clause-law g c =
-    c.in_ok-walk.ensures.law ∙ c.step.ensures.law
+    c.in_ok-walk-in-Found-Some.ensures.law ∙ c.step.ensures.law
 
 pub returns-in_ok-walk-in-Found-Some-clause-ok : goal.returns-in_ok-walk-in-Found-Some-clause-ok
 returns-in_ok-walk-in-Found-Some-clause-ok g c =
-    c.in_ok-walk.ensures.ok
+    c.in_ok-walk-in-Found-Some.ensures.ok
 
 -- it is not
 pub read_next-requires-clause-inside : goal.read_next-requires-clause-inside

@@ -10,13 +10,13 @@ use Rattle.jcr_session.proofs.Replying.{forgo_save}
 use Rattle.jcr_session.proofs.run.SessionRun.save_by.Goals as goal
 
 -- nothing is pending
-pub say_made-requires-in-Nothing-clause-answer : goal.say_made-requires-in-Nothing-clause-answer
-say_made-requires-in-Nothing-clause-answer g c =
+pub say_made-requires-clause-answer : goal.say_made-requires-clause-answer
+say_made-requires-clause-answer g c =
     made_ok string_bytes c.null_reply-text.result (λ t. MayAnswer (g.P.Port.law c.args.port.now) (g.P.Port.shown c.args.port.now) c.args.self.now t) (answer_text ShowsNothing)
     (answers_nothing (g.P.Port.law c.args.port.now) (g.P.Port.shown c.args.port.now) c.args.self.now c.requires.stands c.requires.between c.requires.read c.requires.next (answer_text ShowsNothing) (subst (λ (x : Plan). IsPlanOf c.args.self.now.sight x) c.in-Nothing.is c.requires.plan) refl) c.null_reply-text.ensures
 
-pub say_made-requires-in-Nothing-clause-memory : goal.say_made-requires-in-Nothing-clause-memory
-say_made-requires-in-Nothing-clause-memory g c =
+pub say_made-requires-clause-memory : goal.say_made-requires-clause-memory
+say_made-requires-clause-memory g c =
     made_err c.null_reply-text.result (MayAnswer (g.P.Port.law c.args.port.now) (g.P.Port.shown c.args.port.now) c.args.self.now memory_text) (forgo_save (g.P.Port.law c.args.port.now) (g.P.Port.shown c.args.port.now) c.args.self.now c.requires.stands c.requires.between c.requires.read c.requires.next)
 
 -- the view has too many nodes

@@ -1,7 +1,7 @@
 use Rattle.std.proofs.Common.{◌∙◌, refl, length, subst, sym}
 use Rattle.jr_path.specs.declared.text.Text.{Text}
 use Rattle.oak_port.specs.Ports.{HasRoom}
-use Rattle.oak_commit.specs.declared.outcome.CommitEnd.TheVariants as commit
+use Rattle.oak_port.specs.declared.task.CommitEnd.TheVariants as commit
 use Rattle.jcr_session.specs.declared.run.Phase.TheVariants as phase
 use Rattle.jcr_session.specs.declared.sight.Sight.TheVariants as sight
 use Rattle.jcr_session.proofs.Ending.{ended_revision, ended_room}
@@ -19,7 +19,7 @@ say_kept-requires-clause-answer g c =
 pub say_kept-requires-clause-room : goal.say_kept-requires-clause-room
 say_kept-requires-clause-room g c =
     subst (λ (text : Text). HasRoom (g.P.Port.shown c.args.port.now).room (length text)) (sym (c.as_str.ensures.value ∙ c.in-Ok.ensures))
-    (room_less (g.P.Port.shown c.args.port.now).room 40 (length (answer_text (ShowsRevision c.args.r))) (short_reply c.args.r (record { time = c.ranges.r.time; counter = c.ranges.r.counter; cluster = c.ranges.r.cluster })) (ended_room (g.P.Port.law c.args.port.now) (g.P.Port.shown c.args.port.now) c.args.self.now (commit.Committed c.args.r) c.requires.stands))
+    (room_less (g.P.Port.shown c.args.port.now).room 40 (length (answer_text (ShowsRevision c.args.r))) (short_reply c.args.r c.in_range.ensures) (ended_room (g.P.Port.law c.args.port.now) (g.P.Port.shown c.args.port.now) c.args.self.now (commit.Committed c.args.r) c.requires.stands))
 
 pub returns-in-Ok-clause-turned : goal.returns-in-Ok-clause-turned
 returns-in-Ok-clause-turned g c =
