@@ -633,7 +633,12 @@ fn last_kind(end: &CommitEnd) -> StepKind
 fn in_range(r: &Revision)
     ensures { FitsFields r.now }
 {
-    let _fields = (r.time, r.counter, r.cluster);
+    let Revision {
+        time,
+        counter,
+        cluster,
+    } = *r;
+    let _fields = (time, counter, cluster);
 }
 
 // The reply to a reading or view command, or to one that isn't built; it changes the view.
