@@ -4,11 +4,13 @@ use Rattle.std.specs.Prelude.{slice_get}
 use Rattle.std.specs.Borrow.{GName}
 use Rattle.std.specs.Option.{option_map, option_map_or, unwrap_or}
 use Rattle.std.specs.List.{All}
+use Rattle.std.proofs.lemmas.List.{length-map}
 use Rattle.std.proofs.lemmas.Option.{slice_get_read}
 use mathlib.Core.Bool.{false≢true}
 use Rattle.jr_rev.specs.declared.revision.Revision.{Revision}
 use Rattle.oak_machine.specs.declared.event.Draw.{Draw}
 use Rattle.oak_machine.specs.History.{Past}
+use Rattle.oak_machine.specs.Runs.{AreNodes}
 use Rattle.oak_port.specs.Ports.{Idle}
 use Rattle.oak_world.specs.Seen.{shown_at, shown_work}
 use Rattle.oak_world.specs.Worlds.{ActorState, WorldOf, idle, start_world, work_in}
@@ -121,3 +123,23 @@ module _ (script : Script) (within : IsWithin script) where
       };
       first = ap (λ (w : WorldOf JcrLaw). w.history.past) world_is;
     }
+
+-- ---- by what the calls tell
+
+module _ (script : Script) (within : IsWithin script) (sessions : List SessionScript) (same : sessions ≡ script.sessions) (nodes slice : List ℕ) (made : nodes ≡ map (λ s. s.cluster) sessions) (lent : slice ≡ nodes) where
+  abbrev clusters_of : List ℕ
+  clusters_of = map (λ s. s.cluster) script.sessions
+
+  are : slice ≡ map (λ s. s.cluster) script.sessions
+  are = lent ∙ (made ∙ ap (map (λ (s : SessionScript). s.cluster)) same)
+
+  pub slice_nodes : AreNodes script.clusters slice
+  slice_nodes = subst (λ (l : List ℕ). AreNodes script.clusters l) (sym are) (within_nodes script within)
+
+  pub slice_few : length slice ≤ 64
+  slice_few = let h = ap (λ (l : List ℕ). length l) are in let m = length-map script.sessions (λ (s : SessionScript). s.cluster) in let f = within.few in omega arith
+
+  pub begun_by : (others : List SessionScript) (law : JcrLaw) (stage : Stage) → others ≡ script.sessions → AreNew others (length others) stage.seats.items → law ≡ law_of script → stage.world ≡ start_world law script.clusters slice → stage.script ≡ script → IsBegun script stage
+  begun_by others law stage again seats law_is world_is script_is =
+      begun script within stage.seats.items (subst (λ (l : List SessionScript). AreNew l (length l) stage.seats.items) again seats) stage script_is
+      (world_is ∙ (ap (λ (l : JcrLaw). start_world l script.clusters slice) law_is ∙ ap (start_world (law_of script) script.clusters) are)) refl

@@ -36,18 +36,31 @@ module _ (n m : GName) (s t : ℕ) (old new : WorldOf JcrLaw) (run now : Session
   same_session : (answer : Turn) → IsTurned old.law (shown_at n old s) (shown_at m new t) run now answer → t ≡ s
   same_session answer turned = turned.stands.session ∙ (turned.same.0 ∙ sym stands.session)
 
-  by_port : (answer : Turn) → IsTurned old.law (shown_at n old s) (shown_at m new t) run now answer → (new.law ≡ old.law) × IsTurned old.law (shown_at n old s) (shown_at n new s) run now answer
+  by_port : (answer : Turn) → IsTurned old.law (shown_at n old s) (shown_at m new t) run now answer → (g : GName) × (new.law ≡ old.law) × IsTurned old.law (shown_at g old s) (shown_at g new s) run now answer
   by_port answer turned = (
+    n,
     law,
     subst (λ (i : ℕ). IsTurned old.law (shown_at n old s) (shown_at n new i) run now answer) (same_session answer turned) (subst (λ (g : GName). IsTurned old.law (shown_at n old s) (shown_at g new t) run now answer) (same_name answer turned) turned),
   )
 
-  pub turned_in : (answer : Turn) → HasTurned old.law (shown_at n old s) (shown_at m new t) run now answer → HasTurnedIn n s old new run now answer
-  turned_in (turn.Stepped k) turned = by_port (turn.Stepped k) turned
-  turned_in (turn.Said i) turned = by_port (turn.Said i) turned
-  turned_in (turn.Waiting q) turned = by_port (turn.Waiting q) turned
-  turned_in turn.Ended turned = by_port turn.Ended turned
-  turned_in turn.Memory turned = tt
+-- the same of the world that is left where the port's reference was the world's own; nothing is known where memory was refused
+module _ (d n m : GName) (s a t : ℕ) (old w v x : WorldOf JcrLaw) (run now : SessionRun) (name : n ≡ d) (world : w ≡ old) (session : a ≡ s) (stands : (g : GName) → Stands old.law (shown_at g old s) run) (law : v.law ≡ w.law) (left : d ≡ m → x ≡ v) where
+  law_old : v.law ≡ old.law
+  law_old = law ∙ ap (λ (y : WorldOf JcrLaw). y.law) world
+
+  out : (answer : Turn) → IsTurned w.law (shown_at n w a) (shown_at m v t) run now answer → (g : GName) × (x.law ≡ old.law) × IsTurned old.law (shown_at g old s) (shown_at g x s) run now answer
+  out answer turned =
+      let at_old : IsTurned old.law (shown_at n old s) (shown_at m v t) run now answer =
+        subst (λ (i : ℕ). IsTurned old.law (shown_at n old i) (shown_at m v t) run now answer) session (subst (λ (y : WorldOf JcrLaw). IsTurned y.law (shown_at n y a) (shown_at m v t) run now answer) world turned) in
+      let same : d ≡ m = sym name ∙ sym (same_name n m s t old v run now (stands n) law_old answer at_old) in
+      subst (λ (y : WorldOf JcrLaw). (g : GName) × (y.law ≡ old.law) × IsTurned old.law (shown_at g old s) (shown_at g y s) run now answer) (sym (left same)) (by_port n m s t old v run now (stands n) law_old answer at_old)
+
+  pub turned_out : (answer : Turn) → HasTurned w.law (shown_at n w a) (shown_at m v t) run now answer → HasTurnedIn s old x run now answer
+  turned_out (turn.Stepped k) turned = out (turn.Stepped k) turned
+  turned_out (turn.Said i) turned = out (turn.Said i) turned
+  turned_out (turn.Waiting q) turned = out (turn.Waiting q) turned
+  turned_out turn.Ended turned = out turn.Ended turned
+  turned_out turn.Memory turned = tt
 
 -- ---- of a stage
 
@@ -61,12 +74,12 @@ module _ (stage : Stage) (is : IsStage stage) where
       by (x ∷ xs) zero h = refl
       by (x ∷ xs) (suc k) h = by xs k (omega arith)
 
-module _ (n : GName) (s : ℕ) (old new : Stage) (seat seat_now : Seat) (stage : IsStage old) (at : slice_get old.seats.items s ≡ Some seat) (script_same : new.script ≡ old.script) (seats_now : new.seats.items ≡ slice_set old.seats.items s seat_now) where
-  pub come_by : (answer : Turn) → (answer ≡ turn.Memory → ⊥) → HasTurnedIn n s old.world new.world seat.run seat_now.run answer → seat_now.flight ≡ flight_by answer (past_of new) seat.flight → HasCome old new s answer
-  come_by (turn.Stepped k) made (law, turned) kept = has_come n s old new seat seat_now (turn.Stepped k) stage at script_same seats_now law turned kept
-  come_by (turn.Said i) made (law, turned) kept = has_come n s old new seat seat_now (turn.Said i) stage at script_same seats_now law turned kept
-  come_by (turn.Waiting q) made (law, turned) kept = has_come n s old new seat seat_now (turn.Waiting q) stage at script_same seats_now law turned kept
-  come_by turn.Ended made (law, turned) kept = has_come n s old new seat seat_now turn.Ended stage at script_same seats_now law turned kept
+module _ (s : ℕ) (old new : Stage) (seat seat_now : Seat) (stage : IsStage old) (at : slice_get old.seats.items s ≡ Some seat) (script_same : new.script ≡ old.script) (seats_now : new.seats.items ≡ slice_set old.seats.items s seat_now) where
+  pub come_by : (answer : Turn) → (answer ≡ turn.Memory → ⊥) → HasTurnedIn s old.world new.world seat.run seat_now.run answer → seat_now.flight ≡ flight_by answer (past_of new) seat.flight → HasCome old new s answer
+  come_by (turn.Stepped k) made (n, law, turned) kept = has_come n s old new seat seat_now (turn.Stepped k) stage at script_same seats_now law turned kept
+  come_by (turn.Said i) made (n, law, turned) kept = has_come n s old new seat seat_now (turn.Said i) stage at script_same seats_now law turned kept
+  come_by (turn.Waiting q) made (n, law, turned) kept = has_come n s old new seat seat_now (turn.Waiting q) stage at script_same seats_now law turned kept
+  come_by turn.Ended made (n, law, turned) kept = has_come n s old new seat seat_now turn.Ended stage at script_same seats_now law turned kept
   come_by turn.Memory made h kept = absurd (made refl)
 
 -- a part under way leaves the seats that there were

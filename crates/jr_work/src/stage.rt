@@ -1,5 +1,6 @@
 // The world of a script with its sessions, and the turns that an entry of a schedule asks for.
 ghost use Rattle.std.specs.Prelude.{◌≡◌, ◌<◌, ◌≤◌, ℕ, All, IfOk, OnOk, List, IsTrue, is_some, length, map, slice_get, ◌∷◌};
+ghost use Rattle.std.specs.Borrow.{GName};
 ghost use Rattle.jr_script.specs.Bounds.{IsWithin};
 ghost use Rattle.jr_script.specs.Schedules.{IsEntryWithin, session_named};
 ghost use Rattle.oak_world.specs.Seen.{shown_at};
@@ -248,8 +249,8 @@ fn law_of(alloc: Global, script: &Script) -> Result<JcrLaw, AllocError>
 // A turn of a session in its world.
 fn turn_once(world: &mut World<JcrLaw>, run: &mut SessionRun, s: u32) -> Turn
     requires there { IsTrue (is_some (slice_get world.old.history.sessions s)) }
-    requires stands { Stands world.old.law (shown_at world.ghost_name world.old s) run.old }
-    ensures { HasTurnedIn world.entry.ghost_name s world.old world.new run.old run.new result }
+    requires stands { (name : GName) → Stands world.old.law (shown_at name world.old s) run.old }
+    ensures { HasTurnedIn s world.old world.new run.old run.new result }
 {
     let mut port = SoloPort::new(world, s);
     run.turn(&mut port)

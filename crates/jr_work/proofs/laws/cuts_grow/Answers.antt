@@ -1,8 +1,3 @@
-use Rattle.jr_work.proofs.Reaching.{go_closes}
-use Rattle.jr_work.proofs.Looking.{read_closes}
-use Rattle.jr_work.proofs.Ascending.{kept_flying}
-use Rattle.jr_work.proofs.Within.{stage_nodes}
-use Rattle.jr_work.proofs.Whole.{ran}
 use Rattle.jr_work.proofs.Growing.{cut_grows, cut_stays, one_more, part_grows}
 use Rattle.jr_work.proofs.laws.cuts_grow.Goals as goal
 
