@@ -500,7 +500,7 @@ impl SessionRun {
         ensures law { P.law port.new ≡ P.law port.old }
         ensures turned { HasTurned (P.law port.old) (P.shown port.old) (P.shown port.new) self.old self.new result }
     {
-        in_range(&r);
+        in_range(r.time, r.counter, r.cluster);
         self.sight = Sight::Unread;
         match revision_reply(self.alloc, &r) {
             Ok(text) => self.say_kept(port, text.as_str()),
@@ -653,15 +653,9 @@ fn last_kind(end: &CommitEnd) -> StepKind
 }
 
 // The fields of a revision are in the range of their types.
-fn in_range(r: &Revision)
-    ensures { FitsFields r.now }
+fn in_range(time: u64, counter: u32, cluster: u32)
+    ensures { FitsFields (record { time = time; counter = counter; cluster = cluster }) }
 {
-    let Revision {
-        time,
-        counter,
-        cluster,
-    } = *r;
-    let _fields = (time, counter, cluster);
 }
 
 // The reply to a reading or view command, or to one that isn't built; it changes the view.
