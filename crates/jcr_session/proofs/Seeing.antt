@@ -1,5 +1,6 @@
 -- What a session sees of the tree, case by case, and what it replies by its view.
-use Rattle.std.proofs.Common.{◌≡◌, ◌⊎◌, inl, inr, ℕ, List, [], ◌∷◌, length, Option, Some, Result, IfOk, OnErr, refl, sym, ap, ◌∙◌, subst}
+use Rattle.std.proofs.Common.{◌≡◌, ◌⊎◌, inl, inr, ℕ, zero, suc, ◌<◌, List, [], ◌∷◌, length, get_or, arith, Option, Some, Result, IfOk, OnErr, refl, sym, ap, ◌∙◌, subst}
+use Rattle.std.specs.Prelude.{slice_get}
 use Rattle.jr_path.specs.declared.path.Path.{Path}
 use Rattle.jr_path.specs.declared.text.Text.{Text}
 use Rattle.jr_tree.specs.declared.shared.Datum.{Datum}
@@ -58,6 +59,15 @@ refused_reply bytes made c old new r kept refused =
     made_if made (λ t. bytes t ≡ answer_text (Refused r.number r.parts)) (λ t. IsReply c old new (bytes t)) (λ t told. refused_by c old new r (bytes t) kept told refused)
 
 -- ---- the reply to the next command
+
+get_there : {X : Type 0} (xs : List X) (i : ℕ) (d : X) → i < length xs → slice_get xs i ≡ Some (get_or xs i d)
+get_there [] i d h = absurd (omega arith)
+get_there (x ∷ xs) zero d h = refl
+get_there (x ∷ xs) (suc i) d h = get_there xs i d (omega arith)
+
+pub next_there : (commands slice : List Command) (i : ℕ) (c : Command) → slice ≡ commands → i < length slice → c ≡ get_or slice i c → slice_get commands i ≡ Some c
+next_there commands slice i c same within is =
+    subst (λ (cs : List Command). slice_get cs i ≡ Some c) same (get_there slice i c within ∙ ap (λ (d : Command). Some d) (sym is))
 
 pub replies_seen : {T E : Type 0} (bytes : T → List ℕ) (made : Result T E) (o : Option Command) (x y : Sight) (c : Command) (a b : Seen) → o ≡ Some c → x ≡ sight.Seen a → y ≡ sight.Seen b → b.base ≡ a.base → IfOk made (λ t. IsReply c a.view b.view (bytes t)) → IfOk made (λ t. RepliesBy o x y (bytes t))
 replies_seen bytes made o x y c a b at old new base =

@@ -66,7 +66,7 @@ returns-in_ok-walk-in-Some-clause-beside g c =
 
 pub returns-in_err-view-in-None-clause-err : goal.returns-in_err-view-in-None-clause-err
 returns-in_err-view-in-None-clause-err g c =
-    made_err c.from_residual.result ((g.P.Port.shown c.args.port.now).work ≡ Idle) c.requires.idle
+    made_err c.from_residual-in_err-view-in-None.result ((g.P.Port.shown c.args.port.now).work ≡ Idle) c.requires.idle
 
 pub returns-in_ok-walk-in-Some-clause-ok : goal.returns-in_ok-walk-in-Some-clause-ok
 returns-in_ok-walk-in-Some-clause-ok g c =

@@ -2,9 +2,6 @@ use Rattle.std.proofs.Common.{sym}
 use Rattle.jcr_session.proofs.run.SessionRun.go_on.Goals as goal
 
 -- what is due is what is done
-pub leave-requires-clause-next : goal.leave-requires-clause-next
-leave-requires-clause-next g c = sym c.in-Leave.ensures
-
 pub show_base-requires-clause-next : goal.show_base-requires-clause-next
 show_base-requires-clause-next g c = sym c.in-ShowBase.ensures
 

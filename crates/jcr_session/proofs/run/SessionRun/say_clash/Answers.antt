@@ -1,7 +1,7 @@
 use Rattle.std.proofs.Common.{◌∙◌, length, subst}
 use Rattle.jr_path.specs.declared.text.Text.{Text}
 use Rattle.oak_port.specs.Ports.{HasRoom}
-use Rattle.oak_port.specs.declared.task.CommitEnd.TheVariants as commit
+use Rattle.oak_commit.specs.declared.outcome.CommitEnd.TheVariants as commit
 use Rattle.jcr_session.specs.Standing.{MayAnswer}
 use Rattle.jcr_session.proofs.Ending.{ended_clash, ended_room, ended_unshown}
 use Rattle.jcr_session.proofs.Lengths.{memory_reply_is, memory_room}

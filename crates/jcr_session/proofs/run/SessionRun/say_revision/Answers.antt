@@ -1,7 +1,7 @@
 use Rattle.std.proofs.Common.{◌∙◌, refl, length, subst, sym}
 use Rattle.jr_path.specs.declared.text.Text.{Text}
 use Rattle.oak_port.specs.Ports.{HasRoom}
-use Rattle.oak_port.specs.declared.task.CommitEnd.TheVariants as commit
+use Rattle.oak_commit.specs.declared.outcome.CommitEnd.TheVariants as commit
 use Rattle.jcr_session.specs.declared.run.Phase.TheVariants as phase
 use Rattle.jcr_session.specs.declared.sight.Sight.TheVariants as sight
 use Rattle.jcr_session.proofs.Ending.{ended_revision, ended_room}

@@ -13,7 +13,7 @@ returns-in-Ok-true-clause-turned g c =
     let old = g.P.Port.shown c.args.port.now in
     let mid = g.P.Port.shown c.read_all.new.port in
     let new = g.P.Port.shown c.counted.new.port in
-    turned_behind law old mid new c.args.self.now c.read_all.new.self c.counted.new.self c.counted.result c.requires.stands c.read_all.ensures.looked ?
+    turned_behind law old mid new c.args.self.now c.read_all.new.self c.counted.new.self c.counted.result c.requires.stands c.read_all.ensures.looked (c.in-Ok-true.ensures.ok c.in-Ok-true.field-0-test)
     (turned_law law (g.P.Port.law c.read_all.new.port) c.read_all.ensures.law mid new c.read_all.new.self c.counted.new.self c.counted.result c.counted.ensures.turned)
 
 -- memory was refused for reading
