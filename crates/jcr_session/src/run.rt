@@ -385,12 +385,7 @@ impl SessionRun {
     }
 
     // Begins a commit. The place of its reply is kept before.
-    fn commit<P: Port<L = JcrLaw>>(
-        &mut self,
-        port: &mut P,
-        edit: Edit,
-        marks: List<MarkAt>,
-    ) -> Turn
+    fn commit<P: Port<L = JcrLaw>>(&mut self, port: &mut P, edit: Edit, marks: List<MarkAt>) -> Turn
         requires stands { Stands (P.law port.old) (P.shown port.old) self.old }
         requires between { self.old.phase ≡ phase.Between }
         requires read { IsFalse (is_unread self.old) }
@@ -477,7 +472,7 @@ impl SessionRun {
         ensures law { P.law port.new ≡ P.law port.old }
         ensures turned { HasTurned (P.law port.old) (P.shown port.old) (P.shown port.new) self.old self.new result }
     {
-        in_range(&r);
+        in_range(r.time, r.counter, r.cluster);
         self.sight = Sight::Unread;
         match revision_reply(self.alloc, &r) {
             Ok(text) => self.say_kept(port, text.as_str()),
@@ -630,16 +625,9 @@ fn last_kind(end: &CommitEnd) -> StepKind
 }
 
 // The fields of a revision are in the range of their types.
-fn in_range(r: &Revision)
-    ensures { FitsFields r.now }
-{
-    let Revision {
-        time,
-        counter,
-        cluster,
-    } = *r;
-    let _fields = (time, counter, cluster);
-}
+fn in_range(time: u64, counter: u32, cluster: u32)
+    ensures { FitsFields (record { time = time; counter = counter; cluster = cluster }) }
+{}
 
 // The reply to a reading or view command, or to one that isn't built; it changes the view.
 fn reply_of(alloc: Global, command: &Command, seen: &mut Seen) -> Result<String, AllocError>

@@ -102,10 +102,7 @@ pub(crate) fn look<P: Port<L = JcrLaw>>(
 }
 
 // Begins to read the tree, and makes the first step. Where memory is refused, nothing is being read.
-fn read_first<P: Port<L = JcrLaw>>(
-    alloc: Global,
-    port: &mut P,
-) -> Result<Sight, AllocError>
+fn read_first<P: Port<L = JcrLaw>>(alloc: Global, port: &mut P) -> Result<Sight, AllocError>
     requires inside { IsIn (P.law port.old) (P.shown port.old) }
     requires idle { (P.shown port.old).work ≡ Idle }
     ensures law { P.law port.new ≡ P.law port.old }

@@ -32,7 +32,7 @@ returns-in_err-self-clause-err g c =
     made_err c.from_residual.result _ (
       sym c.is_unread.ensures ∙ c.if-not-is_unread.false,
       (looked_refused (g.P.Port.law c.args.port.now) (g.P.Port.shown c.args.port.now) c.args.self.now c.requires.stands (sym c.is_unread.ensures ∙ c.if-not-is_unread.false) (g.P.Port.shown c.look.new.port) c.in_err-self.ensures.beside c.in_err-self.ensures.inside
-      (record c.args.self.now { sight = c.replace-sight.new.dest }) (ap (λ (sight : Sight). record c.args.self.now { sight = sight }) c.replace-sight.ensures.after) c.in_err-self.ensures.err).1,
+          (record c.args.self.now { sight = c.replace-sight.new.dest }) (ap (λ (sight : Sight). record c.args.self.now { sight = sight }) c.replace-sight.ensures.after) c.in_err-self.ensures.err).1,
     )
 
 -- it is made

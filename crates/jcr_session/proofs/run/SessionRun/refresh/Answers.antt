@@ -20,8 +20,10 @@ pub say_memory-requires : goal.say_memory-requires
 say_memory-requires g c =
     let law = g.P.Port.law c.args.port.now in
     let p = g.P.Port.shown c.args.port.now in
-    record { answer = may_unbegun law (g.P.Port.law c.start.new.self) c.in-Err.ensures.law p (g.P.Port.shown c.start.new.self) c.args.self.now memory_text
-    (forgo_refresh law p c.args.self.now c.requires.stands c.requires.between c.requires.read c.requires.next) p.room c.in-Err.ensures.err }
+    record {
+      answer = may_unbegun law (g.P.Port.law c.start.new.self) c.in-Err.ensures.law p (g.P.Port.shown c.start.new.self) c.args.self.now memory_text
+          (forgo_refresh law p c.args.self.now c.requires.stands c.requires.between c.requires.read c.requires.next) p.room c.in-Err.ensures.err;
+    }
 
 pub returns-in-Err-clause-turned : goal.returns-in-Err-clause-turned
 returns-in-Err-clause-turned g c =
@@ -44,8 +46,10 @@ pub say_memory-requires-in-None : goal.say_memory-requires-in-None
 say_memory-requires-in-None g c =
     let law = g.P.Port.law c.args.port.now in
     let p = g.P.Port.shown c.args.port.now in
-    record { answer = may_unpinned law (g.P.Port.law c.start.new.self) c.in-Ok.ensures.law p (g.P.Port.shown c.start.new.self) (g.P.Port.shown c.step.new.self) p.room c.args.self.now c.step.result c.requires.stands c.step.ensures.steps
-    c.requires.between c.requires.read c.requires.next c.in-Ok.ensures.ok (sym c.in-None.ensures) (g.P.Port.law c.step.new.self) c.step.ensures.law }
+    record {
+      answer = may_unpinned law (g.P.Port.law c.start.new.self) c.in-Ok.ensures.law p (g.P.Port.shown c.start.new.self) (g.P.Port.shown c.step.new.self) p.room c.args.self.now c.step.result c.requires.stands c.step.ensures.steps
+          c.requires.between c.requires.read c.requires.next c.in-Ok.ensures.ok (sym c.in-None.ensures) (g.P.Port.law c.step.new.self) c.step.ensures.law;
+    }
 
 pub returns-in-None-clause-turned : goal.returns-in-None-clause-turned
 returns-in-None-clause-turned g c =

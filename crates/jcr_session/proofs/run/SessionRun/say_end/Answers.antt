@@ -7,7 +7,7 @@ use Rattle.jcr_session.proofs.run.SessionRun.say_end.Goals as goal
 
 pub say_saved-requires : goal.say_saved-requires
 say_saved-requires g c =
-    record { stands = subst (λ (f : Phase). Stands (g.P.Port.law c.args.port.now) (g.P.Port.shown c.args.port.now) (record c.args.self.now { phase = f })) (sym c.in-Saved.ensures.value ∙ c.in-Saved.is) c.requires.stands }
+    record { stands = subst (λ (f : Phase). Stands (g.P.Port.law c.args.port.now) (g.P.Port.shown c.args.port.now) (record c.args.self.now { phase = f })) (sym c.in-Saved.ensures.value) c.requires.stands }
 
 pub returns-in-Saved-clause-turned : goal.returns-in-Saved-clause-turned
 returns-in-Saved-clause-turned g c =
