@@ -11,10 +11,9 @@ mod start;
 mod step;
 mod store;
 mod tasks;
-mod world;
-
 #[cfg(test)]
 mod tests;
+mod world;
 
 pub use port::SoloPort;
 pub use tasks::tasks_end;
