@@ -259,8 +259,8 @@ fn turn_once(world: &mut World<JcrLaw>, run: &mut SessionRun, s: u32) -> Turn
 // A reading step of a session in its world, where one is due.
 fn read_one(world: &mut World<JcrLaw>, run: &mut SessionRun, s: u32) -> Result<bool, AllocError>
     requires there { IsTrue (is_some (slice_get world.old.history.sessions s)) }
-    requires stands { Stands world.old.law (shown_at world.ghost_name world.old s) run.old }
-    ensures { OnOk result (HasRead world.entry.ghost_name s world.old world.new run.old run.new) }
+    requires stands { (name : GName) → Stands world.old.law (shown_at name world.old s) run.old }
+    ensures { OnOk result ((name : GName) × HasRead name s world.old world.new run.old run.new) }
 {
     let mut port = SoloPort::new(world, s);
     run.read(&mut port)
