@@ -3,7 +3,7 @@ use Rattle.std.specs.Result.{OnOk}
 use Rattle.jr_script.specs.Schedules.{session_named}
 use Rattle.jr_script.specs.declared.script.Entry.{Entry}
 use Rattle.jr_work.specs.Parts.{by_entry}
-use Rattle.jr_work.specs.Stages.{Closes, IsOfCommit}
+use Rattle.jr_work.specs.Stages.{Closes}
 use Rattle.jr_work.proofs.Closing.{turn_closes}
 use Rattle.jr_work.proofs.stage.Stage.play.Goals as goal
 
@@ -32,7 +32,7 @@ pub go_to-requires-clause-there : goal.go_to-requires-clause-there
 go_to-requires-clause-there c = subst (λ (e : Entry). session_named e < length c.args.self.now.seats.items) c.in-Draw.is c.requires.entry.named
 
 pub go_to-requires-clause-named : goal.go_to-requires-clause-named
-go_to-requires-clause-named c = subst (λ (e : Entry). IsOfCommit c.in-Draw.s e) (sym c.in-Draw.is) refl
+go_to-requires-clause-named c = refl
 
 pub go_to-requires-in-Write-clause-stage : goal.go_to-requires-in-Write-clause-stage
 go_to-requires-in-Write-clause-stage c = c.requires.stage
@@ -41,7 +41,7 @@ pub go_to-requires-in-Write-clause-there : goal.go_to-requires-in-Write-clause-t
 go_to-requires-in-Write-clause-there c = subst (λ (e : Entry). session_named e < length c.args.self.now.seats.items) c.in-Write.is c.requires.entry.named
 
 pub go_to-requires-in-Write-clause-named : goal.go_to-requires-in-Write-clause-named
-go_to-requires-in-Write-clause-named c = subst (λ (e : Entry). IsOfCommit c.in-Write.s e) (sym c.in-Write.is) refl
+go_to-requires-in-Write-clause-named c = refl
 
 pub go_to-requires-in-Last-clause-stage : goal.go_to-requires-in-Last-clause-stage
 go_to-requires-in-Last-clause-stage c = c.requires.stage
@@ -50,7 +50,7 @@ pub go_to-requires-in-Last-clause-there : goal.go_to-requires-in-Last-clause-the
 go_to-requires-in-Last-clause-there c = subst (λ (e : Entry). session_named e < length c.args.self.now.seats.items) c.in-Last.is c.requires.entry.named
 
 pub go_to-requires-in-Last-clause-named : goal.go_to-requires-in-Last-clause-named
-go_to-requires-in-Last-clause-named c = subst (λ (e : Entry). IsOfCommit c.in-Last.s e) (sym c.in-Last.is) refl
+go_to-requires-in-Last-clause-named c = refl
 
 pub returns-in_ok-turn-in-Turn : goal.returns-in_ok-turn-in-Turn
 returns-in_ok-turn-in-Turn c = subst (λ (e : Entry). Closes c.args.self.now c.turn.new.self (by_entry e)) (sym c.in-Turn.is) (turn_closes c.args.self.now c.turn.new.self c.in-Turn.s _ c.requires.stage c.in_ok-turn-in-Turn.ensures)
