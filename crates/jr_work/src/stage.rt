@@ -1,6 +1,7 @@
 // The world of a script with its sessions, and the turns that an entry of a schedule asks for.
 ghost use Rattle.std.specs.Prelude.{◌≡◌, ◌<◌, ◌≤◌, ℕ, All, IfOk, OnOk, List, IsTrue, is_some, length, map, slice_get, ◌∷◌};
 ghost use Rattle.std.specs.Borrow.{GName};
+ghost use Rattle.std.specs.Map.{values_of};
 ghost use Rattle.jr_script.specs.Bounds.{IsWithin};
 ghost use Rattle.jr_script.specs.Schedules.{IsEntryWithin, session_named};
 ghost use Rattle.oak_world.specs.Seen.{shown_at};
@@ -14,6 +15,7 @@ ghost use Rattle.jr_work.specs.Seats.{AreNew};
 use crate::flight::{Flight, flight_after};
 use jcr_session::{JcrLaw, SessionRun, Turn};
 use jr_path::{DeepCopy, List};
+use jr_rev::Revision;
 use jr_script::{Entry, Script, SessionScript};
 use oak_world::{SoloPort, World};
 use std::alloc::{AllocError, Global};
@@ -107,7 +109,10 @@ impl Stage {
             }
             match self.turn(s)? {
                 Turn::Stepped(_) => {}
-                _ => return Ok(()),
+                Turn::Said(_) => return Ok(()),
+                Turn::Waiting(_) => return Ok(()),
+                Turn::Ended => return Ok(()),
+                Turn::Memory => return Err(AllocError),
             }
         }
         Err(AllocError)
@@ -186,11 +191,7 @@ impl Stage {
                 flying.insert(flight.revision, s as u32)?;
             }
         }
-        let mut sessions = List::new(self.alloc);
-        for (_, session) in flying.iter() {
-            sessions.push(*session)?;
-        }
-        Ok(sessions)
+        sessions_of(self.alloc, &flying)
     }
 
     // A turn of a session. What is kept of its commit goes by the event that the turn added last.
@@ -208,6 +209,17 @@ impl Stage {
             }
         }
     }
+}
+
+// The sessions of some revisions, in their order.
+fn sessions_of(alloc: Global, flying: &BTreeMap<Revision, u32>) -> Result<List<u32>, AllocError>
+    ensures { IfOk result (λ sessions. sessions ≡ values_of flying.now.entries) }
+{
+    let mut sessions = List::new(alloc);
+    for (_, session) in flying {
+        sessions.push(*session)?;
+    }
+    Ok(sessions)
 }
 
 // The cluster node of each session.
