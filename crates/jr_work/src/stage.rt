@@ -1,7 +1,10 @@
 // The world of a script with its sessions, and the turns that an entry of a schedule asks for.
 ghost use Rattle.std.specs.Prelude.{◌≡◌, ◌<◌, ◌≤◌, ℕ, All, IfOk, OnOk, List, IsTrue, is_some, length, map, slice_get, ◌∷◌};
 ghost use Rattle.std.specs.Borrow.{GName};
+ghost use Rattle.std.specs.BTreeMap.{insert_entry};
 ghost use Rattle.std.specs.Map.{values_of};
+ghost use Rattle.std.specs.Option.{option_map_or};
+ghost use Rattle.jr_rev.specs.Revisions.{revision_cmp};
 ghost use Rattle.jr_script.specs.Bounds.{IsWithin};
 ghost use Rattle.jr_script.specs.Schedules.{IsEntryWithin, session_named};
 ghost use Rattle.oak_world.specs.Seen.{shown_at};
@@ -187,9 +190,7 @@ impl Stage {
         self.world.journal();
         let mut flying = BTreeMap::new(self.alloc);
         for (s, seat) in self.seats.iter().enumerate() {
-            if let Some(flight) = &seat.flight {
-                flying.insert(flight.revision, s as u32)?;
-            }
+            note_flight(&mut flying, &seat.flight, s as u32)?;
         }
         sessions_of(self.alloc, &flying)
     }
@@ -208,6 +209,23 @@ impl Stage {
                 Ok(turn)
             }
         }
+    }
+}
+
+// Notes the commit that a session has in flight, if any, by its revision.
+fn note_flight(
+    flying: &mut BTreeMap<Revision, u32>,
+    flight: &Option<Flight>,
+    s: u32,
+) -> Result<(), AllocError>
+    ensures { OnOk result (flying.new.entries ≡ option_map_or (λ f. insert_entry revision_cmp flying.old.entries f.revision s) flight.now flying.old.entries) }
+{
+    match flight {
+        Some(flight) => {
+            flying.insert(flight.revision, s)?;
+            Ok(())
+        }
+        None => Ok(()),
     }
 }
 
