@@ -1,8 +1,9 @@
 -- A turn of a session in its world, by its port, and of a stage.
-use Rattle.std.proofs.Common.{◌≡◌, ℕ, ◌<◌, length, Bool, true, false, Some, None, Option, List, [], ◌∷◌, is_some, refl, sym, ap, ◌∙◌, subst, arith, zero, suc}
+use Rattle.std.proofs.Common.{◌≡◌, ℕ, ◌<◌, length, Bool, true, false, Some, None, Option, Result, Ok, Err, List, [], ◌∷◌, is_some, refl, sym, ap, ◌∙◌, subst, arith, zero, suc}
 use Rattle.std.specs.Prelude.{slice_get, slice_set}
 use Rattle.std.specs.Borrow.{GName}
 use Rattle.std.specs.Option.{option_map}
+use Rattle.std.specs.Result.{OnOk}
 use Rattle.std.proofs.lemmas.Option.{slice_get-map}
 use mathlib.Core.Bool.{false≢true}
 use Rattle.jr_rev.specs.declared.revision.Revision.{Revision}
@@ -14,7 +15,7 @@ use Rattle.jcr_session.specs.declared.law.JcrLaw.{JcrLaw}
 use Rattle.jcr_session.specs.declared.run.SessionRun.{SessionRun}
 use Rattle.jcr_session.specs.declared.turn.Turn.{Turn}
 use Rattle.jcr_session.specs.declared.turn.Turn.TheVariants as turn
-use Rattle.jcr_session.specs.Standing.{HasTurned, IsTurned, Stands}
+use Rattle.jcr_session.specs.Standing.{HasLooked, HasTurned, IsTurned, Stands}
 use Rattle.jr_script.specs.declared.script.Script.{Script}
 use Rattle.jr_script.specs.declared.script.SessionScript.{SessionScript}
 use Rattle.jr_work.specs.declared.flight.Flight.{Flight}
@@ -22,8 +23,9 @@ use Rattle.jr_work.specs.declared.stage.Seat.{Seat}
 use Rattle.jr_work.specs.declared.stage.Stage.{Stage}
 use Rattle.jr_work.specs.Places.{history_at}
 use Rattle.jr_work.specs.Parts.{Rule}
-use Rattle.jr_work.specs.Stages.{Closes, HasCome, HasTurnedIn, IsSeated, IsStage, IsUnder, flight_behind, flight_by, past_of}
+use Rattle.jr_work.specs.Stages.{Closes, HasCome, HasRead, HasTurnedIn, IsSeated, IsStage, IsUnder, flight_behind, flight_by, past_of}
 use Rattle.jr_work.proofs.Counting.{IsEnding, end_said, end_steps}
+use Rattle.jr_work.proofs.Looking.{read_through}
 use Rattle.jr_work.proofs.Turning.{has_come}
 
 -- ---- in its world
@@ -61,6 +63,17 @@ module _ (d n m : GName) (s a t : ℕ) (old w v x : WorldOf JcrLaw) (run now : S
   turned_out (turn.Waiting q) turned = out (turn.Waiting q) turned
   turned_out turn.Ended turned = out turn.Ended turned
   turned_out turn.Memory turned = tt
+
+-- the same of a reading step
+pub read_out : (d n m : GName) (s a t : ℕ) (old w v x : WorldOf JcrLaw) (run now : SessionRun) → n ≡ d → w ≡ old → a ≡ s → v.law ≡ w.law → (d ≡ m → x ≡ v) → HasLooked w.law (shown_at n w a) (shown_at m v t) run now → (g : GName) × HasRead g s old x run now
+read_out d n m s a t old w v x run now name world session law left looked =
+    let same : d ≡ m = sym name ∙ sym (ap (λ (b : Beside). b.name) looked.beside.beside) in
+    subst (λ (y : WorldOf JcrLaw). (g : GName) × HasRead g s old y run now) (sym (left same)) (d, read_through d m n s t a old w v run now world name session law looked)
+
+-- what holds anyway holds where there is no error
+pub on_ok : {A E : Type 0} (r : Result A E) (P : Type 0) → P → OnOk r P
+on_ok (Ok x) P p = p
+on_ok (Err e) P p = tt
 
 -- ---- of a stage
 

@@ -97,9 +97,9 @@ module _ (first stage : Stage) (rules : List Rule) (all : ClosesAll first stage 
   listed_there is xs there i s below at =
       below_still is s (subst (λ (x : ℕ). x < length first.seats.items) (sym at) (All-get_or (λ x. x < length first.seats.items) xs i s below there))
 
-pub played_more : (first stage new : Stage) (i : ℕ) (d e : Entry) → ClosesAll first stage (map by_entry (take i first.script.schedule)) → i < length first.script.schedule → e ≡ get_or stage.script.schedule i d → Closes stage new (by_entry e) → ClosesAll first new (map by_entry (take (i + 1) first.script.schedule))
-played_more first stage new i d e all below is one =
-    subst (λ (rules : List Rule). ClosesAll first new rules) (sym (take_one_more by_entry first.script.schedule i d e below (is ∙ ap (λ (x : Script). get_or x.schedule i d) all.script)))
+pub played_more : (first stage new : Stage) (i : ℕ) (d e : Entry) (xs : List Entry) → ClosesAll first stage (map by_entry (take i first.script.schedule)) → i < length first.script.schedule → xs ≡ stage.script.schedule → e ≡ get_or xs i d → Closes stage new (by_entry e) → ClosesAll first new (map by_entry (take (i + 1) first.script.schedule))
+played_more first stage new i d e xs all below same is one =
+    subst (λ (rules : List Rule). ClosesAll first new rules) (sym (take_one_more by_entry first.script.schedule i d e below (is ∙ ap (λ (l : List Entry). get_or l i d) (same ∙ ap (λ (x : Script). x.schedule) all.script))))
     (all_more first stage new (map by_entry (take i first.script.schedule)) (by_entry e) all one)
 
 pub replied_more : (first stage new : Stage) (xs : List ℕ) (i d s : ℕ) → ClosesAll first stage (map to_reply (take i xs)) → i < length xs → s ≡ get_or xs i d → Closes stage new (to_reply s) → ClosesAll first new (map to_reply (take (i + 1) xs))
