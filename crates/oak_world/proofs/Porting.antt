@@ -1,8 +1,9 @@
 -- What a port of a world tells of each call.
 use mathlib.Core.Bool.{false≢true}
-use Rattle.std.proofs.Common.{◌≡◌, ◌≢◌, ◌↔◌, ℕ, ◌<◌, Bool, true, false, Option, Some, None, Result, Ok, Err, List, length, is_some, refl, sym, ap, subst, ◌∙◌}
+use Rattle.std.proofs.Common.{◌≡◌, ◌≢◌, ◌↔◌, ℕ, ◌<◌, ◌≤◌, Bool, true, false, Option, Some, None, Result, Ok, Err, List, length, is_some, refl, sym, ap, subst, ◌∙◌}
 use Rattle.std.specs.Prelude.{OnErr, OnOk, slice_get, slice_set, IsSome}
 use Rattle.std.specs.Borrow.{GName}
+use Rattle.std.specs.Option.{IsSomeAnd}
 use Rattle.std.specs.declared.alloc.AllocError.{AllocError}
 use Rattle.std.proofs.lemmas.Option.{slice_get_within}
 use Rattle.jr_path.specs.declared.text.Text.{Text}
@@ -11,7 +12,7 @@ use Rattle.oak_machine.specs.History.{History}
 use Rattle.oak_machine.specs.Laws.{Says, Starts}
 use Rattle.oak_machine.specs.Runs.{IsRun}
 use Rattle.oak_port.specs.declared.task.Task.{Task}
-use Rattle.oak_port.specs.Ports.{Answers, Idle, Starting, Waits}
+use Rattle.oak_port.specs.Ports.{Answers, HasRoom, Idle, Starting, Waits}
 use Rattle.oak_world.specs.declared.actor.Work.{Work}
 use Rattle.oak_world.specs.declared.actor.Work.TheVariants as work
 use Rattle.oak_world.specs.Seen.{shown_at, shown_work}
@@ -76,3 +77,8 @@ module _ (starts : Starts) (says : Says) {L : Type 0} (w : WorldOf L) (s : ℕ) 
     -- a reply is said
     pub say_answers : (u : WorldOf L) (i : ℕ) (text : Text) → u ≡ said_in w s i text → IsRun starts says u.history → Answers starts says (shown_at name w s) (shown_at name u s) i text
     say_answers u i text e now = subst (λ (x : WorldOf L). Answers starts says (shown_at name w s) (shown_at name x s) i text) (sym e) (answers_shown starts says w s seat rests name i text (subst (λ (x : WorldOf L). IsRun starts says x.history) e now))
+
+-- the room of a reply
+pub room_by : (o : Option ℕ) (n : ℕ) → HasRoom o n → IsSomeAnd o (λ bytes. n ≤ bytes)
+room_by None n h = absurd h
+room_by (Some bytes) n h = h

@@ -1,0 +1,12 @@
+use Rattle.oak_world.specs.Worlds.{work_in}
+use Rattle.oak_world.proofs.Porting.{at_work}
+use Rattle.oak_world.proofs.port.SoloPortPort.step.Goals as goal
+
+pub step-requires-clause-busy : goal.step-requires-clause-busy
+step-requires-clause-busy g c = at_work (work_in c.args.self.now.world.now.actors c.args.self.now.actor) c.requires
+
+pub returns-clause-law : goal.returns-clause-law
+returns-clause-law g c = c.step.ensures.made.law
+
+pub returns-clause-steps : goal.returns-clause-steps
+returns-clause-steps g c = c.step.ensures.seen c.args.self.now.world.ghost_name
