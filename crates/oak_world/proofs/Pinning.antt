@@ -28,11 +28,11 @@ module _ (starts : Starts) (says : Says) (clusters : ℕ) (sessions : List ℕ) 
       by : (has_login past s ≡ false → is_attached past s ≡ false → base_of past s ≡ None) → (b : Bool) → (b || has_login past s) ≡ false → cond b false (is_attached past s) ≡ false → cond b (Some v) (base_of past s) ≡ None
       by rest true l d = absurd (false≢true (sym l))
       by rest false l d = rest l d
-  no_base (event.Refresh t v ∷ past) s run new detached = by (t == s) refl detached
+  no_base (event.Refresh t v ∷ past) s run new detached = by (λ d. no_base past s run.1 new d) (t == s) refl detached
     where
-      by : (b : Bool) → (t == s) ≡ b → cond b false (is_attached past s) ≡ false → cond b (Some v) (base_of past s) ≡ None
-      by true same d = absurd (false≢true (sym new ∙ (sym (ap (has_login past) (same_number t s same)) ∙ run.0.login)))
-      by false apart d = no_base past s run.1 new d
+      by : (is_attached past s ≡ false → base_of past s ≡ None) → (b : Bool) → (t == s) ≡ b → cond b false (is_attached past s) ≡ false → cond b (Some v) (base_of past s) ≡ None
+      by rest true same d = absurd (false≢true (sym new ∙ (sym (ap (λ (n : ℕ). has_login past n) (same_number t s same)) ∙ run.0.login)))
+      by rest false apart d = rest d
   no_base (event.Attach t id ∷ past) s run new detached = by (λ d. no_base past s run.1 new d) (t == s) detached
     where
       by : (is_attached past s ≡ false → base_of past s ≡ None) → (b : Bool) → cond b true (is_attached past s) ≡ false → cond b (last_checkpoint past id) (base_of past s) ≡ None

@@ -14,7 +14,7 @@ use Rattle.jr_rev.specs.declared.revision.Revision.{Revision}
 use Rattle.jr_rev.specs.Vectors.{Entries, entry, start}
 use Rattle.oak_machine.specs.Recorded.{Recorded}
 use Rattle.oak_node.specs.Memory.{NodeState, begun}
-use Rattle.oak_store.specs.Tables.{AreStored, Table}
+use Rattle.oak_store.specs.Tables.{AreStored, Table, by_id}
 use Rattle.core_nodes.proofs.Events.{start_entry}
 use Rattle.core_world.specs.Kept.{IsKept}
 use Rattle.core_world.specs.Start.{start_documents, start_state, start_table}
@@ -104,6 +104,10 @@ module _ {L : Type 0} (law : L) (clusters : ℕ) (sessions numbers : List ℕ) (
     subst (λ (w : WorldOf L). IsWorld starts says w) (sym start_is) (start_is_world starts says law clusters sessions nodes),
     subst (λ (n : ℕ). ArePlaced actors n) (sym (ap (λ (e : Recorded). e.places) none)) (subst (λ (xs : List Actor). ArePlaced xs 0) (sym seats) (start_placed sessions)),
   )
+
+-- the table of the documents of the start
+pub table_is : (t : Table) (ds : List Document) (clusters n m : ℕ) → t ≡ record { documents = by_id ds; number = 4 } → ds ≡ start_documents clusters n → n ≡ m → t ≡ start_table clusters m
+table_is t ds clusters n m is documents same = is ∙ (ap (λ (xs : List Document). record { documents = by_id xs; number = 4 }) documents ∙ ap (λ (k : ℕ). start_table clusters k) same)
 
 -- ---- the memories of the start
 

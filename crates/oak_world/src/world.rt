@@ -80,16 +80,20 @@ impl<L: Law + Drop> World<L> {
             actors.push(Actor::idle())?;
         }
         let documents = start_documents(alloc, clusters, sessions.len() as u32)?;
+        let table = DocTable::of(alloc, documents, 4)?;
+        let memories = start_memories(alloc, clusters)?;
+        let events = Events::new(alloc);
+        let journal = Journal {
+            clusters,
+            sessions: numbers,
+            events,
+        };
         Ok(World {
             alloc,
             law,
-            journal: Journal {
-                clusters,
-                sessions: numbers,
-                events: Events::new(alloc),
-            },
-            table: DocTable::of(alloc, documents, 4)?,
-            memories: start_memories(alloc, clusters)?,
+            journal,
+            table,
+            memories,
             actors,
         })
     }
