@@ -10,11 +10,9 @@ mod session;
 mod start;
 mod step;
 mod store;
-mod tasks;
 #[cfg(test)]
 mod tests;
 mod world;
 
 pub use port::SoloPort;
-pub use tasks::tasks_end;
 pub use world::World;

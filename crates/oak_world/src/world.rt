@@ -1,5 +1,5 @@
 // A world under a law.
-ghost use Rattle.std.specs.Prelude.{IfOk, IsFalse, IsSome, IsTrue, OnErr, OnOk, Some, is_some, length, map, slice_get, ◌-◌, ◌<◌, ◌^◌, ◌↔◌, ◌≡◌, ◌≢◌, ◌≤◌, ◌⊎◌};
+ghost use Rattle.std.specs.Prelude.{IfOk, IsFalse, IsSome, IsTrue, OnErr, OnOk, Some, is_some, length, map, slice_get, ◌-◌, ◌<◌, ◌^◌, ◌↔◌, ◌≡◌, ◌≢◌, ◌≤◌, ◌⊎◌, ℕ, suc};
 ghost use Rattle.std.specs.Borrow.{GName};
 ghost use Rattle.std.specs.List.{range_with_len};
 ghost use Rattle.std.specs.Option.{option_map};
@@ -23,6 +23,7 @@ ghost use Rattle.core_world.specs.States.{memory_of, nodes_in};
 ghost use Rattle.oak_world.specs.declared.actor.Work.{Work};
 ghost use Rattle.oak_world.specs.declared.actor.Work.TheVariants as work;
 ghost use Rattle.oak_world.specs.Clashes.{MeetsNone, Wanted};
+ghost use Rattle.oak_world.specs.Ending.{EndsIn, IsWait};
 ghost use Rattle.oak_world.specs.Seen.{shown_at};
 ghost use Rattle.oak_world.specs.Steps.{Begins, IsIdle, MaySay, Plays, StepsIn, Turns, kind_due};
 ghost use Rattle.oak_world.specs.Worlds.{actor_in, said_in, start_world, state_of, with_reply, with_work, work_in};
@@ -166,11 +167,13 @@ impl<L: Law + Drop> World<L> {
     }
 
     /// One step of a session that has a task. A port tells of it what the second clause says, whatever the reference that leads to the world.
+    /// It lowers the number of steps in which the task ends, or the session waits.
     pub fn step(&mut self, actor: u32) -> StepOut
         requires there { IsTrue (is_some (slice_get self.old.history.sessions actor)) }
         requires busy { work_in self.old.actors actor ≢ work.Rest }
         ensures made { StepsIn self.old actor self.new result }
         ensures seen { (name : GName) → Steps (L.may_start self.old.law) (L.may_say self.old.law) (shown_at name self.old actor) (shown_at name self.new actor) result }
+        ensures lowers { (n : ℕ) → EndsIn (suc n) self.old actor → IsWait result ⊎ EndsIn n self.new actor }
     {
         let node = self.node(actor);
         count(self.journal.events.as_slice());
@@ -187,11 +190,13 @@ impl<L: Law + Drop> World<L> {
         )
     }
 
-    /// The kind of the session's next step; None where it has no task. It takes no memory.
+    /// The kind of the session's next step; None where it has no task. It takes no memory. There is a number of steps in which
+    /// the task ends where the session alone takes steps, unless it waits.
     pub fn due(&self, actor: u32) -> Option<StepKind>
         requires { IsTrue (is_some (slice_get self.now.history.sessions actor)) }
         ensures due { result ≡ kind_due (work_in self.now.actors actor) }
         ensures busy { IsSome result ↔ (work_in self.now.actors actor ≢ work.Rest) }
+        ensures ends { (n : ℕ) × EndsIn n self.now actor }
     {
         let seat = &self.actors[actor as usize];
         seat.work.due()

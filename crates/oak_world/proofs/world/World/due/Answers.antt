@@ -2,6 +2,7 @@ use Rattle.std.proofs.Common.{◌≡◌, ◌≢◌, ◌↔◌, ◌<◌, true, Op
 use Rattle.oak_machine.specs.declared.event.StepKind.{StepKind}
 use Rattle.oak_world.specs.declared.actor.Work.TheVariants as work
 use Rattle.oak_world.specs.Worlds.{work_in}
+use Rattle.oak_world.proofs.Ending.{task_ends}
 use Rattle.oak_world.proofs.Keeping.{busy_due}
 use Rattle.oak_world.proofs.Seats.{actor_within, due_there, there_by, world_is}
 use Rattle.oak_world.proofs.world.World.due.Goals as goal
@@ -23,3 +24,6 @@ returns-clause-busy g c =
     subst (λ (o : Option StepKind). (is_some o ≡ true) ↔ (work_in c.args.self.now.actors c.args.actor ≢ work.Rest)) (sym (returns-clause-due g c))
     (busy_due (g.L.Law.may_start c.args.self.now.law) c.args.self.now.history c.args.actor (work_in c.args.self.now.actors c.args.actor)
     ((world_is g.L.Law.may_start g.L.Law.may_say _ c.args.self.now c.self.view_is c.self.invariant.0).may c.args.actor))
+
+pub returns-clause-ends : goal.returns-clause-ends
+returns-clause-ends g c = task_ends c.args.self.now c.args.actor (world_is g.L.Law.may_start g.L.Law.may_say _ c.args.self.now c.self.view_is c.self.invariant.0).table

@@ -1,6 +1,7 @@
 use Rattle.std.proofs.Common.{◌≡◌, ◌<◌, ◌^◌, length, subst, List, arith}
 use Rattle.oak_machine.specs.declared.event.Event.{Event}
 use Rattle.oak_world.proofs.Calling.{seat_placed, seat_places, step_can, step_made, step_shown, step_stands}
+use Rattle.oak_world.proofs.Ending.{lowers}
 use Rattle.oak_world.proofs.Seats.{actor_within, memory_there, on_by, there_by}
 use Rattle.oak_world.proofs.world.World.step.Goals as goal
 
@@ -34,3 +35,6 @@ returns-clause-made g c = rw (← c.self.view_is) (step_made (g.L.Law.may_start 
 
 pub returns-clause-seen : goal.returns-clause-seen
 returns-clause-seen g c = rw (← c.self.view_is) (step_shown (g.L.Law.may_start c.self.inside.law) (g.L.Law.may_say c.self.inside.law) (g.L.Law.proper c.self.inside.law) (g.L.Law.starts_last c.self.inside.law) c.self.inside.law c.self.inside.journal c.self.inside.table c.self.inside.memories.items c.self.inside.actors.items c.self.invariant.0 c.self.invariant.1 c.args.actor c.node-node.result (on_by _ c.args.self.now c.args.actor c.node-node.result c.self.view_is c.node-node.ensures.node) c.index_mut-seat.result.now c.index_mut-seat.ensures.value c.index_mut-memory.result.now c.index_mut-memory.ensures.value c.step_actor.new.table c.step_actor.new.memory c.step_actor.new.events c.step_actor.new.actor c.step_actor.result (rw (← c.self.view_is) at c.requires.busy) c.step_actor.ensures.made c.step_actor.ensures.began c.step_actor.ensures.reply c.step_actor.ensures.reads)
+
+pub returns-clause-lowers : goal.returns-clause-lowers
+returns-clause-lowers g c n h = lowers _ _ c.args.actor n _ (returns-clause-made g c) h
