@@ -1,4 +1,4 @@
-use Rattle.std.proofs.Common.{◌<◌, ◌-◌, length, ap, sym, ◌∙◌, arith}
+use Rattle.std.proofs.Common.{ap, sym, ◌∙◌, arith}
 use Rattle.std.specs.Option.{option_map}
 use Rattle.jr_rev.specs.declared.vector.Pin.{Pin}
 use Rattle.core_world.proofs.Truths.{pin_closed, pin_settled, pin_shows}

@@ -1,4 +1,4 @@
-use Rattle.std.proofs.Common.{◌<◌, length, sym, ◌∙◌, arith}
+use Rattle.std.proofs.Common.{arith}
 use Rattle.oak_world.proofs.Seats.{actor_within, reads_there, there_by}
 use Rattle.oak_world.proofs.world.World.reads.Goals as goal
 
