@@ -119,23 +119,23 @@ each_meets = record {
   sessions = 1 ∷ 1 ∷ [];
   events = record {
     list =
-      Login 0 (vector 0)
-      ∷ Draw (record { revision = at 1; session = 0; base = vector 0; edit = edit_two; marks = marks_two })
-      ∷ Commit (at 1)
-      ∷ End (at 1)
-      ∷ Head 1 (vector 1)
-      ∷ Refresh 0 (vector 1)
-      ∷ Said 0 0 (codes "\"r1-0-1\"")
-      ∷ Login 1 (vector 1)
-      ∷ Draw (record { revision = at 2; session = 0; base = vector 1; edit = set_both 1; marks = marks_both })
-      ∷ Draw (record { revision = at 3; session = 1; base = vector 1; edit = set_both 2; marks = marks_both })
-      ∷ Refuse (at 3) (record { path = b; name = Some p }) (at 2)
-      ∷ Refuse (at 2) (record { path = a; name = Some p }) (at 3)
-      ∷ End (at 2)
-      ∷ End (at 3)
-      ∷ Head 1 (vector 3)
-      ∷ Refresh 0 (vector 3)
-      ∷ [];
+        Login 0 (vector 0)
+        ∷ Draw (record { revision = at 1; session = 0; base = vector 0; edit = edit_two; marks = marks_two })
+        ∷ Commit (at 1)
+        ∷ End (at 1)
+        ∷ Head 1 (vector 1)
+        ∷ Refresh 0 (vector 1)
+        ∷ Said 0 0 (codes "\"r1-0-1\"")
+        ∷ Login 1 (vector 1)
+        ∷ Draw (record { revision = at 2; session = 0; base = vector 1; edit = set_both 1; marks = marks_both })
+        ∷ Draw (record { revision = at 3; session = 1; base = vector 1; edit = set_both 2; marks = marks_both })
+        ∷ Refuse (at 3) (record { path = b; name = Some p }) (at 2)
+        ∷ Refuse (at 2) (record { path = a; name = Some p }) (at 3)
+        ∷ End (at 2)
+        ∷ End (at 3)
+        ∷ Head 1 (vector 3)
+        ∷ Refresh 0 (vector 3)
+        ∷ [];
     places = 0;
   };
 }

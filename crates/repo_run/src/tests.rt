@@ -247,9 +247,11 @@ fn replies_follow_from_the_journal(rt: HostRuntime) -> Result<(), Fail> {
 }
 
 // Session 1 reads `/a` before and after the second save of session 0, and between its writes.
-const STEADY: &str = r#"{"sessions":[{"commands":[["add","/a"],["add","/b"],["save"],["set","/a","p",1],["set","/b","p",1],["save"]]},{"commands":[["refresh",false],["get","/a/p"],["refresh",false],["get","/a/p"]]}],"schedule":[[0,"say",5],[0,"write",1],[1,"say",2],[0,"say",1],[1,"say",2]]}"#;
+const STEADY: &str =
+    r#"{"sessions":[{"commands":[["add","/a"],["add","/b"],["save"],["set","/a","p",1],["set","/b","p",1],["save"]]},{"commands":[["refresh",false],["get","/a/p"],["refresh",false],["get","/a/p"]]}],"schedule":[[0,"say",5],[0,"write",1],[1,"say",2],[0,"say",1],[1,"say",2]]}"#;
 
-const STEADY_REPLIES: &str = "0 0 ok\n0 1 ok\n0 2 ok \"r1-0-1\"\n0 3 ok\n0 4 ok\n0 5 ok \"r2-0-1\"\n1 0 ok \"r1-0-1\"\n1 1 no 1 [\"/a/p\"]\n1 2 ok \"r2-0-1\"\n1 3 ok 1\n";
+const STEADY_REPLIES: &str =
+    "0 0 ok\n0 1 ok\n0 2 ok \"r1-0-1\"\n0 3 ok\n0 4 ok\n0 5 ok \"r2-0-1\"\n1 0 ok \"r1-0-1\"\n1 1 no 1 [\"/a/p\"]\n1 2 ok \"r2-0-1\"\n1 3 ok 1\n";
 
 // What a script writes, and how many documents session 1 reads.
 fn read_of(alloc: Global, input: &str) -> Result<(MemSink, u64), Fail> {
