@@ -2,7 +2,6 @@
 use Rattle.std.proofs.Common.{◌≡◌, ◌⊎◌, inl, inr, ℕ, ◌<◌, length, get_or, map, Bool, true, false, cond, ◌&&◌, Some, None, Option, List, [], ◌∷◌, ◌++◌, refl, sym, ap, ◌∙◌, subst, arith}
 use Rattle.std.specs.Prelude.{◌==◌, slice_get, slice_set}
 use Rattle.std.specs.Borrow.{GName}
-use Rattle.std.specs.Prelude.{OnOk, Result, Ok, Err}
 use Rattle.std.proofs.lemmas.Bool.Decides.{nat_tests}
 use Rattle.std.proofs.lemmas.Option.{slice_get_read}
 use mathlib.Core.Bool.{false≢true}
@@ -234,23 +233,3 @@ read_through n m k s t u old start new run now world name session law looked =
     (subst (λ (x : GName). HasRead x s start new run now) name
     (subst (λ (x : ℕ). HasRead k x start new run now) session
     (read_in k m u t start new run now law looked)))
-
--- and where a session stands in a world, it stands at a port of the world
-pub stands_through : (n k : GName) (s u : ℕ) (old start : WorldOf JcrLaw) (run : SessionRun) → start ≡ old → k ≡ n → u ≡ s → Stands old.law (shown_at n old s) run → Stands start.law (shown_at k start u) run
-stands_through n k s u old start run world name session stands =
-    subst (λ (x : WorldOf JcrLaw). Stands x.law (shown_at k x u) run) (sym world)
-    (subst (λ (x : GName). Stands old.law (shown_at x old u) run) (sym name)
-    (subst (λ (x : ℕ). Stands old.law (shown_at n old x) run) (sym session) stands))
-
-pub stands_there : (stage : Stage) (s : ℕ) (seat : Seat) → IsStage stage → s < length stage.seats.items → seat ≡ get_or stage.seats.items s seat → (n : GName) → Stands stage.world.law (shown_at n stage.world s) seat.run
-stands_there stage s seat is below at n = stands_at stage s seat is (slice_get_read stage.seats.items (length stage.seats.items) s seat refl below at) n
-
-pub read_closes_at : (n : GName) (s : ℕ) (old new : Stage) (seat seat_now : Seat) → IsStage old → s < length old.seats.items → seat ≡ get_or old.seats.items s seat → new.script ≡ old.script → new.seats.items ≡ slice_set old.seats.items s seat_now
-    → seat_now.flight ≡ seat.flight → HasRead n s old.world new.world seat.run seat_now.run → Closes old new (by_entry (entry.Read s))
-read_closes_at n s old new seat seat_now is below at script_same seats_now kept read =
-    read_closes n s old new seat seat_now is (slice_get_read old.seats.items (length old.seats.items) s seat refl below at) script_same seats_now kept read
-
--- where a result is no error
-pub on_ok : {X E : Type 0} {P : Type 0} (r : Result X E) → P → OnOk r P
-on_ok (Ok x) p = p
-on_ok (Err e) p = tt
