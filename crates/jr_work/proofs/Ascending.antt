@@ -196,7 +196,7 @@ module _ (clusters : ℕ) (sessions : List ℕ) (nodes : AreNodes clusters sessi
   draws_flown : (past : Past) → IsRunOf starts says clusters sessions past → AreFlown past (fold (λ es d. insert_entry revision_cmp es d.revision d.session) [] (filter (λ d. is_in_flight past d.revision) (draws_in past)))
   draws_flown past run = folded_flown past (filter (λ d. is_in_flight past d.revision) (draws_in past)) [] (none_flown past)
       (each_where (λ d. draw_of past d.revision ≡ Some d) (λ d. flies_as past d.revision ≡ Some d.session) (λ d. is_in_flight past d.revision)
-        (λ d h flies. flies_of past d.revision d h (open_of past d.revision flies)) (draws_in past) (each_known past run))
+      (λ d h flies. flies_of past d.revision d h (open_of past d.revision flies)) (draws_in past) (each_known past run))
 
   flies_again : (past : Past) (r : Revision) (s : ℕ) → IsFlown past r s → is_in_flight past r ≡ true
   flies_again past r s flown = ap (λ (o : Option Draw). is_some o && not (is_ended past r)) flown.is ∙ ap not flown.unended

@@ -102,9 +102,9 @@ module _ (script : Script) (within : IsWithin script) where
             record {
               session = is.run.session_is;
               stands = λ n.
-                new_stands (law_of script) (shown_at n start s) s session.commands seat.run is.run (session_within script within s session there).few (within_nodes script within) tt refl
-                (λ i. commands_at script s i ∙ ap (λ (o : Option SessionScript). slice_get (option_map_or (λ x. x.commands) o []) i) there)
-                (idle_at (map (λ s. s.cluster) script.sessions) s) refl;
+                  new_stands (law_of script) (shown_at n start s) s session.commands seat.run is.run (session_within script within s session there).few (within_nodes script within) tt refl
+                  (λ i. commands_at script s i ∙ ap (λ (o : Option SessionScript). slice_get (option_map_or (λ x. x.commands) o []) i) there)
+                  (idle_at (map (λ s. s.cluster) script.sessions) s) refl;
               flight = subst (λ (o : Option Flight). IsFlight [] s o) (sym is.flight) refl;
               seen = λ r theirs unseen. absurd (false≢true theirs);
             }
@@ -118,8 +118,8 @@ module _ (script : Script) (within : IsWithin script) where
         within = subst (λ (x : Script). IsWithin x) (sym script_is) within;
         seats = ap (λ (l : List Seat). length l) seats_are ∙ (new.many ∙ ap (λ (x : Script). length x.sessions) (sym script_is));
         each = λ s seat at.
-          subst (λ (x : Script). IsSeated x stage.world s seat) (sym script_is)
-          (subst (λ (w : WorldOf JcrLaw). IsSeated script w s seat) (sym world_is) (seated s seat (ap (λ (l : List Seat). slice_get l s) (sym seats_are) ∙ at)));
+            subst (λ (x : Script). IsSeated x stage.world s seat) (sym script_is)
+            (subst (λ (w : WorldOf JcrLaw). IsSeated script w s seat) (sym world_is) (seated s seat (ap (λ (l : List Seat). slice_get l s) (sym seats_are) ∙ at)));
       };
       first = ap (λ (w : WorldOf JcrLaw). w.history.past) world_is;
     }

@@ -158,11 +158,11 @@ close_done first new s part e same under done = of_commit (λ x. IsUnder first n
 close_come : (first new : Stage) (s : ℕ) (o : Option Flight) (part : Past) → IsFlight (part ++ past_of first) s o → (e : Entry) → IsOfCommit s e → IsUnder first new (by_entry e) part → comes (due_at new.world s) e o ≡ true → Closes first new (by_entry e)
 close_come first new s o part flight e same under come = of_commit (λ x. IsUnder first new (by_entry x) part → comes (due_at new.world s) x o ≡ true → Closes first new (by_entry x)) s
     (λ u k. under_closes first new (by_entry (entry.Draw s)) part u
-      (part_draws first.script (past_of first) s part u.way
-        (first_true (is_drawing (part ++ past_of first) s) (has_just_said s part) (is_resting first.script (part ++ past_of first) s) (drawn (part ++ past_of first) s (due_at new.world s) o flight k))) tt)
+    (part_draws first.script (past_of first) s part u.way
+    (first_true (is_drawing (part ++ past_of first) s) (has_just_said s part) (is_resting first.script (part ++ past_of first) s) (drawn (part ++ past_of first) s (due_at new.world s) o flight k))) tt)
     (λ n u k. under_closes first new (by_entry (entry.Write s n)) part u
-      (part_writes first.script (past_of first) s n part u.way
-        (first_true (has_written n (part ++ past_of first) s) (has_just_said s part) (is_resting first.script (part ++ past_of first) s) (wrote (part ++ past_of first) s n (due_at new.world s) o flight k))) tt)
+    (part_writes first.script (past_of first) s n part u.way
+    (first_true (has_written n (part ++ past_of first) s) (has_just_said s part) (is_resting first.script (part ++ past_of first) s) (wrote (part ++ past_of first) s n (due_at new.world s) o flight k))) tt)
     (λ u k. close_last u (last_write (part ++ past_of first) s (due_at new.world s) o flight k))
     e same under come
   where

@@ -53,7 +53,7 @@ module _ (d n m : GName) (s a t : ℕ) (old w v x : WorldOf JcrLaw) (run now : S
   out : (answer : Turn) → IsTurned w.law (shown_at n w a) (shown_at m v t) run now answer → (g : GName) × (x.law ≡ old.law) × IsTurned old.law (shown_at g old s) (shown_at g x s) run now answer
   out answer turned =
       let at_old : IsTurned old.law (shown_at n old s) (shown_at m v t) run now answer =
-        subst (λ (i : ℕ). IsTurned old.law (shown_at n old i) (shown_at m v t) run now answer) session (subst (λ (y : WorldOf JcrLaw). IsTurned y.law (shown_at n y a) (shown_at m v t) run now answer) world turned) in
+      subst (λ (i : ℕ). IsTurned old.law (shown_at n old i) (shown_at m v t) run now answer) session (subst (λ (y : WorldOf JcrLaw). IsTurned y.law (shown_at n y a) (shown_at m v t) run now answer) world turned) in
       let same : d ≡ m = sym name ∙ sym (same_name n m s t old v run now (stands n) law_old answer at_old) in
       subst (λ (y : WorldOf JcrLaw). (g : GName) × (y.law ≡ old.law) × IsTurned old.law (shown_at g old s) (shown_at g y s) run now answer) (sym (left same)) (by_port n m s t old v run now (stands n) law_old answer at_old)
 

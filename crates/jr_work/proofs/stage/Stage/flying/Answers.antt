@@ -25,8 +25,8 @@ pub returns-clause-flying : goal.returns-clause-flying
 returns-clause-flying c =
     if_ok_more (λ sessions. sessions ≡ values_of c.loop-s.flying.entries) (λ sessions. sessions ≡ flying_sessions c.args.self.now.world.history.past) c.sessions_of.result
     (λ x same. same ∙ kept_flying c.args.self.now c.requires c.loop-s.flying.entries
-      (kept_long c.args.self.now c.loop-s.s c.loop-s.flying.entries (subst (λ (l : List Seat). length l ≤ c.loop-s.s) c.deref-seat-items.ensures.value c.loop-s-test.false) c.loop-s.invariant)
-      (starts_of c.args.self.now.world.law) (says_of c.args.self.now.world.law) (stage_nodes c.args.self.now c.requires) c.journal.ensures.run)
+    (kept_long c.args.self.now c.loop-s.s c.loop-s.flying.entries (subst (λ (l : List Seat). length l ≤ c.loop-s.s) c.deref-seat-items.ensures.value c.loop-s-test.false) c.loop-s.invariant)
+    (starts_of c.args.self.now.world.law) (says_of c.args.self.now.world.law) (stage_nodes c.args.self.now c.requires) c.journal.ensures.run)
     c.sessions_of.ensures
 
 pub returns-clause-seats : goal.returns-clause-seats

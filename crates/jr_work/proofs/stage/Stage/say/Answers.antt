@@ -31,10 +31,10 @@ pub loop-preserved : goal.loop-preserved
 loop-preserved c =
     let short : c.loop.said < c.args.count = omega arith in
     elim c.match-branch-2.branch [
-      in-Said w ↦
-        subst (λ (m : ℕ). HasSaid c.args.self.now c.turn.new.self c.args.s c.args.count m) (sym w.said-is)
-        (say_said c.args.self.now c.loop.self c.args.s c.args.count c.loop.said c.loop.invariant short c.turn.new.self _ (come_as c.loop.self c.turn.new.self c.args.s _ _ w.in-Said.is c.in_ok-turn.ensures))
-    | in-Stepped w ↦
-        subst (λ (m : ℕ). HasSaid c.args.self.now c.turn.new.self c.args.s c.args.count m) (sym w.said-is)
-        (say_steps c.args.self.now c.loop.self c.args.s c.args.count c.loop.said c.loop.invariant short c.turn.new.self _ (come_as c.loop.self c.turn.new.self c.args.s _ _ w.in-Stepped.is c.in_ok-turn.ensures))
+      | in-Said w ↦
+          subst (λ (m : ℕ). HasSaid c.args.self.now c.turn.new.self c.args.s c.args.count m) (sym w.said-is)
+          (say_said c.args.self.now c.loop.self c.args.s c.args.count c.loop.said c.loop.invariant short c.turn.new.self _ (come_as c.loop.self c.turn.new.self c.args.s _ _ w.in-Said.is c.in_ok-turn.ensures))
+      | in-Stepped w ↦
+          subst (λ (m : ℕ). HasSaid c.args.self.now c.turn.new.self c.args.s c.args.count m) (sym w.said-is)
+          (say_steps c.args.self.now c.loop.self c.args.s c.args.count c.loop.said c.loop.invariant short c.turn.new.self _ (come_as c.loop.self c.turn.new.self c.args.s _ _ w.in-Stepped.is c.in_ok-turn.ensures))
     ]
