@@ -2,16 +2,20 @@
 use Rattle.std.proofs.Common.{◌≡◌, ℕ, zero, suc, ◌+◌, ◌-◌, ◌≤◌, ◌<◌, List, [], ◌∷◌, ◌++◌, length, map, Option, Some, None, refl, sym, ap, subst, ◌∙◌, arith}
 use Rattle.std.specs.Prelude.{reverse, slice_get, sum_by}
 use Rattle.std.specs.List.{range_with_len}
+use Rattle.std.specs.Option.{IsSomeAnd}
+use Rattle.std.proofs.lemmas.List.FromFn.{map-range_with_len_more}
 use Rattle.std.specs.List.Sorted.{IsStrictlySortedBy}
 use Rattle.std.proofs.lemmas.List.{length-map}
 use Rattle.std.proofs.lemmas.List.Elements.{All-from_recursion}
 use Rattle.oak_doc.specs.declared.document.Document.{Document}
 use Rattle.oak_machine.specs.Laws.{Says, Starts}
 use Rattle.oak_machine.specs.Runs.{AreNodes}
-use Rattle.jr_rev.specs.Vectors.{start}
+use Rattle.jr_rev.specs.declared.revision.Revision.{Revision}
+use Rattle.jr_rev.specs.Vectors.{Entries, entry, start}
 use Rattle.oak_machine.specs.Recorded.{Recorded}
 use Rattle.oak_node.specs.Memory.{NodeState, begun}
-use Rattle.oak_store.specs.Tables.{AreStored, Table}
+use Rattle.oak_store.specs.Tables.{AreStored, Table, by_id}
+use Rattle.core_nodes.proofs.Events.{start_entry}
 use Rattle.core_world.specs.Kept.{IsKept}
 use Rattle.core_world.specs.Start.{start_documents, start_state, start_table}
 use Rattle.core_world.specs.States.{State}
@@ -100,3 +104,23 @@ module _ {L : Type 0} (law : L) (clusters : ℕ) (sessions numbers : List ℕ) (
     subst (λ (w : WorldOf L). IsWorld starts says w) (sym start_is) (start_is_world starts says law clusters sessions nodes),
     subst (λ (n : ℕ). ArePlaced actors n) (sym (ap (λ (e : Recorded). e.places) none)) (subst (λ (xs : List Actor). ArePlaced xs 0) (sym seats) (start_placed sessions)),
   )
+
+-- the table of the documents of the start
+pub table_is : (t : Table) (ds : List Document) (clusters n m : ℕ) → t ≡ record { documents = by_id ds; number = 4 } → ds ≡ start_documents clusters n → n ≡ m → t ≡ start_table clusters m
+table_is t ds clusters n m is documents same = is ∙ (ap (λ (xs : List Document). record { documents = by_id xs; number = 4 }) documents ∙ ap (λ (k : ℕ). start_table clusters k) same)
+
+-- ---- the memories of the start
+
+-- each cluster node has its own entry in the start
+pub entry_there : (clusters k : ℕ) (v : Entries) → v ≡ start clusters → clusters ≤ 8 → 1 ≤ k → k ≤ clusters → IsSomeAnd (entry v k) (λ own. own.cluster ≡ k)
+entry_there clusters k v is eight low high = subst (λ (o : Option Revision). IsSomeAnd o (λ own. own.cluster ≡ k)) (sym (ap (λ (x : Entries). entry x k) is ∙ start_entry clusters k eight (low, high))) refl
+
+-- one memory more
+pub begun_more : (clusters k : ℕ) (v : Entries) (xs ys : List NodeState) → 1 ≤ k → xs ≡ map (λ j. begun j (start clusters)) (range_with_len 1 (k - 1)) → v ≡ start clusters → ys ≡ xs ++ begun k v ∷ [] → ys ≡ map (λ j. begun j (start clusters)) (range_with_len 1 (k + 1 - 1))
+begun_more clusters k v xs ys low so_far is now =
+    let count : k + 1 - 1 ≡ (k - 1) + 1 = omega arith in
+    let next : 1 + (k - 1) ≡ k = omega arith in
+    now
+    ∙ (ap (λ (zs : List NodeState). zs ++ begun k v ∷ []) so_far
+    ∙ (ap (λ (x : Entries). map (λ j. begun j (start clusters)) (range_with_len 1 (k - 1)) ++ begun k x ∷ []) is
+    ∙ sym (ap (λ (n : ℕ). map (λ j. begun j (start clusters)) (range_with_len 1 n)) count ∙ map-range_with_len_more (λ j. begun j (start clusters)) 1 (k - 1) k next)))

@@ -12,5 +12,8 @@ mod step;
 mod store;
 mod world;
 
+#[cfg(test)]
+mod tests;
+
 pub use port::SoloPort;
 pub use world::World;

@@ -226,7 +226,7 @@ pub(crate) fn step_actor(
 {
     let others = events.places() - actor.places;
     let reads = actor.reads;
-    let reading = matches!(actor.work, Work::Read(_));
+    let reading = is_read(&actor.work);
     let work = mem::replace(&mut actor.work, Work::Rest);
     let (work, out) = step(alloc, table, memory, events, node, s, work);
     actor.reads = reads_after(reading, &out, reads);
@@ -234,6 +234,22 @@ pub(crate) fn step_actor(
     actor.places = events.places() - others;
     settle(events, actor);
     out
+}
+
+// Whether it is a load or a list.
+fn is_read(work: &Work) -> bool
+    ensures { (out : _) (reads : _) → reads_after work.now out reads ≡ cond result (reads_of_load out reads) reads }
+{
+    match work {
+        Work::Read(_) => true,
+        Work::Rest
+        | Work::Login
+        | Work::End
+        | Work::Refresh
+        | Work::Plan(_, _)
+        | Work::Commit(_)
+        | Work::Move(_) => false,
+    }
 }
 
 // How many documents a session's loads have read after a step.

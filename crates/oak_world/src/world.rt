@@ -1,5 +1,5 @@
 // A world under a law.
-ghost use Rattle.std.specs.Prelude.{◌≡◌, ◌≢◌, ◌≤◌, ◌↔◌, Some, IfOk, OnErr, OnOk, IsFalse, IsSome, IsTrue, is_some, length, map, slice_get};
+ghost use Rattle.std.specs.Prelude.{◌≡◌, ◌≢◌, ◌<◌, ◌≤◌, ◌-◌, ◌^◌, ◌↔◌, Some, IfOk, OnErr, OnOk, IsFalse, IsSome, IsTrue, is_some, length, map, slice_get};
 ghost use Rattle.std.specs.Borrow.{GName};
 ghost use Rattle.std.specs.List.{range_with_len};
 ghost use Rattle.std.specs.Option.{option_map};
@@ -27,7 +27,7 @@ use crate::start::start_documents;
 use crate::step::step_actor;
 use jr_path::List;
 use jr_rev::{Pin, RevVec};
-use oak_machine::{Events, Journal, Law, StepKind};
+use oak_machine::{Event, Events, Journal, Law, StepKind};
 use oak_node::NodeMem;
 use oak_port::{StepOut, Task};
 use oak_store::DocTable;
@@ -79,16 +79,20 @@ impl<L: Law + Drop> World<L> {
             actors.push(Actor::idle())?;
         }
         let documents = start_documents(alloc, clusters, sessions.len() as u32)?;
+        let table = DocTable::of(alloc, documents, 4)?;
+        let memories = start_memories(alloc, clusters)?;
+        let events = Events::new(alloc);
+        let journal = Journal {
+            clusters,
+            sessions: numbers,
+            events,
+        };
         Ok(World {
             alloc,
             law,
-            journal: Journal {
-                clusters,
-                sessions: numbers,
-                events: Events::new(alloc),
-            },
-            table: DocTable::of(alloc, documents, 4)?,
-            memories: start_memories(alloc, clusters)?,
+            journal,
+            table,
+            memories,
             actors,
         })
     }
@@ -128,8 +132,9 @@ impl<L: Law + Drop> World<L> {
         ensures closed { (pin : Pin) → result ≡ Some pin → IsClosed self.now.history.past pin.base }
         ensures shown { (pin : Pin) (p : Path) → result ≡ Some pin → found_node (documents_in self.now.table.documents) pin.sweep pin.base p ≡ option_map (λ node. node.props) (node_at (tree_at self.now.history.past pin.base) p) }
     {
-        let node = self.journal.sessions.as_slice()[actor as usize];
-        self.memories[node as usize - 1].pin_of(actor)
+        let node = self.node(actor);
+        let memory = &self.memories[node as usize - 1];
+        memory.pin_of(actor)
     }
 
     /// Tells a session that does nothing what to do. Where memory is refused nothing changes.
@@ -155,15 +160,18 @@ impl<L: Law + Drop> World<L> {
         ensures made { StepsIn self.old actor self.new result }
         ensures seen { (name : GName) → Steps (L.may_start self.old.law) (L.may_say self.old.law) (shown_at name self.old actor) (shown_at name self.new actor) result }
     {
-        let node = self.journal.sessions.as_slice()[actor as usize];
+        let node = self.node(actor);
+        count(self.journal.events.as_slice());
+        let memory = &mut self.memories[node as usize - 1];
+        let seat = &mut self.actors[actor as usize];
         step_actor(
             self.alloc,
             &mut self.table,
-            &mut self.memories[node as usize - 1],
+            memory,
             &mut self.journal.events,
             node,
             actor,
-            &mut self.actors[actor as usize],
+            seat,
         )
     }
 
@@ -173,7 +181,8 @@ impl<L: Law + Drop> World<L> {
         ensures due { result ≡ kind_due (work_in self.now.actors actor) }
         ensures busy { IsSome result ↔ (work_in self.now.actors actor ≢ work.Rest) }
     {
-        self.actors[actor as usize].work.due()
+        let seat = &self.actors[actor as usize];
+        seat.work.due()
     }
 
     /// How many documents the session's loads and lists have read. At 2^64 - 1 the number stays.
@@ -181,7 +190,8 @@ impl<L: Law + Drop> World<L> {
         requires { IsTrue (is_some (slice_get self.now.history.sessions actor)) }
         ensures { result ≡ (actor_in self.now.actors actor).reads }
     {
-        self.actors[actor as usize].reads
+        let seat = &self.actors[actor as usize];
+        seat.reads
     }
 
     /// Reserves so many bytes, and a place of the journal, for the session's next reply.
@@ -214,6 +224,18 @@ impl<L: Law + Drop> World<L> {
         }
     }
 
+    // The cluster node of a session.
+    fn node(&self, actor: u32) -> u32
+        requires { IsTrue (is_some (slice_get self.now.history.sessions actor)) }
+        ensures node { slice_get self.now.history.sessions actor ≡ Some result }
+        ensures low { 1 ≤ result }
+        ensures memory { result - 1 < length self.now.memories }
+        ensures seat { actor < length self.now.actors }
+    {
+        let nodes = self.journal.sessions.as_slice();
+        nodes[actor as usize]
+    }
+
     // A step of what is named, where it is a session with a task.
     fn turn(&mut self, actor: u32)
         ensures { Turns self.old actor self.new }
@@ -225,6 +247,14 @@ impl<L: Law + Drop> World<L> {
             self.step(actor);
         }
     }
+}
+
+// How many events there are: fewer than 2^63, since memory holds no more.
+fn count(events: &[Event]) -> usize
+    ensures count { result ≡ length events.now }
+    ensures few { length events.now < 2 ^ 63 }
+{
+    events.len()
 }
 
 // The memories of so many cluster nodes before any step.

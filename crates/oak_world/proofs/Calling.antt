@@ -1,0 +1,147 @@
+-- What the calls of a world owe to it, by the seat that they read and set.
+use Rattle.std.proofs.Common.{◌≡◌, ◌≢◌, ℕ, ◌+◌, ◌-◌, ◌^◌, ◌<◌, ◌≤◌, true, cond, Option, Some, None, Result, Ok, Err, List, [], ◌∷◌, ◌++◌, length, is_some, refl, sym, ap, subst, ◌∙◌, arith}
+use Rattle.std.proofs.Math.ListN.{get_or}
+use Rattle.std.specs.Prelude.{OnErr, OnOk, slice_get, slice_set}
+use Rattle.std.specs.Borrow.{GName}
+use Rattle.std.specs.Option.{IsSomeAnd}
+use Rattle.std.specs.declared.alloc.AllocError.{AllocError}
+use Rattle.jr_path.specs.declared.text.Text.{Text}
+use Rattle.jr_rev.specs.declared.vector.Pin.{Pin}
+use Rattle.oak_machine.specs.declared.event.Event.TheVariants as event
+use Rattle.oak_machine.specs.declared.event.Journal.{Journal}
+use Rattle.oak_machine.specs.Recorded.{Recorded}
+use Rattle.oak_machine.specs.Laws.{Says, Starts, StartsProper}
+use Rattle.oak_machine.specs.Runs.{StartsLast}
+use Rattle.oak_machine.specs.Sessions.{next_index}
+use Rattle.oak_node.specs.Memory.{NodeState}
+use Rattle.oak_node.specs.Pins.{pin_of}
+use Rattle.oak_read.specs.Reading.{IsTable}
+use Rattle.oak_store.specs.Tables.{Table}
+use Rattle.core_world.specs.States.{memory_at, memory_of}
+use Rattle.oak_port.specs.declared.task.StepOut.{StepOut}
+use Rattle.oak_port.specs.declared.task.Task.{Task}
+use Rattle.oak_port.specs.declared.task.Task.TheVariants as task
+use Rattle.oak_port.specs.Ports.{MayBegin, Steps as StepSeen}
+use Rattle.oak_world.specs.declared.actor.Actor.{Actor}
+use Rattle.oak_world.specs.declared.actor.Work.{Work}
+use Rattle.oak_world.specs.declared.actor.Work.TheVariants as work
+use Rattle.oak_world.specs.Kept.{ArePlaced, IsPlaced, IsWorld}
+use Rattle.oak_world.specs.Parts.{CanStep, Steps, needed, parts}
+use Rattle.oak_world.specs.Seen.{shown_at}
+use Rattle.oak_world.specs.Steps.{Begins, StepsIn, reads_after}
+use Rattle.oak_world.specs.Worlds.{ActorState, WorldOf, actor_in, said_in, shown_actor, shown_world, state_of, with_reply, with_work, work_in}
+use Rattle.oak_world.proofs.Calls.{actor_shown, begun_is, can, its_placed, own_are, replied_is, said_is, same_is, seen, set_placed, step_keeps_all, steps_in}
+use Rattle.oak_world.proofs.Keeping.{reply_keeps, said_keep, start_keeps}
+use Rattle.oak_world.proofs.Seats.{actor_within, memory_is, read_at}
+
+-- no place is kept for a task that begins
+begins_free : (pin : Option Pin) (t : Task) (v : Work) → Begins pin t v → needed v ≡ 0
+begins_free pin task.Login v h = ap needed h
+begins_free pin task.End v h = ap needed h
+begins_free pin task.Refresh v h = ap needed h
+begins_free pin (task.Load p) v h = ap needed h.3
+begins_free pin (task.List p) v h = ap needed h.3
+begins_free pin (task.Commit edit marks) v h = ap needed h
+
+module _ (starts : Starts) (says : Says) (proper : StartsProper starts) (last : StartsLast starts says) {L : Type 0} (law : L) (j : Journal) (t : Table) (ms : List NodeState) (actors : List Actor) (is : IsWorld starts says (shown_world law j t ms actors)) (placed : ArePlaced actors j.events.places)
+    (s k : ℕ) (on : slice_get j.sessions s ≡ Some k) (a : Actor) (at : a ≡ get_or actors s a) where
+  abbrev w : WorldOf L
+  w = shown_world law j t ms actors
+
+  there : is_some (slice_get j.sessions s) ≡ true
+  there = ap is_some on
+
+  here : slice_get actors s ≡ Some a
+  here = read_at actors s a a (actor_within starts says proper law j t ms actors is s there) at
+
+  works : work_in w.actors s ≡ a.work
+  works = ap (λ (b : ActorState). b.work) (actor_shown actors s a here)
+
+  pub seat_placed : IsPlaced a
+  seat_placed = its_placed starts says proper last law j t ms actors is placed s k on a here
+
+  pub seat_places : a.places ≤ j.events.places
+  seat_places = own_are starts says proper last law j t ms actors is placed s k on a here
+
+  pub seat_busy : work_in w.actors s ≢ work.Rest → a.work ≢ work.Rest
+  seat_busy busy e = busy (works ∙ e)
+
+  -- the room that its reply has
+  pub seat_reply : (text : Text) → IsSomeAnd (actor_in w.actors s).reply (λ bytes. length text ≤ bytes) → IsSomeAnd a.reply (λ bytes. length text ≤ bytes)
+  seat_reply text room = subst (λ (b : ActorState). IsSomeAnd b.reply (λ bytes. length text ≤ bytes)) (actor_shown actors s a here) room
+
+  -- ---- room for a reply
+
+  module _ (b : Actor) (es : Recorded) (its : IsPlaced b) (places : es.places + a.places ≡ j.events.places + b.places) where
+    abbrev now : WorldOf L
+    now = shown_world law (record j { events = es }) t ms (slice_set actors s b)
+
+    abbrev Stands : Type 0
+    Stands = IsWorld starts says now × ArePlaced (slice_set actors s b) es.places
+
+    stands : (v : WorldOf L) → now ≡ v → IsWorld starts says v → Stands
+    stands v e kept = (subst (λ (x : WorldOf L). IsWorld starts says x) (sym e) kept, set_placed starts says proper last law j t ms actors is placed s k on a here b es.places its places)
+
+    module _ (list : es.list ≡ j.events.list) where
+      pub reserved_is : (room : Option ℕ) → shown_actor b ≡ record (shown_actor a) { reply = room } → now ≡ with_reply w s room
+      reserved_is room shown = replied_is starts says proper last law j t ms actors is placed s k on a here b es room shown list
+
+      pub unchanged_is : shown_actor b ≡ shown_actor a → now ≡ w
+      unchanged_is shown = same_is starts says proper last law j t ms actors is placed s k on a here b es shown list
+
+      pub reserve_stands : (r : Result Unit AllocError) (room : ℕ) → OnOk r (shown_actor b ≡ record (shown_actor a) { reply = Some room }) → OnErr r (shown_actor b ≡ shown_actor a) → Stands
+      reserve_stands (Ok x) room ok err = stands (with_reply w s (Some room)) (reserved_is (Some room) ok) (reply_keeps starts says proper last w is s there (Some room))
+      reserve_stands (Err x) room ok err = stands w (unchanged_is err) is
+
+    -- ---- a reply
+
+    module _ (i : ℕ) (text : Text) (shown : shown_actor b ≡ record (shown_actor a) { reply = None }) (list : es.list ≡ j.events.list ++ event.Said s i text ∷ []) where
+      pub saying_is : now ≡ said_in w s i text
+      saying_is = said_is starts says proper last law j t ms actors is placed s k on a here b es i text shown list
+
+      pub say_stands : work_in w.actors s ≡ work.Rest → i ≡ next_index w.history.past s → says w.history s i text → Stands
+      say_stands idle next lawful = stands (said_in w s i text) saying_is (said_keep starts says proper last w is s there idle i text next lawful)
+
+  -- ---- a task
+
+  module _ (pin : Option Pin) (x : Task) (v : Work) (n : ℕ) (begins : Begins pin x v) (count : n ≡ length j.events.list) where
+    abbrev begun : Actor
+    begun = record a { work = v; began = n }
+
+    begun_placed : IsPlaced begun
+    begun_placed =
+        let free : needed v ≡ 0 = begins_free pin x v begins in
+        let kept : needed a.work + cond (is_some a.reply) 1 0 ≤ a.places = seat_placed in
+        omega (arith, free, kept)
+
+    pub starting_is : shown_world law j t ms (slice_set actors s begun) ≡ with_work w s v
+    starting_is = begun_is starts says proper last law j t ms actors is placed s k on a here begun j.events v (ap (λ (c : ℕ). record (shown_actor a) { work = v; began = c }) count) refl
+
+    pub start_stands : work_in w.actors s ≡ work.Rest → MayBegin starts w.history s x → pin ≡ pin_of (memory_of (state_of w) s) s → IsWorld starts says (shown_world law j t ms (slice_set actors s begun)) × ArePlaced (slice_set actors s begun) j.events.places
+    start_stands idle may same = (
+      subst (λ (x : WorldOf L). IsWorld starts says x) (sym starting_is) (start_keeps starts says proper last w is s there idle x v may (subst (λ (p : Option Pin). Begins p x v) same begins)),
+      set_placed starts says proper last law j t ms actors is placed s k on a here begun j.events.places begun_placed refl,
+    )
+
+  -- ---- a step
+
+  module _ (m : NodeState) (read : m ≡ get_or ms (k - 1) m) where
+    remembered : memory_at ms k ≡ m
+    remembered = memory_is starts says proper law j t ms actors is s there k on m m read
+
+    pub step_can : length j.events.list < 2 ^ 63 → CanStep s m j.events.places a.work
+    step_can short = can starts says proper last law j t ms actors is placed s k on a here m remembered short
+
+    module _ (u : Table) (n : NodeState) (es : Recorded) (b : Actor) (o : StepOut) (busy : work_in w.actors s ≢ work.Rest) (made : Steps s k (parts t m j.events.list) a.work (parts u n es.list) b.work o)
+        (began : b.began ≡ a.began) (reply : b.reply ≡ a.reply) (reads : b.reads ≡ reads_after a.work o a.reads) where
+      abbrev stepped : WorldOf L
+      stepped = shown_world law (record j { events = es }) u (slice_set ms (k - 1) n) (slice_set actors s b)
+
+      pub step_stands : IsTable u.documents → IsPlaced b → es.places + a.places ≡ j.events.places + b.places → IsWorld starts says stepped × ArePlaced (slice_set actors s b) es.places
+      step_stands table its places = step_keeps_all starts says proper last law j t ms actors is placed s k on a here m remembered u n es b o (seat_busy busy) made began reply reads table its places
+
+      pub step_made : StepsIn w s stepped o
+      step_made = steps_in starts says proper last law j t ms actors is placed s k on a here m remembered u n es b o (seat_busy busy) made began reply reads
+
+      pub step_shown : (name : GName) → StepSeen starts says (shown_at name w s) (shown_at name stepped s) o
+      step_shown name = seen starts says proper last law j t ms actors is placed s k on a here m remembered u n es b o (seat_busy busy) made began reply reads name

@@ -1,0 +1,56 @@
+// Two sessions log in, one step each, and then nothing is due.
+use crate::{SoloPort, World};
+use jr_rev::RevVec;
+use oak_machine::{Event, IdleLaw};
+use oak_port::{Port, StepOut, Task, TaskEnd};
+use std::alloc::{AllocError, Global};
+use std::test::Fail;
+
+// A world of two cluster nodes with a session each, which are told to log in.
+fn coming(alloc: Global) -> Result<World<IdleLaw>, AllocError> {
+    let mut world = World::new(alloc, IdleLaw, 2, &[1, 2])?;
+    world.start(0, Task::Login)?;
+    world.start(1, Task::Login)?;
+    Ok(world)
+}
+
+// Who has logged in so far, and whether each did at the start of two cluster nodes.
+fn logins(world: &World<IdleLaw>) -> [bool; 2] {
+    let mut come = [false, false];
+    for event in world.journal().events.as_slice() {
+        if let Event::Login(s, base) = event {
+            if (*s as usize) < 2 && *base == RevVec::start(2) {
+                come[*s as usize] = true;
+            }
+        }
+    }
+    come
+}
+
+#[test]
+fn sessions_log_in_as_they_are_played(rt: HostRuntime) -> Result<(), Fail> {
+    let mut world = coming(rt.alloc())?;
+    world.play(&[1, 7]);
+    assert_eq!(rt; logins(&world), [false, true]);
+    world.play(&[1, 0, 0]);
+    assert_eq!(rt; logins(&world), [true, true]);
+    assert_eq!(rt; world.journal().events.len(), 2);
+    assert_eq!(rt; world.documents().documents().inner().len(), 4);
+    Ok(())
+}
+
+// The second session's port logs in, and tells the pin.
+#[test]
+fn a_port_logs_in(rt: HostRuntime) -> Result<(), Fail> {
+    let mut world = World::new(rt.alloc(), IdleLaw, 2, &[1, 2])?;
+    let mut port = SoloPort::new(&mut world, 1);
+    port.start(Task::Login)?;
+    let at_start = match port.step() {
+        StepOut::Ready(TaskEnd::Pinned(pin)) => pin.base == RevVec::start(2),
+        _ => false,
+    };
+    assert!(rt; at_start);
+    assert!(rt; port.due().is_none());
+    assert!(rt; port.pin().is_some());
+    Ok(())
+}
