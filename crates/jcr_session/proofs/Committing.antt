@@ -23,8 +23,8 @@ use Rattle.oak_machine.specs.Commits.{is_committed, is_ended, refusal_of}
 use Rattle.oak_machine.specs.Runs.{AreNodes, IsRunOf}
 use Rattle.oak_machine.specs.Sessions.{drawn_since, is_drawing, is_drawing_among, refreshed_since}
 use Rattle.oak_port.specs.Ports.{Awaiting, Deciding, IsFinish, Undoing, Work, Writing, WritesOn}
-use Rattle.oak_port.specs.declared.task.CommitEnd.{CommitEnd}
-use Rattle.oak_port.specs.declared.task.CommitEnd.TheVariants as commit
+use Rattle.oak_commit.specs.declared.outcome.CommitEnd.{CommitEnd}
+use Rattle.oak_commit.specs.declared.outcome.CommitEnd.TheVariants as commit
 use Rattle.core_law.specs.State.{Orders}
 use Rattle.core_law.specs.Turns.{IsOver}
 use Rattle.core_law.proofs.Passing.{among_same}

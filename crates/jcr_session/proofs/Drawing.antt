@@ -201,13 +201,16 @@ module _ (law : JcrLaw) (old : Shown) (run : SessionRun) (stands : Stands law ol
             within = stands.within;
             commands = stands.commands;
             index = index_new;
-            at = (in_new, subst (λ (x : Sight). IsInSave law new saving x) (sym at) (
-              record { allowed = is_save.allowed; saving = is_save.saving; room = subst (λ (x : Option ℕ). HasRoom x 40) (sym (steps.room ∙ begins.room_is)) place },
-              subst (λ (w : Work). Rattle.jcr_session.specs.Standing.IsCommitting law.sessions new.history.past new.session seen.base seen.view w) (sym made.4)
-              (moved (λ h n. Rattle.jcr_session.specs.Standing.IsCommitting law.sessions h.past n seen.base seen.view (Writing made.0.revision))
-              (committing_drawn law.sessions behind s made.0.revision made.0 seen.base seen.view made.1.session refl turn_behind.over.idle
-              record { base_is = turn_behind.over.base_is; pending = turn_behind.over.pending; from = turn_behind.over.from; to = turn_behind.over.to } unmade)),
-            ));
+            at = (
+              in_new,
+              subst (λ (x : Sight). IsInSave law new saving x) (sym at) (
+                record { allowed = is_save.allowed; saving = is_save.saving; room = subst (λ (x : Option ℕ). HasRoom x 40) (sym (steps.room ∙ begins.room_is)) place },
+                subst (λ (w : Work). Rattle.jcr_session.specs.Standing.IsCommitting law.sessions new.history.past new.session seen.base seen.view w) (sym made.4)
+                    (moved (λ h n. Rattle.jcr_session.specs.Standing.IsCommitting law.sessions h.past n seen.base seen.view (Writing made.0.revision))
+                    (committing_drawn law.sessions behind s made.0.revision made.0 seen.base seen.view made.1.session refl turn_behind.over.idle
+                    record { base_is = turn_behind.over.base_is; pending = turn_behind.over.pending; from = turn_behind.over.from; to = turn_behind.over.to } unmade)),
+              ),
+            );
           }
 
           told : is_appended_by moment s kind.Draw (reverse steps.own) ≡ true

@@ -62,9 +62,9 @@ text_plain r fits =
             (inl (omega arith, omega arith), plain_both t.counter (45 ∷ t.cluster) (digits_plain t.counter t.is_counter.numeral.hex) (inl (omega arith, omega arith), digits_plain t.cluster t.is_cluster.numeral.hex)),
       ),
       let a : length t.time ≤ 16 = t.is_time.numeral.fits in
-      let b : length t.counter ≤ 8 = t.is_counter.numeral.fits in
-      let c : length t.cluster ≤ 8 = t.is_cluster.numeral.fits in
-      omega (arith, length-append t.time (45 ∷ (t.counter ++ (45 ∷ t.cluster))), length-append t.counter (45 ∷ t.cluster)),
+          let b : length t.counter ≤ 8 = t.is_counter.numeral.fits in
+          let c : length t.cluster ≤ 8 = t.is_cluster.numeral.fits in
+          omega (arith, length-append t.time (45 ∷ (t.counter ++ (45 ∷ t.cluster))), length-append t.counter (45 ∷ t.cluster)),
     )
 
 pub short_reply : (r : Revision) → FitsFields r → length (answer_text (ShowsRevision r)) ≤ 40

@@ -17,3 +17,7 @@ mod Answering
 mod Drawing
 pub mod Staying
 mod Lengths
+mod Seeing
+mod Calling
+mod Beginning
+mod Leaving

@@ -18,7 +18,7 @@ use Rattle.oak_machine.specs.Laws.{AreOthers, after}
 use Rattle.oak_machine.specs.Runs.{AreNodes, IsRun}
 use Rattle.oak_machine.specs.Sessions.{base_of, drawn_since, is_drawing, next_index, refreshed_since}
 use Rattle.oak_port.specs.Ports.{Answers, Grows, Idle, Shown, Waits, Work}
-use Rattle.oak_port.specs.declared.task.CommitEnd.TheVariants as commit
+use Rattle.oak_commit.specs.declared.outcome.CommitEnd.TheVariants as commit
 use Rattle.jcr_trans.specs.declared.command.Command.{Command}
 use Rattle.jcr_trans.specs.declared.command.Command.TheVariants as command
 use Rattle.jcr_trans.specs.Answers.{Answer, Refused, ShowsNothing, ShowsRevision, ShowsVector}

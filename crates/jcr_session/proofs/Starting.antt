@@ -261,7 +261,7 @@ module _ (law : JcrLaw) (old mid new : Shown) (room : Option ℕ) (run : Session
 
 -- ---- memory was refused for a refresh
 
-pinned_is : (answer : StepOut) (pin : Pin) → pinned_by answer ≡ Some pin → answer ≡ out.Ready (end.Pinned pin)
+pub pinned_is : (answer : StepOut) (pin : Pin) → pinned_by answer ≡ Some pin → answer ≡ out.Ready (end.Pinned pin)
 pinned_is (out.Ready (end.Pinned p)) pin h = ap (λ (x : Pin). out.Ready (end.Pinned x)) (some_is h)
 pinned_is (out.Ready (end.Node f)) pin h = absurd (false≢true (ap is_some h))
 pinned_is (out.Ready (end.Children f)) pin h = absurd (false≢true (ap is_some h))

@@ -10,7 +10,7 @@ use Rattle.oak_machine.specs.Runs.{AreNodes, IsRun}
 use Rattle.oak_machine.specs.Sessions.{has_left, has_login, is_drawing, is_end_of_session, next_index, refreshed_since}
 use Rattle.oak_machine.proofs.Stays.{any_later}
 use Rattle.oak_port.specs.Ports.{HasRoom, Idle, Shown, Waits, Work}
-use Rattle.oak_port.specs.declared.task.CommitEnd.{CommitEnd}
+use Rattle.oak_commit.specs.declared.outcome.CommitEnd.{CommitEnd}
 use Rattle.jcr_trans.specs.declared.command.Command.{Command}
 use Rattle.core_law.specs.State.{base_tree, command_at, pending_of}
 use Rattle.core_law.specs.Turns.{IsTurn}

@@ -20,8 +20,8 @@ use Rattle.oak_machine.specs.Sessions.{has_left, has_login, is_attached, is_logi
 use Rattle.oak_machine.specs.Steps.{is_appended_by}
 use Rattle.oak_machine.proofs.Stays.{any_later}
 use Rattle.oak_port.specs.Ports.{Answers, AreOfStep, Awaiting, Beside, Deciding, Grows, HasRoom, Idle, IsFinish, Makes, Seat, Shown, Starting, Steps, Undoing, Waits, Work, Writing, WritesOn, is_by_due}
-use Rattle.oak_port.specs.declared.task.CommitEnd.{CommitEnd}
-use Rattle.oak_port.specs.declared.task.CommitEnd.TheVariants as commit
+use Rattle.oak_commit.specs.declared.outcome.CommitEnd.{CommitEnd}
+use Rattle.oak_commit.specs.declared.outcome.CommitEnd.TheVariants as commit
 use Rattle.oak_port.specs.declared.task.StepOut.{StepOut}
 use Rattle.oak_port.specs.declared.task.StepOut.TheVariants as out
 use Rattle.oak_port.specs.declared.task.Task.{Task}

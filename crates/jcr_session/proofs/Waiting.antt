@@ -19,8 +19,8 @@ use Rattle.oak_machine.specs.Sessions.{base_of, drawn_since, has_left, has_login
 use Rattle.oak_machine.proofs.Induction.{neither, other}
 use Rattle.oak_machine.proofs.Stays.{any_later}
 use Rattle.oak_port.specs.Ports.{Awaiting, Deciding, Grows, HasRoom, Idle, Shown, Starting, Undoing, Waits, Work, Writing}
-use Rattle.oak_port.specs.declared.task.CommitEnd.{CommitEnd}
-use Rattle.oak_port.specs.declared.task.CommitEnd.TheVariants as commit
+use Rattle.oak_commit.specs.declared.outcome.CommitEnd.{CommitEnd}
+use Rattle.oak_commit.specs.declared.outcome.CommitEnd.TheVariants as commit
 use Rattle.oak_port.specs.declared.task.Task.TheVariants as task
 use Rattle.core_law.specs.Law.{SaysBy}
 use Rattle.core_law.specs.State.{Orders, base_tree, pending_of}

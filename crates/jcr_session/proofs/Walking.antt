@@ -227,3 +227,23 @@ module _ (t : Nodes) (tree : IsTree t) (read : Nodes) where
       by p None h x k = k ∙ (none_read p h x k ∙ sym h)
       by p (Some n) h None k = absurd (false≢true (sym (ap is_some k) ∙ some_read p (part.covered p (ap is_some h))))
       by p (Some n) h (Some m) k = k ∙ sym (part.theirs p m k)
+
+-- an empty tree, before the root is read
+pub part_starts : (t : Nodes) → IsTree t → (tree : Nodes) (left : List Path) (path : Path) → tree ≡ [] → left ≡ [] → path ≡ [] → IsPart t tree (path ∷ left)
+part_starts t is tree left path none nothing root =
+    subst (λ (n : Nodes). IsPart t n (path ∷ left)) (sym none)
+    (subst (λ (l : List Path). IsPart t [] (path ∷ l)) (sym nothing) (subst (λ (p : Path). IsPart t [] (p ∷ [])) (sym root) (part_begins t is [])))
+
+-- the paths of the children are put behind those that are left
+pub part_pushed : (t tree : Nodes) (left now : List Path) (path : Path) (names pushed : List Name) → pushed ≡ names → now ≡ left ++ map (λ n. path ++ n ∷ []) pushed → IsPart t tree (left ++ map (λ n. path ++ n ∷ []) names) → IsPart t tree now
+part_pushed t tree left now path names pushed same put part =
+    subst (λ (l : List Path). IsPart t tree l) (sym (put ∙ ap (λ (ns : List Name). left ++ map (λ n. path ++ n ∷ []) ns) same)) part
+
+-- the last path is taken off those that are left
+pub part_popped : (t : Nodes) → IsTree t → (tree : Nodes) (before left : List Path) (path : Path) → before ≡ left ++ path ∷ [] → IsPart t tree before → IsPart t tree (path ∷ left)
+part_popped t is tree before left path taken part = part_next t is tree path left (subst (λ (l : List Path). IsPart t tree l) taken part)
+
+-- no path is left
+pub part_last : (t : Nodes) → IsTree t → (tree : Nodes) (left : List Path) → length left ≡ 0 → IsPart t tree left → tree ≡ t
+part_last t is tree [] none part = part_whole t is tree part
+part_last t is tree (p ∷ left) none part = absurd (omega arith)

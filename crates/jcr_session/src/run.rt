@@ -1,13 +1,16 @@
 // A session's turns: what it asks of its world, one counted step after another.
 ghost use Rattle.std.specs.Prelude.{◌≡◌, ◌≤◌, ◌∷◌, [], IfOk, IfSome, OnErr, IsTrue, IsFalse, length, string_bytes};
+ghost use Rattle.jr_rev.specs.Grammar.{FitsFields};
 ghost use Rattle.jr_tree.specs.declared.shared.Datum.TheVariants as datum;
 ghost use Rattle.oak_port.specs.Ports.{HasRoom};
-ghost use Rattle.oak_port.specs.declared.task.CommitEnd.TheVariants as commit;
+ghost use Rattle.oak_commit.specs.declared.outcome.CommitEnd.TheVariants as commit;
 ghost use Rattle.oak_port.specs.declared.task.StepOut.TheVariants as out;
 ghost use Rattle.oak_port.specs.declared.task.TaskEnd.TheVariants as end;
 ghost use Rattle.jcr_trans.specs.Answers.{Refused};
 ghost use Rattle.jcr_trans.specs.Texts.{answer_text, memory_text};
+ghost use Rattle.jcr_session.specs.Drawn.{has_went};
 ghost use Rattle.jcr_session.specs.Standing.{HasEnded, HasLooked, HasSeen, HasTurned, IsNew, IsPlanFor, IsPlanOf, IsRefused, IsReply, IsSame, MayAnswer, Stands, due_for, is_unread, kind_of_end, phase_by, pinned_by, turn_by};
+ghost use Rattle.jcr_session.specs.Leaving.{ended_by};
 ghost use Rattle.jcr_session.specs.declared.run.Due.TheVariants as due;
 ghost use Rattle.jcr_session.specs.declared.run.Phase.TheVariants as phase;
 ghost use Rattle.jcr_session.specs.declared.run.Plan.TheVariants as plan;
@@ -25,8 +28,9 @@ use jr_path::{DeepCopy, Item, List};
 use jr_rev::{Pin, RevVec, Revision};
 use jr_tree::{Datum, Edit, Refusal, changes};
 use oak_clash::MarkAt;
+use oak_commit::CommitEnd;
 use oak_machine::StepKind;
-use oak_port::{CommitEnd, Port, StepOut, Task, TaskEnd};
+use oak_port::{Port, StepOut, Task, TaskEnd};
 use std::alloc::{AllocError, Global};
 use std::mem;
 
@@ -107,7 +111,6 @@ impl SessionRun {
 
     /// Makes one step of reading the tree at the base, where one is due, and tells whether it did. Where memory is refused, what
     /// was read is given up.
-    #[tactic(auto, using(crate::proofs::Looking::unread_in, crate::proofs::Looking::unread_looks, crate::proofs::Looking::looked_nothing, crate::proofs::Looking::looked_read, crate::proofs::Looking::looked_refused))]
     pub fn read<P: Port<L = JcrLaw>>(&mut self, port: &mut P) -> Result<bool, AllocError>
         requires stands { Stands (P.law port.old) (P.shown port.old) self.old }
         ensures law { P.law port.new ≡ P.law port.old }
@@ -126,7 +129,6 @@ impl SessionRun {
     /// Makes the reading steps that are due and then exactly one counted step, or none where the session waits or has ended.
     /// Where memory is refused for a command, that command is answered so; where it is refused for the place of a reply, or for the
     /// login or the leave, the run ends.
-    #[tactic(auto, using(crate::proofs::Looking::turned_behind, crate::proofs::Looking::refused_forgoes, crate::proofs::Looking::forgone_behind))]
     pub fn turn<P: Port<L = JcrLaw>>(&mut self, port: &mut P) -> Turn
         requires stands { Stands (P.law port.old) (P.shown port.old) self.old }
         ensures law { P.law port.new ≡ P.law port.old }
@@ -140,7 +142,6 @@ impl SessionRun {
     }
 
     // Makes exactly one counted step, or none where the session waits or has ended.
-    #[tactic(auto, using(crate::proofs::Looking::over_ends))]
     fn counted<P: Port<L = JcrLaw>>(&mut self, port: &mut P) -> Turn
         requires stands { Stands (P.law port.old) (P.shown port.old) self.old }
         requires read { IsFalse (is_unread self.old) }
@@ -161,7 +162,6 @@ impl SessionRun {
     }
 
     // Makes all reading steps that are due, and tells whether it did.
-    #[tactic(auto, using(crate::proofs::Looking::looked_nothing, crate::proofs::Looking::looked_both, crate::proofs::Looking::looked_first, crate::proofs::Looking::looked_last))]
     fn read_all<P: Port<L = JcrLaw>>(&mut self, port: &mut P) -> Result<bool, AllocError>
         requires stands { Stands (P.law port.old) (P.shown port.old) self.old }
         ensures law { P.law port.new ≡ P.law port.old }
@@ -208,7 +208,6 @@ impl SessionRun {
     }
 
     // Logs in.
-    #[tactic(auto, using(crate::proofs::Living::outside_idle, crate::proofs::Living::outside_begins, crate::proofs::Living::logged_in))]
     fn log_in<P: Port<L = JcrLaw>>(&mut self, port: &mut P) -> Turn
         requires stands { Stands (P.law port.old) (P.shown port.old) self.old }
         requires outside { self.old.phase ≡ phase.Outside }
@@ -218,12 +217,12 @@ impl SessionRun {
         let Ok(()) = port.start(Task::Login) else {
             return Turn::Memory;
         };
-        match port.step() {
-            StepOut::Ready(TaskEnd::Pinned(_)) => {
+        match pinned(port.step()) {
+            Some(_) => {
                 self.phase = Phase::Between;
                 Turn::Stepped(StepKind::Login)
             }
-            _ => Turn::Memory,
+            None => Turn::Memory,
         }
     }
 
@@ -246,7 +245,6 @@ impl SessionRun {
     }
 
     // Leaves.
-    #[tactic(auto, using(crate::proofs::Replying::idle_between, crate::proofs::Starting::leave_begins, crate::proofs::Starting::left))]
     fn leave<P: Port<L = JcrLaw>>(&mut self, port: &mut P) -> Turn
         requires stands { Stands (P.law port.old) (P.shown port.old) self.old }
         requires between { self.old.phase ≡ phase.Between }
@@ -258,17 +256,14 @@ impl SessionRun {
         let Ok(()) = port.start(Task::End) else {
             return Turn::Memory;
         };
-        match port.step() {
-            StepOut::Ready(TaskEnd::Ended) => {
-                self.phase = Phase::Over;
-                Turn::Stepped(StepKind::End)
-            }
-            _ => Turn::Memory,
+        if !has_ended(port.step()) {
+            return Turn::Memory;
         }
+        self.phase = Phase::Over;
+        Turn::Stepped(StepKind::End)
     }
 
     // Shows the base.
-    #[tactic(auto, using(crate::proofs::Replying::forgo_head, crate::proofs::Replying::show_base, crate::proofs::Turning::answer_later, crate::proofs::Turning::said_later, crate::proofs::Answering::made_ok, crate::proofs::Answering::made_err))]
     fn show_base<P: Port<L = JcrLaw>>(&mut self, port: &mut P) -> Turn
         requires stands { Stands (P.law port.old) (P.shown port.old) self.old }
         requires between { self.old.phase ≡ phase.Between }
@@ -285,7 +280,6 @@ impl SessionRun {
     }
 
     // Refuses the command, which this session may not make.
-    #[tactic(auto, using(crate::proofs::Replying::forgo_refuse, crate::proofs::Replying::refuse_save, crate::proofs::Answering::made_ok, crate::proofs::Answering::made_err))]
     fn refuse<P: Port<L = JcrLaw>>(&mut self, port: &mut P) -> Turn
         requires stands { Stands (P.law port.old) (P.shown port.old) self.old }
         requires between { self.old.phase ≡ phase.Between }
@@ -299,7 +293,6 @@ impl SessionRun {
     }
 
     // Moves the base to the head. What was pending is dropped, and the tree there isn't read yet.
-    #[tactic(auto, using(crate::proofs::Replying::idle_between, crate::proofs::Replying::forgo_refresh, crate::proofs::Starting::refresh_begins, crate::proofs::Starting::refresh_moves, crate::proofs::Starting::refresh_stops, crate::proofs::Starting::refresh_stopped, crate::proofs::Turning::answer_idle, crate::proofs::Turning::said_idle))]
     fn refresh<P: Port<L = JcrLaw>>(&mut self, port: &mut P) -> Turn
         requires stands { Stands (P.law port.old) (P.shown port.old) self.old }
         requires between { self.old.phase ≡ phase.Between }
@@ -308,21 +301,20 @@ impl SessionRun {
         ensures law { P.law port.new ≡ P.law port.old }
         ensures turned { HasTurned (P.law port.old) (P.shown port.old) (P.shown port.new) self.old self.new result }
     {
-        let Ok(()) = port.start(Task::Refresh) else {
-            return self.say_memory(port);
-        };
-        match pinned(port.step()) {
-            Some(pin) => {
-                self.phase = Phase::Refreshed(pin.base);
-                self.sight = Sight::Unread;
-                Turn::Stepped(StepKind::Pin)
-            }
-            None => self.say_memory(port),
+        match port.start(Task::Refresh) {
+            Err(AllocError) => self.say_memory(port),
+            Ok(()) => match pinned(port.step()) {
+                Some(pin) => {
+                    self.phase = Phase::Refreshed(pin.base);
+                    self.sight = Sight::Unread;
+                    Turn::Stepped(StepKind::Pin)
+                }
+                None => self.say_memory(port),
+            },
         }
     }
 
     // Shows the vector to which the base moved.
-    #[tactic(auto, using(crate::proofs::Ending::shows_vector))]
     fn say_vector<P: Port<L = JcrLaw>>(&mut self, port: &mut P, vector: RevVec) -> Turn
         requires stands { Stands (P.law port.old) (P.shown port.old) self.old }
         requires refreshed { self.old.phase ≡ phase.Refreshed vector }
@@ -336,7 +328,6 @@ impl SessionRun {
     }
 
     // Answers by the view.
-    #[tactic(auto, using(crate::proofs::Answering::sees_reply, crate::proofs::Answering::sees_memory, crate::proofs::Answering::made_if, crate::proofs::Answering::made_or, crate::proofs::Replying::turned_like))]
     fn see<P: Port<L = JcrLaw>>(&mut self, port: &mut P) -> Turn
         requires stands { Stands (P.law port.old) (P.shown port.old) self.old }
         requires between { self.old.phase ≡ phase.Between }
@@ -369,7 +360,6 @@ impl SessionRun {
     }
 
     // Commits what is pending, where there is something and the tree after it has few nodes.
-    #[tactic(auto, using(crate::proofs::Replying::forgo_save))]
     fn save<P: Port<L = JcrLaw>>(&mut self, port: &mut P) -> Turn
         requires stands { Stands (P.law port.old) (P.shown port.old) self.old }
         requires between { self.old.phase ≡ phase.Between }
@@ -385,7 +375,6 @@ impl SessionRun {
     }
 
     // Answers a save that commits nothing, or begins its commit.
-    #[tactic(auto, using(crate::proofs::Answering::answers_nothing, crate::proofs::Answering::answers_too_many, crate::proofs::Answering::made_ok, crate::proofs::Answering::made_err, crate::proofs::Replying::forgo_save))]
     fn save_by<P: Port<L = JcrLaw>>(&mut self, port: &mut P, plan: Plan) -> Turn
         requires stands { Stands (P.law port.old) (P.shown port.old) self.old }
         requires between { self.old.phase ≡ phase.Between }
@@ -419,13 +408,7 @@ impl SessionRun {
     }
 
     // Begins a commit. The place of its reply is kept before.
-    #[tactic(auto, using(crate::proofs::Replying::forgo_save, crate::proofs::Replying::idle_between, crate::proofs::Drawing::commit_begins, crate::proofs::Drawing::commit_draws, crate::proofs::Drawing::commit_stops, crate::proofs::Drawing::commit_stopped, crate::proofs::Turning::answer_later, crate::proofs::Turning::said_later, crate::proofs::Turning::room_kept, crate::proofs::Turning::room_stays, crate::proofs::Lengths::memory_room))]
-    fn commit<P: Port<L = JcrLaw>>(
-        &mut self,
-        port: &mut P,
-        edit: Edit,
-        marks: List<MarkAt>,
-    ) -> Turn
+    fn commit<P: Port<L = JcrLaw>>(&mut self, port: &mut P, edit: Edit, marks: List<MarkAt>) -> Turn
         requires stands { Stands (P.law port.old) (P.shown port.old) self.old }
         requires between { self.old.phase ≡ phase.Between }
         requires read { IsFalse (is_unread self.old) }
@@ -440,18 +423,14 @@ impl SessionRun {
         let Ok(()) = port.start(Task::Commit(edit, marks)) else {
             return self.say_kept(port, MEMORY_REPLY);
         };
-        match port.step() {
-            StepOut::Went(_) => {
-                self.phase = Phase::Saving;
-                Turn::Stepped(StepKind::Draw)
-            }
-            StepOut::Memory => self.say_kept(port, MEMORY_REPLY),
-            _ => Turn::Memory,
+        if !has_went(port.step()) {
+            return self.say_kept(port, MEMORY_REPLY);
         }
+        self.phase = Phase::Saving;
+        Turn::Stepped(StepKind::Draw)
     }
 
     // Makes a step of a commit. Where memory is refused, the commit turns to undoing, and makes a step of that.
-    #[tactic(auto, using(crate::proofs::Turning::commit_once, crate::proofs::Turning::commit_twice, crate::proofs::Turning::commit_busy, crate::proofs::Turning::refused_busy))]
     fn commit_on<P: Port<L = JcrLaw>>(&mut self, port: &mut P) -> Turn
         requires stands { Stands (P.law port.old) (P.shown port.old) self.old }
         requires saving { self.old.phase ≡ phase.Saving }
@@ -485,7 +464,6 @@ impl SessionRun {
     }
 
     // Answers a save whose commit has ended.
-    #[tactic(auto, using(crate::proofs::Ending::stands_saved, crate::proofs::Replying::turned_like))]
     fn say_end<P: Port<L = JcrLaw>>(&mut self, port: &mut P) -> Turn
         requires stands { Stands (P.law port.old) (P.shown port.old) self.old }
         requires saved { HasEnded self.old.phase }
@@ -499,7 +477,6 @@ impl SessionRun {
     }
 
     // Answers a save whose commit has ended so.
-    #[tactic(auto, using(crate::proofs::Ending::ended_memory, crate::proofs::Ending::ended_room, crate::proofs::Lengths::memory_room))]
     fn say_saved<P: Port<L = JcrLaw>>(&mut self, port: &mut P, end: CommitEnd) -> Turn
         requires stands { Stands (P.law port.old) (P.shown port.old) (record self.old { phase = phase.Saved end }) }
         ensures law { P.law port.new ≡ P.law port.old }
@@ -513,12 +490,12 @@ impl SessionRun {
     }
 
     // Answers a save with its revision. The tree at the base that sees it isn't read yet.
-    #[tactic(auto, using(crate::proofs::Ending::ended_revision, crate::proofs::Ending::ended_room, crate::proofs::Lengths::short_reply, crate::proofs::Replying::turned_like))]
     fn say_revision<P: Port<L = JcrLaw>>(&mut self, port: &mut P, r: Revision) -> Turn
         requires stands { Stands (P.law port.old) (P.shown port.old) (record self.old { phase = phase.Saved (commit.Committed r) }) }
         ensures law { P.law port.new ≡ P.law port.old }
         ensures turned { HasTurned (P.law port.old) (P.shown port.old) (P.shown port.new) self.old self.new result }
     {
+        in_range(r.time, r.counter, r.cluster);
         self.sight = Sight::Unread;
         match revision_reply(self.alloc, &r) {
             Ok(text) => self.say_kept(port, text.as_str()),
@@ -527,7 +504,6 @@ impl SessionRun {
     }
 
     // Answers a save with the clash for which it was refused, or that memory was refused for that.
-    #[tactic(auto, using(crate::proofs::Ending::ended_clash, crate::proofs::Ending::ended_unshown, crate::proofs::Ending::ended_room, crate::proofs::Lengths::memory_room))]
     fn say_clash<P: Port<L = JcrLaw>>(&mut self, port: &mut P, item: Item, other: Revision) -> Turn
         requires stands { Stands (P.law port.old) (P.shown port.old) (record self.old { phase = phase.Saved (commit.Clash item other) }) }
         ensures law { P.law port.new ≡ P.law port.old }
@@ -557,7 +533,6 @@ impl SessionRun {
     }
 
     // Says the reply where memory was refused.
-    #[tactic(auto, using(crate::proofs::Lengths::memory_reply_is))]
     fn say_memory<P: Port<L = JcrLaw>>(&mut self, port: &mut P) -> Turn
         requires answer { MayAnswer (P.law port.old) (P.shown port.old) self.old memory_text }
         ensures law { P.law port.new ≡ P.law port.old }
@@ -567,7 +542,6 @@ impl SessionRun {
     }
 
     // Says a reply.
-    #[tactic(auto, using(crate::proofs::Turning::may_idle, crate::proofs::Turning::answer_later, crate::proofs::Turning::said_later, crate::proofs::Turning::room_kept))]
     fn say<P: Port<L = JcrLaw>>(&mut self, port: &mut P, text: &str) -> Turn
         requires answer { MayAnswer (P.law port.old) (P.shown port.old) self.old text.now }
         ensures law { P.law port.new ≡ P.law port.old }
@@ -580,7 +554,6 @@ impl SessionRun {
     }
 
     // Says a reply, or that memory was refused, for which there is a place.
-    #[tactic(auto, using(crate::proofs::Turning::may_idle, crate::proofs::Turning::answer_later, crate::proofs::Turning::said_later, crate::proofs::Turning::room_kept, crate::proofs::Turning::room_stays))]
     fn say_or_memory<P: Port<L = JcrLaw>>(&mut self, port: &mut P, text: &str) -> Turn
         requires answer { MayAnswer (P.law port.old) (P.shown port.old) self.old text.now }
         requires memory { MayAnswer (P.law port.old) (P.shown port.old) self.old memory_text }
@@ -588,14 +561,13 @@ impl SessionRun {
         ensures law { P.law port.new ≡ P.law port.old }
         ensures turned { HasTurned (P.law port.old) (P.shown port.old) (P.shown port.new) self.old self.new result }
     {
-        let Ok(()) = port.reserve_say(text.len()) else {
-            return self.say_kept(port, MEMORY_REPLY);
-        };
-        self.say_kept(port, text)
+        match port.reserve_say(text.len()) {
+            Ok(()) => self.say_kept(port, text),
+            Err(AllocError) => self.say_kept(port, MEMORY_REPLY),
+        }
     }
 
     // Says a reply for which there is a place.
-    #[tactic(auto, using(crate::proofs::Turning::index_small, crate::proofs::Turning::may_index, crate::proofs::Turning::may_idle, crate::proofs::Turning::may_says, crate::proofs::Turning::said_kept))]
     fn say_kept<P: Port<L = JcrLaw>>(&mut self, port: &mut P, text: &str) -> Turn
         requires answer { MayAnswer (P.law port.old) (P.shown port.old) self.old text.now }
         requires room { HasRoom (P.shown port.old).room (length text.now) }
@@ -617,6 +589,26 @@ fn pinned(answer: StepOut) -> Option<Pin>
     match &answer {
         StepOut::Ready(TaskEnd::Pinned(pin)) => Some(*pin),
         _ => None,
+    }
+}
+
+// Whether a step was made and its task goes on.
+fn has_went(answer: StepOut) -> bool
+    ensures { result ≡ has_went answer }
+{
+    match answer {
+        StepOut::Went(_) => true,
+        _ => false,
+    }
+}
+
+// Whether a leave has ended.
+fn has_ended(answer: StepOut) -> bool
+    ensures { result ≡ ended_by answer }
+{
+    match &answer {
+        StepOut::Ready(TaskEnd::Ended) => true,
+        _ => false,
     }
 }
 
@@ -654,6 +646,11 @@ fn last_kind(end: &CommitEnd) -> StepKind
         _ => StepKind::Finish,
     }
 }
+
+// The fields of a revision are in the range of their types.
+fn in_range(time: u64, counter: u32, cluster: u32)
+    ensures { FitsFields (record { time = time; counter = counter; cluster = cluster }) }
+{}
 
 // The reply to a reading or view command, or to one that isn't built; it changes the view.
 fn reply_of(alloc: Global, command: &Command, seen: &mut Seen) -> Result<String, AllocError>

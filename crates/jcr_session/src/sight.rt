@@ -102,10 +102,7 @@ pub(crate) fn look<P: Port<L = JcrLaw>>(
 }
 
 // Begins to read the tree, and makes the first step. Where memory is refused, nothing is being read.
-fn read_first<P: Port<L = JcrLaw>>(
-    alloc: Global,
-    port: &mut P,
-) -> Result<Sight, AllocError>
+fn read_first<P: Port<L = JcrLaw>>(alloc: Global, port: &mut P) -> Result<Sight, AllocError>
     requires inside { IsIn (P.law port.old) (P.shown port.old) }
     requires idle { (P.shown port.old).work ≡ Idle }
     ensures law { P.law port.new ≡ P.law port.old }
@@ -119,7 +116,6 @@ fn read_first<P: Port<L = JcrLaw>>(
 }
 
 // Makes a reading step. Where memory is refused, the walk is given up.
-#[tactic(auto, using(crate::proofs::Reading::walk_node, crate::proofs::Reading::walk_names))]
 fn read_on<P: Port<L = JcrLaw>>(port: &mut P, walk: Walk) -> Result<Sight, AllocError>
     requires inside { IsIn (P.law port.old) (P.shown port.old) }
     requires reads { Reads (P.shown port.old) walk }
@@ -192,7 +188,6 @@ fn fetch_names<P: Port<L = JcrLaw>>(
 }
 
 // A step of reading the node at a path.
-#[tactic(auto, using(crate::proofs::Reading::has_loaded, crate::proofs::Reading::loaded_going, crate::proofs::Reading::loaded_found, crate::proofs::Reading::loaded_none, crate::proofs::Reading::loaded_refused, crate::proofs::Reading::beside_more, crate::proofs::Reading::in_more, crate::proofs::Reading::in_less))]
 fn read_node<P: Port<L = JcrLaw>>(
     port: &mut P,
     tree: Tree,
@@ -224,7 +219,6 @@ fn read_node<P: Port<L = JcrLaw>>(
 }
 
 // A step of reading the names of the children of a path.
-#[tactic(auto, using(crate::proofs::Reading::has_listed, crate::proofs::Reading::listed_going, crate::proofs::Reading::listed_names, crate::proofs::Reading::listed_refused, crate::proofs::Reading::beside_more, crate::proofs::Reading::in_more, crate::proofs::Reading::in_less))]
 fn read_names<P: Port<L = JcrLaw>>(
     port: &mut P,
     tree: Tree,

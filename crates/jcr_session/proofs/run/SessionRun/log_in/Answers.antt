@@ -1,0 +1,28 @@
+use Rattle.std.proofs.Common.{refl, sym, ◌∙◌}
+use Rattle.oak_port.specs.declared.task.Task.TheVariants as task
+use Rattle.jcr_session.proofs.Calling.{busy_by, login_by}
+use Rattle.jcr_session.proofs.Living.{outside_begins, outside_idle}
+use Rattle.jcr_session.proofs.run.SessionRun.log_in.Goals as goal
+
+pub start-requires-clause-idle : goal.start-requires-clause-idle
+start-requires-clause-idle g c = outside_idle (g.P.Port.law c.args.port.now) (g.P.Port.shown c.args.port.now) c.args.self.now c.requires.stands c.requires.outside
+
+pub start-requires-clause-may : goal.start-requires-clause-may
+start-requires-clause-may g c = outside_begins (g.P.Port.law c.args.port.now) (g.P.Port.shown c.args.port.now) c.args.self.now c.requires.stands c.requires.outside
+
+pub step-requires : goal.step-requires
+step-requires g c = record { busy = λ idle. busy_by (g.P.Port.shown c.start.new.self).work task.Login c.in-Ok.ensures.ok.work_is idle }
+
+-- it is logged in
+pub returns-in-Some-clause-turned : goal.returns-in-Some-clause-turned
+returns-in-Some-clause-turned g c =
+    let law = g.P.Port.law c.args.port.now in
+    let p = g.P.Port.shown c.args.port.now in
+    login_by law (g.P.Port.law c.start.new.self) c.in-Ok.ensures.law p (g.P.Port.shown c.start.new.self) (g.P.Port.shown c.step.new.self) p.room c.args.self.now c.step.result c.requires.stands c.step.ensures.steps
+    c.requires.outside c.in-Ok.ensures.ok c.in-Some.field-0 (sym c.in-Some.ensures) _ _ refl refl
+
+pub returns-in-Some-clause-law : goal.returns-in-Some-clause-law
+returns-in-Some-clause-law g c = c.step.ensures.law ∙ c.in-Ok.ensures.law
+
+pub returns-in-None-clause-law : goal.returns-in-None-clause-law
+returns-in-None-clause-law g c = c.step.ensures.law ∙ c.in-Ok.ensures.law
