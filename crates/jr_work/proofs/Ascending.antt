@@ -1,13 +1,13 @@
 -- The sessions whose commits are in flight, in ascending order of their revisions: from what the seats keep, and from the draws.
-use Rattle.std.proofs.Common.{◌≡◌, ◌⊎◌, inl, inr, ℕ, zero, suc, ◌+◌, ◌<◌, length, map, Bool, true, false, cond, not, ◌||◌, ◌&&◌, Some, None, Option, List, [], ◌∷◌, is_some, refl, sym, ap, ◌∙◌, subst, arith}
-use Rattle.std.specs.Prelude.{◌==◌, slice_get}
+use Rattle.std.proofs.Common.{◌≡◌, ◌⊎◌, inl, inr, ℕ, zero, suc, ◌+◌, ◌<◌, ◌≤◌, length, get_or, map, Bool, true, false, cond, not, ◌||◌, ◌&&◌, Some, None, Option, List, [], ◌∷◌, is_some, refl, sym, ap, ◌∙◌, subst, arith}
+use Rattle.std.specs.Prelude.{◌==◌, IfOk, Result, Ok, Err, slice_get}
 use Rattle.std.specs.Option.{option_map, option_map_or}
 use Rattle.std.specs.Map.{lookup, values_of}
 use Rattle.std.specs.BTreeMap.{insert_entry, is_at}
 use Rattle.std.specs.FinMap.{is_sorted}
 use Rattle.std.specs.List.{All, filter, fold, list_any}
 use Rattle.std.proofs.lemmas.Bool.Decides.{nat_tests}
-use Rattle.std.proofs.lemmas.Option.{slice_get-map, slice_get_within}
+use Rattle.std.proofs.lemmas.Option.{slice_get-map, slice_get_read, slice_get_within}
 use Rattle.std.proofs.lemmas.List.Elements.{All-nil}
 use Rattle.std.proofs.lemmas.Map.Views.{All-values-insert_entry}
 use mathlib.Core.Bool.{false≢true}
@@ -196,7 +196,7 @@ module _ (clusters : ℕ) (sessions : List ℕ) (nodes : AreNodes clusters sessi
   draws_flown : (past : Past) → IsRunOf starts says clusters sessions past → AreFlown past (fold (λ es d. insert_entry revision_cmp es d.revision d.session) [] (filter (λ d. is_in_flight past d.revision) (draws_in past)))
   draws_flown past run = folded_flown past (filter (λ d. is_in_flight past d.revision) (draws_in past)) [] (none_flown past)
       (each_where (λ d. draw_of past d.revision ≡ Some d) (λ d. flies_as past d.revision ≡ Some d.session) (λ d. is_in_flight past d.revision)
-        (λ d h flies. flies_of past d.revision d h (open_of past d.revision flies)) (draws_in past) (each_known past run))
+      (λ d h flies. flies_of past d.revision d h (open_of past d.revision flies)) (draws_in past) (each_known past run))
 
   flies_again : (past : Past) (r : Revision) (s : ℕ) → IsFlown past r s → is_in_flight past r ≡ true
   flies_again past r s flown = ap (λ (o : Option Draw). is_some o && not (is_ended past r)) flown.is ∙ ap not flown.unended
@@ -315,3 +315,30 @@ module _ (stage : Stage) (is : IsStage stage) (es : List (Revision × ℕ)) (kep
   -- the sessions of the entries are those in flight, in ascending order
   pub kept_flying : values_of es ≡ flying_sessions (past_of stage)
   kept_flying = values_flying stage.world.history.clusters stage.world.history.sessions nodes starts says (past_of stage) es run kept.flown all_found
+
+-- ---- seat after seat
+
+module _ (stage : Stage) (is : IsStage stage) (n : ℕ) (es fs : List (Revision × ℕ)) (seat : Seat) (below : n < length stage.seats.items) (at : seat ≡ get_or stage.seats.items n seat) (kept : AreKept stage n es) where
+  place : slice_get stage.seats.items n ≡ Some seat
+  place = slice_get_read stage.seats.items (length stage.seats.items) n seat refl below at
+
+  with_seat : (o : Option Flight) → seat.flight ≡ o → IsFlight (past_of stage) n o → AreKept stage (n + 1) (option_map_or (λ f. insert_entry revision_cmp es f.revision n) o es)
+  with_seat None none h = kept_idle stage n es kept seat place none
+  with_seat (Some f) has h = kept_put stage n es kept seat place f has h
+
+  pub kept_more : fs ≡ option_map_or (λ f. insert_entry revision_cmp es f.revision n) seat.flight es → AreKept stage (n + 1) fs
+  kept_more same = subst (λ (l : List (Revision × ℕ)). AreKept stage (n + 1) l) (sym same) (with_seat seat.flight refl (is.each n seat place).flight)
+
+pub kept_long : (stage : Stage) (n : ℕ) (es : List (Revision × ℕ)) → length stage.seats.items ≤ n → AreKept stage n es → AreKept stage (length stage.seats.items) es
+kept_long stage n es long kept = record {
+  flown = kept.flown;
+  seats = kept.seats;
+  all = λ s seat f below at has. kept.all s seat f (within s (length stage.seats.items) n below long) at has;
+}
+  where
+    within : (s m n : ℕ) → s < m → m ≤ n → s < n
+    within s m n h k = omega arith
+
+pub if_ok_more : {X E : Type 0} (P Q : X → Type 0) (r : Result X E) → ((x : X) → P x → Q x) → IfOk r P → IfOk r Q
+if_ok_more P Q (Ok x) more h = more x h
+if_ok_more P Q (Err e) more h = tt

@@ -4,21 +4,23 @@ use Rattle.std.specs.Prelude.{slice_get}
 use Rattle.std.specs.Borrow.{GName}
 use Rattle.std.specs.Option.{option_map, option_map_or, unwrap_or}
 use Rattle.std.specs.List.{All}
-use Rattle.std.proofs.lemmas.Option.{get_or_from_slice_get, slice_get-map, slice_get_read, slice_get_within}
+use Rattle.std.proofs.lemmas.List.{length-map}
+use Rattle.std.proofs.lemmas.Option.{slice_get_read}
 use mathlib.Core.Bool.{false≢true}
 use Rattle.jr_rev.specs.declared.revision.Revision.{Revision}
 use Rattle.oak_machine.specs.declared.event.Draw.{Draw}
 use Rattle.oak_machine.specs.History.{Past}
-use Rattle.oak_machine.specs.Runs.{AreNodes, IsNode}
+use Rattle.oak_machine.specs.Runs.{AreNodes}
 use Rattle.oak_port.specs.Ports.{Idle}
 use Rattle.oak_world.specs.Seen.{shown_at, shown_work}
 use Rattle.oak_world.specs.Worlds.{ActorState, WorldOf, idle, start_world, work_in}
 use Rattle.jcr_trans.specs.declared.command.Command.{Command}
 use Rattle.core_law.specs.State.{command_at}
 use Rattle.jcr_session.specs.declared.law.JcrLaw.{JcrLaw}
-use Rattle.jcr_session.specs.Standing.{Stands}
+use Rattle.jcr_session.specs.declared.run.SessionRun.{SessionRun}
+use Rattle.jcr_session.specs.Standing.{IsNew, Stands}
 use Rattle.jcr_session.proofs.Staying.{new_stands}
-use Rattle.jr_script.specs.Bounds.{IsSessionWithin, IsWithin}
+use Rattle.jr_script.specs.Bounds.{IsWithin}
 use Rattle.jr_script.specs.declared.script.Script.{Script}
 use Rattle.jr_script.specs.declared.script.SessionScript.{SessionScript}
 use Rattle.jr_work.specs.declared.flight.Flight.{Flight}
@@ -30,6 +32,7 @@ use Rattle.jr_work.specs.Seats.{AreNew, IsNewSeat}
 use Rattle.jr_work.specs.Stages.{IsBegun, IsSeated, IsStage, law_of, past_of}
 use Rattle.jr_work.proofs.Flying.{none_is_some, some_is_some}
 use Rattle.jr_work.proofs.Turning.{commands_at}
+use Rattle.jr_work.proofs.Within.{session_within, within_nodes}
 
 -- ---- one session more
 
@@ -60,28 +63,17 @@ one_more_new sessions n seats x seat within there are new = record {
         let it : x ≡ session = some_is_some x session (sym (slice_get_read sessions (length sessions) n x refl within there) ∙ (ap (slice_get sessions) (sym same) ∙ at)) in
         subst (λ (i : ℕ). IsNewSeat i session other) (sym same) (subst (λ (y : SessionScript). IsNewSeat n y other) it (subst (λ (z : Seat). IsNewSeat n x z) q new))
 
+-- the same, by what the calls of an iteration tell
+pub seats_more : (sessions : List SessionScript) (n : ℕ) (seats next : List Seat) (x : SessionScript) (commands : List Command) (run : SessionRun) → n < length sessions → x ≡ get_or sessions n x → AreNew sessions n seats → commands ≡ x.commands → IsNew n commands run → next ≡ seats ++ record { run = run; flight = None } ∷ [] → AreNew sessions (n + 1) next
+seats_more sessions n seats next x commands run within there are same new is =
+    subst (λ (l : List Seat). AreNew sessions (n + 1) l) (sym is)
+    (one_more_new sessions n seats x (record { run = run; flight = None }) within there are (record { run = subst (λ (c : List Command). IsNew n c run) same new; flight = refl }))
+
 -- ---- what a script keeps
 
 module _ (script : Script) (within : IsWithin script) where
-  session_within : (s : ℕ) (session : SessionScript) → slice_get script.sessions s ≡ Some session → IsSessionWithin script.clusters session
-  session_within s session at = subst (λ (x : SessionScript). IsSessionWithin script.clusters x) (get_or_from_slice_get script.sessions s session session at) (within.sessions s session (slice_get_within script.sessions s session at))
-
   pub few_commands : All (λ (s : SessionScript). length s.commands ≤ 10000) script.sessions
   few_commands k d h = (within.sessions k d h).few
-
-  pub are_nodes : AreNodes script.clusters (map (λ s. s.cluster) script.sessions)
-  are_nodes = record {
-    eight = within.nodes;
-    some = within.some;
-    node = λ s k at. by s k (slice_get script.sessions s) refl (sym (slice_get-map (λ (x : SessionScript). x.cluster) script.sessions s) ∙ at);
-  }
-    where
-      by : (s k : ℕ) (o : Option SessionScript) → slice_get script.sessions s ≡ o → option_map (λ (x : SessionScript). x.cluster) (slice_get script.sessions s) ≡ Some k → IsNode script.clusters k
-      by s k None is at = none_is_some k (sym (ap (option_map (λ (x : SessionScript). x.cluster)) is) ∙ at)
-      by s k (Some x) is at =
-          let same : x.cluster ≡ k = some_is_some x.cluster k (sym (ap (option_map (λ (x : SessionScript). x.cluster)) is) ∙ at) in
-          let w = session_within s x is in
-          subst (λ (n : ℕ). IsNode script.clusters n) same (w.placed, w.near)
 
   -- ---- the stage
 
@@ -110,9 +102,9 @@ module _ (script : Script) (within : IsWithin script) where
             record {
               session = is.run.session_is;
               stands = λ n.
-                new_stands (law_of script) (shown_at n start s) s session.commands seat.run is.run (session_within s session there).few are_nodes tt refl
-                (λ i. commands_at script s i ∙ ap (λ (o : Option SessionScript). slice_get (option_map_or (λ x. x.commands) o []) i) there)
-                (idle_at (map (λ s. s.cluster) script.sessions) s) refl;
+                  new_stands (law_of script) (shown_at n start s) s session.commands seat.run is.run (session_within script within s session there).few (within_nodes script within) tt refl
+                  (λ i. commands_at script s i ∙ ap (λ (o : Option SessionScript). slice_get (option_map_or (λ x. x.commands) o []) i) there)
+                  (idle_at (map (λ s. s.cluster) script.sessions) s) refl;
               flight = subst (λ (o : Option Flight). IsFlight [] s o) (sym is.flight) refl;
               seen = λ r theirs unseen. absurd (false≢true theirs);
             }
@@ -123,11 +115,31 @@ module _ (script : Script) (within : IsWithin script) where
       stage_is = record {
         law = ap (λ (w : WorldOf JcrLaw). w.law) world_is ∙ ap law_of (sym script_is);
         history = subst (λ (x : Script). stage.world.history ≡ history_at x stage.world.history.past) (sym script_is) (subst (λ (w : WorldOf JcrLaw). w.history ≡ history_at script w.history.past) (sym world_is) refl);
-        few = subst (λ (x : Script). length x.sessions ≤ 64) (sym script_is) within.few;
+        within = subst (λ (x : Script). IsWithin x) (sym script_is) within;
         seats = ap (λ (l : List Seat). length l) seats_are ∙ (new.many ∙ ap (λ (x : Script). length x.sessions) (sym script_is));
         each = λ s seat at.
-          subst (λ (x : Script). IsSeated x stage.world s seat) (sym script_is)
-          (subst (λ (w : WorldOf JcrLaw). IsSeated script w s seat) (sym world_is) (seated s seat (ap (λ (l : List Seat). slice_get l s) (sym seats_are) ∙ at)));
+            subst (λ (x : Script). IsSeated x stage.world s seat) (sym script_is)
+            (subst (λ (w : WorldOf JcrLaw). IsSeated script w s seat) (sym world_is) (seated s seat (ap (λ (l : List Seat). slice_get l s) (sym seats_are) ∙ at)));
       };
       first = ap (λ (w : WorldOf JcrLaw). w.history.past) world_is;
     }
+
+-- ---- by what the calls tell
+
+module _ (script : Script) (within : IsWithin script) (sessions : List SessionScript) (same : sessions ≡ script.sessions) (nodes slice : List ℕ) (made : nodes ≡ map (λ s. s.cluster) sessions) (lent : slice ≡ nodes) where
+  abbrev clusters_of : List ℕ
+  clusters_of = map (λ s. s.cluster) script.sessions
+
+  are : slice ≡ map (λ s. s.cluster) script.sessions
+  are = lent ∙ (made ∙ ap (map (λ (s : SessionScript). s.cluster)) same)
+
+  pub slice_nodes : AreNodes script.clusters slice
+  slice_nodes = subst (λ (l : List ℕ). AreNodes script.clusters l) (sym are) (within_nodes script within)
+
+  pub slice_few : length slice ≤ 64
+  slice_few = let h = ap (λ (l : List ℕ). length l) are in let m = length-map script.sessions (λ (s : SessionScript). s.cluster) in let f = within.few in omega arith
+
+  pub begun_by : (others : List SessionScript) (law : JcrLaw) (stage : Stage) → others ≡ script.sessions → AreNew others (length others) stage.seats.items → law ≡ law_of script → stage.world ≡ start_world law script.clusters slice → stage.script ≡ script → IsBegun script stage
+  begun_by others law stage again seats law_is world_is script_is =
+      begun script within stage.seats.items (subst (λ (l : List SessionScript). AreNew l (length l) stage.seats.items) again seats) stage script_is
+      (world_is ∙ (ap (λ (l : JcrLaw). start_world l script.clusters slice) law_is ∙ ap (start_world (law_of script) script.clusters) are)) refl

@@ -23,7 +23,6 @@ use Rattle.jr_work.specs.Places.{has_written, history_at, is_at_last, is_over, i
 use Rattle.jr_work.specs.Parts.{Part, Rule, by_entry, events_of, has_just_said, is_done, is_part, is_turn, session_of, to_end, to_reply}
 use Rattle.jr_work.specs.SoFar.{IsCutSoFar, IsDouble, IsQuiet, IsSingle, IsStepAt, IsUnderWay, is_last_due}
 use Rattle.jr_work.specs.Stages.{Closes, Comes, HasCome, IsSeated, IsStage, IsUnder, due_at, has_come, has_come_by, past_of}
-
 use Rattle.jr_work.proofs.SoFar.{cut_closes, cut_due, cut_steps, part_at_last, part_closes, part_draws, part_replies, part_rests, part_says, part_turns, part_writes, way_begins, way_steps}
 
 nothing_behind : {X : Type 0} (a : List X) → [] ++ a ≡ a
@@ -131,13 +130,12 @@ module _ (first stage : Stage) (rule : Rule) (part : Past) (under : IsUnder firs
     stage = under.stage_is;
     over = under.over;
     closes = λ parts h.
-        let same : past_of first ≡ events_of parts = h.whole in
-        (
+        let same : past_of first ≡ events_of parts = h.whole in (
           record { rule = rule; events = part },
           refl,
           cut_closes first.script (due_at stage.world) rule parts part (past_of stage) (under.cut parts h)
-            (subst (λ (p : Past). is_part first.script rule p part [] ≡ true) same is)
-            (subst (λ (p : Past). IsQuiet first.script (due_at stage.world) rule p part []) same quiet),
+              (subst (λ (p : Past). is_part first.script rule p part [] ≡ true) same is)
+              (subst (λ (p : Past). IsQuiet first.script (due_at stage.world) rule p part []) same quiet),
         );
   }
 
@@ -167,7 +165,7 @@ module _ (first new : Stage) (s : ℕ) (answer : Turn) (is : IsStage first) (com
       let same : come.own ++ [] ≡ come.own = append_nil come.own in
       under_closes first new (by_entry (entry.Turn s)) (come.own ++ []) under
       (subst (λ (o : Past). is_part first.script (by_entry (entry.Turn s)) (past_of first) o [] ≡ true) (sym same)
-        (part_turns first.script (past_of first) s come.own (subst (λ (o : Past). IsUnderWay first.script (by_entry (entry.Turn s)) (past_of first) o) same under.way) (first_of_step first.script (past_of first) s (due_at first.world s) come.own step)))
+      (part_turns first.script (past_of first) s come.own (subst (λ (o : Past). IsUnderWay first.script (by_entry (entry.Turn s)) (past_of first) o) same under.way) (first_of_step first.script (past_of first) s (due_at first.world s) come.own step)))
       tt
     where
       append_nil : {X : Type 0} (a : List X) → a ++ [] ≡ a
@@ -192,4 +190,3 @@ module _ (first new : Stage) (s : ℕ) (answer : Turn) (is : IsStage first) (com
   -- one turn is a part of a number
   pub turn_closes : Closes first new (by_entry (entry.Turn s))
   turn_closes = by_answer answer come.came
-

@@ -304,8 +304,7 @@ module _ (script : Script) (n : GName) (s : ℕ) (old new : WorldOf JcrLaw) (sea
 
     pub stepped : (k : StepKind) → is_appended_by (history_at script past) s k (reverse own) ≡ true → IsOneStep own → IsStepAt script past s (due_at old s) own × (list_any (is_reply_of s) own ≡ false)
     stepped k appended (inl (e, is, plain)) =
-        let one : list_any (is_kind k) (kinds_for (history_at script past) s (e ∷ [])) ≡ true = sym (appended_one (history_at script past) s k e []) ∙ subst (λ (o : Past). is_appended_by (history_at script past) s k (reverse o) ≡ true) is appended in
-        (
+        let one : list_any (is_kind k) (kinds_for (history_at script past) s (e ∷ [])) ≡ true = sym (appended_one (history_at script past) s k e []) ∙ subst (λ (o : Past). is_appended_by (history_at script past) s k (reverse o) ≡ true) is appended in (
           record {
             events = inl (record { event = e; is = is; theirs = own_of (history_at script past) s k e one plain });
             step = subst (λ (o : Past). is_one_step (history_at script past) s (reverse o) ≡ true) (sym is) (some_kind k _ one);
@@ -315,17 +314,16 @@ module _ (script : Script) (n : GName) (s : ℕ) (old new : WorldOf JcrLaw) (sea
           },
           subst (λ (o : Past). list_any (is_reply_of s) o ≡ false) (sym is) (or_none (is_reply_of s e) false (no_reply s e plain) refl),
         )
-    stepped k appended (inr (c, v, r, is)) =
-        (
-          record {
-            events = inr (double k c v r is appended);
-            step = subst (λ (o : Past). is_one_step (history_at script past) s (reverse o) ≡ true) (sym is) (some_kind k (kinds_for (history_at script past) s (event.End r ∷ event.Head c v ∷ [])) (sym (appended_one (history_at script past) s k (event.End r) (event.Head c v ∷ [])) ∙ subst (λ (o : Past). is_appended_by (history_at script past) s k (reverse o) ≡ true) is appended));
-            awake = awake;
-            written = λ f same last. not_written (due_at old s) f (subst (λ (o : Past). is_by_due (due_at old s) o ≡ true) same step.as_due) last;
-            committed = λ f same commits. last_due (due_at old s) f (subst (λ (o : Past). is_by_due (due_at old s) o ≡ true) same step.as_due) commits;
-          },
-          subst (λ (o : Past). list_any (is_reply_of s) o ≡ false) (sym is) refl,
-        )
+    stepped k appended (inr (c, v, r, is)) = (
+      record {
+        events = inr (double k c v r is appended);
+        step = subst (λ (o : Past). is_one_step (history_at script past) s (reverse o) ≡ true) (sym is) (some_kind k (kinds_for (history_at script past) s (event.End r ∷ event.Head c v ∷ [])) (sym (appended_one (history_at script past) s k (event.End r) (event.Head c v ∷ [])) ∙ subst (λ (o : Past). is_appended_by (history_at script past) s k (reverse o) ≡ true) is appended));
+        awake = awake;
+        written = λ f same last. not_written (due_at old s) f (subst (λ (o : Past). is_by_due (due_at old s) o ≡ true) same step.as_due) last;
+        committed = λ f same commits. last_due (due_at old s) f (subst (λ (o : Past). is_by_due (due_at old s) o ≡ true) same step.as_due) commits;
+      },
+      subst (λ (o : Past). list_any (is_reply_of s) o ≡ false) (sym is) refl,
+    )
 
     -- what is kept, and what is seen, behind the step
     abbrev Sessions : List ℕ

@@ -23,9 +23,7 @@ use Rattle.jr_work.specs.Places.{has_written, history_at, is_at_last, is_over, i
 use Rattle.jr_work.specs.Parts.{Part, Rule, by_entry, events_of, has_just_said, is_done, is_part, is_turn, session_of, to_end, to_reply}
 use Rattle.jr_work.specs.SoFar.{IsCutSoFar, IsDouble, IsQuiet, IsSingle, IsStepAt, IsUnderWay, is_last_due}
 use Rattle.jr_work.specs.Stages.{Closes, Comes, HasCome, IsSeated, IsStage, IsUnder, due_at, has_come, has_come_by, past_of}
-
 use Rattle.jr_work.proofs.SoFar.{cut_closes, cut_due, cut_steps, part_at_last, part_closes, part_draws, part_replies, part_rests, part_says, part_turns, part_writes, way_begins, way_steps}
-
 use Rattle.jr_work.proofs.Closing.{awake_part, no_last, or_later, or_true, rests, under_begins, under_closes, under_stays, under_steps}
 
 at_least : (a b : ℕ) → a ≡ b → nat_le a b ≡ true
@@ -40,13 +38,13 @@ one_less a b h = omega arith
 least : (n : ℕ) → 0 ≤ n
 least n = omega arith
 
-number_itself : (n : ℕ) → (n == n) ≡ true
+pub number_itself : (n : ℕ) → (n == n) ≡ true
 number_itself n = grind (arith, nat_tests)
 
 -- ---- replies among the events of a step
 
 module _ (s : ℕ) (part : Past) where
-  not_said : (own : Past) (script : Script) (past : Past) → IsSingle past s own ⊎ IsDouble script past s own → list_any (is_reply_of s) own ≡ false → has_just_said s (own ++ part) ≡ false
+  pub not_said : (own : Past) (script : Script) (past : Past) → IsSingle past s own ⊎ IsDouble script past s own → list_any (is_reply_of s) own ≡ false → has_just_said s (own ++ part) ≡ false
   not_said own script past (inl one) none = subst (λ (o : Past). has_just_said s (o ++ part) ≡ false) (sym one.is) (first (is_reply_of s one.event) (subst (λ (o : Past). list_any (is_reply_of s) o ≡ false) one.is none))
     where
       first : (b : Bool) → (b || false) ≡ false → b ≡ false
@@ -117,7 +115,7 @@ module _ (first stage : Stage) (s n said : ℕ) where
       let under = under_stays first stage new (by_entry (entry.Say s n)) has.part s answer has.under come none in
       under_closes first new (by_entry (entry.Say s n)) has.part under
       (part_says first.script (past_of first) s n has.part under.way (or_later (nat_le n (count_by (is_reply_of s) has.part)) _
-        (subst (λ (p : Past). is_resting first.script p s ≡ true) has.under.whole (subst (λ (x : Script). is_resting x (past_of stage) s ≡ true) has.under.script rest)))) tt
+      (subst (λ (p : Past). is_resting first.script p s ≡ true) has.under.whole (subst (λ (x : Script). is_resting x (past_of stage) s ≡ true) has.under.script rest)))) tt
 
   pub say_waits : HasSaid first stage s n said → (new : Stage) (q : _) → HasCome stage new s (turn.Waiting q) → Closes first new (by_entry (entry.Say s n))
   say_waits has new q come = rest_done has new (turn.Waiting q) come come.came.0 (rests stage.script (past_of stage) s (inl come.came.1))

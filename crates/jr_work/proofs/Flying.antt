@@ -58,7 +58,7 @@ drawing_by now (event.Draw f ∷ past) s d is flies = elim (f.session == s) as (
 drawing_by now (e ∷ past) s d is flies = drawing_by now past s d is flies
 
 -- a revision of s that hasn't ended is in flight
-flying_by : (now past : Past) (s : ℕ) (r : Revision) (d : Draw) → draw_of past r ≡ Some d → (d.session == s) ≡ true → is_ended now r ≡ false → is_drawing_among now past s ≡ true
+pub flying_by : (now past : Past) (s : ℕ) (r : Revision) (d : Draw) → draw_of past r ≡ Some d → (d.session == s) ≡ true → is_ended now r ≡ false → is_drawing_among now past s ≡ true
 flying_by now [] s r d is own flies = none_is_some d is
 flying_by now (event.Draw f ∷ past) s r d is own flies = elim (is_same r f.revision) as (λ b. is_same r f.revision ≡ b → is_drawing_among now (event.Draw f ∷ past) s ≡ true) [
   | true ↦ λ same.
@@ -118,8 +118,8 @@ pub flight_at_last : (past : Past) (s : ℕ) (f : Flight) → IsFlightOf past s 
 flight_at_last past s f h all undecided =
     ap (λ (o : Option Draw). option_map_or (is_written_out past s) o false) h.last
     ∙ by (is_committed past h.draw.revision) (is_refused past h.draw.revision) (list_any (is_undo_of s) (since_draw past s))
-        (flight_written past s (length (marked_paths h.draw.marks)) f h ∙ (ap (λ n. nat_le n f.written) (sym h.documents) ∙ all))
-        (sym h.undecided ∙ undecided)
+    (flight_written past s (length (marked_paths h.draw.marks)) f h ∙ (ap (λ n. nat_le n f.written) (sym h.documents) ∙ all))
+    (sym h.undecided ∙ undecided)
   where
     by : (c r u : Bool) → has_written (length (marked_paths h.draw.marks)) past s ≡ true → (not c && not r && not u) ≡ true → (has_written (length (marked_paths h.draw.marks)) past s && not c && not r && not u) ≡ true
     by false false false w k = ap (λ b. b && true && true && true) w
@@ -132,7 +132,7 @@ pub flight_not_at_last : (past : Past) (s : ℕ) (f : Flight) → IsFlightOf pas
 flight_not_at_last past s f h short =
     ap (λ (o : Option Draw). option_map_or (is_written_out past s) o false) h.last
     ∙ ap (λ b. b && not (is_committed past h.draw.revision) && not (is_refused past h.draw.revision) && not (list_any (is_undo_of s) (since_draw past s)))
-        (flight_written past s (length (marked_paths h.draw.marks)) f h ∙ (ap (λ n. nat_le n f.written) (sym h.documents) ∙ short))
+    (flight_written past s (length (marked_paths h.draw.marks)) f h ∙ (ap (λ n. nat_le n f.written) (sym h.documents) ∙ short))
 
 -- nor is one that is decided, or undone
 pub flight_decided : (past : Past) (s : ℕ) (f : Flight) → IsFlightOf past s f → f.undecided ≡ false → is_at_last past s ≡ false

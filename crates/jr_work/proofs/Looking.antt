@@ -1,8 +1,9 @@
 -- A reading step leaves the stage where it was, but for what its session has read.
-use Rattle.std.proofs.Common.{◌≡◌, ◌⊎◌, inl, inr, ℕ, length, map, Bool, true, false, cond, ◌&&◌, Some, None, Option, List, [], ◌∷◌, ◌++◌, refl, sym, ap, ◌∙◌, subst, arith}
+use Rattle.std.proofs.Common.{◌≡◌, ◌⊎◌, inl, inr, ℕ, ◌<◌, length, get_or, map, Bool, true, false, cond, ◌&&◌, Some, None, Option, List, [], ◌∷◌, ◌++◌, refl, sym, ap, ◌∙◌, subst, arith}
 use Rattle.std.specs.Prelude.{◌==◌, slice_get, slice_set}
 use Rattle.std.specs.Borrow.{GName}
 use Rattle.std.proofs.lemmas.Bool.Decides.{nat_tests}
+use Rattle.std.proofs.lemmas.Option.{slice_get_read}
 use mathlib.Core.Bool.{false≢true}
 use Rattle.jr_path.specs.declared.path.Path.{Path}
 use Rattle.jr_rev.specs.declared.revision.Revision.{Revision}
@@ -171,7 +172,7 @@ module _ (n : GName) (s : ℕ) (old new : Stage) (seat seat_now : Seat)
     session = is.session;
     stands = λ m. subst (λ (l : JcrLaw). Stands l (shown_at m new.world t) other.run) (sym read.0)
         (stands_told old.world.law other.run (shown_at m new.world t).beside (shown_at m new.world t).due (shown_at m old.world t) new.world.history (shown_work (work_in new.world.actors t)) (actor_in new.world.actors t).reply
-          same_history (ap (λ (x : PortSeat). x.work) (other_seat t apart)) (ap (λ (x : PortSeat). x.room) (other_seat t apart)) (is.stands m));
+        same_history (ap (λ (x : PortSeat). x.work) (other_seat t apart)) (ap (λ (x : PortSeat). x.room) (other_seat t apart)) (is.stands m));
     flight = subst (λ (p : Past). IsFlight p t other.flight) (sym same_past) is.flight;
     seen = subst (λ (p : Past). IsSeenBut old.script p t (awaited (shown_work (work_in new.world.actors t)))) (sym same_past) (λ r m u. ap (λ (x : PortSeat). awaited x.work) (other_seat t apart) ∙ is.seen r m u);
   }
@@ -200,14 +201,13 @@ module _ (n : GName) (s : ℕ) (old new : Stage) (seat seat_now : Seat)
     script = script_same;
     stage = stage_now;
     over = λ t over. subst (λ (p : Past). is_over old.script p t ≡ true) (sym same_past) over;
-    closes = λ parts h.
-        (
-          record { rule = by_entry (entry.Read s); events = [] },
-          refl,
-          subst (λ (p : Past). IsCutSoFar old.script (due_at new.world) (record { rule = by_entry (entry.Read s); events = [] } ∷ parts) [] p) (sym same_past)
-            (cut_closes old.script (due_at new.world) (by_entry (entry.Read s)) parts [] (past_of old)
-              (cut_due old.script (due_at old.world) (due_at new.world) last_stays parts [] (past_of old) h) refl tt),
-        );
+    closes = λ parts h. (
+      record { rule = by_entry (entry.Read s); events = [] },
+      refl,
+      subst (λ (p : Past). IsCutSoFar old.script (due_at new.world) (record { rule = by_entry (entry.Read s); events = [] } ∷ parts) [] p) (sym same_past)
+          (cut_closes old.script (due_at new.world) (by_entry (entry.Read s)) parts [] (past_of old)
+          (cut_due old.script (due_at old.world) (due_at new.world) last_stays parts [] (past_of old) h) refl tt),
+    );
   }
 
 -- ---- what a reading step asks
@@ -218,12 +218,11 @@ stands_at stage s seat is at n = (is.each s seat at).stands n
 -- ---- through a port
 
 read_in : (n m : GName) (s t : ℕ) (old new : WorldOf JcrLaw) (run now : SessionRun) → new.law ≡ old.law → HasLooked old.law (shown_at n old s) (shown_at m new t) run now → HasRead n s old new run now
-read_in n m s t old new run now law looked =
-    (
-      law,
-      subst (λ (x : ℕ). HasLooked old.law (shown_at n old s) (shown_at n new x) run now) looked.beside.session
-        (subst (λ (x : GName). HasLooked old.law (shown_at n old s) (shown_at x new t) run now) (ap (λ (b : Beside). b.name) looked.beside.beside) looked),
-    )
+read_in n m s t old new run now law looked = (
+  law,
+  subst (λ (x : ℕ). HasLooked old.law (shown_at n old s) (shown_at n new x) run now) looked.beside.session
+      (subst (λ (x : GName). HasLooked old.law (shown_at n old s) (shown_at x new t) run now) (ap (λ (b : Beside). b.name) looked.beside.beside) looked),
+)
 
 -- what was read through a port of the world is read in the world
 pub read_through : (n m k : GName) (s t u : ℕ) (old start new : WorldOf JcrLaw) (run now : SessionRun) → start ≡ old → k ≡ n → u ≡ s → new.law ≡ start.law → HasLooked start.law (shown_at k start u) (shown_at m new t) run now → HasRead n s old new run now
@@ -232,10 +231,3 @@ read_through n m k s t u old start new run now world name session law looked =
     (subst (λ (x : GName). HasRead x s start new run now) name
     (subst (λ (x : ℕ). HasRead k x start new run now) session
     (read_in k m u t start new run now law looked)))
-
--- and where a session stands in a world, it stands at a port of the world
-pub stands_through : (n k : GName) (s u : ℕ) (old start : WorldOf JcrLaw) (run : SessionRun) → start ≡ old → k ≡ n → u ≡ s → Stands old.law (shown_at n old s) run → Stands start.law (shown_at k start u) run
-stands_through n k s u old start run world name session stands =
-    subst (λ (x : WorldOf JcrLaw). Stands x.law (shown_at k x u) run) (sym world)
-    (subst (λ (x : GName). Stands old.law (shown_at x old u) run) (sym name)
-    (subst (λ (x : ℕ). Stands old.law (shown_at n old x) run) (sym session) stands))

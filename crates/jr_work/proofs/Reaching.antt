@@ -158,11 +158,11 @@ close_done first new s part e same under done = of_commit (λ x. IsUnder first n
 close_come : (first new : Stage) (s : ℕ) (o : Option Flight) (part : Past) → IsFlight (part ++ past_of first) s o → (e : Entry) → IsOfCommit s e → IsUnder first new (by_entry e) part → comes (due_at new.world s) e o ≡ true → Closes first new (by_entry e)
 close_come first new s o part flight e same under come = of_commit (λ x. IsUnder first new (by_entry x) part → comes (due_at new.world s) x o ≡ true → Closes first new (by_entry x)) s
     (λ u k. under_closes first new (by_entry (entry.Draw s)) part u
-      (part_draws first.script (past_of first) s part u.way
-        (first_true (is_drawing (part ++ past_of first) s) (has_just_said s part) (is_resting first.script (part ++ past_of first) s) (drawn (part ++ past_of first) s (due_at new.world s) o flight k))) tt)
+    (part_draws first.script (past_of first) s part u.way
+    (first_true (is_drawing (part ++ past_of first) s) (has_just_said s part) (is_resting first.script (part ++ past_of first) s) (drawn (part ++ past_of first) s (due_at new.world s) o flight k))) tt)
     (λ n u k. under_closes first new (by_entry (entry.Write s n)) part u
-      (part_writes first.script (past_of first) s n part u.way
-        (first_true (has_written n (part ++ past_of first) s) (has_just_said s part) (is_resting first.script (part ++ past_of first) s) (wrote (part ++ past_of first) s n (due_at new.world s) o flight k))) tt)
+    (part_writes first.script (past_of first) s n part u.way
+    (first_true (has_written n (part ++ past_of first) s) (has_just_said s part) (is_resting first.script (part ++ past_of first) s) (wrote (part ++ past_of first) s n (due_at new.world s) o flight k))) tt)
     (λ u k. close_last u (last_write (part ++ past_of first) s (due_at new.world s) o flight k))
     e same under come
   where
@@ -253,6 +253,13 @@ has_session stage s is below = ap is_some (seat_at stage.world.history.sessions 
 pub as_many : (stage : Stage) → IsStage stage → length stage.seats.items ≡ length stage.world.history.sessions
 as_many stage is = is.seats ∙ sym (ap (λ (h : History). length h.sessions) is.history ∙ length-map stage.script.sessions (λ (x : SessionScript). x.cluster))
 
+abbrev pub is_stepped : Turn → Bool
+is_stepped (turn.Stepped k) = true
+is_stepped a = false
+
+pub place_there : {X : Type 0} (xs : List X) (i : ℕ) → i < length xs → is_some (slice_get xs i) ≡ true
+place_there xs i below = ap is_some (seat_at xs i below).1
+
 module _ (first stage : Stage) (s : ℕ) (e : Entry) (named : IsOfCommit s e) (has : HasGone first stage (by_entry e) s) where
   pub still_there : IsStage first → s < length first.seats.items → s < length stage.seats.items
   still_there is below = subst (λ (n : ℕ). s < n) (sym (seats_stay first stage is has.under.stage_is has.under.script)) below
@@ -264,11 +271,14 @@ module _ (first stage : Stage) (s : ℕ) (e : Entry) (named : IsOfCommit s e) (h
     pub goes : has_come stage s e ≡ false → (new : Stage) (k : StepKind) → HasCome stage new s (turn.Stepped k) → HasGone first new (by_entry e) s
     goes short new k come = let p = seat_at stage.seats.items s below in go_steps first stage s e named has p.0 p.1 short new k come
 
-    pub go_ends : has_come stage s e ≡ false → (new : Stage) (answer : Turn) → HasCome stage new s answer → ((k : StepKind) → answer ≡ turn.Stepped k → ⊥) → Closes first new (by_entry e)
+    pub goes_as : has_come stage s e ≡ false → (new : Stage) (answer : Turn) (k : StepKind) → answer ≡ turn.Stepped k → HasCome stage new s answer → HasGone first new (by_entry e) s
+    goes_as short new answer k is come = goes short new k (subst (λ (a : Turn). HasCome stage new s a) is come)
+
+    pub go_ends : has_come stage s e ≡ false → (new : Stage) (answer : Turn) → HasCome stage new s answer → is_stepped answer ≡ false → Closes first new (by_entry e)
     go_ends short new answer come apart = by (seat_at stage.seats.items s below) answer come apart
       where
-        by : (seat : Seat) × (slice_get stage.seats.items s ≡ Some seat) → (answer : Turn) → HasCome stage new s answer → ((k : StepKind) → answer ≡ turn.Stepped k → ⊥) → Closes first new (by_entry e)
-        by (seat, at) (turn.Stepped k) come apart = absurd (apart k refl)
+        by : (seat : Seat) × (slice_get stage.seats.items s ≡ Some seat) → (answer : Turn) → HasCome stage new s answer → is_stepped answer ≡ false → Closes first new (by_entry e)
+        by (seat, at) (turn.Stepped k) come apart = absurd (false≢true (sym apart))
         by (seat, at) (turn.Said i) come apart = go_said first stage s e named has seat at short new i come
         by (seat, at) (turn.Waiting q) come apart = go_waits first stage s e named has seat at short new q come
         by (seat, at) turn.Ended come apart = go_over first stage s e named has seat at short new come

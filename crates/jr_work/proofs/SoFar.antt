@@ -163,8 +163,7 @@ module _ (script : Script) (due now : ℕ → Option StepKind) (t : ℕ) (past o
   quiet_grows [] later whole quiet = tt
   quiet_grows (p ∷ parts) later whole quiet =
       let below : past ≡ reverse (reverse p.events ++ later) ++ events_of parts =
-          whole ∙ (sym (append_assoc (reverse later) p.events (events_of parts)) ∙ ap (λ l. l ++ events_of parts) (ap (λ l. reverse later ++ l) (sym (reverse-reverse p.events)) ∙ sym (reverse-append (reverse p.events) later))) in
-      (
+      whole ∙ (sym (append_assoc (reverse later) p.events (events_of parts)) ∙ ap (λ l. l ++ events_of parts) (ap (λ l. reverse later ++ l) (sym (reverse-reverse p.events)) ∙ sym (reverse-append (reverse p.events) later))) in (
         quiet_part p.rule (events_of parts) p.events later whole quiet.0,
         subst (λ (l : List Event). AreQuiet script now parts l) (append_assoc (reverse p.events) later (reverse own)) (quiet_grows parts (reverse p.events ++ later) below quiet.1),
       )
@@ -288,8 +287,8 @@ module _ (script : Script) (before : Past) where
           first = record {
             goes = part_grows script rule before part (event.End two.revision) way.knows way.goes
                 (not_yet rule part (event.End two.revision) done (λ t same.
-                  ap (λ b. is_at_last (part ++ before) t && option_map_or is_commit (cond b (Some (event.End two.revision)) None) false) (subst (λ (r : Rule). is_revision_of (part ++ before) (session_of r) two.revision ≡ true) same two.theirs)
-                  ∙ and_none (is_at_last (part ++ before) t)))
+                ap (λ b. is_at_last (part ++ before) t && option_map_or is_commit (cond b (Some (event.End two.revision)) None) false) (subst (λ (r : Rule). is_revision_of (part ++ before) (session_of r) two.revision ≡ true) same two.theirs)
+                ∙ and_none (is_at_last (part ++ before) t)))
                 (own_of_turn script (part ++ before) (session_of rule) (event.End two.revision) two.theirs);
             knows = and_true (is_revision_of (part ++ before) (session_of rule) two.revision || not (is_at_last (part ++ before) (session_of rule))) _ (ap (λ b. b || not (is_at_last (part ++ before) (session_of rule))) two.theirs) way.knows;
           }

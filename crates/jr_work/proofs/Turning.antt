@@ -133,8 +133,11 @@ module _ (script : Script) (n : GName) (s : ℕ) (old new : WorldOf JcrLaw) (sea
           → IsComeTo script n s old new seat now (turn.Waiting q) law_is history seated law_same turned seat.flight
       by none (r, before, after, unseen) = record {
         shape = inl none;
-        came = (none, waits_for script.clusters (map (λ x. x.cluster) script.sessions) (subst (λ (h : History). Rattle.oak_machine.specs.Runs.AreNodes h.clusters h.sessions) history (seated.stands n).nodes) (Rattle.jcr_session.specs.Sights.starts_of old.law) (Rattle.jcr_session.specs.Sights.says_of old.law) script refl old.history.past s r unseen.theirs
-            (all (is_committed old.history.past r) (is_ended old.history.past r) (sees (head_of script.clusters old.history.past r.cluster) r) unseen.committed unseen.ended unseen.unseen));
+        came = (
+          none,
+          waits_for script.clusters (map (λ x. x.cluster) script.sessions) (subst (λ (h : History). Rattle.oak_machine.specs.Runs.AreNodes h.clusters h.sessions) history (seated.stands n).nodes) (Rattle.jcr_session.specs.Sights.starts_of old.law) (Rattle.jcr_session.specs.Sights.says_of old.law) script refl old.history.past s r unseen.theirs
+              (all (is_committed old.history.past r) (is_ended old.history.past r) (sees (head_of script.clusters old.history.past r.cluster) r) unseen.committed unseen.ended unseen.unseen),
+        );
         flown = subst (λ (o : Past). IsFlight (o ++ old.history.past) s seat.flight) (sym none) seated.flight;
         seen = subst (λ (o : Past). IsSeenBut script (o ++ old.history.past) s (awaited (shown_work (work_in new.actors s)))) (sym none) (λ p m u. ap awaited (after ∙ sym before) ∙ seated.seen p m u);
         still = λ empty last. absurd (false≢true (sym (ap at_commit before) ∙ last_commits (work_in old.actors s) last));

@@ -161,4 +161,3 @@ waiting = reverse (ends_y) ++ reverse (writes_x ++ writes_y) ++ before
 
 nothing : is_part script (by_entry (entry.Turn 1)) waiting [] [] ≡ true
 nothing = refl
-

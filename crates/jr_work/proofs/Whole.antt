@@ -68,8 +68,8 @@ all_more old mid new rules rule all one = record {
         )
 
 -- the rules of one entry more
-pub take_one_more : {X : Type 0} (f : X → Rule) (xs : List X) (i : ℕ) (x : X) → i < length xs → x ≡ get_or xs i x → map f (take (i + 1) xs) ≡ map f (take i xs) ++ f x ∷ []
-take_one_more f xs i x below is = ap (map f) (take_more xs i x below ∙ ap (λ y. take i xs ++ y ∷ []) (sym is)) ∙ map-append f (take i xs) (x ∷ [])
+pub take_one_more : {X : Type 0} (f : X → Rule) (xs : List X) (i : ℕ) (d x : X) → i < length xs → x ≡ get_or xs i d → map f (take (i + 1) xs) ≡ map f (take i xs) ++ f x ∷ []
+take_one_more f xs i d x below is = ap (map f) (take_more xs i d below ∙ ap (λ y. take i xs ++ y ∷ []) (sym is)) ∙ map-append f (take i xs) (x ∷ [])
 
 pub range_one_more : (f : ℕ → Rule) (n : ℕ) → map f (range_with_len 0 (n + 1)) ≡ map f (range_with_len 0 n) ++ f n ∷ []
 range_one_more f n = ap (map f) (range_more n) ∙ map-append f (range_with_len 0 n) (n ∷ [])
@@ -97,14 +97,14 @@ module _ (first stage : Stage) (rules : List Rule) (all : ClosesAll first stage 
   listed_there is xs there i s below at =
       below_still is s (subst (λ (x : ℕ). x < length first.seats.items) (sym at) (All-get_or (λ x. x < length first.seats.items) xs i s below there))
 
-pub played_more : (first stage new : Stage) (i : ℕ) (e : Entry) → ClosesAll first stage (map by_entry (take i first.script.schedule)) → i < length first.script.schedule → e ≡ get_or stage.script.schedule i e → Closes stage new (by_entry e) → ClosesAll first new (map by_entry (take (i + 1) first.script.schedule))
-played_more first stage new i e all below is one =
-    subst (λ (rules : List Rule). ClosesAll first new rules) (sym (take_one_more by_entry first.script.schedule i e below (is ∙ ap (λ (x : Script). get_or x.schedule i e) all.script)))
+pub played_more : (first stage new : Stage) (i : ℕ) (d e : Entry) (xs : List Entry) → ClosesAll first stage (map by_entry (take i first.script.schedule)) → i < length first.script.schedule → xs ≡ stage.script.schedule → e ≡ get_or xs i d → Closes stage new (by_entry e) → ClosesAll first new (map by_entry (take (i + 1) first.script.schedule))
+played_more first stage new i d e xs all below same is one =
+    subst (λ (rules : List Rule). ClosesAll first new rules) (sym (take_one_more by_entry first.script.schedule i d e below (is ∙ ap (λ (l : List Entry). get_or l i d) (same ∙ ap (λ (x : Script). x.schedule) all.script))))
     (all_more first stage new (map by_entry (take i first.script.schedule)) (by_entry e) all one)
 
-pub replied_more : (first stage new : Stage) (xs : List ℕ) (i s : ℕ) → ClosesAll first stage (map to_reply (take i xs)) → i < length xs → s ≡ get_or xs i s → Closes stage new (to_reply s) → ClosesAll first new (map to_reply (take (i + 1) xs))
-replied_more first stage new xs i s all below is one =
-    subst (λ (rules : List Rule). ClosesAll first new rules) (sym (take_one_more to_reply xs i s below is))
+pub replied_more : (first stage new : Stage) (xs : List ℕ) (i d s : ℕ) → ClosesAll first stage (map to_reply (take i xs)) → i < length xs → s ≡ get_or xs i d → Closes stage new (to_reply s) → ClosesAll first new (map to_reply (take (i + 1) xs))
+replied_more first stage new xs i d s all below is one =
+    subst (λ (rules : List Rule). ClosesAll first new rules) (sym (take_one_more to_reply xs i d s below is))
     (all_more first stage new (map to_reply (take i xs)) (to_reply s) all one)
 
 pub finished_more : (first stage new : Stage) (s : ℕ) → ClosesAll first stage (map to_end (range_with_len 0 s)) → Closes stage new (to_end s) → ClosesAll first new (map to_end (range_with_len 0 (s + 1)))

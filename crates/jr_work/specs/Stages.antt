@@ -92,10 +92,10 @@ pub record HasCome (old new : Stage) (s : ℕ) (answer : Turn) : Type 0 where
   pub over : (t : ℕ) → IsTrue (is_over old.script (past_of old) t) → IsTrue (is_over old.script (past_of new) t)
   pub came : Comes old.script (past_of old) s (due_at old.world s) answer own
 
--- the same of a session's own turn, in the world that it was shown; nothing, where memory was refused
-abbrev pub HasTurnedIn : GName → ℕ → WorldOf JcrLaw → WorldOf JcrLaw → SessionRun → SessionRun → Turn → Type 0
-HasTurnedIn n s old new run now turn.Memory = ⊤
-HasTurnedIn n s old new run now answer = (new.law ≡ old.law) × IsTurned old.law (shown_at n old s) (shown_at n new s) run now answer
+-- the same of a session's own turn, in the world that it was shown through some reference; nothing, where memory was refused
+abbrev pub HasTurnedIn : ℕ → WorldOf JcrLaw → WorldOf JcrLaw → SessionRun → SessionRun → Turn → Type 0
+HasTurnedIn s old new run now turn.Memory = ⊤
+HasTurnedIn s old new run now answer = (name : GName) × (new.law ≡ old.law) × IsTurned old.law (shown_at name old s) (shown_at name new s) run now answer
 
 -- a reading step of session s, where one is due
 abbrev pub HasRead : GName → ℕ → WorldOf JcrLaw → WorldOf JcrLaw → SessionRun → SessionRun → Type 0

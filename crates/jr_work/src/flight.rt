@@ -1,5 +1,5 @@
 // What is kept of a commit in flight.
-ghost use Rattle.std.specs.Prelude.{◌≡◌, IfOk};
+ghost use Rattle.std.specs.Prelude.{◌≡◌, ◌&&◌, IfOk, nat_le};
 ghost use Rattle.jr_work.specs.Flights.{flight_with};
 ghost use Rattle.jr_work.specs.SoFar.{is_last_due};
 ghost use Rattle.jr_work.specs.Stages.{has_come_by};
@@ -29,9 +29,22 @@ impl Flight {
         match entry {
             Entry::Draw(_) => true,
             Entry::Write(_, count) => count as usize <= self.written,
-            Entry::Last(_) => self.documents <= self.written && self.undecided && is_last(due),
+            Entry::Last(_) => self.is_at_last(due),
             _ => false,
         }
+    }
+
+    // Whether only the last write is left, and due.
+    fn is_at_last(&self, due: Option<StepKind>) -> bool
+        ensures { result ≡ (nat_le self.now.documents self.now.written && self.now.undecided && is_last_due due) }
+    {
+        if self.written < self.documents {
+            return false;
+        }
+        if !self.undecided {
+            return false;
+        }
+        is_last(due)
     }
 }
 

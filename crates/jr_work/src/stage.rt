@@ -1,5 +1,10 @@
 // The world of a script with its sessions, and the turns that an entry of a schedule asks for.
 ghost use Rattle.std.specs.Prelude.{◌≡◌, ◌<◌, ◌≤◌, ℕ, All, IfOk, OnOk, List, IsTrue, is_some, length, map, slice_get, ◌∷◌};
+ghost use Rattle.std.specs.Borrow.{GName};
+ghost use Rattle.std.specs.BTreeMap.{insert_entry};
+ghost use Rattle.std.specs.Map.{values_of};
+ghost use Rattle.std.specs.Option.{option_map_or};
+ghost use Rattle.jr_rev.specs.Revisions.{revision_cmp};
 ghost use Rattle.jr_script.specs.Bounds.{IsWithin};
 ghost use Rattle.jr_script.specs.Schedules.{IsEntryWithin, session_named};
 ghost use Rattle.oak_world.specs.Seen.{shown_at};
@@ -13,6 +18,7 @@ ghost use Rattle.jr_work.specs.Seats.{AreNew};
 use crate::flight::{Flight, flight_after};
 use jcr_session::{JcrLaw, SessionRun, Turn};
 use jr_path::{DeepCopy, List};
+use jr_rev::Revision;
 use jr_script::{Entry, Script, SessionScript};
 use oak_world::{SoloPort, World};
 use std::alloc::{AllocError, Global};
@@ -106,7 +112,10 @@ impl Stage {
             }
             match self.turn(s)? {
                 Turn::Stepped(_) => {}
-                _ => return Ok(()),
+                Turn::Said(_) => return Ok(()),
+                Turn::Waiting(_) => return Ok(()),
+                Turn::Ended => return Ok(()),
+                Turn::Memory => return Err(AllocError),
             }
         }
         Err(AllocError)
@@ -181,15 +190,9 @@ impl Stage {
         self.world.journal();
         let mut flying = BTreeMap::new(self.alloc);
         for (s, seat) in self.seats.iter().enumerate() {
-            if let Some(flight) = &seat.flight {
-                flying.insert(flight.revision, s as u32)?;
-            }
+            note_flight(&mut flying, &seat.flight, s as u32)?;
         }
-        let mut sessions = List::new(self.alloc);
-        for (_, session) in flying.iter() {
-            sessions.push(*session)?;
-        }
-        Ok(sessions)
+        sessions_of(self.alloc, &flying)
     }
 
     // A turn of a session. What is kept of its commit goes by the event that the turn added last.
@@ -207,6 +210,34 @@ impl Stage {
             }
         }
     }
+}
+
+// Notes the commit that a session has in flight, if any, by its revision.
+fn note_flight(
+    flying: &mut BTreeMap<Revision, u32>,
+    flight: &Option<Flight>,
+    s: u32,
+) -> Result<(), AllocError>
+    ensures { OnOk result (flying.new.entries ≡ option_map_or (λ f. insert_entry revision_cmp flying.old.entries f.revision s) flight.now flying.old.entries) }
+{
+    match flight {
+        Some(flight) => {
+            flying.insert(flight.revision, s)?;
+            Ok(())
+        }
+        None => Ok(()),
+    }
+}
+
+// The sessions of some revisions, in their order.
+fn sessions_of(alloc: Global, flying: &BTreeMap<Revision, u32>) -> Result<List<u32>, AllocError>
+    ensures { IfOk result (λ sessions. sessions ≡ values_of flying.now.entries) }
+{
+    let mut sessions = List::new(alloc);
+    for (_, session) in flying {
+        sessions.push(*session)?;
+    }
+    Ok(sessions)
 }
 
 // The cluster node of each session.
@@ -248,8 +279,8 @@ fn law_of(alloc: Global, script: &Script) -> Result<JcrLaw, AllocError>
 // A turn of a session in its world.
 fn turn_once(world: &mut World<JcrLaw>, run: &mut SessionRun, s: u32) -> Turn
     requires there { IsTrue (is_some (slice_get world.old.history.sessions s)) }
-    requires stands { Stands world.old.law (shown_at world.ghost_name world.old s) run.old }
-    ensures { HasTurnedIn world.entry.ghost_name s world.old world.new run.old run.new result }
+    requires stands { (name : GName) → Stands world.old.law (shown_at name world.old s) run.old }
+    ensures { HasTurnedIn s world.old world.new run.old run.new result }
 {
     let mut port = SoloPort::new(world, s);
     run.turn(&mut port)
@@ -258,8 +289,8 @@ fn turn_once(world: &mut World<JcrLaw>, run: &mut SessionRun, s: u32) -> Turn
 // A reading step of a session in its world, where one is due.
 fn read_one(world: &mut World<JcrLaw>, run: &mut SessionRun, s: u32) -> Result<bool, AllocError>
     requires there { IsTrue (is_some (slice_get world.old.history.sessions s)) }
-    requires stands { Stands world.old.law (shown_at world.ghost_name world.old s) run.old }
-    ensures { OnOk result (HasRead world.entry.ghost_name s world.old world.new run.old run.new) }
+    requires stands { (name : GName) → Stands world.old.law (shown_at name world.old s) run.old }
+    ensures { OnOk result ((name : GName) × HasRead name s world.old world.new run.old run.new) }
 {
     let mut port = SoloPort::new(world, s);
     run.read(&mut port)

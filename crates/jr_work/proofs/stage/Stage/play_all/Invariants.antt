@@ -1,7 +1,7 @@
 use Rattle.std.proofs.Common.{map, take}
 use Rattle.jr_work.specs.Parts.{by_entry}
 use Rattle.jr_work.specs.Stages.{ClosesAll}
-use Rattle.jr_work.proofs.run.Stage.play_all.Given as goal
+use Rattle.jr_work.proofs.stage.Stage.play_all.Given as goal
 
 -- the entries so far have their parts
 abbrev pub invariant-loop-i : goal.invariant-loop-i

@@ -1,7 +1,7 @@
 use Rattle.std.proofs.Common.{map, take}
 use Rattle.jr_work.specs.Parts.{to_reply}
 use Rattle.jr_work.specs.Stages.{ClosesAll}
-use Rattle.jr_work.proofs.run.Stage.reply_all.Given as goal
+use Rattle.jr_work.proofs.stage.Stage.reply_all.Given as goal
 
 -- the sessions so far have said their replies
 abbrev pub invariant-loop-s : goal.invariant-loop-s

@@ -2,7 +2,7 @@ use Rattle.std.proofs.Common.{map}
 use Rattle.std.specs.List.{range_with_len}
 use Rattle.jr_work.specs.Parts.{to_end}
 use Rattle.jr_work.specs.Stages.{AreOver, ClosesAll}
-use Rattle.jr_work.proofs.run.Stage.finish_all.Given as goal
+use Rattle.jr_work.proofs.stage.Stage.finish_all.Given as goal
 
 -- the sessions so far have ended
 abbrev pub invariant-loop-s : goal.invariant-loop-s
