@@ -14,8 +14,7 @@ use crate::law::JcrLaw;
 use crate::past::{drawn_since, refreshed_since, refusal_of};
 use crate::pending::{pending_of, view_of};
 use jcr_trans::{
-    Command, null_reply, refusal_text, revision_reply, run, too_many_reply,
-    vector_reply,
+    Command, null_reply, refusal_text, revision_reply, run, too_many_reply, vector_reply,
 };
 use jr_path::{DeepCopy, List};
 use jr_rev::{RevVec, Revision};

@@ -20,8 +20,7 @@ use crate::sight::{Seen, Sight, look};
 use crate::turn::Turn;
 use jcr_plan::marks_of;
 use jcr_trans::{
-    Command, null_reply, refusal_text, revision_reply, run, too_many_reply,
-    vector_reply,
+    Command, null_reply, refusal_text, revision_reply, run, too_many_reply, vector_reply,
 };
 use jr_path::{DeepCopy, Item, List};
 use jr_rev::{Pin, RevVec, Revision};
