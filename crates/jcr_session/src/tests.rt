@@ -5,7 +5,7 @@ use jcr_trans::Command;
 use jr_path::{List, Path, Text};
 use jr_rev::{RevVec, Revision};
 use jr_tree::{Edit, Write};
-use oak_machine::{Draw, Event, Journal, next_index};
+use oak_machine::{Draw, Event, Events, Journal, next_index};
 use std::alloc::{AllocError, Global};
 use std::test::Fail;
 
@@ -110,7 +110,7 @@ fn reply(
     }
 }
 
-fn commit(alloc: Global, events: &mut List<Event>, time: u64) -> Result<(), AllocError> {
+fn commit(alloc: Global, events: &mut Events, time: u64) -> Result<(), AllocError> {
     let mut writes = List::new(alloc);
     writes.push(Write::Here(path(alloc, "/a")?))?;
     events.push(Event::Draw(Draw {
@@ -124,7 +124,7 @@ fn commit(alloc: Global, events: &mut List<Event>, time: u64) -> Result<(), Allo
     events.push(Event::End(revision(time)))
 }
 
-fn say(events: &mut List<Event>, session: u32, text: String) -> Result<(), AllocError> {
+fn say(events: &mut Events, session: u32, text: String) -> Result<(), AllocError> {
     let Ok(index) = u32::try_from(next_index(events.as_slice(), session)) else {
         return Err(AllocError);
     };
@@ -138,7 +138,7 @@ fn replies_of_two_sessions(rt: HostRuntime) -> Result<(), Fail> {
     let mut journal = Journal {
         clusters: 2,
         sessions: List::new(alloc),
-        events: List::new(alloc),
+        events: Events::new(alloc),
     };
     for step in STEPS {
         match step {
