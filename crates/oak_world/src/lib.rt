@@ -10,10 +10,9 @@ mod session;
 mod start;
 mod step;
 mod store;
-mod world;
-
 #[cfg(test)]
 mod tests;
+mod world;
 
 pub use port::SoloPort;
 pub use world::World;

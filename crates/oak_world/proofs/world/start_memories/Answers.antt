@@ -1,4 +1,4 @@
-use Rattle.std.proofs.Common.{◌≤◌, ◌∷◌, ◌++◌, [], ap, ◌∙◌, arith}
+use Rattle.std.proofs.Common.{◌∷◌, ◌++◌, [], ap, ◌∙◌, arith}
 use Rattle.oak_node.specs.Memory.{NodeState}
 use Rattle.oak_world.proofs.Starting.{begun_more, entry_there}
 use Rattle.oak_world.proofs.world.start_memories.Goals as goal

@@ -1,4 +1,4 @@
-use Rattle.std.proofs.Common.{◌≡◌, ◌≢◌, ◌↔◌, ◌<◌, true, Option, is_some, length, sym, subst, ◌∙◌, arith}
+use Rattle.std.proofs.Common.{◌≡◌, ◌≢◌, ◌↔◌, true, Option, is_some, sym, subst, ◌∙◌, arith}
 use Rattle.oak_machine.specs.declared.event.StepKind.{StepKind}
 use Rattle.oak_world.specs.declared.actor.Work.TheVariants as work
 use Rattle.oak_world.specs.Worlds.{work_in}
@@ -9,13 +9,13 @@ use Rattle.oak_world.proofs.world.World.due.Goals as goal
 pub index-seat-requires : goal.index-seat-requires
 index-seat-requires g c =
     let within = actor_within (g.L.Law.may_start c.self.inside.law) (g.L.Law.may_say c.self.inside.law) (g.L.Law.proper c.self.inside.law) c.self.inside.law c.self.inside.journal c.self.inside.table c.self.inside.memories.items c.self.inside.actors.items c.self.invariant.0
-        c.args.actor (there_by _ c.args.self.now c.args.actor c.self.view_is c.requires) in
+    c.args.actor (there_by _ c.args.self.now c.args.actor c.self.view_is c.requires) in
     omega (arith, within, c.self.inside.actors.ok.0)
 
 pub returns-clause-due : goal.returns-clause-due
 returns-clause-due g c =
     let within = actor_within (g.L.Law.may_start c.self.inside.law) (g.L.Law.may_say c.self.inside.law) (g.L.Law.proper c.self.inside.law) c.self.inside.law c.self.inside.journal c.self.inside.table c.self.inside.memories.items c.self.inside.actors.items c.self.invariant.0
-        c.args.actor (there_by _ c.args.self.now c.args.actor c.self.view_is c.requires) in
+    c.args.actor (there_by _ c.args.self.now c.args.actor c.self.view_is c.requires) in
     c.due.ensures ∙ due_there c.self.inside.law c.self.inside.journal c.self.inside.table c.self.inside.memories.items c.self.inside.actors.items c.args.self.now c.self.view_is c.args.actor c.index-seat.result.now c.index-seat.result.now within c.index-seat.ensures
 
 pub returns-clause-busy : goal.returns-clause-busy

@@ -1,4 +1,4 @@
-use Rattle.std.proofs.Common.{◌<◌, ◌-◌, length, ap, sym, ◌∙◌, arith}
+use Rattle.std.proofs.Common.{ap, sym, ◌∙◌, arith}
 use Rattle.std.specs.Option.{option_map}
 use Rattle.jr_rev.specs.declared.vector.Pin.{Pin}
 use Rattle.core_world.proofs.Truths.{pin_closed, pin_settled, pin_shows}
@@ -10,14 +10,14 @@ use Rattle.oak_world.proofs.world.World.pin.Goals as goal
 pub index-memory-requires : goal.index-memory-requires
 index-memory-requires g c =
     let there = memory_there (g.L.Law.may_start c.self.inside.law) (g.L.Law.may_say c.self.inside.law) (g.L.Law.proper c.self.inside.law) c.self.inside.law c.self.inside.journal c.self.inside.table c.self.inside.memories.items c.self.inside.actors.items
-        c.self.invariant.0 c.args.self.now c.self.view_is c.args.actor c.node-node.result c.node-node.ensures.node in
+    c.self.invariant.0 c.args.self.now c.self.view_is c.args.actor c.node-node.result c.node-node.ensures.node in
     omega (arith, there, c.self.inside.memories.ok.0)
 
 pub returns-clause-pin : goal.returns-clause-pin
 returns-clause-pin g c =
     c.pin_of.ensures
     ∙ pin_is (g.L.Law.may_start c.self.inside.law) (g.L.Law.may_say c.self.inside.law) (g.L.Law.proper c.self.inside.law) c.self.inside.law c.self.inside.journal c.self.inside.table c.self.inside.memories.items c.self.inside.actors.items
-        c.self.invariant.0 c.args.self.now c.self.view_is c.args.actor c.node-node.result c.node-node.ensures.node c.index-memory.result.now c.index-memory.ensures
+    c.self.invariant.0 c.args.self.now c.self.view_is c.args.actor c.node-node.result c.node-node.ensures.node c.index-memory.result.now c.index-memory.ensures
 
 pub returns-clause-base : goal.returns-clause-base
 returns-clause-base g c = λ stays.

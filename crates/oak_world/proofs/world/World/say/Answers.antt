@@ -1,4 +1,4 @@
-use Rattle.std.proofs.Common.{◌≡◌, arith}
+use Rattle.std.proofs.Common.{arith}
 use Rattle.oak_world.specs.Worlds.{node_in, shown_world}
 use Rattle.oak_world.proofs.Calling.{say_stands, saying_is, seat_placed, seat_places, seat_reply}
 use Rattle.oak_world.proofs.Seats.{actor_within, session_on, there_by}

@@ -1,4 +1,4 @@
-use Rattle.std.proofs.Common.{◌≡◌, ◌∙◌, ap, sym, subst, Option, arith}
+use Rattle.std.proofs.Common.{◌∙◌, ap, sym, subst, Option, arith}
 use Rattle.jr_rev.specs.declared.vector.Pin.{Pin}
 use Rattle.oak_node.specs.Pins.{pin_of}
 use Rattle.core_world.specs.States.{memory_of}
