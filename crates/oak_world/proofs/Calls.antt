@@ -1,6 +1,5 @@
 -- What a world keeps, by its fields, after the calls of one of its sessions.
-use Rattle.std.proofs.Common.{◌≡◌, ◌≢◌, ℕ, zero, suc, ◌+◌, ◌-◌, ◌^◌, ◌<◌, ◌≤◌, Bool, true, false, cond, Option, Some, None, List, [], ◌∷◌, ◌++◌, length, map, is_some, refl, sym, ap, subst, ◌∙◌, arith}
-use Rattle.std.proofs.Math.ListN.{get_or}
+use Rattle.std.proofs.Common.{◌≡◌, ◌≢◌, ℕ, zero, suc, ◌+◌, ◌-◌, ◌^◌, ◌<◌, ◌≤◌, true, cond, Option, Some, None, List, [], ◌∷◌, ◌++◌, length, map, is_some, refl, sym, ap, subst, ◌∙◌, arith}
 use Rattle.std.specs.Prelude.{reverse, slice_get, slice_set}
 use Rattle.std.specs.Option.{option_map, unwrap_or}
 use Rattle.std.specs.Borrow.{GName}
@@ -20,13 +19,13 @@ use Rattle.oak_node.specs.Memory.{NodeState}
 use Rattle.oak_read.specs.Reading.{IsTable}
 use Rattle.oak_store.specs.Tables.{Table}
 use Rattle.core_clash.specs.Core.{root_of}
-use Rattle.core_world.specs.States.{memory_at, memory_of, with_memory}
+use Rattle.core_world.specs.States.{memory_at, with_memory}
 use Rattle.oak_port.specs.declared.task.StepOut.{StepOut}
 use Rattle.oak_port.specs.Ports.{Steps as StepSeen}
 use Rattle.oak_world.specs.declared.actor.Actor.{Actor}
 use Rattle.oak_world.specs.declared.actor.Work.{Work}
 use Rattle.oak_world.specs.declared.actor.Work.TheVariants as work
-use Rattle.oak_world.specs.Kept.{ArePlaced, IsAtWork, IsPlaced, IsWorld, May}
+use Rattle.oak_world.specs.Kept.{ArePlaced, IsPlaced, IsWorld, May}
 use Rattle.oak_world.specs.Parts.{CanStep, Parts, Steps, needed, parts}
 use Rattle.oak_world.specs.Steps.{Makes, StepsIn, reads_after}
 use Rattle.oak_world.specs.Seen.{shown_at}

@@ -1,16 +1,13 @@
 -- What a world keeps after each call for one of its sessions, and what a port tells of it.
 use mathlib.Core.Bool.{false≢true}
-use Rattle.std.proofs.Common.{◌≡◌, ◌≢◌, ◌↔◌, ◌⊎◌, inl, inr, ℕ, zero, suc, ◌+◌, ◌-◌, ◌*◌, ◌^◌, ◌<◌, ◌≤◌, Bool, true, false, cond, ◌||◌, Option, Some, None, List, [], ◌∷◌, ◌++◌, length, map, is_some, refl, sym, ap, subst, ◌∙◌, arith}
+use Rattle.std.proofs.Common.{◌≡◌, ◌≢◌, ◌↔◌, ℕ, zero, suc, ◌^◌, ◌<◌, ◌≤◌, Bool, true, false, ◌||◌, Option, Some, None, List, [], ◌∷◌, length, map, is_some, refl, sym, ap, subst, ◌∙◌, arith}
 use Rattle.std.specs.Prelude.{◌==◌, slice_get, slice_set, IsSome}
 use Rattle.std.specs.Borrow.{GName}
-use Rattle.std.specs.declared.alloc.Global.{Global}
 use Rattle.std.proofs.lemmas.List.{length-set}
 use Rattle.std.proofs.lemmas.Option.{slice_get_within}
-use Rattle.jr_path.specs.declared.path.Path.{Path}
 use Rattle.jr_path.specs.declared.text.Text.{Text}
 use Rattle.jr_rev.specs.declared.revision.Revision.{Revision}
 use Rattle.jr_rev.specs.declared.vector.Pin.{Pin}
-use Rattle.oak_commit.specs.Clashing.{Met}
 use Rattle.oak_commit.specs.Committing.{Committing}
 use Rattle.oak_commit.specs.Stages.{stage_of}
 use Rattle.oak_commit.specs.declared.outcome.CommitEnd.{CommitEnd}
@@ -19,25 +16,20 @@ use Rattle.oak_commit.specs.declared.stage.Stage.{Stage}
 use Rattle.oak_commit.specs.declared.stage.Stage.TheVariants as stage
 use Rattle.oak_machine.specs.declared.event.Event.{Event}
 use Rattle.oak_machine.specs.declared.event.Event.TheVariants as event
-use Rattle.oak_machine.specs.declared.event.StepKind.{StepKind}
 use Rattle.oak_machine.specs.History.{History, Past}
-use Rattle.oak_machine.specs.Commits.{is_drawn, is_ended}
 use Rattle.oak_machine.specs.Laws.{AreOthers, Says, Starts, StartsProper, after}
 use Rattle.oak_machine.specs.Runs.{IsNode, IsRun, StartsLast}
-use Rattle.oak_machine.specs.Sessions.{base_of, has_left, has_login, next_index}
+use Rattle.oak_machine.specs.Sessions.{next_index}
 use Rattle.oak_node.specs.Heads.{HasEnded, known_time}
-use Rattle.oak_node.specs.Memory.{NodeState}
 use Rattle.oak_node.specs.Pins.{pin_of}
 use Rattle.oak_read.specs.declared.reader.Reader.{Reader}
 use Rattle.oak_read.specs.Reading.{IsTable, children_reader, node_reader}
-use Rattle.core_clash.specs.Core.{root_of}
 use Rattle.core_clash.specs.Sessions.{Running}
-use Rattle.core_clash.specs.Views.{In}
 use Rattle.core_heads.proofs.Runs.{sound_run}
 use Rattle.core_nodes.proofs.Pasts.{ended_was_drawn}
 use Rattle.core_nodes.proofs.Waits.{has_ended}
 use Rattle.core_world.specs.Kept.{IsKept}
-use Rattle.core_world.specs.States.{State, memory_at, memory_of, node_of, with_session}
+use Rattle.core_world.specs.States.{State, memory_of, with_session}
 use Rattle.core_world.specs.Steps.{after_said, with_reader}
 use Rattle.core_world.proofs.Flights.{other_number, same_number}
 use Rattle.core_world.proofs.Lives.{its_node, on_node, said_keeps}
@@ -49,10 +41,10 @@ use Rattle.oak_port.specs.declared.task.Task.TheVariants as task
 use Rattle.oak_port.specs.Ports.{Answers, Beside, Idle, Makes as Tells, MayBegin, Seat, Starting, Steps as StepSeen, Waits, Work as Shows}
 use Rattle.oak_world.specs.declared.actor.Work.{Work}
 use Rattle.oak_world.specs.declared.actor.Work.TheVariants as work
-use Rattle.oak_world.specs.Kept.{IsAtWork, IsWorld, May}
-use Rattle.oak_world.specs.Parts.{CanCommit, CanMove, CanStep, needed}
+use Rattle.oak_world.specs.Kept.{IsWorld, May}
+use Rattle.oak_world.specs.Parts.{CanStep, needed}
 use Rattle.oak_world.specs.Seen.{no_seat, seat_of, shown_at, shown_by, shown_work}
-use Rattle.oak_world.specs.Steps.{Begins, HasCome, IsIdle, StepsIn, kind_due, kind_of}
+use Rattle.oak_world.specs.Steps.{Begins, HasCome, StepsIn, kind_due, kind_of}
 use Rattle.oak_world.specs.Worlds.{ActorState, WorldOf, actor_in, node_in, reading_of, running_as, running_of, said_in, state_of, state_with, with_reply, with_work, work_in}
 use Rattle.oak_world.proofs.States.{actor_other, actor_set, session_same, session_set}
 use Rattle.oak_world.proofs.Stages.{done_stage}

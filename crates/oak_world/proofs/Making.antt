@@ -1,5 +1,5 @@
 -- A step of a session on its parts is a step of the state.
-use Rattle.std.proofs.Common.{◌≡◌, ◌⊎◌, inl, inr, ℕ, ◌<◌, Bool, true, false, cond, Option, Some, None, Ok, Err, List, [], ◌∷◌, ◌++◌, length, map, drop, refl, sym, ap, subst, ◌∙◌}
+use Rattle.std.proofs.Common.{◌≡◌, ◌⊎◌, inl, inr, ℕ, ◌<◌, Bool, true, false, cond, Option, Some, None, List, [], ◌∷◌, ◌++◌, length, drop, sym, ap, subst, ◌∙◌}
 use Rattle.std.proofs.lemmas.List.{reverse-append, reverse-reverse}
 use Rattle.std.specs.Prelude.{reverse}
 use Rattle.jr_path.specs.declared.path.Path.{Path}
@@ -10,15 +10,9 @@ use Rattle.jr_rev.specs.Revisions.{is_before}
 use Rattle.oak_clash.specs.Clashes.{commit_root}
 use Rattle.oak_commit.specs.Clashing.{Met, mark_op}
 use Rattle.oak_commit.specs.Committing.{Committing, fed, first_path, is_past, refused as refused_as, wanting, with_undone, written}
-use Rattle.oak_commit.specs.declared.outcome.CommitEnd.TheVariants as end
 use Rattle.oak_commit.specs.Writing.{last_op, write_op}
 use Rattle.oak_doc.specs.declared.asks.Reply.TheVariants as reply
-use Rattle.oak_doc.specs.declared.document.Document.{Document}
-use Rattle.oak_doc.specs.declared.update.OpFault.{OpFault}
-use Rattle.oak_doc.specs.declared.update.OpFault.TheVariants as fault
-use Rattle.oak_doc.specs.declared.update.Kept.TheVariants as kept
 use Rattle.oak_doc.specs.declared.update.UpdateOp.{UpdateOp}
-use Rattle.oak_doc.specs.Updates.{updated}
 use Rattle.oak_machine.specs.declared.event.Event.{Event}
 use Rattle.oak_machine.specs.declared.event.Event.TheVariants as event
 use Rattle.oak_machine.specs.declared.event.StepKind.TheVariants as kind
@@ -30,13 +24,12 @@ use Rattle.oak_store.specs.Tables.{Table, after_undo, found as found_in, next_nu
 use Rattle.core_clash.specs.Core.{root_of}
 use Rattle.core_clash.specs.Sessions.{Running}
 use Rattle.core_world.specs.States.{State, memory_at, nodes_in, with_memory, with_session}
-use Rattle.core_world.specs.Steps.{after_finish, after_last, after_mark, after_undoing, after_update, after_want, after_write, after_write_in_want, lasted_by, marked_by, moved_head, with_reader, with_result}
-use Rattle.oak_world.specs.declared.actor.Work.{Work}
+use Rattle.core_world.specs.Steps.{after_last, after_mark, after_update, after_write, after_write_in_want, lasted_by, marked_by, moved_head, with_reader, with_result}
 use Rattle.oak_world.specs.declared.actor.Work.TheVariants as work
-use Rattle.oak_world.specs.Parts.{IsLast, IsLastMade, IsLastRefused, IsMade, IsMarkMade, IsMarkRefused, IsMarked, IsUndone, IsWritten, Parts, committed, end_events, fed_made, marked, op_due, parts, refusal_at, result_of}
+use Rattle.oak_world.specs.Parts.{IsLast, IsMade, IsMarked, IsUndone, IsWritten, Parts, committed, end_events, fed_made, marked, op_due, parts, refusal_at, result_of}
 use Rattle.oak_world.specs.Steps.{MakesUpdate}
-use Rattle.oak_world.specs.Worlds.{ActorState, WorldOf, actor_in, node_in, parts_at, reading_of, running_as, running_of, state_of, with_parts, work_in}
-use Rattle.oak_world.proofs.Feeding.{blocked_last, blocked_mark, fed_last, fed_mark, fed_undo, fed_write, going_is, op_last, op_mark, op_write, running_going}
+use Rattle.oak_world.specs.Worlds.{ActorState, WorldOf, node_in, parts_at, reading_of, running_as, running_of, state_of, with_parts, work_in}
+use Rattle.oak_world.proofs.Feeding.{blocked_last, blocked_mark, fed_last, fed_mark, fed_undo, fed_write, going_is, op_last, op_mark, op_write}
 use Rattle.oak_world.proofs.Stages.{IsLastStage, IsMarkStage, IsUndoStage, IsWriteStage}
 use Rattle.oak_world.proofs.States.{memory_same, moved, moved_is, newest, quiet_is, rest_is, session_same}
 

@@ -1,10 +1,10 @@
 -- The places of the journal that are kept for the sessions.
-use Rattle.std.proofs.Common.{◌≡◌, ℕ, ◌+◌, ◌<◌, ◌≤◌, Bool, true, false, List, length, Option, Some, None, refl, sym, ap, subst, ◌∙◌, arith}
+use Rattle.std.proofs.Common.{◌≡◌, ℕ, ◌+◌, ◌<◌, ◌≤◌, Bool, true, false, List, length, Some, refl, sym, ap, subst, ◌∙◌, arith}
 use Rattle.std.proofs.Math.ListN.{get_or}
 use Rattle.std.proofs.lemmas.List.{get_or-set_same, get_or-set_other, length-set}
 use Rattle.std.proofs.lemmas.List.Sums.{sum_by-set}
 use Rattle.std.proofs.lemmas.Option.{get_or_from_slice_get, slice_get-get_or, slice_get_within}
-use Rattle.std.specs.Prelude.{◌==◌, slice_get, slice_set, sum_by}
+use Rattle.std.specs.Prelude.{◌==◌, slice_get, slice_set}
 use Rattle.core_world.proofs.Flights.{other_number, same_number}
 use Rattle.oak_world.specs.declared.actor.Actor.{Actor}
 use Rattle.oak_world.specs.Kept.{ArePlaced, IsPlaced}

@@ -1,14 +1,13 @@
 -- What a port of a world tells of each call.
 use mathlib.Core.Bool.{false≢true}
-use Rattle.std.proofs.Common.{◌≡◌, ◌≢◌, ◌↔◌, ℕ, ◌<◌, ◌≤◌, Bool, true, false, Option, Some, None, Result, Ok, Err, List, length, is_some, refl, sym, ap, subst, ◌∙◌}
-use Rattle.std.specs.Prelude.{OnErr, OnOk, slice_get, slice_set, IsSome}
+use Rattle.std.proofs.Common.{◌≡◌, ◌≢◌, ◌↔◌, ℕ, ◌<◌, ◌≤◌, true, Option, Some, None, Result, Ok, Err, List, length, is_some, refl, sym, ap, subst, ◌∙◌}
+use Rattle.std.specs.Prelude.{OnErr, OnOk, slice_get}
 use Rattle.std.specs.Borrow.{GName}
 use Rattle.std.specs.Option.{IsSomeAnd}
 use Rattle.std.specs.declared.alloc.AllocError.{AllocError}
 use Rattle.std.proofs.lemmas.Option.{slice_get_within}
 use Rattle.jr_path.specs.declared.text.Text.{Text}
 use Rattle.jr_rev.specs.declared.vector.Pin.{Pin}
-use Rattle.oak_machine.specs.History.{History}
 use Rattle.oak_machine.specs.Laws.{Says, Starts}
 use Rattle.oak_machine.specs.Runs.{IsRun}
 use Rattle.oak_port.specs.declared.task.Task.{Task}
@@ -16,8 +15,8 @@ use Rattle.oak_port.specs.Ports.{Answers, HasRoom, Idle, Starting, Waits}
 use Rattle.oak_world.specs.declared.actor.Work.{Work}
 use Rattle.oak_world.specs.declared.actor.Work.TheVariants as work
 use Rattle.oak_world.specs.Seen.{shown_at, shown_work}
-use Rattle.oak_world.specs.Steps.{Begins, IsIdle, kind_due}
-use Rattle.oak_world.specs.Worlds.{ActorState, WorldOf, actor_in, said_in, with_reply, with_work, work_in}
+use Rattle.oak_world.specs.Steps.{Begins, IsIdle}
+use Rattle.oak_world.specs.Worlds.{WorldOf, actor_in, said_in, with_reply, with_work, work_in}
 use Rattle.oak_world.proofs.Keeping.{answers_shown, begins_shown, idle_shown, still_waits, waits}
 
 -- a session that does nothing is shown to do nothing, and the other way round

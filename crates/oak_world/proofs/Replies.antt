@@ -1,11 +1,8 @@
 -- What a committer keeps after the reply of a call that can't be refused, or can be.
-use Rattle.std.proofs.Common.{◌≡◌, ◌⊎◌, inl, inr, Bool, true, false, List, [], ◌∷◌, Option, Some, None, Result, Ok, Err, is_some, refl, sym, ap, subst, ◌∙◌}
-use Rattle.std.specs.Prelude.{OnErr, OnOk, IsTrue, slice_get}
-use Rattle.std.specs.Option.{option_map}
+use Rattle.std.proofs.Common.{◌≡◌, ◌⊎◌, inl, inr, Bool, true, false, List, [], ◌∷◌, Option, Some, None, Result, Ok, Err, refl, ap, ◌∙◌}
+use Rattle.std.specs.Prelude.{OnErr, OnOk, IsTrue}
 use Rattle.std.specs.declared.alloc.AllocError.{AllocError}
 use Rattle.jr_path.specs.declared.path.Path.{Path}
-use Rattle.jr_path.specs.declared.path.Item.{Item}
-use Rattle.jr_rev.specs.declared.revision.Revision.{Revision}
 use Rattle.oak_commit.specs.Clashing.{Met}
 use Rattle.oak_commit.specs.Committing.{Committing, due_by, due_of, ended_by, fed, fed_by, is_past, tells_written, undo_due, wanting}
 use Rattle.oak_commit.specs.Kept.{undoes}

@@ -1,12 +1,12 @@
 -- The state of a world in which one session has taken a step.
-use Rattle.std.proofs.Common.{◌≡◌, ℕ, zero, suc, ◌<◌, ◌-◌, Bool, true, false, cond, Option, Some, None, List, [], ◌∷◌, ◌++◌, length, refl, sym, ap, subst, ◌∙◌, arith}
+use Rattle.std.proofs.Common.{◌≡◌, ℕ, zero, suc, ◌<◌, ◌-◌, Bool, true, false, cond, Option, List, [], ◌∷◌, ◌++◌, length, refl, sym, ap, subst, ◌∙◌}
 use Rattle.std.proofs.Math.ListN.{get_or}
-use Rattle.std.proofs.lemmas.List.{append-nil, get_or-set_same, get_or-set_other, length-set, reverse-append, reverse-reverse}
+use Rattle.std.proofs.lemmas.List.{get_or-set_same, get_or-set_other, reverse-append, reverse-reverse}
 use Rattle.std.proofs.lemmas.Option.{unwrap_or-slice_get}
-use Rattle.std.specs.Prelude.{◌==◌, reverse, slice_get, slice_set}
+use Rattle.std.specs.Prelude.{◌==◌, reverse, slice_set}
 use Rattle.std.proofs.Math.Path.{fun_ext}
 use Rattle.oak_machine.specs.declared.event.Event.{Event}
-use Rattle.oak_machine.specs.History.{History, Past}
+use Rattle.oak_machine.specs.History.{Past}
 use Rattle.oak_node.specs.Memory.{NodeState}
 use Rattle.oak_read.specs.declared.reader.Reader.{Reader}
 use Rattle.oak_store.specs.Tables.{Table}
@@ -14,8 +14,8 @@ use Rattle.core_clash.specs.Sessions.{Running}
 use Rattle.core_world.specs.States.{State, memory_at, with_memory, with_session}
 use Rattle.core_world.proofs.Flights.{other_number, same_number}
 use Rattle.oak_world.specs.declared.actor.Work.{Work}
-use Rattle.oak_world.specs.Parts.{Parts, parts}
-use Rattle.oak_world.specs.Worlds.{ActorState, WorldOf, actor_in, idle, node_in, parts_at, reading_of, running_of, state_of, state_with, with_parts, work_in}
+use Rattle.oak_world.specs.Parts.{Parts}
+use Rattle.oak_world.specs.Worlds.{ActorState, WorldOf, actor_in, idle, node_in, parts_at, reading_of, running_of, state_of, with_parts, work_in}
 
 -- ---- the journal
 

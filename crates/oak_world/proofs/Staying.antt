@@ -1,17 +1,15 @@
 -- What a session does, it may still do after events of others.
-use Rattle.std.proofs.Common.{◌≡◌, ◌⊎◌, inl, inr, ℕ, Bool, true, false, ◌||◌, Option, Some, None, List, [], ◌∷◌, ◌++◌, map, is_some, refl, sym, ap, subst, ◌∙◌}
-use Rattle.std.specs.Prelude.{◌==◌}
+use Rattle.std.proofs.Common.{◌≡◌, inl, inr, ℕ, Bool, true, false, ◌||◌, List, [], ◌∷◌, ◌++◌, map, refl, sym, ap, ◌∙◌}
 use Rattle.std.specs.List.{list_any}
 use Rattle.jr_path.specs.declared.path.Path.{Path}
 use Rattle.jr_rev.specs.declared.revision.Revision.{Revision}
 use Rattle.oak_commit.specs.Clashing.{Met}
 use Rattle.oak_commit.specs.Committing.{Committing}
-use Rattle.oak_machine.specs.declared.event.Draw.{Draw}
 use Rattle.oak_machine.specs.declared.event.Event.{Event}
 use Rattle.oak_machine.specs.declared.event.Event.TheVariants as event
 use Rattle.oak_machine.specs.declared.event.StepKind.TheVariants as kind
 use Rattle.oak_machine.specs.History.{History, Past}
-use Rattle.oak_machine.specs.Commits.{draw_of, is_drawn, is_ended}
+use Rattle.oak_machine.specs.Commits.{is_drawn, is_ended}
 use Rattle.oak_machine.specs.Laws.{AreOthers, Says, Starts, after, is_event_of}
 use Rattle.oak_machine.specs.Runs.{AreNodes, IsRun, IsRunOf, StartsLast}
 use Rattle.oak_machine.specs.Sessions.{has_left, has_login, is_end_of_session, is_login_of}
@@ -22,7 +20,7 @@ use Rattle.core_nodes.proofs.Pasts.{still_drawn}
 use Rattle.core_world.proofs.Truths.{root_stays}
 use Rattle.oak_world.specs.declared.actor.Work.{Work}
 use Rattle.oak_world.specs.declared.actor.Work.TheVariants as work
-use Rattle.oak_world.specs.Kept.{IsAtWork, May}
+use Rattle.oak_world.specs.Kept.{May}
 use Rattle.oak_world.specs.Steps.{HasCome}
 
 neither : (a b : Bool) → (a || b) ≡ false → (a ≡ false) × (b ≡ false)

@@ -1,24 +1,19 @@
 -- A step of a session on its parts is, by what it does, one of the steps of the state.
-use Rattle.std.proofs.Common.{◌≡◌, ◌≢◌, ◌⊎◌, inl, inr, ℕ, ◌<◌, Bool, Option, Some, None, List, [], ◌∷◌, ◌++◌, length, map, refl, sym, ap, subst, ◌∙◌}
+use Rattle.std.proofs.Common.{◌≡◌, inl, inr, ℕ, ◌<◌, Bool, Option, Some, None, List, [], ◌∷◌, ◌++◌, length, map, refl, sym, ap, ◌∙◌}
 use Rattle.std.proofs.lemmas.List.{reverse-reverse}
 use Rattle.std.specs.Prelude.{reverse}
-use Rattle.jr_path.specs.declared.path.Path.{Path}
 use Rattle.jr_rev.specs.declared.revision.Revision.{Revision}
 use Rattle.jr_tree.specs.declared.edit.Edit.{Edit}
 use Rattle.oak_clash.specs.declared.mark.MarkAt.{MarkAt}
 use Rattle.oak_clash.specs.Clashes.{marked_paths}
 use Rattle.oak_commit.specs.Clashing.{Met}
 use Rattle.oak_commit.specs.Committing.{Committing, begun, first_path, is_past, wanting}
-use Rattle.oak_commit.specs.Stages.{stage_of}
 use Rattle.oak_commit.specs.declared.outcome.CommitEnd.TheVariants as end
-use Rattle.oak_commit.specs.declared.stage.Stage.TheVariants as stage
-use Rattle.oak_doc.specs.declared.asks.Ask.TheVariants as ask
 use Rattle.oak_machine.specs.declared.event.Event.{Event}
 use Rattle.oak_machine.specs.declared.event.Event.TheVariants as event
 use Rattle.oak_machine.specs.declared.event.StepKind.{StepKind}
 use Rattle.oak_machine.specs.declared.event.StepKind.TheVariants as kind
-use Rattle.oak_machine.specs.History.{Past}
-use Rattle.oak_node.specs.Heads.{finished, next_draw, with_draw}
+use Rattle.oak_node.specs.Heads.{next_draw, with_draw}
 use Rattle.oak_node.specs.Memory.{NodeState}
 use Rattle.oak_node.specs.Notes.{with_notes}
 use Rattle.oak_node.specs.Pins.{pin_now, with_pin, without_pin}
@@ -32,7 +27,7 @@ use Rattle.oak_port.specs.declared.task.StepOut.TheVariants as answers
 use Rattle.oak_port.specs.declared.task.TaskEnd.TheVariants as ends
 use Rattle.oak_world.specs.declared.actor.Work.{Work}
 use Rattle.oak_world.specs.declared.actor.Work.TheVariants as work
-use Rattle.oak_world.specs.Parts.{CommitsOn, EndsSo, IsGivenUp, Parts, Steps, UpdatesOn, Updates, base_at, end_events, parts, parts_ended, read_on}
+use Rattle.oak_world.specs.Parts.{CommitsOn, EndsSo, IsGivenUp, Parts, Steps, UpdatesOn, Updates, base_at, parts, parts_ended, read_on}
 use Rattle.oak_world.specs.Steps.{Makes, MakesCommit, MakesUpdate}
 use Rattle.oak_world.specs.Worlds.{ActorState, WorldOf, node_in, parts_at, reading_of, running_as, running_of, state_of, with_parts, work_in}
 use Rattle.oak_world.proofs.Making.{begins_is, ended_is, makes_last, makes_mark, makes_undo, makes_write, reads_is, runs_is, same_is, told_is}

@@ -1,5 +1,5 @@
 -- What an update leaves of the documents.
-use Rattle.std.proofs.Common.{◌≡◌, All, Option, Some, Result, Ok, Err, sym, ap, subst, ◌∙◌}
+use Rattle.std.proofs.Common.{◌≡◌, All, Option, Result, Ok, Err, sym, ap, subst, ◌∙◌}
 use Rattle.jr_path.specs.Grammar.{IsName}
 use Rattle.oak_doc.specs.declared.document.Document.{Document}
 use Rattle.oak_doc.specs.declared.update.UpdateOp.{UpdateOp}
@@ -8,10 +8,10 @@ use Rattle.oak_doc.specs.declared.update.OpFault.TheVariants.{Unmet, Absent, Mem
 use Rattle.oak_doc.specs.Updates.{updated}
 use Rattle.oak_read.specs.Meaning.{path_of}
 use Rattle.oak_read.specs.Reading.{IsTable}
-use Rattle.oak_store.specs.Tables.{Table, Updates, found, next_number}
+use Rattle.oak_store.specs.Tables.{Table, Updates, next_number}
 use Rattle.core_world.specs.Steps.{after_update, with_result}
 use Rattle.core_world.proofs.Tabled.{update_in_order}
-use Rattle.oak_world.specs.Parts.{IsMade, result_of}
+use Rattle.oak_world.specs.Parts.{IsMade}
 
 -- an update that is answered with the document before is made
 pub made_is : (old new : Table) (op : UpdateOp) (before : Option Document) → Updates old new op (Ok before) → IsMade old new op

@@ -1,9 +1,8 @@
 -- What a step of a session keeps, and what the session is told by it.
-use Rattle.std.proofs.Common.{◌≡◌, ◌⊎◌, inl, inr, ℕ, Bool, true, false, cond, not, ◌&&◌, ◌||◌, Option, Some, None, List, [], ◌∷◌, ◌++◌, map, drop, is_some, refl, sym, ap, subst, ◌∙◌, arith}
+use Rattle.std.proofs.Common.{◌≡◌, ◌⊎◌, inl, inr, ℕ, Bool, true, false, cond, not, ◌&&◌, ◌||◌, Option, Some, None, List, [], ◌∷◌, ◌++◌, map, drop, is_some, refl, sym, ap, subst, ◌∙◌}
 use Rattle.std.specs.Prelude.{◌==◌, slice_get, reverse}
 use Rattle.std.specs.List.{list_any}
 use Rattle.std.specs.Option.{option_map, option_map_or, unwrap_or}
-use Rattle.std.proofs.lemmas.Bool.Decides.{nat_tests}
 use Rattle.jr_path.specs.declared.path.Path.{Path}
 use Rattle.jr_path.specs.declared.path.Item.{Item}
 use Rattle.jr_path.specs.declared.path.DocId.{DocId}
@@ -11,7 +10,7 @@ use Rattle.jr_path.specs.Ids.{names_of}
 use Rattle.jr_rev.specs.declared.revision.Revision.{Revision}
 use Rattle.jr_rev.specs.declared.vector.Pin.{Pin}
 use Rattle.jr_rev.specs.declared.vector.RevVec.{RevVec}
-use Rattle.jr_rev.specs.Revisions.{is_at_most, is_before, is_same}
+use Rattle.jr_rev.specs.Revisions.{is_before, is_same}
 use Rattle.jr_rev.specs.Vectors.{sees}
 use Rattle.jr_tree.specs.declared.edit.Edit.{Edit}
 use Rattle.jr_tree.specs.declared.tree.Node.{Node}
@@ -40,11 +39,11 @@ use Rattle.oak_machine.specs.declared.event.Event.TheVariants as event
 use Rattle.oak_machine.specs.declared.event.StepKind.{StepKind}
 use Rattle.oak_machine.specs.declared.event.StepKind.TheVariants as kind
 use Rattle.oak_machine.specs.History.{History, Past}
-use Rattle.oak_machine.specs.Commits.{draw_of, is_ended, tree_at}
+use Rattle.oak_machine.specs.Commits.{is_ended, tree_at}
 use Rattle.oak_machine.specs.Heads.{head_of, local}
 use Rattle.oak_machine.specs.Laws.{AreOthers, Says, Starts, StartsProper, after, is_event_of, is_revision_of}
 use Rattle.oak_machine.specs.Runs.{IsNode, IsRunOf}
-use Rattle.oak_machine.specs.Sessions.{base_of, has_left, has_login}
+use Rattle.oak_machine.specs.Sessions.{has_login}
 use Rattle.oak_machine.specs.Steps.{is_appended_by, is_kind, is_moving, kind_number, where_test}
 use Rattle.oak_node.specs.Heads.{AwaitsEarlier, finished, next_draw}
 use Rattle.oak_node.specs.Memory.{NodeState, own_entry}
@@ -86,7 +85,7 @@ use Rattle.oak_port.specs.declared.task.StepOut.TheVariants as answers
 use Rattle.oak_port.specs.declared.task.Task.TheVariants as task
 use Rattle.oak_port.specs.declared.task.TaskEnd.{TaskEnd}
 use Rattle.oak_port.specs.declared.task.TaskEnd.TheVariants as ends
-use Rattle.oak_port.specs.Ports.{AreOfStep, Awaiting, Deciding, Idle, IsFinish, Makes as Tells, Starting, Undoing, Work as Shows, Writing, is_by_due, is_due, tree_of}
+use Rattle.oak_port.specs.Ports.{AreOfStep, Awaiting, Idle, IsFinish, Makes as Tells, Starting, Work as Shows, Writing, is_by_due, is_due, tree_of}
 use Rattle.oak_world.specs.declared.actor.Work.{Work}
 use Rattle.oak_world.specs.declared.actor.Work.TheVariants as work
 use Rattle.oak_world.specs.Kept.{IsAtWork, May}

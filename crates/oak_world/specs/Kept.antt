@@ -1,9 +1,7 @@
 -- What each world keeps.
-use Rattle.std.specs.Prelude.{◌≡◌, ◌≤◌, ◌+◌, ℕ, false, true, cond, List, [], ◌∷◌, length, map, sum_by, slice_get, Option, Some, None, is_some, IsTrue, IsFalse}
-use Rattle.jr_path.specs.declared.path.Path.{Path}
-use Rattle.oak_commit.specs.Clashing.{Met}
+use Rattle.std.specs.Prelude.{◌≡◌, ◌≤◌, ◌+◌, ℕ, false, cond, List, length, map, sum_by, slice_get, Some, is_some, IsTrue, IsFalse}
 use Rattle.oak_commit.specs.Committing.{Committing}
-use Rattle.oak_machine.specs.History.{History, Past}
+use Rattle.oak_machine.specs.History.{History}
 use Rattle.oak_machine.specs.Commits.{is_ended}
 use Rattle.oak_machine.specs.Laws.{Says, Starts}
 use Rattle.oak_machine.specs.Sessions.{has_login}

@@ -10,9 +10,7 @@ use Rattle.jr_rev.specs.declared.revision.Revision.{Revision}
 use Rattle.jr_rev.specs.declared.vector.RevVec.{RevVec}
 use Rattle.jr_rev.specs.Revisions.{is_before}
 use Rattle.jr_rev.specs.Vectors.{sees}
-use Rattle.jr_tree.specs.declared.edit.Edit.{Edit}
 use Rattle.oak_clash.specs.Clashes.{marked_paths}
-use Rattle.oak_clash.specs.declared.mark.MarkAt.{MarkAt}
 use Rattle.oak_commit.specs.Clashing.{Met, Writer, mark_op}
 use Rattle.oak_commit.specs.Committing.{Committing, begun, fed, first_path, is_past, wanting}
 use Rattle.oak_commit.specs.Stages.{stage_of}

@@ -8,7 +8,7 @@ use Rattle.oak_commit.specs.declared.outcome.CommitEnd.TheVariants as end
 use Rattle.core_watch.specs.Standing.{path_read}
 use Rattle.oak_port.specs.declared.task.Task.{Task}
 use Rattle.oak_port.specs.declared.task.Task.TheVariants as task
-use Rattle.oak_port.specs.Ports.{Awaiting, Beside, Deciding, Idle, Seat, Shown, Starting, Undoing, Work as Shows, Writing}
+use Rattle.oak_port.specs.Ports.{Awaiting, Deciding, Idle, Seat, Shown, Starting, Undoing, Work as Shows, Writing}
 use Rattle.oak_world.specs.declared.actor.Work.{Work}
 use Rattle.oak_world.specs.declared.actor.Work.TheVariants as work
 use Rattle.oak_world.specs.Steps.{kind_due}

@@ -1,6 +1,5 @@
 use Rattle.std.proofs.Common.{◌++◌, ◌∷◌, [], ap, ◌∙◌}
 use Rattle.oak_machine.specs.declared.event.Event.TheVariants as event
-use Rattle.oak_world.specs.Parts.{IsMarked}
 use Rattle.oak_world.proofs.Acting.{mark_made, mark_refused}
 use Rattle.oak_world.proofs.Needs.{mark_needs}
 use Rattle.oak_world.proofs.commit.mark_by.Goals as goal

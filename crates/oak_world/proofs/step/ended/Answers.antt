@@ -1,5 +1,5 @@
-use Rattle.std.proofs.Common.{◌≡◌, ap, ◌∙◌}
-use Rattle.oak_commit.specs.Committing.{Committing, due_of}
+use Rattle.std.proofs.Common.{ap, ◌∙◌}
+use Rattle.oak_commit.specs.Committing.{due_of}
 use Rattle.oak_world.proofs.Replies.{end_done, fed_end, fed_finished}
 use Rattle.oak_world.proofs.step.ended.Goals as goal
 

@@ -1,4 +1,3 @@
-use Rattle.std.proofs.Common.{refl}
 use Rattle.oak_world.proofs.Playing.{turn_more}
 use Rattle.oak_world.proofs.world.World.play.Goals as goal
 

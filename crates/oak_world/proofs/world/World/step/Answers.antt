@@ -1,4 +1,4 @@
-use Rattle.std.proofs.Common.{◌≡◌, ◌<◌, ◌^◌, length, subst, List, arith}
+use Rattle.std.proofs.Common.{◌<◌, ◌^◌, length, subst, List, arith}
 use Rattle.oak_machine.specs.declared.event.Event.{Event}
 use Rattle.oak_world.proofs.Calling.{seat_placed, seat_places, step_can, step_made, step_shown, step_stands}
 use Rattle.oak_world.proofs.Ending.{lowers}
