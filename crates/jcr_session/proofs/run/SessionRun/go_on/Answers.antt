@@ -8,9 +8,6 @@ show_base-requires-clause-next g c = sym c.in-ShowBase.ensures
 pub refresh-requires-clause-next : goal.refresh-requires-clause-next
 refresh-requires-clause-next g c = sym c.in-Refresh.ensures
 
-pub refuse-requires-clause-next : goal.refuse-requires-clause-next
-refuse-requires-clause-next g c = sym c.in-Refuse.ensures
-
 pub save-requires-clause-next : goal.save-requires-clause-next
 save-requires-clause-next g c = sym c.in-Save.ensures
 
