@@ -19,7 +19,7 @@ use Rattle.jr_script.specs.declared.script.SessionScript.{SessionScript}
 use Rattle.jr_work.specs.declared.stage.Stage.{Stage}
 use Rattle.jr_work.specs.Parts.{IsCut, Part, Rule, by_entry, events_of, to_end, to_reply}
 use Rattle.jr_work.specs.Places.{commands_of, flying_sessions, history_at, is_over}
-use Rattle.jr_work.specs.Runs.{FollowsScript, HasRun, indexes_said}
+use Rattle.jr_work.specs.Runs.{AreApart, FollowsScript, HasRun, indexes_said}
 use Rattle.jr_work.specs.Schedules.{Scheduled, rules_of}
 use Rattle.jr_work.specs.SoFar.{IsCutSoFar}
 use Rattle.jr_work.specs.Stages.{AreOver, Closes, ClosesAll, IsBegun, IsStage, due_at, law_of, past_of}
@@ -148,7 +148,7 @@ module _ (script : Script) (begun played replied finished : Stage) (flying : Lis
     (flies : flying ≡ flying_sessions (past_of played)) (replies : ClosesAll played replied (map to_reply flying))
     (finishes : ClosesAll replied finished (map to_end (range_with_len 0 (length replied.seats.items))))
     (over : AreOver finished (length replied.seats.items))
-    (run : IsRun (starts_of finished.world.law) (says_of finished.world.law) finished.world.history) where
+    (run : IsRun (starts_of finished.world.law) (says_of finished.world.law) finished.world.history) (apart : AreApart finished.world.history.past) where
   script_played : played.script ≡ script
   script_played = plays.script ∙ begins.script_is
 
@@ -232,5 +232,6 @@ module _ (script : Script) (begun played replied finished : Stage) (flying : Lis
       answered = λ s session there. answered_by script finished.world.history run_is s session there
           (subst (λ (x : Script). is_over x (past_of finished) s ≡ true) script_finished (over s (subst (λ (n : ℕ). s < n) (sym seats_are) (slice_get_within script.sessions s session there))));
       scheduled = scheduled;
+      apart = apart;
     };
   }

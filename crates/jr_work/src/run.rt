@@ -14,8 +14,9 @@ use std::alloc::{AllocError, Global};
 
 /// Runs a script turn by turn as its schedule says; then the commits in flight in ascending order of their revisions, each to its reply; then the
 /// sessions in order, each to its end. It answers the world with which the script ended: its law, its cluster nodes and its sessions
-/// are the script's, its journal is a run of the machine by that law in which each command is answered once and in order, and
-/// the schedule cuts the journal.
+/// are the script's, its journal is a run of the machine by that law in which each command is answered once and in order,
+/// the schedule cuts the journal, no two commits clash unseen, each refusal names its cause, and what clashes with no other is made or
+/// wanted memory.
 pub fn run_steps(alloc: Global, script: Script) -> Result<World<JcrLaw>, AllocError>
     requires { IsWithin script }
     ensures { IfOk result (HasRun script) }
