@@ -246,28 +246,46 @@ fn replies_follow_from_the_journal(rt: HostRuntime) -> Result<(), Fail> {
     Ok(())
 }
 
-// Session 1 reads `/a` before and after the second save of session 0, and between its writes.
+// Session 1 reads `/a` before and after the second save of session 0, and between its writes; and two saves that meet each
+// other, each of which is refused with what it met.
 const STEADY: &str =
     r#"{"sessions":[{"commands":[["add","/a"],["add","/b"],["save"],["set","/a","p",1],["set","/b","p",1],["save"]]},{"commands":[["refresh",false],["get","/a/p"],["refresh",false],["get","/a/p"]]}],"schedule":[[0,"say",5],[0,"write",1],[1,"say",2],[0,"say",1],[1,"say",2]]}"#;
 
 const STEADY_REPLIES: &str =
     "0 0 ok\n0 1 ok\n0 2 ok \"r1-0-1\"\n0 3 ok\n0 4 ok\n0 5 ok \"r2-0-1\"\n1 0 ok \"r1-0-1\"\n1 1 no 1 [\"/a/p\"]\n1 2 ok \"r2-0-1\"\n1 3 ok 1\n";
 
+const CLASH: &str =
+    r#"{"sessions":[{"commands":[["add","/a"],["add","/b"],["save"],["set","/a","p",1],["set","/b","p",1],["save"],["refresh",false],["get","/a/p"]]},{"commands":[["set","/a","p",2],["set","/b","p",2],["save"]]}],"schedule":[[0,"say",5],[1,"say",2],[0,"write",1],[1,"write",1],[1,"write",2],[0,"last"],[0,"say",1],[1,"say",1]]}"#;
+
+const CLASH_REPLIES: &str =
+    "0 0 ok\n0 1 ok\n0 2 ok \"r1-0-1\"\n0 3 ok\n0 4 ok\n0 5 no 10 [\"/a/p\",\"r3-0-1\"]\n0 6 ok \"r3-0-1\"\n0 7 no 1 [\"/a/p\"]\n1 0 ok\n1 1 ok\n1 2 no 10 [\"/b/p\",\"r2-0-1\"]\n";
+
 // What a script writes, and how many documents session 1 reads.
 fn read_of(alloc: Global, input: &str) -> Result<(MemSink, u64), Fail> {
     match run(alloc, "steps", input, &[], &[])? {
-        (_, sink, Some(world)) if world.journal().sessions.inner().len() > 1 => {
-            let reads = world.reads(1);
+        (_, sink, Some(world)) => {
+            let reads = reads_of(&world);
             Ok((sink, reads))
         }
         _ => Err(AllocError.into()),
     }
 }
 
+// How many documents session 1 reads; 0 where there is none.
+fn reads_of(world: &World<JcrLaw>) -> u64 {
+    if world.journal().sessions.inner().len() > 1 {
+        world.reads(1)
+    } else {
+        0
+    }
+}
+
 #[test]
-fn a_reader_is_steady(rt: HostRuntime) -> Result<(), Fail> {
-    let (sink, reads) = read_of(rt.alloc(), STEADY)?;
-    assert_eq!(rt; sink.written(), STEADY_REPLIES.as_bytes());
-    assert!(rt; reads >= 2);
+fn a_reader_is_steady_and_saves_meet(rt: HostRuntime) -> Result<(), Fail> {
+    for (input, replies) in [(STEADY, STEADY_REPLIES), (CLASH, CLASH_REPLIES)] {
+        let (sink, reads) = read_of(rt.alloc(), input)?;
+        assert_eq!(rt; sink.written(), replies.as_bytes());
+        assert!(rt; reads >= 2);
+    }
     Ok(())
 }
