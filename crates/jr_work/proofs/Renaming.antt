@@ -19,7 +19,7 @@ module _ (law : JcrLaw) (p : Shown) (b : Beside) (d : Option StepKind) (run : Se
   in_renamed i = record { nodes = i.nodes; run = i.run; login = i.login; stays = i.stays; detached = i.detached; tree = i.tree }
 
   saving_renamed : IsSaving law p run → IsSaving law q run
-  saving_renamed i = record { allowed = i.allowed; saving = i.saving; room = i.room }
+  saving_renamed i = record { saving = i.saving; room = i.room }
 
   sees_renamed : (x : Sight) → Sees law p run x → Sees law q run x
   sees_renamed sight.Unread h = h
