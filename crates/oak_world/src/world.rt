@@ -6,7 +6,7 @@ ghost use Rattle.std.specs.Option.{option_map};
 ghost use Rattle.jr_path.specs.declared.path.Item.{Item};
 ghost use Rattle.jr_path.specs.declared.path.Path.{Path};
 ghost use Rattle.jr_rev.specs.declared.revision.Revision.{Revision};
-ghost use Rattle.jr_rev.specs.Vectors.{start};
+ghost use Rattle.jr_rev.specs.Vectors.{is_below, start};
 ghost use Rattle.jr_tree.specs.Trees.{node_at};
 ghost use Rattle.oak_doc.specs.declared.document.Document.{Document};
 ghost use Rattle.oak_machine.specs.Commits.{IsClosed, IsSettled, are_clashing, is_committed, is_ended, is_in_base, refusal_of, tree_at};
@@ -135,12 +135,13 @@ impl<L: Law + Drop> World<L> {
         &self.table
     }
 
-    /// The session's pin, where it has come and not left. It is at the base that the journal tells, which is settled and closed,
-    /// and at it the documents show at each path the node of the journal's tree.
+    /// The session's pin, where it has come and not left. It is at the base that the journal tells, which is settled and closed and at
+    /// least its sweep vector, and at it the documents show at each path the node of the journal's tree.
     pub fn pin(&self, actor: u32) -> Option<Pin>
         requires { IsTrue (is_some (slice_get self.now.history.sessions actor)) }
         ensures pin { result ≡ pin_of (memory_of (state_of self.now) actor) actor }
         ensures base { IsFalse (has_left self.now.history.past actor) → option_map (λ pin. pin.base) result ≡ base_of self.now.history.past actor }
+        ensures below { (pin : Pin) → result ≡ Some pin → IsTrue (is_below pin.sweep pin.base) }
         ensures settled { (pin : Pin) → result ≡ Some pin → IsSettled self.now.history.past pin.base }
         ensures closed { (pin : Pin) → result ≡ Some pin → IsClosed self.now.history.past pin.base }
         ensures shown { (pin : Pin) (p : Path) → result ≡ Some pin → found_node (documents_in self.now.table.documents) pin.sweep pin.base p ≡ option_map (λ node. node.props) (node_at (tree_at self.now.history.past pin.base) p) }

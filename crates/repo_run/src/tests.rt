@@ -164,9 +164,10 @@ fn told(alloc: Global, world: &World<JcrLaw>) -> Result<String, Fail> {
 
 // What a run of a script leaves.
 fn told_of(alloc: Global, input: &str) -> Result<String, Fail> {
-    match run(alloc, "steps", input, &[], &[])? {
-        (_, _, Some(world)) => told(alloc, &world),
-        _ => Err(AllocError.into()),
+    let (_, _, left) = run(alloc, "steps", input, &[], &[])?;
+    match left {
+        Some(world) => told(alloc, &world),
+        None => Err(AllocError.into()),
     }
 }
 
@@ -225,12 +226,13 @@ fn put_line(
 
 // What was written, and what the law says.
 fn both(alloc: Global, input: &str) -> Result<(MemSink, String), Fail> {
-    match run(alloc, "steps", input, &[], &[])? {
-        (_, sink, Some(world)) => {
+    let (_, sink, left) = run(alloc, "steps", input, &[], &[])?;
+    match left {
+        Some(world) => {
             let text = evaluated(alloc, world.law(), world.journal())?;
             Ok((sink, text))
         }
-        _ => Err(AllocError.into()),
+        None => Err(AllocError.into()),
     }
 }
 
@@ -262,12 +264,13 @@ const CLASH_REPLIES: &str =
 
 // What a script writes, and how many documents session 1 reads.
 fn read_of(alloc: Global, input: &str) -> Result<(MemSink, u64), Fail> {
-    match run(alloc, "steps", input, &[], &[])? {
-        (_, sink, Some(world)) => {
+    let (_, sink, left) = run(alloc, "steps", input, &[], &[])?;
+    match left {
+        Some(world) => {
             let reads = reads_of(&world);
             Ok((sink, reads))
         }
-        _ => Err(AllocError.into()),
+        None => Err(AllocError.into()),
     }
 }
 

@@ -4,6 +4,7 @@ use Rattle.jr_rev.specs.declared.vector.Pin.{Pin}
 use Rattle.core_world.proofs.Truths.{pin_closed, pin_settled, pin_shows}
 use Rattle.oak_world.specs.Worlds.{state_of}
 use Rattle.oak_world.proofs.Pinning.{pin_base}
+use Rattle.oak_world.proofs.Sweeping.{pin_below}
 use Rattle.oak_world.proofs.Seats.{memory_there, pin_is, world_is}
 use Rattle.oak_world.proofs.world.World.pin.Goals as goal
 
@@ -23,6 +24,10 @@ pub returns-clause-base : goal.returns-clause-base
 returns-clause-base g c = λ stays.
     ap (option_map (λ (p : Pin). p.base)) (returns-clause-pin g c)
     ∙ pin_base (g.L.Law.may_start c.args.self.now.law) (g.L.Law.may_say c.args.self.now.law) (g.L.Law.proper c.args.self.now.law) (state_of c.args.self.now) (world_is g.L.Law.may_start g.L.Law.may_say _ c.args.self.now c.self.view_is c.self.invariant.0).kept c.args.actor c.requires stays
+
+pub returns-clause-below : goal.returns-clause-below
+returns-clause-below g c = λ pin is.
+    pin_below (g.L.Law.may_start c.args.self.now.law) (g.L.Law.may_say c.args.self.now.law) (g.L.Law.proper c.args.self.now.law) (state_of c.args.self.now) (world_is g.L.Law.may_start g.L.Law.may_say _ c.args.self.now c.self.view_is c.self.invariant.0).kept c.args.actor c.requires pin (sym (returns-clause-pin g c) ∙ is)
 
 pub returns-clause-settled : goal.returns-clause-settled
 returns-clause-settled g c = λ pin is.
