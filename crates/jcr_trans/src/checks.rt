@@ -211,8 +211,8 @@ fn refused_with(alloc: Global, made: Result<Refusal, AllocError>) -> Refusal
     }
 }
 
-// A command of this name isn't built, or isn't for this session.
-pub fn unsupported(alloc: Global, word: &str) -> Result<Refusal, AllocError>
+// A command of this name isn't built.
+fn unsupported(alloc: Global, word: &str) -> Result<Refusal, AllocError>
     ensures { IfOk result (IsRefusal (unsupported word.now)) }
 {
     let mut parts = List::new(alloc);

@@ -10,7 +10,6 @@ mod view;
 
 pub use command::{Command, TreeNode};
 pub use texts::{
-    memory_reply, null_reply, refusal_text, revision_reply, too_many_reply, unsupported_reply,
-    vector_reply,
+    memory_reply, null_reply, refusal_text, revision_reply, too_many_reply, vector_reply,
 };
 pub use view::run;

@@ -1,6 +1,6 @@
 use crate::{
     Command, memory_reply, null_reply, refusal_text, revision_reply, run, too_many_reply,
-    unsupported_reply, vector_reply,
+    vector_reply,
 };
 use jr_path::{DeepCopy, Name, Path};
 use jr_rev::{RevVec, Revision};
@@ -155,9 +155,5 @@ fn replies_of_refusals(rt: HostRuntime) -> Result<(), Fail> {
     let alloc = rt.alloc();
     assert_eq!(rt; memory_reply(alloc)?.as_str(), "no 16 []");
     assert_eq!(rt; too_many_reply(alloc)?.as_str(), "no 15 [\"nodes\",100000]");
-    assert_eq!(rt;
-        unsupported_reply(alloc, &Command::Save)?.as_str(),
-        "no 12 [\"save\"]"
-    );
     Ok(())
 }

@@ -4,15 +4,13 @@ ghost use Rattle.serde_json.specs.Data.{array};
 ghost use Rattle.serde_json.specs.View.{view};
 ghost use Rattle.serde_json.specs.Written.{compact_text};
 ghost use Rattle.jcr_trans.specs.Answers.{Done, ShowsProperty, ShowsNames, ShowsRevision, ShowsVector, ShowsNothing, Refused};
-ghost use Rattle.jcr_trans.specs.Commands.{word_of};
 ghost use Rattle.jcr_trans.specs.Texts.{answer_text, datum_data, datum_items, memory_text, name_items};
-ghost use Rattle.jcr_trans.specs.Views.{too_many_nodes, unsupported};
+ghost use Rattle.jcr_trans.specs.Views.{too_many_nodes};
 ghost use Rattle.jr_path.specs.Ids.{path_text};
 ghost use Rattle.jr_path.specs.Names.{item_path};
 ghost use Rattle.jr_rev.specs.Texts.{revision_text, vector_text};
 
-use crate::Command;
-use crate::checks::{limit, unsupported};
+use crate::checks::limit;
 use jr_path::{Item, Name};
 use jr_rev::{RevVec, Revision};
 use jr_tree::{Datum, Refusal};
@@ -111,13 +109,6 @@ pub fn too_many_reply(alloc: Global) -> Result<String, AllocError>
     ensures { IfOk result (λ text. string_bytes text ≡ answer_text too_many_nodes) }
 {
     refusal_text(alloc, &limit(alloc, "nodes", 100_000)?)
-}
-
-/// The reply of a command that isn't built, or that its session may not make: `no 12` and its name, as `no 12 ["save"]`.
-pub fn unsupported_reply(alloc: Global, command: &Command) -> Result<String, AllocError>
-    ensures { IfOk result (λ text. string_bytes text ≡ answer_text (unsupported (word_of command.now))) }
-{
-    refusal_text(alloc, &unsupported(alloc, command.word())?)
 }
 
 /// The reply of a refusal: `no`, its number, and a list of what it names, as `no 1 ["/a"]`. A path, an item, a
