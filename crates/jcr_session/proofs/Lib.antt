@@ -8,6 +8,7 @@ mod Saying
 mod Committing
 mod Trees
 mod Turning
+mod Granted
 mod Replying
 mod Living
 mod Starting

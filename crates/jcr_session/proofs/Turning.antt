@@ -109,7 +109,7 @@ made_later h old mid new now own (turn.Said i) link session made never = step_la
 made_later h old mid new now own (turn.Waiting q) link session made never = by link
   where
     by : Link old mid → IsMade h old new now own (turn.Waiting q)
-    by (kept work due) = (made.0, sym work ∙ made.1, made.2, subst (λ (s : ℕ). IsUnseen h s made.0) session made.3)
+    by (kept work due) = (made.0, sym work ∙ made.1, made.2, subst (λ (s : ℕ). IsUnseen h s made.0) session made.3.0, made.3.1)
     by (free still unwaited awaits) = absurd (false≢true (sym unwaited ∙ ap is_awaiting made.1))
 made_later h old mid new now own turn.Ended link session made never = absurd (never refl)
 made_later h old mid new now own turn.Memory link session made never = made
@@ -346,10 +346,10 @@ module _ (law : JcrLaw) (old new : Shown) (answer : StepOut) (run : SessionRun) 
     step_by (Deciding r) (out.Ready e) seen at same is committing m told = absurd m
     step_by (Deciding r) (out.Wait q) seen at same is committing m told = absurd m
     step_by (Deciding r) out.Memory seen at same is committing m told = tt
-    step_by (Awaiting r) (out.Wait q) seen at same is committing (own, work, unseen) told =
+    step_by (Awaiting r) (out.Wait q) seen at same is committing (own, work, unseen, held) told =
         let quiet = quiet_by old.session steps.own [] own record { left = λ q. refl; next = λ q. refl; attached = λ q. refl } in
         let now = still seen.base seen.view (Awaiting r) committing in
-        turned_quiet phase.Saving (turn.Waiting q) own (r, at, work, record { theirs = now.0.theirs; committed = now.1; ended = now.2; unseen = unseen }) (quiet.next moment.past)
+        turned_quiet phase.Saving (turn.Waiting q) own (r, at, work, record { theirs = now.0.theirs; committed = now.1; ended = now.2; unseen = unseen }, held) (quiet.next moment.past)
         (goes_on seen same is quiet (subst (λ (w : Work). IsCommitting law.sessions (steps.own ++ moment.past) old.session seen.base seen.view w) (sym work)
         (subst (λ (e : Past). IsCommitting law.sessions (e ++ moment.past) old.session seen.base seen.view (Awaiting r)) (sym own) now)))
     step_by (Awaiting r) (out.Ready (end.Commit f)) seen at same is committing (end_is, head_sees, v, sees_it, own, idle) told =

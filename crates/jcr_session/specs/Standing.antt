@@ -21,7 +21,7 @@ use Rattle.oak_machine.specs.Laws.{AreOthers, after, is_revision_of}
 use Rattle.oak_machine.specs.Runs.{AreNodes, IsRun}
 use Rattle.oak_machine.specs.Sessions.{base_of, drawn_since, has_left, has_login, is_drawing, next_index, refreshed_since}
 use Rattle.oak_machine.specs.Steps.{is_appended_by}
-use Rattle.oak_port.specs.Ports.{Awaiting, Deciding, Grows, HasRoom, Idle, Shown, Undoing, Work, Writing, is_by_due}
+use Rattle.oak_port.specs.Ports.{Awaiting, Deciding, Grows, HasRoom, HoldsBack, Idle, Shown, Undoing, Work, Writing, is_by_due}
 use Rattle.oak_commit.specs.declared.outcome.CommitEnd.{CommitEnd}
 use Rattle.oak_commit.specs.declared.outcome.CommitEnd.TheVariants as commit
 use Rattle.oak_port.specs.declared.task.StepOut.{StepOut}
@@ -241,7 +241,7 @@ pub record IsUnseen (h : History) (s : ℕ) (r : Revision) : Type 0 where
 abbrev pub IsMade : History → Shown → Shown → SessionRun → Past → Turn → Type 0
 IsMade h old new now own (turn.Stepped k) = IsStep h old new own
 IsMade h old new now own (turn.Said j) = IsStep h old new own
-IsMade h old new now own (turn.Waiting q) = (r : Revision) × (old.work ≡ Awaiting r) × (new.work ≡ Awaiting r) × IsUnseen h old.session r
+IsMade h old new now own (turn.Waiting q) = (r : Revision) × (old.work ≡ Awaiting r) × (new.work ≡ Awaiting r) × IsUnseen h old.session r × HoldsBack h.past q r
 IsMade h old new now own turn.Ended = (new ≡ old) × IsTrue (has_left h.past old.session) × (now.index ≡ length now.commands)
 IsMade h old new now own turn.Memory = ⊥
 
@@ -261,6 +261,17 @@ pub record IsTurned (law : JcrLaw) (old new : Shown) (run now : SessionRun) (ans
 abbrev pub HasTurned : JcrLaw → Shown → Shown → SessionRun → SessionRun → Turn → Type 0
 HasTurned law old new run now turn.Memory = ⊤
 HasTurned law old new run now answer = IsTurned law old new run now answer
+
+-- from the draw of its commit until its reply
+abbrev pub is_saving : Phase → Bool
+is_saving phase.Saving = true
+is_saving (phase.Saved e) = true
+is_saving _ = false
+
+-- a turn doesn't answer that memory was refused
+abbrev pub IsGranted : Turn → Type 0
+IsGranted turn.Memory = ⊥
+IsGranted _ = ⊤
 
 -- a session that has not logged in, with these commands
 pub record IsNew (session : ℕ) (commands : List Command) (run : SessionRun) : Type 0 where

@@ -145,7 +145,8 @@ fn ended_reply(
     match refreshed_since(events, session) {
         Some(v) => {
             if v.sees(r) {
-                return Ok(Some(revision_reply(alloc, &r)?));
+                let text = revision_reply(&r);
+                return Ok(Some(String::from_str(alloc, text.as_str())?));
             }
             Ok(None)
         }

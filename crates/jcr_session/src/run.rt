@@ -1,6 +1,5 @@
 // A session's turns: what it asks of its world, one counted step after another.
 ghost use Rattle.std.specs.Prelude.{◌≡◌, ◌≤◌, ◌∷◌, [], IfOk, IfSome, OnErr, IsTrue, IsFalse, length, string_bytes};
-ghost use Rattle.jr_rev.specs.Grammar.{FitsFields};
 ghost use Rattle.jr_tree.specs.declared.shared.Datum.TheVariants as datum;
 ghost use Rattle.oak_port.specs.Ports.{HasRoom};
 ghost use Rattle.oak_commit.specs.declared.outcome.CommitEnd.TheVariants as commit;
@@ -9,7 +8,7 @@ ghost use Rattle.oak_port.specs.declared.task.TaskEnd.TheVariants as end;
 ghost use Rattle.jcr_trans.specs.Answers.{Refused};
 ghost use Rattle.jcr_trans.specs.Texts.{answer_text, memory_text};
 ghost use Rattle.jcr_session.specs.Drawn.{has_went};
-ghost use Rattle.jcr_session.specs.Standing.{HasEnded, HasLooked, HasSeen, HasTurned, IsNew, IsPlanFor, IsPlanOf, IsRefused, IsReply, IsSame, MayAnswer, Stands, due_for, is_unread, kind_of_end, phase_by, pinned_by, turn_by};
+ghost use Rattle.jcr_session.specs.Standing.{HasEnded, HasLooked, HasSeen, HasTurned, IsGranted, IsNew, IsPlanFor, IsPlanOf, IsRefused, IsReply, IsSame, MayAnswer, Stands, due_for, is_saving, is_unread, kind_of_end, phase_by, pinned_by, turn_by};
 ghost use Rattle.jcr_session.specs.Leaving.{ended_by};
 ghost use Rattle.jcr_session.specs.declared.run.Due.TheVariants as due;
 ghost use Rattle.jcr_session.specs.declared.run.Phase.TheVariants as phase;
@@ -124,12 +123,16 @@ impl SessionRun {
 
     /// Makes the reading steps that are due and then exactly one counted step, or none where the session waits or has ended.
     /// Where memory is refused for a command, that command is answered so; where it is refused for the place of a reply, or for the
-    /// login or the leave, the run ends.
+    /// login or the leave, the run ends. From the draw of a commit until its reply it never ends so: a commit that is made is answered.
     pub fn turn<P: Port<L = JcrLaw>>(&mut self, port: &mut P) -> Turn
         requires stands { Stands (P.law port.old) (P.shown port.old) self.old }
         ensures law { P.law port.new ≡ P.law port.old }
         ensures turned { HasTurned (P.law port.old) (P.shown port.old) (P.shown port.new) self.old self.new result }
+        ensures granted { IsTrue (is_saving self.old.phase) → IsGranted result }
     {
+        if !self.is_unread() {
+            return self.counted(port);
+        }
         match self.read_all(port) {
             Ok(true) => self.counted(port),
             Ok(false) => Turn::Memory,
@@ -143,6 +146,7 @@ impl SessionRun {
         requires read { IsFalse (is_unread self.old) }
         ensures law { P.law port.new ≡ P.law port.old }
         ensures turned { HasTurned (P.law port.old) (P.shown port.old) (P.shown port.new) self.old self.new result }
+        ensures granted { IsTrue (is_saving self.old.phase) → IsGranted result }
     {
         match &self.phase {
             Phase::Outside => self.log_in(port),
@@ -412,6 +416,7 @@ impl SessionRun {
         requires saving { self.old.phase ≡ phase.Saving }
         ensures law { P.law port.new ≡ P.law port.old }
         ensures turned { HasTurned (P.law port.old) (P.shown port.old) (P.shown port.new) self.old self.new result }
+        ensures granted { IsGranted result }
     {
         match port.step() {
             StepOut::Memory => {
@@ -445,6 +450,7 @@ impl SessionRun {
         requires saved { HasEnded self.old.phase }
         ensures law { P.law port.new ≡ P.law port.old }
         ensures turned { HasTurned (P.law port.old) (P.shown port.old) (P.shown port.new) self.old self.new result }
+        ensures granted { IsGranted result }
     {
         match mem::replace(&mut self.phase, Phase::Between) {
             Phase::Saved(end) => self.say_saved(port, end),
@@ -457,6 +463,7 @@ impl SessionRun {
         requires stands { Stands (P.law port.old) (P.shown port.old) (record self.old { phase = phase.Saved end }) }
         ensures law { P.law port.new ≡ P.law port.old }
         ensures turned { HasTurned (P.law port.old) (P.shown port.old) (P.shown port.new) self.old self.new result }
+        ensures granted { IsGranted result }
     {
         match end {
             CommitEnd::Committed(r) => self.say_revision(port, r),
@@ -470,13 +477,11 @@ impl SessionRun {
         requires stands { Stands (P.law port.old) (P.shown port.old) (record self.old { phase = phase.Saved (commit.Committed r) }) }
         ensures law { P.law port.new ≡ P.law port.old }
         ensures turned { HasTurned (P.law port.old) (P.shown port.old) (P.shown port.new) self.old self.new result }
+        ensures granted { IsGranted result }
     {
-        in_range(r.time, r.counter, r.cluster);
         self.sight = Sight::Unread;
-        match revision_reply(self.alloc, &r) {
-            Ok(text) => self.say_kept(port, text.as_str()),
-            Err(AllocError) => Turn::Memory,
-        }
+        let text = revision_reply(&r);
+        self.say_kept(port, text.as_str())
     }
 
     // Answers a save with the clash for which it was refused, or that memory was refused for that.
@@ -484,6 +489,7 @@ impl SessionRun {
         requires stands { Stands (P.law port.old) (P.shown port.old) (record self.old { phase = phase.Saved (commit.Clash item other) }) }
         ensures law { P.law port.new ≡ P.law port.old }
         ensures turned { HasTurned (P.law port.old) (P.shown port.old) (P.shown port.new) self.old self.new result }
+        ensures granted { IsGranted result }
     {
         match clash_reply(self.alloc, item, other) {
             Ok(text) => self.say_or_memory(port, text.as_str()),
@@ -536,6 +542,7 @@ impl SessionRun {
         requires room { HasRoom (P.shown port.old).room 40 }
         ensures law { P.law port.new ≡ P.law port.old }
         ensures turned { HasTurned (P.law port.old) (P.shown port.old) (P.shown port.new) self.old self.new result }
+        ensures granted { IsGranted result }
     {
         match port.reserve_say(text.len()) {
             Ok(()) => self.say_kept(port, text),
@@ -549,6 +556,7 @@ impl SessionRun {
         requires room { HasRoom (P.shown port.old).room (length text.now) }
         ensures law { P.law port.new ≡ P.law port.old }
         ensures turned { HasTurned (P.law port.old) (P.shown port.old) (P.shown port.new) self.old self.new result }
+        ensures granted { IsGranted result }
     {
         let index = self.index;
         port.say(index, text);
@@ -622,11 +630,6 @@ fn last_kind(end: &CommitEnd) -> StepKind
         _ => StepKind::Finish,
     }
 }
-
-// The fields of a revision are in the range of their types.
-fn in_range(time: u64, counter: u32, cluster: u32)
-    ensures { FitsFields (record { time = time; counter = counter; cluster = cluster }) }
-{}
 
 // The reply to a reading or view command, or to one that isn't built; it changes the view.
 fn reply_of(alloc: Global, command: &Command, seen: &mut Seen) -> Result<String, AllocError>

@@ -2,4 +2,5 @@ pub mod Ascii
 pub mod Longer
 pub mod NoFloat
 pub mod Passing
+pub mod Plain
 mod Rows

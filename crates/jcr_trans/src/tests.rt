@@ -115,14 +115,14 @@ fn replies_of_saves(rt: HostRuntime) -> Result<(), Fail> {
         counter: 0,
         cluster: 1,
     };
-    assert_eq!(rt; revision_reply(alloc, &first)?.as_str(), "ok \"r1-0-1\"");
+    assert_eq!(rt; revision_reply(&first).as_str(), "ok \"r1-0-1\"");
     let last = Revision {
         time: u64::MAX,
         counter: u32::MAX,
         cluster: 8,
     };
     assert_eq!(rt;
-        revision_reply(alloc, &last)?.as_str(),
+        revision_reply(&last).as_str(),
         "ok \"rffffffffffffffff-ffffffff-8\""
     );
     assert_eq!(rt; null_reply(alloc)?.as_str(), "ok null");

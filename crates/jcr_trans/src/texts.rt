@@ -1,5 +1,7 @@
 // The texts of replies.
-ghost use Rattle.std.specs.Prelude.{◌≡◌, IfOk, string_bytes};
+ghost use Rattle.std.specs.Prelude.{◌≡◌, ◌+◌, ◌^◌, ◌<◌, ◌≤◌, ◌++◌, IfOk, string_bytes};
+ghost use Rattle.std.specs.Char.{digit_value};
+ghost use Rattle.arrayvec.specs.ArrayString.{array_string_len};
 ghost use Rattle.serde_json.specs.Data.{array};
 ghost use Rattle.serde_json.specs.View.{view};
 ghost use Rattle.serde_json.specs.Written.{compact_text};
@@ -8,9 +10,12 @@ ghost use Rattle.jcr_trans.specs.Texts.{answer_text, datum_data, datum_items, me
 ghost use Rattle.jcr_trans.specs.Views.{too_many_nodes};
 ghost use Rattle.jr_path.specs.Ids.{path_text};
 ghost use Rattle.jr_path.specs.Names.{item_path};
-ghost use Rattle.jr_rev.specs.Texts.{revision_text, vector_text};
+ghost use Rattle.jr_rev.specs.Digits.{IsHexDigit};
+ghost use Rattle.jr_rev.specs.Grammar.{FitsFields};
+ghost use Rattle.jr_rev.specs.Texts.{hexadecimal, revision_text, vector_text};
 
 use crate::checks::limit;
+use arrayvec::ArrayString;
 use jr_path::{Item, Name};
 use jr_rev::{RevVec, Revision};
 use jr_tree::{Datum, Refusal};
@@ -53,24 +58,72 @@ fn names_json(alloc: Global, names: &[Name]) -> Result<Json, AllocError>
     Ok(Json::Array(items))
 }
 
-/// The reply of a save that committed: `ok` and the text of the commit's revision, as `ok "r1-0-1"`.
-pub fn revision_reply(alloc: Global, revision: &Revision) -> Result<String, AllocError>
-    ensures { IfOk result (λ text. string_bytes text ≡ answer_text (ShowsRevision revision.now)) }
+/// The reply of a save that committed: `ok` and the text of the commit's revision, as `ok "r1-0-1"`. It takes no memory, so that
+/// a commit that is made is always answered: the digits of a revision are 16, 8 and 8 at most, and the whole is 40 bytes.
+pub fn revision_reply(revision: &Revision) -> ArrayString<40>
+    ensures { result.bytes ≡ answer_text (ShowsRevision revision.now) }
 {
-    let json = Json::String(text_of_revision(alloc, revision)?);
-    let shown = json.to_string(alloc)?;
-    Ok(format!(in alloc; "ok {shown}")?)
+    let mut text = ArrayString::new();
+    text.push_str("ok \"");
+    put_revision(&mut text, revision);
+    text.push_str("\"");
+    text
 }
 
-fn text_of_revision(alloc: Global, revision: &Revision) -> Result<String, AllocError>
-    ensures { IfOk result (λ text. string_bytes text ≡ revision_text revision.now) }
+// Appends the text of a revision, which has at most 35 bytes that JSON shows as they are.
+fn put_revision(text: &mut ArrayString<40>, revision: &Revision)
+    requires room { array_string_len text.old ≤ 5 }
+    ensures bytes { text.new.bytes ≡ text.old.bytes ++ revision_text revision.now }
+    ensures len { array_string_len text.new ≤ array_string_len text.old + 35 }
+    ensures fields { FitsFields revision.now }
 {
     let Revision {
         time,
         counter,
         cluster,
     } = *revision;
-    Ok(format!(in alloc; "r{time:x}-{counter:x}-{cluster:x}")?)
+    text.push_str("r");
+    put_number(text, time, 16);
+    text.push_str("-");
+    put_number(text, u64::from(counter), 8);
+    text.push_str("-");
+    put_number(text, u64::from(cluster), 8);
+}
+
+// Appends a number in lower-case hexadecimal digits, of which there are at most so many.
+fn put_number(text: &mut ArrayString<40>, number: u64, most: usize)
+    requires some { 1 ≤ most }
+    requires few { most ≤ 16 }
+    requires small { number < 16 ^ most }
+    requires room { array_string_len text.old + most ≤ 40 }
+    ensures bytes { text.new.bytes ≡ text.old.bytes ++ hexadecimal number }
+    ensures len { array_string_len text.new ≤ array_string_len text.old + most }
+{
+    if number >= 16 {
+        put_number(text, number / 16, most - 1);
+    }
+    text.push(hex_digit((number % 16) as u8));
+}
+
+fn hex_digit(value: u8) -> char
+    requires { value < 16 }
+    ensures digit { IsHexDigit result }
+    ensures value { digit_value result ≡ value }
+    ensures ascii { result < 128 }
+{
+    char::from(if value < 10 {
+        value + b'0'
+    } else {
+        value - 10 + b'a'
+    })
+}
+
+fn text_of_revision(alloc: Global, revision: &Revision) -> Result<String, AllocError>
+    ensures { IfOk result (λ text. string_bytes text ≡ revision_text revision.now) }
+{
+    let mut text = ArrayString::new();
+    put_revision(&mut text, revision);
+    Ok(String::from_str(alloc, text.as_str())?)
 }
 
 /// The reply that shows a session's base: `ok` and the text of the vector, as `ok "r1-0-1,r0-0-2"`.

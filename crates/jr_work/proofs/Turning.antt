@@ -16,7 +16,7 @@ use Rattle.oak_machine.specs.History.{History, Past}
 use Rattle.oak_machine.specs.Commits.{is_committed, is_ended}
 use Rattle.oak_machine.specs.Heads.{head_of}
 use Rattle.oak_machine.specs.Sessions.{has_left, next_index}
-use Rattle.oak_port.specs.Ports.{Awaiting, Seat as PortSeat, Shown, Work}
+use Rattle.oak_port.specs.Ports.{Awaiting, HoldsBack, Seat as PortSeat, Shown, Work}
 use Rattle.oak_world.specs.Seen.{seat_of, shown_at, shown_work}
 use Rattle.oak_world.specs.Worlds.{WorldOf, actor_in, work_in}
 use Rattle.jcr_trans.specs.declared.command.Command.{Command}
@@ -129,9 +129,9 @@ module _ (script : Script) (n : GName) (s : ℕ) (old new : WorldOf JcrLaw) (sea
           }
   come_to (turn.Waiting q) turned = by (tells script n s old new seat now (turn.Waiting q) law_is history seated turned) (made script n s old new seat now (turn.Waiting q) law_is history seated turned)
     where
-      by : Tells (history_at script old.history.past) s seat.run.index (turn.Waiting q) turned.own → (r : Revision) × (shown_work (work_in old.actors s) ≡ Awaiting r) × (shown_work (work_in new.actors s) ≡ Awaiting r) × IsUnseen (history_at script old.history.past) s r
+      by : Tells (history_at script old.history.past) s seat.run.index (turn.Waiting q) turned.own → (r : Revision) × (shown_work (work_in old.actors s) ≡ Awaiting r) × (shown_work (work_in new.actors s) ≡ Awaiting r) × IsUnseen (history_at script old.history.past) s r × HoldsBack old.history.past q r
           → IsComeTo script n s old new seat now (turn.Waiting q) law_is history seated law_same turned seat.flight
-      by none (r, before, after, unseen) = record {
+      by none (r, before, after, unseen, held) = record {
         shape = inl none;
         came = (
           none,

@@ -7,6 +7,7 @@ use Rattle.jr_path.specs.declared.path.Path.{Path}
 use Rattle.jr_path.specs.declared.text.Text.{Text}
 use Rattle.jr_rev.specs.declared.revision.Revision.{Revision}
 use Rattle.jr_rev.specs.declared.vector.RevVec.{RevVec}
+use Rattle.jr_rev.specs.Revisions.{is_before}
 use Rattle.jr_rev.specs.Vectors.{sees}
 use Rattle.jr_tree.specs.declared.edit.Edit.{Edit}
 use Rattle.jr_tree.specs.Trees.{Nodes, children_of, initial_tree, node_at}
@@ -17,7 +18,7 @@ use Rattle.oak_machine.specs.declared.event.Event.TheVariants as event
 use Rattle.oak_machine.specs.declared.event.StepKind.{StepKind}
 use Rattle.oak_machine.specs.declared.event.StepKind.TheVariants as kind
 use Rattle.oak_machine.specs.History.{History, Past}
-use Rattle.oak_machine.specs.Commits.{tree_at}
+use Rattle.oak_machine.specs.Commits.{is_in_flight, tree_at}
 use Rattle.oak_machine.specs.Heads.{head_of}
 use Rattle.oak_machine.specs.Laws.{AreOthers, Says, Starts, after}
 use Rattle.oak_machine.specs.Runs.{AreNodes, IsRun}
@@ -105,6 +106,12 @@ WritesOn s r k own now =
     ⊎ ((k ≡ kind.Last) × (own ≡ event.Commit r ∷ []) × (now ≡ Deciding r))
     ⊎ ((item : Item) × (o : Revision) × (own ≡ event.Refuse r item o ∷ []) × (now ≡ Undoing r (commit.Clash item o)))
 
+-- q holds the head of its cluster node back from r: it was drawn there before r, and is in flight
+pub record HoldsBack (past : Past) (q r : Revision) : Type 0 where
+  pub node : q.cluster ≡ r.cluster
+  pub earlier : IsTrue (is_before q r)
+  pub flying : IsTrue (is_in_flight past q)
+
 -- a step of a session at a history, by what is being done and what it answers: the events that it adds, the newest first, and what is being done then. Memory is refused without effect
 abbrev pub Makes : History → ℕ → Work → StepOut → Past → Work → Type 0
 Makes h s (Starting task.Login) (out.Ready (end.Pinned pin)) own now = (own ≡ event.Login s pin.base ∷ []) × (now ≡ Idle)
@@ -121,7 +128,7 @@ Makes h s (Writing r) out.Memory own now = (own ≡ []) × (now ≡ Undoing r co
 Makes h s (Undoing r e) (out.Went k) own now = (k ≡ kind.Undo) × (own ≡ event.Went s kind.Undo ∷ []) × (now ≡ Undoing r e)
 Makes h s (Undoing r e) (out.Ready (end.Commit f)) own now = (f ≡ e) × IsFinish r own × (now ≡ Idle)
 Makes h s (Deciding r) (out.Went k) own now = (k ≡ kind.Finish) × IsFinish r own × (now ≡ Awaiting r)
-Makes h s (Awaiting r) (out.Wait q) own now = (own ≡ []) × (now ≡ Awaiting r) × IsFalse (sees (head_of h.clusters h.past r.cluster) r)
+Makes h s (Awaiting r) (out.Wait q) own now = (own ≡ []) × (now ≡ Awaiting r) × IsFalse (sees (head_of h.clusters h.past r.cluster) r) × HoldsBack h.past q r
 Makes h s (Awaiting r) (out.Ready (end.Commit f)) own now = (f ≡ commit.Committed r) × IsTrue (sees (head_of h.clusters h.past r.cluster) r) × (v : RevVec) × IsTrue (sees v r) × (own ≡ event.Refresh s v ∷ []) × (now ≡ Idle)
 Makes h s _ _ own now = ⊥
 

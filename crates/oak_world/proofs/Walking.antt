@@ -67,6 +67,7 @@ use Rattle.core_clash.proofs.Pasts.{in_flight}
 use Rattle.core_nodes.specs.Nodes.{IsMemoryOf}
 use Rattle.core_nodes.proofs.Events.{end_run}
 use Rattle.core_nodes.proofs.Memories.{own_is}
+use Rattle.core_nodes.proofs.Waits.{flying_is}
 use Rattle.core_watch.specs.Moments.{IsFor}
 use Rattle.core_watch.specs.Standing.{path_read}
 use Rattle.core_watch.proofs.Moments.{fed_keeps}
@@ -85,7 +86,7 @@ use Rattle.oak_port.specs.declared.task.StepOut.TheVariants as answers
 use Rattle.oak_port.specs.declared.task.Task.TheVariants as task
 use Rattle.oak_port.specs.declared.task.TaskEnd.{TaskEnd}
 use Rattle.oak_port.specs.declared.task.TaskEnd.TheVariants as ends
-use Rattle.oak_port.specs.Ports.{AreOfStep, Awaiting, Idle, IsFinish, Makes as Tells, Starting, Work as Shows, Writing, is_by_due, is_due, tree_of}
+use Rattle.oak_port.specs.Ports.{AreOfStep, Awaiting, HoldsBack, Idle, IsFinish, Makes as Tells, Starting, Work as Shows, Writing, is_by_due, is_due, tree_of}
 use Rattle.oak_world.specs.declared.actor.Work.{Work}
 use Rattle.oak_world.specs.declared.actor.Work.TheVariants as work
 use Rattle.oak_world.specs.Kept.{IsAtWork, May}
@@ -277,6 +278,16 @@ module _ (starts : Starts) (says : Says) (proper : StartsProper starts) (w : Sta
   head_is : (r : Revision) → slice_get w.sessions s ≡ Some r.cluster → (memory_of w s).head ≡ head_of w.clusters w.past r.cluster
   head_is r on = its_head starts says proper w kept s there ∙ ap (head_of w.clusters w.past) (ap (λ o. unwrap_or o 0) on)
 
+  -- and its memory is that of the past
+  memory_is : (r : Revision) → slice_get w.sessions s ≡ Some r.cluster → IsMemoryOf w.clusters w.past r.cluster (memory_of w s)
+  memory_is r on = subst (λ (j : ℕ). IsMemoryOf w.clusters w.past r.cluster (memory_at w.memories j)) (sym (ap (λ o. unwrap_or o 0) on)) (kept.memories.memory r.cluster (kept.nodes.node s r.cluster on))
+
+  -- what r awaits by the memory is in flight by the past
+  held_back : (r q : Revision) → AwaitsEarlier (memory_of w s) r q → slice_get w.sessions s ≡ Some r.cluster → HoldsBack w.past q r
+  held_back r q awaits on =
+      let flies = (flying_is w.clusters w.sessions kept.nodes w.past (sound_run w.clusters w.sessions kept.nodes starts says w.past kept.run) r.cluster (kept.nodes.node s r.cluster on) (memory_of w s) (memory_is r on) q).0 awaits.flying in
+      record { node = flies.0; earlier = awaits.earlier; flying = flies.1 }
+
   waits_step : (r q : Revision) → AwaitsEarlier (memory_of w s) r q → HasCome h s → is_ended w.past r ≡ true → slice_get w.sessions s ≡ Some r.cluster → StepOf (work.Move r) w (work.Move r) (answers.Wait q)
   waits_step r q awaits come ended on = record {
     own = [];
@@ -284,7 +295,7 @@ module _ (starts : Starts) (says : Says) (proper : StartsProper starts) (w : Sta
     kept = kept;
     may = (come, ended, on);
     apart = λ q k. refl;
-    tells = (refl, refl, ap (λ (v : RevVec). sees v r) (sym (head_is r on)) ∙ awaits.unseen);
+    tells = (refl, refl, ap (λ (v : RevVec). sees v r) (sym (head_is r on)) ∙ awaits.unseen, held_back r q awaits on);
     of_step = refl;
     as_due = refl;
   }

@@ -14,13 +14,12 @@ use Rattle.jcr_session.proofs.run.SessionRun.say_revision.Goals as goal
 
 pub say_kept-requires-clause-answer : goal.say_kept-requires-clause-answer
 say_kept-requires-clause-answer g c =
-    ended_revision (g.P.Port.law c.args.port.now) (g.P.Port.shown c.args.port.now) c.args.self.now c.args.r c.requires.stands _ c.as_str.result.now refl (c.as_str.ensures.value ∙ c.in-Ok.ensures)
+    ended_revision (g.P.Port.law c.args.port.now) (g.P.Port.shown c.args.port.now) c.args.self.now c.args.r c.requires.stands _ c.as_str.result.now refl (c.as_str.ensures.value ∙ c.revision_reply.ensures)
 
 pub say_kept-requires-clause-room : goal.say_kept-requires-clause-room
 say_kept-requires-clause-room g c =
-    subst (λ (text : Text). HasRoom (g.P.Port.shown c.args.port.now).room (length text)) (sym (c.as_str.ensures.value ∙ c.in-Ok.ensures))
-    (room_less (g.P.Port.shown c.args.port.now).room 40 (length (answer_text (ShowsRevision c.args.r))) (short_reply c.args.r c.in_range.ensures) (ended_room (g.P.Port.law c.args.port.now) (g.P.Port.shown c.args.port.now) c.args.self.now (commit.Committed c.args.r) c.requires.stands))
+    room_less (g.P.Port.shown c.args.port.now).room 40 (length c.as_str.result.now) c.as_str.ensures.fits (ended_room (g.P.Port.law c.args.port.now) (g.P.Port.shown c.args.port.now) c.args.self.now (commit.Committed c.args.r) c.requires.stands)
 
-pub returns-in-Ok-clause-turned : goal.returns-in-Ok-clause-turned
-returns-in-Ok-clause-turned g c =
+pub returns-clause-turned : goal.returns-clause-turned
+returns-clause-turned g c =
     turned_like (g.P.Port.law c.args.port.now) (g.P.Port.shown c.args.port.now) (g.P.Port.shown c.say_kept.new.port) c.args.self.now (record c.args.self.now { sight = sight.Unread }) c.say_kept.new.self c.say_kept.result refl refl refl c.say_kept.ensures.turned
