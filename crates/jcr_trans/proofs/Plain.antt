@@ -1,12 +1,12 @@
 -- The text of a revision stands in JSON as it is, and has at most 35 bytes.
-use Rattle.std.proofs.Common.{◌≡◌, ◌⊎◌, inl, inr, ℕ, ◌+◌, ◌≤◌, ◌<◌, Bool, true, false, cond, List, [], ◌∷◌, ◌++◌, length, All, refl, sym, ap, ◌∙◌, subst, arith, length-append}
-use Rattle.std.specs.Prelude.{◌==◌, codes, nat_lt}
+use Rattle.std.proofs.Common.{◌≡◌, ◌⊎◌, inl, inr, ℕ, ◌≤◌, false, List, [], ◌∷◌, ◌++◌, length, All, refl, sym, ap, ◌∙◌, subst, arith, length-append}
+use Rattle.std.specs.Prelude.{nat_lt}
 use Rattle.std.proofs.lemmas.Bool.Decides.{nat_tests}
 use Rattle.std.proofs.lemmas.List.Elements.{All-head, All-tail}
 use Rattle.json.specs.Print.{escape, escape_byte, escape_letter}
 use Rattle.jr_rev.specs.declared.revision.Revision.{Revision}
 use Rattle.jr_rev.specs.Digits.{IsHexDigit}
-use Rattle.jr_rev.specs.Grammar.{FitsFields, IsRevisionText}
+use Rattle.jr_rev.specs.Grammar.{FitsFields}
 use Rattle.jr_rev.specs.Texts.{revision_text}
 use Rattle.jr_rev.proofs.Hexadecimal.{revision_text_is}
 use Rattle.jcr_trans.specs.Answers.{ShowsRevision}
