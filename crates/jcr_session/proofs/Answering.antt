@@ -1,6 +1,5 @@
 -- What a session answers by its view, and to a save by what it comes to.
-use Rattle.std.proofs.Common.{◌≡◌, ◌⊎◌, inl, inr, ℕ, Bool, true, false, Some, None, Option, List, [], ◌∷◌, Result, Ok, Err, IfOk, OnErr, refl, sym, ap, ◌∙◌, subst}
-use Rattle.std.specs.Prelude.{slice_get}
+use Rattle.std.proofs.Common.{◌≡◌, inl, inr, ℕ, true, false, Some, Option, List, Result, Ok, Err, IfOk, OnErr, refl, sym, ap, ◌∙◌, subst}
 use Rattle.jr_path.specs.declared.text.Text.{Text}
 use Rattle.jr_tree.specs.Trees.{Nodes}
 use Rattle.oak_port.specs.Ports.{Shown}
@@ -8,7 +7,7 @@ use Rattle.jcr_trans.specs.declared.command.Command.{Command}
 use Rattle.jcr_trans.specs.Answers.{ShowsNothing}
 use Rattle.jcr_trans.specs.Commands.{built, is_plain}
 use Rattle.jcr_trans.specs.Texts.{answer_text, memory_text}
-use Rattle.jcr_trans.specs.Views.{answered, too_many_nodes, view_after}
+use Rattle.jcr_trans.specs.Views.{too_many_nodes, view_after}
 use Rattle.jcr_session.specs.declared.law.JcrLaw.{JcrLaw}
 use Rattle.jcr_session.specs.declared.run.Due.TheVariants as due
 use Rattle.jcr_session.specs.declared.run.Phase.TheVariants as phase
@@ -19,7 +18,7 @@ use Rattle.jcr_session.specs.declared.sight.Sight.{Sight}
 use Rattle.jcr_session.specs.declared.sight.Sight.TheVariants as sight
 use Rattle.jcr_session.specs.Standing.{HasSeen, IsPlanOf, IsReply, IsSame, MayAnswer, RepliesBy, Stands, due_for, is_unread}
 use Rattle.jcr_session.proofs.Replying.{apart, between_at, forgo_see, may_like, plain_by, save_nothing, save_too_many}
-use Rattle.jcr_session.proofs.Saying.{IsBetween, forgoes, sees_view}
+use Rattle.jcr_session.proofs.Saying.{IsBetween, sees_view}
 
 seen_like : (a b : Seen) (view : Nodes) → b.base ≡ a.base → b.view ≡ view → b ≡ record a { view = view }
 seen_like a b view base same = ap (λ (t : Nodes). record b { base = t }) base ∙ ap (λ (t : Nodes). record a { view = t }) same

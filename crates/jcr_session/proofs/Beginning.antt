@@ -1,7 +1,6 @@
 -- A session begins a commit, or can't: by the calls of its port, of which each leaves the law as it was.
-use Rattle.std.proofs.Common.{◌≡◌, ℕ, Bool, true, false, Some, Option, List, length, ◌≤◌, refl, sym, ap, ◌∙◌, subst, arith}
+use Rattle.std.proofs.Common.{◌≡◌, ℕ, true, false, Some, Option, List, length, ◌≤◌, refl, sym, ◌∙◌, subst, arith}
 use mathlib.Core.Bool.{false≢true}
-use Rattle.jr_path.specs.declared.text.Text.{Text}
 use Rattle.jr_tree.specs.declared.edit.Edit.{Edit}
 use Rattle.oak_clash.specs.declared.mark.MarkAt.{MarkAt}
 use Rattle.oak_machine.specs.declared.event.StepKind.{StepKind}

@@ -1,17 +1,14 @@
 -- A session's calls of its port: the law stays, and what a call answers is of the same law.
-use Rattle.std.proofs.Common.{◌≡◌, ℕ, Bool, true, false, Some, None, Option, List, length, refl, sym, ap, ◌∙◌, subst}
+use Rattle.std.proofs.Common.{◌≡◌, ℕ, false, Some, None, Option, sym, ap, ◌∙◌, subst}
 use mathlib.Core.Bool.{false≢true}
 use Rattle.jr_path.specs.declared.text.Text.{Text}
 use Rattle.jr_rev.specs.declared.vector.Pin.{Pin}
-use Rattle.jr_rev.specs.declared.vector.RevVec.{RevVec}
 use Rattle.oak_machine.specs.declared.event.StepKind.TheVariants as kind
-use Rattle.oak_machine.specs.Sessions.{base_of, has_left}
-use Rattle.oak_port.specs.Ports.{Idle, MayBegin, Shown, Starting, Steps, Waits, Work}
+use Rattle.oak_port.specs.Ports.{Idle, Shown, Starting, Steps, Waits, Work}
 use Rattle.oak_port.specs.declared.task.StepOut.{StepOut}
 use Rattle.oak_port.specs.declared.task.StepOut.TheVariants as out
 use Rattle.oak_port.specs.declared.task.Task.{Task}
 use Rattle.oak_port.specs.declared.task.Task.TheVariants as task
-use Rattle.oak_port.specs.declared.task.TaskEnd.{TaskEnd}
 use Rattle.oak_port.specs.declared.task.TaskEnd.TheVariants as end
 use Rattle.jcr_trans.specs.Texts.{memory_text}
 use Rattle.jcr_session.specs.declared.law.JcrLaw.{JcrLaw}
@@ -24,7 +21,6 @@ use Rattle.jcr_session.specs.declared.turn.Turn.TheVariants as turn
 use Rattle.jcr_session.specs.Sights.{says_of, starts_of}
 use Rattle.jcr_session.specs.Standing.{HasTurned, MayAnswer, Stands, due_for, is_unread, pinned_by}
 use Rattle.jcr_session.proofs.Living.{logged_in}
-use Rattle.jcr_session.proofs.Replying.{forgo_refresh}
 use Rattle.jcr_session.proofs.Saying.{is_idle}
 use Rattle.jcr_session.proofs.Starting.{left, pinned_is, refresh_moves, refresh_stopped, refresh_stops}
 use Rattle.jcr_session.proofs.Turning.{answer_idle, answer_later, said_idle, said_later}

@@ -1,20 +1,18 @@
 -- A session begins to commit what is pending.
-use Rattle.std.proofs.Common.{◌≡◌, inl, ℕ, Bool, true, false, cond, ◌||◌, Some, None, Option, List, [], ◌∷◌, ◌++◌, is_some, refl, sym, ap, ◌∙◌, subst}
-use Rattle.std.specs.Prelude.{slice_get, reverse}
+use Rattle.std.proofs.Common.{◌≡◌, inl, ℕ, Bool, true, false, Some, Option, List, [], ◌∷◌, ◌++◌, is_some, refl, sym, ap, ◌∙◌, subst}
+use Rattle.std.specs.Prelude.{reverse}
 use mathlib.Core.Bool.{false≢true}
-use Rattle.jr_rev.specs.declared.revision.Revision.{Revision}
 use Rattle.jr_rev.proofs.Order.{same_revision}
 use Rattle.jr_tree.specs.declared.edit.Edit.{Edit}
 use Rattle.jr_tree.specs.declared.edit.Write.{Write}
 use Rattle.jr_tree.specs.Edits.{changes}
-use Rattle.jr_tree.specs.Trees.{IsTree, Nodes}
+use Rattle.jr_tree.specs.Trees.{IsTree}
 use Rattle.oak_clash.specs.declared.mark.MarkAt.{MarkAt}
-use Rattle.oak_machine.specs.declared.event.Draw.{Draw}
 use Rattle.oak_machine.specs.declared.event.Event.TheVariants as event
 use Rattle.oak_machine.specs.declared.event.StepKind.{StepKind}
 use Rattle.oak_machine.specs.declared.event.StepKind.TheVariants as kind
 use Rattle.oak_machine.specs.History.{History, Past}
-use Rattle.oak_machine.specs.Commits.{is_committed, is_drawn}
+use Rattle.oak_machine.specs.Commits.{is_committed}
 use Rattle.oak_machine.specs.Laws.{after}
 use Rattle.oak_machine.specs.Marks.{marks_for}
 use Rattle.oak_machine.specs.Runs.{AreNodes, IsRun}
@@ -23,7 +21,6 @@ use Rattle.oak_machine.specs.Steps.{is_appended_by}
 use Rattle.oak_machine.proofs.Induction.{committed_is_drawn}
 use Rattle.core_heads.proofs.Runs.{fresh_run}
 use Rattle.oak_port.specs.Ports.{Grows, HasRoom, Idle, IsDrawFor, Makes, MayBegin, Shown, Starting, Steps, Waits, Work, Writing}
-use Rattle.oak_port.specs.declared.task.StepOut.{StepOut}
 use Rattle.oak_port.specs.declared.task.StepOut.TheVariants as out
 use Rattle.oak_port.specs.declared.task.Task.TheVariants as task
 use Rattle.jcr_trans.specs.declared.command.Command.{Command}
@@ -51,10 +48,9 @@ use Rattle.jcr_session.specs.Standing.{HasTurned, HasView, IsInSave, IsPlanFor, 
 use Rattle.jcr_session.proofs.Committing.{committing_drawn}
 use Rattle.jcr_session.proofs.Replying.{apart, between_at, forgo_save, idle_between, save_by}
 use Rattle.jcr_session.proofs.Reading.{beside_both}
-use Rattle.jcr_session.proofs.Saying.{IsBetween, answer_waits}
-use Rattle.jcr_session.proofs.Trees.{base_is_tree}
+use Rattle.jcr_session.proofs.Saying.{answer_waits}
 use Rattle.jcr_session.proofs.Turning.{Link, free, has_turned_later, is_awaiting, kept, never_ends, not_ended, plain_step, turned_later}
-use Rattle.jcr_session.proofs.Waiting.{by_waits, in_beside, in_then, next_beside, next_waits, turn_beside, turn_still, turn_waits}
+use Rattle.jcr_session.proofs.Waiting.{by_waits, in_beside, in_then, next_beside, next_waits, turn_beside, turn_waits}
 
 -- what is seen where there is something to commit
 plan_seen : (x : Sight) (edit : Edit) (marks : List MarkAt) → IsPlanOf x (plan.Commit edit marks) → (seen : Seen) × (x ≡ sight.Seen seen) × IsPlanFor seen.base seen.view (plan.Commit edit marks)

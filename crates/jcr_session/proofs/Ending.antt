@@ -1,22 +1,21 @@
 -- What a session answers to a refresh once its base has moved, and to a save once its commit has ended.
-use Rattle.std.proofs.Common.{◌≡◌, ℕ, Bool, true, false, cond, Some, None, Option, List, [], ◌∷◌, ◌++◌, refl, sym, ap, ◌∙◌, subst}
+use Rattle.std.proofs.Common.{◌≡◌, false, Some, [], ◌∷◌, ◌++◌, refl, sym, ap, ◌∙◌, subst}
 use Rattle.jr_path.specs.declared.path.Item.{Item}
 use Rattle.jr_path.specs.declared.text.Text.{Text}
 use Rattle.jr_rev.specs.declared.revision.Revision.{Revision}
 use Rattle.jr_rev.specs.declared.vector.RevVec.{RevVec}
 use Rattle.jr_tree.specs.declared.shared.Datum.TheVariants as datum
 use Rattle.jr_tree.specs.Trees.{IsTree, Nodes}
-use Rattle.oak_machine.specs.History.{History, Past}
+use Rattle.oak_machine.specs.History.{Past}
 use Rattle.oak_machine.specs.Laws.{AreOthers, after}
 use Rattle.oak_machine.specs.Runs.{IsRun}
-use Rattle.oak_machine.specs.Sessions.{is_drawing}
 use Rattle.oak_port.specs.Ports.{HasRoom, Idle, Shown}
 use Rattle.oak_commit.specs.declared.outcome.CommitEnd.{CommitEnd}
 use Rattle.oak_commit.specs.declared.outcome.CommitEnd.TheVariants as commit
 use Rattle.jcr_trans.specs.declared.command.Command.TheVariants as command
 use Rattle.jcr_trans.specs.Answers.{Refused, ShowsRevision, ShowsVector}
 use Rattle.jcr_trans.specs.Texts.{answer_text, memory_text}
-use Rattle.core_law.specs.Law.{SaysBy, clashed}
+use Rattle.core_law.specs.Law.{clashed}
 use Rattle.core_law.specs.State.{base_tree, command_at}
 use Rattle.core_law.specs.Turns.{IsOver}
 use Rattle.core_law.proofs.Passing.{idle_stays}

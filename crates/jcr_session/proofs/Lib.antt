@@ -8,7 +8,6 @@ mod Saying
 mod Committing
 mod Trees
 mod Turning
-mod Granted
 mod Replying
 mod Living
 mod Starting

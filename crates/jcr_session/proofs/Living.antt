@@ -1,13 +1,12 @@
 -- A session logs in, moves its base, and leaves.
-use Rattle.std.proofs.Common.{◌≡◌, inl, ℕ, ◌+◌, Bool, true, false, cond, not, ◌||◌, Some, None, Option, List, [], ◌∷◌, ◌++◌, is_some, refl, sym, ap, ◌∙◌, subst, arith}
+use Rattle.std.proofs.Common.{◌≡◌, inl, ℕ, true, false, cond, ◌||◌, None, Option, List, [], ◌∷◌, ◌++◌, refl, sym, ap, ◌∙◌, subst, arith}
 use Rattle.std.specs.Prelude.{◌==◌}
 use Rattle.std.specs.Option.{option_map_or}
 use Rattle.std.proofs.lemmas.Bool.Decides.{nat_tests}
 use mathlib.Core.Bool.{false≢true}
 use Rattle.jr_rev.specs.declared.revision.Revision.{Revision}
 use Rattle.jr_rev.specs.declared.vector.Pin.{Pin}
-use Rattle.jr_rev.specs.declared.vector.RevVec.{RevVec}
-use Rattle.jr_tree.specs.Trees.{IsTree, Nodes}
+use Rattle.jr_tree.specs.Trees.{IsTree}
 use Rattle.jr_tree.proofs.ProperChanges.{no_changes}
 use Rattle.oak_machine.specs.declared.event.Event.TheVariants as event
 use Rattle.oak_machine.specs.declared.event.StepKind.TheVariants as kind
@@ -17,7 +16,7 @@ use Rattle.oak_machine.specs.Laws.{Says, Starts, after}
 use Rattle.oak_machine.specs.Runs.{AreNodes, IsRun, IsRunOf}
 use Rattle.oak_machine.specs.Sessions.{drawn_since, has_left, has_login, is_attached, is_drawing, next_index, refreshed_since}
 use Rattle.oak_machine.proofs.Induction.{neither}
-use Rattle.oak_port.specs.Ports.{AreOfStep, Grows, Idle, Makes, MayBegin, Shown, Starting, Steps, Waits, Work}
+use Rattle.oak_port.specs.Ports.{AreOfStep, Idle, Makes, MayBegin, Shown, Starting, Steps, Waits, Work}
 use Rattle.oak_port.specs.declared.task.StepOut.TheVariants as out
 use Rattle.oak_port.specs.declared.task.Task.TheVariants as task
 use Rattle.oak_port.specs.declared.task.TaskEnd.TheVariants as end
@@ -29,11 +28,10 @@ use Rattle.jcr_session.specs.declared.run.Phase.{Phase}
 use Rattle.jcr_session.specs.declared.run.Phase.TheVariants as phase
 use Rattle.jcr_session.specs.declared.run.SessionRun.{SessionRun}
 use Rattle.jcr_session.specs.declared.sight.Sight.{Sight}
-use Rattle.jcr_session.specs.declared.sight.Sight.TheVariants as sight
 use Rattle.jcr_session.specs.declared.turn.Turn.{Turn}
 use Rattle.jcr_session.specs.declared.turn.Turn.TheVariants as turn
 use Rattle.jcr_session.specs.Sights.{IsIn, says_of, starts_of}
-use Rattle.jcr_session.specs.Standing.{HasTurned, IsOutside, IsTurned, Sees, Stands, StandsAt, Tells, is_writing}
+use Rattle.jcr_session.specs.Standing.{HasTurned, IsOutside, Sees, Stands, StandsAt, is_writing}
 use Rattle.jcr_session.proofs.Trees.{base_is_tree}
 use Rattle.jcr_session.proofs.Turning.{free, is_awaiting, not_ended, plain_step, turned_later}
 use Rattle.jcr_session.proofs.Waiting.{by_waits, login_stays}

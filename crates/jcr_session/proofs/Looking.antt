@@ -1,11 +1,11 @@
 -- What a session reads before its turn leaves it where the history says.
-use Rattle.std.proofs.Common.{◌≡◌, ℕ, Bool, true, false, cond, ◌&&◌, Some, None, Option, List, [], ◌∷◌, ◌++◌, refl, sym, ap, ◌∙◌, subst}
+use Rattle.std.proofs.Common.{◌≡◌, Bool, true, false, cond, ◌&&◌, Some, None, Option, [], refl, sym, ap, ◌∙◌, subst}
 use Rattle.std.specs.Prelude.{slice_get}
 use mathlib.Core.Bool.{false≢true}
 use Rattle.jr_tree.specs.Trees.{Nodes}
 use Rattle.oak_machine.specs.Runs.{AreNodes}
 use Rattle.oak_machine.specs.Sessions.{next_index}
-use Rattle.oak_port.specs.Ports.{Idle, Shown, Work}
+use Rattle.oak_port.specs.Ports.{Idle, Shown}
 use Rattle.jcr_trans.specs.declared.command.Command.{Command}
 use Rattle.jcr_trans.specs.Commands.{built}
 use Rattle.jcr_trans.specs.Texts.{memory_text}
@@ -21,13 +21,13 @@ use Rattle.jcr_session.specs.declared.sight.Sight.{Sight}
 use Rattle.jcr_session.specs.declared.sight.Sight.TheVariants as sight
 use Rattle.jcr_session.specs.declared.turn.Turn.{Turn}
 use Rattle.jcr_session.specs.declared.turn.Turn.TheVariants as turn
-use Rattle.jcr_session.specs.Sights.{HasRead, IsBeside, IsFetching, IsIn, Looks, says_of, starts_of}
+use Rattle.jcr_session.specs.Sights.{HasRead, IsBeside, IsFetching, IsIn, Looks}
 use Rattle.jcr_session.specs.declared.sight.Fetch.{Fetch}
 use Rattle.jcr_session.specs.declared.sight.Fetch.TheVariants as fetch
-use Rattle.jcr_session.specs.Standing.{HasLooked, HasTurned, IsTurned, IsRefused, IsSame, MayAnswer, Sees, Stands, StandsAt, due_by, due_for, due_of, is_between, is_seen, is_unread, is_writing, needs_tree}
-use Rattle.jcr_session.proofs.Replying.{apart, idle_between, next_is, turned_like}
+use Rattle.jcr_session.specs.Standing.{HasLooked, HasTurned, IsTurned, IsRefused, IsSame, MayAnswer, Sees, Stands, StandsAt, due_by, due_for, is_between, is_seen, is_unread, is_writing, needs_tree}
+use Rattle.jcr_session.proofs.Replying.{idle_between, turned_like}
 use Rattle.jcr_session.proofs.Reading.{beside_both, beside_itself, nobody}
-use Rattle.jcr_session.proofs.Saying.{IsBetween, forgoes}
+use Rattle.jcr_session.proofs.Saying.{forgoes}
 use Rattle.jcr_session.proofs.Turning.{Link, free, has_turned_later, is_awaiting, kept, never_ends}
 use Rattle.jcr_session.proofs.Waiting.{next_beside, tree_beside, turn_beside}
 

@@ -1,7 +1,7 @@
 -- While events of others are added, what a session drew stays drawn by it, neither committed nor refused by them; and what others added at two times they added at once.
 use Rattle.std.proofs.Common.{◌≡◌, ℕ, Bool, true, false, cond, not, ◌||◌, ◌&&◌, Some, None, Option, List, [], ◌∷◌, ◌++◌, is_some, refl, sym, ap, ◌∙◌, subst}
 use Rattle.std.specs.Prelude.{◌==◌}
-use Rattle.std.specs.Option.{option_map_or, unwrap_or}
+use Rattle.std.specs.Option.{option_map_or}
 use Rattle.std.specs.List.{list_any}
 use mathlib.Core.Bool.{false≢true}
 use Rattle.jr_rev.specs.declared.revision.Revision.{Revision}
@@ -10,12 +10,12 @@ use Rattle.jr_rev.proofs.Order.{same_revision}
 use Rattle.oak_machine.specs.declared.event.Draw.{Draw}
 use Rattle.oak_machine.specs.declared.event.Event.{Event}
 use Rattle.oak_machine.specs.declared.event.Event.TheVariants as event
-use Rattle.oak_machine.specs.History.{History, Past}
-use Rattle.oak_machine.specs.Commits.{draw_of, is_committed, is_drawn, is_ended, is_end_of, is_in_flight, refusal_of}
-use Rattle.oak_machine.specs.Laws.{Says, Starts, after, is_event_of, is_revision_of}
+use Rattle.oak_machine.specs.History.{Past}
+use Rattle.oak_machine.specs.Commits.{draw_of, is_committed, is_drawn, is_ended, is_end_of, refusal_of}
+use Rattle.oak_machine.specs.Laws.{Says, Starts, is_event_of, is_revision_of}
 use Rattle.oak_machine.specs.Runs.{AreNodes, IsRunOf}
 use Rattle.oak_machine.specs.Sessions.{is_drawing, is_drawing_among}
-use Rattle.oak_machine.proofs.Induction.{first_of_both, neither, other}
+use Rattle.oak_machine.proofs.Induction.{first_of_both, neither}
 use Rattle.oak_machine.proofs.Stays.{any_later}
 use Rattle.core_heads.proofs.Runs.{fresh_run}
 

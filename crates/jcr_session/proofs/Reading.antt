@@ -1,23 +1,21 @@
 -- What the calls of a reading step leave: the session is in, others alone added events, and the walk reads the tree at the session's base.
-use Rattle.std.proofs.Common.{◌≡◌, inl, inr, ℕ, Bool, true, false, Some, None, Option, List, [], ◌∷◌, ◌++◌, is_some, map, refl, sym, ap, ◌∙◌, subst}
+use Rattle.std.proofs.Common.{◌≡◌, ℕ, true, Some, None, Option, List, [], ◌∷◌, ◌++◌, is_some, map, refl, sym, ap, ◌∙◌, subst}
 use Rattle.std.specs.Prelude.{IfSome}
 use Rattle.std.specs.BTreeMap.{insert_entry}
 use Rattle.jr_path.specs.Names.{path_cmp}
 use Rattle.jr_path.specs.declared.name.Name.{Name}
 use Rattle.jr_path.specs.declared.path.Path.{Path}
-use Rattle.jr_rev.specs.declared.revision.Revision.{Revision}
 use Rattle.jr_tree.specs.declared.tree.Node.{Node}
-use Rattle.jr_tree.specs.Trees.{IsTree, Nodes, children_of, node_at}
+use Rattle.jr_tree.specs.Trees.{Nodes, children_of, node_at}
 use Rattle.oak_machine.specs.declared.event.StepKind.{StepKind}
 use Rattle.oak_machine.specs.History.{History, Past}
-use Rattle.oak_machine.specs.Laws.{AreOthers, after, is_event_of}
+use Rattle.oak_machine.specs.Laws.{AreOthers, after}
 use Rattle.oak_machine.specs.Runs.{AreNodes, IsRun}
 use Rattle.oak_port.specs.Ports.{Beside, Grows, Idle, Makes, Seat, Shown, Starting, Steps, Waits, Work}
 use Rattle.oak_port.specs.declared.task.StepOut.{StepOut}
 use Rattle.oak_port.specs.declared.task.StepOut.TheVariants as out
 use Rattle.oak_port.specs.declared.task.Task.{Task}
 use Rattle.oak_port.specs.declared.task.Task.TheVariants as task
-use Rattle.oak_port.specs.declared.task.TaskEnd.{TaskEnd}
 use Rattle.oak_port.specs.declared.task.TaskEnd.TheVariants as end
 use Rattle.core_law.specs.State.{base_tree}
 use Rattle.jcr_session.specs.declared.law.JcrLaw.{JcrLaw}
@@ -30,7 +28,7 @@ use Rattle.jcr_session.specs.declared.sight.Loaded.TheVariants as loaded
 use Rattle.jcr_session.specs.Sights.{IsBeside, IsFetching, IsIn, IsPart, listed_by, loaded_by, says_of, starts_of}
 use Rattle.jcr_session.proofs.Others.{append_assoc, others_both}
 use Rattle.jcr_session.proofs.Waiting.{in_beside, in_then, tree_beside, tree_then}
-use Rattle.jcr_session.proofs.Walking.{part_node, part_none, part_children, part_next, part_whole, node_there}
+use Rattle.jcr_session.proofs.Walking.{part_node, part_none, part_children, node_there}
 
 -- nothing was added
 pub nobody : (o : Option (List Seat)) → IfSome o (λ seats. ◌≡◌ {A = Past} [] [])

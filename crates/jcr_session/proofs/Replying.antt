@@ -1,22 +1,20 @@
 -- What a session may answer to its next command, as its functions find it.
-use Rattle.std.proofs.Common.{◌≡◌, ◌⊎◌, inl, inr, ℕ, zero, suc, ◌+◌, Bool, true, false, cond, not, ◌||◌, ◌&&◌, Some, None, Option, List, [], ◌∷◌, ◌++◌, is_some, refl, sym, ap, ◌∙◌, subst, arith}
+use Rattle.std.proofs.Common.{◌≡◌, ℕ, true, false, cond, not, ◌||◌, ◌&&◌, Some, None, Option, List, [], refl, sym, ap, ◌∙◌, subst, arith}
 use Rattle.std.specs.Prelude.{slice_get}
 use Rattle.std.specs.Option.{option_map_or, unwrap_or}
 use Rattle.std.proofs.lemmas.Bool.Decides.{nat_tests}
 use mathlib.Core.Bool.{false≢true}
 use Rattle.jr_path.specs.declared.text.Text.{Text}
 use Rattle.jr_rev.specs.declared.vector.RevVec.{RevVec}
-use Rattle.jr_tree.specs.Trees.{Nodes}
 use Rattle.jr_tree.specs.Edits.{changes}
 use Rattle.oak_machine.specs.Sessions.{base_of}
 use Rattle.oak_port.specs.Ports.{Idle, Shown}
 use Rattle.jcr_trans.specs.declared.command.Command.{Command}
-use Rattle.jcr_trans.specs.declared.command.Command.TheVariants as command
 use Rattle.jcr_trans.specs.Answers.{ShowsNothing, ShowsVector}
-use Rattle.jcr_trans.specs.Commands.{Built, Adds, Sets, Gets, Lists, Saves, Refreshes, ShowsBase, NotBuilt, built, is_plain, refreshes_by, saves_by, shows_base_by}
+use Rattle.jcr_trans.specs.Commands.{Built, Adds, Sets, Gets, Lists, Saves, Refreshes, ShowsBase, NotBuilt, built, refreshes_by, saves_by, shows_base_by}
 use Rattle.jcr_trans.specs.Texts.{answer_text, memory_text}
-use Rattle.jcr_trans.specs.Views.{answered, too_many_nodes, view_after}
-use Rattle.jcr_trans.proofs.Passing.{only_head, only_refresh, only_save}
+use Rattle.jcr_trans.specs.Views.{too_many_nodes}
+use Rattle.jcr_trans.proofs.Passing.{only_head, only_save}
 use Rattle.core_law.specs.Law.{has_few_nodes}
 use Rattle.jcr_session.specs.declared.law.JcrLaw.{JcrLaw}
 use Rattle.jcr_session.specs.declared.run.Due.{Due}
@@ -31,7 +29,7 @@ use Rattle.jcr_session.specs.Sights.{IsIn}
 use Rattle.jcr_session.specs.Standing.{HasSeen, HasTurned, IsReply, IsSame, IsTurned, MayAnswer, RepliesBy, Sees, Stands, StandsAt, due_by, due_for, due_of, is_between, is_seen, is_unread, needs_tree}
 use Rattle.jcr_session.specs.declared.turn.Turn.{Turn}
 use Rattle.jcr_session.specs.declared.turn.Turn.TheVariants as turn
-use Rattle.jcr_session.proofs.Saying.{IsBetween, forgoes, nothing_pending, sees_view, shows_base, too_many_pending}
+use Rattle.jcr_session.proofs.Saying.{IsBetween, forgoes, nothing_pending, shows_base, too_many_pending}
 
 -- ---- which command is next
 

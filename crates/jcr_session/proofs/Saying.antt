@@ -1,36 +1,30 @@
 -- What a session may answer where it stands, and where it stands once that is said.
-use Rattle.std.proofs.Common.{◌≡◌, inl, inr, ℕ, zero, suc, ◌+◌, ◌<◌, ◌≤◌, length, Bool, true, false, cond, not, ◌||◌, Some, None, Option, List, [], ◌∷◌, ◌++◌, is_some, refl, sym, ap, ◌∙◌, subst, arith}
+use Rattle.std.proofs.Common.{◌≡◌, ℕ, zero, suc, ◌+◌, ◌<◌, ◌≤◌, length, Bool, true, false, cond, Some, List, [], ◌∷◌, ◌++◌, is_some, refl, sym, ap, ◌∙◌, subst, arith}
 use Rattle.std.specs.Prelude.{◌==◌, slice_get}
-use Rattle.std.specs.Option.{option_map_or}
 use Rattle.std.proofs.lemmas.Bool.Decides.{nat_tests}
 use mathlib.Core.Bool.{false≢true}
 use Rattle.jr_path.specs.declared.text.Text.{Text}
-use Rattle.jr_path.specs.declared.path.Item.{Item}
-use Rattle.jr_rev.specs.declared.revision.Revision.{Revision}
 use Rattle.jr_rev.specs.declared.vector.RevVec.{RevVec}
-use Rattle.jr_tree.specs.Trees.{IsTree, Nodes}
+use Rattle.jr_tree.specs.Trees.{Nodes}
 use Rattle.jr_tree.specs.Edits.{changes}
-use Rattle.jr_tree.specs.declared.shared.Datum.TheVariants as datum
 use Rattle.oak_machine.specs.declared.event.Event.TheVariants as event
 use Rattle.oak_machine.specs.History.{History, Past}
-use Rattle.oak_machine.specs.Commits.{is_committed, is_ended, refusal_of}
 use Rattle.oak_machine.specs.Laws.{AreOthers, after}
 use Rattle.oak_machine.specs.Runs.{AreNodes, IsRun}
-use Rattle.oak_machine.specs.Sessions.{base_of, drawn_since, is_drawing, next_index, refreshed_since}
-use Rattle.oak_port.specs.Ports.{Answers, Grows, Idle, Shown, Waits, Work}
-use Rattle.oak_commit.specs.declared.outcome.CommitEnd.TheVariants as commit
+use Rattle.oak_machine.specs.Sessions.{base_of, next_index}
+use Rattle.oak_port.specs.Ports.{Answers, Idle, Shown, Work}
 use Rattle.jcr_trans.specs.declared.command.Command.{Command}
 use Rattle.jcr_trans.specs.declared.command.Command.TheVariants as command
-use Rattle.jcr_trans.specs.Answers.{Answer, Refused, ShowsNothing, ShowsRevision, ShowsVector}
+use Rattle.jcr_trans.specs.Answers.{ShowsNothing, ShowsVector}
 use Rattle.jcr_trans.specs.Commands.{is_plain}
 use Rattle.jcr_trans.specs.Texts.{answer_text, memory_text}
 use Rattle.jcr_trans.specs.Views.{answered, too_many_nodes, view_after}
-use Rattle.core_law.specs.Law.{SaysBy, clashed, has_few_nodes, refreshed, saved}
+use Rattle.core_law.specs.Law.{SaysBy, has_few_nodes}
 use Rattle.core_law.specs.State.{base_tree, command_at}
 use Rattle.core_law.specs.Turns.{IsOver, IsTurn}
 use Rattle.core_law.proofs.Lasting.{says_last}
-use Rattle.core_law.proofs.Passing.{idle_stays, next_more, next_stays}
-use Rattle.core_law.proofs.Turns.{says_head, says_memory, says_too_many, says_unchanged, says_view, turn_head, turn_memory, turn_refreshed, turn_saved, turn_too_many, turn_unchanged, turn_view}
+use Rattle.core_law.proofs.Passing.{next_more, next_stays}
+use Rattle.core_law.proofs.Turns.{says_head, says_memory, says_too_many, says_unchanged, says_view, turn_head, turn_memory, turn_too_many, turn_unchanged, turn_view}
 use Rattle.jcr_session.specs.declared.law.JcrLaw.{JcrLaw}
 use Rattle.jcr_session.specs.declared.run.Phase.TheVariants as phase
 use Rattle.jcr_session.specs.declared.run.SessionRun.{SessionRun}
@@ -39,7 +33,6 @@ use Rattle.jcr_session.specs.declared.sight.Fetch.TheVariants as fetch
 use Rattle.jcr_session.specs.declared.sight.Seen.{Seen}
 use Rattle.jcr_session.specs.declared.sight.Sight.{Sight}
 use Rattle.jcr_session.specs.declared.sight.Sight.TheVariants as sight
-use Rattle.jcr_session.specs.declared.turn.Turn.{Turn}
 use Rattle.jcr_session.specs.declared.turn.Turn.TheVariants as turn
 use Rattle.jcr_session.specs.Sights.{IsBeside, IsFetching, IsIn, says_of, starts_of}
 use Rattle.jcr_session.specs.Standing.{HasCommitted, HasTurned, IsSeenFor, IsTurned, MayAnswer, Sees, SeesThen, Stands, Tells}

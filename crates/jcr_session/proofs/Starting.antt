@@ -1,26 +1,17 @@
 -- A session leaves, moves its base, and begins to commit.
-use Rattle.std.proofs.Common.{◌≡◌, inl, ℕ, zero, suc, ◌+◌, ◌≤◌, length, Bool, true, false, cond, not, ◌||◌, Some, None, Option, List, [], ◌∷◌, ◌++◌, is_some, refl, sym, ap, ◌∙◌, subst, arith}
+use Rattle.std.proofs.Common.{◌≡◌, inl, ℕ, zero, suc, ◌≤◌, length, true, false, cond, ◌||◌, Some, None, Option, List, [], ◌∷◌, ◌++◌, is_some, refl, sym, ap, ◌∙◌, subst, arith}
 use Rattle.std.specs.Prelude.{◌==◌, slice_get}
 use Rattle.std.proofs.lemmas.Bool.Decides.{nat_tests}
 use mathlib.Core.Bool.{false≢true}
-use Rattle.jr_rev.specs.declared.revision.Revision.{Revision}
 use Rattle.jr_rev.specs.declared.vector.Pin.{Pin}
-use Rattle.jr_tree.specs.declared.edit.Edit.{Edit}
-use Rattle.jr_tree.specs.declared.edit.Write.{Write}
-use Rattle.jr_tree.specs.Edits.{changes}
-use Rattle.jr_tree.specs.Trees.{IsTree, Nodes}
-use Rattle.oak_clash.specs.declared.mark.MarkAt.{MarkAt}
+use Rattle.jr_tree.specs.Trees.{IsTree}
 use Rattle.oak_machine.specs.declared.event.Event.TheVariants as event
-use Rattle.oak_machine.specs.declared.event.StepKind.{StepKind}
 use Rattle.oak_machine.specs.declared.event.StepKind.TheVariants as kind
 use Rattle.oak_machine.specs.History.{History, Past}
-use Rattle.oak_machine.specs.Commits.{draw_of, is_committed, is_drawn}
 use Rattle.oak_machine.specs.Laws.{after}
-use Rattle.oak_machine.specs.Marks.{marks_for}
 use Rattle.oak_machine.specs.Runs.{AreNodes, IsRun}
 use Rattle.oak_machine.specs.Sessions.{has_left, has_login, is_attached, is_drawing, next_index, refreshed_since}
-use Rattle.oak_machine.proofs.Induction.{committed_is_drawn}
-use Rattle.oak_port.specs.Ports.{AreOfStep, Grows, HasRoom, Idle, Makes, MayBegin, Shown, Starting, Steps, Waits, Work, Writing}
+use Rattle.oak_port.specs.Ports.{AreOfStep, Grows, Idle, Makes, MayBegin, Shown, Starting, Steps, Waits, Work}
 use Rattle.oak_port.specs.declared.task.StepOut.{StepOut}
 use Rattle.oak_port.specs.declared.task.StepOut.TheVariants as out
 use Rattle.oak_port.specs.declared.task.Task.{Task}
@@ -30,33 +21,27 @@ use Rattle.jcr_trans.specs.declared.command.Command.{Command}
 use Rattle.jcr_trans.specs.declared.command.Command.TheVariants as command
 use Rattle.jcr_trans.specs.Commands.{Built, built}
 use Rattle.jcr_trans.specs.Texts.{memory_text}
-use Rattle.jcr_trans.proofs.Passing.{only_refresh, only_save}
-use Rattle.core_heads.proofs.Runs.{fresh_run}
-use Rattle.core_law.specs.Law.{MayStart, has_few_nodes}
+use Rattle.jcr_trans.proofs.Passing.{only_refresh}
 use Rattle.core_law.specs.State.{base_tree, command_at}
-use Rattle.core_law.specs.Turns.{IsTurn}
 use Rattle.core_law.proofs.Passing.{among_same, idle_stays, next_stays}
-use Rattle.core_law.proofs.Turns.{may_start}
 use Rattle.jcr_session.specs.declared.law.JcrLaw.{JcrLaw}
 use Rattle.jcr_session.specs.declared.run.Due.TheVariants as due
 use Rattle.jcr_session.specs.declared.run.Phase.{Phase}
 use Rattle.jcr_session.specs.declared.run.Phase.TheVariants as phase
 use Rattle.jcr_session.specs.declared.run.SessionRun.{SessionRun}
-use Rattle.jcr_session.specs.declared.sight.Seen.{Seen}
 use Rattle.jcr_session.specs.declared.sight.Sight.{Sight}
 use Rattle.jcr_session.specs.declared.sight.Sight.TheVariants as sight
 use Rattle.jcr_session.specs.declared.turn.Turn.{Turn}
 use Rattle.jcr_session.specs.declared.turn.Turn.TheVariants as turn
 use Rattle.jcr_session.specs.Sights.{IsBeside, IsIn, says_of, starts_of}
-use Rattle.jcr_session.specs.Standing.{HasTurned, HasView, IsInSave, IsRefreshed, IsSaving, MayAnswer, Sees, Stands, StandsAt, due_by, due_for, due_of, is_unread, is_writing, pinned_by}
-use Rattle.jcr_session.proofs.Committing.{committing_drawn}
+use Rattle.jcr_session.specs.Standing.{HasTurned, MayAnswer, Sees, Stands, StandsAt, due_for, due_of, is_unread, is_writing, pinned_by}
 use Rattle.jcr_session.proofs.Reading.{beside_both}
 use Rattle.jcr_session.proofs.Replying.{between_at, forgo_refresh, idle_between, never_leaves, refresh_by, sees}
 use Rattle.jcr_session.proofs.Lawful.{some_is}
-use Rattle.jcr_session.proofs.Saying.{IsBetween, answer_waits}
+use Rattle.jcr_session.proofs.Saying.{answer_waits}
 use Rattle.jcr_session.proofs.Trees.{base_is_tree}
 use Rattle.jcr_session.proofs.Turning.{free, has_turned_later, is_awaiting, never_ends, not_ended, plain_step, turned_later}
-use Rattle.jcr_session.proofs.Waiting.{by_waits, in_beside, in_then, turn_still, tree_still}
+use Rattle.jcr_session.proofs.Waiting.{by_waits, in_beside, in_then}
 
 own : (s : ℕ) → (s == s) ≡ true
 own s = grind (arith, nat_tests)

@@ -1,10 +1,9 @@
 -- A session stands where it stood while others make their steps; and a new one stands before its login.
-use Rattle.std.proofs.Common.{◌≡◌, ℕ, ◌≤◌, zero, Bool, true, false, Some, None, Option, List, [], ◌∷◌, ◌++◌, length, refl, sym, ap, ◌∙◌, subst, arith}
+use Rattle.std.proofs.Common.{◌≡◌, ℕ, ◌≤◌, true, false, Some, Option, List, [], ◌∷◌, ◌++◌, length, refl, sym, ap, ◌∙◌, subst, arith}
 use Rattle.std.specs.Prelude.{slice_get}
 use Rattle.std.specs.List.{list_any}
 use Rattle.jr_tree.specs.Trees.{Nodes}
-use Rattle.oak_machine.specs.declared.event.Event.{Event}
-use Rattle.oak_machine.specs.History.{History, Past}
+use Rattle.oak_machine.specs.History.{Past}
 use Rattle.oak_machine.specs.Laws.{is_event_of}
 use Rattle.oak_machine.specs.Runs.{AreNodes, IsRun}
 use Rattle.oak_machine.specs.Sessions.{has_left, has_login, is_drawing, is_end_of_session, next_index, refreshed_since}
@@ -19,12 +18,10 @@ use Rattle.jcr_session.specs.declared.law.JcrLaw.{JcrLaw}
 use Rattle.jcr_session.specs.declared.run.Phase.{Phase}
 use Rattle.jcr_session.specs.declared.run.Phase.TheVariants as phase
 use Rattle.jcr_session.specs.declared.run.SessionRun.{SessionRun}
-use Rattle.jcr_session.specs.declared.sight.Fetch.{Fetch}
-use Rattle.jcr_session.specs.declared.sight.Fetch.TheVariants as fetch
 use Rattle.jcr_session.specs.declared.sight.Sight.{Sight}
 use Rattle.jcr_session.specs.declared.sight.Sight.TheVariants as sight
 use Rattle.jcr_session.specs.declared.sight.Walk.{Walk}
-use Rattle.jcr_session.specs.Sights.{IsBeside, IsFetching, IsIn, IsPart, Reads, says_of, starts_of}
+use Rattle.jcr_session.specs.Sights.{IsBeside, IsFetching, IsIn, Reads, says_of, starts_of}
 use Rattle.jcr_session.specs.Standing.{HasCommitted, HasSaved, IsCommitting, IsInSave, IsNew, IsSaving, Sees, Stands, StandsAt}
 use Rattle.jcr_session.proofs.Waiting.{by_waits, committed_beside, committing_beside, in_beside, login_stays, next_beside, nodes_beside, shown_beside, tree_beside, turn_beside}
 

@@ -1,12 +1,11 @@
 -- Each turn leaves its session where the history says.
-use Rattle.std.proofs.Common.{◌≡◌, ◌⊎◌, inl, inr, ℕ, zero, suc, ◌+◌, ◌<◌, ◌≤◌, length, Bool, true, false, cond, not, ◌||◌, ◌&&◌, Some, None, Option, List, [], ◌∷◌, ◌++◌, is_some, refl, sym, ap, ◌∙◌, subst, arith}
+use Rattle.std.proofs.Common.{◌≡◌, inl, inr, ℕ, ◌+◌, ◌<◌, ◌≤◌, length, Bool, true, false, cond, Some, None, Option, List, [], ◌∷◌, ◌++◌, refl, sym, ap, ◌∙◌, subst, arith}
 use Rattle.std.specs.Prelude.{◌==◌, IfSome, reverse, slice_get}
 use Rattle.std.specs.Option.{option_map_or}
 use Rattle.std.proofs.lemmas.Bool.Decides.{nat_tests}
 use mathlib.Core.Bool.{false≢true}
 use Rattle.jr_path.specs.declared.text.Text.{Text}
 use Rattle.jr_rev.specs.declared.revision.Revision.{Revision}
-use Rattle.jr_rev.specs.declared.vector.Pin.{Pin}
 use Rattle.jr_rev.specs.declared.vector.RevVec.{RevVec}
 use Rattle.jr_tree.specs.Trees.{IsTree, Nodes}
 use Rattle.oak_machine.specs.declared.event.Event.TheVariants as event
@@ -24,9 +23,6 @@ use Rattle.oak_commit.specs.declared.outcome.CommitEnd.{CommitEnd}
 use Rattle.oak_commit.specs.declared.outcome.CommitEnd.TheVariants as commit
 use Rattle.oak_port.specs.declared.task.StepOut.{StepOut}
 use Rattle.oak_port.specs.declared.task.StepOut.TheVariants as out
-use Rattle.oak_port.specs.declared.task.Task.{Task}
-use Rattle.oak_port.specs.declared.task.Task.TheVariants as task
-use Rattle.oak_port.specs.declared.task.TaskEnd.{TaskEnd}
 use Rattle.oak_port.specs.declared.task.TaskEnd.TheVariants as end
 use Rattle.core_law.specs.Law.{SaysBy}
 use Rattle.core_law.specs.State.{base_tree, command_at}
@@ -43,7 +39,7 @@ use Rattle.jcr_session.specs.declared.turn.Turn.TheVariants as turn
 use Rattle.jcr_session.specs.Sights.{IsBeside, IsIn, says_of, starts_of}
 use Rattle.jcr_session.specs.Standing.{HasAwaited, HasCommitted, HasSaved, HasTurned, IsCommitting, IsInSave, IsMade, IsOneStep, IsSaving, IsSeenFor, IsStep, IsTurned, IsUnseen, MayAnswer, Stands, StandsAt, Tells, is_writing, kind_of_end, phase_by, turn_by}
 use Rattle.jcr_session.proofs.Committing.{committed_moved, committed_undone, committing_finish, committing_undo, committing_write}
-use Rattle.jcr_session.proofs.Others.{append_assoc, others_both}
+use Rattle.jcr_session.proofs.Others.{others_both}
 use Rattle.jcr_session.proofs.Reading.{after_both, alone_both}
 use Rattle.jcr_session.proofs.Saying.{answer_waits, answered_turns, get_within}
 use Rattle.jcr_session.proofs.Trees.{base_is_tree}
@@ -109,7 +105,7 @@ made_later h old mid new now own (turn.Said i) link session made never = step_la
 made_later h old mid new now own (turn.Waiting q) link session made never = by link
   where
     by : Link old mid → IsMade h old new now own (turn.Waiting q)
-    by (kept work due) = (made.0, sym work ∙ made.1, made.2, subst (λ (s : ℕ). IsUnseen h s made.0) session made.3.0, made.3.1)
+    by (kept work due) = (made.0, sym work ∙ made.1, made.2, subst (λ (s : ℕ). IsUnseen h s made.0) session made.3, made.4)
     by (free still unwaited awaits) = absurd (false≢true (sym unwaited ∙ ap is_awaiting made.1))
 made_later h old mid new now own turn.Ended link session made never = absurd (never refl)
 made_later h old mid new now own turn.Memory link session made never = made

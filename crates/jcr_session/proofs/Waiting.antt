@@ -1,48 +1,30 @@
 -- While others add events, a session stands where it stood.
-use Rattle.std.proofs.Common.{◌≡◌, inl, inr, ℕ, Bool, true, false, cond, ◌||◌, Some, None, Option, List, [], ◌∷◌, ◌++◌, is_some, refl, sym, ap, ◌∙◌, subst}
+use Rattle.std.proofs.Common.{◌≡◌, ℕ, true, false, ◌||◌, Option, List, [], ◌∷◌, ◌++◌, sym, ap, ◌∙◌, subst}
 use Rattle.std.specs.Prelude.{◌==◌}
-use Rattle.std.specs.Option.{option_map_or}
 use Rattle.std.specs.List.{list_any}
-use mathlib.Core.Bool.{false≢true}
-use Rattle.jr_path.specs.declared.text.Text.{Text}
 use Rattle.jr_rev.specs.declared.revision.Revision.{Revision}
-use Rattle.jr_rev.specs.declared.vector.RevVec.{RevVec}
 use Rattle.jr_tree.specs.Trees.{IsTree, Nodes}
-use Rattle.oak_machine.specs.declared.event.Event.{Event}
 use Rattle.oak_machine.specs.declared.event.Event.TheVariants as event
 use Rattle.oak_machine.specs.declared.event.StepKind.TheVariants as kind
 use Rattle.oak_machine.specs.History.{History, Past}
 use Rattle.oak_machine.specs.Commits.{is_commit_of, is_committed, is_ended, is_end_of, refusal_of}
-use Rattle.oak_machine.specs.Laws.{AreOthers, Says, Starts, after, is_event_of, is_revision_of}
+use Rattle.oak_machine.specs.Laws.{after, is_event_of}
 use Rattle.oak_machine.specs.Runs.{AreNodes, IsRun, IsRunOf}
-use Rattle.oak_machine.specs.Sessions.{base_of, drawn_since, has_left, has_login, is_attached, is_drawing, is_end_of_session, is_login_of, next_index, refreshed_since}
+use Rattle.oak_machine.specs.Sessions.{has_left, has_login, is_attached, is_login_of, next_index}
 use Rattle.oak_machine.proofs.Induction.{neither, other}
 use Rattle.oak_machine.proofs.Stays.{any_later}
-use Rattle.oak_port.specs.Ports.{Awaiting, Deciding, Grows, HasRoom, Idle, Shown, Starting, Undoing, Waits, Work, Writing}
+use Rattle.oak_port.specs.Ports.{Awaiting, Deciding, Idle, Shown, Starting, Undoing, Waits, Work, Writing}
 use Rattle.oak_commit.specs.declared.outcome.CommitEnd.{CommitEnd}
 use Rattle.oak_commit.specs.declared.outcome.CommitEnd.TheVariants as commit
-use Rattle.oak_port.specs.declared.task.Task.TheVariants as task
-use Rattle.core_law.specs.Law.{SaysBy}
-use Rattle.core_law.specs.State.{Orders, base_tree, pending_of}
+use Rattle.core_law.specs.State.{base_tree}
 use Rattle.core_law.specs.Turns.{IsOver, IsTurn}
 use Rattle.core_law.proofs.Bases.{base_tree_stays}
-use Rattle.core_law.proofs.Lasting.{over_same, says_last, turn_same}
+use Rattle.core_law.proofs.Lasting.{over_same, turn_same}
 use Rattle.core_law.proofs.Passing.{drawn_stays, idle_stays, next_stays, pending_stays, refreshed_stays}
 use Rattle.jcr_session.specs.declared.law.JcrLaw.{JcrLaw}
-use Rattle.jcr_session.specs.declared.run.Phase.{Phase}
-use Rattle.jcr_session.specs.declared.run.Phase.TheVariants as phase
-use Rattle.jcr_session.specs.declared.run.SessionRun.{SessionRun}
-use Rattle.jcr_session.specs.declared.sight.Fetch.{Fetch}
-use Rattle.jcr_session.specs.declared.sight.Fetch.TheVariants as fetch
-use Rattle.jcr_session.specs.declared.sight.Seen.{Seen}
-use Rattle.jcr_session.specs.declared.sight.Sight.{Sight}
-use Rattle.jcr_session.specs.declared.sight.Sight.TheVariants as sight
-use Rattle.jcr_session.specs.declared.sight.Walk.{Walk}
-use Rattle.jcr_session.specs.declared.turn.Turn.{Turn}
-use Rattle.jcr_session.specs.declared.turn.Turn.TheVariants as turn
-use Rattle.jcr_session.specs.Sights.{IsBeside, IsFetching, IsIn, IsPart, Reads, says_of, starts_of}
-use Rattle.jcr_session.specs.Standing.{HasCommitted, HasDrawn, HasSaved, HasTurned, HasView, IsCommitting, IsInSave, IsOutside, IsRefreshed, IsSaving, IsToldEnd, IsTurned, MayAnswer, Sees, SeesThen, Stands, StandsAt, Tells}
-use Rattle.jcr_session.proofs.Others.{append_assoc, last_others, others_both, refusal_own, revision_stays, uncommitted_own}
+use Rattle.jcr_session.specs.Sights.{IsBeside, IsIn, says_of, starts_of}
+use Rattle.jcr_session.specs.Standing.{HasCommitted, HasDrawn, HasView, IsCommitting, IsToldEnd}
+use Rattle.jcr_session.proofs.Others.{last_others, refusal_own, revision_stays, uncommitted_own}
 
 -- ---- whether it is in
 

@@ -1,7 +1,6 @@
 -- Where a session stands between its turns, and what a turn makes of that.
-use Rattle.std.specs.Prelude.{◌≡◌, ◌≢◌, ◌⊎◌, ◌≤◌, ℕ, ◌+◌, ◌++◌, Bool, true, false, cond, ◌&&◌, ⊤, List, [], ◌∷◌, length, slice_get, reverse, Option, None, Some, IfSome, IsTrue, IsFalse}
+use Rattle.std.specs.Prelude.{◌≡◌, ◌≢◌, ◌⊎◌, ◌≤◌, ℕ, ◌++◌, Bool, true, false, cond, ◌&&◌, ⊤, List, [], ◌∷◌, length, slice_get, reverse, Option, None, Some, IfSome, IsTrue, IsFalse}
 use Rattle.std.specs.Option.{option_map_or}
-use Rattle.jr_path.specs.declared.path.Item.{Item}
 use Rattle.jr_path.specs.declared.text.Text.{Text}
 use Rattle.jr_rev.specs.declared.revision.Revision.{Revision}
 use Rattle.jr_rev.specs.declared.vector.Pin.{Pin}
@@ -19,7 +18,7 @@ use Rattle.oak_machine.specs.Commits.{is_committed, is_ended, refusal_of}
 use Rattle.oak_machine.specs.Heads.{head_of}
 use Rattle.oak_machine.specs.Laws.{AreOthers, after, is_revision_of}
 use Rattle.oak_machine.specs.Runs.{AreNodes, IsRun}
-use Rattle.oak_machine.specs.Sessions.{base_of, drawn_since, has_left, has_login, is_drawing, next_index, refreshed_since}
+use Rattle.oak_machine.specs.Sessions.{drawn_since, has_left, has_login, is_drawing, next_index, refreshed_since}
 use Rattle.oak_machine.specs.Steps.{is_appended_by}
 use Rattle.oak_port.specs.Ports.{Awaiting, Deciding, Grows, HasRoom, HoldsBack, Idle, Shown, Undoing, Work, Writing, is_by_due}
 use Rattle.oak_commit.specs.declared.outcome.CommitEnd.{CommitEnd}

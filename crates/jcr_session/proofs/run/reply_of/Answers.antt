@@ -1,4 +1,4 @@
-use Rattle.std.proofs.Common.{◌≡◌, inl, refl}
+use Rattle.std.proofs.Common.{◌≡◌, inl}
 use Rattle.std.specs.String.{string_bytes}
 use Rattle.jcr_session.proofs.Answering.{made_err}
 use Rattle.jcr_session.proofs.Seeing.{refused_reply}

@@ -1,8 +1,7 @@
-use Rattle.std.proofs.Common.{refl, sym, ◌∙◌, subst}
+use Rattle.std.proofs.Common.{refl, sym, subst}
 use Rattle.jcr_session.specs.declared.run.Phase.{Phase}
 use Rattle.jcr_session.specs.Standing.{Stands}
 use Rattle.jcr_session.proofs.Replying.{turned_like}
-use Rattle.jcr_session.specs.declared.run.Phase.TheVariants as phase
 use Rattle.jcr_session.proofs.run.SessionRun.say_end.Goals as goal
 
 pub say_saved-requires : goal.say_saved-requires

@@ -1,20 +1,14 @@
-use Rattle.std.proofs.Common.{◌∙◌, refl, length, subst, sym}
-use Rattle.jr_path.specs.declared.text.Text.{Text}
-use Rattle.oak_port.specs.Ports.{HasRoom}
+use Rattle.std.proofs.Common.{◌∙◌, refl, length}
 use Rattle.oak_commit.specs.declared.outcome.CommitEnd.TheVariants as commit
-use Rattle.jcr_session.specs.declared.run.Phase.TheVariants as phase
 use Rattle.jcr_session.specs.declared.sight.Sight.TheVariants as sight
 use Rattle.jcr_session.proofs.Ending.{ended_revision, ended_room}
-use Rattle.jcr_session.proofs.Lengths.{short_reply}
 use Rattle.jcr_session.proofs.Turning.{room_less}
 use Rattle.jcr_session.proofs.Replying.{turned_like}
-use Rattle.jcr_trans.specs.Answers.{ShowsRevision}
-use Rattle.jcr_trans.specs.Texts.{answer_text}
 use Rattle.jcr_session.proofs.run.SessionRun.say_revision.Goals as goal
 
 pub say_kept-requires-clause-answer : goal.say_kept-requires-clause-answer
 say_kept-requires-clause-answer g c =
-    ended_revision (g.P.Port.law c.args.port.now) (g.P.Port.shown c.args.port.now) c.args.self.now c.args.r c.requires.stands _ c.as_str.result.now refl (c.as_str.ensures.value ∙ c.revision_reply.ensures)
+    ended_revision (g.P.Port.law c.args.port.now) (g.P.Port.shown c.args.port.now) c.args.self.now c.args.r c.requires.stands _ c.as_str.result.now refl (c.as_str.ensures.value ∙ c.revision_reply-text.ensures)
 
 pub say_kept-requires-clause-room : goal.say_kept-requires-clause-room
 say_kept-requires-clause-room g c =

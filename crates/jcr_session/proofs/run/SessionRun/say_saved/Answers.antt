@@ -2,7 +2,6 @@ use Rattle.std.proofs.Common.{length, subst}
 use Rattle.jr_path.specs.declared.text.Text.{Text}
 use Rattle.oak_port.specs.Ports.{HasRoom}
 use Rattle.oak_commit.specs.declared.outcome.CommitEnd.{CommitEnd}
-use Rattle.oak_commit.specs.declared.outcome.CommitEnd.TheVariants as commit
 use Rattle.jcr_session.specs.declared.run.Phase.TheVariants as phase
 use Rattle.jcr_session.specs.Standing.{MayAnswer, Stands}
 use Rattle.jcr_session.proofs.Ending.{ended_memory, ended_room}
