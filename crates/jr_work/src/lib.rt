@@ -5,6 +5,8 @@ mod flight;
 mod laws;
 mod run;
 mod stage;
+#[cfg(test)]
+mod tests;
 
 pub use laws::cuts_grow;
 pub use run::run_steps;

@@ -196,7 +196,7 @@ impl Stage {
     }
 
     // A turn of a session. What is kept of its commit goes by the event that the turn added last.
-    fn turn(&mut self, s: u32) -> Result<Turn, AllocError>
+    pub(crate) fn turn(&mut self, s: u32) -> Result<Turn, AllocError>
         requires stage { IsStage self.old }
         requires there { s < length self.old.seats.items }
         ensures { IfOk result (HasCome self.old self.new s) }
