@@ -1,5 +1,5 @@
 -- A draw that may follow a run may begin.
-use Rattle.std.proofs.Common.{◌≡◌, ◌⊎◌, inl, inr, ℕ, true, false, List, [], ◌∷◌, ◌++◌, refl, sym, ap, subst, ◌∙◌, fold}
+use Rattle.std.proofs.Common.{◌≡◌, ◌⊎◌, inl, inr, ℕ, true, false, List, [], ◌∷◌, ◌++◌, refl, sym, ap, subst, ◌∙◌, fold, None}
 use Rattle.std.specs.List.{flat_map}
 use Rattle.std.specs.Map.{keys_of}
 use Rattle.std.specs.BTreeMap.{insert_entry}
@@ -118,10 +118,10 @@ names_items t edit ms are k item = (to, from)
     from : In k (flat_map marks_of_write edit.writes) → In k ms
     from h = (In-from_filter is_of_item k ms (subst (λ (xs : List MarkAt). In k xs) (sym are) (In-filter is_of_item k (marks_for t edit.writes) (writes_to k edit.writes [] (inl h)) item))).0
 
-pub may_begin : (clusters : ℕ) (sessions : List ℕ) → AreNodes clusters sessions → (starts : Starts) (says : Says) → StartsProper starts → (s : Core) (d : Draw) (left : List Path) → IsRunOf starts says clusters sessions (event.Draw d ∷ s.past) → ((p : Path) (m : Mark) → In (mark_at p m) d.marks → In p left) → Once left → MayBegin s d left
+pub may_begin : (clusters : ℕ) (sessions : List ℕ) → AreNodes clusters sessions → (starts : Starts) (says : Says) → StartsProper starts → (s : Core) (d : Draw) (left : List Path) → IsRunOf starts says clusters sessions None (event.Draw d ∷ s.past) → ((p : Path) (m : Mark) → In (mark_at p m) d.marks → In p left) → Once left → MayBegin s d left
 may_begin clusters sessions nodes starts says proper s d left run covers once = record {
   begins = begins_run clusters sessions nodes starts says d s.past run;
   covers = covers;
   once = once;
-  entries = names_items (tree_at s.past d.base) d.edit d.marks (proper _ d.session d.edit d.marks d.base run.0.base run.0.lawful).1;
+  entries = names_items (tree_at None s.past d.base) d.edit d.marks (proper _ d.session d.edit d.marks d.base run.0.base run.0.lawful).1;
 }

@@ -197,7 +197,7 @@ module _ (d : Document) (r : Revision) where
       only o Touch h = its refl (has_only d.touched r o tt h)
       only o (Prop n) h = inl h
 
-  leaves_prop : (n : Name) (x : Option Property) → Leaves d (changed d (change.Prop n r x)) r (Prop n ∷ [])
+  pub leaves_prop : (n : Name) (x : Option Property) → Leaves d (changed d (change.Prop n r x)) r (Prop n ∷ [])
   leaves_prop n x = record {
     ordered = λ p o. (o.0, record { names = sorted_with d.props n (with_revision (values_of_property d.props n) r x) o.1.names });
     keeps = keeps;

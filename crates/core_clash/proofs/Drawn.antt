@@ -1,11 +1,11 @@
 -- A draw keeps what holds.
-use Rattle.std.proofs.Common.{◌≡◌, true, false, cond, ◌⊎◌, inl, inr, Some, List, [], ◌++◌, refl, sym, ap, subst, ◌∙◌, is_some}
+use Rattle.std.proofs.Common.{◌≡◌, Bool, true, false, cond, ◌⊎◌, inl, inr, Some, List, [], ◌++◌, refl, sym, ap, subst, ◌∙◌, is_some}
 use mathlib.Core.Bool.{false≢true}
 use Rattle.jr_path.specs.declared.path.Path.{Path}
 use Rattle.jr_path.specs.declared.path.Item.{Item}
 use Rattle.jr_rev.specs.declared.revision.Revision.{Revision}
 use Rattle.jr_rev.specs.Revisions.{is_same}
-use Rattle.jr_rev.specs.Vectors.{start_of}
+use Rattle.jr_rev.specs.Vectors.{sees, start_of}
 use Rattle.oak_clash.specs.declared.mark.Mark.{Mark}
 use Rattle.oak_clash.specs.Clashes.{clash}
 use Rattle.oak_machine.specs.declared.event.Draw.{Draw}
@@ -14,7 +14,9 @@ use Rattle.oak_machine.specs.Commits.{draw_of, marks_of, is_drawn, is_refused, i
 use Rattle.oak_commit.specs.Clashing.{Met, marked, collision, Writer}
 use Rattle.core_clash.specs.Views.{In, Once, mark_at, NamesItems}
 use Rattle.core_clash.specs.Core.{Core}
-use Rattle.core_clash.specs.Sound.{Sound, IsListed, Noticed, Stands, IsOf, IsRooted, IsWriterOf}
+use Rattle.core_clash.specs.Sound.{Sound, AreBelow, IsListed, Noticed, Stands, IsOf, IsRooted, IsWriterOf, marked_in}
+use Rattle.core_clash.specs.Collecting.{SeesBounded}
+use Rattle.core_keep.specs.Journal.{is_bounded, is_swept}
 use Rattle.core_clash.specs.Core.{Core, root_of, MayBegin, after_draw}
 use Rattle.core_clash.specs.Sound.{Sound, IsListed, Noticed, Stands, IsOf, IsDue, Cause}
 use Rattle.core_clash.proofs.Basics.{not_both, decide, is_same_self, at_writer, writer_mine, writer_other, some_is}
@@ -30,7 +32,7 @@ module _ (s : Core) (d : Draw) (left : List Path) where
   abbrev pub t : Core
   t = after_draw s d left
 
-  module _ (sound : Sound s) (may : MayBegin s d left) where
+  module _ (sound : Sound s) (may : MayBegin s d left) (above : SeesBounded s.past d.base) where
     -- a drawn revision is another than r
     old : (o : Revision) → is_drawn s.past o ≡ true → is_same o r ≡ false
     old o h = by (decide o r)
@@ -74,10 +76,26 @@ module _ (s : Core) (d : Draw) (left : List Path) where
         by (inl e) = rw e may.begins.start
         by (inr f) = base_stays o (start_of 1) f ∙ sound.start o (rw (stays o f) at h)
 
-    entries : (o : Revision) (q : Path) (m : Mark) → In q (t.writers o).written → In (mark_at q m) (marks_of t.past o) → marked (s.docs q) o m ≡ true
-    entries o q m = at_writer (λ x v. In q v.written → In (mark_at q m) (marks_of t.past x) → marked (s.docs q) x m ≡ true) s.writers r w o
-        (λ h k. absurd h)
-        (λ f h k. sound.entries o q m h (rw (marks_stay o f) at k))
+    -- bounds see nothing new, and the new base sees what they see
+    bounds : AreBelow t.past
+    bounds = record { settled = λ o h. settled_by o h (decide o r); below = λ a o h k. below a o h k (decide a r); swept = sound.bounds.swept }
+      where
+        fresh : (test : Bool) → is_bounded s.past r ≡ test → is_bounded s.past r ≡ false
+        fresh true h = not_both (is_in_base t.past r r) (rw draw_here (above r h)) may.begins.itself
+        fresh false h = h
+
+        settled_by : (o : Revision) → is_in_flight t.past o ≡ true → (o ≡ r) ⊎ (is_same o r ≡ false) → is_bounded s.past o ≡ false
+        settled_by o h (inl e) = subst (λ (x : Revision). is_bounded s.past x ≡ false) (sym e) (fresh (is_bounded s.past r) refl)
+        settled_by o h (inr f) = sound.bounds.settled o (rw (stays o f) at h)
+
+        below : (a o : Revision) → is_in_flight t.past a ≡ true → is_bounded s.past o ≡ true → (a ≡ r) ⊎ (is_same a r ≡ false) → is_in_base t.past a o ≡ true
+        below a o h k (inl e) = rw (e, draw_here) (above o k)
+        below a o h k (inr f) = base_stays a o f ∙ sound.bounds.below a o (rw (stays a f) at h) k
+
+    entries : (o : Revision) (q : Path) (m : Mark) → is_bounded s.past o ≡ false → In q (t.writers o).written → In (mark_at q m) (marks_of t.past o) → marked_in (s.docs q) (s.moved q) o m ≡ true
+    entries o q m = at_writer (λ x v. is_bounded s.past x ≡ false → In q v.written → In (mark_at q m) (marks_of t.past x) → marked_in (s.docs q) (s.moved q) x m ≡ true) s.writers r w o
+        (λ free h k. absurd h)
+        (λ f free h k. sound.entries o q m free h (rw (marks_stay o f) at k))
 
     is_of : (q : Path) (o : Revision) (m : Mark) → IsOf s q o m → IsOf t q o m
     is_of q o m (inl e) = inl e
@@ -92,10 +110,12 @@ module _ (s : Core) (d : Draw) (left : List Path) where
         by (inl k) = subst (λ (x : Draw). NamesItems x.marks x.edit.writes) (sym (some_is (sym (subst (λ (x : Revision). draw_of t.past x ≡ Some d) (sym k) draw_here) ∙ h))) may.entries
         by (inr f) = sound.edits o e (sym (stays o f) ∙ h)
 
-    rooted : (o : Revision) (q : Path) (m : Mark) → In q (t.writers o).written → In (mark_at q m) (marks_of t.past o) → IsRooted (s.docs q) o (root_of t.past o)
-    rooted o q m = at_writer (λ x v. In q v.written → In (mark_at q m) (marks_of t.past x) → IsRooted (s.docs q) x (root_of t.past x)) s.writers r w o
-        (λ h k. absurd h)
-        (λ f h k. subst (λ (x : Path). IsRooted (s.docs q) o x) (sym (root_stays o f)) (sound.rooted o q m h (rw (marks_stay o f) at k)))
+    rooted : (o : Revision) (q : Path) (m : Mark) → is_swept s.past o ≡ false → (o ≡ start_of 1 → ⊥) → marked_in (s.docs q) (s.moved q) o m ≡ true → IsRooted (s.docs q) o (root_of t.past o)
+    rooted o q m fresh other h = subst (λ (x : Path). IsRooted (s.docs q) o x) (sym (root_stays o (by (sound.origin o q m h)))) (sound.rooted o q m fresh other h)
+      where
+        by : IsOf s q o m → is_same o r ≡ false
+        by (inl e) = absurd (other e)
+        by (inr k) = old o (marks_drawn s.past o (mark_at q m) k.1)
 
     unrooted : (o : Revision) (q : Path) → IsWriterOf s q o → IsWriterOf t q o
     unrooted o q (inl e) = inl e
@@ -166,6 +186,8 @@ module _ (s : Core) (d : Draw) (left : List Path) where
       ended_drawn = λ o h. still o (sound.ended_drawn o h);
       settled = settled;
       start = start;
+      bounds = bounds;
+      moved = sound.moved;
       entries = entries;
       origin = λ o q m h. is_of q o m (sound.origin o q m h);
       edits = edits;
@@ -180,7 +202,7 @@ module _ (s : Core) (d : Draw) (left : List Path) where
       ended = λ o h. rw (writer_stays o (sound.ended_drawn o h)) (sound.ended o h);
       due = due_of;
       caused = λ q x o i h. caused q x o i (sound.caused q x o i h);
-      status = λ o h. rw (root_stays o (old o (sound.committed_drawn o h))) (sound.status o h);
+      status = λ o f h. rw (root_stays o (old o (sound.committed_drawn o h))) (sound.status o f h);
       only_committed = sound.only_committed;
       whole = λ o h. rw (writer_stays o (sound.committed_drawn o h)) (sound.whole o h);
       unmarked = λ o h. rw (root_stays o (old o (sound.committed_drawn o h))) (sound.unmarked o h);

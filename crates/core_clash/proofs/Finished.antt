@@ -40,6 +40,8 @@ module _ (s : Core) (d : Draw) where
       ended_drawn = of_ended (λ o. is_drawn s.past o ≡ true) (rw may.draw refl) sound.ended_drawn;
       settled = λ a o h. sound.settled a o (flew (is_drawn s.past o) (is_same o r) (is_ended s.past o) h);
       start = sound.start;
+      bounds = record { settled = λ o h. sound.bounds.settled o (flew (is_drawn s.past o) (is_same o r) (is_ended s.past o) h); below = λ a o h. sound.bounds.below a o (flew (is_drawn s.past a) (is_same a r) (is_ended s.past a) h); swept = sound.bounds.swept };
+      moved = sound.moved;
       entries = sound.entries;
       origin = sound.origin;
       edits = sound.edits;
@@ -67,6 +69,7 @@ event_keeps s (event.Draw d) q sound = absurd (false≢true q)
 event_keeps s (event.Commit r) q sound = absurd (false≢true q)
 event_keeps s (event.Refuse r item o) q sound = absurd (false≢true q)
 event_keeps s (event.End r) q sound = absurd (false≢true q)
+event_keeps s (event.Bound m t) q sound = absurd (false≢true q)
 event_keeps s e q sound = record {
   ordered = sound.ordered;
   committed_drawn = sound.committed_drawn;
@@ -74,6 +77,8 @@ event_keeps s e q sound = record {
   ended_drawn = sound.ended_drawn;
   settled = sound.settled;
   start = sound.start;
+  bounds = record { settled = sound.bounds.settled; below = sound.bounds.below; swept = sound.bounds.swept };
+  moved = sound.moved;
   entries = sound.entries;
   origin = sound.origin;
   edits = sound.edits;

@@ -14,6 +14,8 @@ pub mod Updates
 pub mod Firsts
 pub mod Meetings
 pub mod Wanted
+pub mod Whole
+pub mod Dropped
 pub mod Steps
 pub mod Undoing
 pub mod Reach

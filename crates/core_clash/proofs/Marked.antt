@@ -1,5 +1,5 @@
 -- A mark on another's commit root keeps what holds.
-use Rattle.std.proofs.Common.{◌≡◌, ℕ, true, false, ◌⊎◌, inl, inr, Some, Option, List, ◌∷◌, refl, sym, ap, subst, ◌∙◌, is_some}
+use Rattle.std.proofs.Common.{◌≡◌, ℕ, true, false, ◌||◌, ◌⊎◌, inl, inr, Some, Option, List, ◌∷◌, refl, sym, ap, subst, ◌∙◌, is_some}
 use Rattle.jr_path.specs.declared.path.Path.{Path}
 use Rattle.jr_path.specs.declared.path.Item.{Item}
 use Rattle.jr_rev.specs.declared.revision.Revision.{Revision}
@@ -7,14 +7,16 @@ use Rattle.oak_clash.specs.declared.mark.Mark.{Mark}
 use Rattle.oak_machine.specs.declared.event.Draw.{Draw}
 use Rattle.oak_machine.specs.declared.event.Event.TheVariants as event
 use Rattle.oak_machine.specs.declared.event.StepKind.TheVariants as kind
-use Rattle.oak_machine.specs.Commits.{is_committed, is_refused, is_ended, is_in_flight}
+use Rattle.oak_machine.specs.Commits.{is_committed, is_refused, is_ended, is_in_base, is_in_flight}
 use Rattle.oak_commit.specs.Clashing.{Met, noted, collision, Writer}
 use Rattle.core_clash.specs.Views.{In}
 use Rattle.core_clash.specs.Core.{Core, Docs, with_writer, root_of, IsDone, MayMark}
-use Rattle.core_clash.specs.Sound.{Sound, IsListed, Noticed, Stands, IsWhole, IsOf, IsDue, Cause, IsWriterOf}
+use Rattle.core_clash.specs.Sound.{Sound, IsListed, Noticed, Stands, IsWhole, IsOf, IsDue, Cause, IsWriterOf, has_moved, marked_in}
 use Rattle.core_clash.proofs.Basics.{test, not_both, at_writer, or_right, some_of}
 use Rattle.core_clash.proofs.Pasts.{cause_later, due_later, live_now, in_flight}
 use Rattle.core_clash.proofs.Effects.{Marks}
+use Rattle.core_keep.specs.Journal.{is_swept}
+use Rattle.std.specs.List.{list_any}
 
 module _ (s : Core) (d : Draw) (f : Met) (rest : List Met) (number : ℕ) (docs : Docs) where
   abbrev r : Revision
@@ -24,7 +26,7 @@ module _ (s : Core) (d : Draw) (f : Met) (rest : List Met) (number : ℕ) (docs 
   w = record (s.writers r) { due = rest }
 
   abbrev pub t : Core
-  t = record { number = number; docs = docs; past = event.Went d.session kind.Mark ∷ s.past; writers = with_writer s.writers r w }
+  t = record { number = number; docs = docs; moved = s.moved; past = event.Went d.session kind.Mark ∷ s.past; writers = with_writer s.writers r w }
 
   module _ (sound : Sound s) (may : MayMark s d f rest) (marks : Marks s.docs docs (root_of s.past f.other) f.other (r, f.theirs)) where
     same_written : (o : Revision) → (t.writers o).written ≡ (s.writers o).written
@@ -75,12 +77,23 @@ module _ (s : Core) (d : Draw) (f : Met) (rest : List Met) (number : ℕ) (docs 
       live = live_now (event.Went d.session kind.Mark) s.past f.other r this_due.cause.other (or_right (is_committed s.past r) _ flying);
     })
 
+    -- whom the base doesn't see no bound has swept
+    unswept : is_swept s.past f.other ≡ false
+    unswept = by (test (is_swept s.past f.other))
+      where
+        by : (is_swept s.past f.other ≡ true) ⊎ (is_swept s.past f.other ≡ false) → is_swept s.past f.other ≡ false
+        by (inl h) = not_both (is_in_base s.past r f.other) (sound.bounds.below r f.other flying (sound.bounds.swept f.other h)) this_due.cause.outside
+        by (inr k) = k
+
+    same_marks : (q : Path) (o : Revision) (m : Mark) → marked_in (docs q) (s.moved q) o m ≡ marked_in (s.docs q) (s.moved q) o m
+    same_marks q o m = ap (λ b. b || list_any (has_moved o m) (s.moved q)) (marks.marks q o m)
+
     unmarked : (o : Revision) → is_committed s.past o ≡ true → is_some (collision (docs (root_of s.past o)) o) ≡ false
     unmarked o committed = by (test (is_some (collision (docs (root_of s.past o)) o)))
       where
         not_new : (e : Revision × Item) → (collision (s.docs (root_of s.past o)) o ≡ Some e) ⊎ ((o ≡ f.other) × (e ≡ (r, f.theirs))) → ⊥
         not_new e (inl h) = not_both _ (ap (λ (x : Option (Revision × Item)). is_some x) h) (sound.unmarked o committed)
-        not_new e (inr h) = not_both _ (subst (λ (x : Revision). noted (s.docs (root_of s.past x)) x ≡ true) h.0 (sound.status o committed)) marks.free
+        not_new e (inr h) = not_both _ (subst (λ (x : Revision). noted (s.docs (root_of s.past x)) x ≡ true) h.0 (sound.status o (subst (λ (x : Revision). is_swept s.past x ≡ false) (sym h.0) unswept) committed)) marks.free
 
         by : (is_some (collision (docs (root_of s.past o)) o) ≡ true) ⊎ (is_some (collision (docs (root_of s.past o)) o) ≡ false) → is_some (collision (docs (root_of s.past o)) o) ≡ false
         by (inl h) = let e = some_of (collision (docs (root_of s.past o)) o) h in absurd (not_new e.0 (marks.only (root_of s.past o) o e.0 e.1))
@@ -118,10 +131,12 @@ module _ (s : Core) (d : Draw) (f : Met) (rest : List Met) (number : ℕ) (docs 
       ended_drawn = sound.ended_drawn;
       settled = sound.settled;
       start = sound.start;
-      entries = λ o q m h k. marks.marks q o m ∙ sound.entries o q m (rw same_written at h) k;
-      origin = λ o q m h. is_of q o m (sound.origin o q m (sym (marks.marks q o m) ∙ h));
+      bounds = record { settled = sound.bounds.settled; below = sound.bounds.below; swept = sound.bounds.swept };
+      moved = sound.moved;
+      entries = λ o q m free h k. same_marks q o m ∙ sound.entries o q m free (rw same_written at h) k;
+      origin = λ o q m h. is_of q o m (sound.origin o q m (sym (same_marks q o m) ∙ h));
       edits = sound.edits;
-      rooted = λ o q m h k. marks.keeps_roots q o (root_of s.past o) (sound.rooted o q m (rw same_written at h) k);
+      rooted = λ o q m fresh other h. marks.keeps_roots q o (root_of s.past o) (sound.rooted o q m fresh other (sym (same_marks q o m) ∙ h));
       unrooted = λ o q h. unrooted o q (sound.unrooted o q (marks.only_roots q o h));
       once = λ o. rw (same_written, same_left) (sound.once o);
       listed = listed;
@@ -132,7 +147,7 @@ module _ (s : Core) (d : Draw) (f : Met) (rest : List Met) (number : ℕ) (docs 
       ended = λ o h. ended o h (sound.ended o h);
       due = due_of;
       caused = λ q x o item h. caused q x (o, item) (marks.only q x (o, item) h);
-      status = λ o h. marks.notes (root_of s.past o) o ∙ sound.status o h;
+      status = λ o k h. marks.notes (root_of s.past o) o ∙ sound.status o k h;
       only_committed = λ q o h. sound.only_committed q o (sym (marks.notes q o) ∙ h);
       whole = whole;
       unmarked = unmarked;

@@ -1,5 +1,5 @@
 -- What holds of all that can be reached.
-use Rattle.std.proofs.Common.{◌≡◌, ℕ, ◌+◌, true, false, ◌⊎◌, inl, inr, Some, Option, Ok, Err, Result, List, [], refl, sym, ap, subst, ◌∙◌, is_some}
+use Rattle.std.proofs.Common.{◌≡◌, ℕ, ◌+◌, Bool, true, false, ◌||◌, ◌⊎◌, inl, inr, Some, Option, Ok, Err, Result, List, [], refl, sym, ap, subst, ◌∙◌, is_some}
 use mathlib.Core.Bool.{false≢true}
 use Rattle.jr_path.specs.declared.path.Item.{Item}
 use Rattle.jr_rev.specs.declared.revision.Revision.{Revision}
@@ -13,15 +13,16 @@ use Rattle.oak_machine.specs.declared.event.Draw.{Draw}
 use Rattle.oak_machine.specs.declared.event.Event.{Event}
 use Rattle.oak_machine.specs.declared.event.Event.TheVariants as event
 use Rattle.oak_commit.specs.Writing.{last_op}
-use Rattle.oak_commit.specs.Clashing.{Met, noted, collision, mark_op}
+use Rattle.oak_commit.specs.Clashing.{Met, marked, noted, collision, mark_op}
 use Rattle.oak_machine.specs.Commits.{marks_of}
 use Rattle.core_clash.specs.Core.{Core, Docs, root_of, MayMark, MayLast, after_mark, after_last, marked_by, lasted_by, after_event, is_quiet}
 use Rattle.core_clash.specs.Sound.{Sound}
-use Rattle.core_clash.specs.Steps.{Step, draw, write, mark, last, want, undo, finish, other, IsStart, at_start, Reached, begun, more, EndsWell}
+use Rattle.core_clash.specs.Steps.{Step, draw, write, mark, last, want, undo, finish, bound, prune, remove, split, other, IsStart, at_start, Reached, begun, more, EndsWell}
 use Rattle.core_clash.proofs.Pasts.{in_flight}
 use Rattle.core_clash.proofs.Updates.{mark_is, last_is}
 use Rattle.core_clash.proofs.Undoing.{undoes}
 use Rattle.core_clash.proofs.Drawn.{draw_keeps}
+use Rattle.core_clash.proofs.Dropped.{bound_keeps, prune_drops, remove_drops, split_drops}
 use Rattle.core_clash.proofs.Wanted.{want_keeps}
 use Rattle.core_clash.proofs.Undone.{undo_keeps}
 use Rattle.core_clash.proofs.Finished.{finish_keeps, event_keeps}
@@ -38,10 +39,12 @@ start_sound number docs is = record {
   ended_drawn = λ r h. never h;
   settled = λ r o h. never h;
   start = λ r h. never h;
-  entries = λ r p m h k. absurd h;
-  origin = λ r p m h. inl (is.marks p r m h);
+  bounds = record { settled = λ o h. never h; below = λ r o h k. never h; swept = λ o h. never h };
+  moved = λ r p m h. never h;
+  entries = λ r p m free h k. absurd h;
+  origin = λ r p m h. inl (is.marks p r m (only (marked (docs p) r m) h));
   edits = λ r d h. never (ap (λ (x : Option Draw). is_some x) h);
-  rooted = λ r p m h k. absurd h;
+  rooted = λ r p m fresh other h. absurd (other (is.marks p r m (only (marked (docs p) r m) h)));
   unrooted = λ r p h. inl (is.roots p r h);
   once = λ r. tt;
   listed = λ r. record { gone = []; all = refl; none = λ h. refl };
@@ -52,21 +55,29 @@ start_sound number docs is = record {
   ended = λ r h. never h;
   due = λ r f h. absurd h;
   caused = λ p r o item h. never (ap (λ (x : Option (Revision × Item)). is_some x) (sym (is.collisions p r) ∙ h));
-  status = λ r h. never h;
+  status = λ r fresh h. never h;
   only_committed = λ p r h. inl (is.notes p r h);
   whole = λ r h. never h;
   unmarked = λ r h. never h;
   noticed = λ r o p m n apart sr so c. absurd sr.written;
 }
+  where
+    only : (b : Bool) → (b || false) ≡ true → b ≡ true
+    only true h = refl
+    only false h = never h
 
 step_sound : {s t : Core} → Step s t → Sound s → Sound t
-step_sound {s} (draw d left may) sound = draw_keeps s d left sound may
+step_sound {s} (draw d left may above) sound = draw_keeps s d left sound may above
 step_sound {s} (write d p rest may) sound = write_step s d p rest sound may
 step_sound {s} (mark d f rest may) sound = mark_step s d f rest sound may
 step_sound {s} (last d may) sound = last_step s d sound may
 step_sound {s} (want d going) sound = want_keeps s d sound going
 step_sound {s} (undo d p rest may) sound = undo_keeps s d p rest (s.number + 1) _ sound may (undoes s.docs p d.revision (s.number + 1) (sound.ordered p))
 step_sound {s} (finish d may) sound = finish_keeps s d sound may
+step_sound {s} (bound m t may) sound = bound_keeps s m t sound may
+step_sound {s} (prune e m t p old op keep quiet may) sound = event_keeps _ e quiet (prune_drops s m t p old op keep sound may (s.number + 1))
+step_sound {s} (remove e m t p old quiet may) sound = event_keeps _ e quiet (remove_drops s m t p old sound may (s.number + 1))
+step_sound {s} (split e read pin p old entry first quiet may) sound = event_keeps _ e quiet (split_drops s read pin p old entry first (s.number + 1) sound may)
 step_sound {s} (other e quiet) sound = event_keeps s e quiet sound
 
 pub reached_sound : (s : Core) → Reached s → Sound s
@@ -92,16 +103,21 @@ event_ends s (event.Draw d) quiet well = never quiet
 event_ends s (event.Commit r) quiet well = never quiet
 event_ends s (event.Refuse r item o) quiet well = never quiet
 event_ends s (event.End r) quiet well = never quiet
+event_ends s (event.Bound m t) quiet well = never quiet
 event_ends s e quiet well = (tt, well)
 
 step_ends : {s t : Core} → Step s t → Sound s → EndsWell s.past → EndsWell t.past
-step_ends {s} (draw d left may) sound well = (tt, well)
+step_ends {s} (draw d left may above) sound well = (tt, well)
 step_ends {s} (write d p rest may) sound well = (tt, well)
 step_ends {s} (mark d f rest may) sound well = mark_ends s d f rest sound may well
 step_ends {s} (last d may) sound well = last_ends s d sound may well
 step_ends {s} (want d going) sound well = well
 step_ends {s} (undo d p rest may) sound well = (tt, well)
 step_ends {s} (finish d may) sound well = (in_flight s.past d.revision d may.draw may.unended, well)
+step_ends {s} (bound m t may) sound well = (tt, well)
+step_ends {s} (prune e m t p old op keep quiet may) sound well = event_ends s e quiet well
+step_ends {s} (remove e m t p old quiet may) sound well = event_ends s e quiet well
+step_ends {s} (split e read pin p old entry first quiet may) sound well = event_ends s e quiet well
 step_ends {s} (other e quiet) sound well = event_ends s e quiet well
 
 -- each commit and each refusal of what can be reached may follow the events before it

@@ -127,10 +127,12 @@ module _ (s : Core) (d : Draw) (item : Item) (other : Revision) where
       ended_drawn = sound.ended_drawn;
       settled = sound.settled;
       start = sound.start;
-      entries = λ o q m h k. sound.entries o q m (rw same_written at h) k;
+      bounds = record { settled = sound.bounds.settled; below = sound.bounds.below; swept = sound.bounds.swept };
+      moved = sound.moved;
+      entries = λ o q m free h k. sound.entries o q m free (rw same_written at h) k;
       origin = λ o q m h. is_of q o m (sound.origin o q m h);
       edits = sound.edits;
-      rooted = λ o q m h k. sound.rooted o q m (rw same_written at h) k;
+      rooted = sound.rooted;
       unrooted = λ o q h. unrooted o q (sound.unrooted o q h);
       once = λ o. rw (same_written, same_left) (sound.once o);
       listed = listed;

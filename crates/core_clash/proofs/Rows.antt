@@ -150,16 +150,16 @@ abbrev z5 : Core
 z5 = after_finish z4 (both 2 0)
 
 reached_1 : Reached z1
-reached_1 = more begun_there (draw (both 2 0) (a ∷ b ∷ []) (record { begins = record { fresh = refl; later = λ r. refl; itself = refl; settled = λ o h. absurd (false≢true h); start = refl; started = not_start }; covers = covers; once = (apart, (λ h. h, tt)); entries = λ m item. (λ h. h, λ h. h) }))
+reached_1 = more begun_there (draw (both 2 0) (a ∷ b ∷ []) (record { begins = record { fresh = refl; later = λ r. refl; itself = refl; settled = λ o h. absurd (false≢true h); start = refl; started = not_start }; covers = covers; once = (apart, (λ h. h, tt)); entries = λ m item. (λ h. h, λ h. h) }) (λ o h. absurd (false≢true h)))
 
 reached_2 : Reached z2
-reached_2 = more reached_1 (write (both 2 0) a (b ∷ []) (record { going = record { draw = refl; unended = refl; uncommitted = refl; going = refl }; unmet = refl; next = refl }))
+reached_2 = more reached_1 (write (both 2 0) a (b ∷ []) (record { going = record { running = refl; draw = refl; unended = refl; uncommitted = refl; going = refl }; unmet = refl; next = refl }))
 
 reached_3 : Reached z3
-reached_3 = more reached_2 (write (both 2 0) b [] (record { going = record { draw = refl; unended = refl; uncommitted = refl; going = refl }; unmet = refl; next = refl }))
+reached_3 = more reached_2 (write (both 2 0) b [] (record { going = record { running = refl; draw = refl; unended = refl; uncommitted = refl; going = refl }; unmet = refl; next = refl }))
 
 reached_4 : Reached z4
-reached_4 = more reached_3 (last (both 2 0) (record { going = record { draw = refl; unended = refl; uncommitted = refl; going = refl }; unmet = refl; none_left = refl }))
+reached_4 = more reached_3 (last (both 2 0) (record { going = record { running = refl; draw = refl; unended = refl; uncommitted = refl; going = refl }; unmet = refl; none_left = refl }))
 
 reached_5 : Reached z5
 reached_5 = more reached_4 (finish (both 2 0) (record { draw = refl; unended = refl; done = inl refl }))

@@ -1,5 +1,5 @@
 -- Each step keeps what holds; each commit and each refusal may follow.
-use Rattle.std.proofs.Common.{◌≡◌, ◌+◌, true, false, ◌⊎◌, inl, inr, Some, Ok, Err, Result, List, [], ◌∷◌, ◌++◌, refl, sym, subst, ◌∙◌, is_some}
+use Rattle.std.proofs.Common.{◌≡◌, ◌+◌, Bool, true, false, ◌||◌, ◌⊎◌, inl, inr, Some, Ok, Err, Result, List, [], ◌∷◌, ◌++◌, refl, sym, subst, ◌∙◌, is_some}
 use Rattle.jr_path.specs.declared.path.Path.{Path}
 use Rattle.jr_path.specs.declared.path.Item.{Item}
 use Rattle.jr_rev.specs.declared.revision.Revision.{Revision}
@@ -19,8 +19,11 @@ use Rattle.oak_machine.specs.Runs.{IsOpen, MayCommit, MayRefuse}
 use Rattle.oak_commit.specs.Writing.{write_op, last_op}
 use Rattle.oak_commit.specs.Clashing.{Met, marked, noted, collision, found, mark_op}
 use Rattle.core_clash.specs.Views.{In, mark_at}
-use Rattle.core_clash.specs.Core.{Core, docs_after, with_document, with_writer, root_of, IsGoing, IsDone, MayWrite, MayMark, MayLast, after_write, after_mark, after_last, marked_by, lasted_by}
-use Rattle.core_clash.specs.Sound.{Sound, Cause, Noticed, Stands, IsOf, IsRooted}
+use Rattle.core_clash.specs.Core.{Core, docs_after, whole, with_document, with_writer, root_of, IsGoing, IsDone, MayWrite, MayMark, MayLast, after_write, after_mark, after_last, marked_by, lasted_by}
+use Rattle.core_clash.specs.Sound.{Sound, Cause, Noticed, Stands, IsOf, IsRooted, has_moved, marked_in}
+use Rattle.std.specs.List.{list_any}
+use Rattle.core_clash.proofs.Whole.{whole_from}
+use Rattle.core_keep.specs.Journal.{is_swept}
 use Rattle.core_clash.proofs.Basics.{test, not_both, none_in}
 use Rattle.core_clash.proofs.Pasts.{in_flight}
 use Rattle.core_clash.proofs.Apart.{clash_from, apart_at_last}
@@ -36,11 +39,12 @@ write_step s d p rest sound may = subst
     (λ (x : Result Document OpFault). Sound (record {
       number = s.number + 1;
       docs = docs_after s.docs p x;
+      moved = s.moved;
       past = event.Went d.session kind.Write ∷ s.past;
-      writers = with_writer s.writers d.revision (record (s.writers d.revision) { left = rest; written = (s.writers d.revision).written ++ p ∷ []; due = found d.base d.revision p d.marks (s.docs p) });
+      writers = with_writer s.writers d.revision (record (s.writers d.revision) { left = rest; written = (s.writers d.revision).written ++ p ∷ []; due = found d.base d.revision p d.marks (whole p (s.docs p) (s.moved p)) });
     }))
     (sym (write_is (s.docs p) d p (s.number + 1)))
-    (write_keeps s d p rest (s.number + 1) (with_document s.docs p (after_changes (s.docs p) (write_op d.revision d.edit.writes d.marks p) (s.number + 1))) (found d.base d.revision p d.marks (s.docs p)) sound may (writes s.docs d p (s.number + 1) (sound.ordered p) (sound.edits d.revision d may.going.draw)) (meeting d.base d.revision p d.marks (s.docs p)))
+    (write_keeps s d p rest (s.number + 1) (with_document s.docs p (after_changes (s.docs p) (write_op d.revision d.edit.writes d.marks p) (s.number + 1))) (found d.base d.revision p d.marks (whole p (s.docs p) (s.moved p))) sound may (writes s.docs d p (s.number + 1) (sound.ordered p) (sound.edits d.revision d may.going.draw)) (meeting d.base d.revision p d.marks (whole p (s.docs p) (s.moved p))))
 
 pub mark_step : (s : Core) (d : Draw) (f : Met) (rest : List Met) → Sound s → MayMark s d f rest → Sound (after_mark s d f rest)
 mark_step s d f rest sound may = by (mark_is (s.docs (root_of s.past f.other)) s.past d.revision f (s.number + 1))
@@ -60,7 +64,7 @@ last_step s d sound may = by (last_is (s.docs (root_of s.past d.revision)) s.pas
 
 -- who goes on is open
 is_open : (s : Core) (d : Draw) → Sound s → IsGoing s d → IsOpen s.past d.revision
-is_open s d sound going = record { in_flight = in_flight s.past d.revision d going.draw going.unended; not_committed = going.uncommitted; not_refused = by (test (is_refused s.past d.revision)) }
+is_open s d sound going = record { running = going.running; in_flight = in_flight s.past d.revision d going.draw going.unended; not_committed = going.uncommitted; not_refused = by (test (is_refused s.past d.revision)) }
   where
     by : (is_refused s.past d.revision ≡ true) ⊎ (is_refused s.past d.revision ≡ false) → is_refused s.past d.revision ≡ false
     by (inl h) = not_both (s.writers d.revision).undoing (sound.refused d.revision h) going.going
@@ -104,34 +108,52 @@ no_unseen_clash s r o sound apart cr co clashes =
     by (inr h) = inr (seen o r co cr h)
 
 -- what ended without a commit has left no mark
-pub undone_whole : (s : Core) (r : Revision) (p : Path) (m : Mark) → Sound s → (r ≡ start_of 1 → ⊥) → is_ended s.past r ≡ true → is_committed s.past r ≡ false → marked (s.docs p) r m ≡ false
-undone_whole s r p m sound drawn ended uncommitted = by (test (marked (s.docs p) r m))
+pub undone_whole : (s : Core) (r : Revision) (p : Path) (m : Mark) → Sound s → (r ≡ start_of 1 → ⊥) → is_ended s.past r ≡ true → is_committed s.past r ≡ false → marked_in (s.docs p) (s.moved p) r m ≡ false
+undone_whole s r p m sound drawn ended uncommitted = by (test (marked_in (s.docs p) (s.moved p) r m))
   where
     none : IsDone s r → IsOf s p r m → ⊥
     none (inl c) h = not_both (is_committed s.past r) c uncommitted
     none (inr u) (inl e) = drawn e
     none (inr u) (inr h) = none_in p _ u.1 h.0
 
-    by : (marked (s.docs p) r m ≡ true) ⊎ (marked (s.docs p) r m ≡ false) → marked (s.docs p) r m ≡ false
+    by : (marked_in (s.docs p) (s.moved p) r m ≡ true) ⊎ (marked_in (s.docs p) (s.moved p) r m ≡ false) → marked_in (s.docs p) (s.moved p) r m ≡ false
     by (inl h) = absurd (none (sound.ended r ended) (sound.origin r p m h))
     by (inr f) = f
 
+-- neither in a document, nor in what moved from it
+left_false : (a b : Bool) → (a || b) ≡ false → a ≡ false
+left_false true b h = h
+left_false false b h = refl
+
+right_false : (a b : Bool) → (a || b) ≡ false → b ≡ false
+right_false true b h = not_both true refl h
+right_false false b h = h
+
+pub undone_here : (s : Core) (r : Revision) (p : Path) (m : Mark) → Sound s → (r ≡ start_of 1 → ⊥) → is_ended s.past r ≡ true → is_committed s.past r ≡ false → marked (s.docs p) r m ≡ false
+undone_here s r p m sound drawn ended uncommitted = left_false (marked (s.docs p) r m) _ (undone_whole s r p m sound drawn ended uncommitted)
+
+pub undone_moved : (s : Core) (r : Revision) (p : Path) (m : Mark) → Sound s → (r ≡ start_of 1 → ⊥) → is_ended s.past r ≡ true → is_committed s.past r ≡ false → list_any (has_moved r m) (s.moved p) ≡ false
+undone_moved s r p m sound drawn ended uncommitted = right_false (marked (s.docs p) r m) _ (undone_whole s r p m sound drawn ended uncommitted)
+
 -- a document that has a mark of a revision tells its commit root
-pub told_root : (s : Core) (r : Revision) (p : Path) (m : Mark) → Sound s → (r ≡ start_of 1 → ⊥) → marked (s.docs p) r m ≡ true → IsRooted (s.docs p) r (root_of s.past r)
-told_root s r p m sound other h = by (sound.origin r p m h)
-  where
-    by : IsOf s p r m → IsRooted (s.docs p) r (root_of s.past r)
-    by (inl e) = absurd (other e)
-    by (inr k) = sound.rooted r p m k.0 k.1
+pub told_root : (s : Core) (r : Revision) (p : Path) (m : Mark) → Sound s → is_swept s.past r ≡ false → (r ≡ start_of 1 → ⊥) → marked_in (s.docs p) (s.moved p) r m ≡ true → IsRooted (s.docs p) r (root_of s.past r)
+told_root s r p m sound fresh other h = sound.rooted r p m fresh other h
 
 -- the document that a committer writes next tells the commit root of each whom it meets there
-pub found_root : (s : Core) (d : Draw) (p : Path) (rest : List Path) (f : Met) → Sound s → MayWrite s d p rest → In f (found d.base d.revision p d.marks (s.docs p)) → IsRooted (s.docs p) f.other (root_of s.past f.other)
+pub found_root : (s : Core) (d : Draw) (p : Path) (rest : List Path) (f : Met) → Sound s → MayWrite s d p rest → In f (found d.base d.revision p d.marks (whole p (s.docs p) (s.moved p))) → IsRooted (s.docs p) f.other (root_of s.past f.other)
 found_root s d p rest f sound may h =
-    let met = (meeting d.base d.revision p d.marks (s.docs p)).each f h in
-    told_root s f.other p met.mark.0 sound (λ e. not_both (sees d.base (start_of 1)) seen (subst (λ (x : Revision). sees d.base x ≡ false) e met.outside)) met.mark.1
+    let met = (meeting d.base d.revision p d.marks (whole p (s.docs p) (s.moved p))).each f h in
+    told_root s f.other p met.mark.0 sound (fresh met.outside (test (is_swept s.past f.other))) (λ e. not_both (sees d.base (start_of 1)) seen (subst (λ (x : Revision). sees d.base x ≡ false) e met.outside)) (whole_from p f.other (s.docs p) (s.moved p) met.mark.0 met.mark.1)
   where
     drawn : is_drawn s.past d.revision ≡ true
     drawn = rw may.going.draw refl
+
+    its : (o : Revision) → is_in_base s.past d.revision o ≡ sees d.base o
+    its o = rw may.going.draw refl
+
+    fresh : sees d.base f.other ≡ false → (is_swept s.past f.other ≡ true) ⊎ (is_swept s.past f.other ≡ false) → is_swept s.past f.other ≡ false
+    fresh outside (inl h) = not_both (sees d.base f.other) (sym (its f.other) ∙ sound.bounds.below d.revision f.other (in_flight s.past d.revision d may.going.draw may.going.unended) (sound.bounds.swept f.other h)) outside
+    fresh outside (inr k) = k
 
     base_is : is_in_base s.past d.revision (start_of 1) ≡ sees d.base (start_of 1)
     base_is = rw may.going.draw refl

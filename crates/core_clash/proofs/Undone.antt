@@ -9,15 +9,19 @@ use Rattle.oak_clash.specs.Clashes.{clash}
 use Rattle.oak_machine.specs.declared.event.Draw.{Draw}
 use Rattle.oak_machine.specs.declared.event.Event.TheVariants as event
 use Rattle.oak_machine.specs.declared.event.StepKind.TheVariants as kind
-use Rattle.oak_machine.specs.Commits.{marks_of, is_committed, is_refused, is_ended}
+use Rattle.oak_machine.specs.Commits.{marks_of, is_committed, is_refused, is_ended, is_in_base}
 use Rattle.oak_commit.specs.Clashing.{Met, marked, noted, Writer}
 use Rattle.core_read.specs.Holds.{root_entry}
 use Rattle.core_clash.specs.Views.{In, Once, mark_at}
 use Rattle.core_clash.specs.Core.{Core, Docs, with_writer, root_of, MayUndo}
-use Rattle.core_clash.specs.Sound.{Sound, IsListed, Noticed, Stands, IsWhole, IsOf, IsDue, IsRooted, IsWriterOf}
-use Rattle.core_clash.proofs.Basics.{not_both, decide, other_revision, at_writer, writer_mine, writer_other, In-left}
-use Rattle.core_clash.proofs.Pasts.{cause_later, due_later}
+use Rattle.core_clash.specs.Sound.{Sound, IsListed, Noticed, Stands, IsWhole, IsOf, IsDue, IsRooted, IsWriterOf, has_moved, marked_in}
+use Rattle.core_clash.proofs.Basics.{not_both, decide, other_revision, at_writer, writer_mine, writer_other, In-left, or_cases}
+use Rattle.core_clash.proofs.Pasts.{cause_later, due_later, in_flight}
 use Rattle.core_clash.proofs.Effects.{Undoes}
+use Rattle.core_clash.proofs.Whole.{marked_carry}
+use Rattle.core_keep.specs.Journal.{is_bounded, is_swept}
+use Rattle.std.specs.List.{list_any}
+use Rattle.jr_rev.specs.Vectors.{start_of}
 
 module _ (s : Core) (d : Draw) (p : Path) (rest : List Path) (number : ℕ) (docs : Docs) where
   abbrev r : Revision
@@ -27,7 +31,7 @@ module _ (s : Core) (d : Draw) (p : Path) (rest : List Path) (number : ℕ) (doc
   w = record (s.writers r) { written = rest }
 
   abbrev pub t : Core
-  t = record { number = number; docs = docs; past = event.Went d.session kind.Undo ∷ s.past; writers = with_writer s.writers r w }
+  t = record { number = number; docs = docs; moved = s.moved; past = event.Went d.session kind.Undo ∷ s.past; writers = with_writer s.writers r w }
 
   module _ (sound : Sound s) (may : MayUndo s d p rest) (undoes : Undoes s.docs docs p r) where
     -- p and those behind it, each once
@@ -44,35 +48,57 @@ module _ (s : Core) (d : Draw) (p : Path) (rest : List Path) (number : ℕ) (doc
         by (inl e) = not_both (s.writers r).undoing may.undoing (rw (e, writer_mine s.writers r w) at h)
         by (inr f) = f
 
-    kept : (q : Path) (o : Revision) (m : Mark) → (q ≡ p → o ≡ r → ⊥) → ((q ≡ p) × (o ≡ r)) ⊎ (marked (docs q) o m ≡ true) → marked (docs q) o m ≡ true
-    kept q o m elsewhere (inl h) = absurd (elsewhere h.0 h.1)
-    kept q o m elsewhere (inr h) = h
+    kept : (q : Path) (o : Revision) (m : Mark) → (q ≡ p → o ≡ r → ⊥) → marked_in (s.docs q) (s.moved q) o m ≡ true → marked_in (docs q) (s.moved q) o m ≡ true
+    kept q o m elsewhere = marked_carry (s.docs q) (docs q) (s.moved q) o m (λ h. by (undoes.keeps q o m h))
+      where
+        by : ((q ≡ p) × (o ≡ r)) ⊎ (marked (docs q) o m ≡ true) → marked (docs q) o m ≡ true
+        by (inl h) = absurd (elsewhere h.0 h.1)
+        by (inr h) = h
 
-    entries : (o : Revision) (q : Path) (m : Mark) → In q (t.writers o).written → In (mark_at q m) (marks_of s.past o) → marked (docs q) o m ≡ true
-    entries o q m = at_writer (λ x v. In q v.written → In (mark_at q m) (marks_of s.past x) → marked (docs q) x m ≡ true) s.writers r w o
-        (λ h k. kept q r m (λ e same. once_here.0 (In-left p rest _ (subst (λ (x : Path). In x rest) e h))) (undoes.keeps q r m (sound.entries r q m (subst (λ (xs : List Path). In q xs) (sym may.next) (inr h)) k)))
-        (λ f h k. kept q o m (λ e same. other_revision o r f same) (undoes.keeps q o m (sound.entries o q m h k)))
+    only : (q : Path) (o : Revision) (m : Mark) → marked_in (docs q) (s.moved q) o m ≡ true → marked_in (s.docs q) (s.moved q) o m ≡ true
+    only q o m = marked_carry (docs q) (s.docs q) (s.moved q) o m (undoes.only q o m)
 
-    is_of : (q : Path) (o : Revision) (m : Mark) → marked (docs q) o m ≡ true → IsOf s q o m → IsOf t q o m
+    -- the start was never drawn
+    not_start : r ≡ start_of 1 → ⊥
+    not_start e = not_both (is_in_base s.past r r) (subst (λ (x : Revision). is_in_base s.past r x ≡ true) (sym e) (sound.start r (rw may.draw refl))) (sound.settled r r (in_flight s.past r d may.draw may.unended))
+
+    -- nothing of what is undone has moved
+    gone : (m : Mark) → marked_in (docs p) (s.moved p) r m ≡ true → ⊥
+    gone m h = by (or_cases (marked (docs p) r m) _ h)
+      where
+        moved : (r ≡ start_of 1) ⊎ (is_committed s.past r ≡ true) → ⊥
+        moved (inl e) = not_start e
+        moved (inr c) = uncommitted c
+
+        by : (marked (docs p) r m ≡ true) ⊎ (list_any (has_moved r m) (s.moved p) ≡ true) → ⊥
+        by (inl k) = undoes.gone m k
+        by (inr k) = moved (sound.moved r p m k)
+
+    entries : (o : Revision) (q : Path) (m : Mark) → is_bounded s.past o ≡ false → In q (t.writers o).written → In (mark_at q m) (marks_of s.past o) → marked_in (docs q) (s.moved q) o m ≡ true
+    entries o q m = at_writer (λ x v. is_bounded s.past x ≡ false → In q v.written → In (mark_at q m) (marks_of s.past x) → marked_in (docs q) (s.moved q) x m ≡ true) s.writers r w o
+        (λ free h k. kept q r m (λ e same. once_here.0 (In-left p rest _ (subst (λ (x : Path). In x rest) e h))) (sound.entries r q m free (subst (λ (xs : List Path). In q xs) (sym may.next) (inr h)) k))
+        (λ f free h k. kept q o m (λ e same. other_revision o r f same) (sound.entries o q m free h k))
+
+    is_of : (q : Path) (o : Revision) (m : Mark) → marked_in (docs q) (s.moved q) o m ≡ true → IsOf s q o m → IsOf t q o m
     is_of q o m there (inl e) = inl e
     is_of q o m there (inr h) = inr (
-      at_writer (λ x v. marked (docs q) x m ≡ true → In q (s.writers x).written → In q v.written) s.writers r w o
+      at_writer (λ x v. marked_in (docs q) (s.moved q) x m ≡ true → In q (s.writers x).written → In q v.written) s.writers r w o
           (λ k l. behind k (subst (λ (xs : List Path). In q xs) may.next l)) (λ f k l. l) there h.0,
       h.1,
     )
       where
-        behind : marked (docs q) r m ≡ true → In q (p ∷ rest) → In q rest
-        behind k (inl e) = absurd (undoes.gone m (subst (λ (x : Path). marked (docs x) r m ≡ true) e k))
+        behind : marked_in (docs q) (s.moved q) r m ≡ true → In q (p ∷ rest) → In q rest
+        behind k (inl e) = absurd (gone m (subst (λ (x : Path). marked_in (docs x) (s.moved x) r m ≡ true) e k))
         behind k (inr l) = l
 
     kept_root : (q : Path) (o : Revision) → (q ≡ p → o ≡ r → ⊥) → ((q ≡ p) × (o ≡ r)) ⊎ IsRooted (docs q) o (root_of s.past o) → IsRooted (docs q) o (root_of s.past o)
     kept_root q o elsewhere (inl h) = absurd (elsewhere h.0 h.1)
     kept_root q o elsewhere (inr h) = h
 
-    rooted : (o : Revision) (q : Path) (m : Mark) → In q (t.writers o).written → In (mark_at q m) (marks_of s.past o) → IsRooted (docs q) o (root_of s.past o)
-    rooted o q m = at_writer (λ x v. In q v.written → In (mark_at q m) (marks_of s.past x) → IsRooted (docs q) x (root_of s.past x)) s.writers r w o
-        (λ h k. kept_root q r (λ e same. once_here.0 (In-left p rest _ (subst (λ (x : Path). In x rest) e h))) (undoes.keeps_roots q r (root_of s.past r) (sound.rooted r q m (subst (λ (xs : List Path). In q xs) (sym may.next) (inr h)) k)))
-        (λ f h k. kept_root q o (λ e same. other_revision o r f same) (undoes.keeps_roots q o (root_of s.past o) (sound.rooted o q m h k)))
+    rooted : (o : Revision) (q : Path) (m : Mark) → is_swept s.past o ≡ false → (o ≡ start_of 1 → ⊥) → marked_in (docs q) (s.moved q) o m ≡ true → IsRooted (docs q) o (root_of s.past o)
+    rooted o q m fresh other h = kept_root q o
+        (λ e same. gone m (subst (λ (x : Path). marked_in (docs x) (s.moved x) r m ≡ true) e (subst (λ (x : Revision). marked_in (docs q) (s.moved q) x m ≡ true) same h)))
+        (undoes.keeps_roots q o (root_of s.past o) (sound.rooted o q m fresh other (only q o m h)))
 
     unrooted : (o : Revision) (q : Path) → is_some (root_entry (docs q) o) ≡ true → IsWriterOf s q o → IsWriterOf t q o
     unrooted o q there (inl e) = inl e
@@ -147,8 +173,10 @@ module _ (s : Core) (d : Draw) (p : Path) (rest : List Path) (number : ℕ) (doc
       ended_drawn = sound.ended_drawn;
       settled = sound.settled;
       start = sound.start;
+      bounds = record { settled = sound.bounds.settled; below = sound.bounds.below; swept = sound.bounds.swept };
+      moved = sound.moved;
       entries = entries;
-      origin = λ o q m h. is_of q o m h (sound.origin o q m (undoes.only q o m h));
+      origin = λ o q m h. is_of q o m h (sound.origin o q m (only q o m h));
       edits = sound.edits;
       rooted = rooted;
       unrooted = λ o q h. unrooted o q h (sound.unrooted o q (undoes.only_roots q o h));
@@ -161,7 +189,7 @@ module _ (s : Core) (d : Draw) (p : Path) (rest : List Path) (number : ℕ) (doc
       ended = ended;
       due = due_of;
       caused = λ q x o i h. cause_later _ s.past x i o refl refl (sound.caused q x o i (sym (undoes.collisions q x) ∙ h));
-      status = λ o h. status o h (undoes.keeps_notes (root_of s.past o) o (sound.status o h));
+      status = λ o k h. status o h (undoes.keeps_notes (root_of s.past o) o (sound.status o k h));
       only_committed = λ q o h. sound.only_committed q o (undoes.only_notes q o h);
       whole = whole;
       unmarked = λ o h. ap (λ (x : Option (Revision × Item)). is_some x) (undoes.collisions (root_of s.past o) o) ∙ sound.unmarked o h;

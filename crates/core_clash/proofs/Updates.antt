@@ -31,7 +31,7 @@ use Rattle.oak_doc.specs.Updates.{of_revision, with_revision, changed, document_
 use Rattle.oak_machine.specs.declared.event.Draw.{Draw}
 use Rattle.oak_machine.specs.History.{Past}
 use Rattle.oak_machine.specs.Commits.{marks_of}
-use Rattle.oak_read.specs.Meaning.{commit_root_of, path_of}
+use Rattle.oak_read.specs.Meaning.{commit_root_of, main_of, path_of}
 use Rattle.core_read.specs.Holds.{root_entry}
 use Rattle.core_read.proofs.Roots.{below_root}
 use Rattle.core_read.proofs.Updates.{own_with}
@@ -45,7 +45,7 @@ use Rattle.core_clash.proofs.Documents.{Leaves, leaves_all, left_by, left_to, le
 use Rattle.core_clash.proofs.Effects.{Writes, Marks, Notes}
 
 -- the empty document has nothing
-empty_marks : (doc : Option Document) (id : DocId) (o : Revision) (m : Mark) → has_mark (document_of doc id) o m ≡ marked doc o m
+pub empty_marks : (doc : Option Document) (id : DocId) (o : Revision) (m : Mark) → has_mark (document_of doc id) o m ≡ marked doc o m
 empty_marks None id o Exists = refl
 empty_marks None id o Guard = refl
 empty_marks None id o Touch = refl
@@ -69,10 +69,10 @@ empty_roots None id o = refl
 empty_roots (Some d) id o = refl
 
 -- a commit root that a document tells is told by one that notes the same
-root_moved : (d e : Document) (o : Revision) → e.id ≡ d.id → of_revision e.commit_root o ≡ of_revision d.commit_root o → commit_root_of e o ≡ commit_root_of d o
+pub root_moved : (d e : Document) (o : Revision) → e.id ≡ d.id → of_revision e.commit_root o ≡ of_revision d.commit_root o → commit_root_of e o ≡ commit_root_of d o
 root_moved d e o name root =
-    ap (λ i. option_map_or (λ depth. id.Node (take depth (path_of i))) (of_revision e.commit_root o) i) name
-    ∙ ap (λ x. option_map_or (λ depth. id.Node (take depth (path_of d.id))) x d.id) root
+    ap (λ i. option_map_or (λ depth. id.Node (take depth (path_of i))) (of_revision e.commit_root o) (main_of i)) name
+    ∙ ap (λ x. option_map_or (λ depth. id.Node (take depth (path_of d.id))) x (main_of d.id)) root
 
 rooted_there : (doc : Option Document) (i : DocId) (o : Revision) (root : Path) → IsRooted doc o root → commit_root_of (document_of doc i) o ≡ id.Node root
 rooted_there None i o root h = absurd (false≢true (ap (λ (x : Option DocId). is_some x) h))
@@ -130,8 +130,8 @@ module _ (r : Revision) (p : Path) where
   -- a document that had no note of it tells the commit root
   write_rooted : (ws : List Write) (ms : List MarkAt) (m : Mark) (d : Document) (name : (fold changed d (write_op r ws ms p).changes).id ≡ id.Node p) → In (mark_at p m) ms → of_revision d.commit_root r ≡ None → commit_root_of (fold changed d (write_op r ws ms p).changes) r ≡ id.Node (commit_root ms)
   write_rooted ws ms m d name has none =
-      ap (λ (es : List (Revision × ℕ)). option_map_or (λ depth. id.Node (take depth (path_of e.id))) (of_revision es r) e.id) (write_roots ws ms d)
-      ∙ (ap (λ i. option_map_or (λ depth. id.Node (take depth (path_of i))) (of_revision (fold changed with_entries (rooting r p (commit_root ms))).commit_root r) i) name
+      ap (λ (es : List (Revision × ℕ)). option_map_or (λ depth. id.Node (take depth (path_of e.id))) (of_revision es r) (main_of e.id)) (write_roots ws ms d)
+      ∙ (ap (λ i. option_map_or (λ depth. id.Node (take depth (path_of i))) (of_revision (fold changed with_entries (rooting r p (commit_root ms))).commit_root r) (main_of i)) name
       ∙ by (eq_by_cmp path_cmp p (commit_root ms)) refl)
     where
       e : Document

@@ -17,11 +17,14 @@ use Rattle.oak_commit.specs.Clashing.{Met, marked, collision, Writer}
 use Rattle.core_read.specs.Holds.{root_entry}
 use Rattle.oak_clash.specs.declared.mark.MarkAt.{MarkAt}
 use Rattle.core_clash.specs.Views.{In, Once, mark_at}
-use Rattle.core_clash.specs.Core.{Core, Docs, with_writer, root_of, IsDone, MayWrite}
-use Rattle.core_clash.specs.Sound.{Sound, IsListed, Noticed, Stands, IsWhole, IsOf, IsDue, Cause, IsRooted, IsWriterOf}
-use Rattle.core_clash.proofs.Basics.{test, not_both, decide, at_writer, writer_mine, writer_other, none_in, In-left, In-right, In-append, and_true, or_left, or_right, once_apart, other_revision}
+use Rattle.core_clash.specs.Core.{Core, Docs, whole, with_writer, root_of, IsDone, MayWrite}
+use Rattle.core_clash.specs.Sound.{Sound, IsListed, Noticed, Stands, IsWhole, IsOf, IsDue, Cause, IsRooted, IsWriterOf, has_moved, marked_in}
+use Rattle.core_clash.proofs.Basics.{test, not_both, decide, at_writer, writer_mine, writer_other, none_in, In-left, In-right, In-append, and_true, or_left, or_right, or_cases, once_apart, other_revision}
 use Rattle.core_clash.proofs.Pasts.{cause_later, due_later, live_now, marks_drawn, in_flight}
 use Rattle.core_clash.proofs.Effects.{Writes, Meeting, IsMet, AreMarksOf}
+use Rattle.core_clash.proofs.Whole.{marked_carry, whole_from, whole_to}
+use Rattle.core_keep.specs.Journal.{is_bounded, is_swept}
+use Rattle.std.specs.List.{list_any}
 
 pub clash_swap : (m n : Mark) → clash m n ≡ true → clash n m ≡ true
 clash_swap Exists Exists h = refl
@@ -53,9 +56,9 @@ module _ (s : Core) (d : Draw) (p : Path) (rest : List Path) (number : ℕ) (doc
   w = record (s.writers r) { left = rest; written = (s.writers r).written ++ p ∷ []; due = due }
 
   abbrev pub t : Core
-  t = record { number = number; docs = docs; past = event.Went d.session kind.Write ∷ s.past; writers = with_writer s.writers r w }
+  t = record { number = number; docs = docs; moved = s.moved; past = event.Went d.session kind.Write ∷ s.past; writers = with_writer s.writers r w }
 
-  module _ (sound : Sound s) (may : MayWrite s d p rest) (writes : Writes s.docs docs r p d.marks) (meets : Meeting d.base r p d.marks (s.docs p) due) where
+  module _ (sound : Sound s) (may : MayWrite s d p rest) (writes : Writes s.docs docs r p d.marks) (meets : Meeting d.base r p d.marks (whole p (s.docs p) (s.moved p)) due) where
     marks_are : marks_of s.past r ≡ d.marks
     marks_are = rw may.going.draw refl
 
@@ -68,17 +71,40 @@ module _ (s : Core) (d : Draw) (p : Path) (rest : List Path) (number : ℕ) (doc
     still_written : (o : Revision) (q : Path) → In q (s.writers o).written → In q (t.writers o).written
     still_written o q = at_writer (λ x v. In q (s.writers x).written → In q v.written) s.writers r w o (λ h. In-left q _ (p ∷ []) h) (λ f h. h)
 
-    entries : (o : Revision) (q : Path) (m : Mark) → In q (t.writers o).written → In (mark_at q m) (marks_of s.past o) → marked (docs q) o m ≡ true
-    entries o q m = at_writer (λ x v. In q v.written → In (mark_at q m) (marks_of s.past x) → marked (docs q) x m ≡ true) s.writers r w o
-        (λ h k. by k (In-append q (s.writers r).written (p ∷ []) h))
-        (λ f h k. writes.keeps q o m (sound.entries o q m h k))
-      where
-        by : In (mark_at q m) (marks_of s.past r) → In q (s.writers r).written ⊎ In q (p ∷ []) → marked (docs q) r m ≡ true
-        by k (inl h) = writes.keeps q r m (sound.entries r q m h k)
-        by k (inr (inl e)) = subst (λ (x : Path). marked (docs x) r m ≡ true) (sym e) (writes.adds m (subst (λ (x : Path). In (mark_at x m) d.marks) e (rw marks_are at k)))
-        by k (inr (inr h)) = absurd h
+    keeps : (q : Path) (o : Revision) (m : Mark) → marked_in (s.docs q) (s.moved q) o m ≡ true → marked_in (docs q) (s.moved q) o m ≡ true
+    keeps q o m = marked_carry (s.docs q) (docs q) (s.moved q) o m (writes.keeps q o m)
 
-    is_of : (q : Path) (o : Revision) (m : Mark) → (marked (s.docs q) o m ≡ true) ⊎ ((q ≡ p) × (o ≡ r) × In (mark_at p m) d.marks) → IsOf t q o m
+    entries : (o : Revision) (q : Path) (m : Mark) → is_bounded s.past o ≡ false → In q (t.writers o).written → In (mark_at q m) (marks_of s.past o) → marked_in (docs q) (s.moved q) o m ≡ true
+    entries o q m = at_writer (λ x v. is_bounded s.past x ≡ false → In q v.written → In (mark_at q m) (marks_of s.past x) → marked_in (docs q) (s.moved q) x m ≡ true) s.writers r w o
+        (λ free h k. by free k (In-append q (s.writers r).written (p ∷ []) h))
+        (λ f free h k. keeps q o m (sound.entries o q m free h k))
+      where
+        by : is_bounded s.past r ≡ false → In (mark_at q m) (marks_of s.past r) → In q (s.writers r).written ⊎ In q (p ∷ []) → marked_in (docs q) (s.moved q) r m ≡ true
+        by free k (inl h) = keeps q r m (sound.entries r q m free h k)
+        by free k (inr (inl e)) = subst (λ (x : Path). marked_in (docs x) (s.moved x) r m ≡ true) (sym e) (or_left (marked (docs p) r m) _ (writes.adds m (subst (λ (x : Path). In (mark_at x m) d.marks) e (rw marks_are at k))))
+        by free k (inr (inr h)) = absurd h
+
+    -- a mark that is there was, or it is one of these
+    only : (q : Path) (o : Revision) (m : Mark) → marked_in (docs q) (s.moved q) o m ≡ true → (marked_in (s.docs q) (s.moved q) o m ≡ true) ⊎ ((q ≡ p) × (o ≡ r) × In (mark_at p m) d.marks)
+    only q o m h = by (or_cases (marked (docs q) o m) _ h)
+      where
+        here : (marked (s.docs q) o m ≡ true) ⊎ ((q ≡ p) × (o ≡ r) × In (mark_at p m) d.marks) → (marked_in (s.docs q) (s.moved q) o m ≡ true) ⊎ ((q ≡ p) × (o ≡ r) × In (mark_at p m) d.marks)
+        here (inl k) = inl (or_left (marked (s.docs q) o m) _ k)
+        here (inr k) = inr k
+
+        by : (marked (docs q) o m ≡ true) ⊎ (list_any (has_moved o m) (s.moved q) ≡ true) → (marked_in (s.docs q) (s.moved q) o m ≡ true) ⊎ ((q ≡ p) × (o ≡ r) × In (mark_at p m) d.marks)
+        by (inl k) = here (writes.only q o m k)
+        by (inr k) = inl (or_right (marked (s.docs q) o m) _ k)
+
+    -- whom the base doesn't see no bound sees
+    unbounded : (o : Revision) → is_in_base s.past r o ≡ false → is_bounded s.past o ≡ false
+    unbounded o outside = by (test (is_bounded s.past o))
+      where
+        by : (is_bounded s.past o ≡ true) ⊎ (is_bounded s.past o ≡ false) → is_bounded s.past o ≡ false
+        by (inl h) = not_both (is_in_base s.past r o) (sound.bounds.below r o (in_flight s.past r d may.going.draw may.going.unended) h) outside
+        by (inr f) = f
+
+    is_of : (q : Path) (o : Revision) (m : Mark) → (marked_in (s.docs q) (s.moved q) o m ≡ true) ⊎ ((q ≡ p) × (o ≡ r) × In (mark_at p m) d.marks) → IsOf t q o m
     is_of q o m (inl h) = by (sound.origin o q m h)
       where
         by : IsOf s q o m → IsOf t q o m
@@ -112,18 +138,19 @@ module _ (s : Core) (d : Draw) (p : Path) (rest : List Path) (number : ℕ) (doc
     kept_root q o elsewhere (inl h) = absurd (elsewhere h.0 h.1)
     kept_root q o elsewhere (inr h) = h
 
-    rooted : (o : Revision) (q : Path) (m : Mark) → In q (t.writers o).written → In (mark_at q m) (marks_of s.past o) → IsRooted (docs q) o (root_of s.past o)
-    rooted o q m = at_writer (λ x v. In q v.written → In (mark_at q m) (marks_of s.past x) → IsRooted (docs q) x (root_of s.past x)) s.writers r w o
-        (λ h k. by k (In-append q (s.writers r).written (p ∷ []) h))
-        (λ f h k. kept_root q o (λ e same. other_revision o r f same) (writes.keeps_roots q o (root_of s.past o) (sound.rooted o q m h k)))
+    rooted : (o : Revision) (q : Path) (m : Mark) → is_swept s.past o ≡ false → (o ≡ start_of 1 → ⊥) → marked_in (docs q) (s.moved q) o m ≡ true → IsRooted (docs q) o (root_of s.past o)
+    rooted o q m fresh other h = by (only q o m h)
       where
-        here : In (mark_at p m) (marks_of s.past r) → IsRooted (docs p) r (root_of s.past r)
-        here k = subst (λ (ms : List MarkAt). IsRooted (docs p) r (commit_root ms)) (sym marks_are) (writes.adds_root m (subst (λ (ms : List MarkAt). In (mark_at p m) ms) marks_are k) no_root)
+        here : In (mark_at p m) d.marks → IsRooted (docs p) r (root_of s.past r)
+        here k = subst (λ (ms : List MarkAt). IsRooted (docs p) r (commit_root ms)) (sym marks_are) (writes.adds_root m k no_root)
 
-        by : In (mark_at q m) (marks_of s.past r) → In q (s.writers r).written ⊎ In q (p ∷ []) → IsRooted (docs q) r (root_of s.past r)
-        by k (inl h) = kept_root q r (λ e same. unwritten (subst (λ (x : Path). In x (s.writers r).written) e h)) (writes.keeps_roots q r (root_of s.past r) (sound.rooted r q m h k))
-        by k (inr (inl e)) = subst (λ (x : Path). IsRooted (docs x) r (root_of s.past r)) (sym e) (here (subst (λ (x : Path). In (mark_at x m) (marks_of s.past r)) e k))
-        by k (inr (inr h)) = absurd h
+        away : IsOf s q o m → q ≡ p → o ≡ r → ⊥
+        away (inl e) here same = other e
+        away (inr k) here same = unwritten (subst (λ (x : Path). In x (s.writers r).written) here (subst (λ (x : Revision). In q (s.writers x).written) same k.0))
+
+        by : (marked_in (s.docs q) (s.moved q) o m ≡ true) ⊎ ((q ≡ p) × (o ≡ r) × In (mark_at p m) d.marks) → IsRooted (docs q) o (root_of s.past o)
+        by (inl k) = kept_root q o (away (sound.origin o q m k)) (writes.keeps_roots q o (root_of s.past o) (sound.rooted o q m fresh other k))
+        by (inr (e, same, k)) = subst (λ (x : Revision). IsRooted (docs q) x (root_of s.past x)) (sym same) (subst (λ (x : Path). IsRooted (docs x) r (root_of s.past r)) (sym e) (here k))
 
     unrooted : (o : Revision) (q : Path) → ((q ≡ p) × (o ≡ r)) ⊎ (is_some (root_entry (s.docs q) o) ≡ true) → IsWriterOf t q o
     unrooted o q (inl h) = inr (
@@ -185,8 +212,8 @@ module _ (s : Core) (d : Draw) (p : Path) (rest : List Path) (number : ℕ) (doc
             done (inl c) = or_left (is_committed s.past o) _ c
             done (inr u) = absurd (none_in q _ u.1 h)
 
-    is_due : (f : Met) → IsMet d.base r p d.marks (s.docs p) f → IsDue t.past r f
-    is_due f m = by (sound.origin f.other p m.mark.0 m.mark.1)
+    is_due : (f : Met) → IsMet d.base r p d.marks (whole p (s.docs p) (s.moved p)) f → IsDue t.past r f
+    is_due f m = by (sound.origin f.other p m.mark.0 (whole_from p f.other (s.docs p) (s.moved p) m.mark.0 m.mark.1))
       where
         not_start : {A : Type 0} → f.other ≡ start_of 1 → A
         not_start e = not_both (sees d.base (start_of 1)) (sym (base_is (start_of 1)) ∙ sound.start r drawn) (subst (λ (x : Revision). sees d.base x ≡ false) e m.outside)
@@ -199,7 +226,7 @@ module _ (s : Core) (d : Draw) (p : Path) (rest : List Path) (number : ℕ) (doc
         by (inl e) = not_start e
         by (inr h) =
             let other : is_drawn s.past f.other ≡ true = marks_drawn s.past f.other (mark_at p m.mark.0) h.1 in
-            let are : AreMarksOf (s.docs p) f.other p (marks_of s.past f.other) = (λ n k. sound.entries f.other p n h.0 k, λ n k. its n (sound.origin f.other p n k)) in
+            let are : AreMarksOf (whole p (s.docs p) (s.moved p)) f.other p (marks_of s.past f.other) = (λ n k. whole_to p f.other (s.docs p) (s.moved p) n (sound.entries f.other p n (unbounded f.other (base_is f.other ∙ m.outside)) h.0 k), λ n k. its n (sound.origin f.other p n (whole_from p f.other (s.docs p) (s.moved p) n k))) in
             record {
               cause = record { another = λ same. m.apart (sym same); other = other; met = rw marks_are (m.mine (marks_of s.past f.other) are); outside = base_is f.other ∙ m.outside; live = live_now (event.Went d.session kind.Write) s.past r f.other drawn (is_live f.other p other h.0) };
               theirs = rw marks_are (m.theirs (marks_of s.past f.other) are);
@@ -213,8 +240,8 @@ module _ (s : Core) (d : Draw) (p : Path) (rest : List Path) (number : ℕ) (doc
     caused : (q : Path) (x o : Revision) (item : Item) → collision (docs q) x ≡ Some (o, item) → Cause t.past x item o
     caused q x o item h = cause_later _ s.past x item o refl refl (sound.caused q x o item (sym (writes.collisions q x) ∙ h))
 
-    whole : (o : Revision) → is_committed s.past o ≡ true → IsWhole (t.writers o)
-    whole o = at_writer (λ x v. is_committed s.past x ≡ true → IsWhole v) s.writers r w o
+    is_whole : (o : Revision) → is_committed s.past o ≡ true → IsWhole (t.writers o)
+    is_whole o = at_writer (λ x v. is_committed s.past x ≡ true → IsWhole v) s.writers r w o
         (λ h. not_both (is_committed s.past r) h may.going.uncommitted)
         (λ f h. sound.whole o h)
 
@@ -241,7 +268,7 @@ module _ (s : Core) (d : Draw) (p : Path) (rest : List Path) (number : ℕ) (doc
 
         unseen : q ≡ p → (is_in_base s.past r o ≡ true) ⊎ (is_in_base s.past r o ≡ false) → Noticed t r o
         unseen e (inl seen) = inl seen
-        unseen e (inr f) = inr (inl (by_due (meets.all o m n apart (sym (base_is o) ∙ f) (subst (λ (x : Path). In (mark_at x m) d.marks) e (rw marks_are at sr.mark)) (subst (λ (x : Path). marked (s.docs x) o n ≡ true) e (sound.entries o q n so.written so.mark)) c)))
+        unseen e (inr f) = inr (inl (by_due (meets.all o m n apart (sym (base_is o) ∙ f) (subst (λ (x : Path). In (mark_at x m) d.marks) e (rw marks_are at sr.mark)) (whole_to p o (s.docs p) (s.moved p) n (subst (λ (x : Path). marked_in (s.docs x) (s.moved x) o n ≡ true) e (sound.entries o q n (unbounded o f) so.written so.mark))) c)))
 
         by : In q (s.writers r).written ⊎ In q (p ∷ []) → Noticed t r o ⊎ Noticed t o r
         by (inl h) = both_later r o (sound.noticed r o q m n apart (record { written = h; going = may.going.going; mark = sr.mark }) so c)
@@ -265,8 +292,10 @@ module _ (s : Core) (d : Draw) (p : Path) (rest : List Path) (number : ℕ) (doc
       ended_drawn = sound.ended_drawn;
       settled = sound.settled;
       start = sound.start;
+      bounds = record { settled = sound.bounds.settled; below = sound.bounds.below; swept = sound.bounds.swept };
+      moved = sound.moved;
       entries = entries;
-      origin = λ o q m h. is_of q o m (writes.only q o m h);
+      origin = λ o q m h. is_of q o m (only q o m h);
       edits = sound.edits;
       rooted = rooted;
       unrooted = λ o q h. unrooted o q (writes.only_roots q o h);
@@ -279,9 +308,9 @@ module _ (s : Core) (d : Draw) (p : Path) (rest : List Path) (number : ℕ) (doc
       ended = ended;
       due = due_of;
       caused = caused;
-      status = λ o h. writes.notes (root_of s.past o) o ∙ sound.status o h;
+      status = λ o f h. writes.notes (root_of s.past o) o ∙ sound.status o f h;
       only_committed = λ q o h. sound.only_committed q o (sym (writes.notes q o) ∙ h);
-      whole = whole;
+      whole = is_whole;
       unmarked = λ o h. ap (λ (x : Option (Revision × Item)). is_some x) (writes.collisions (root_of s.past o) o) ∙ sound.unmarked o h;
       noticed = noticed;
     }

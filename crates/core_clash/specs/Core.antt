@@ -1,8 +1,11 @@
 -- The core: documents, the past and the committers, and each kind of step of a commit.
-use Rattle.std.specs.Prelude.{◌≡◌, ℕ, ◌+◌, Bool, true, false, cond, ◌⊎◌, List, [], ◌∷◌, ◌++◌, Option, Some, Result, Ok, Err}
+use Rattle.std.specs.Prelude.{◌≡◌, ℕ, ◌+◌, Bool, true, false, cond, ◌⊎◌, List, [], ◌∷◌, ◌++◌, map, Option, Some, Result, Ok, Err}
+use Rattle.std.specs.List.{flat_map, fold}
+use Rattle.std.specs.Map.{keys_of}
 use Rattle.std.specs.Ordering.{eq_by_cmp}
 use Rattle.jr_path.specs.Names.{path_cmp}
 use Rattle.jr_path.specs.declared.path.Path.{Path}
+use Rattle.jr_path.specs.declared.path.DocId.TheVariants as id
 use Rattle.jr_rev.specs.declared.revision.Revision.{Revision}
 use Rattle.jr_rev.specs.Revisions.{is_same}
 use Rattle.oak_clash.specs.declared.mark.Mark.{Mark}
@@ -11,7 +14,9 @@ use Rattle.oak_doc.specs.declared.document.Document.{Document}
 use Rattle.oak_doc.specs.declared.update.OpFault.{OpFault}
 use Rattle.oak_doc.specs.declared.update.OpFault.TheVariants as fault
 use Rattle.oak_doc.specs.declared.update.Kept.TheVariants as kept
-use Rattle.oak_doc.specs.Updates.{updated}
+use Rattle.oak_doc.specs.declared.update.Change.{Change}
+use Rattle.oak_doc.specs.declared.update.Change.TheVariants as change
+use Rattle.oak_doc.specs.Updates.{changed, document_of, updated, values_of_property}
 use Rattle.oak_commit.specs.Writing.{write_op, last_op}
 use Rattle.oak_commit.specs.Clashing.{Met, found, mark_op, undo_op, Writer}
 use Rattle.oak_machine.specs.declared.event.Draw.{Draw}
@@ -19,6 +24,7 @@ use Rattle.oak_machine.specs.declared.event.Event.{Event}
 use Rattle.oak_machine.specs.declared.event.Event.TheVariants as event
 use Rattle.oak_machine.specs.declared.event.StepKind.TheVariants as kind
 use Rattle.oak_machine.specs.History.{Past}
+use Rattle.oak_machine.specs.Sessions.{is_stopped}
 use Rattle.oak_machine.specs.Commits.{draw_of, marks_of, is_committed, is_ended}
 use Rattle.core_heads.specs.Sound.{Begins}
 use Rattle.core_clash.specs.Views.{In, Once, mark_at, NamesItems}
@@ -27,10 +33,15 @@ use Rattle.core_clash.specs.Views.{In, Once, mark_at, NamesItems}
 abbrev pub Docs : Type 0
 Docs = Path → Option Document
 
--- the number of the last update, the documents, the events so far, and the committer of each drawn revision
+-- of each node the previous documents that its document lists
+abbrev pub Moved : Type 0
+Moved = Path → List Document
+
+-- the number of the last update, the documents, the previous documents that they list, the events so far, and the committer of each drawn revision
 pub record Core : Type 0 where
   pub number : ℕ
   pub docs : Docs
+  pub moved : Moved
   pub past : Past
   pub writers : Revision → Writer
 
@@ -45,14 +56,26 @@ abbrev pub docs_after : Docs → Path → Result Document OpFault → Docs
 docs_after docs p (Ok d) = with_document docs p d
 docs_after docs p (Err fault) = docs
 
+-- what moved to a previous document, as the changes by which it was written
+abbrev pub entries_in : Document → List Change
+entries_in x = flat_map (λ n. map (λ e. change.Prop n e.0 e.1) (values_of_property x.props n)) (keys_of x.props)
+
+abbrev pub put_back : Path → Option Document → Document → Option Document
+put_back p doc x = Some (fold changed (document_of doc (id.Node p)) (entries_in x))
+
+-- what a committer looks at: a document, with what moved to its previous documents put back
+abbrev pub whole : Path → Option Document → List Document → Option Document
+whole p doc xs = fold (put_back p) doc xs
+
 abbrev pub with_writer : (Revision → Writer) → Revision → Writer → Revision → Writer
 with_writer writers r w q = cond (is_same q r) w (writers q)
 
 abbrev pub root_of : Past → Revision → Path
 root_of past r = commit_root (marks_of past r)
 
--- in flight, not committed and not undoing
+-- in flight, not committed and not undoing, and of a cluster node that wasn't stopped
 pub record IsGoing (s : Core) (d : Draw) : Type 0 where
+  pub running : is_stopped s.past d.revision.cluster ≡ false
   pub draw : draw_of s.past d.revision ≡ Some d
   pub unended : is_ended s.past d.revision ≡ false
   pub uncommitted : is_committed s.past d.revision ≡ false
@@ -81,8 +104,9 @@ abbrev pub after_write : Core → Draw → Path → List Path → Core
 after_write s d p rest = record {
   number = s.number + 1;
   docs = docs_after s.docs p (updated (s.docs p) (write_op d.revision d.edit.writes d.marks p) (s.number + 1));
+  moved = s.moved;
   past = event.Went d.session kind.Write ∷ s.past;
-  writers = with_writer s.writers d.revision (record (s.writers d.revision) { left = rest; written = (s.writers d.revision).written ++ p ∷ []; due = found d.base d.revision p d.marks (s.docs p) });
+  writers = with_writer s.writers d.revision (record (s.writers d.revision) { left = rest; written = (s.writers d.revision).written ++ p ∷ []; due = found d.base d.revision p d.marks (whole p (s.docs p) (s.moved p)) });
 }
 
 -- f is the next mark to make
@@ -104,6 +128,7 @@ abbrev pub marked_by : Core → Draw → Met → List Met → Result Document Op
 marked_by s d f rest (Ok doc) = record {
   number = s.number + 1;
   docs = with_document s.docs (root_of s.past f.other) doc;
+  moved = s.moved;
   past = event.Went d.session kind.Mark ∷ s.past;
   writers = with_writer s.writers d.revision (record (s.writers d.revision) { due = rest });
 }
@@ -123,6 +148,7 @@ abbrev pub lasted_by : Core → Draw → Result Document OpFault → Core
 lasted_by s d (Ok doc) = record {
   number = s.number + 1;
   docs = with_document s.docs (root_of s.past d.revision) doc;
+  moved = s.moved;
   past = event.Commit d.revision ∷ s.past;
   writers = s.writers;
 }
@@ -148,6 +174,7 @@ abbrev pub after_undo : Core → Draw → Path → List Path → Core
 after_undo s d p rest = record {
   number = s.number + 1;
   docs = docs_after s.docs p (updated (s.docs p) (undo_op d.revision p) (s.number + 1));
+  moved = s.moved;
   past = event.Went d.session kind.Undo ∷ s.past;
   writers = with_writer s.writers d.revision (record (s.writers d.revision) { written = rest });
 }
@@ -164,12 +191,13 @@ pub record MayFinish (s : Core) (d : Draw) : Type 0 where
 abbrev pub after_finish : Core → Draw → Core
 after_finish s d = record s { past = event.End d.revision ∷ s.past }
 
--- an event that no committer's step but these appends
+-- an event that no committer's step but these appends, and no bound
 abbrev pub is_quiet : Event → Bool
 is_quiet (event.Draw d) = false
 is_quiet (event.Commit r) = false
 is_quiet (event.Refuse r item o) = false
 is_quiet (event.End r) = false
+is_quiet (event.Bound m t) = false
 is_quiet _ = true
 
 abbrev pub after_event : Core → Event → Core

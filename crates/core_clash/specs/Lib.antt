@@ -1,5 +1,6 @@
 pub mod Views
 pub mod Core
 pub mod Sound
+pub mod Collecting
 pub mod Steps
 pub mod Sessions

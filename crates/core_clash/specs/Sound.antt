@@ -1,5 +1,6 @@
 -- What holds of a core after every step.
-use Rattle.std.specs.Prelude.{◌≡◌, true, false, ◌⊎◌, List, [], ◌++◌, Option, Some, is_some}
+use Rattle.std.specs.Prelude.{◌≡◌, Bool, true, false, ◌||◌, ◌⊎◌, List, [], ◌++◌, Option, Some, is_some}
+use Rattle.std.specs.List.{list_any}
 use Rattle.std.specs.Option.{option_map}
 use Rattle.jr_path.specs.declared.path.Path.{Path}
 use Rattle.jr_path.specs.declared.path.Item.{Item}
@@ -7,15 +8,18 @@ use Rattle.jr_path.specs.declared.path.DocId.TheVariants as id
 use Rattle.jr_rev.specs.declared.revision.Revision.{Revision}
 use Rattle.jr_rev.specs.Vectors.{start_of}
 use Rattle.oak_clash.specs.declared.mark.Mark.{Mark}
+use Rattle.oak_clash.specs.declared.mark.Mark.TheVariants.{Prop}
 use Rattle.oak_clash.specs.Clashes.{clash, Meets}
 use Rattle.oak_doc.specs.declared.document.Document.{Document}
+use Rattle.oak_doc.specs.Updates.{values_of_property}
 use Rattle.oak_read.specs.Meaning.{commit_root_of}
 use Rattle.oak_machine.specs.declared.event.Draw.{Draw}
 use Rattle.oak_machine.specs.History.{Past}
 use Rattle.oak_machine.specs.Commits.{draw_of, marks_of, is_drawn, is_committed, is_refused, is_ended, is_in_flight, is_in_base, refusal_of}
 use Rattle.oak_machine.specs.Runs.{was_live_beside}
-use Rattle.oak_commit.specs.Clashing.{Met, marked, noted, collision, Writer}
+use Rattle.oak_commit.specs.Clashing.{Met, has, marked, noted, collision, Writer}
 use Rattle.core_read.specs.Holds.{root_entry}
+use Rattle.core_keep.specs.Journal.{is_bounded, is_swept}
 use Rattle.core_clash.specs.Views.{In, Once, mark_at, NamesItems, AreOrdered}
 use Rattle.core_clash.specs.Core.{Core, root_of, IsDone}
 
@@ -31,6 +35,21 @@ pub record Cause (past : Past) (r : Revision) (item : Item) (o : Revision) : Typ
 pub record IsDue (past : Past) (r : Revision) (f : Met) : Type 0 where
   pub cause : Cause past r f.mine f.other
   pub theirs : Meets (marks_of past f.other) (marks_of past r) f.theirs
+
+-- a previous document has the entry that a mark of r leaves: it has entries of properties alone
+abbrev pub has_moved : Revision → Mark → Document → Bool
+has_moved r (Prop n) x = has (values_of_property x.props n) r
+has_moved r _ x = false
+
+-- a document, or a previous one that it lists, has the entry that a mark of r leaves
+abbrev pub marked_in : Option Document → List Document → Revision → Mark → Bool
+marked_in doc xs r m = marked doc r m || list_any (has_moved r m) xs
+
+-- what bounds of collections so far see has ended, each base in flight sees it, and what their sweep vectors see they see
+pub record AreBelow (past : Past) : Type 0 where
+  pub settled : (o : Revision) → is_in_flight past o ≡ true → is_bounded past o ≡ false
+  pub below : (r o : Revision) → is_in_flight past r ≡ true → is_bounded past o ≡ true → is_in_base past r o ≡ true
+  pub swept : (o : Revision) → is_swept past o ≡ true → is_bounded past o ≡ true
 
 -- a mark in the document of p is one of the start, or one that its committer wrote there and hasn't undone
 abbrev pub IsOf : Core → Path → Revision → Mark → Type 0
@@ -78,11 +97,15 @@ pub record Sound (s : Core) : Type 0 where
   -- no base sees what is in flight, and each sees the start
   pub settled : (r o : Revision) → is_in_flight s.past o ≡ true → is_in_base s.past r o ≡ false
   pub start : (r : Revision) → is_drawn s.past r ≡ true → is_in_base s.past r (start_of 1) ≡ true
-  -- each document that a committer wrote and hasn't undone has its marks, and no other marks are there
-  pub entries : (r : Revision) (p : Path) (m : Mark) → In p (s.writers r).written → In (mark_at p m) (marks_of s.past r) → marked (s.docs p) r m ≡ true
-  pub origin : (r : Revision) (p : Path) (m : Mark) → marked (s.docs p) r m ≡ true → IsOf s p r m
-  -- each marked document that a committer wrote and hasn't undone tells its commit root, and no other document has a note of it
-  pub rooted : (r : Revision) (p : Path) (m : Mark) → In p (s.writers r).written → In (mark_at p m) (marks_of s.past r) → IsRooted (s.docs p) r (root_of s.past r)
+  -- bounds are below what is in flight
+  pub bounds : AreBelow s.past
+  -- each document that a committer wrote and hasn't undone has its marks, or a previous one that it lists has them, until a bound sees them; and no other marks are there
+  pub entries : (r : Revision) (p : Path) (m : Mark) → is_bounded s.past r ≡ false → In p (s.writers r).written → In (mark_at p m) (marks_of s.past r) → marked_in (s.docs p) (s.moved p) r m ≡ true
+  pub origin : (r : Revision) (p : Path) (m : Mark) → marked_in (s.docs p) (s.moved p) r m ≡ true → IsOf s p r m
+  -- what moved to previous documents is committed
+  pub moved : (r : Revision) (p : Path) (m : Mark) → list_any (has_moved r m) (s.moved p) ≡ true → (r ≡ start_of 1) ⊎ (is_committed s.past r ≡ true)
+  -- each document with a mark tells its commit root, until a bound has swept it, and no other document has a note of it
+  pub rooted : (r : Revision) (p : Path) (m : Mark) → is_swept s.past r ≡ false → (r ≡ start_of 1 → ⊥) → marked_in (s.docs p) (s.moved p) r m ≡ true → IsRooted (s.docs p) r (root_of s.past r)
   pub unrooted : (r : Revision) (p : Path) → is_some (root_entry (s.docs p) r) ≡ true → IsWriterOf s p r
   -- each committer has written exactly the first documents of its list, or has undone exactly the first of those that it wrote
   pub listed : (r : Revision) → IsListed (s.writers r)
@@ -98,8 +121,8 @@ pub record Sound (s : Core) : Type 0 where
   -- each mark to make and each collision has its cause
   pub due : (r : Revision) (f : Met) → In f (s.writers r).due → IsDue s.past r f
   pub caused : (p : Path) (r o : Revision) (item : Item) → collision (s.docs p) r ≡ Some (o, item) → Cause s.past r item o
-  -- what is committed is noted on its commit root, and nothing else is; it is whole, and nobody marked it
-  pub status : (r : Revision) → is_committed s.past r ≡ true → noted (s.docs (root_of s.past r)) r ≡ true
+  -- what is committed is noted on its commit root, until a bound has swept it, and nothing else is; it is whole, and nobody marked it
+  pub status : (r : Revision) → is_swept s.past r ≡ false → is_committed s.past r ≡ true → noted (s.docs (root_of s.past r)) r ≡ true
   pub only_committed : (p : Path) (r : Revision) → noted (s.docs p) r ≡ true → (r ≡ start_of 1) ⊎ (is_committed s.past r ≡ true)
   pub whole : (r : Revision) → is_committed s.past r ≡ true → IsWhole (s.writers r)
   pub unmarked : (r : Revision) → is_committed s.past r ≡ true → is_some (collision (s.docs (root_of s.past r)) r) ≡ false

@@ -41,5 +41,5 @@ module _ (past : Past) (d : Draw) (new : IsFreshDraw past d) (positive : 1 ≤ d
     started = λ e. let t = ap (λ (r : Revision). r.time) e in omega arith;
   }
 
-pub begins_run : (clusters : ℕ) (sessions : List ℕ) → AreNodes clusters sessions → (starts : Starts) (says : Says) (d : Draw) (past : Past) → IsRunOf starts says clusters sessions (event.Draw d ∷ past) → Begins past d
+pub begins_run : (clusters : ℕ) (sessions : List ℕ) → AreNodes clusters sessions → (starts : Starts) (says : Says) (d : Draw) (past : Past) → IsRunOf starts says clusters sessions None (event.Draw d ∷ past) → Begins past d
 begins_run clusters sessions nodes starts says d past run = begins past d (fresh_run clusters sessions nodes starts says d past run) (let t = ap (λ (r : Revision). r.time) run.0.next in omega arith)

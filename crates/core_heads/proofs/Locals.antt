@@ -63,7 +63,7 @@ pub record IsSettledDraw (past : Past) (k : ℕ) (r : Revision) : Type 0 where
   pub cluster : r.cluster ≡ k
   pub below : (o : Revision) → is_in_flight past o ≡ true → o.cluster ≡ k → is_before r o ≡ true
 
-pub local_is : (past : Past) (k : ℕ) → (local past k ≡ start_of k) ⊎ IsSettledDraw past k (local past k)
+pub local_is : (past : Past) (k : ℕ) → (local None past k ≡ start_of k) ⊎ IsSettledDraw past k (local None past k)
 local_is past k = fold_has (λ x. (x ≡ start_of k) ⊎ IsSettledDraw past k x) (start_of k) (filter (λ r. list_all (is_before r) (flying past k)) (draws_by past k)) (inl refl) (λ q i. inr (each q i))
   where
     each : (q : Revision) → IsIn q (filter (λ r. list_all (is_before r) (flying past k)) (draws_by past k)) → IsSettledDraw past k q
@@ -76,59 +76,59 @@ local_is past k = fold_has (λ x. (x ≡ start_of k) ⊎ IsSettledDraw past k x)
           below = λ o flies same. all_in (is_before q) (flying past k) p.1 o (in_filter (is_in_flight past) (draws_by past k) o (in_draws past k o (and_both (is_drawn past o) _ flies).0 same) flies);
         }
 
-pub local_first : (past : Past) (k : ℕ) → is_at_most (start_of k) (local past k) ≡ true
+pub local_first : (past : Past) (k : ℕ) → is_at_most (start_of k) (local None past k) ≡ true
 local_first past k = fold_first (start_of k) (filter (λ r. list_all (is_before r) (flying past k)) (draws_by past k))
 
-pub local_each : (past : Past) (k : ℕ) (r : Revision) → IsSettledDraw past k r → is_at_most r (local past k) ≡ true
+pub local_each : (past : Past) (k : ℕ) (r : Revision) → IsSettledDraw past k r → is_at_most r (local None past k) ≡ true
 local_each past k r h = fold_each (start_of k) (filter (λ r. list_all (is_before r) (flying past k)) (draws_by past k)) r
     (in_filter (λ r. list_all (is_before r) (flying past k)) (draws_by past k) r (in_draws past k r h.drawn h.cluster)
     (in_all (is_before r) (flying past k) (λ o i. let p = filter_in (is_in_flight past) (draws_by past k) o i in h.below o p.1 (draws_in past k o p.0).1)))
 
-pub local_cluster : (past : Past) (k : ℕ) → (local past k).cluster ≡ k
+pub local_cluster : (past : Past) (k : ℕ) → (local None past k).cluster ≡ k
 local_cluster past k = by (local_is past k)
   where
-    by : (local past k ≡ start_of k) ⊎ IsSettledDraw past k (local past k) → (local past k).cluster ≡ k
+    by : (local None past k ≡ start_of k) ⊎ IsSettledDraw past k (local None past k) → (local None past k).cluster ≡ k
     by (inl e) = ap (λ (x : Revision). x.cluster) e
     by (inr s) = s.cluster
 
 -- where what is settled stays so, the local revision grows
-pub local_grows : (past later : Past) (k : ℕ) → ((r : Revision) → IsSettledDraw past k r → IsSettledDraw later k r) → is_at_most (local past k) (local later k) ≡ true
+pub local_grows : (past later : Past) (k : ℕ) → ((r : Revision) → IsSettledDraw past k r → IsSettledDraw later k r) → is_at_most (local None past k) (local None later k) ≡ true
 local_grows past later k kept = by (local_is past k)
   where
-    by : (local past k ≡ start_of k) ⊎ IsSettledDraw past k (local past k) → is_at_most (local past k) (local later k) ≡ true
-    by (inl e) = subst (λ (x : Revision). is_at_most x (local later k) ≡ true) (sym e) (local_first later k)
-    by (inr s) = local_each later k (local past k) (kept (local past k) s)
+    by : (local None past k ≡ start_of k) ⊎ IsSettledDraw past k (local None past k) → is_at_most (local None past k) (local None later k) ≡ true
+    by (inl e) = subst (λ (x : Revision). is_at_most x (local None later k) ≡ true) (sym e) (local_first later k)
+    by (inr s) = local_each later k (local None past k) (kept (local None past k) s)
 
 -- a drawn revision is at most the last time of its node, and not at time 0
 abbrev pub AreTimed : Past → Type 0
 AreTimed past = (o : Revision) → is_drawn past o ≡ true → (o.time ≤ last_draw_time past o.cluster) × (1 ≤ o.time)
 
 -- nothing that is ahead is at most the local revision
-pub local_behind : {A : Type 0} (past : Past) (k : ℕ) (o : Revision) → AreTimed past → o.cluster ≡ k → IsAhead past o → is_at_most o (local past k) ≡ true → A
+pub local_behind : {A : Type 0} (past : Past) (k : ℕ) (o : Revision) → AreTimed past → o.cluster ≡ k → IsAhead past o → is_at_most o (local None past k) ≡ true → A
 local_behind {A = A} past k o timed same ahead h = by (local_is past k) ahead
   where
-    by : (local past k ≡ start_of k) ⊎ IsSettledDraw past k (local past k) → IsAhead past o → A
+    by : (local None past k ≡ start_of k) ⊎ IsSettledDraw past k (local None past k) → IsAhead past o → A
     by (inl e) (inl flies) =
         let t = (timed o (and_both (is_drawn past o) _ flies).0).1 in
         let z = ap (λ (x : Revision). x.time) e in
-        later_than o (local past k) (omega arith) h
-    by (inl e) (inr late) = let z = ap (λ (x : Revision). x.time) e in later_than o (local past k) (omega arith) h
-    by (inr s) (inl flies) = before_not (local past k) o (s.below o flies same) h
+        later_than o (local None past k) (omega arith) h
+    by (inl e) (inr late) = let z = ap (λ (x : Revision). x.time) e in later_than o (local None past k) (omega arith) h
+    by (inr s) (inl flies) = before_not (local None past k) o (s.below o flies same) h
     by (inr s) (inr late) =
-        let t = subst (λ (j : ℕ). (local past k).time ≤ last_draw_time past j) (s.cluster ∙ sym same) (timed (local past k) s.drawn).0 in
-        later_than o (local past k) (omega arith) h
+        let t = subst (λ (j : ℕ). (local None past k).time ≤ last_draw_time past j) (s.cluster ∙ sym same) (timed (local None past k) s.drawn).0 in
+        later_than o (local None past k) (omega arith) h
 
 -- ---- heads
 
-pub head_seen : (clusters : ℕ) (past : Past) (k : ℕ) (o : Revision) → 1 ≤ k → sees (head_of clusters past k) o ≡ true → (sees (last_in clusters past k) o ≡ true) ⊎ ((o.cluster ≡ k) × (is_at_most o (local past k) ≡ true))
-head_seen clusters past k o low h = by (seen_before (last_in clusters past k) (local past k) o (subst (λ (j : ℕ). 1 ≤ j) (sym (local_cluster past k)) low) h)
+pub head_seen : (clusters : ℕ) (past : Past) (k : ℕ) (o : Revision) → 1 ≤ k → sees (head_of clusters None past k) o ≡ true → (sees (last_in clusters None past k) o ≡ true) ⊎ ((o.cluster ≡ k) × (is_at_most o (local None past k) ≡ true))
+head_seen clusters past k o low h = by (seen_before (last_in clusters None past k) (local None past k) o (subst (λ (j : ℕ). 1 ≤ j) (sym (local_cluster past k)) low) h)
   where
-    by : (sees (last_in clusters past k) o ≡ true) ⊎ ((o.cluster ≡ (local past k).cluster) × (is_at_most o (local past k) ≡ true)) → (sees (last_in clusters past k) o ≡ true) ⊎ ((o.cluster ≡ k) × (is_at_most o (local past k) ≡ true))
+    by : (sees (last_in clusters None past k) o ≡ true) ⊎ ((o.cluster ≡ (local None past k).cluster) × (is_at_most o (local None past k) ≡ true)) → (sees (last_in clusters None past k) o ≡ true) ⊎ ((o.cluster ≡ k) × (is_at_most o (local None past k) ≡ true))
     by (inl s) = inl s
     by (inr p) = inr (p.0 ∙ local_cluster past k, p.1)
 
-pub head_learned : (clusters : ℕ) (past : Past) (k : ℕ) (o : Revision) → 1 ≤ k → sees (last_in clusters past k) o ≡ true → (o.cluster ≡ k → is_at_most o (local past k) ≡ true) → sees (head_of clusters past k) o ≡ true
-head_learned clusters past k o low h own = still_seen (last_in clusters past k) (local past k) o (subst (λ (j : ℕ). 1 ≤ j) (sym (local_cluster past k)) low) h (λ e. own (e ∙ local_cluster past k))
+pub head_learned : (clusters : ℕ) (past : Past) (k : ℕ) (o : Revision) → 1 ≤ k → sees (last_in clusters None past k) o ≡ true → (o.cluster ≡ k → is_at_most o (local None past k) ≡ true) → sees (head_of clusters None past k) o ≡ true
+head_learned clusters past k o low h own = still_seen (last_in clusters None past k) (local None past k) o (subst (λ (j : ℕ). 1 ≤ j) (sym (local_cluster past k)) low) h (λ e. own (e ∙ local_cluster past k))
 
-pub head_own : (clusters : ℕ) (past : Past) (k : ℕ) (o : Revision) → 1 ≤ k → k ≤ 8 → length (last_in clusters past k) ≡ 8 → o.cluster ≡ k → is_at_most o (local past k) ≡ true → sees (head_of clusters past k) o ≡ true
-head_own clusters past k o low high eight same h = seen_own (last_in clusters past k) (local past k) o (subst (λ (j : ℕ). 1 ≤ j) (sym (local_cluster past k)) low) (subst (λ (j : ℕ). j ≤ 8) (sym (local_cluster past k)) high) eight (same ∙ sym (local_cluster past k)) h
+pub head_own : (clusters : ℕ) (past : Past) (k : ℕ) (o : Revision) → 1 ≤ k → k ≤ 8 → length (last_in clusters None past k) ≡ 8 → o.cluster ≡ k → is_at_most o (local None past k) ≡ true → sees (head_of clusters None past k) o ≡ true
+head_own clusters past k o low high eight same h = seen_own (last_in clusters None past k) (local None past k) o (subst (λ (j : ℕ). 1 ≤ j) (sym (local_cluster past k)) low) (subst (λ (j : ℕ). j ≤ 8) (sym (local_cluster past k)) high) eight (same ∙ sym (local_cluster past k)) h

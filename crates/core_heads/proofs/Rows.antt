@@ -1,5 +1,5 @@
 -- A run in which a node learns of another's draw and draws after it; and an Out of a revision of another node, which may not follow.
-use Rattle.std.proofs.Common.{◌≡◌, ℕ, zero, suc, true, false, List, [], ◌∷◌, is_some, refl, ap, arith}
+use Rattle.std.proofs.Common.{◌≡◌, ℕ, zero, suc, true, false, List, [], ◌∷◌, is_some, refl, ap, arith, None}
 use Rattle.std.specs.Option.{unwrap_or}
 use mathlib.Core.Bool.{false≢true}
 use Rattle.std.specs.Prelude.{slice_get, Some}
@@ -56,23 +56,23 @@ are_nodes = record { eight = omega arith; some = omega arith; node = each }
         one n k h = ap (λ o. unwrap_or o n) h
     each (suc (suc s)) k h = absurd (false≢true (ap is_some h))
 
-it_is_seen : sees (head_of 2 past 2) (at 1 1) ≡ true
+it_is_seen : sees (head_of 2 None past 2) (at 1 1) ≡ true
 it_is_seen = refl
 
-is_run : IsRunOf starts says 2 sessions past
+is_run : IsRunOf starts says 2 sessions None past
 is_run = (
-  record { login = refl; detached = refl; idle = refl; base = refl; cluster = refl; next = refl; lawful = tt },
+  record { running = refl; login = refl; detached = refl; idle = refl; base = refl; cluster = refl; next = refl; lawful = tt },
   (
-    record { first = refl; head = (2, refl, refl) },
+    record { running = refl; first = refl; head = (2, refl, refl) },
     (
-      (0, refl),
+      (refl, (0, refl)),
       (
         (refl, refl),
         (
           refl,
           (
-            record { login = refl; detached = refl; idle = refl; base = refl; cluster = refl; next = refl; lawful = tt },
-            (record { first = refl; head = (1, refl, refl) }, tt),
+            record { running = refl; login = refl; detached = refl; idle = refl; base = refl; cluster = refl; next = refl; lawful = tt },
+            (record { running = refl; first = refl; head = (1, refl, refl) }, tt),
           ),
         ),
       ),
@@ -101,29 +101,29 @@ apart =
     ∷ event.Login 2 (start 3)
     ∷ []
 
-apart_is_run : IsRunOf starts says 3 (1 ∷ 2 ∷ 3 ∷ []) apart
+apart_is_run : IsRunOf starts says 3 (1 ∷ 2 ∷ 3 ∷ []) None apart
 apart_is_run = (
   (refl, refl),
   (
     refl,
     (
       record {
-        open_ = record { in_flight = refl; not_committed = refl; not_refused = refl };
+        open_ = record { running = refl; in_flight = refl; not_committed = refl; not_refused = refl };
         apart = λ o committed outside. absurd (false≢true committed);
       },
       (
-        record { login = refl; detached = refl; idle = refl; base = refl; cluster = refl; next = refl; lawful = tt },
+        record { running = refl; login = refl; detached = refl; idle = refl; base = refl; cluster = refl; next = refl; lawful = tt },
         (
-          record { first = refl; head = (2, refl, refl) },
+          record { running = refl; first = refl; head = (2, refl, refl) },
           (
-            (0, refl),
+            (refl, (0, refl)),
             (
               (refl, refl),
               (
                 refl,
                 (
-                  record { login = refl; detached = refl; idle = refl; base = refl; cluster = refl; next = refl; lawful = tt },
-                  (record { first = refl; head = (3, refl, refl) }, tt),
+                  record { running = refl; login = refl; detached = refl; idle = refl; base = refl; cluster = refl; next = refl; lawful = tt },
+                  (record { running = refl; first = refl; head = (3, refl, refl) }, tt),
                 ),
               ),
             ),
@@ -136,7 +136,7 @@ apart_is_run = (
 
 -- a vector with the entry of node 2 from the end and that of node 3 from the beginning isn't closed
 abbrev torn : Entries
-torn = with_entry (start 3) (published apart 2)
+torn = with_entry (start 3) (published None apart 2)
 
 torn_sees : (sees torn (at 2 2) ≡ true) × (is_in_base apart (at 2 2) (at 1 3) ≡ true) × (sees torn (at 1 3) ≡ false)
 torn_sees = (refl, refl, refl)

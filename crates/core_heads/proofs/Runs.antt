@@ -14,7 +14,7 @@ use Rattle.oak_machine.specs.declared.event.Event.TheVariants as event
 use Rattle.oak_machine.specs.History.{Past}
 use Rattle.oak_machine.specs.Commits.{draw_of, is_drawn, is_ended, is_in_base, IsSettled, IsClosed}
 use Rattle.oak_machine.specs.Heads.{local, last_in, head_of, last_draw_time, published}
-use Rattle.oak_machine.specs.Sessions.{base_of, is_attached, last_checkpoint, kept_checkpoint, is_text}
+use Rattle.oak_machine.specs.Sessions.{base_of, is_attached, last_checkpoint, kept_checkpoint, is_text, is_recovered}
 use Rattle.oak_machine.specs.Laws.{Starts, Says, StartsProper}
 use Rattle.oak_machine.specs.Runs.{MayFollow, MayDraw, IsRunOf, learned, IsNode, AreNodes}
 use Rattle.core_read.specs.Told.{IsTold, IsInUse, IsFreshDraw}
@@ -32,7 +32,7 @@ use Rattle.core_heads.proofs.Steps.{later_aside, later_end, above, above_head, l
 pub record IsOfMoment (clusters : ℕ) (past earlier : Past) : Type 0 where
   pub good : IsGood past (Public clusters earlier)
   pub public : (x : Revision) → Public clusters earlier x → Public clusters past x
-  pub of : (m : ℕ) → (published earlier m).cluster ≡ m
+  pub of : (m : ℕ) → (published None earlier m).cluster ≡ m
 
 abbrev pub AreMoments : ℕ → Past → Type 0
 AreMoments clusters past = (n : ℕ) → IsOfMoment clusters past (drop n past)
@@ -110,7 +110,7 @@ module _ (clusters : ℕ) (sessions : List ℕ) (nodes : AreNodes clusters sessi
     plain_sound e h grown = record {
       draws = λ o d k. draw_kept clusters past (e ∷ past) grown o d (sound.draws o d k);
       outs = λ k r i. out_kept clusters past (e ∷ past) grown k r (sound.outs k r i);
-      ins = λ k node. in_kept clusters past (e ∷ past) grown k (last_in clusters past k) (sound.ins k node);
+      ins = λ k node. in_kept clusters past (e ∷ past) grown k (last_in clusters None past k) (sound.ins k node);
       bases = λ s v k. held_kept clusters past (e ∷ past) grown v (sound.bases s v k);
       kept = λ id v k. held_kept clusters past (e ∷ past) grown v (sound.kept id v k);
       headed = λ s k v c a b x i. grown.heads k (nodes.node s k c) x (sound.headed s k v c a b x i);
@@ -118,7 +118,7 @@ module _ (clusters : ℕ) (sessions : List ℕ) (nodes : AreNodes clusters sessi
 
     -- ---- a Login and a Refresh
 
-    module _ (s : ℕ) (v : RevVec) (k : ℕ) (of : slice_get sessions s ≡ Some k) (head : v ≡ head_of clusters past k) where
+    module _ (s : ℕ) (v : RevVec) (k : ℕ) (of : slice_get sessions s ≡ Some k) (head : v ≡ head_of clusters None past k) where
       login_base : (t : ℕ) (w : RevVec) → cond (s == t) (Some v) (base_of past t) ≡ Some w → IsHeld past w
       login_base t w h = by (s == t) h
         where
@@ -126,20 +126,20 @@ module _ (clusters : ℕ) (sessions : List ℕ) (nodes : AreNodes clusters sessi
           by true h = subst (λ (u : RevVec). IsHeld past u) (sym head ∙ some_is v w h) (head_held clusters sessions nodes past sound k (nodes.node s k of))
           by false h = sound.bases t w h
 
-      login_headed : (t j : ℕ) (w : RevVec) → slice_get sessions t ≡ Some j → cond (s == t) false (is_attached past t) ≡ false → cond (s == t) (Some v) (base_of past t) ≡ Some w → (x : Revision) → sees w x ≡ true → sees (head_of clusters past j) x ≡ true
+      login_headed : (t j : ℕ) (w : RevVec) → slice_get sessions t ≡ Some j → cond (s == t) false (is_attached past t) ≡ false → cond (s == t) (Some v) (base_of past t) ≡ Some w → (x : Revision) → sees w x ≡ true → sees (head_of clusters None past j) x ≡ true
       login_headed t j w c a h x i = by (s == t) refl a h
         where
-          by : (b : Bool) → (s == t) ≡ b → cond b false (is_attached past t) ≡ false → cond b (Some v) (base_of past t) ≡ Some w → sees (head_of clusters past j) x ≡ true
+          by : (b : Bool) → (s == t) ≡ b → cond b false (is_attached past t) ≡ false → cond b (Some v) (base_of past t) ≡ Some w → sees (head_of clusters None past j) x ≡ true
           by true e a h =
               let same : k ≡ j = some_is k j (sym of ∙ (ap (slice_get sessions) (same_number s t e) ∙ c)) in
-              subst (λ (n : ℕ). sees (head_of clusters past n) x ≡ true) same (subst (λ (u : RevVec). sees u x ≡ true) (sym (some_is v w h) ∙ head) i)
+              subst (λ (n : ℕ). sees (head_of clusters None past n) x ≡ true) same (subst (λ (u : RevVec). sees u x ≡ true) (sym (some_is v w h) ∙ head) i)
           by false e a h = sound.headed t j w c a h x i
 
       login_sound : IsSound clusters sessions (event.Login s v ∷ past)
       login_sound = let grown : IsLater clusters past (event.Login s v ∷ past) = later_aside clusters sessions nodes past sound (event.Login s v) refl in record {
         draws = λ o d k. draw_kept clusters past (event.Login s v ∷ past) grown o d (sound.draws o d k);
         outs = λ k r i. out_kept clusters past (event.Login s v ∷ past) grown k r (sound.outs k r i);
-        ins = λ k node. in_kept clusters past (event.Login s v ∷ past) grown k (last_in clusters past k) (sound.ins k node);
+        ins = λ k node. in_kept clusters past (event.Login s v ∷ past) grown k (last_in clusters None past k) (sound.ins k node);
         bases = λ t w h. held_kept clusters past (event.Login s v ∷ past) grown w (login_base t w h);
         kept = λ id w h. held_kept clusters past (event.Login s v ∷ past) grown w (sound.kept id w h);
         headed = login_headed;
@@ -149,7 +149,7 @@ module _ (clusters : ℕ) (sessions : List ℕ) (nodes : AreNodes clusters sessi
       refresh_sound = let grown : IsLater clusters past (event.Refresh s v ∷ past) = later_aside clusters sessions nodes past sound (event.Refresh s v) refl in record {
         draws = λ o d k. draw_kept clusters past (event.Refresh s v ∷ past) grown o d (sound.draws o d k);
         outs = λ k r i. out_kept clusters past (event.Refresh s v ∷ past) grown k r (sound.outs k r i);
-        ins = λ k node. in_kept clusters past (event.Refresh s v ∷ past) grown k (last_in clusters past k) (sound.ins k node);
+        ins = λ k node. in_kept clusters past (event.Refresh s v ∷ past) grown k (last_in clusters None past k) (sound.ins k node);
         bases = λ t w h. held_kept clusters past (event.Refresh s v ∷ past) grown w (login_base t w h);
         kept = λ id w h. held_kept clusters past (event.Refresh s v ∷ past) grown w (sound.kept id w h);
         headed = login_headed;
@@ -161,7 +161,7 @@ module _ (clusters : ℕ) (sessions : List ℕ) (nodes : AreNodes clusters sessi
     attach_sound s id = let grown : IsLater clusters past (event.Attach s id ∷ past) = later_aside clusters sessions nodes past sound (event.Attach s id) refl in record {
       draws = λ o d k. draw_kept clusters past (event.Attach s id ∷ past) grown o d (sound.draws o d k);
       outs = λ k r i. out_kept clusters past (event.Attach s id ∷ past) grown k r (sound.outs k r i);
-      ins = λ k node. in_kept clusters past (event.Attach s id ∷ past) grown k (last_in clusters past k) (sound.ins k node);
+      ins = λ k node. in_kept clusters past (event.Attach s id ∷ past) grown k (last_in clusters None past k) (sound.ins k node);
       bases = λ t w h. held_kept clusters past (event.Attach s id ∷ past) grown w (base t w (s == t) h);
       kept = λ i w h. held_kept clusters past (event.Attach s id ∷ past) grown w (sound.kept i w h);
       headed = λ t j w c a h x i. headed t j w c (s == t) a h x i;
@@ -171,7 +171,7 @@ module _ (clusters : ℕ) (sessions : List ℕ) (nodes : AreNodes clusters sessi
         base t w true h = sound.kept id w h
         base t w false h = sound.bases t w h
 
-        headed : (t j : ℕ) (w : RevVec) → slice_get sessions t ≡ Some j → (b : Bool) → cond b true (is_attached past t) ≡ false → cond b (last_checkpoint past id) (base_of past t) ≡ Some w → (x : Revision) → sees w x ≡ true → sees (head_of clusters past j) x ≡ true
+        headed : (t j : ℕ) (w : RevVec) → slice_get sessions t ≡ Some j → (b : Bool) → cond b true (is_attached past t) ≡ false → cond b (last_checkpoint past id) (base_of past t) ≡ Some w → (x : Revision) → sees w x ≡ true → sees (head_of clusters None past j) x ≡ true
         headed t j w c true a h x i = absurd (false≢true (sym a))
         headed t j w c false a h x i = sound.headed t j w c a h x i
 
@@ -179,7 +179,7 @@ module _ (clusters : ℕ) (sessions : List ℕ) (nodes : AreNodes clusters sessi
     checkpoint_sound id v s of = let grown : IsLater clusters past (event.Checkpoint id v ∷ past) = later_aside clusters sessions nodes past sound (event.Checkpoint id v) refl in record {
       draws = λ o d k. draw_kept clusters past (event.Checkpoint id v ∷ past) grown o d (sound.draws o d k);
       outs = λ k r i. out_kept clusters past (event.Checkpoint id v ∷ past) grown k r (sound.outs k r i);
-      ins = λ k node. in_kept clusters past (event.Checkpoint id v ∷ past) grown k (last_in clusters past k) (sound.ins k node);
+      ins = λ k node. in_kept clusters past (event.Checkpoint id v ∷ past) grown k (last_in clusters None past k) (sound.ins k node);
       bases = λ t w h. held_kept clusters past (event.Checkpoint id v ∷ past) grown w (sound.bases t w h);
       kept = λ i w h. held_kept clusters past (event.Checkpoint id v ∷ past) grown w (made i w (is_text id i) h);
       headed = sound.headed;
@@ -191,21 +191,21 @@ module _ (clusters : ℕ) (sessions : List ℕ) (nodes : AreNodes clusters sessi
 
     -- ---- an Out and an In
 
-    out_sound : (m : ℕ) (r : Revision) → r.cluster ≡ m → is_at_most r (local past m) ≡ true → IsSound clusters sessions (event.Out m r ∷ past)
+    out_sound : (m : ℕ) (r : Revision) → r.cluster ≡ m → is_at_most r (local None past m) ≡ true → IsSound clusters sessions (event.Out m r ∷ past)
     out_sound m r of low = let grown : IsLater clusters past (event.Out m r ∷ past) = later_out clusters sessions nodes past sound m r of low in record {
       draws = λ o d k. draw_kept clusters past (event.Out m r ∷ past) grown o d (sound.draws o d k);
       outs = λ k q i. out_outs clusters sessions nodes past sound m r of low k q i;
-      ins = λ k node. in_kept clusters past (event.Out m r ∷ past) grown k (last_in clusters past k) (sound.ins k node);
+      ins = λ k node. in_kept clusters past (event.Out m r ∷ past) grown k (last_in clusters None past k) (sound.ins k node);
       bases = λ t w h. held_kept clusters past (event.Out m r ∷ past) grown w (sound.bases t w h);
       kept = λ i w h. held_kept clusters past (event.Out m r ∷ past) grown w (sound.kept i w h);
       headed = sound.headed;
     }
 
-    module _ (ms : AreMoments clusters past) (m : ℕ) (v : RevVec) (n : ℕ) (is : v ≡ learned clusters past (drop n past) m) where
+    module _ (ms : AreMoments clusters past) (m : ℕ) (v : RevVec) (n : ℕ) (is : v ≡ learned clusters None past (drop n past) m) where
       in_new : IsNode clusters m → IsSoundIn clusters past m v
       in_new node = subst (λ (u : RevVec). IsSoundIn clusters past m u) (sym is) (learned_sound clusters sessions nodes past sound (drop n past) (ms n).of (ms n).good (ms n).public m node)
 
-      in_more : IsNode clusters m → (x : Revision) → sees (head_of clusters past m) x ≡ true → sees v x ≡ true
+      in_more : IsNode clusters m → (x : Revision) → sees (head_of clusters None past m) x ≡ true → sees v x ≡ true
       in_more node x h = subst (λ (u : RevVec). sees u x ≡ true) (sym is) (learned_more clusters sessions nodes past sound (drop n past) (ms n).of (ms n).good (ms n).public m node x h)
 
       in_later : IsLater clusters past (event.In m v ∷ past)
@@ -215,7 +215,7 @@ module _ (clusters : ℕ) (sessions : List ℕ) (nodes : AreNodes clusters sessi
       in_sound = let grown : IsLater clusters past (event.In m v ∷ past) = in_later in record {
         draws = λ o d k. draw_kept clusters past (event.In m v ∷ past) grown o d (sound.draws o d k);
         outs = λ k r i. out_kept clusters past (event.In m v ∷ past) grown k r (sound.outs k r i);
-        ins = λ k node. in_kept clusters past (event.In m v ∷ past) grown k (last_in clusters (event.In m v ∷ past) k) (in_ins clusters sessions nodes past sound m v in_new in_more k node);
+        ins = λ k node. in_kept clusters past (event.In m v ∷ past) grown k (last_in clusters None (event.In m v ∷ past) k) (in_ins clusters sessions nodes past sound m v in_new in_more k node);
         bases = λ t w h. held_kept clusters past (event.In m v ∷ past) grown w (sound.bases t w h);
         kept = λ i w h. held_kept clusters past (event.In m v ∷ past) grown w (sound.kept i w h);
         headed = λ t j w c a h x i. grown.heads j (nodes.node t j c) x (sound.headed t j w c a h x i);
@@ -223,17 +223,17 @@ module _ (clusters : ℕ) (sessions : List ℕ) (nodes : AreNodes clusters sessi
 
     -- ---- a Draw
 
-    module _ (starts : Starts) (d : Draw) (may : MayDraw starts (record { clusters = clusters; sessions = sessions; past = past }) d) where
+    module _ (starts : Starts) (d : Draw) (may : MayDraw starts (record { clusters = clusters; sessions = sessions; begin = None; past = past }) d) where
       node : IsNode clusters d.revision.cluster
       node = nodes.node d.session d.revision.cluster may.cluster
 
-      base_headed : (x : Revision) → sees d.base x ≡ true → sees (head_of clusters past d.revision.cluster) x ≡ true
+      base_headed : (x : Revision) → sees d.base x ≡ true → sees (head_of clusters None past d.revision.cluster) x ≡ true
       base_headed x h = sound.headed d.session d.revision.cluster d.base may.cluster may.detached may.base x h
 
       base_rises : (x : Revision) → sees d.base x ≡ true → is_before x d.revision ≡ true
       base_rises x h =
-          let eight = set_length (last_in clusters past d.revision.cluster) ((local past d.revision.cluster).cluster - 1) (Some (local past d.revision.cluster)) ∙ (sound.ins d.revision.cluster node).eight in
-          let a = seen_time (head_of clusters past d.revision.cluster) x eight (base_headed x h) in
+          let eight = set_length (last_in clusters None past d.revision.cluster) ((local None past d.revision.cluster).cluster - 1) (Some (local None past d.revision.cluster)) ∙ (sound.ins d.revision.cluster node).eight in
+          let a = seen_time (head_of clusters None past d.revision.cluster) x eight (base_headed x h) in
           let b = above_head clusters sessions nodes past sound d node may.next in
           time_before x d.revision (omega arith)
 
@@ -259,7 +259,7 @@ module _ (clusters : ℕ) (sessions : List ℕ) (nodes : AreNodes clusters sessi
       draw_sound = let grown : IsLater clusters past (event.Draw d ∷ past) = draw_later in record {
         draws = λ o e h. draws o e (is_same o d.revision) refl h;
         outs = λ k r i. out_kept clusters past (event.Draw d ∷ past) grown k r (sound.outs k r i);
-        ins = λ k node. in_kept clusters past (event.Draw d ∷ past) grown k (last_in clusters past k) (sound.ins k node);
+        ins = λ k node. in_kept clusters past (event.Draw d ∷ past) grown k (last_in clusters None past k) (sound.ins k node);
         bases = λ t w h. held_kept clusters past (event.Draw d ∷ past) grown w (sound.bases t w h);
         kept = λ i w h. held_kept clusters past (event.Draw d ∷ past) grown w (sound.kept i w h);
         headed = λ t j w c a h x i. grown.heads j (nodes.node t j c) x (sound.headed t j w c a h x i);
@@ -294,18 +294,18 @@ module _ (clusters : ℕ) (sessions : List ℕ) (nodes : AreNodes clusters sessi
 
   module _ (starts : Starts) (says : Says) where
     -- one event more
-    step : (e : Event) (past : Past) → MayFollow starts says (record { clusters = clusters; sessions = sessions; past = past }) e → IsSound clusters sessions past → AreMoments clusters past → IsLater clusters past (e ∷ past) × IsSound clusters sessions (e ∷ past)
+    step : (e : Event) (past : Past) → MayFollow starts says (record { clusters = clusters; sessions = sessions; begin = None; past = past }) e → IsSound clusters sessions past → AreMoments clusters past → IsLater clusters past (e ∷ past) × IsSound clusters sessions (e ∷ past)
     step (event.Login s v) past may sound ms = (later_aside clusters sessions nodes past sound (event.Login s v) refl, login_sound past sound s v may.head.0 may.head.1 may.head.2)
     step (event.Refresh s v) past may sound ms = (later_aside clusters sessions nodes past sound (event.Refresh s v) refl, refresh_sound past sound s v may.head.0 may.head.1 may.head.2)
     step (event.Attach s id) past may sound ms = (later_aside clusters sessions nodes past sound (event.Attach s id) refl, attach_sound past sound s id)
     step (event.Checkpoint id v) past may sound ms = (later_aside clusters sessions nodes past sound (event.Checkpoint id v) refl, checkpoint_sound past sound id v may.0 may.1)
     step (event.Draw d) past may sound ms = (draw_later past sound starts d may, draw_sound past sound starts d may)
     step (event.Out m r) past may sound ms = (later_out clusters sessions nodes past sound m r may.0 may.1, out_sound past sound m r may.0 may.1)
-    step (event.In m v) past may sound ms = (in_later past sound ms m v may.0 may.1, in_sound past sound ms m v may.0 may.1)
+    step (event.In m v) past may sound ms = (in_later past sound ms m v may.1.0 may.1.1, in_sound past sound ms m v may.1.0 may.1.1)
     step (event.End r) past may sound ms = (later_end clusters sessions nodes past sound r, plain_sound past sound (event.End r) refl (later_end clusters sessions nodes past sound r))
     step e past may sound ms = (later_aside clusters sessions nodes past sound e refl, plain_sound past sound e refl (later_aside clusters sessions nodes past sound e refl))
 
-    run_both : (past : Past) → IsRunOf starts says clusters sessions past → IsSound clusters sessions past × AreMoments clusters past
+    run_both : (past : Past) → IsRunOf starts says clusters sessions None past → IsSound clusters sessions past × AreMoments clusters past
     run_both [] run = (sound_start clusters sessions nodes, moments_start)
     run_both (e ∷ past) run =
         let before = run_both past run.1 in
@@ -313,44 +313,52 @@ module _ (clusters : ℕ) (sessions : List ℕ) (nodes : AreNodes clusters sessi
         (now.1, moments_kept e past now.0 now.1 before.1)
 
     -- what the heads of a run keep
-    pub sound_run : (past : Past) → IsRunOf starts says clusters sessions past → IsSound clusters sessions past
+    pub sound_run : (past : Past) → IsRunOf starts says clusters sessions None past → IsSound clusters sessions past
     sound_run past run = (run_both past run).0
 
-    pub fresh_run : (d : Draw) (past : Past) → IsRunOf starts says clusters sessions (event.Draw d ∷ past) → IsFreshDraw past d
+    -- what an event of a run does to heads, draws and what is held
+    pub later_run : (e : Event) (past : Past) → IsRunOf starts says clusters sessions None (e ∷ past) → IsLater clusters past (e ∷ past)
+    later_run e past run = let before = run_both past run.1 in (step e past run.0 before.0 before.1).0
+
+    -- each earlier moment of a run
+    pub moments_run : (past : Past) → IsRunOf starts says clusters sessions None past → AreMoments clusters past
+    moments_run past run = (run_both past run).1
+
+    pub fresh_run : (d : Draw) (past : Past) → IsRunOf starts says clusters sessions None (event.Draw d ∷ past) → IsFreshDraw past d
     fresh_run d past run = fresh_draw past (sound_run past run.1) starts d run.0
 
     -- the past of a run by a law that starts proper edits can be read
-    pub told_past : StartsProper starts → (past : Past) → IsRunOf starts says clusters sessions past → IsTold past
+    pub told_past : StartsProper starts → (past : Past) → IsRunOf starts says clusters sessions None past → IsTold past
     told_past proper past run = told_run starts says clusters sessions proper fresh_run past run
 
-    pub head_run : (past : Past) → IsRunOf starts says clusters sessions past → (k : ℕ) → IsNode clusters k → IsHeld past (head_of clusters past k)
+    pub head_run : (past : Past) → IsRunOf starts says clusters sessions None past → (k : ℕ) → IsNode clusters k → IsHeld past (head_of clusters None past k)
     head_run past run k node = head_held clusters sessions nodes past (sound_run past run) k node
 
     -- the base of each committed revision that a held vector sees is at most that vector
-    pub closed_run : (past : Past) → IsRunOf starts says clusters sessions past → (v : RevVec) → IsHeld past v → IsClosed past v
+    pub closed_run : (past : Past) → IsRunOf starts says clusters sessions None past → (v : RevVec) → IsHeld past v → IsClosed past v
     closed_run past run v h r d committed drawn seen = seen_below d.base v ((sound_run past run).draws r d drawn).stands (λ x b. h.good.closed r d drawn seen x b)
 
     -- the base of a draw is at most the head of its node
-    pub base_run : (past : Past) → IsRunOf starts says clusters sessions past → (r : Revision) (d : Draw) → draw_of past r ≡ Some d → is_below d.base (head_of clusters past r.cluster) ≡ true
-    base_run past run r d drawn = let s = (sound_run past run).draws r d drawn in seen_below d.base (head_of clusters past r.cluster) s.stands s.headed
+    pub base_run : (past : Past) → IsRunOf starts says clusters sessions None past → (r : Revision) (d : Draw) → draw_of past r ≡ Some d → is_below d.base (head_of clusters None past r.cluster) ≡ true
+    base_run past run r d drawn = let s = (sound_run past run).draws r d drawn in seen_below d.base (head_of clusters None past r.cluster) s.stands s.headed
 
-    heads_grow : (added past : Past) → IsRunOf starts says clusters sessions (added ++ past) → (k : ℕ) → IsNode clusters k → (x : Revision) → sees (head_of clusters past k) x ≡ true → sees (head_of clusters (added ++ past) k) x ≡ true
+    heads_grow : (added past : Past) → IsRunOf starts says clusters sessions None (added ++ past) → (k : ℕ) → IsNode clusters k → (x : Revision) → sees (head_of clusters None past k) x ≡ true → sees (head_of clusters None (added ++ past) k) x ≡ true
     heads_grow [] past run k is_node x h = h
     heads_grow (e ∷ added) past run k is_node x h =
         let before = run_both (added ++ past) run.1 in
         (step e (added ++ past) run.0 before.0 before.1).0.heads k is_node x (heads_grow added past run.1 k is_node x h)
 
-    earlier_run : (added past : Past) → IsRunOf starts says clusters sessions (added ++ past) → IsRunOf starts says clusters sessions past
+    earlier_run : (added past : Past) → IsRunOf starts says clusters sessions None (added ++ past) → IsRunOf starts says clusters sessions None past
     earlier_run [] past run = run
     earlier_run (e ∷ added) past run = earlier_run added past run.1
 
     -- a head grows while events are added
-    pub grow_run : (added past : Past) → IsRunOf starts says clusters sessions (added ++ past) → (k : ℕ) → IsNode clusters k → is_below (head_of clusters past k) (head_of clusters (added ++ past) k) ≡ true
-    grow_run added past run k is_node = seen_below (head_of clusters past k) (head_of clusters (added ++ past) k) (head_run past (earlier_run added past run) k is_node).stands (heads_grow added past run k is_node)
+    pub grow_run : (added past : Past) → IsRunOf starts says clusters sessions None (added ++ past) → (k : ℕ) → IsNode clusters k → is_below (head_of clusters None past k) (head_of clusters None (added ++ past) k) ≡ true
+    grow_run added past run k is_node = seen_below (head_of clusters None past k) (head_of clusters None (added ++ past) k) (head_run past (earlier_run added past run) k is_node).stands (heads_grow added past run k is_node)
 
-    -- the vectors of a Bound see nothing that is ahead
-    pub bound_run : (past : Past) (m t : RevVec) → IsRunOf starts says clusters sessions (event.Bound m t ∷ past) → (o : Revision) → IsAhead past o → (sees m o ≡ true → ⊥) × (sees t o ≡ true → ⊥)
-    bound_run past m t run o a = (mine, λ h. mine (below_seen t m o run.0.sweep h))
+    -- the vectors of a Bound see nothing that is ahead, where some cluster node wasn't recovered
+    pub bound_run : (past : Past) (m t : RevVec) → IsRunOf starts says clusters sessions None (event.Bound m t ∷ past) → (k : ℕ) → IsNode clusters k → is_recovered past k ≡ false → (o : Revision) → IsAhead past o → (sees m o ≡ true → ⊥) × (sees t o ≡ true → ⊥)
+    bound_run past m t run k is_node kept o a = (mine, λ h. mine (below_seen t m o run.0.sweep h))
       where
         mine : sees m o ≡ true → ⊥
-        mine h = (head_run past run.1 1 (omega arith, nodes.some)).good.behind o a (below_seen m (head_of clusters past 1) o (run.0.heads 1 (omega arith) nodes.some) h)
+        mine h = (head_run past run.1 k is_node).good.behind o a (below_seen m (head_of clusters None past k) o (run.0.heads k is_node.0 is_node.1 kept) h)

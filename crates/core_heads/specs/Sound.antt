@@ -1,5 +1,5 @@
 -- What the heads of a run keep.
-use Rattle.std.specs.Prelude.{◌≡◌, ℕ, ◌<◌, ◌≤◌, ◌⊎◌, List, [], ◌∷◌, Some, length, slice_get, IsTrue, IsFalse}
+use Rattle.std.specs.Prelude.{◌≡◌, ℕ, ◌<◌, ◌≤◌, ◌⊎◌, List, [], ◌∷◌, Some, length, slice_get, IsTrue, IsFalse, None}
 use Rattle.jr_path.specs.declared.text.Text.{Text}
 use Rattle.jr_rev.specs.declared.revision.Revision.{Revision}
 use Rattle.jr_rev.specs.declared.vector.RevVec.{RevVec}
@@ -32,7 +32,7 @@ pub record IsGood (past : Past) (s : Sight) : Type 0 where
 
 -- what the cluster nodes have published
 abbrev pub Public : ℕ → Past → Sight
-Public clusters past = λ o. IsNode clusters o.cluster × IsTrue (is_at_most o (published past o.cluster))
+Public clusters past = λ o. IsNode clusters o.cluster × IsTrue (is_at_most o (published None past o.cluster))
 
 -- k is one of the list
 abbrev pub IsIn : Revision → List Revision → Type 0
@@ -45,7 +45,7 @@ pub record IsSoundDraw (clusters : ℕ) (past : Past) (o : Revision) (d : Draw) 
   pub late : o.time ≤ last_draw_time past o.cluster
   pub positive : 1 ≤ o.time
   pub stands : IsTrue (stands_from 1 d.base)
-  pub headed : (x : Revision) → IsTrue (sees d.base x) → IsTrue (sees (head_of clusters past o.cluster) x)
+  pub headed : (x : Revision) → IsTrue (sees d.base x) → IsTrue (sees (head_of clusters None past o.cluster) x)
   pub rises : (x : Revision) → IsTrue (sees d.base x) → IsTrue (is_before x o)
   pub told : (x : Revision) → IsTrue (sees d.base x) → (x.cluster ≡ o.cluster) ⊎ Public clusters past x
 
@@ -54,7 +54,7 @@ pub record IsSoundIn (clusters : ℕ) (past : Past) (k : ℕ) (v : RevVec) : Typ
   pub good : IsGood past (Seen v)
   pub eight : length v ≡ 8
   pub stands : IsTrue (stands_from 1 v)
-  pub own : (x : Revision) → IsTrue (sees v x) → x.cluster ≡ k → IsTrue (is_at_most x (local past k))
+  pub own : (x : Revision) → IsTrue (sees v x) → x.cluster ≡ k → IsTrue (is_at_most x (local None past k))
   pub told : (x : Revision) → IsTrue (sees v x) → (x.cluster ≡ k) ⊎ Public clusters past x
   pub begun : IsTrue (sees v (start_of 1))
 
@@ -66,11 +66,11 @@ pub record IsHeld (past : Past) (v : RevVec) : Type 0 where
 
 pub record IsSound (clusters : ℕ) (sessions : List ℕ) (past : Past) : Type 0 where
   pub draws : (o : Revision) (d : Draw) → draw_of past o ≡ Some d → IsSoundDraw clusters past o d
-  pub outs : (k : ℕ) (r : Revision) → IsIn r (outs_of past k) → (r.cluster ≡ k) × IsTrue (is_at_most r (local past k))
-  pub ins : (k : ℕ) → IsNode clusters k → IsSoundIn clusters past k (last_in clusters past k)
+  pub outs : (k : ℕ) (r : Revision) → IsIn r (outs_of past k) → (r.cluster ≡ k) × IsTrue (is_at_most r (local None past k))
+  pub ins : (k : ℕ) → IsNode clusters k → IsSoundIn clusters past k (last_in clusters None past k)
   pub bases : (s : ℕ) (v : RevVec) → base_of past s ≡ Some v → IsHeld past v
   pub kept : (id : Text) (v : RevVec) → last_checkpoint past id ≡ Some v → IsHeld past v
-  pub headed : (s k : ℕ) (v : RevVec) → slice_get sessions s ≡ Some k → IsFalse (is_attached past s) → base_of past s ≡ Some v → (x : Revision) → IsTrue (sees v x) → IsTrue (sees (head_of clusters past k) x)
+  pub headed : (s k : ℕ) (v : RevVec) → slice_get sessions s ≡ Some k → IsFalse (is_attached past s) → base_of past s ≡ Some v → (x : Revision) → IsTrue (sees v x) → IsTrue (sees (head_of clusters None past k) x)
 
 -- a new revision, that no base sees; a base that sees the start and nothing in flight
 pub record Begins (past : Past) (d : Draw) : Type 0 where

@@ -8,7 +8,7 @@ use Rattle.jr_rev.specs.declared.revision.Revision.{Revision}
 use Rattle.jr_rev.specs.Revisions.{is_same}
 use Rattle.jr_rev.proofs.Order.{same_revision}
 use Rattle.oak_machine.specs.declared.event.Event.TheVariants as event
-use Rattle.oak_machine.specs.History.{History, Past}
+use Rattle.oak_machine.specs.History.{Begin, History, Past}
 use Rattle.oak_machine.specs.Commits.{is_committed, is_refused, refusal_of}
 use Rattle.oak_machine.specs.Laws.{Starts, Says}
 use Rattle.oak_machine.specs.Runs.{IsRunOf}
@@ -29,8 +29,8 @@ none_refused [] r h = refl
 none_refused (event.Refuse q item o ∷ past) r h = let n = neither (is_same r q) _ h in other (is_same r q) (Some (item, o)) (refusal_of past r) None n.0 (none_refused past r n.1)
 none_refused (e ∷ past) r h = none_refused past r h
 
-module _ (starts : Starts) (says : Says) (clusters : ℕ) (sessions : _) where
-  pub committed_unrefused : (past : Past) (r : Revision) → IsRunOf starts says clusters sessions past → is_committed past r ≡ true → refusal_of past r ≡ None
+module _ (starts : Starts) (says : Says) (clusters : ℕ) (sessions : _) (begin : Begin) where
+  pub committed_unrefused : (past : Past) (r : Revision) → IsRunOf starts says clusters sessions begin past → is_committed past r ≡ true → refusal_of past r ≡ None
   committed_unrefused [] r run h = absurd (false≢true h)
   committed_unrefused (event.Commit q ∷ past) r run h = either (is_same r q) (is_committed past r) h _
       (λ same. subst (λ (x : Revision). refusal_of past x ≡ None) (sym (same_revision r q same)) (none_refused past q run.0.open_.not_refused))
@@ -67,5 +67,5 @@ module _ (law : Orders) (past : Past) (s : ℕ) (r : Revision) (unrefused : refu
 
 -- a save whose commit is made may be answered with its revision alone
 pub committed_accepted : (law : Orders) (h : History) (s i : ℕ) (r : Revision) (text : Text) → refusal_of h.past r ≡ None → drawn_since h.past s ≡ Some r → is_committed h.past r ≡ true → command_at law s i ≡ Some command.Save → SaysBy law h s i text → text ≡ answer_text (ShowsRevision r)
-committed_accepted law h s i r text unrefused drawn committed save (c, a, at, is, may) =
+committed_accepted law h s i r text unrefused drawn committed save (begun, (c, a, at, is, may)) =
     is ∙ ap answer_text (shows_revision law h.past s r unrefused drawn committed c a (ap (λ (o : Option Command). unwrap_or o c) (sym at ∙ save)) may)

@@ -23,17 +23,17 @@ use Rattle.core_heads.proofs.Steps.{above}
 use Rattle.core_law.specs.State.{base_tree}
 
 module _ (clusters : ℕ) (sessions : List ℕ) (nodes : AreNodes clusters sessions) (starts : Starts) (says : Says) (s : ℕ) (v : RevVec) where
-  held : (past : Past) → IsRunOf starts says clusters sessions past → base_of past s ≡ Some v → IsHeld past v
+  held : (past : Past) → IsRunOf starts says clusters sessions None past → base_of past s ≡ Some v → IsHeld past v
   held past run is = (sound_run clusters sessions nodes starts says past run).bases s v is
 
   -- a base doesn't see what is drawn after it
-  draw_unseen : {A : Type 0} (d : Draw) (past : Past) → IsRunOf starts says clusters sessions (event.Draw d ∷ past) → base_of past s ≡ Some v → sees v d.revision ≡ true → A
+  draw_unseen : {A : Type 0} (d : Draw) (past : Past) → IsRunOf starts says clusters sessions None (event.Draw d ∷ past) → base_of past s ≡ Some v → sees v d.revision ≡ true → A
   draw_unseen d past run is seen =
       let sound = sound_run clusters sessions nodes starts says past run.1 in
       absurd ((held past run.1 is).good.behind d.revision (inr (above clusters sessions nodes past sound d (nodes.node d.session d.revision.cluster run.0.cluster) run.0.next)) seen)
 
   -- what the base of a session sees of the draws by now had ended before others added events
-  had_ended : (whole added past : Past) → IsRunOf starts says clusters sessions (added ++ past) → list_any (is_event_of whole s) added ≡ false → base_of past s ≡ Some v → HadEnded starts says clusters sessions v past (added ++ past)
+  had_ended : (whole added past : Past) → IsRunOf starts says clusters sessions None (added ++ past) → list_any (is_event_of whole s) added ≡ false → base_of past s ≡ Some v → HadEnded starts says clusters sessions None v past (added ++ past)
   had_ended whole [] past run others is = λ r drawn seen. held_settled past v (held past run is) r drawn seen
   had_ended whole (event.Draw d ∷ added) past run others is = λ r drawn seen.
       elim (is_same r d.revision) as (λ b. is_same r d.revision ≡ b → is_some (cond b (Some d) (draw_of (added ++ past) r)) ≡ true → is_ended past r ≡ true) [
@@ -43,11 +43,11 @@ module _ (clusters : ℕ) (sessions : List ℕ) (nodes : AreNodes clusters sessi
   had_ended whole (e ∷ added) past run others is = had_ended whole added past run.1 (neither (is_event_of whole s e) _ others).1 is
 
 module _ (clusters : ℕ) (sessions : List ℕ) (nodes : AreNodes clusters sessions) (starts : Starts) (says : Says) (s : ℕ) where
-  at_base : (now past : Past) (o : Option RevVec) → ((v : RevVec) → o ≡ Some v → tree_at now v ≡ tree_at past v) → option_map_or (tree_at now) o initial_tree ≡ option_map_or (tree_at past) o initial_tree
+  at_base : (now past : Past) (o : Option RevVec) → ((v : RevVec) → o ≡ Some v → tree_at None now v ≡ tree_at None past v) → option_map_or (tree_at None now) o initial_tree ≡ option_map_or (tree_at None past) o initial_tree
   at_base now past None same = refl
   at_base now past (Some v) same = same v refl
 
-  pub base_tree_stays : (whole added past : Past) → IsRunOf starts says clusters sessions (added ++ past) → list_any (is_event_of whole s) added ≡ false → base_tree (added ++ past) s ≡ base_tree past s
+  pub base_tree_stays : (whole added past : Past) → IsRunOf starts says clusters sessions None (added ++ past) → list_any (is_event_of whole s) added ≡ false → base_tree (added ++ past) s ≡ base_tree past s
   base_tree_stays whole added past run others =
-      ap (λ (o : Option RevVec). option_map_or (tree_at (added ++ past)) o initial_tree) (base_stays whole added past s others)
-      ∙ at_base (added ++ past) past (base_of past s) (λ v is. tree_stays starts says clusters sessions v past added run (had_ended clusters sessions nodes starts says s v whole added past run others is))
+      ap (λ (o : Option RevVec). option_map_or (tree_at None (added ++ past)) o initial_tree) (base_stays whole added past s others)
+      ∙ at_base (added ++ past) past (base_of past s) (λ v is. tree_stays starts says clusters sessions None v past added run (had_ended clusters sessions nodes starts says s v whole added past run others is))

@@ -10,7 +10,7 @@ use Rattle.jr_tree.specs.Edits.{IsProper, applied}
 use Rattle.oak_clash.specs.declared.mark.MarkAt.{MarkAt}
 use Rattle.oak_machine.specs.declared.event.Event.{Event}
 use Rattle.oak_machine.specs.declared.event.Event.TheVariants as event
-use Rattle.oak_machine.specs.History.{Past}
+use Rattle.oak_machine.specs.History.{Begin, History, Past}
 use Rattle.oak_machine.specs.Commits.{is_commit_of, is_committed, is_ended, is_end_of, tree_at}
 use Rattle.oak_machine.specs.Laws.{Starts, Says, StartsProper, is_event_of, is_of_item}
 use Rattle.oak_machine.specs.Marks.{marks_for}
@@ -30,12 +30,12 @@ use Rattle.core_law.proofs.Passing.{next_stays, pending_stays, drawn_stays, refr
 -- what it lets start is proper on the tree at the base, with the marks of its writes
 pub proper_starts : (law : Orders) → StartsProper (λ h s edit marks. MayStart law h s edit marks)
 proper_starts law h s edit marks v base starts =
-    let same : base_tree h.past s ≡ tree_at h.past v = ap (λ (o : Option RevVec). option_map_or (tree_at h.past) o initial_tree) base in (
+    let same : base_tree h.past s ≡ tree_at h.begin h.past v = ap (λ (o : Option RevVec). option_map_or (tree_at None h.past) o initial_tree) base ∙ ap (λ (b : Begin). tree_at b h.past v) (sym starts.begun) in (
       subst (λ (t : Nodes). IsProper t edit.writes) same starts.plan.proper,
       ap (filter is_of_item) (sym starts.plan.marked) ∙ ap (λ (t : Nodes). filter is_of_item (marks_for t edit.writes)) same,
     )
 
-module _ (law : Orders) (starts : Starts) (says : Says) (clusters : ℕ) (sessions : List ℕ) (nodes : AreNodes clusters sessions) (s : ℕ) (added past : Past) (run : IsRunOf starts says clusters sessions past) (later : IsRunOf starts says clusters sessions (added ++ past)) (others : list_any (is_event_of (added ++ past) s) added ≡ false) where
+module _ (law : Orders) (starts : Starts) (says : Says) (clusters : ℕ) (sessions : List ℕ) (nodes : AreNodes clusters sessions) (s : ℕ) (added past : Past) (run : IsRunOf starts says clusters sessions None past) (later : IsRunOf starts says clusters sessions None (added ++ past)) (others : list_any (is_event_of (added ++ past) s) added ≡ false) where
   tree_same : base_tree (added ++ past) s ≡ base_tree past s
   tree_same = base_tree_stays clusters sessions nodes starts says s (added ++ past) added past later others
 
@@ -43,7 +43,7 @@ module _ (law : Orders) (starts : Starts) (says : Says) (clusters : ℕ) (sessio
   pending_same = pending_stays law (added ++ past) added past s others
 
   view_same : view_of law (added ++ past) s ≡ view_of law past s
-  view_same = ap (λ (t : Nodes). applied t (pending_of law (added ++ past) s)) tree_same ∙ ap (applied (base_tree past s)) pending_same
+  view_same = ap (λ (t : Nodes). applied None t (pending_of law (added ++ past) s)) tree_same ∙ ap (applied None (base_tree past s)) pending_same
 
   drawn_same : drawn_since (added ++ past) s ≡ drawn_since past s
   drawn_same = drawn_stays (added ++ past) added past s others
@@ -53,8 +53,9 @@ module _ (law : Orders) (starts : Starts) (says : Says) (clusters : ℕ) (sessio
   still_open None ended h = refl
   still_open (Some r) ended h = uncommitted_stays starts says clusters sessions past r (ended r refl) added later h
 
-  pub starts_same : (edit : _) (marks : List MarkAt) → MayStart law (record { clusters = clusters; sessions = sessions; past = past }) s edit marks → MayStart law (record { clusters = clusters; sessions = sessions; past = added ++ past }) s edit marks
+  pub starts_same : (edit : _) (marks : List MarkAt) → MayStart law (record { clusters = clusters; sessions = sessions; begin = None; past = past }) s edit marks → MayStart law (record { clusters = clusters; sessions = sessions; begin = None; past = added ++ past }) s edit marks
   starts_same edit marks may = record {
+    begun = refl;
     saving = ap (command_at law s) (next_stays (added ++ past) added past s others) ∙ may.saving;
     first = drawn_same ∙ may.first;
     pending = may.pending ∙ sym pending_same;
@@ -83,6 +84,7 @@ module _ (law : Orders) (starts : Starts) (says : Says) (clusters : ℕ) (sessio
     pending = pending_same ∙ over.pending;
     from = over.from;
     to = over.to;
+    born = over.born;
     idle = idle_stays (added ++ past) added past s others over.idle;
     uncommitted = ap (λ (o : Option Revision). option_map_or (is_committed (added ++ past)) o false) drawn_same ∙ still_open (drawn_since past s) (λ r is. ended_since past s r over.idle is) over.uncommitted;
   }
@@ -90,12 +92,21 @@ module _ (law : Orders) (starts : Starts) (says : Says) (clusters : ℕ) (sessio
   pub turn_same : (base view : Nodes) → IsTurn law past s base view → IsTurn law (added ++ past) s base view
   turn_same base view turn = record { over = over_same base view turn.over; fresh = drawn_same ∙ turn.fresh }
 
+-- a run that begins before any commit
+run_from : (law : Orders) (h : History) → h.begin ≡ None → (past : Past) → IsRunOf (λ h s edit marks. MayStart law h s edit marks) (λ h s i text. SaysBy law h s i text) h.clusters h.sessions h.begin past
+    → IsRunOf (λ h s edit marks. MayStart law h s edit marks) (λ h s i text. SaysBy law h s i text) h.clusters h.sessions None past
+run_from law h begun past run = subst (λ (b : Begin). IsRunOf (λ h s edit marks. MayStart law h s edit marks) (λ h s i text. SaysBy law h s i text) h.clusters h.sessions b past) begun run
+
 pub starts_last : (law : Orders) → StartsLast (λ h s edit marks. MayStart law h s edit marks) (λ h s i text. SaysBy law h s i text)
-starts_last law h added s edit marks nodes run later others may = starts_same law (λ h s edit marks. MayStart law h s edit marks) (λ h s i text. SaysBy law h s i text) h.clusters h.sessions nodes s added h.past run later others edit marks may
+starts_last law h added s edit marks nodes run later others may =
+    let begun : h.begin ≡ None = may.begun in
+    subst (λ (b : Begin). MayStart law (record { clusters = h.clusters; sessions = h.sessions; begin = b; past = added ++ h.past }) s edit marks) (sym begun)
+    (starts_same law (λ h s edit marks. MayStart law h s edit marks) (λ h s i text. SaysBy law h s i text) h.clusters h.sessions nodes s added h.past (run_from law h begun h.past run) (run_from law h begun (added ++ h.past) later) others edit marks
+    (subst (λ (b : Begin). MayStart law (record { clusters = h.clusters; sessions = h.sessions; begin = b; past = h.past }) s edit marks) begun may))
 
 pub says_last : (law : Orders) → SaysLast (λ h s edit marks. MayStart law h s edit marks) (λ h s i text. SaysBy law h s i text)
-says_last law h added s i text nodes run later others (c, a, command, is, may) =
-    (c, a, command, is, says_same law (λ h s edit marks. MayStart law h s edit marks) (λ h s i text. SaysBy law h s i text) h.clusters h.sessions nodes s added h.past run later others c a may)
+says_last law h added s i text nodes run later others (begun, (c, a, command, is, may)) =
+    (begun, (c, a, command, is, says_same law (λ h s edit marks. MayStart law h s edit marks) (λ h s i text. SaysBy law h s i text) h.clusters h.sessions nodes s added h.past (run_from law h begun h.past run) (run_from law h begun (added ++ h.past) later) others c a may))
 
 -- the end of a split or of a collection says nothing of what these commands may be answered with
 module _ (law : Orders) (past : Past) (s : ℕ) where
@@ -138,5 +149,5 @@ module _ (law : Orders) (past : Past) (s : ℕ) where
   with_end e h c a may = absurd (false≢true h)
 
 pub says_last_behind : (law : Orders) → SaysLastBehind (λ h s edit marks. MayStart law h s edit marks) (λ h s i text. SaysBy law h s i text)
-says_last_behind law h added e s i text nodes end run later others (c, a, command, is, may) =
-    (c, a, command, is, with_end law (added ++ h.past) s e end c a (says_same law (λ h s edit marks. MayStart law h s edit marks) (λ h s i text. SaysBy law h s i text) h.clusters h.sessions nodes s added h.past run.1 later.1 others c a (without_end law h.past s e end c a may)))
+says_last_behind law h added e s i text nodes end run later others (begun, (c, a, command, is, may)) =
+    (begun, (c, a, command, is, with_end law (added ++ h.past) s e end c a (says_same law (λ h s edit marks. MayStart law h s edit marks) (λ h s i text. SaysBy law h s i text) h.clusters h.sessions nodes s added h.past (run_from law h begun h.past run.1) (run_from law h begun (added ++ h.past) later.1) others c a (without_end law h.past s e end c a may))))

@@ -1,5 +1,5 @@
 -- What a history says of a session stays as it is while events of others are added.
-use Rattle.std.proofs.Common.{◌≡◌, ℕ, Bool, true, false, cond, ◌||◌, ◌&&◌, not, Some, List, [], ◌∷◌, ◌++◌, is_some, arith, refl, sym, ap, ◌∙◌, subst}
+use Rattle.std.proofs.Common.{◌≡◌, ℕ, Bool, true, false, cond, ◌||◌, ◌&&◌, not, Some, List, [], ◌∷◌, ◌++◌, is_some, arith, refl, sym, ap, ◌∙◌, subst, None}
 use Rattle.std.specs.Prelude.{◌==◌, ◌+◌}
 use Rattle.std.specs.Option.{unwrap_or}
 use Rattle.std.specs.List.{fold, list_any}
@@ -79,7 +79,7 @@ module _ (starts : Starts) (says : Says) (clusters : ℕ) (sessions : List ℕ) 
   lands added q same flying = flies_not (is_drawn (added ++ past) q) (is_ended (added ++ past) q) flying (any_later (is_end_of q) added past (subst (λ (x : Revision). is_ended past x ≡ true) (same_revision r q same) ended))
 
   -- what has ended isn't committed later
-  pub uncommitted_stays : (added : Past) → IsRunOf starts says clusters sessions (added ++ past) → is_committed past r ≡ false → is_committed (added ++ past) r ≡ false
+  pub uncommitted_stays : (added : Past) → IsRunOf starts says clusters sessions None (added ++ past) → is_committed past r ≡ false → is_committed (added ++ past) r ≡ false
   uncommitted_stays [] run h = h
   uncommitted_stays (event.Commit q ∷ added) run h = elim (is_same r q) as (λ b. is_same r q ≡ b → (b || is_committed (added ++ past) r) ≡ false) [
     | true ↦ λ same. lands added q same run.0.open_.in_flight
@@ -88,7 +88,7 @@ module _ (starts : Starts) (says : Says) (clusters : ℕ) (sessions : List ℕ) 
   uncommitted_stays (e ∷ added) run h = uncommitted_stays added run.1 h
 
   -- nor refused later
-  pub refusal_stays : (added : Past) → IsRunOf starts says clusters sessions (added ++ past) → refusal_of (added ++ past) r ≡ refusal_of past r
+  pub refusal_stays : (added : Past) → IsRunOf starts says clusters sessions None (added ++ past) → refusal_of (added ++ past) r ≡ refusal_of past r
   refusal_stays [] run = refl
   refusal_stays (event.Refuse q item o ∷ added) run = elim (is_same r q) as (λ b. is_same r q ≡ b → cond b (Some (item, o)) (refusal_of (added ++ past) r) ≡ refusal_of past r) [
     | true ↦ λ same. lands added q same run.0.open_.in_flight

@@ -24,7 +24,8 @@ use Rattle.oak_machine.specs.declared.event.Draw.{Draw}
 use Rattle.oak_machine.specs.declared.event.Event.{Event}
 use Rattle.oak_machine.specs.declared.event.Event.TheVariants as event
 use Rattle.oak_machine.specs.History.{Past}
-use Rattle.oak_machine.specs.Commits.{committed_edits, draw_of, is_committed, is_ended, tree_at}
+use Rattle.jr_tree.proofs.Undated.{proper_tree}
+use Rattle.oak_machine.specs.Commits.{applied_all, committed_edits, draw_of, is_committed, is_ended, tree_at}
 use Rattle.oak_machine.specs.Sessions.{base_of, drawn_among, drawn_since, is_drawing, refreshed_among, refreshed_since, since}
 use Rattle.oak_machine.proofs.Induction.{other}
 use Rattle.jcr_trans.specs.declared.command.Command.TheVariants as command
@@ -162,15 +163,12 @@ each_end : (P : Revision → Type 0) (r : Revision) (ws : List Write) (es : List
 each_end P r ws [] h p = (p, tt)
 each_end P r ws (e ∷ es) h p = (h.0, each_end P r ws es h.1 p)
 
-abbrev applied_all : Nodes → List (Revision × List Write) → Nodes
-applied_all t es = fold (λ t e. applied t e.1) t es
-
-one_more : (t : Nodes) (r : Revision) (ws : List Write) (es : List (Revision × List Write)) → applied_all t (es ++ (r, ws) ∷ []) ≡ applied (applied_all t es) ws
+one_more : (t : Nodes) (r : Revision) (ws : List Write) (es : List (Revision × List Write)) → applied_all t (es ++ (r, ws) ∷ []) ≡ applied (Some r) (applied_all t es) ws
 one_more t r ws [] = refl
-one_more t r ws (e ∷ es) = one_more (applied t e.1) r ws es
+one_more t r ws (e ∷ es) = one_more (applied (Some e.0) t e.1) r ws es
 
 -- bases that see all that is committed see one tree
-pub one_tree : (past : Past) (v w : RevVec) → ((q : Revision) → is_committed past q ≡ true → sees v q ≡ true) → ((q : Revision) → is_committed past q ≡ true → sees w q ≡ true) → tree_at past v ≡ tree_at past w
+pub one_tree : (past : Past) (v w : RevVec) → ((q : Revision) → is_committed past q ≡ true → sees v q ≡ true) → ((q : Revision) → is_committed past q ≡ true → sees w q ≡ true) → tree_at None past v ≡ tree_at None past w
 one_tree past v w seen seen_too =
     ap (λ (es : List (Revision × List Write)). applied_all initial_tree es)
     (all_seen v (committed_edits past) (each_more _ _ seen (committed_edits past) (edits_committed past)) ∙ sym (all_seen w (committed_edits past) (each_more _ _ seen_too (committed_edits past) (edits_committed past))))
@@ -225,27 +223,27 @@ module _ (law : Orders) (s : ℕ) (past : Past) (r : Revision) (v w : RevVec) (e
 
         module _ (seen : (q : Revision) → is_committed past q ≡ true → sees v q ≡ true) (seen_now : (q : Revision) → is_committed now q ≡ true → sees w q ≡ true) (later : (q : Revision) → is_committed past q ≡ true → revision_cmp r q ≡ Greater) where
           -- where each base sees all that is committed, the tree that the base then sees is the tree before with the edit applied
-          pub tree_saved : tree_at now w ≡ applied (tree_at past v) edit.writes
+          pub tree_saved : tree_at None now w ≡ applied (Some r) (tree_at None past v) edit.writes
           tree_saved =
               let end = at_end r edit.writes (committed_edits past) (each_more _ _ later (committed_edits past) (edits_committed past)) in
               ap (λ (es : List (Revision × List Write)). applied_all initial_tree es)
               (all_seen w (committed_edits now) (each_more _ _ seen_now (committed_edits now) (edits_committed now)) ∙ (all_edits ∙ end))
               ∙ (one_more initial_tree r edit.writes (committed_edits past)
-              ∙ ap (λ (es : List (Revision × List Write)). applied (applied_all initial_tree es) edit.writes) (sym (all_seen v (committed_edits past) (each_more _ _ seen (committed_edits past) (edits_committed past)))))
+              ∙ ap (λ (es : List (Revision × List Write)). applied (Some r) (applied_all initial_tree es) edit.writes) (sym (all_seen v (committed_edits past) (each_more _ _ seen (committed_edits past) (edits_committed past)))))
 
-          module _ (clusters : ℕ) (sessions : List ℕ) (start : MayStart law (record { clusters = clusters; sessions = sessions; past = past }) s edit marks) (based : base_of past s ≡ Some v) (end : is_ended now r ≡ true) (idle : is_drawing now s ≡ false) (i : ℕ) (is : command_at law s i ≡ Some command.Save) where
+          module _ (clusters : ℕ) (sessions : List ℕ) (start : MayStart law (record { clusters = clusters; sessions = sessions; begin = None; past = past }) s edit marks) (based : base_of past s ≡ Some v) (end : is_ended now r ≡ true) (idle : is_drawing now s ≡ false) (i : ℕ) (is : command_at law s i ≡ Some command.Save) where
             -- its reply may be said
-            pub says_after_save : SaysBy law (record { clusters = clusters; sessions = sessions; past = now }) s i (answer_text (ShowsRevision r))
-            says_after_save = says_saved law (record { clusters = clusters; sessions = sessions; past = now }) s i [] [] r w is is_drawn_now end is_committed_now is_moved_now (seen_now r is_committed_now)
+            pub says_after_save : SaysBy law (record { clusters = clusters; sessions = sessions; begin = None; past = now }) s i (answer_text (ShowsRevision r))
+            says_after_save = says_saved law (record { clusters = clusters; sessions = sessions; begin = None; past = now }) refl s i [] [] r w is is_drawn_now end is_committed_now is_moved_now (seen_now r is_committed_now)
 
-            tree_is : IsTree (tree_at now w)
-            tree_is = subst IsTree (sym (tree_saved ∙ ap (λ (t : Nodes). applied t edit.writes) (sym (ap (λ (o : Option RevVec). option_map_or (tree_at past) o initial_tree) based)))) start.plan.proper.tree
+            tree_is : IsTree (tree_at None now w)
+            tree_is = subst IsTree (sym (tree_saved ∙ ap (λ (t : Nodes). applied (Some r) t edit.writes) (sym (ap (λ (o : Option RevVec). option_map_or (tree_at None past) o initial_tree) based)))) (proper_tree (Some r) (base_tree past s) edit.writes start.plan.proper)
 
-            base_is : tree_at now w ≡ base_tree now s
-            base_is = sym (ap (λ (o : Option RevVec). option_map_or (tree_at now) o initial_tree) base_now)
+            base_is : tree_at None now w ≡ base_tree now s
+            base_is = sym (ap (λ (o : Option RevVec). option_map_or (tree_at None now) o initial_tree) base_now)
 
             -- and then the session stands at the tree of its new base, with nothing pending
-            pub turn_after_save : (base : Nodes) → base ≡ tree_at now w → IsTurn law (event.Said s i (answer_text (ShowsRevision r)) ∷ now) s base base
+            pub turn_after_save : (base : Nodes) → base ≡ tree_at None now w → IsTurn law (event.Said s i (answer_text (ShowsRevision r)) ∷ now) s base base
             turn_after_save base same = turn_saved law now s i r base is (same ∙ base_is) idle (subst IsTree (sym same) tree_is)
 
   -- ---- a save that is called off
@@ -253,14 +251,15 @@ module _ (law : Orders) (s : ℕ) (past : Past) (r : Revision) (v w : RevVec) (e
   -- the session stands where it stood, and what it drew isn't committed
   pub over_after_call : (now : Past) → IsLike law s now drawn_now → (base view : Nodes) → IsOver law past s base view → is_committed past r ≡ false → is_drawing now s ≡ false → IsOver law now s base view
   over_after_call now like base view over fresh idle = record {
-    base_is = over.base_is ∙ sym (ap (λ (o : Option RevVec). option_map_or (tree_at now) o initial_tree) like.base ∙ same_trees (base_of past s));
+    base_is = over.base_is ∙ sym (ap (λ (o : Option RevVec). option_map_or (tree_at None now) o initial_tree) like.base ∙ same_trees (base_of past s));
     pending = like.pending ∙ over.pending;
     from = over.from;
     to = over.to;
+    born = over.born;
     idle = idle;
     uncommitted = ap (λ (o : Option Revision). option_map_or (is_committed now) o false) (like.drawn ∙ drawn_is) ∙ (like.committed r ∙ fresh);
   }
     where
-      same_trees : (o : Option RevVec) → option_map_or (tree_at now) o initial_tree ≡ option_map_or (tree_at past) o initial_tree
+      same_trees : (o : Option RevVec) → option_map_or (tree_at None now) o initial_tree ≡ option_map_or (tree_at None past) o initial_tree
       same_trees None = refl
       same_trees (Some u) = ap (λ (es : List (Revision × List Write)). applied_all initial_tree (filter (λ e. sees u e.0) es)) like.edits

@@ -11,9 +11,10 @@ use Rattle.jr_rev.specs.declared.revision.Revision.{Revision}
 use Rattle.jr_rev.specs.declared.vector.RevVec.{RevVec}
 use Rattle.jr_rev.specs.Vectors.{sees}
 use Rattle.jr_tree.specs.declared.edit.Write.{Write}
-use Rattle.jr_tree.specs.Trees.{Nodes, IsTree}
+use Rattle.jr_path.specs.declared.path.Path.{Path}
+use Rattle.jr_tree.specs.Trees.{born_at, Nodes, IsTree}
 use Rattle.jr_tree.specs.Edits.{IsProper, applied, changes}
-use Rattle.jr_tree.proofs.ChangesLaw.{changes_applied}
+use Rattle.jr_tree.proofs.ChangesLaw.{changes_exact}
 use Rattle.jr_tree.proofs.ProperChanges.{changes_proper, no_changes}
 use Rattle.oak_machine.specs.declared.event.Event.TheVariants as event
 use Rattle.oak_machine.specs.History.{History, Past}
@@ -31,7 +32,7 @@ use Rattle.core_law.specs.Law.{MayStart, MaySay, SaysBy, has_few_nodes, plain, h
 use Rattle.core_law.specs.State.{Orders, base_tree, command_at, is_ok_text, pending_after, pending_by, pending_of, pending_said, view_of}
 use Rattle.core_law.specs.Turns.{IsOver, IsTurn}
 use Rattle.core_law.proofs.Passing.{among_same}
-use Rattle.core_law.proofs.Views.{view_is_tree}
+use Rattle.core_law.proofs.Views.{view_is_tree, view_born}
 
 -- ---- which answers accept
 
@@ -94,6 +95,7 @@ module _ (law : Orders) (past : Past) (s i : ℕ) (text : Text) where
       pending = pending_is ∙ (ap (λ b. cond b (option_map_or (λ c. pending_after c (base_tree past s) (pending_of law past s)) (command_at law s i) (pending_of law past s)) (pending_of law past s)) refused ∙ over.pending);
       from = over.from;
       to = over.to;
+      born = over.born;
       idle = idle_said over.idle;
       uncommitted = ap (λ (o : Option Revision). option_map_or (is_committed said) o false) fresh_said;
     };
@@ -101,8 +103,9 @@ module _ (law : Orders) (past : Past) (s i : ℕ) (text : Text) where
   }
 
   -- after a reply that accepts, what is pending is what the command leaves
-  pub turn_accepted : (c : Command) (base view : Nodes) → command_at law s i ≡ Some c → is_ok_text text ≡ true → base ≡ base_tree past s → is_drawing past s ≡ false → pending_after c (base_tree past s) (pending_of law past s) ≡ changes base view → IsTree base → IsTree view → IsTurn law said s base view
-  turn_accepted c base view is accepted same idle left from to = record {
+  pub turn_accepted : (c : Command) (base view : Nodes) → command_at law s i ≡ Some c → is_ok_text text ≡ true → base ≡ base_tree past s → is_drawing past s ≡ false → pending_after c (base_tree past s) (pending_of law past s) ≡ changes base view → IsTree base → IsTree view
+      → ((p : Path) → born_at view p ≡ born_at base p) → IsTurn law said s base view
+  turn_accepted c base view is accepted same idle left from to born = record {
     over = record {
       base_is = same;
       pending =
@@ -111,6 +114,7 @@ module _ (law : Orders) (past : Past) (s i : ℕ) (text : Text) where
           ∙ (ap (λ o. option_map_or (λ c. pending_after c (base_tree past s) (pending_of law past s)) o (pending_of law past s)) is ∙ left));
       from = from;
       to = to;
+      born = born;
       idle = idle_said idle;
       uncommitted = ap (λ (o : Option Revision). option_map_or (is_committed said) o false) fresh_said;
     };
@@ -119,42 +123,43 @@ module _ (law : Orders) (past : Past) (s i : ℕ) (text : Text) where
 
 -- ---- between two commands
 
-module _ (law : Orders) (h : History) (s i : ℕ) (base view : Nodes) where
+module _ (law : Orders) (h : History) (begun : h.begin ≡ None) (s i : ℕ) (base view : Nodes) where
   -- the view is the tree at the base with what is pending
   pub view_is : IsOver law h.past s base view → view_of law h.past s ≡ view
-  view_is over = ap (λ (t : Nodes). applied t (pending_of law h.past s)) (sym over.base_is) ∙ (ap (applied base) over.pending ∙ changes_applied base view over.from over.to)
+  view_is over = ap (λ (t : Nodes). applied None t (pending_of law h.past s)) (sym over.base_is) ∙ (ap (applied None base) over.pending ∙ changes_exact base view over.from over.to over.born)
 
   -- a reading or view command may be answered by the view
   pub says_view : (c : Command) → IsOver law h.past s base view → command_at law s i ≡ Some c → is_plain c ≡ true → SaysBy law h s i (answer_text (answered c view))
-  says_view c over is p = (c, answered c view, is, refl, subst (λ (t : Nodes). MaySay law h.past s c (answered c t)) (view_is over) (plain c p))
+  says_view c over is p = (begun, (c, answered c view, is, refl, subst (λ (t : Nodes). MaySay law h.past s c (answered c t)) (view_is over) (plain c p)))
 
   -- each command may be answered with want of memory, where nothing was committed for it
   pub says_memory : (c : Command) → IsOver law h.past s base view → command_at law s i ≡ Some c → SaysBy law h s i (answer_text out_of_memory)
-  says_memory c over is = (c, out_of_memory, is, refl, memory c over.idle over.uncommitted)
+  says_memory c over is = (begun, (c, out_of_memory, is, refl, memory c over.idle over.uncommitted))
 
   -- a save with nothing pending may be answered so
   pub says_unchanged : IsTurn law h.past s base view → command_at law s i ≡ Some command.Save → changes base view ≡ [] → SaysBy law h s i (answer_text ShowsNothing)
-  says_unchanged turn is none = (command.Save, ShowsNothing, is, refl, unchanged turn.fresh (turn.over.pending ∙ none))
+  says_unchanged turn is none = (begun, (command.Save, ShowsNothing, is, refl, unchanged turn.fresh (turn.over.pending ∙ none)))
 
   -- a save with too many nodes may be refused so
   pub says_too_many : IsTurn law h.past s base view → command_at law s i ≡ Some command.Save → has_few_nodes view ≡ false → SaysBy law h s i (answer_text too_many_nodes)
-  says_too_many turn is many = (command.Save, too_many_nodes, is, refl, too_many turn.fresh (ap has_few_nodes (view_is turn.over) ∙ many))
+  says_too_many turn is many = (begun, (command.Save, too_many_nodes, is, refl, too_many turn.fresh (ap has_few_nodes (view_is turn.over) ∙ many)))
 
   -- a `head` may be answered with the base
   pub says_head : (v : RevVec) → command_at law s i ≡ Some command.Head → base_of h.past s ≡ Some v → SaysBy law h s i (answer_text (ShowsVector v))
-  says_head v is at = (command.Head, ShowsVector v, is, refl, head v at)
+  says_head v is at = (begun, (command.Head, ShowsVector v, is, refl, head v at))
 
   -- a refresh may be answered with the vector to which the base moved for it
   pub says_refreshed : (v : RevVec) → command_at law s i ≡ Some (command.Refresh false) → refreshed_since h.past s ≡ Some v → SaysBy law h s i (answer_text (ShowsVector v))
-  says_refreshed v is at = (command.Refresh false, ShowsVector v, is, refl, refreshed v at)
+  says_refreshed v is at = (begun, (command.Refresh false, ShowsVector v, is, refl, refreshed v at))
 
   -- a commit that was drawn for a save and is committed may be answered with its revision, once the base sees it
   pub says_saved : (r : Revision) (v : RevVec) → command_at law s i ≡ Some command.Save → drawn_since h.past s ≡ Some r → is_ended h.past r ≡ true → is_committed h.past r ≡ true → refreshed_since h.past s ≡ Some v → sees v r ≡ true → SaysBy law h s i (answer_text (ShowsRevision r))
-  says_saved r v is drawn ended committed moved seen = (command.Save, ShowsRevision r, is, refl, saved r v drawn ended committed moved seen)
+  says_saved r v is drawn ended committed moved seen = (begun, (command.Save, ShowsRevision r, is, refl, saved r v drawn ended committed moved seen))
 
   -- what is pending may start to be committed by a save
   pub may_start : IsTurn law h.past s base view → command_at law s (next_index h.past s) ≡ Some command.Save → (changes base view ≡ [] → ⊥) → has_few_nodes view ≡ true → MayStart law h s (record { writes = changes base view }) (marks_for [] (changes base view))
   may_start turn is some few = record {
+    begun = begun;
     saving = is;
     first = turn.fresh;
     pending = sym turn.over.pending;
@@ -162,7 +167,7 @@ module _ (law : Orders) (h : History) (s i : ℕ) (base view : Nodes) where
     plan = record {
       proper = subst (λ (t : Nodes). IsProper t (changes base view)) turn.over.base_is (changes_proper base view turn.over.from turn.over.to);
       marked = refl;
-      few = ap has_few_nodes (ap (λ (t : Nodes). applied t (changes base view)) (sym turn.over.base_is) ∙ changes_applied base view turn.over.from turn.over.to) ∙ few;
+      few = ap has_few_nodes (ap (λ (t : Nodes). applied None t (changes base view)) (sym turn.over.base_is) ∙ changes_exact base view turn.over.from turn.over.to turn.over.born) ∙ few;
     };
   }
 
@@ -190,7 +195,7 @@ module _ (law : Orders) (h : History) (s i : ℕ) (base view : Nodes) where
       by true k =
           turn_accepted law h.past s i (answer_text (answered c view)) c base (view_after c view) is
           (ap (λ a. is_ok_text (answer_text a)) (first_passes (checks c view) (shown c view) k) ∙ accepted_text (shown c view) (shows c view))
-          turn.over.base_is turn.over.idle left turn.over.from (view_is_tree c view turn.over.to)
+          turn.over.base_is turn.over.idle left turn.over.from (view_is_tree c view turn.over.to) (view_born c base view turn.over.born)
       by false k =
           subst (λ (t : Nodes). IsTurn law (event.Said s i (answer_text (answered c view)) ∷ h.past) s base t) (sym (ap (λ b. cond b (Rattle.jcr_trans.specs.Views.changed_view c view) view) k))
           (turn_refused law h.past s i (answer_text (answered c view)) base view turn.over (refused_text (answered c view) (first_refuses (checks c view) (shown c view) (each_refuses c view) k)))
@@ -205,16 +210,16 @@ module _ (law : Orders) (h : History) (s i : ℕ) (base view : Nodes) where
 
   -- after a `head`
   pub turn_head : (v : RevVec) → IsTurn law h.past s base view → command_at law s i ≡ Some command.Head → IsTurn law (event.Said s i (answer_text (ShowsVector v)) ∷ h.past) s base view
-  turn_head v turn is = turn_accepted law h.past s i (answer_text (ShowsVector v)) command.Head base view is refl turn.over.base_is turn.over.idle turn.over.pending turn.over.from turn.over.to
+  turn_head v turn is = turn_accepted law h.past s i (answer_text (ShowsVector v)) command.Head base view is refl turn.over.base_is turn.over.idle turn.over.pending turn.over.from turn.over.to turn.over.born
 
   -- after a save with nothing pending
   pub turn_unchanged : IsTurn law h.past s base view → command_at law s i ≡ Some command.Save → changes base view ≡ [] → IsTurn law (event.Said s i (answer_text ShowsNothing) ∷ h.past) s base view
-  turn_unchanged turn is none = turn_accepted law h.past s i (answer_text ShowsNothing) command.Save base view is refl turn.over.base_is turn.over.idle (sym none) turn.over.from turn.over.to
+  turn_unchanged turn is none = turn_accepted law h.past s i (answer_text ShowsNothing) command.Save base view is refl turn.over.base_is turn.over.idle (sym none) turn.over.from turn.over.to turn.over.born
 
 -- after a save whose commit the base sees
 pub turn_saved : (law : Orders) (past : Past) (s i : ℕ) (r : Revision) (base : Nodes) → command_at law s i ≡ Some command.Save → base ≡ base_tree past s → is_drawing past s ≡ false → IsTree base → IsTurn law (event.Said s i (answer_text (ShowsRevision r)) ∷ past) s base base
-turn_saved law past s i r base is same idle tree = turn_accepted law past s i (answer_text (ShowsRevision r)) command.Save base base is refl same idle (sym (no_changes base tree)) tree tree
+turn_saved law past s i r base is same idle tree = turn_accepted law past s i (answer_text (ShowsRevision r)) command.Save base base is refl same idle (sym (no_changes base tree)) tree tree (λ p. refl)
 
 -- after a refresh: nothing is pending at the base to which it moved
 pub turn_refreshed : (law : Orders) (past : Past) (s i : ℕ) (v : RevVec) (base : Nodes) → command_at law s i ≡ Some (command.Refresh false) → base ≡ base_tree past s → is_drawing past s ≡ false → IsTree base → IsTurn law (event.Said s i (answer_text (ShowsVector v)) ∷ past) s base base
-turn_refreshed law past s i v base is same idle tree = turn_accepted law past s i (answer_text (ShowsVector v)) (command.Refresh false) base base is refl same idle (sym (no_changes base tree)) tree tree
+turn_refreshed law past s i v base is same idle tree = turn_accepted law past s i (answer_text (ShowsVector v)) (command.Refresh false) base base is refl same idle (sym (no_changes base tree)) tree tree (λ p. refl)

@@ -14,12 +14,12 @@ use Rattle.jr_path.proofs.Maps.{path_total, lookup-insert_entry}
 use Rattle.jr_value.specs.declared.value.Property.{Property}
 use Rattle.jr_tree.specs.declared.tree.Node.{Node}
 use Rattle.jr_tree.specs.declared.edit.Write.TheVariants as write
-use Rattle.jr_tree.specs.Trees.{Nodes, node_at, has_parent, node_of_type, IsTree}
+use Rattle.jr_tree.specs.Trees.{Nodes, born_of, born_at, node_at, has_parent, node_of_type, IsTree}
 use Rattle.jr_tree.specs.Edits.{with_property_write}
 use Rattle.jr_tree.proofs.Entries.{exactly, first, second, both, none_below, sorted_insert}
 use Rattle.jr_tree.proofs.Pointwise.{same_path}
 use Rattle.jr_tree.proofs.AtPath.{InOrder, filled, node_at-filled, order-filled}
-use Rattle.jr_tree.proofs.EditLaw.{IsOrderly, Orderly-all, Orderly-filled}
+use Rattle.jr_tree.proofs.EditLaw.{IsOrderly, Orderly-all, Orderly-filled, filled_born}
 use Rattle.jcr_trans.specs.declared.command.Command.{Command}
 use Rattle.jcr_trans.specs.Commands.{Built, Adds, Sets, Gets, Lists, Saves, Refreshes, ShowsBase, NotBuilt, built}
 use Rattle.jcr_trans.specs.Views.{changed_by, checks, checks_of, passes, view_after, depth_limit, length_limit, not_system, parent_stands, place_is_free}
@@ -105,7 +105,7 @@ module _ (t : Nodes) (tree : IsTree t) (p : Path) (n : Name) (x : Property) wher
   set_has : (q : Path) → is_some (node_at set q) ≡ is_some (node_at t q)
   set_has q = ap is_some (set_at q) ∙ by (eq_by_cmp path_cmp q p) (node_at t q)
     where
-      by : (b : Bool) (o : Option Node) → is_some (cond b (option_map (λ node. record { props = insert_entry name_cmp node.props n x }) o) o) ≡ is_some o
+      by : (b : Bool) (o : Option Node) → is_some (cond b (option_map {T = Node} (λ node. record node { props = insert_entry name_cmp node.props n x }) o) o) ≡ is_some o
       by true None = refl
       by true (Some node) = refl
       by false o = refl
@@ -144,3 +144,31 @@ view_is_tree c t tree = by (built c) (passes (checks c t)) refl
     by ShowsBase true h = tree
     by (NotBuilt word) true h = tree
     by k false h = tree
+
+-- a command adds no node but a pending one, where there was none
+pub view_born : (c : Command) (base t : Nodes) → ((p : Path) → born_at t p ≡ born_at base p) → (p : Path) → born_at (view_after c t) p ≡ born_at base p
+view_born c base t born q = by (built c) (passes (checks c t)) refl
+  where
+    free : (k : Path) → is_some (node_at t k) ≡ false → None ≡ born_at base k
+    free k h = none (node_at t k) refl h
+      where
+        none : (o : Option Node) → node_at t k ≡ o → is_some o ≡ false → None ≡ born_at base k
+        none None e h = ap born_of (sym e) ∙ born k
+        none (Some node) e h = absurd (false≢true (sym h))
+
+    adds : (p : Path) (b : Bool) → eq_by_cmp path_cmp q p ≡ b → is_some (node_at t p) ≡ false → born_of (cond b (Some (node_of_type (codes "nt:unstructured"))) (node_at t q)) ≡ born_at base q
+    adds p true same h = free p h ∙ ap (born_at base) (sym (same_path q p same))
+    adds p false same h = born q
+
+    by : (k : Built) (b : Bool) → passes (checks_of k t) ≡ b → born_at (cond b (changed_by k t) t) q ≡ born_at base q
+    by (Adds p) true h =
+        ap born_of (lookup-insert_entry path_cmp path_total q p (node_of_type (codes "nt:unstructured")) t)
+        ∙ adds p (eq_by_cmp path_cmp q p) refl (unheld (place_is_free t p).test (first (not (place_is_free t p).test) (passes []) (second (not (parent_stands t p).test) _ (second (not (not_system p).test) _ (second (not (length_limit p).test) _ (second (not (depth_limit p).test) _ h))))))
+    by (Sets p n x) true h = ap born_of (node_at-filled t (write.Put p n x) q) ∙ (filled_born q (node_at t q) (write.Put p n x) ∙ born q)
+    by (Gets p) true h = born q
+    by (Lists p) true h = born q
+    by Saves true h = born q
+    by Refreshes true h = born q
+    by ShowsBase true h = born q
+    by (NotBuilt word) true h = born q
+    by k false h = born q

@@ -31,10 +31,11 @@ has_few_nodes t = nat_le (length t) 100000
 pub record IsPlan (t : Nodes) (edit : Edit) (marks : List MarkAt) : Type 0 where
   pub proper : IsProper t edit.writes
   pub marked : marks_for t edit.writes ≡ marks
-  pub few : IsTrue (has_few_nodes (applied t edit.writes))
+  pub few : IsTrue (has_few_nodes (applied None t edit.writes))
 
--- the next command of s is a save, nothing was drawn for it yet, and the edit is what is pending
+-- the history begins before any commit, the next command of s is a save, nothing was drawn for it yet, and the edit is what is pending
 pub record MayStart (law : Orders) (h : History) (s : ℕ) (edit : Edit) (marks : List MarkAt) : Type 0 where
+  pub begun : h.begin ≡ None
   pub saving : command_at law s (next_index h.past s) ≡ Some command.Save
   pub first : drawn_since h.past s ≡ None
   pub pending : edit.writes ≡ pending_of law h.past s
@@ -61,5 +62,9 @@ pub data MaySay (law : Orders) (past : Past) (s : ℕ) : Command → Answer → 
   memory : (c : Command) → IsFalse (is_drawing past s) → IsFalse (option_map_or (is_committed past) (drawn_since past s) false) → MaySay law past s c out_of_memory
 
 -- the text is that of an answer that the command of that index may have
+abbrev pub SaysOf : Orders → Past → ℕ → ℕ → Text → Type 0
+SaysOf law past s i text = (c : Command) × (a : Answer) × (command_at law s i ≡ Some c) × (text ≡ answer_text a) × MaySay law past s c a
+
+-- the same, in a history that begins before any commit
 abbrev pub SaysBy : Orders → History → ℕ → ℕ → Text → Type 0
-SaysBy law h s i text = (c : Command) × (a : Answer) × (command_at law s i ≡ Some c) × (text ≡ answer_text a) × MaySay law h.past s c a
+SaysBy law h s i text = (h.begin ≡ None) × SaysOf law h.past s i text

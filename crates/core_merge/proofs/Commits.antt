@@ -73,7 +73,7 @@ drawn true ended h = refl
 drawn false ended h = h
 
 module _ (clusters : ℕ) (sessions : List ℕ) (nodes : AreNodes clusters sessions) (starts : Starts) (says : Says) where
-  committed_drawn : (past : Past) → IsRunOf starts says clusters sessions past → (r : Revision) → is_committed past r ≡ true → is_drawn past r ≡ true
+  committed_drawn : (past : Past) → IsRunOf starts says clusters sessions None past → (r : Revision) → is_committed past r ≡ true → is_drawn past r ≡ true
   committed_drawn [] run r h = absurd (false≢true h)
   committed_drawn (event.Commit c ∷ past) run r h = by (is_same r c) refl h (λ k. committed_drawn past run.1 r k)
     where
@@ -88,7 +88,7 @@ module _ (clusters : ℕ) (sessions : List ℕ) (nodes : AreNodes clusters sessi
   committed_drawn (e ∷ past) run r h = committed_drawn past run.1 r h
 
   -- a later draw is of another revision than what is committed
-  draw_kept : (past : Past) (d : Draw) → IsRunOf starts says clusters sessions (event.Draw d ∷ past) → (r : Revision) → is_committed past r ≡ true → draw_of (event.Draw d ∷ past) r ≡ draw_of past r
+  draw_kept : (past : Past) (d : Draw) → IsRunOf starts says clusters sessions None (event.Draw d ∷ past) → (r : Revision) → is_committed past r ≡ true → draw_of (event.Draw d ∷ past) r ≡ draw_of past r
   draw_kept past d run r h = by (is_same r d.revision) refl
     where
       by : (b : Bool) → is_same r d.revision ≡ b → cond b (Some d) (draw_of past r) ≡ draw_of past r
@@ -96,7 +96,7 @@ module _ (clusters : ℕ) (sessions : List ℕ) (nodes : AreNodes clusters sessi
       by true e = absurd (false≢true (sym (ap is_some (ap (draw_of past) (same_revision r d.revision e) ∙ (fresh_run clusters sessions nodes starts says d past run).fresh)) ∙ committed_drawn past run.1 r h))
 
   -- of two commits that clash, the base of one sees the other
-  pub unseen_apart : (past : Past) → IsRunOf starts says clusters sessions past → (r o : Revision) → is_committed past r ≡ true → is_committed past o ≡ true → (r ≡ o → ⊥)
+  pub unseen_apart : (past : Past) → IsRunOf starts says clusters sessions None past → (r o : Revision) → is_committed past r ≡ true → is_committed past o ≡ true → (r ≡ o → ⊥)
       → is_in_base past r o ≡ false → is_in_base past o r ≡ false → are_clashing past r o ≡ false
   unseen_apart [] run r o c k other s t = absurd (false≢true c)
   unseen_apart (event.Commit x ∷ past) run r o c k other s t = by (is_same r x) refl (is_same o x) refl c k (λ c k. unseen_apart past run.1 r o c k other s t)
@@ -122,7 +122,7 @@ module _ (clusters : ℕ) (sessions : List ℕ) (nodes : AreNodes clusters sessi
   marks_is past r d drawn = ap (λ (x : Option Draw). option_map_or (λ d. d.marks) x []) drawn
 
   -- each draw has marked the parents of the nodes that it adds or removes
-  marked_draws : StartsMarkingParents starts → (past : Past) → IsRunOf starts says clusters sessions past → (r : Revision) (d : Draw) → draw_of past r ≡ Some d → MarkParents d.marks d.edit.writes
+  marked_draws : StartsMarkingParents starts → (past : Past) → IsRunOf starts says clusters sessions None past → (r : Revision) (d : Draw) → draw_of past r ≡ Some d → MarkParents d.marks d.edit.writes
   marked_draws marking [] run r d h = absurd (false≢true (ap is_some h))
   marked_draws marking (event.Draw e ∷ past) run r d h = by (is_same r e.revision) h (λ k. marked_draws marking past run.1 r d k)
     where
@@ -132,7 +132,7 @@ module _ (clusters : ℕ) (sessions : List ℕ) (nodes : AreNodes clusters sessi
   marked_draws marking (e ∷ past) run r d h = marked_draws marking past run.1 r d h
 
   -- the edit of what is committed is that of its draw
-  pub committed_edit : StartsProper starts → (past : Past) → IsRunOf starts says clusters sessions past → (r : Revision) (d : Draw) → is_committed past r ≡ true → draw_of past r ≡ Some d → edit_of past r ≡ Some d.edit.writes
+  pub committed_edit : StartsProper starts → (past : Past) → IsRunOf starts says clusters sessions None past → (r : Revision) (d : Draw) → is_committed past r ≡ true → draw_of past r ≡ Some d → edit_of past r ≡ Some d.edit.writes
   committed_edit proper [] run r d c h = absurd (false≢true c)
   committed_edit proper (event.Commit x ∷ past) run r d c h = by (draw_of past x) refl (λ k. committed_edit proper past run.1 r d k h)
     where
@@ -149,7 +149,7 @@ module _ (clusters : ℕ) (sessions : List ℕ) (nodes : AreNodes clusters sessi
   committed_edit proper (event.Draw e ∷ past) run r d c h = committed_edit proper past run.1 r d c (sym (draw_kept past e run r c) ∙ h)
   committed_edit proper (e ∷ past) run r d c h = committed_edit proper past run.1 r d c h
 
-  module _ (proper : StartsProper starts) (marking : StartsMarkingParents starts) (past : Past) (run : IsRunOf starts says clusters sessions past) where
+  module _ (proper : StartsProper starts) (marking : StartsMarkingParents starts) (past : Past) (run : IsRunOf starts says clusters sessions None past) where
     told : IsTold past
     told = told_past clusters sessions nodes starts says proper past run
 

@@ -23,7 +23,7 @@ use Rattle.oak_clash.specs.declared.mark.MarkAt.{MarkAt}
 use Rattle.oak_clash.specs.Clashes.{clash, clashing}
 use Rattle.oak_clash.proofs.Marks.{clash-symm}
 use Rattle.oak_machine.specs.Marks.{Marked, marks_for, marks_of_node, marks_of_write, mark_cmp, mark_at_cmp, with_marks}
-use Rattle.core_read.specs.Items.{here_of, written}
+use Rattle.jr_tree.specs.Items.{here_of, written}
 use Rattle.core_read.specs.Told.{Covers, IsIn}
 use Rattle.core_read.proofs.Entries.{both}
 use Rattle.core_merge.specs.Independent.{writes_node, is_marked, MarkParents, AreIndependent}

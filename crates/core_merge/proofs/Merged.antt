@@ -40,14 +40,14 @@ or_right : (a b : Bool) → b ≡ true → (a || b) ≡ true
 or_right true b h = refl
 or_right false b h = h
 
-module _ (clusters : ℕ) (sessions : List ℕ) (nodes : AreNodes clusters sessions) (starts : Starts) (says : Says) (proper : StartsProper starts) (marking : StartsMarkingParents starts) (past : Past) (run : IsRunOf starts says clusters sessions past) where
+module _ (clusters : ℕ) (sessions : List ℕ) (nodes : AreNodes clusters sessions) (starts : Starts) (says : Says) (proper : StartsProper starts) (marking : StartsMarkingParents starts) (past : Past) (run : IsRunOf starts says clusters sessions None past) where
   told : IsTold past
   told = told_past clusters sessions nodes starts says proper past run
 
   merges : AreMergeable past
   merges = mergeable clusters sessions nodes starts says proper marking past run
 
-  pub tree_merged : (v : RevVec) → IsClosed past v → IsTree (tree_at past v)
+  pub tree_merged : (v : RevVec) → IsClosed past v → IsTree (tree_at None past v)
   tree_merged v closed = subst IsTree (tree_from_start past (sees v) told.sound.begun) (seen_tree past told.sound merges (from_start (sees v)) (closed_from_start past told v closed) refl)
 
   module _ (r : Revision) (d : Draw) (drawn : draw_of past r ≡ Some d) where
@@ -57,16 +57,16 @@ module _ (clusters : ℕ) (sessions : List ℕ) (nodes : AreNodes clusters sessi
     of_base : is_in_base past r ≡ sees d.base
     of_base = ap {B = Revision → Bool} (λ (o : Option Draw) (q : Revision). option_map_or (λ (d : Draw). sees d.base q) o false) drawn
 
-    at_base : tree_of (is_in_base past r) (falling past) ≡ tree_at past d.base
+    at_base : tree_of (is_in_base past r) (falling past) ≡ tree_at None past d.base
     at_base = ap (λ (s : Sight). tree_of s (falling past)) of_base ∙ tree_falling past d.base (sym (base_is past r d drawn the_start) ∙ good.begins)
 
     base_closed : IsClosedSight past (is_in_base past r)
     base_closed = λ o us e h q k. good.ready.closed o us e h q k
 
-    pub base_tree_merged : IsTree (tree_at past d.base)
+    pub base_tree_merged : IsTree (tree_at None past d.base)
     base_tree_merged = subst IsTree at_base (seen_tree past told.sound merges (is_in_base past r) base_closed good.begins)
 
-    pub edit_proper : IsProper (tree_at past d.base) d.edit.writes
+    pub edit_proper : IsProper (tree_at None past d.base) d.edit.writes
     edit_proper = subst (λ (t : Nodes). IsProper t d.edit.writes) at_base good.ready.proper
 
     -- ---- a commit that a closed vector sees, on the tree of those before it
@@ -124,9 +124,9 @@ module _ (clusters : ℕ) (sessions : List ℕ) (nodes : AreNodes clusters sessi
       tells : Tells (tree_of below (falling past)) below (falling past)
       tells = tells_falling past told.sound below below_closed
 
-      pub proper_below : IsProper (tree_below past v r) d.edit.writes
+      pub proper_below : IsProper (tree_below None past v r) d.edit.writes
       proper_below = subst (λ (t : Nodes). IsProper t d.edit.writes) (tree_from_start past (seen_below v r) told.sound.begun)
-          (proper_there past told.sound below (is_in_base past r) base_closed d.edit.writes _ tells wider apart good.ready.proper
+          (proper_there past told.sound below (is_in_base past r) base_closed d.edit.writes _ tells wider apart good.ready.proper (Some r)
           (whole past told.sound merges upto upto_closed (or_right (eq_by_cmp revision_cmp the_start r) _ refl) _
           (tells_with past told.sound below (is_in_base past r) base_closed d.edit.writes _ tells wider apart good.ready.proper past told.sound upto r with_r not_yet good.ready.rises)))
 

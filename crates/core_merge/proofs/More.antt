@@ -2,7 +2,7 @@
 use Rattle.std.proofs.Common.{◌≡◌, inl, inr, Bool, true, false, cond, ◌&&◌, Some, None, Option, List, [], ◌∷◌, refl, sym, ap, ◌∙◌, is_some}
 use Rattle.std.specs.Prelude.{is_none, not}
 use Rattle.std.specs.Cmp.{tied_itself}
-use Rattle.std.specs.Option.{option_and_then, option_map_or, option_or, unwrap_or}
+use Rattle.std.specs.Option.{option_and_then, option_map, option_map_or, option_or, unwrap_or}
 use Rattle.std.specs.Ordering.{is_eq, eq_by_cmp}
 use Rattle.std.specs.Map.{lookup}
 use Rattle.std.specs.BTreeMap.{is_at}
@@ -21,22 +21,23 @@ use Rattle.jr_rev.proofs.Order.{revision_total}
 use Rattle.jr_tree.specs.declared.tree.Node.{Node}
 use Rattle.jr_tree.specs.declared.edit.Write.{Write}
 use Rattle.jr_tree.specs.declared.edit.Write.TheVariants.{Here, Gone, Put, Unset}
-use Rattle.jr_tree.specs.Trees.{Nodes, node_at, property_at, IsTree}
+use Rattle.jr_tree.specs.Trees.{Nodes, born_at, node_at, property_at, IsTree}
+use Rattle.jr_tree.proofs.Undated.{Tree-alike, undated-applied}
 use Rattle.jr_tree.specs.Edits.{applied, is_change, is_emptied, is_unset_of, properties_at, IsProper}
 use Rattle.oak_machine.specs.History.{Past}
-use Rattle.core_read.specs.Items.{here_of, put_of, written, Fits}
-use Rattle.core_read.specs.Commits.{Sight, last, tree_of}
+use Rattle.jr_tree.specs.Items.{here_of, put_of, written, Fits}
+use Rattle.core_read.specs.Commits.{Sight, last, last_entry, tree_of}
 use Rattle.core_read.specs.Holds.{edit_of, falling, IsSoundPast, IsClosedSight}
 use Rattle.core_read.specs.Told.{IsIn}
-use Rattle.core_read.proofs.AtPath.{order-applied}
-use Rattle.core_read.proofs.EditLaw.{Orderly-applied, has_applied, property_applied}
+use Rattle.jr_tree.proofs.AtPath.{order-applied}
+use Rattle.jr_tree.proofs.EditLaw.{Orderly-applied, born_applied, has_applied, property_fitted}
 use Rattle.core_read.proofs.Entries.{both, first, second, same_lists}
 use Rattle.core_read.proofs.Falling.{not_both, tells_falling}
-use Rattle.core_read.proofs.Latest.{IsLast, only, last_moved, same_revision, at_most_itself, not_before}
-use Rattle.core_read.proofs.Proper.{gone_writes, proper_fits}
-use Rattle.core_read.proofs.Trees.{Tells}
+use Rattle.core_read.proofs.Latest.{IsLast, IsLastEntry, only, only_entry, last_moved, moved, same_revision, at_most_itself, not_before}
+use Rattle.jr_tree.proofs.Proper.{gone_writes, proper_fits}
+use Rattle.core_read.proofs.Trees.{Tells, dated}
 use Rattle.core_merge.specs.Independent.{writes_property, writes_node, AreIndependent}
-use Rattle.core_merge.proofs.Seen.{edit_seen, from_seen, last_seen, write_seen}
+use Rattle.core_merge.proofs.Seen.{last_entry_seen, edit_seen, from_seen, last_seen, write_seen}
 
 -- ---- writes of an edit
 
@@ -113,6 +114,20 @@ last_more g h r None with_r none greatest o l = last_moved g h (λ q. with_r q �
     by q false e = refl
     by q true e = sym (ap g (same_revision q r e) ∙ none)
 
+-- the same, with the revision
+last_entry_more : {X : Type 0} (g h : Revision → Option X) (r : Revision) (w : Option X) → ((q : Revision) → h q ≡ cond (eq_by_cmp revision_cmp q r) w (g q)) → g r ≡ None
+    → (is_some w ≡ true → (q : Revision) → is_some (g q) ≡ true → is_at_most q r ≡ true) → (o : Option (Revision × X)) → IsLastEntry g o → IsLastEntry h (option_or (option_map (λ x. (r, x)) w) o)
+last_entry_more g h r (Some x) with_r none greatest o l = (with_r r ∙ ap (λ b. cond b (Some x) (g r)) (ap is_eq (tied_itself revision_total r)), λ q k. by q (eq_by_cmp revision_cmp q r) refl (sym (ap is_some (with_r q)) ∙ k))
+  where
+    by : (q : Revision) (b : Bool) → eq_by_cmp revision_cmp q r ≡ b → is_some (cond b (Some x) (g q)) ≡ true → is_at_most q r ≡ true
+    by q true e k = at_most_itself q r (same_revision q r e)
+    by q false e k = greatest refl q k
+last_entry_more g h r None with_r none greatest o l = moved g h (λ q. with_r q ∙ by q (eq_by_cmp revision_cmp q r) refl) o l
+  where
+    by : (q : Revision) (b : Bool) → eq_by_cmp revision_cmp q r ≡ b → cond b None (g q) ≡ g q
+    by q false e = refl
+    by q true e = sym (ap g (same_revision q r e) ∙ none)
+
 -- ---- an edit on a tree that has what s sees; it is proper on the tree of its base, which sees less
 module _ (past : Past) (sound : IsSoundPast past) (s base : Sight) (closed : IsClosedSight past base) (ws : List Write) (t : Nodes) (tells : Tells t s (falling past))
     (wider : (o : Revision) → base o ≡ true → s o ≡ true)
@@ -151,13 +166,13 @@ module _ (past : Past) (sound : IsSoundPast past) (s base : Sight) (closed : IsC
     gone = λ p n g h. fits_base.gone p n g (sym (ap is_some (same_prop p n (λ us i. i.of_node p n (gone_writes p ws g)))) ∙ h);
   }
 
-  same_node_after : (p : Path) → writes_node p ws ≡ true → is_some (node_at (applied t ws) p) ≡ is_some (node_at (applied before ws) p)
-  same_node_after p m = has_applied t ws tells.order proper.once p ∙ (ap (unwrap_or (written (here_of p) ws)) (same_node p (λ us i. i.nodes p m)) ∙ sym (has_applied before ws at_base.order proper.once p))
+  same_node_after : (p : Path) → writes_node p ws ≡ true → is_some (node_at (applied None t ws) p) ≡ is_some (node_at (applied None before ws) p)
+  same_node_after p m = has_applied None t ws tells.order p ∙ (ap (unwrap_or (written (here_of p) ws)) (same_node p (λ us i. i.nodes p m)) ∙ sym (has_applied None before ws at_base.order p))
 
-  same_prop_after : (p : Path) (n : Name) → writes_property p n ws ≡ true → property_at (applied t ws) p n ≡ property_at (applied before ws) p n
+  same_prop_after : (p : Path) (n : Name) → writes_property p n ws ≡ true → property_at (applied None t ws) p n ≡ property_at (applied None before ws) p n
   same_prop_after p n m =
-      property_applied t ws tells.order tells.orderly fits p n
-      ∙ (ap (unwrap_or (written (put_of p n) ws)) (same_prop p n (λ us i. i.properties p n m)) ∙ sym (property_applied before ws at_base.order at_base.orderly fits_base p n))
+      property_fitted None t ws tells.order tells.orderly fits p n
+      ∙ (ap (unwrap_or (written (put_of p n) ws)) (same_prop p n (λ us i. i.properties p n m)) ∙ sym (property_fitted None before ws at_base.order at_base.orderly fits_base p n))
 
   -- the node that it removes has the properties that it has at the base
   same_properties : (p : Path) → writes_node p ws ≡ true → properties_at t p ≡ properties_at before p
@@ -171,20 +186,20 @@ module _ (past : Past) (sound : IsSoundPast past) (s base : Sight) (closed : IsC
       by (Some x) h None k same each = absurd (false≢true (sym same))
       by (Some x) h (Some y) k same each = same_lists name_cmp nat_list_cmp_total name_exact x.props y.props (tells.orderly p x h) (at_base.orderly p y k) each
 
-  same_change : (w : Write) → IsIn w ws → is_change t (applied t ws) w ≡ is_change before (applied before ws) w
+  same_change : (w : Write) → IsIn w ws → is_change t (applied None t ws) w ≡ is_change before (applied None before ws) w
   same_change (Here p) i =
       let m : writes_node p ws ≡ true = node_of_here p ws i in
-      ap (λ b. b && is_some (node_at (applied t ws) p)) (none_alike _ _ (same_node p (λ us d. d.nodes p m))) ∙ ap (λ b. is_none (node_at before p) && b) (same_node_after p m)
+      ap (λ b. b && is_some (node_at (applied None t ws) p)) (none_alike _ _ (same_node p (λ us d. d.nodes p m))) ∙ ap (λ b. is_none (node_at before p) && b) (same_node_after p m)
   same_change (Gone p) i =
       let m : writes_node p ws ≡ true = node_of_gone p ws i in
-      ap (λ b. b && is_none (node_at (applied t ws) p)) (same_node p (λ us d. d.nodes p m)) ∙ ap (λ b. is_some (node_at before p) && b) (none_alike _ _ (same_node_after p m))
+      ap (λ b. b && is_none (node_at (applied None t ws) p)) (same_node p (λ us d. d.nodes p m)) ∙ ap (λ b. is_some (node_at before p) && b) (none_alike _ _ (same_node_after p m))
   same_change (Put p n x) i =
       let m : writes_property p n ws ≡ true = property_of_put p n x ws i in
-      ap (λ (o : Option Property). not (option_map_or (same_property x) o false) && option_map_or (same_property x) (property_at (applied t ws) p n) false) (same_prop p n (λ us d. d.properties p n m))
+      ap (λ (o : Option Property). not (option_map_or (same_property x) o false) && option_map_or (same_property x) (property_at (applied None t ws) p n) false) (same_prop p n (λ us d. d.properties p n m))
       ∙ ap (λ (o : Option Property). not (option_map_or (same_property x) (property_at before p n) false) && option_map_or (same_property x) o false) (same_prop_after p n m)
   same_change (Unset p n) i =
       let m : writes_property p n ws ≡ true = property_of_unset p n ws i in
-      ap (λ (o : Option Property). is_some o && is_none (property_at (applied t ws) p n)) (same_prop p n (λ us d. d.properties p n m))
+      ap (λ (o : Option Property). is_some o && is_none (property_at (applied None t ws) p n)) (same_prop p n (λ us d. d.properties p n m))
       ∙ ap (λ (o : Option Property). is_some (property_at before p n) && is_none o) (same_prop_after p n m)
 
   same_emptied : (w : Write) → IsIn w ws → is_emptied t ws w ≡ is_emptied before ws w
@@ -193,11 +208,11 @@ module _ (past : Past) (sound : IsSoundPast past) (s base : Sight) (closed : IsC
   same_emptied (Put p n x) i = refl
   same_emptied (Unset p n) i = refl
 
-  pub proper_there : IsTree (applied t ws) → IsProper t ws
-  proper_there tree = record {
-    tree = tree;
+  pub proper_there : (born : Option Revision) → IsTree (applied born t ws) → IsProper t ws
+  proper_there born tree = record {
+    tree = Tree-alike (applied born t ws) (applied None t ws) (undated-applied born t ws ∙ sym (undated-applied None t ws)) tree;
     once = proper.once;
-    changing = all_alike (is_change before (applied before ws)) (is_change t (applied t ws)) ws same_change proper.changing;
+    changing = all_alike (is_change before (applied None before ws)) (is_change t (applied None t ws)) ws same_change proper.changing;
     emptied = all_alike (is_emptied before ws) (is_emptied t ws) ws same_emptied proper.emptied;
   }
 
@@ -223,10 +238,22 @@ module _ (past : Past) (sound : IsSoundPast past) (s base : Sight) (closed : IsC
         by q true = refl
         by q false = refl
 
-    pub tells_with : Tells (applied t ws) wide (falling later)
+    last_entry_with : {X : Type 0} (f : Write → Option X) → ((us : List Write) → AreIndependent ws us → is_some (written f ws) ≡ true → is_some (written f us) ≡ false) → last_entry f wide (falling later) ≡ option_or (option_map (λ x. (r, x)) (written f ws)) (last_entry f s (falling past))
+    last_entry_with f silent = only_entry (write_seen f later wide) (write_seen f later wide) (λ q. refl) _ _ (last_entry_seen f later now wide)
+        (last_entry_more (write_seen f past s) (write_seen f later wide) r (written f ws) (λ q. ap (option_and_then (written f)) (with_r q) ∙ by q (eq_by_cmp revision_cmp q r)) (ap (option_and_then (written f)) not_yet) (greatest f silent) _ (last_entry_seen f past sound s))
+      where
+        by : (q : Revision) (b : Bool) → option_and_then (written f) (cond b (Some ws) (edit_seen past s q)) ≡ cond b (written f ws) (write_seen f past s q)
+        by q true = refl
+        by q false = refl
+
+    pub tells_with : Tells (applied (Some r) t ws) wide (falling later)
     tells_with = record {
-      order = order-applied t ws tells.order;
-      orderly = Orderly-applied t ws tells.order tells.orderly fits;
-      node = λ p. has_applied t ws tells.order proper.once p ∙ (ap (unwrap_or (written (here_of p) ws)) (tells.node p) ∙ (or_last (written (here_of p) ws) (last (here_of p) s (falling past)) false ∙ ap (λ o. unwrap_or o false) (sym (last_with (here_of p) (λ us i m. i.nodes p m)))));
-      prop = λ p n. property_applied t ws tells.order tells.orderly fits p n ∙ (ap (unwrap_or (written (put_of p n) ws)) (tells.prop p n) ∙ (or_last (written (put_of p n) ws) (last (put_of p n) s (falling past)) None ∙ ap (λ o. unwrap_or o None) (sym (last_with (put_of p n) (λ us i m. i.properties p n m)))));
+      order = order-applied (Some r) t ws tells.order;
+      orderly = Orderly-applied (Some r) t ws tells.order tells.orderly;
+      node = λ p. has_applied (Some r) t ws tells.order p ∙ (ap (unwrap_or (written (here_of p) ws)) (tells.node p) ∙ (or_last (written (here_of p) ws) (last (here_of p) s (falling past)) false ∙ ap (λ o. unwrap_or o false) (sym (last_with (here_of p) (λ us i m. i.nodes p m)))));
+      prop = λ p n. property_fitted (Some r) t ws tells.order tells.orderly fits p n ∙ (ap (unwrap_or (written (put_of p n) ws)) (tells.prop p n) ∙ (or_last (written (put_of p n) ws) (last (put_of p n) s (falling past)) None ∙ ap (λ o. unwrap_or o None) (sym (last_with (put_of p n) (λ us i m. i.properties p n m)))));
+      born = λ p. born_applied (Some r) t ws tells.order p
+          ∙ (dated r (written (here_of p) ws) (is_some (node_at t p)) (born_at t p) (last_entry (here_of p) s (falling past)) (tells.born p)
+          ∙ (ap (λ b. cond b (option_map (λ (e : Revision × Bool). e.0) (option_or (option_map (λ x. (r, x)) (written (here_of p) ws)) (last_entry (here_of p) s (falling past)))) None) (sym (has_applied (Some r) t ws tells.order p))
+          ∙ ap (λ (o : Option (Revision × Bool)). cond (is_some (node_at (applied (Some r) t ws) p)) (option_map (λ (e : Revision × Bool). e.0) o) None) (sym (last_entry_with (here_of p) (λ us i m. i.nodes p m)))));
     }

@@ -1,6 +1,6 @@
 -- The tree of all commits in the order in which they were made has what all commits leave in the order of their revisions, since commits of which neither base sees the other are independent.
 use Rattle.std.proofs.Common.{◌≡◌, ℕ, Bool, true, false, cond, not, ◌&&◌, ◌||◌, Some, None, Option, List, [], ◌∷◌, refl, sym, ap, ◌∙◌, subst, is_some}
-use Rattle.std.specs.Option.{option_and_then, option_map_or, unwrap_or}
+use Rattle.std.specs.Option.{option_and_then, option_map, option_map_or, unwrap_or}
 use Rattle.std.specs.Ordering.{eq_by_cmp}
 use Rattle.std.specs.Map.{lookup}
 use Rattle.std.specs.BTreeMap.{is_at}
@@ -17,7 +17,7 @@ use Rattle.jr_tree.specs.declared.tree.Node.{Node}
 use Rattle.jr_tree.specs.declared.edit.Write.{Write}
 use mathlib.Core.Bool.{false≢true}
 use Rattle.jr_rev.specs.declared.revision.Revision.{Revision}
-use Rattle.jr_tree.specs.Trees.{Nodes, node_at, IsTree}
+use Rattle.jr_tree.specs.Trees.{Nodes, born_of, node_at, IsTree}
 use Rattle.jr_tree.specs.Edits.{applied, IsProper}
 use Rattle.oak_machine.specs.declared.event.Draw.{Draw}
 use Rattle.oak_machine.specs.declared.event.Event.TheVariants as event
@@ -25,14 +25,14 @@ use Rattle.oak_machine.specs.History.{Past}
 use Rattle.oak_machine.specs.Commits.{draw_of, is_committed, is_in_base, tree_at, IsClosed}
 use Rattle.oak_machine.specs.Laws.{Starts, Says, StartsProper}
 use Rattle.oak_machine.specs.Runs.{IsRunOf, AreNodes, MayCommit}
-use Rattle.core_read.specs.Items.{here_of, put_of, written}
-use Rattle.core_read.specs.Commits.{Commits, Sight, last, tree_of}
+use Rattle.jr_tree.specs.Items.{here_of, put_of, written}
+use Rattle.core_read.specs.Commits.{Commits, Sight, last, last_by, last_entry, tree_of}
 use Rattle.core_read.specs.Holds.{edit_of, falling, the_start, IsClosedSight}
 use Rattle.core_read.specs.Told.{IsTold, IsGoodDraw}
 use Rattle.core_read.proofs.Committed.{committed}
 use Rattle.core_read.proofs.Entries.{same_lists}
 use Rattle.core_read.proofs.Falling.{tells_falling}
-use Rattle.core_read.proofs.Latest.{only}
+use Rattle.core_read.proofs.Latest.{only, only_entry}
 use Rattle.core_read.proofs.Told.{pending}
 use Rattle.core_read.proofs.Trees.{Tells}
 use Rattle.core_heads.proofs.Runs.{told_past}
@@ -40,7 +40,7 @@ use Rattle.core_merge.specs.Orders.{tree_by_commits}
 use Rattle.core_merge.specs.Independent.{StartsMarkingParents}
 use Rattle.core_merge.proofs.Commits.{committed_is, independent_of, mergeable}
 use Rattle.core_merge.proofs.More.{proper_there, tells_with}
-use Rattle.core_merge.proofs.Seen.{edit_seen, last_seen, write_seen}
+use Rattle.core_merge.proofs.Seen.{edit_seen, last_entry_seen, last_seen, write_seen}
 use Rattle.core_merge.proofs.Sights.{from_start, tree_from_start, closed_from_start}
 use Rattle.core_merge.proofs.Whole.{whole}
 
@@ -53,27 +53,30 @@ all_closed past o us e seen q based = refl
 
 -- two trees that have what is seen are the same
 same_tree : (t u : Nodes) (s : Sight) (es : Commits) → Tells t s es → Tells u s es → t ≡ u
-same_tree t u s es a b = same_lists path_cmp path_total path_exact t u a.order b.order (λ p. by p (node_at t p) refl (node_at u p) refl (a.node p ∙ sym (b.node p)) (λ n. a.prop p n ∙ sym (b.prop p n)))
+same_tree t u s es a b = same_lists path_cmp path_total path_exact t u a.order b.order (λ p. by p (node_at t p) refl (node_at u p) refl (a.node p ∙ sym (b.node p)) (same_born p (node_at t p) (node_at u p) (a.node p ∙ sym (b.node p)) (a.born p) (b.born p)) (λ n. a.prop p n ∙ sym (b.prop p n)))
   where
-    by : (p : Path) (x : Option Node) → node_at t p ≡ x → (y : Option Node) → node_at u p ≡ y → is_some x ≡ is_some y
+    same_born : (p : Path) (x y : Option Node) → is_some x ≡ is_some y → born_of x ≡ cond (is_some x) (last_by p s es) None → born_of y ≡ cond (is_some y) (last_by p s es) None → born_of x ≡ born_of y
+    same_born p x y k h i = h ∙ (ap (λ b. cond b (last_by p s es) None) k ∙ sym i)
+
+    by : (p : Path) (x : Option Node) → node_at t p ≡ x → (y : Option Node) → node_at u p ≡ y → is_some x ≡ is_some y → born_of x ≡ born_of y
         → ((n : Name) → option_and_then (λ (node : Node). lookup (is_at (name_cmp n)) node.props) x ≡ option_and_then (λ (node : Node). lookup (is_at (name_cmp n)) node.props) y) → x ≡ y
-    by p None h None k same each = refl
-    by p None h (Some y) k same each = absurd (false≢true same)
-    by p (Some x) h None k same each = absurd (false≢true (sym same))
-    by p (Some x) h (Some y) k same each = ap (λ (ps : List (Name × Property)). Some (record { props = ps })) (same_lists name_cmp nat_list_cmp_total name_exact x.props y.props (a.orderly p x h) (b.orderly p y k) each)
+    by p None h None k same born each = refl
+    by p None h (Some y) k same born each = absurd (false≢true same)
+    by p (Some x) h None k same born each = absurd (false≢true (sym same))
+    by p (Some x) h (Some y) k same born each = λ i. Some (record { props = same_lists name_cmp nat_list_cmp_total name_exact x.props y.props (a.orderly p x h) (b.orderly p y k) each i; born = born i })
 
 drawn_at : (o : Option Draw) (ended : Bool) → (is_some o && not ended) ≡ true → (d : Draw) × (o ≡ Some d)
 drawn_at None ended h = absurd (false≢true h)
 drawn_at (Some d) ended h = (d, refl)
 
 module _ (clusters : ℕ) (sessions : List ℕ) (nodes : AreNodes clusters sessions) (starts : Starts) (says : Says) (proper : StartsProper starts) (marking : StartsMarkingParents starts) where
-  told : (past : Past) → IsRunOf starts says clusters sessions past → IsTold past
+  told : (past : Past) → IsRunOf starts says clusters sessions None past → IsTold past
   told past run = told_past clusters sessions nodes starts says proper past run
 
-  pub by_commits_tree : (past : Past) → IsRunOf starts says clusters sessions past → Tells (tree_by_commits past) all (falling past) → IsTree (tree_by_commits past)
+  pub by_commits_tree : (past : Past) → IsRunOf starts says clusters sessions None past → Tells (tree_by_commits past) all (falling past) → IsTree (tree_by_commits past)
   by_commits_tree past run tells = whole past (told past run).sound (mergeable clusters sessions nodes starts says proper marking past run) all (all_closed past) refl (tree_by_commits past) tells
 
-  module _ (past : Past) (r : Revision) (run : IsRunOf starts says clusters sessions (event.Commit r ∷ past)) (d : Draw) (drawn : draw_of past r ≡ Some d) (tells : Tells (tree_by_commits past) all (falling past)) where
+  module _ (past : Past) (r : Revision) (run : IsRunOf starts says clusters sessions None (event.Commit r ∷ past)) (d : Draw) (drawn : draw_of past r ≡ Some d) (tells : Tells (tree_by_commits past) all (falling past)) where
     good : IsGoodDraw past r d
     good = (told past run.1).draws r d drawn
 
@@ -83,32 +86,32 @@ module _ (clusters : ℕ) (sessions : List ℕ) (nodes : AreNodes clusters sessi
     base_closed : IsClosedSight past (is_in_base past r)
     base_closed = λ o us e h q k. good.ready.closed o us e h q k
 
-    commit_tells : Tells (applied (tree_by_commits past) d.edit.writes) all (falling (event.Commit r ∷ past))
+    commit_tells : Tells (applied (Some r) (tree_by_commits past) d.edit.writes) all (falling (event.Commit r ∷ past))
     commit_tells = tells_with past (told past run.1).sound all (is_in_base past r) base_closed d.edit.writes (tree_by_commits past) tells (λ o h. refl)
         (λ o us e seen unseen. independent_of clusters sessions nodes starts says proper marking past run.1 r d drawn run.0 o us e unseen)
         good.ready.proper (event.Commit r ∷ past) (told (event.Commit r ∷ past) run).sound all r (committed past r d none_yet good.after drawn) none_yet good.ready.rises
 
-  in_order : (past : Past) → IsRunOf starts says clusters sessions past → Tells (tree_by_commits past) all (falling past)
+  in_order : (past : Past) → IsRunOf starts says clusters sessions None past → Tells (tree_by_commits past) all (falling past)
   in_order [] run = tells_falling [] (told [] run).sound all (all_closed [])
   in_order (event.Commit r ∷ past) run =
       let d = drawn_at (draw_of past r) _ run.0.open_.in_flight in
-      subst (λ (o : Option Draw). Tells (option_map_or (λ d. applied (tree_by_commits past) d.edit.writes) o (tree_by_commits past)) all (falling (event.Commit r ∷ past))) (sym d.1)
+      subst (λ (o : Option Draw). Tells (option_map_or (λ d. applied (Some r) (tree_by_commits past) d.edit.writes) o (tree_by_commits past)) all (falling (event.Commit r ∷ past))) (sym d.1)
       (commit_tells past r run d.0 d.1 (in_order past run.1))
   in_order (e ∷ past) run = in_order past run.1
 
-  pub tree_in_order : (past : Past) → IsRunOf starts says clusters sessions past → IsTree (tree_by_commits past)
+  pub tree_in_order : (past : Past) → IsRunOf starts says clusters sessions None past → IsTree (tree_by_commits past)
   tree_in_order past run = by_commits_tree past run (in_order past run)
 
   -- an edit that may be committed is proper on the tree of all commits so far
-  pub proper_in_order : (past : Past) → IsRunOf starts says clusters sessions past → (r : Revision) (d : Draw) → draw_of past r ≡ Some d → MayCommit past r → IsProper (tree_by_commits past) d.edit.writes
+  pub proper_in_order : (past : Past) → IsRunOf starts says clusters sessions None past → (r : Revision) (d : Draw) → draw_of past r ≡ Some d → MayCommit past r → IsProper (tree_by_commits past) d.edit.writes
   proper_in_order past run r d drawn may =
       proper_there past (told past run).sound all (is_in_base past r) (base_closed past r (may, run) d drawn (in_order past run)) d.edit.writes (tree_by_commits past) (in_order past run) (λ o h. refl)
       (λ o us e seen unseen. independent_of clusters sessions nodes starts says proper marking past run r d drawn may o us e unseen)
-      ((told past run).draws r d drawn).ready.proper
-      (subst (λ (o : Option Draw). IsTree (option_map_or (λ d. applied (tree_by_commits past) d.edit.writes) o (tree_by_commits past))) drawn (tree_in_order (event.Commit r ∷ past) (may, run)))
+      ((told past run).draws r d drawn).ready.proper (Some r)
+      (subst (λ (o : Option Draw). IsTree (option_map_or (λ d. applied (Some r) (tree_by_commits past) d.edit.writes) o (tree_by_commits past))) drawn (tree_in_order (event.Commit r ∷ past) (may, run)))
 
   -- in what order doesn't matter: a closed vector that sees all commits sees the same tree
-  module _ (past : Past) (run : IsRunOf starts says clusters sessions past) (v : RevVec) (closed : IsClosed past v) (each : (r : Revision) → is_committed past r ≡ true → sees v r ≡ true) where
+  module _ (past : Past) (run : IsRunOf starts says clusters sessions None past) (v : RevVec) (closed : IsClosed past v) (each : (r : Revision) → is_committed past r ≡ true → sees v r ≡ true) where
     abbrev seen : Sight
     seen = from_start (sees v)
 
@@ -127,7 +130,10 @@ module _ (clusters : ℕ) (sessions : List ℕ) (nodes : AreNodes clusters sessi
     same_last : {X : Type 0} (f : Write → Option X) → last f seen (falling past) ≡ last f all (falling past)
     same_last f = only (write_seen f past seen) (write_seen f past all) (λ q. ap (option_and_then (written f)) (all_seen q)) _ _ (last_seen f past (told past run).sound seen) (last_seen f past (told past run).sound all)
 
-    pub order_is_same : tree_at past v ≡ tree_by_commits past
+    same_last_entry : {X : Type 0} (f : Write → Option X) → last_entry f seen (falling past) ≡ last_entry f all (falling past)
+    same_last_entry f = only_entry (write_seen f past seen) (write_seen f past all) (λ q. ap (option_and_then (written f)) (all_seen q)) _ _ (last_entry_seen f past (told past run).sound seen) (last_entry_seen f past (told past run).sound all)
+
+    pub order_is_same : tree_at None past v ≡ tree_by_commits past
     order_is_same =
         let tells : Tells (tree_of seen (falling past)) seen (falling past) = tells_falling past (told past run).sound seen (closed_from_start past (told past run) v closed) in
         sym (tree_from_start past (sees v) (told past run).sound.begun)
@@ -137,5 +143,6 @@ module _ (clusters : ℕ) (sessions : List ℕ) (nodes : AreNodes clusters sessi
           orderly = tells.orderly;
           node = λ p. tells.node p ∙ ap (λ o. unwrap_or o false) (same_last (here_of p));
           prop = λ p n. tells.prop p n ∙ ap (λ o. unwrap_or o None) (same_last (put_of p n));
+          born = λ p. tells.born p ∙ ap (λ (o : Option (Revision × Bool)). cond (is_some (node_at (tree_of seen (falling past)) p)) (option_map (λ (e : Revision × Bool). e.0) o) None) (same_last_entry (here_of p));
         })
         (in_order past run)

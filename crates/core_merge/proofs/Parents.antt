@@ -14,12 +14,12 @@ use Rattle.jr_tree.specs.Edits.{applied, IsProper}
 use Rattle.jr_tree.proofs.Pointwise.{same_path}
 use Rattle.oak_machine.specs.History.{Past}
 use Rattle.oak_machine.specs.Commits.{is_in_base}
-use Rattle.core_read.specs.Items.{here_of, written}
+use Rattle.jr_tree.specs.Items.{here_of, written}
 use Rattle.core_read.specs.Commits.{Sight, tree_of}
 use Rattle.core_read.specs.Holds.{edit_of, falling, IsSoundPast, IsClosedSight}
 use Rattle.core_read.proofs.Entries.{first, second}
 use Rattle.core_read.proofs.Latest.{at_most_both, before_at_most, before_itself, not_before}
-use Rattle.core_read.proofs.EditLaw.{has_applied}
+use Rattle.jr_tree.proofs.EditLaw.{has_applied}
 use Rattle.core_read.proofs.Falling.{tells_falling}
 use Rattle.core_merge.specs.Independent.{writes_node, AreMergeable}
 use Rattle.core_merge.proofs.Seen.{IsLastWriter, there, last_there, added_last, removed_last}
@@ -63,11 +63,11 @@ module _ (past : Past) (sound : IsSoundPast past) where
     proper = (sound.sound r ws e).ready.proper
 
     -- what is there after a commit, on the tree of its base
-    pub left_by : (p : Path) → is_some (node_at (applied base_tree ws) p) ≡ unwrap_or (written (here_of p) ws) (there past (is_in_base past r) p)
-    left_by p = has_applied base_tree ws (tells_falling past sound (is_in_base past r) (base_closed r ws e)).order proper.once p
+    pub left_by : (p : Path) → is_some (node_at (applied None base_tree ws) p) ≡ unwrap_or (written (here_of p) ws) (there past (is_in_base past r) p)
+    left_by p = has_applied None base_tree ws (tells_falling past sound (is_in_base past r) (base_closed r ws e)).order p
 
     pub parent_left : (p q : Path) → parent_of p ≡ Some q → unwrap_or (written (here_of p) ws) (there past (is_in_base past r) p) ≡ true → unwrap_or (written (here_of q) ws) (there past (is_in_base past r) q) ≡ true
-    parent_left p q up h = sym (left_by q) ∙ parent_there (applied base_tree ws) proper.tree p q up (left_by p ∙ h)
+    parent_left p q up h = sym (left_by q) ∙ parent_there (applied None base_tree ws) proper.tree p q up (left_by p ∙ h)
 
 module _ (past : Past) (sound : IsSoundPast past) (apart : AreMergeable past) (s : Sight) (closed : IsClosedSight past s) (p q : Path) (up : parent_of p ≡ Some q) (here : there past s p ≡ true) (none : there past s q ≡ false) where
   -- the commit that added the node

@@ -1,5 +1,5 @@
 -- Why the parents have to be marked: without it two commits, each of a proper edit with its other marks, leave a node without its parent. And a run in which two commits are merged.
-use Rattle.std.proofs.Common.{◌≡◌, ℕ, zero, suc, true, false, Some, List, [], ◌∷◌, is_some, refl, ap, subst, arith}
+use Rattle.std.proofs.Common.{◌≡◌, ℕ, zero, suc, true, false, Some, List, [], ◌∷◌, is_some, refl, sym, ap, ◌∙◌, subst, arith, None}
 use Rattle.std.specs.Prelude.{codes, slice_get}
 use Rattle.std.specs.Option.{option_map_or, unwrap_or}
 use mathlib.Core.Bool.{false≢true}
@@ -14,7 +14,7 @@ use Rattle.oak_clash.specs.declared.mark.Mark.TheVariants.{Exists, Touch}
 use Rattle.oak_clash.specs.declared.mark.MarkAt.{MarkAt}
 use Rattle.oak_machine.specs.declared.event.Draw.{Draw}
 use Rattle.oak_machine.specs.declared.event.Event.TheVariants as event
-use Rattle.oak_machine.specs.History.{History, Past}
+use Rattle.oak_machine.specs.History.{Begin, History, Past}
 use Rattle.oak_machine.specs.Commits.{tree_at, IsClosed}
 use Rattle.oak_machine.specs.Heads.{head_of}
 use Rattle.oak_machine.specs.Laws.{Starts, StartsProper, AreOfWrites}
@@ -41,12 +41,12 @@ ab = codes "a" ∷ codes "b" ∷ []
 
 -- the law that lets each proper edit start with the Exists and Props of its writes
 abbrev starts : Starts
-starts h s edit marks = IsProper (base_tree h.past s) edit.writes × AreOfWrites (base_tree h.past s) edit marks
+starts h s edit marks = (h.begin ≡ None) × IsProper (base_tree h.past s) edit.writes × AreOfWrites (base_tree h.past s) edit marks
 
 starts_proper : StartsProper starts
 starts_proper h s edit marks v base lawful =
-    let same : base_tree h.past s ≡ tree_at h.past v = ap (λ o. option_map_or (tree_at h.past) o initial_tree) base in
-    (subst (λ (t : Nodes). IsProper t edit.writes) same lawful.0, subst (λ (t : Nodes). AreOfWrites t edit marks) same lawful.1)
+    let same : base_tree h.past s ≡ tree_at h.begin h.past v = ap (λ o. option_map_or (tree_at None h.past) o initial_tree) base ∙ ap (λ (b : Begin). tree_at b h.past v) (sym lawful.0) in
+    (subst (λ (t : Nodes). IsProper t edit.writes) same lawful.1, subst (λ (t : Nodes). AreOfWrites t edit marks) same lawful.2)
 
 -- a write of the node at p, with its Exists and no mark of the parent
 abbrev draw : ℕ → ℕ → ℕ → Write → Path → Draw
@@ -71,54 +71,57 @@ drawn =
 abbrev past : Past
 past = event.End (at 3) ∷ event.End (at 2) ∷ event.Commit (at 3) ∷ event.Commit (at 2) ∷ drawn
 
-is_run : IsRunOf starts any_said 1 (1 ∷ 1 ∷ []) past
+is_run : IsRunOf starts any_said 1 (1 ∷ 1 ∷ []) None past
 is_run = (
   refl,
   (
     refl,
     (
-      record { open_ = record { in_flight = refl; not_committed = refl; not_refused = refl }; apart = (apart_decided (event.Commit (at 2) ∷ drawn) (at 3)).0 refl },
+      record { open_ = record { running = refl; in_flight = refl; not_committed = refl; not_refused = refl }; apart = (apart_decided (event.Commit (at 2) ∷ drawn) (at 3)).0 refl },
       (
-        record { open_ = record { in_flight = refl; not_committed = refl; not_refused = refl }; apart = (apart_decided drawn (at 2)).0 refl },
+        record { open_ = record { running = refl; in_flight = refl; not_committed = refl; not_refused = refl }; apart = (apart_decided drawn (at 2)).0 refl },
         (
           record {
+            running = refl;
             login = refl;
             detached = refl;
             idle = refl;
             base = refl;
             cluster = refl;
             next = refl;
-            lawful = (record { tree = record { paths = refl; names = refl; root = refl; parents = refl }; once = refl; changing = refl; emptied = refl }, refl);
+            lawful = (refl, record { tree = record { paths = refl; names = refl; root = refl; parents = refl }; once = refl; changing = refl; emptied = refl }, refl);
           },
           (
             record {
+              running = refl;
               login = refl;
               detached = refl;
               idle = refl;
               base = refl;
               cluster = refl;
               next = refl;
-              lawful = (record { tree = record { paths = refl; names = refl; root = refl; parents = refl }; once = refl; changing = refl; emptied = refl }, refl);
+              lawful = (refl, record { tree = record { paths = refl; names = refl; root = refl; parents = refl }; once = refl; changing = refl; emptied = refl }, refl);
             },
             (
-              record { first = refl; head = (1, refl, refl) },
+              record { running = refl; first = refl; head = (1, refl, refl) },
               (
-                record { login = refl; idle = refl; head = (1, refl, refl) },
+                record { running = refl; login = refl; idle = refl; head = (1, refl, refl) },
                 (
                   refl,
                   (
-                    record { open_ = record { in_flight = refl; not_committed = refl; not_refused = refl }; apart = (apart_decided begun (at 1)).0 refl },
+                    record { open_ = record { running = refl; in_flight = refl; not_committed = refl; not_refused = refl }; apart = (apart_decided begun (at 1)).0 refl },
                     (
                       record {
+                        running = refl;
                         login = refl;
                         detached = refl;
                         idle = refl;
                         base = refl;
                         cluster = refl;
                         next = refl;
-                        lawful = (record { tree = record { paths = refl; names = refl; root = refl; parents = refl }; once = refl; changing = refl; emptied = refl }, refl);
+                        lawful = (refl, record { tree = record { paths = refl; names = refl; root = refl; parents = refl }; once = refl; changing = refl; emptied = refl }, refl);
                       },
-                      (record { first = refl; head = (1, refl, refl) }, tt),
+                      (record { running = refl; first = refl; head = (1, refl, refl) }, tt),
                     ),
                   ),
                 ),
@@ -139,17 +142,17 @@ one_node = record { eight = omega arith; some = omega arith; node = each }
     each (suc zero) k h = let e : 1 ≡ k = ap (λ o. unwrap_or o 1) h in (omega arith, omega arith)
     each (suc (suc s)) k h = absurd (false≢true (ap is_some h))
 
-head_is : head_of 1 past 1 ≡ vector 3
+head_is : head_of 1 None past 1 ≡ vector 3
 head_is = refl
 
 head_closed : IsClosed past (vector 3)
 head_closed = closed_run 1 (1 ∷ 1 ∷ []) one_node starts any_said past is_run (vector 3) (head_run 1 (1 ∷ 1 ∷ []) one_node starts any_said past is_run 1 (omega arith, omega arith))
 
 -- the head shows /a/b and not /a
-orphan : (is_some (node_at (tree_at past (vector 3)) ab) ≡ true) × (is_some (node_at (tree_at past (vector 3)) a) ≡ false)
+orphan : (is_some (node_at (tree_at None past (vector 3)) ab) ≡ true) × (is_some (node_at (tree_at None past (vector 3)) a) ≡ false)
 orphan = (refl, refl)
 
-no_tree : IsTree (tree_at past (vector 3)) → ⊥
+no_tree : IsTree (tree_at None past (vector 3)) → ⊥
 no_tree tree = false≢true tree.parents
 
 -- ---- with the parents marked
@@ -173,21 +176,23 @@ adding = event.Draw (added 2 1 b) ∷ event.Draw (added 1 0 a) ∷ event.Login 1
 
 -- the greater revision is committed first
 abbrev merging : History
-merging = record { clusters = 1; sessions = 1 ∷ 1 ∷ []; past = event.End (at 2) ∷ event.End (at 1) ∷ event.Commit (at 1) ∷ event.Commit (at 2) ∷ adding }
+merging = record { clusters = 1; sessions = 1 ∷ 1 ∷ []; begin = None; past = event.End (at 2) ∷ event.End (at 1) ∷ event.Commit (at 1) ∷ event.Commit (at 2) ∷ adding }
 
 is_merging : IsMergingRun marking any_said merging
 is_merging = record {
+  begun = refl;
   nodes = one_node;
   run = (
     refl,
     (
       refl,
       (
-        record { open_ = record { in_flight = refl; not_committed = refl; not_refused = refl }; apart = (apart_decided (event.Commit (at 2) ∷ adding) (at 1)).0 refl },
+        record { open_ = record { running = refl; in_flight = refl; not_committed = refl; not_refused = refl }; apart = (apart_decided (event.Commit (at 2) ∷ adding) (at 1)).0 refl },
         (
-          record { open_ = record { in_flight = refl; not_committed = refl; not_refused = refl }; apart = (apart_decided adding (at 2)).0 refl },
+          record { open_ = record { running = refl; in_flight = refl; not_committed = refl; not_refused = refl }; apart = (apart_decided adding (at 2)).0 refl },
           (
             record {
+              running = refl;
               login = refl;
               detached = refl;
               idle = refl;
@@ -198,6 +203,7 @@ is_merging = record {
             },
             (
               record {
+                running = refl;
                 login = refl;
                 detached = refl;
                 idle = refl;
@@ -206,7 +212,7 @@ is_merging = record {
                 next = refl;
                 lawful = (record { tree = record { paths = refl; names = refl; root = refl; parents = refl }; once = refl; changing = refl; emptied = refl }, refl);
               },
-              (record { first = refl; head = (1, refl, refl) }, (record { first = refl; head = (1, refl, refl) }, tt)),
+              (record { running = refl; first = refl; head = (1, refl, refl) }, (record { running = refl; first = refl; head = (1, refl, refl) }, tt)),
             ),
           ),
         ),
@@ -217,8 +223,8 @@ is_merging = record {
 }
 
 -- the head shows both, as they were committed
-both_there : (is_some (node_at (tree_at merging.past (vector 2)) a) ≡ true) × (is_some (node_at (tree_at merging.past (vector 2)) b) ≡ true)
+both_there : (is_some (node_at (tree_at None merging.past (vector 2)) a) ≡ true) × (is_some (node_at (tree_at None merging.past (vector 2)) b) ≡ true)
 both_there = (refl, refl)
 
-in_either_order : tree_at merging.past (vector 2) ≡ tree_by_commits merging.past
+in_either_order : tree_at None merging.past (vector 2) ≡ tree_by_commits merging.past
 in_either_order = refl

@@ -9,10 +9,10 @@ use Rattle.jr_tree.specs.declared.edit.Write.{Write}
 use Rattle.jr_tree.specs.Trees.{node_at}
 use Rattle.oak_doc.specs.Updates.{of_revision}
 use Rattle.oak_machine.specs.History.{Past}
-use Rattle.core_read.specs.Items.{here_of, written}
-use Rattle.core_read.specs.Commits.{Sight, last, tree_of}
+use Rattle.jr_tree.specs.Items.{here_of, written}
+use Rattle.core_read.specs.Commits.{Sight, last, last_entry, tree_of}
 use Rattle.core_read.specs.Holds.{edit_of, falling, IsSoundPast, IsClosedSight}
-use Rattle.core_read.proofs.Latest.{IsLast, only, writing, last_last, last_moved}
+use Rattle.core_read.proofs.Latest.{IsLast, IsLastEntry, only, writing, last_entry_last, last_last, last_moved, moved}
 use Rattle.core_read.proofs.Falling.{falling_falls, found_falling, tells_falling}
 use Rattle.core_merge.specs.Independent.{writes_node}
 
@@ -24,12 +24,19 @@ edit_seen past s r = cond (s r) (edit_of past r) None
 abbrev pub write_seen : {X : Type 0} → (Write → Option X) → Past → Sight → Revision → Option X
 write_seen f past s r = option_and_then (written f) (edit_seen past s r)
 
-pub last_seen : {X : Type 0} (f : Write → Option X) (past : Past) → IsSoundPast past → (s : Sight) → IsLast (write_seen f past s) (last f s (falling past))
-last_seen f past sound s = last_moved (λ r. writing f s (of_revision (falling past) r) r) (write_seen f past s) (λ r. by r (s r)) _ (last_last f s (falling past) (falling_falls past sound.begun))
+seen_writes : {X : Type 0} (f : Write → Option X) (past : Past) → IsSoundPast past → (s : Sight) (r : Revision) → write_seen f past s r ≡ writing f s (of_revision (falling past) r) r
+seen_writes f past sound s r = by (s r)
   where
-    by : (r : Revision) (b : Bool) → option_and_then (written f) (cond b (edit_of past r) None) ≡ cond b (option_and_then (written f) (of_revision (falling past) r)) None
-    by r false = refl
-    by r true = ap (option_and_then (written f)) (sym (found_falling past sound.begun r))
+    by : (b : Bool) → option_and_then (written f) (cond b (edit_of past r) None) ≡ cond b (option_and_then (written f) (of_revision (falling past) r)) None
+    by false = refl
+    by true = ap (option_and_then (written f)) (sym (found_falling past sound.begun r))
+
+pub last_seen : {X : Type 0} (f : Write → Option X) (past : Past) → IsSoundPast past → (s : Sight) → IsLast (write_seen f past s) (last f s (falling past))
+last_seen f past sound s = last_moved (λ r. writing f s (of_revision (falling past) r) r) (write_seen f past s) (seen_writes f past sound s) _ (last_last f s (falling past) (falling_falls past sound.begun))
+
+-- the same, with the revision of that commit
+pub last_entry_seen : {X : Type 0} (f : Write → Option X) (past : Past) → IsSoundPast past → (s : Sight) → IsLastEntry (write_seen f past s) (last_entry f s (falling past))
+last_entry_seen f past sound s = moved (λ r. writing f s (of_revision (falling past) r) r) (write_seen f past s) (seen_writes f past sound s) _ (last_entry_last f s (falling past) (falling_falls past sound.begun))
 
 pub to_seen : (past : Past) (s : Sight) (r : Revision) (ws : List Write) → edit_of past r ≡ Some ws → s r ≡ true → edit_seen past s r ≡ Some ws
 to_seen past s r ws e h = ap (λ b. cond b (edit_of past r) None) h ∙ e

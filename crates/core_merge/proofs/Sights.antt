@@ -44,8 +44,8 @@ same_seen s (e ∷ es) h =
     ∙ ap (λ (rest : Commits). cond (s e.0) (e ∷ rest) rest) (same_seen s es (second _ _ h))
 
 -- the tree that is seen is the initial tree with the edits that are seen
-pub tree_from_start : (past : Past) (s : Sight) → below_all revision_cmp the_start (committed_edits past) ≡ true → tree_of (from_start s) (falling past) ≡ fold (λ t e. applied t e.1) initial_tree (filter (λ e. s e.0) (committed_edits past))
-tree_from_start past s begun = tree_onto (from_start s) [] (edits past) ∙ ap (λ (es : Commits). fold (λ t e. applied t e.1) [] ((the_start, start_writes) ∷ es)) (same_seen s (committed_edits past) begun)
+pub tree_from_start : (past : Past) (s : Sight) → below_all revision_cmp the_start (committed_edits past) ≡ true → tree_of (from_start s) (falling past) ≡ fold (λ t e. applied (Some e.0) t e.1) initial_tree (filter (λ e. s e.0) (committed_edits past))
+tree_from_start past s begun = tree_onto (from_start s) [] (edits past) ∙ ap (λ (es : Commits). fold (λ t e. applied (Some e.0) t e.1) [] ((the_start, start_writes) ∷ es)) (same_seen s (committed_edits past) begun)
 
 or_right : (a b : Bool) → b ≡ true → (a || b) ≡ true
 or_right true b h = refl

@@ -14,7 +14,7 @@ use Rattle.jr_tree.specs.Trees.{Nodes, node_at, has_parent, IsTree}
 use Rattle.jr_tree.proofs.Pointwise.{same_path}
 use Rattle.oak_machine.specs.History.{Past}
 use Rattle.oak_machine.specs.Commits.{is_in_base}
-use Rattle.core_read.specs.Items.{here_of, written}
+use Rattle.jr_tree.specs.Items.{here_of, written}
 use Rattle.core_read.specs.Commits.{Sight, last, tree_of}
 use Rattle.core_read.specs.Holds.{falling, the_start, start_writes, IsSoundPast, IsClosedSight}
 use Rattle.core_read.proofs.Entries.{first, second, both, none_below}

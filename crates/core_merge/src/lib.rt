@@ -1,7 +1,7 @@
 //! Merging: whatever commits a reader sees together, it sees a tree, since commits of which neither saw the other are independent.
 #![tactic(auto)]
 
-ghost use Rattle.std.specs.Prelude.{◌≡◌, ◌⊎◌, ℕ, Some, IsTrue, IsFalse};
+ghost use Rattle.std.specs.Prelude.{◌≡◌, ◌⊎◌, ℕ, Some, IsTrue, IsFalse, None};
 ghost use Rattle.jr_path.specs.declared.text.Text.{Text};
 ghost use Rattle.jr_rev.specs.declared.revision.Revision.{Revision};
 ghost use Rattle.jr_rev.specs.declared.vector.RevVec.{RevVec};
@@ -13,7 +13,7 @@ ghost use Rattle.oak_machine.specs.History.{History};
 ghost use Rattle.oak_machine.specs.Changed.{tree_below};
 ghost use Rattle.oak_machine.specs.Commits.{draw_of, is_committed, is_in_base, are_clashing, tree_at, IsClosed};
 ghost use Rattle.oak_machine.specs.Heads.{head_of};
-ghost use Rattle.oak_machine.specs.Runs.{IsRun, AreNodes, IsNode, MayCommit};
+ghost use Rattle.oak_machine.specs.Runs.{IsRunOf, AreNodes, IsNode, MayCommit};
 ghost use Rattle.oak_machine.specs.Sessions.{base_of, last_checkpoint};
 ghost use Rattle.core_law.specs.Law.{MayStart, SaysBy};
 ghost use Rattle.core_law.specs.State.{Orders};
@@ -27,27 +27,27 @@ use oak_machine::Law;
 /// the order in which they were made, leave a tree too, and a closed vector that sees them all sees that tree: their order
 /// doesn't matter.
 pub fn merged_trees_are_trees<L: Law>(law: &L)
-    ensures closed { (h : History) (v : RevVec) → IsMergingRun (L.may_start law.now) (L.may_say law.now) h → IsClosed h.past v → IsTree (tree_at h.past v) }
-    ensures heads { (h : History) (k : ℕ) → IsMergingRun (L.may_start law.now) (L.may_say law.now) h → IsNode h.clusters k → IsTree (tree_at h.past (head_of h.clusters h.past k)) }
-    ensures bases { (h : History) (s : ℕ) (v : RevVec) → IsMergingRun (L.may_start law.now) (L.may_say law.now) h → base_of h.past s ≡ Some v → IsTree (tree_at h.past v) }
-    ensures kept { (h : History) (id : Text) (v : RevVec) → IsMergingRun (L.may_start law.now) (L.may_say law.now) h → last_checkpoint h.past id ≡ Some v → IsTree (tree_at h.past v) }
-    ensures draws { (h : History) (r : Revision) (d : Draw) → IsMergingRun (L.may_start law.now) (L.may_say law.now) h → draw_of h.past r ≡ Some d → IsTree (tree_at h.past d.base) }
+    ensures closed { (h : History) (v : RevVec) → IsMergingRun (L.may_start law.now) (L.may_say law.now) h → IsClosed h.past v → IsTree (tree_at None h.past v) }
+    ensures heads { (h : History) (k : ℕ) → IsMergingRun (L.may_start law.now) (L.may_say law.now) h → IsNode h.clusters k → IsTree (tree_at None h.past (head_of h.clusters None h.past k)) }
+    ensures bases { (h : History) (s : ℕ) (v : RevVec) → IsMergingRun (L.may_start law.now) (L.may_say law.now) h → base_of h.past s ≡ Some v → IsTree (tree_at None h.past v) }
+    ensures kept { (h : History) (id : Text) (v : RevVec) → IsMergingRun (L.may_start law.now) (L.may_say law.now) h → last_checkpoint h.past id ≡ Some v → IsTree (tree_at None h.past v) }
+    ensures draws { (h : History) (r : Revision) (d : Draw) → IsMergingRun (L.may_start law.now) (L.may_say law.now) h → draw_of h.past r ≡ Some d → IsTree (tree_at None h.past d.base) }
     ensures order { (h : History) → IsMergingRun (L.may_start law.now) (L.may_say law.now) h → IsTree (tree_by_commits h.past) }
-    ensures same { (h : History) (v : RevVec) → IsMergingRun (L.may_start law.now) (L.may_say law.now) h → IsClosed h.past v → ((r : Revision) → IsTrue (is_committed h.past r) → IsTrue (sees v r)) → tree_at h.past v ≡ tree_by_commits h.past }
+    ensures same { (h : History) (v : RevVec) → IsMergingRun (L.may_start law.now) (L.may_say law.now) h → IsClosed h.past v → ((r : Revision) → IsTrue (is_committed h.past r) → IsTrue (sees v r)) → tree_at None h.past v ≡ tree_by_commits h.past }
 {}
 
 /// There each edit is proper wherever it is applied: on the tree at its base, on the tree of what a closed vector that
 /// sees it sees below it, and, when it is committed, on the tree of all commits so far.
 pub fn merged_edits_stay_proper<L: Law>(law: &L)
-    ensures base { (h : History) (r : Revision) (d : Draw) → IsMergingRun (L.may_start law.now) (L.may_say law.now) h → draw_of h.past r ≡ Some d → IsProper (tree_at h.past d.base) d.edit.writes }
-    ensures below { (h : History) (v : RevVec) (r : Revision) (d : Draw) → IsMergingRun (L.may_start law.now) (L.may_say law.now) h → IsClosed h.past v → IsTrue (is_committed h.past r) → draw_of h.past r ≡ Some d → IsTrue (sees v r) → IsProper (tree_below h.past v r) d.edit.writes }
+    ensures base { (h : History) (r : Revision) (d : Draw) → IsMergingRun (L.may_start law.now) (L.may_say law.now) h → draw_of h.past r ≡ Some d → IsProper (tree_at None h.past d.base) d.edit.writes }
+    ensures below { (h : History) (v : RevVec) (r : Revision) (d : Draw) → IsMergingRun (L.may_start law.now) (L.may_say law.now) h → IsClosed h.past v → IsTrue (is_committed h.past r) → draw_of h.past r ≡ Some d → IsTrue (sees v r) → IsProper (tree_below None h.past v r) d.edit.writes }
     ensures order { (h : History) (r : Revision) (d : Draw) → IsMergingRun (L.may_start law.now) (L.may_say law.now) h → draw_of h.past r ≡ Some d → MayCommit h.past r → IsProper (tree_by_commits h.past) d.edit.writes }
 {}
 
 /// Of two commits that clash, the base of one sees the other. So two commits of which neither base sees the other are
 /// independent.
 pub fn unseen_commits_are_independent<L: Law>(law: &L)
-    ensures seen { (h : History) (r o : Revision) → AreNodes h.clusters h.sessions → IsRun (L.may_start law.now) (L.may_say law.now) h → IsTrue (is_committed h.past r) → IsTrue (is_committed h.past o) → (r ≡ o → ⊥) → IsTrue (are_clashing h.past r o) → IsTrue (is_in_base h.past r o) ⊎ IsTrue (is_in_base h.past o r) }
+    ensures seen { (h : History) (r o : Revision) → AreNodes h.clusters h.sessions → IsRunOf (L.may_start law.now) (L.may_say law.now) h.clusters h.sessions None h.past → IsTrue (is_committed h.past r) → IsTrue (is_committed h.past o) → (r ≡ o → ⊥) → IsTrue (are_clashing h.past r o) → IsTrue (is_in_base h.past r o) ⊎ IsTrue (is_in_base h.past o r) }
     ensures independent { (h : History) (r o : Revision) (d e : Draw) → IsMergingRun (L.may_start law.now) (L.may_say law.now) h → IsTrue (is_committed h.past r) → IsTrue (is_committed h.past o) → (r ≡ o → ⊥) → draw_of h.past r ≡ Some d → draw_of h.past o ≡ Some e → IsFalse (is_in_base h.past r o) → IsFalse (is_in_base h.past o r) → AreIndependent d.edit.writes e.edit.writes }
 {}
 
@@ -55,6 +55,6 @@ pub fn unseen_commits_are_independent<L: Law>(law: &L)
 /// it what a session sees at its base.
 pub fn the_product_merges_trees()
     ensures law { (law : Orders) → StartsMarkingParents (λ h s edit marks. MayStart law h s edit marks) }
-    ensures closed { (law : Orders) (h : History) (v : RevVec) → AreNodes h.clusters h.sessions → IsRun (λ h s edit marks. MayStart law h s edit marks) (λ h s i text. SaysBy law h s i text) h → IsClosed h.past v → IsTree (tree_at h.past v) }
-    ensures bases { (law : Orders) (h : History) (s : ℕ) (v : RevVec) → AreNodes h.clusters h.sessions → IsRun (λ h s edit marks. MayStart law h s edit marks) (λ h s i text. SaysBy law h s i text) h → base_of h.past s ≡ Some v → IsTree (tree_at h.past v) }
+    ensures closed { (law : Orders) (h : History) (v : RevVec) → AreNodes h.clusters h.sessions → IsRunOf (λ h s edit marks. MayStart law h s edit marks) (λ h s i text. SaysBy law h s i text) h.clusters h.sessions None h.past → IsClosed h.past v → IsTree (tree_at None h.past v) }
+    ensures bases { (law : Orders) (h : History) (s : ℕ) (v : RevVec) → AreNodes h.clusters h.sessions → IsRunOf (λ h s edit marks. MayStart law h s edit marks) (λ h s i text. SaysBy law h s i text) h.clusters h.sessions None h.past → base_of h.past s ≡ Some v → IsTree (tree_at None h.past v) }
 {}

@@ -1,5 +1,5 @@
 -- The memories of a run, event by event.
-use Rattle.std.proofs.Common.{◌≡◌, ◌≢◌, ◌↔◌, ℕ, zero, suc, ◌+◌, ◌≤◌, Bool, true, false, cond, Option, Some, None, List, [], ◌∷◌, is_some, refl, sym, ap, subst, ◌∙◌, arith}
+use Rattle.std.proofs.Common.{◌≡◌, ◌≢◌, ◌↔◌, ℕ, zero, suc, ◌+◌, ◌-◌, ◌≤◌, ◌&&◌, Bool, true, false, cond, Option, Some, None, List, [], ◌∷◌, is_some, refl, sym, ap, subst, ◌∙◌, arith}
 use Rattle.std.specs.Prelude.{◌==◌, max, nat_le, slice_get, unwrap_or}
 use Rattle.std.specs.List.Sorted.{IsStrictlySortedBy}
 use Rattle.std.specs.Map.{keys_of}
@@ -24,20 +24,23 @@ use Rattle.oak_machine.specs.Sessions.{has_left, has_login}
 use Rattle.oak_node.specs.declared.pending.Note.{Note}
 use Rattle.oak_node.specs.Heads.{IsInFlight, finished, greatest_time, next_draw, with_draw}
 use Rattle.oak_node.specs.Memory.{NodeState, begun, own_entry}
-use Rattle.oak_node.specs.Pins.{pin_now, with_pin, without_pin}
+use Rattle.oak_node.specs.Pins.{pin_now, with_pin}
 use Rattle.oak_node.proofs.Kept.{pins_memory, start_memory}
 use Rattle.oak_node.proofs.Owns.{with_entry_same}
 use Rattle.core_read.proofs.Latest.{at_most_both, before_itself, not_before}
 use Rattle.core_heads.specs.Sound.{IsSound}
+use mathlib.Core.Bool.{false≢true}
+use Rattle.core_heads.proofs.Below.{start_stands}
+use Rattle.core_heads.proofs.Entries.{start_begun}
 use Rattle.core_heads.proofs.Later.{IsLater}
 use Rattle.core_heads.proofs.Locals.{some_of}
 use Rattle.core_heads.proofs.Orders.{and_both, not_both, same_itself}
 use Rattle.core_heads.proofs.Runs.{fresh_run, sound_run}
 use Rattle.core_heads.proofs.Steps.{later_draw, later_end}
-use Rattle.core_nodes.specs.Nodes.{ArePinsOf, IsMemoryOf, is_of_node, leaves_memory, session_pin}
+use Rattle.core_nodes.specs.Nodes.{ArePinsOf, IsMemoryOf, cursor_owner, is_of_node, leaves_memory, without_session}
 use Rattle.core_nodes.proofs.Memories.{draw_apart, draw_kept, end_apart, end_kept, head_entry, in_apart, own_is}
 use Rattle.core_nodes.proofs.Pasts.{ended_was_drawn, not_true}
-use Rattle.core_nodes.proofs.Pins.{end_pin, left_had_login, login_pin, now_is, pins_put, pins_taken, refresh_pin}
+use Rattle.core_nodes.proofs.Pins.{end_base, left_had_login, login_base, pins_put, pins_taken, refresh_base}
 use Rattle.core_nodes.proofs.Waits.{flying_is}
 
 -- ---- the start
@@ -68,27 +71,29 @@ begun_is clusters sessions nodes k node =
     record {
       cluster = refl;
       head = sym (with_entry_same (start clusters) k (start_of k) there refl);
-      sweep = refl;
+      sweep = record { vector = record { eight = refl; stands = start_stands clusters }; begun = start_begun clusters nodes.some; below = λ x h. h };
       last = refl;
       above = refl;
       memory = start_memory (begun k (start clusters)) node.0 (omega arith) (subst (λ (o : Option Revision). IsSomeAnd o (λ e. e.cluster ≡ k)) (sym there) refl) refl refl;
     }
 
-pub begun_pins : (clusters : ℕ) (sessions : List ℕ) (k : ℕ) → ArePinsOf clusters sessions [] k (begun k (start clusters))
-begun_pins clusters sessions k owner = by (is_of_node sessions k owner)
+pub begun_pins : (clusters : ℕ) (sessions : List ℕ) (k : ℕ) → ArePinsOf sessions [] k (begun k (start clusters))
+begun_pins clusters sessions k = record { bases = λ owner. by (is_some (slice_get sessions owner)) (is_of_node sessions k owner) (nat_le 64 owner && is_of_node sessions k (owner - 64)); pairs = λ owner pin h. absurd (false≢true (ap is_some h)) }
   where
-    by : (b : Bool) → None ≡ cond b (session_pin clusters [] owner) None
-    by true = refl
-    by false = refl
+    by : (a b c : Bool) → None ≡ cond {A = Option RevVec} a (cond b None None) (cond c None None)
+    by true true c = refl
+    by true false c = refl
+    by false b true = refl
+    by false b false = refl
 
 -- ---- what touches no head
 
 -- the revision that the node draws next
-pub next_is : (clusters : ℕ) (past : Past) (k : ℕ) (s : NodeState) → IsMemoryOf clusters past k s → next_draw s ≡ Rattle.oak_machine.specs.Heads.next_draw clusters past k
+pub next_is : (clusters : ℕ) (past : Past) (k : ℕ) (s : NodeState) → IsMemoryOf clusters past k s → next_draw s ≡ Rattle.oak_machine.specs.Heads.next_draw clusters None past k
 next_is clusters past k s is =
     ap (λ (v : RevVec). record { time = max (greatest_time v) s.last_time + 1; counter = 0; cluster = s.cluster }) is.head
-    ∙ (ap (λ (t : ℕ). record { time = max (greatest_time (head_of clusters past k)) t + 1; counter = 0; cluster = s.cluster }) is.last
-    ∙ ap (λ (j : ℕ). record { time = max (greatest_time (head_of clusters past k)) (last_draw_time past k) + 1; counter = 0; cluster = j }) is.cluster)
+    ∙ (ap (λ (t : ℕ). record { time = max (greatest_time (head_of clusters None past k)) t + 1; counter = 0; cluster = s.cluster }) is.last
+    ∙ ap (λ (j : ℕ). record { time = max (greatest_time (head_of clusters None past k)) (last_draw_time past k) + 1; counter = 0; cluster = j }) is.cluster)
 
 pub pins_kept : (clusters : ℕ) (past : Past) (k : ℕ) (s : NodeState) (pins : List (ℕ × Pin)) → IsMemoryOf clusters past k s → IsStrictlySortedBy nat_cmp (keys_of pins) → IsMemoryOf clusters past k (record s { pins = pins })
 pins_kept clusters past k s pins is sorted = record {
@@ -123,7 +128,7 @@ notes_kept clusters past k s notes is = record {
 -- ---- a run
 
 module _ (starts : Starts) (says : Says) (clusters : ℕ) (sessions : List ℕ) (nodes : AreNodes clusters sessions) where
-  module _ (d : Draw) (past : Past) (run : IsRunOf starts says clusters sessions (event.Draw d ∷ past)) where
+  module _ (d : Draw) (past : Past) (run : IsRunOf starts says clusters sessions None (event.Draw d ∷ past)) where
     drawn_node : IsNode clusters d.revision.cluster
     drawn_node = nodes.node d.session d.revision.cluster run.0.cluster
 
@@ -148,10 +153,10 @@ module _ (starts : Starts) (says : Says) (clusters : ℕ) (sessions : List ℕ) 
         (draw_kept clusters sessions nodes past (sound_run clusters sessions nodes starts says past run.1) d drawn_node drawn_later drawn_open s is next)
 
   -- the node of a drawn revision
-  pub node_of : (past : Past) (r : Revision) → IsRunOf starts says clusters sessions past → is_drawn past r ≡ true → IsNode clusters r.cluster
+  pub node_of : (past : Past) (r : Revision) → IsRunOf starts says clusters sessions None past → is_drawn past r ≡ true → IsNode clusters r.cluster
   node_of past r run drawn = let d = some_of (draw_of past r) drawn in ((sound_run clusters sessions nodes starts says past run).draws r d.0 d.1).node
 
-  module _ (r : Revision) (past : Past) (run : IsRunOf starts says clusters sessions (event.End r ∷ past)) where
+  module _ (r : Revision) (past : Past) (run : IsRunOf starts says clusters sessions None (event.End r ∷ past)) where
     ended_sound : IsSound clusters sessions past
     ended_sound = sound_run clusters sessions nodes starts says past run.1
 
@@ -166,10 +171,10 @@ module _ (starts : Starts) (says : Says) (clusters : ℕ) (sessions : List ℕ) 
     end_flies s is = (flying_is clusters sessions nodes past ended_sound r.cluster ended_node s is r).1 (refl, run.0)
 
     -- its head moves where its own entry rises
-    pub moved_run : (s : NodeState) → IsMemoryOf clusters past r.cluster s → (is_before (own_entry s) (own_entry (finished s r)) ≡ true) ↔ (head_of clusters past r.cluster ≢ head_of clusters (event.End r ∷ past) r.cluster)
+    pub moved_run : (s : NodeState) → IsMemoryOf clusters past r.cluster s → (is_before (own_entry s) (own_entry (finished s r)) ≡ true) ↔ (head_of clusters None past r.cluster ≢ head_of clusters None (event.End r ∷ past) r.cluster)
     moved_run s is = (
-      λ h same. not_both (is_before (local past k) (local past k)) (subst (λ (x : Revision). is_before (local past k) x ≡ true) (sym (entries same)) (sym rises ∙ h)) (before_itself (local past k)),
-      λ moved. rises ∙ by moved (is_before (local past k) (local later k)) refl,
+      λ h same. not_both (is_before (local None past k) (local None past k)) (subst (λ (x : Revision). is_before (local None past k) x ≡ true) (sym (entries same)) (sym rises ∙ h)) (before_itself (local None past k)),
+      λ moved. rises ∙ by moved (is_before (local None past k) (local None later k)) refl,
     )
       where
         k : ℕ
@@ -178,24 +183,24 @@ module _ (starts : Starts) (says : Says) (clusters : ℕ) (sessions : List ℕ) 
         later : Past
         later = event.End r ∷ past
 
-        rises : is_before (own_entry s) (own_entry (finished s r)) ≡ is_before (local past k) (local later k)
+        rises : is_before (own_entry s) (own_entry (finished s r)) ≡ is_before (local None past k) (local None later k)
         rises =
             ap (λ e. is_before e (own_entry (finished s r))) (own_is clusters sessions nodes past ended_sound k ended_node s is)
-            ∙ ap (is_before (local past k)) (own_is clusters sessions nodes later (sound_run clusters sessions nodes starts says later run) k ended_node (finished s r) (end_run s is))
+            ∙ ap (is_before (local None past k)) (own_is clusters sessions nodes later (sound_run clusters sessions nodes starts says later run) k ended_node (finished s r) (end_run s is))
 
-        entries : head_of clusters past k ≡ head_of clusters later k → local past k ≡ local later k
+        entries : head_of clusters None past k ≡ head_of clusters None later k → local None past k ≡ local None later k
         entries same =
-            ap (λ o. unwrap_or o (local past k))
+            ap (λ o. unwrap_or o (local None past k))
             (sym (head_entry clusters sessions nodes past ended_sound k ended_node)
             ∙ (ap (λ (v : RevVec). entry v k) same
             ∙ head_entry clusters sessions nodes later (sound_run clusters sessions nodes starts says later run) k ended_node))
 
-        by : (head_of clusters past k ≢ head_of clusters later k) → (b : Bool) → is_before (local past k) (local later k) ≡ b → b ≡ true
+        by : (head_of clusters None past k ≢ head_of clusters None later k) → (b : Bool) → is_before (local None past k) (local None later k) ≡ b → b ≡ true
         by moved true e = refl
-        by moved false e = absurd (moved (ap (with_entry (last_in clusters past k)) (at_most_both (local past k) (local later k) ((later_end clusters sessions nodes past ended_sound r).locals k) (not_before (local past k) (local later k) e))))
+        by moved false e = absurd (moved (ap (with_entry (last_in clusters None past k)) (at_most_both (local None past k) (local None later k) ((later_end clusters sessions nodes past ended_sound r).locals k) (not_before (local None past k) (local None later k) e))))
 
   -- an event that leaves a memory
-  pub apart_run : (e : Event) (past : Past) (k : ℕ) (s : NodeState) → IsRunOf starts says clusters sessions (e ∷ past) → leaves_memory k e ≡ true → IsMemoryOf clusters past k s → IsMemoryOf clusters (e ∷ past) k s
+  pub apart_run : (e : Event) (past : Past) (k : ℕ) (s : NodeState) → IsRunOf starts says clusters sessions None (e ∷ past) → leaves_memory k e ≡ true → IsMemoryOf clusters past k s → IsMemoryOf clusters (e ∷ past) k s
   apart_run (event.Draw d) past k s run h is = draw_apart clusters sessions nodes past (sound_run clusters sessions nodes starts says past run.1) d (drawn_node d past run) (drawn_later d past run) (drawn_open d past run) k s (not_true (d.revision.cluster == k) h) is
   apart_run (event.End r) past k s run h is = end_apart clusters sessions nodes past (sound_run clusters sessions nodes starts says past run.1) r k s (λ same. not_both (k == k) (same_itself k) (subst (λ (j : ℕ). (j == k) ≡ false) same (not_true (r.cluster == k) h))) is
   apart_run (event.In m v) past k s run h is = in_apart clusters sessions nodes past (sound_run clusters sessions nodes starts says past run.1) m v k s (not_true (m == k) h) is
@@ -203,28 +208,30 @@ module _ (starts : Starts) (says : Says) (clusters : ℕ) (sessions : List ℕ) 
 
   -- ---- pins
 
-  pub stays : (past : Past) (s : ℕ) → IsRunOf starts says clusters sessions past → has_login past s ≡ false → has_left past s ≡ false
+  pub stays : (past : Past) (s : ℕ) → IsRunOf starts says clusters sessions None past → has_login past s ≡ false → has_left past s ≡ false
   stays past s run new = by (has_left past s) refl
     where
       by : (b : Bool) → has_left past s ≡ b → b ≡ false
       by true h = not_both (has_login past s) (left_had_login starts says clusters sessions past run s h) new
       by false h = refl
 
-  module _ (past : Past) (k : ℕ) (s : NodeState) (is : IsMemoryOf clusters past k s) (are : ArePinsOf clusters sessions past k s) (t : ℕ) where
+  module _ (past : Past) (k : ℕ) (s : NodeState) (is : IsMemoryOf clusters past k s) (are : ArePinsOf sessions past k s) (t : ℕ) where
     -- the vector is the head of the session's node
-    head_for : (v : RevVec) (j : ℕ) → slice_get sessions t ≡ Some k → slice_get sessions t ≡ Some j → v ≡ head_of clusters past j → v ≡ head_of clusters past k
-    head_for v j of on head = head ∙ ap (head_of clusters past) (ap (λ o. unwrap_or o j) (sym on ∙ of))
+    head_for : (v : RevVec) (j : ℕ) → slice_get sessions t ≡ Some k → slice_get sessions t ≡ Some j → v ≡ head_of clusters None past j → v ≡ head_of clusters None past k
+    head_for v j of on head = head ∙ ap (head_of clusters None past) (ap (λ o. unwrap_or o j) (sym on ∙ of))
 
-    pub login_run : (v : RevVec) → IsRunOf starts says clusters sessions (event.Login t v ∷ past) → slice_get sessions t ≡ Some k → ArePinsOf clusters sessions (event.Login t v ∷ past) k (with_pin s t (pin_now s))
+    pub login_run : (v : RevVec) → IsRunOf starts says clusters sessions None (event.Login t v ∷ past) → slice_get sessions t ≡ Some k → ArePinsOf sessions (event.Login t v ∷ past) k (with_pin s t (pin_now s))
     login_run v run of =
-        pins_put clusters sessions past k s are (event.Login t v) t (pin_now s) refl of
-        (login_pin clusters past t v (stays past t run.1 run.0.first) ∙ ap Some (sym (now_is clusters past k s is v (head_for v run.0.head.0 of run.0.head.1 run.0.head.2))))
+        pins_put sessions past k s are (event.Login t v) t (pin_now s) refl (λ q. refl) of
+        (login_base past t v (stays past t run.1 run.0.first) ∙ ap Some (head_for v run.0.head.0 of run.0.head.1 run.0.head.2 ∙ sym is.head))
+        is.sweep
 
-    pub refresh_run : (v : RevVec) → IsRunOf starts says clusters sessions (event.Refresh t v ∷ past) → slice_get sessions t ≡ Some k → has_left past t ≡ false → ArePinsOf clusters sessions (event.Refresh t v ∷ past) k (with_pin s t (pin_now s))
+    pub refresh_run : (v : RevVec) → IsRunOf starts says clusters sessions None (event.Refresh t v ∷ past) → slice_get sessions t ≡ Some k → has_left past t ≡ false → ArePinsOf sessions (event.Refresh t v ∷ past) k (with_pin s t (pin_now s))
     refresh_run v run of here =
-        pins_put clusters sessions past k s are (event.Refresh t v) t (pin_now s) refl of
-        (refresh_pin clusters past t v run.0.login here ∙ ap Some (sym (now_is clusters past k s is v (head_for v run.0.head.0 of run.0.head.1 run.0.head.2))))
+        pins_put sessions past k s are (event.Refresh t v) t (pin_now s) refl (λ q. refl) of
+        (refresh_base past t v run.0.login here ∙ ap Some (head_for v run.0.head.0 of run.0.head.1 run.0.head.2 ∙ sym is.head))
+        is.sweep
 
--- a session that leaves has no pin
-pub leave_run : (clusters : ℕ) (sessions : List ℕ) (past : Past) (k : ℕ) (s : NodeState) → IsMemoryOf clusters past k s → ArePinsOf clusters sessions past k s → (t : ℕ) → ArePinsOf clusters sessions (event.Went t kind.End ∷ past) k (without_pin s t)
-leave_run clusters sessions past k s is are t = pins_taken clusters sessions past k s are (event.Went t kind.End) t is.memory.owners refl (end_pin clusters past t)
+-- a session that leaves has no pin, nor has its cursor
+pub leave_run : (clusters : ℕ) (sessions : List ℕ) (past : Past) (k : ℕ) (s : NodeState) → IsMemoryOf clusters past k s → ArePinsOf sessions past k s → (t : ℕ) → slice_get sessions t ≡ Some k → slice_get sessions (cursor_owner t) ≡ None → ArePinsOf sessions (event.Went t kind.End ∷ past) k (without_session s t)
+leave_run clusters sessions past k s is are t of none = pins_taken sessions past k s are t is.memory.owners of none (end_base past t)

@@ -1,4 +1,5 @@
 pub mod Events
+pub mod Learning
 pub mod Lists
 pub mod Memories
 pub mod Pasts

@@ -1,5 +1,5 @@
 -- Each event leaves each memory that of the past.
-use Rattle.std.proofs.Common.{◌≡◌, ℕ, ◌+◌, ◌<◌, Bool, true, false, cond, not, ◌&&◌, ◌||◌, ◌⊎◌, inl, inr, Option, Some, List, [], ◌∷◌, ◌++◌, map, filter, fold, reverse, refl, sym, ap, subst, ◌∙◌, arith}
+use Rattle.std.proofs.Common.{◌≡◌, ℕ, ◌+◌, ◌<◌, Bool, true, false, cond, not, ◌&&◌, ◌||◌, ◌⊎◌, inl, inr, Option, Some, List, [], ◌∷◌, ◌++◌, map, filter, fold, reverse, refl, sym, ap, subst, ◌∙◌, arith, None}
 use Rattle.std.specs.Prelude.{◌==◌, unwrap_or}
 use Rattle.std.specs.List.{list_all}
 use mathlib.Core.Bool.{false≢true}
@@ -9,7 +9,7 @@ use Rattle.std.proofs.lemmas.List.Elements.{filter-append}
 use Rattle.jr_rev.specs.declared.revision.Revision.{Revision}
 use Rattle.jr_rev.specs.declared.vector.RevVec.{RevVec}
 use Rattle.jr_rev.specs.Revisions.{is_at_most, is_before, is_same}
-use Rattle.jr_rev.specs.Vectors.{entry, start_of, with_entry}
+use Rattle.jr_rev.specs.Vectors.{entry, sees, start_of, with_entry}
 use Rattle.oak_machine.specs.declared.event.Draw.{Draw}
 use Rattle.oak_machine.specs.declared.event.Event.TheVariants as event
 use Rattle.oak_machine.specs.History.{Past}
@@ -30,20 +30,20 @@ use Rattle.core_heads.proofs.Steps.{later_end}
 use Rattle.core_nodes.specs.Nodes.{IsMemoryOf, as_drawn, drawn_above, revisions_above}
 use Rattle.core_nodes.proofs.Lists.{ended_drawn, filter_drawn, filter_twice, flying_of_drawn, revisions_of_drawn, same_drawn}
 use Rattle.core_nodes.proofs.Pasts.{above_in, at_most_before, drawn_local, ended_local, in_above, local_before, local_time}
-use Rattle.core_nodes.proofs.Vectors.{entry_set, with_again}
+use Rattle.core_nodes.proofs.Vectors.{entry_set, pair_grows, with_again}
 
 module _ (clusters : ℕ) (sessions : List ℕ) (nodes : AreNodes clusters sessions) (past : Past) (sound : IsSound clusters sessions past) where
   -- ---- what a memory of the past has
 
   module _ (k : ℕ) (node : IsNode clusters k) where
     -- the head's own entry is the local revision
-    pub head_entry : entry (head_of clusters past k) k ≡ Some (local past k)
-    head_entry = let n = nodes.eight in let m = node.1 in let l = (sound.ins k node).eight in entry_set (last_in clusters past k) (local past k) k (local_cluster past k) node.0 (omega arith)
+    pub head_entry : entry (head_of clusters None past k) k ≡ Some (local None past k)
+    head_entry = let n = nodes.eight in let m = node.1 in let l = (sound.ins k node).eight in entry_set (last_in clusters None past k) (local None past k) k (local_cluster past k) node.0 (omega arith)
 
-    pub own_is : (s : NodeState) → IsMemoryOf clusters past k s → own_entry s ≡ local past k
+    pub own_is : (s : NodeState) → IsMemoryOf clusters past k s → own_entry s ≡ local None past k
     own_is s is =
         ap (λ (v : RevVec). unwrap_or (entry v s.cluster) (start_of s.cluster)) is.head
-        ∙ (ap (λ (j : ℕ). unwrap_or (entry (head_of clusters past k) j) (start_of j)) is.cluster
+        ∙ (ap (λ (j : ℕ). unwrap_or (entry (head_of clusters None past k) j) (start_of j)) is.cluster
         ∙ ap (λ (o : Option Revision). unwrap_or o (start_of k)) head_entry)
 
   -- ---- an end
@@ -74,7 +74,7 @@ module _ (clusters : ℕ) (sessions : List ℕ) (nodes : AreNodes clusters sessi
               all_in (is_before q) fliers p.1 o (in_filter (λ x. not (is_ended later x)) (revisions_above past k) o (in_above past k o f.0 same above) f.1);
         }
 
-    in_settled : (q : Revision) → IsSettledDraw later k q → is_before (local past k) q ≡ true → IsIn q (filter (λ x. list_all (is_before x) fliers) (revisions_above past k))
+    in_settled : (q : Revision) → IsSettledDraw later k q → is_before (local None past k) q ≡ true → IsIn q (filter (λ x. list_all (is_before x) fliers) (revisions_above past k))
     in_settled q s above =
         in_filter (λ x. list_all (is_before x) fliers) (revisions_above past k) q (in_above past k q s.drawn s.cluster above)
         (in_all (is_before q) fliers (λ o i.
@@ -83,35 +83,35 @@ module _ (clusters : ℕ) (sessions : List ℕ) (nodes : AreNodes clusters sessi
         s.below o (and_true (is_drawn past o) _ d.0 p.1) d.1))
 
     abbrev found : Revision
-    found = fold greater_of (local past k) (filter (λ x. list_all (is_before x) fliers) (revisions_above past k))
+    found = fold greater_of (local None past k) (filter (λ x. list_all (is_before x) fliers) (revisions_above past k))
 
     grown : IsLater clusters past later
     grown = later_end clusters sessions nodes past sound r
 
-    found_low : is_at_most found (local later k) ≡ true
-    found_low = fold_has (λ x. is_at_most x (local later k) ≡ true) (local past k) (filter (λ x. list_all (is_before x) fliers) (revisions_above past k)) (grown.locals k)
+    found_low : is_at_most found (local None later k) ≡ true
+    found_low = fold_has (λ x. is_at_most x (local None later k) ≡ true) (local None past k) (filter (λ x. list_all (is_before x) fliers) (revisions_above past k)) (grown.locals k)
         (λ q i. local_each later k q (settled_in q i))
 
-    found_high : is_at_most (local later k) found ≡ true
+    found_high : is_at_most (local None later k) found ≡ true
     found_high = by (local_is later k)
       where
-        first : is_at_most (local past k) found ≡ true
-        first = fold_first (local past k) (filter (λ x. list_all (is_before x) fliers) (revisions_above past k))
+        first : is_at_most (local None past k) found ≡ true
+        first = fold_first (local None past k) (filter (λ x. list_all (is_before x) fliers) (revisions_above past k))
 
-        above : IsSettledDraw later k (local later k) → (b : Bool) → is_before (local past k) (local later k) ≡ b → is_at_most (local later k) found ≡ true
-        above s true h = fold_each (local past k) (filter (λ x. list_all (is_before x) fliers) (revisions_above past k)) (local later k) (in_settled (local later k) s h)
-        above s false h = at_most_trans (local later k) (local past k) found (not_before (local past k) (local later k) h) first
+        above : IsSettledDraw later k (local None later k) → (b : Bool) → is_before (local None past k) (local None later k) ≡ b → is_at_most (local None later k) found ≡ true
+        above s true h = fold_each (local None past k) (filter (λ x. list_all (is_before x) fliers) (revisions_above past k)) (local None later k) (in_settled (local None later k) s h)
+        above s false h = at_most_trans (local None later k) (local None past k) found (not_before (local None past k) (local None later k) h) first
 
-        by : (local later k ≡ start_of k) ⊎ IsSettledDraw later k (local later k) → is_at_most (local later k) found ≡ true
-        by (inl e) = at_most_trans (local later k) (local past k) found (subst (λ (x : Revision). is_at_most x (local past k) ≡ true) (sym e) (local_first past k)) first
-        by (inr s) = above s (is_before (local past k) (local later k)) refl
+        by : (local None later k ≡ start_of k) ⊎ IsSettledDraw later k (local None later k) → is_at_most (local None later k) found ≡ true
+        by (inl e) = at_most_trans (local None later k) (local None past k) found (subst (λ (x : Revision). is_at_most x (local None past k) ≡ true) (sym e) (local_first past k)) first
+        by (inr s) = above s (is_before (local None past k) (local None later k)) refl
 
     -- the memory finds the local revision
-    found_is : local_from (local past k) (map (as_drawn later) (revisions_above past k)) ≡ local later k
+    found_is : local_from (local None past k) (map (as_drawn later) (revisions_above past k)) ≡ local None later k
     found_is =
-        ap (λ (fs : List Revision). fold greater_of (local past k) (filter (λ x. list_all (is_before x) fs) (revisions_in (map (as_drawn later) (revisions_above past k))))) (flying_of_drawn later (revisions_above past k))
-        ∙ (ap (λ (qs : List Revision). fold greater_of (local past k) (filter (λ x. list_all (is_before x) fliers) qs)) (revisions_of_drawn later (revisions_above past k))
-        ∙ at_most_both found (local later k) found_low found_high)
+        ap (λ (fs : List Revision). fold greater_of (local None past k) (filter (λ x. list_all (is_before x) fs) (revisions_in (map (as_drawn later) (revisions_above past k))))) (flying_of_drawn later (revisions_above past k))
+        ∙ (ap (λ (qs : List Revision). fold greater_of (local None past k) (filter (λ x. list_all (is_before x) fliers) qs)) (revisions_of_drawn later (revisions_above past k))
+        ∙ at_most_both found (local None later k) found_low found_high)
 
     module _ (node : IsNode clusters k) (s : NodeState) (is : IsMemoryOf clusters past k s) where
       abbrev moved : Revision
@@ -120,22 +120,25 @@ module _ (clusters : ℕ) (sessions : List ℕ) (nodes : AreNodes clusters sessi
       with_end_is : with_end s.above r ≡ map (as_drawn later) (revisions_above past k)
       with_end_is = ap (λ (ds : List Drawn). with_end ds r) is.above ∙ ended_drawn past r (revisions_above past k)
 
-      moved_is : moved ≡ local later k
-      moved_is = ap (λ e. local_from e (with_end s.above r)) (own_is k node s is) ∙ (ap (local_from (local past k)) with_end_is ∙ found_is)
+      moved_is : moved ≡ local None later k
+      moved_is = ap (λ e. local_from e (with_end s.above r)) (own_is k node s is) ∙ (ap (local_from (local None past k)) with_end_is ∙ found_is)
 
       above_is : filter (λ d. is_before moved d.revision) (with_end s.above r) ≡ drawn_above later k
       above_is =
           ap (filter (λ d. is_before moved d.revision)) with_end_is
           ∙ (filter_drawn later (is_before moved) (revisions_above past k)
           ∙ (ap (λ x. map (as_drawn later) (filter (is_before x) (revisions_above past k))) moved_is
-          ∙ ap (map (as_drawn later)) (filter_twice (is_before (local past k)) (is_before (local later k)) (reverse (draws_by past k)) (λ q h. at_most_before (local past k) (local later k) q (grown.locals k) h))))
+          ∙ ap (map (as_drawn later)) (filter_twice (is_before (local None past k)) (is_before (local None later k)) (reverse (draws_by past k)) (λ q h. at_most_before (local None past k) (local None later k) q (grown.locals k) h))))
+
+      head_is : with_entry s.head moved ≡ head_of clusters None later k
+      head_is = ap (λ (v : RevVec). with_entry v moved) is.head ∙ (ap (with_entry (head_of clusters None past k)) moved_is ∙ with_again (last_in clusters None past k) (local None past k) (local None later k) (local_cluster past k ∙ sym (local_cluster later k)))
 
       -- after an end of a revision in flight
       pub end_kept : IsMemoryOf clusters later k (finished s r)
       end_kept = record {
         cluster = is.cluster;
-        head = ap (λ (v : RevVec). with_entry v moved) is.head ∙ (ap (with_entry (head_of clusters past k)) moved_is ∙ with_again (last_in clusters past k) (local past k) (local later k) (local_cluster past k ∙ sym (local_cluster later k)));
-        sweep = is.sweep;
+        head = head_is;
+        sweep = pair_grows s.head (with_entry s.head moved) s.sweep (λ x h. subst (λ (v : RevVec). sees v x ≡ true) (sym head_is) (grown.heads k node x (subst (λ (v : RevVec). sees v x ≡ true) is.head h))) is.sweep;
         last = is.last;
         above = above_is;
         memory = finish_memory s r moved (with_entry s.head moved) (filter (λ d. is_before moved d.revision) (with_end s.above r)) is.memory refl refl refl;
@@ -151,19 +154,19 @@ module _ (clusters : ℕ) (sessions : List ℕ) (nodes : AreNodes clusters sessi
       late : known_time s < d.revision.time
       late = let t : d.revision.time ≡ known_time s + 1 = ap (λ (x : Revision). x.time) next in omega arith
 
-      new_above : is_before (local past n) d.revision ≡ true
+      new_above : is_before (local None past n) d.revision ≡ true
       new_above =
           let a = local_time clusters sessions nodes past sound n in
           let b = is.last in
           let c = late in
-          time_before (local past n) d.revision (omega arith)
+          time_before (local None past n) d.revision (omega arith)
 
       pushed_is : drawn_above (event.Draw d ∷ past) n ≡ drawn_above past n ++ record { revision = d.revision; ended = false } ∷ []
       pushed_is =
-          ap (λ b. map (as_drawn past) (filter (is_before (local (event.Draw d ∷ past) n)) (reverse (cond b (d.revision ∷ draws_by past n) (draws_by past n))))) (same_itself n)
+          ap (λ b. map (as_drawn past) (filter (is_before (local None (event.Draw d ∷ past) n)) (reverse (cond b (d.revision ∷ draws_by past n) (draws_by past n))))) (same_itself n)
           ∙ (ap (λ x. map (as_drawn past) (filter (is_before x) (reverse (d.revision ∷ draws_by past n)))) (drawn_local clusters past d grown unended n)
-          ∙ (ap (λ (l : List Revision). map (as_drawn past) (filter (is_before (local past n)) l)) (reverse-cons d.revision (draws_by past n))
-          ∙ (ap (map (as_drawn past)) (filter-append (is_before (local past n)) (reverse (draws_by past n)) (d.revision ∷ []))
+          ∙ (ap (λ (l : List Revision). map (as_drawn past) (filter (is_before (local None past n)) l)) (reverse-cons d.revision (draws_by past n))
+          ∙ (ap (map (as_drawn past)) (filter-append (is_before (local None past n)) (reverse (draws_by past n)) (d.revision ∷ []))
           ∙ (ap (λ b. map (as_drawn past) (revisions_above past n ++ cond b (d.revision ∷ []) [])) new_above
           ∙ (map-append (as_drawn past) (revisions_above past n) (d.revision ∷ [])
           ∙ ap (λ (b : Bool). drawn_above past n ++ record { revision = d.revision; ended = b } ∷ []) unended)))))
@@ -172,7 +175,7 @@ module _ (clusters : ℕ) (sessions : List ℕ) (nodes : AreNodes clusters sessi
       pub draw_kept : IsMemoryOf clusters (event.Draw d ∷ past) n (with_draw s d.revision)
       draw_kept = record {
         cluster = is.cluster;
-        head = is.head ∙ sym (ap (with_entry (last_in clusters past n)) (drawn_local clusters past d grown unended n));
+        head = is.head ∙ sym (ap (with_entry (last_in clusters None past n)) (drawn_local clusters past d grown unended n));
         sweep = is.sweep;
         last = sym (ap (λ b. cond b d.revision.time (last_draw_time past n)) (same_itself n));
         above = ap (λ (ds : List Drawn). ds ++ record { revision = d.revision; ended = false } ∷ []) is.above ∙ sym pushed_is;
@@ -183,11 +186,11 @@ module _ (clusters : ℕ) (sessions : List ℕ) (nodes : AreNodes clusters sessi
     pub draw_apart : (k : ℕ) (s : NodeState) → (n == k) ≡ false → IsMemoryOf clusters past k s → IsMemoryOf clusters (event.Draw d ∷ past) k s
     draw_apart k s other is = record {
       cluster = is.cluster;
-      head = is.head ∙ sym (ap (with_entry (last_in clusters past k)) (drawn_local clusters past d grown unended k));
+      head = is.head ∙ sym (ap (with_entry (last_in clusters None past k)) (drawn_local clusters past d grown unended k));
       sweep = is.sweep;
       last = is.last ∙ sym (ap (λ b. cond b d.revision.time (last_draw_time past k)) other);
       above = is.above ∙ sym
-          (ap (λ b. map (as_drawn past) (filter (is_before (local (event.Draw d ∷ past) k)) (reverse (cond b (d.revision ∷ draws_by past k) (draws_by past k))))) other
+          (ap (λ b. map (as_drawn past) (filter (is_before (local None (event.Draw d ∷ past) k)) (reverse (cond b (d.revision ∷ draws_by past k) (draws_by past k))))) other
           ∙ ap (λ x. map (as_drawn past) (filter (is_before x) (reverse (draws_by past k)))) (drawn_local clusters past d grown unended k));
       memory = is.memory;
     }
@@ -196,10 +199,10 @@ module _ (clusters : ℕ) (sessions : List ℕ) (nodes : AreNodes clusters sessi
 
   pub end_apart : (r : Revision) (k : ℕ) (s : NodeState) → (r.cluster ≡ k → ⊥) → IsMemoryOf clusters past k s → IsMemoryOf clusters (event.End r ∷ past) k s
   end_apart r k s other is =
-      let same : local (event.End r ∷ past) k ≡ local past k = ended_local clusters past r (later_end clusters sessions nodes past sound r) k other in
+      let same : local None (event.End r ∷ past) k ≡ local None past k = ended_local clusters past r (later_end clusters sessions nodes past sound r) k other in
       record {
         cluster = is.cluster;
-        head = is.head ∙ sym (ap (with_entry (last_in clusters past k)) same);
+        head = is.head ∙ sym (ap (with_entry (last_in clusters None past k)) same);
         sweep = is.sweep;
         last = is.last;
         above = is.above ∙ sym
@@ -215,7 +218,7 @@ module _ (clusters : ℕ) (sessions : List ℕ) (nodes : AreNodes clusters sessi
   pub in_apart : (m : ℕ) (v : RevVec) (k : ℕ) (s : NodeState) → (m == k) ≡ false → IsMemoryOf clusters past k s → IsMemoryOf clusters (event.In m v ∷ past) k s
   in_apart m v k s other is = record {
     cluster = is.cluster;
-    head = is.head ∙ sym (ap (λ b. with_entry (cond b v (last_in clusters past k)) (local past k)) other);
+    head = is.head ∙ sym (ap (λ b. with_entry (cond b v (last_in clusters None past k)) (local None past k)) other);
     sweep = is.sweep;
     last = is.last;
     above = is.above;

@@ -1,5 +1,5 @@
 -- Draws and ends of a run, and the local revisions that they leave.
-use Rattle.std.proofs.Common.{◌≡◌, ℕ, ◌≤◌, Bool, true, false, cond, not, ◌&&◌, ◌||◌, ◌⊎◌, inl, inr, Some, List, [], ◌∷◌, reverse, is_some, refl, sym, ap, subst, ◌∙◌, arith}
+use Rattle.std.proofs.Common.{◌≡◌, ℕ, ◌≤◌, Bool, true, false, cond, not, ◌&&◌, ◌||◌, ◌⊎◌, inl, inr, Some, List, [], ◌∷◌, reverse, is_some, refl, sym, ap, subst, ◌∙◌, arith, None}
 use mathlib.Core.Bool.{false≢true}
 use Rattle.jr_rev.specs.declared.revision.Revision.{Revision}
 use Rattle.jr_rev.specs.Revisions.{is_at_most, is_before, is_same}
@@ -49,7 +49,7 @@ still_drawn false d past r h = h
 -- ---- ends
 
 -- what has ended was drawn
-pub ended_was_drawn : (starts : Starts) (says : Says) (clusters : ℕ) (sessions : List ℕ) (past : Past) → IsRunOf starts says clusters sessions past → (r : Revision) → is_ended past r ≡ true → is_drawn past r ≡ true
+pub ended_was_drawn : (starts : Starts) (says : Says) (clusters : ℕ) (sessions : List ℕ) (past : Past) → IsRunOf starts says clusters sessions None past → (r : Revision) → is_ended past r ≡ true → is_drawn past r ≡ true
 ended_was_drawn starts says clusters sessions [] run r h = absurd (false≢true h)
 ended_was_drawn starts says clusters sessions (event.Draw d ∷ past) run r h = still_drawn (is_same r d.revision) d past r (ended_was_drawn starts says clusters sessions past run.1 r h)
 ended_was_drawn starts says clusters sessions (event.End q ∷ past) run r h = by (ended_was_drawn starts says clusters sessions past run.1 r) (is_same r q) refl h
@@ -62,30 +62,30 @@ ended_was_drawn starts says clusters sessions (e ∷ past) run r h = ended_was_d
 -- ---- local revisions
 
 -- where the same is settled, the local revision is the same
-pub local_same : (past later : Past) (k : ℕ) → is_at_most (local past k) (local later k) ≡ true → ((r : Revision) → IsSettledDraw later k r → IsSettledDraw past k r) → local later k ≡ local past k
-local_same past later k grown back = at_most_both (local later k) (local past k) (local_grows later past k back) grown
+pub local_same : (past later : Past) (k : ℕ) → is_at_most (local None past k) (local None later k) ≡ true → ((r : Revision) → IsSettledDraw later k r → IsSettledDraw past k r) → local None later k ≡ local None past k
+local_same past later k grown back = at_most_both (local None later k) (local None past k) (local_grows later past k back) grown
 
 -- it is before each revision of its node in flight
-pub local_before : (clusters : ℕ) (sessions : List ℕ) (nodes : AreNodes clusters sessions) (past : Past) → IsSound clusters sessions past → (k : ℕ) (o : Revision) → is_in_flight past o ≡ true → o.cluster ≡ k → is_before (local past k) o ≡ true
+pub local_before : (clusters : ℕ) (sessions : List ℕ) (nodes : AreNodes clusters sessions) (past : Past) → IsSound clusters sessions past → (k : ℕ) (o : Revision) → is_in_flight past o ≡ true → o.cluster ≡ k → is_before (local None past k) o ≡ true
 local_before clusters sessions nodes past sound k o flies same = by (local_is past k)
   where
-    by : (local past k ≡ start_of k) ⊎ IsSettledDraw past k (local past k) → is_before (local past k) o ≡ true
+    by : (local None past k ≡ start_of k) ⊎ IsSettledDraw past k (local None past k) → is_before (local None past k) o ≡ true
     by (inl e) =
         let t = (timed clusters sessions nodes past sound o (and_both (is_drawn past o) _ flies).0).1 in
         let z = ap (λ (x : Revision). x.time) e in
-        time_before (local past k) o (omega arith)
+        time_before (local None past k) o (omega arith)
     by (inr s) = s.below o flies same
 
 -- and no later than the last draw of its node
-pub local_time : (clusters : ℕ) (sessions : List ℕ) (nodes : AreNodes clusters sessions) (past : Past) → IsSound clusters sessions past → (k : ℕ) → (local past k).time ≤ last_draw_time past k
+pub local_time : (clusters : ℕ) (sessions : List ℕ) (nodes : AreNodes clusters sessions) (past : Past) → IsSound clusters sessions past → (k : ℕ) → (local None past k).time ≤ last_draw_time past k
 local_time clusters sessions nodes past sound k = by (local_is past k)
   where
-    by : (local past k ≡ start_of k) ⊎ IsSettledDraw past k (local past k) → (local past k).time ≤ last_draw_time past k
+    by : (local None past k ≡ start_of k) ⊎ IsSettledDraw past k (local None past k) → (local None past k).time ≤ last_draw_time past k
     by (inl e) = let z = ap (λ (x : Revision). x.time) e in omega arith
-    by (inr s) = subst (λ (j : ℕ). (local past k).time ≤ last_draw_time past j) s.cluster (timed clusters sessions nodes past sound (local past k) s.drawn).0
+    by (inr s) = subst (λ (j : ℕ). (local None past k).time ≤ last_draw_time past j) s.cluster (timed clusters sessions nodes past sound (local None past k) s.drawn).0
 
 -- a draw moves no local revision
-pub drawn_local : (clusters : ℕ) (past : Past) (d : Draw) → IsLater clusters past (event.Draw d ∷ past) → is_ended past d.revision ≡ false → (k : ℕ) → local (event.Draw d ∷ past) k ≡ local past k
+pub drawn_local : (clusters : ℕ) (past : Past) (d : Draw) → IsLater clusters past (event.Draw d ∷ past) → is_ended past d.revision ≡ false → (k : ℕ) → local None (event.Draw d ∷ past) k ≡ local None past k
 drawn_local clusters past d grown unended k = local_same past (event.Draw d ∷ past) k (grown.locals k) back
   where
     flies : is_in_flight (event.Draw d ∷ past) d.revision ≡ true
@@ -104,7 +104,7 @@ drawn_local clusters past d grown unended k = local_same past (event.Draw d ∷ 
         by false e h = h
 
 -- an end moves no local revision of another node
-pub ended_local : (clusters : ℕ) (past : Past) (r : Revision) → IsLater clusters past (event.End r ∷ past) → (k : ℕ) → (r.cluster ≡ k → ⊥) → local (event.End r ∷ past) k ≡ local past k
+pub ended_local : (clusters : ℕ) (past : Past) (r : Revision) → IsLater clusters past (event.End r ∷ past) → (k : ℕ) → (r.cluster ≡ k → ⊥) → local None (event.End r ∷ past) k ≡ local None past k
 ended_local clusters past r grown k other = local_same past (event.End r ∷ past) k (grown.locals k) back
   where
     still : (o : Revision) → o.cluster ≡ k → (b : Bool) → is_same o r ≡ b → is_in_flight past o ≡ true → (is_drawn past o && not (b || is_ended past o)) ≡ true
@@ -116,11 +116,11 @@ ended_local clusters past r grown k other = local_same past (event.End r ∷ pas
 
 -- ---- what a node drew above its local revision
 
-pub above_in : (past : Past) (k : ℕ) (q : Revision) → IsIn q (revisions_above past k) → (is_drawn past q ≡ true) × (q.cluster ≡ k) × (is_before (local past k) q ≡ true)
+pub above_in : (past : Past) (k : ℕ) (q : Revision) → IsIn q (revisions_above past k) → (is_drawn past q ≡ true) × (q.cluster ≡ k) × (is_before (local None past k) q ≡ true)
 above_in past k q i =
-    let p = filter_in (is_before (local past k)) (reverse (draws_by past k)) q i in
+    let p = filter_in (is_before (local None past k)) (reverse (draws_by past k)) q i in
     let d = draws_in past k q (reverse_in (draws_by past k) q p.0) in
     (d.0, d.1, p.1)
 
-pub in_above : (past : Past) (k : ℕ) (q : Revision) → is_drawn past q ≡ true → q.cluster ≡ k → is_before (local past k) q ≡ true → IsIn q (revisions_above past k)
-in_above past k q drawn same above = in_filter (is_before (local past k)) (reverse (draws_by past k)) q (in_reverse (draws_by past k) q (in_draws past k q drawn same)) above
+pub in_above : (past : Past) (k : ℕ) (q : Revision) → is_drawn past q ≡ true → q.cluster ≡ k → is_before (local None past k) q ≡ true → IsIn q (revisions_above past k)
+in_above past k q drawn same above = in_filter (is_before (local None past k)) (reverse (draws_by past k)) q (in_reverse (draws_by past k) q (in_draws past k q drawn same)) above

@@ -1,11 +1,11 @@
 -- The pins of a memory, and those of the sessions by the past.
-use Rattle.std.proofs.Common.{◌≡◌, ◌↔◌, ℕ, Bool, true, false, cond, not, ◌&&◌, ◌||◌, Option, Some, None, List, [], ◌∷◌, is_some, refl, sym, ap, subst, ◌∙◌, arith}
-use Rattle.std.specs.Prelude.{◌==◌, slice_get, unwrap_or}
+use Rattle.std.proofs.Common.{◌≡◌, inl, inr, ℕ, Bool, true, false, cond, not, ◌&&◌, ◌||◌, Option, Some, None, List, [], ◌∷◌, is_some, refl, sym, ap, subst, ◌∙◌, arith}
+use Rattle.std.specs.Prelude.{◌==◌, ◌-◌, ◌⊎◌, nat_le, slice_get, unwrap_or}
 use Rattle.std.specs.BTreeMap.{is_at, insert_entry}
 use Rattle.std.specs.List.{AllByRecursion}
 use Rattle.std.specs.List.Sorted.{IsStrictlySortedBy}
 use Rattle.std.specs.Map.{keys_of, lookup, remove_entry}
-use Rattle.std.specs.Option.{option_map, option_map_or}
+use Rattle.std.specs.Option.{option_map_or}
 use Rattle.std.specs.Ordering.{nat_cmp, is_eq, match_ordering}
 use Rattle.std.specs.declared.cmp.Ordering.{Ordering}
 use Rattle.std.specs.declared.cmp.Ordering.TheVariants.{Less, Equal, Greater}
@@ -13,18 +13,18 @@ use Rattle.std.proofs.lemmas.Bool.Decides.{nat_tests}
 use mathlib.Core.Bool.{false≢true}
 use Rattle.jr_rev.specs.declared.vector.Pin.{Pin}
 use Rattle.jr_rev.specs.declared.vector.RevVec.{RevVec}
-use Rattle.jr_rev.specs.Vectors.{start}
 use Rattle.oak_machine.specs.declared.event.Event.{Event}
 use Rattle.oak_machine.specs.declared.event.Event.TheVariants as event
 use Rattle.oak_machine.specs.declared.event.StepKind.TheVariants as kind
 use Rattle.oak_machine.specs.History.{Past}
 use Rattle.oak_machine.specs.Laws.{Says, Starts}
 use Rattle.oak_machine.specs.Runs.{IsRunOf}
-use Rattle.oak_machine.specs.Sessions.{base_of, has_left, has_login}
+use Rattle.oak_machine.specs.Sessions.{has_left, has_login}
 use Rattle.oak_node.specs.Memory.{NodeState}
-use Rattle.oak_node.specs.Pins.{pin_of, pin_now, with_pin, without_pin}
+use Rattle.oak_node.specs.Pins.{pin_of, with_pin, without_pin}
 use Rattle.core_heads.proofs.Orders.{not_both, same_itself, same_number}
-use Rattle.core_nodes.specs.Nodes.{ArePinsOf, IsMemoryOf, IsPinned, is_of_node, leaves_pins, moved_pin, session_pin}
+use Rattle.oak_node.proofs.Places.{remove_sorted}
+use Rattle.core_nodes.specs.Nodes.{ArePinsOf, IsCursorAt, IsPair, IsPinnedAt, base_of_pin, cursor_at, cursor_base, cursor_owner, is_of_node, leaves_pins, moved_pin, owner_base, pinned_at, session_base, without_session}
 use Rattle.core_nodes.proofs.Pasts.{not_true}
 
 -- ---- entries by their numbers
@@ -90,7 +90,7 @@ module _ {X : Type 0} (k : ℕ) where
 -- ---- sessions
 
 -- who has left had come
-pub left_had_login : (starts : Starts) (says : Says) (clusters : ℕ) (sessions : List ℕ) (past : Past) → IsRunOf starts says clusters sessions past → (s : ℕ) → has_left past s ≡ true → has_login past s ≡ true
+pub left_had_login : (starts : Starts) (says : Says) (clusters : ℕ) (sessions : List ℕ) (past : Past) → IsRunOf starts says clusters sessions None past → (s : ℕ) → has_left past s ≡ true → has_login past s ≡ true
 left_had_login starts says clusters sessions [] run s h = absurd (false≢true h)
 left_had_login starts says clusters sessions (event.Login t v ∷ past) run s h = or_second (t == s) (has_login past s) (left_had_login starts says clusters sessions past run.1 s h)
   where
@@ -104,137 +104,235 @@ left_had_login starts says clusters sessions (event.Went t kind.End ∷ past) ru
     by rest false e h = rest h
 left_had_login starts says clusters sessions (e ∷ past) run s h = left_had_login starts says clusters sessions past run.1 s h
 
--- an event that doesn't move it leaves a session's pin
-pub pin_left : (clusters : ℕ) (past : Past) (e : Event) (s : ℕ) → option_map_or (λ t. t == s) (moved_pin e) false ≡ false → session_pin clusters (e ∷ past) s ≡ session_pin clusters past s
-pin_left clusters past (event.Login t v) s h = ap (λ b. cond ((b || has_login past s) && not (has_left past s)) (option_map (λ w. record { base = w; sweep = start clusters }) (cond b (Some v) (base_of past s))) None) h
-pin_left clusters past (event.Refresh t v) s h = ap (λ b. cond (has_login past s && not (has_left past s)) (option_map (λ w. record { base = w; sweep = start clusters }) (cond b (Some v) (base_of past s))) None) h
-pin_left clusters past (event.Attach t id) s h = ap (λ b. cond (has_login past s && not (has_left past s)) (option_map (λ w. record { base = w; sweep = start clusters }) (cond b (Rattle.oak_machine.specs.Sessions.last_checkpoint past id) (base_of past s))) None) h
-pin_left clusters past (event.Went t kind.End) s h = ap (λ b. cond (has_login past s && not (b || has_left past s)) (option_map (λ w. record { base = w; sweep = start clusters }) (base_of past s)) None) h
-pin_left clusters past e s h = refl
+-- an event that doesn't move it leaves a session's pin where it was
+pub base_left : (past : Past) (e : Event) (s : ℕ) → option_map_or (λ t. t == s) (moved_pin e) false ≡ false → session_base (e ∷ past) s ≡ session_base past s
+base_left past (event.Login t v) s h = ap (λ b. cond ((b || has_login past s) && not (has_left past s)) (cond b (Some v) (pinned_at past s)) None) h
+base_left past (event.Refresh t v) s h = ap (λ b. cond (has_login past s && not (has_left past s)) (cond b (Some v) (pinned_at past s)) None) h
+base_left past (event.Went t kind.End) s h = ap (λ b. cond (has_login past s && not (b || has_left past s)) (pinned_at past s) None) h
+base_left past e s h = refl
 
-module _ (clusters : ℕ) (sessions : List ℕ) (past : Past) (k : ℕ) (s : NodeState) (are : ArePinsOf clusters sessions past k s) where
-  abbrev pin_by : Past → ℕ → Option Pin
-  pin_by now owner = cond (is_of_node sessions k owner) (session_pin clusters now owner) None
+-- and its cursor
+pub cursor_left : (past : Past) (e : Event) (s : ℕ) → option_map_or (λ t. t == s) (moved_pin e) false ≡ false → cursor_at (e ∷ past) s ≡ cursor_at past s
+cursor_left past (event.Went t kind.Pin) s h = ap (λ b. cond b (session_base past s) (cursor_at past s)) h
+cursor_left past (event.Went t kind.End) s h = ap (λ b. cond b None (cursor_at past s)) h
+cursor_left past e s h = refl
 
-  -- an event that moves no pin of the node
-  pub pins_kept : (e : Event) → leaves_pins sessions k e ≡ true → ArePinsOf clusters sessions (e ∷ past) k s
-  pins_kept e h owner = are owner ∙ by (is_of_node sessions k owner) refl
+-- what an owner has, by another equation of what is found
+same_pin : (a b pin : Pin) → Some a ≡ Some b → IsPair a.base a.sweep → IsPair b.base b.sweep
+same_pin a b pin e h = subst (λ (p : Pin). IsPair p.base p.sweep) (ap (λ o. unwrap_or o pin) e) h
+
+-- ---- owners
+
+-- the owner of a cursor is that of its session
+pub its_cursor : (s : ℕ) → (nat_le 64 (cursor_owner s) ≡ true) × (cursor_owner s - 64 ≡ s)
+its_cursor s = (grind (arith, nat_tests), omega arith)
+
+cursor_is : (owner s : ℕ) → nat_le 64 owner ≡ true → (s == owner - 64) ≡ true → owner ≡ cursor_owner s
+cursor_is owner s h e = grind (arith, nat_tests)
+
+-- no other owner's session has this cursor
+other_cursor : (owner s : ℕ) → nat_le 64 owner ≡ true → (cursor_owner s == owner) ≡ false → (s == owner - 64) ≡ false
+other_cursor owner s h e = grind (arith, nat_tests)
+
+not_itself : (s : ℕ) → (s == cursor_owner s) ≡ false
+not_itself s = grind (arith, nat_tests)
+
+and_parts : (a b : Bool) → (a && b) ≡ true → (a ≡ true) × (b ≡ true)
+and_parts true true h = (refl, refl)
+and_parts true false h = absurd (false≢true h)
+and_parts false b h = absurd (false≢true h)
+
+module _ (sessions : List ℕ) (past : Past) (k : ℕ) where
+  -- an owner that is a session of the node
+  pub session_owner : (s : ℕ) → slice_get sessions s ≡ Some k → owner_base sessions past k s ≡ session_base past s
+  session_owner s of =
+      ap (λ o. cond (is_some o) (cond (option_map_or (λ m. m == k) o false) (session_base past s) None) (cursor_base sessions past k s)) of
+      ∙ ap (λ b. cond b (session_base past s) None) (same_itself k)
+
+  -- an owner that is the cursor of one
+  pub cursor_owned : (s : ℕ) → slice_get sessions s ≡ Some k → slice_get sessions (cursor_owner s) ≡ None → owner_base sessions past k (cursor_owner s) ≡ cursor_at past s
+  cursor_owned s of none =
+      ap (λ o. cond (is_some o) (cond (option_map_or (λ m. m == k) o false) (session_base past (cursor_owner s)) None) (cursor_base sessions past k (cursor_owner s))) none
+      ∙ (ap (λ b. cond (b && is_of_node sessions k (cursor_owner s - 64)) (cursor_at past (cursor_owner s - 64)) None) (its_cursor s).0
+      ∙ (ap (λ n. cond (is_of_node sessions k n) (cursor_at past n) None) (its_cursor s).1
+      ∙ (ap (λ o. cond (option_map_or (λ m. m == k) o false) (cursor_at past s) None) of
+      ∙ ap (λ b. cond b (cursor_at past s) None) (same_itself k))))
+
+  -- an owner is as it was after an event that moves neither its session nor the session of its cursor
+  pub owner_left : (e : Event) (owner : ℕ) → (is_of_node sessions k owner ≡ true → session_base (e ∷ past) owner ≡ session_base past owner)
+      → (nat_le 64 owner ≡ true → is_of_node sessions k (owner - 64) ≡ true → cursor_at (e ∷ past) (owner - 64) ≡ cursor_at past (owner - 64)) → owner_base sessions past k owner ≡ owner_base sessions (e ∷ past) k owner
+  owner_left e owner base cursor = whole (is_some (slice_get sessions owner)) (session (is_of_node sessions k owner) refl) (other (nat_le 64 owner && is_of_node sessions k (owner - 64)) refl)
     where
-      apart : (o : Option ℕ) → option_map_or (λ t. not (is_of_node sessions k t)) o true ≡ true → is_of_node sessions k owner ≡ true → option_map_or (λ t. t == owner) o false ≡ false
-      apart None h of = refl
-      apart (Some t) h of = at (t == owner) refl
+      session : (b : Bool) → is_of_node sessions k owner ≡ b → cond b (session_base past owner) None ≡ cond b (session_base (e ∷ past) owner) None
+      session true of = sym (base of)
+      session false of = refl
+
+      other : (b : Bool) → (nat_le 64 owner && is_of_node sessions k (owner - 64)) ≡ b → cond b (cursor_at past (owner - 64)) None ≡ cond b (cursor_at (e ∷ past) (owner - 64)) None
+      other true h = let p = and_parts (nat_le 64 owner) (is_of_node sessions k (owner - 64)) h in sym (cursor p.0 p.1)
+      other false h = refl
+
+      whole : (b : Bool) {a c d x : Option RevVec} → a ≡ c → d ≡ x → cond b a d ≡ cond b c x
+      whole true p q = p
+      whole false p q = q
+
+module _ (sessions : List ℕ) (past : Past) (k : ℕ) (s : NodeState) (are : ArePinsOf sessions past k s) where
+  -- an event that moves no pin of the node
+  pub pins_kept : (e : Event) → leaves_pins sessions k e ≡ true → ArePinsOf sessions (e ∷ past) k s
+  pins_kept e h = record {
+    bases = λ owner. are.bases owner ∙ owner_left sessions past k e owner (λ of. base_left past e owner (apart owner (moved_pin e) h of)) (λ high of. cursor_left past e (owner - 64) (apart (owner - 64) (moved_pin e) h of));
+    pairs = are.pairs;
+  }
+    where
+      apart : (owner : ℕ) (o : Option ℕ) → option_map_or (λ t. not (is_of_node sessions k t)) o true ≡ true → is_of_node sessions k owner ≡ true → option_map_or (λ t. t == owner) o false ≡ false
+      apart owner None h of = refl
+      apart owner (Some t) h of = at (t == owner) refl
         where
           at : (b : Bool) → (t == owner) ≡ b → b ≡ false
           at true e = not_both (is_of_node sessions k t) (ap (is_of_node sessions k) (same_number t owner e) ∙ of) (not_true (is_of_node sessions k t) h)
           at false e = refl
 
-      by : (b : Bool) → is_of_node sessions k owner ≡ b → cond b (session_pin clusters past owner) None ≡ cond b (session_pin clusters (e ∷ past) owner) None
-      by true of = sym (pin_left clusters past e owner (apart (moved_pin e) h of))
-      by false of = refl
+  -- the session is as it was where the event moves another's pin
+  base_beside : (e : Event) (t : ℕ) → moved_pin e ≡ Some t → (owner : ℕ) → (t == owner) ≡ false → session_base (e ∷ past) owner ≡ session_base past owner
+  base_beside e t moved owner other = base_left past e owner (ap (λ o. option_map_or (λ n. n == owner) o false) moved ∙ other)
 
-  -- the others, where one session's pin moves
-  beside : (e : Event) (t : ℕ) → moved_pin e ≡ Some t → (owner : ℕ) → (t == owner) ≡ false → pin_by past owner ≡ pin_by (e ∷ past) owner
-  beside e t moved owner other = ap (λ p. cond (is_of_node sessions k owner) p None) (sym (pin_left clusters past e owner (ap (λ o. option_map_or (λ n. n == owner) o false) moved ∙ other)))
+  -- and so is its cursor
+  cursor_beside : (e : Event) (t : ℕ) → moved_pin e ≡ Some t → (owner : ℕ) → (t == owner) ≡ false → cursor_at (e ∷ past) owner ≡ cursor_at past owner
+  cursor_beside e t moved owner other = cursor_left past e owner (ap (λ o. option_map_or (λ n. n == owner) o false) moved ∙ other)
+
+  -- an owner is pinned at what the past has for it, and the others are as they were
+  pub owner_put : (e : Event) (t : ℕ) (pin : Pin) → owner_base sessions (e ∷ past) k t ≡ Some pin.base → ((owner : ℕ) → (t == owner) ≡ false → owner_base sessions past k owner ≡ owner_base sessions (e ∷ past) k owner) → IsPair pin.base pin.sweep → ArePinsOf sessions (e ∷ past) k (with_pin s t pin)
+  owner_put e t pin is left pair = record { bases = λ owner. by owner (t == owner) refl; pairs = λ owner x h. pairs owner x h (t == owner) refl }
+    where
+      there : base_of_pin (pin_of (with_pin s t pin) t) ≡ owner_base sessions (e ∷ past) k t
+      there = ap base_of_pin (lookup_put t pin s.pins) ∙ sym is
+
+      by : (owner : ℕ) (b : Bool) → (t == owner) ≡ b → base_of_pin (pin_of (with_pin s t pin) owner) ≡ owner_base sessions (e ∷ past) k owner
+      by owner true same = subst (λ (n : ℕ). base_of_pin (pin_of (with_pin s t pin) n) ≡ owner_base sessions (e ∷ past) k n) (same_number t owner same) there
+      by owner false other = ap base_of_pin (lookup_beside t pin s.pins owner other) ∙ (are.bases owner ∙ left owner other)
+
+      pairs : (owner : ℕ) (x : Pin) → pin_of (with_pin s t pin) owner ≡ Some x → (b : Bool) → (t == owner) ≡ b → IsPair x.base x.sweep
+      pairs owner x h true same = same_pin pin x pin (sym (lookup_put t pin s.pins) ∙ (ap (λ n. pin_of (with_pin s t pin) n) (same_number t owner same) ∙ h)) pair
+      pairs owner x h false other = are.pairs owner x (sym (lookup_beside t pin s.pins owner other) ∙ h)
 
   -- a session of the node is pinned at what the past has for it
-  pub pins_put : (e : Event) (t : ℕ) (pin : Pin) → moved_pin e ≡ Some t → slice_get sessions t ≡ Some k → session_pin clusters (e ∷ past) t ≡ Some pin → ArePinsOf clusters sessions (e ∷ past) k (with_pin s t pin)
-  pins_put e t pin moved of is owner = by (t == owner) refl
+  pub pins_put : (e : Event) (t : ℕ) (pin : Pin) → moved_pin e ≡ Some t → ((q : ℕ) → cursor_at (e ∷ past) q ≡ cursor_at past q) → slice_get sessions t ≡ Some k → session_base (e ∷ past) t ≡ Some pin.base → IsPair pin.base pin.sweep → ArePinsOf sessions (e ∷ past) k (with_pin s t pin)
+  pins_put e t pin moved cursors of is pair = owner_put e t pin (session_owner sessions (e ∷ past) k t of ∙ is) (λ owner other. owner_left sessions past k e owner (λ on. base_beside e t moved owner other) (λ high on. cursors (owner - 64))) pair
+
+  -- a session of the node pins its cursor at its own pin
+  pub cursor_put : (t : ℕ) (pin : Pin) → slice_get sessions t ≡ Some k → slice_get sessions (cursor_owner t) ≡ None → pin_of s t ≡ Some pin → ArePinsOf sessions (event.Went t kind.Pin ∷ past) k (with_pin s (cursor_owner t) pin)
+  cursor_put t pin of none has = owner_put (event.Went t kind.Pin) (cursor_owner t) pin here (λ owner other. owner_left sessions past k (event.Went t kind.Pin) owner (λ on. refl) (λ high on. cursor_beside (event.Went t kind.Pin) t refl (owner - 64) (other_cursor owner t high other))) (are.pairs t pin has)
     where
-      mine : is_of_node sessions k t ≡ true
-      mine = ap (λ o. option_map_or (λ m. m == k) o false) of ∙ same_itself k
+      here : owner_base sessions (event.Went t kind.Pin ∷ past) k (cursor_owner t) ≡ Some pin.base
+      here =
+          cursor_owned sessions (event.Went t kind.Pin ∷ past) k t of none
+          ∙ (ap (λ b. cond b (session_base past t) (cursor_at past t)) (same_itself t)
+          ∙ (sym (session_owner sessions past k t of)
+          ∙ (sym (are.bases t)
+          ∙ ap base_of_pin has)))
 
-      there : pin_of (with_pin s t pin) t ≡ pin_by (e ∷ past) t
-      there = lookup_put t pin s.pins ∙ sym (ap (λ b. cond b (session_pin clusters (e ∷ past) t) None) mine ∙ is)
-
-      by : (b : Bool) → (t == owner) ≡ b → pin_of (with_pin s t pin) owner ≡ pin_by (e ∷ past) owner
-      by true same = subst (λ (n : ℕ). pin_of (with_pin s t pin) n ≡ pin_by (e ∷ past) n) (same_number t owner same) there
-      by false other = lookup_beside t pin s.pins owner other ∙ (are owner ∙ beside e t moved owner other)
-
-  -- a session has no pin any more
-  pub pins_taken : (e : Event) (t : ℕ) → IsStrictlySortedBy nat_cmp (keys_of s.pins) → moved_pin e ≡ Some t → session_pin clusters (e ∷ past) t ≡ None → ArePinsOf clusters sessions (e ∷ past) k (without_pin s t)
-  pins_taken e t sorted moved is owner = by (t == owner) refl
+  -- a session has no pin any more, nor has its cursor
+  pub pins_taken : (t : ℕ) → IsStrictlySortedBy nat_cmp (keys_of s.pins) → slice_get sessions t ≡ Some k → slice_get sessions (cursor_owner t) ≡ None → session_base (event.Went t kind.End ∷ past) t ≡ None → ArePinsOf sessions (event.Went t kind.End ∷ past) k (without_session s t)
+  pins_taken t sorted of none is = record { bases = λ owner. by owner (cursor_owner t == owner) refl (t == owner) refl; pairs = λ owner x h. pairs owner x h (cursor_owner t == owner) refl (t == owner) refl }
     where
-      none : (b : Bool) → None ≡ cond b (session_pin clusters (e ∷ past) t) None
-      none true = sym is
-      none false = refl
+      cursor_none : owner_base sessions (event.Went t kind.End ∷ past) k (cursor_owner t) ≡ None
+      cursor_none = cursor_owned sessions (event.Went t kind.End ∷ past) k t of none ∙ ap (λ b. cond b None (cursor_at past t)) (same_itself t)
 
-      there : pin_of (without_pin s t) t ≡ pin_by (e ∷ past) t
-      there = lookup_taken t s.pins sorted ∙ none (is_of_node sessions k t)
+      at_cursor : pin_of (without_session s t) (cursor_owner t) ≡ None
+      at_cursor = lookup_taken (cursor_owner t) (without_pin s t).pins (remove_sorted t s.pins sorted)
 
-      by : (b : Bool) → (t == owner) ≡ b → pin_of (without_pin s t) owner ≡ pin_by (e ∷ past) owner
-      by true same = subst (λ (n : ℕ). pin_of (without_pin s t) n ≡ pin_by (e ∷ past) n) (same_number t owner same) there
-      by false other = lookup_left t s.pins owner other ∙ (are owner ∙ beside e t moved owner other)
+      at_session : pin_of (without_session s t) t ≡ None
+      at_session = lookup_left (cursor_owner t) (without_pin s t).pins t (apart_back t) ∙ lookup_taken t s.pins sorted
+        where
+          apart_back : (n : ℕ) → (cursor_owner n == n) ≡ false
+          apart_back n = grind (arith, nat_tests)
+
+      at_other : (owner : ℕ) → (cursor_owner t == owner) ≡ false → (t == owner) ≡ false → pin_of (without_session s t) owner ≡ pin_of s owner
+      at_other owner far other = lookup_left (cursor_owner t) (without_pin s t).pins owner far ∙ lookup_left t s.pins owner other
+
+      by : (owner : ℕ) (a : Bool) → (cursor_owner t == owner) ≡ a → (b : Bool) → (t == owner) ≡ b → base_of_pin (pin_of (without_session s t) owner) ≡ owner_base sessions (event.Went t kind.End ∷ past) k owner
+      by owner true same b other = subst (λ (n : ℕ). base_of_pin (pin_of (without_session s t) n) ≡ owner_base sessions (event.Went t kind.End ∷ past) k n) (same_number (cursor_owner t) owner same) (ap base_of_pin at_cursor ∙ sym cursor_none)
+      by owner false far true same = subst (λ (n : ℕ). base_of_pin (pin_of (without_session s t) n) ≡ owner_base sessions (event.Went t kind.End ∷ past) k n) (same_number t owner same) (ap base_of_pin at_session ∙ sym (session_owner sessions (event.Went t kind.End ∷ past) k t of ∙ is))
+      by owner false far false other = ap base_of_pin (at_other owner far other) ∙ (are.bases owner ∙ owner_left sessions past k (event.Went t kind.End) owner (λ on. base_beside (event.Went t kind.End) t refl owner other) (λ high on. cursor_beside (event.Went t kind.End) t refl (owner - 64) (other_cursor owner t high far)))
+
+      no_pair : (x : Pin) → None ≡ Some x → IsPair x.base x.sweep
+      no_pair x h = absurd (false≢true (ap is_some h))
+
+      pairs : (owner : ℕ) (x : Pin) → pin_of (without_session s t) owner ≡ Some x → (a : Bool) → (cursor_owner t == owner) ≡ a → (b : Bool) → (t == owner) ≡ b → IsPair x.base x.sweep
+      pairs owner x h true same b other = no_pair x (sym at_cursor ∙ (ap (pin_of (without_session s t)) (same_number (cursor_owner t) owner same) ∙ h))
+      pairs owner x h false far true same = no_pair x (sym at_session ∙ (ap (pin_of (without_session s t)) (same_number t owner same) ∙ h))
+      pairs owner x h false far false other = are.pairs owner x (sym (at_other owner far other) ∙ h)
 
 -- ---- the events that move a pin
 
-module _ (clusters : ℕ) (past : Past) where
-  pub login_pin : (s : ℕ) (v : RevVec) → has_left past s ≡ false → session_pin clusters (event.Login s v ∷ past) s ≡ Some (record { base = v; sweep = start clusters })
-  login_pin s v stays =
-      ap (λ b. cond ((b || has_login past s) && not (has_left past s)) (option_map (λ w. record { base = w; sweep = start clusters }) (cond b (Some v) (base_of past s))) None) (same_itself s)
-      ∙ ap (λ b. cond (not b) (Some (record { base = v; sweep = start clusters })) None) stays
+module _ (past : Past) where
+  pub login_base : (s : ℕ) (v : RevVec) → has_left past s ≡ false → session_base (event.Login s v ∷ past) s ≡ Some v
+  login_base s v stays =
+      ap (λ b. cond ((b || has_login past s) && not (has_left past s)) (cond b (Some v) (pinned_at past s)) None) (same_itself s)
+      ∙ ap (λ b. cond (not b) (Some v) None) stays
 
-  pub refresh_pin : (s : ℕ) (v : RevVec) → has_login past s ≡ true → has_left past s ≡ false → session_pin clusters (event.Refresh s v ∷ past) s ≡ Some (record { base = v; sweep = start clusters })
-  refresh_pin s v login stays =
-      ap (λ b. cond (has_login past s && not (has_left past s)) (option_map (λ w. record { base = w; sweep = start clusters }) (cond b (Some v) (base_of past s))) None) (same_itself s)
-      ∙ (ap (λ b. cond (b && not (has_left past s)) (Some (record { base = v; sweep = start clusters })) None) login
-      ∙ ap (λ b. cond (not b) (Some (record { base = v; sweep = start clusters })) None) stays)
+  pub refresh_base : (s : ℕ) (v : RevVec) → has_login past s ≡ true → has_left past s ≡ false → session_base (event.Refresh s v ∷ past) s ≡ Some v
+  refresh_base s v login stays =
+      ap (λ b. cond (has_login past s && not (has_left past s)) (cond b (Some v) (pinned_at past s)) None) (same_itself s)
+      ∙ (ap (λ b. cond (b && not (has_left past s)) (Some v) None) login
+      ∙ ap (λ b. cond (not b) (Some v) None) stays)
 
-  pub end_pin : (s : ℕ) → session_pin clusters (event.Went s kind.End ∷ past) s ≡ None
-  end_pin s = ap (λ b. cond (has_login past s && not (b || has_left past s)) based None) (same_itself s) ∙ none (has_login past s)
+  pub end_base : (s : ℕ) → session_base (event.Went s kind.End ∷ past) s ≡ None
+  end_base s = ap (λ b. cond (has_login past s && not (b || has_left past s)) (pinned_at past s) None) (same_itself s) ∙ none (has_login past s)
     where
-      based : Option Pin
-      based = option_map (λ w. record { base = w; sweep = start clusters }) (base_of past s)
-
-      none : (b : Bool) → cond (b && false) based None ≡ None
+      none : (b : Bool) → cond (b && false) (pinned_at past s) None ≡ None
       none true = refl
       none false = refl
 
--- the pin at the head
-pub now_is : (clusters : ℕ) (past : Past) (k : ℕ) (s : NodeState) → IsMemoryOf clusters past k s → (v : RevVec) → v ≡ Rattle.oak_machine.specs.Heads.head_of clusters past k → pin_now s ≡ record { base = v; sweep = start clusters }
-now_is clusters past k s is v head = ap (λ (w : RevVec). record { base = w; sweep = s.sweep }) (is.head ∙ sym head) ∙ ap (λ (w : RevVec). record { base = v; sweep = w }) is.sweep
-
 -- ---- who is pinned
 
-module _ (clusters : ℕ) (sessions : List ℕ) (past : Past) (k : ℕ) (s : NodeState) (are : ArePinsOf clusters sessions past k s) (owner : ℕ) (pin : Pin) where
-  abbrev at_base : RevVec → Pin
-  at_base v = record { base = v; sweep = start clusters }
-
-  pinned : pin_of s owner ≡ Some pin → IsPinned clusters sessions past k owner pin
-  pinned h = by (slice_get sessions owner) refl (has_login past owner) refl (has_left past owner) refl (base_of past owner) refl (sym (are owner) ∙ h)
+module _ (sessions : List ℕ) (past : Past) (k : ℕ) (s : NodeState) (are : ArePinsOf sessions past k s) (owner : ℕ) where
+  -- whoever has a pin is a session that has come and not left, or the cursor of a session
+  pub pinned : (pin : Pin) → pin_of s owner ≡ Some pin → IsPinnedAt sessions past k owner pin.base ⊎ IsCursorAt sessions past k owner pin.base
+  pinned pin h = whole (slice_get sessions owner) refl (sym (are.bases owner) ∙ ap base_of_pin h)
     where
-      at : (m : ℕ) (v : RevVec) → slice_get sessions owner ≡ Some m → has_login past owner ≡ true → has_left past owner ≡ false → base_of past owner ≡ Some v → (c : Bool) → (m == k) ≡ c → cond c (Some (at_base v)) None ≡ Some pin → IsPinned clusters sessions past k owner pin
-      at m v of login stays base true same h =
-          let it : at_base v ≡ pin = ap (λ o. unwrap_or o pin) h in
-          record {
-            node = of ∙ ap Some (same_number m k same);
-            login = login;
-            stays = stays;
-            base = base ∙ ap (λ (p : Pin). Some p.base) it;
-            sweep = sym (ap (λ (p : Pin). p.sweep) it);
-          }
-      at m v of login stays base false same h = absurd (false≢true (ap is_some h))
-
-      none : (c : Bool) → cond {A = Option Pin} c None None ≡ Some pin → ⊥
+      none : (c : Bool) → cond {A = Option RevVec} c None None ≡ Some pin.base → ⊥
       none true h = false≢true (ap is_some h)
       none false h = false≢true (ap is_some h)
 
-      by : (o : Option ℕ) → slice_get sessions owner ≡ o → (a : Bool) → has_login past owner ≡ a → (b : Bool) → has_left past owner ≡ b → (w : Option RevVec) → base_of past owner ≡ w → cond (option_map_or (λ m. m == k) o false) (cond (a && not b) (option_map at_base w) None) None ≡ Some pin → IsPinned clusters sessions past k owner pin
-      by None of a login b left w base h = absurd (false≢true (ap is_some h))
-      by (Some m) of false login b left w base h = absurd (none (m == k) h)
-      by (Some m) of true login true left w base h = absurd (none (m == k) h)
-      by (Some m) of true login false left None base h = absurd (none (m == k) h)
-      by (Some m) of true login false left (Some v) base h = at m v of login left base (m == k) refl h
+      at : (m : ℕ) (v : RevVec) → slice_get sessions owner ≡ Some m → has_login past owner ≡ true → has_left past owner ≡ false → pinned_at past owner ≡ Some v → (c : Bool) → (m == k) ≡ c → cond c (Some v) None ≡ Some pin.base → IsPinnedAt sessions past k owner pin.base
+      at m v of login stays base true same h = record { node = of ∙ ap Some (same_number m k same); login = login; stays = stays; base = base ∙ h }
+      at m v of login stays base false same h = absurd (false≢true (ap is_some h))
 
-  has_pin : IsPinned clusters sessions past k owner pin → pin_of s owner ≡ Some pin
-  has_pin p =
-      are owner
-      ∙ (ap (λ o. cond (option_map_or (λ m. m == k) o false) (session_pin clusters past owner) None) p.node
-      ∙ (ap (λ b. cond b (session_pin clusters past owner) None) (same_itself k)
-      ∙ (ap (λ a. cond (a && not (has_left past owner)) (option_map at_base (base_of past owner)) None) p.login
-      ∙ (ap (λ b. cond (not b) (option_map at_base (base_of past owner)) None) p.stays
-      ∙ (ap (option_map at_base) p.base
-      ∙ ap (λ (w : RevVec). Some (record { base = pin.base; sweep = w })) (sym p.sweep))))))
+      by : (m : ℕ) → slice_get sessions owner ≡ Some m → (a : Bool) → has_login past owner ≡ a → (b : Bool) → has_left past owner ≡ b → (w : Option RevVec) → pinned_at past owner ≡ w → cond (m == k) (cond (a && not b) w None) None ≡ Some pin.base → IsPinnedAt sessions past k owner pin.base
+      by m of false login b left w base h = absurd (none (m == k) h)
+      by m of true login true left w base h = absurd (none (m == k) h)
+      by m of true login false left None base h = absurd (none (m == k) h)
+      by m of true login false left (Some v) base h = at m v of login left base (m == k) refl h
 
-  -- the pins are those of the sessions that have come and not left, at their bases
-  pub pinned_is : (pin_of s owner ≡ Some pin) ↔ IsPinned clusters sessions past k owner pin
-  pinned_is = (pinned, has_pin)
+      on_node : (o : Option ℕ) → slice_get sessions (owner - 64) ≡ o → option_map_or (λ m. m == k) o false ≡ true → slice_get sessions (owner - 64) ≡ Some k
+      on_node None e h = absurd (false≢true h)
+      on_node (Some m) e h = e ∙ ap Some (same_number m k h)
+
+      cursor : (b : Bool) → (nat_le 64 owner && is_of_node sessions k (owner - 64)) ≡ b → cond b (cursor_at past (owner - 64)) None ≡ Some pin.base → IsCursorAt sessions past k owner pin.base
+      cursor true e h =
+          let p = and_parts (nat_le 64 owner) (is_of_node sessions k (owner - 64)) e in
+          record { session = owner - 64; owner_is = cursor_is owner (owner - 64) p.0 (same_itself (owner - 64)); node = on_node (slice_get sessions (owner - 64)) refl p.1; base = h }
+      cursor false e h = absurd (false≢true (ap is_some h))
+
+      whole : (o : Option ℕ) → slice_get sessions owner ≡ o → cond (is_some o) (cond (option_map_or (λ m. m == k) o false) (session_base past owner) None) (cursor_base sessions past k owner) ≡ Some pin.base → IsPinnedAt sessions past k owner pin.base ⊎ IsCursorAt sessions past k owner pin.base
+      whole (Some m) of h = inl (by m of (has_login past owner) refl (has_left past owner) refl (pinned_at past owner) refl h)
+      whole None of h = inr (cursor (nat_le 64 owner && is_of_node sessions k (owner - 64)) refl h)
+
+  -- an owner has a pin at its vector
+  pub found_pin : (v : RevVec) → owner_base sessions past k owner ≡ Some v → (pin : Pin) × (pin_of s owner ≡ Some pin) × (pin.base ≡ v)
+  found_pin v base = by (pin_of s owner) refl (are.bases owner ∙ base)
+    where
+      by : (o : Option Pin) → pin_of s owner ≡ o → base_of_pin o ≡ Some v → (pin : Pin) × (pin_of s owner ≡ Some pin) × (pin.base ≡ v)
+      by None e h = absurd (false≢true (ap is_some h))
+      by (Some pin) e h = (pin, e, ap (λ o. unwrap_or o v) h)
+
+  -- each such session has one
+  pub has_pin : (v : RevVec) → IsPinnedAt sessions past k owner v → (pin : Pin) × (pin_of s owner ≡ Some pin) × (pin.base ≡ v)
+  has_pin v p = found_pin v (session_owner sessions past k owner p.node
+      ∙ (ap (λ a. cond (a && not (has_left past owner)) (pinned_at past owner) None) p.login
+      ∙ (ap (λ b. cond (not b) (pinned_at past owner) None) p.stays
+      ∙ p.base)))
+
+  -- and so has each such cursor
+  pub has_cursor : (v : RevVec) → slice_get sessions owner ≡ None → IsCursorAt sessions past k owner v → (pin : Pin) × (pin_of s owner ≡ Some pin) × (pin.base ≡ v)
+  has_cursor v none p = found_pin v (ap (λ n. owner_base sessions past k n) p.owner_is ∙ (cursor_owned sessions past k p.session p.node (ap (λ n. slice_get sessions n) (sym p.owner_is) ∙ none) ∙ p.base))

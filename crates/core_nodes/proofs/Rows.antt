@@ -9,7 +9,7 @@ use Rattle.oak_machine.specs.declared.event.StepKind.TheVariants as kind
 use Rattle.oak_machine.specs.History.{Past}
 use Rattle.oak_machine.specs.Heads.{head_of, last_draw_time}
 use Rattle.oak_machine.specs.Runs.{IsRunOf, any_start, any_said}
-use Rattle.core_nodes.specs.Nodes.{drawn_above, draws_made, session_pin}
+use Rattle.core_nodes.specs.Nodes.{cursor_at, drawn_above, draws_made, owner_base, session_base}
 
 abbrev at : ℕ → ℕ → Revision
 at t k = record { time = t; counter = 0; cluster = k }
@@ -35,20 +35,20 @@ one_left =
 abbrev none_left : Past
 none_left = event.Went 1 kind.End ∷ event.Refresh 0 (with_entry (start 2) (at 2 1)) ∷ event.End (at 1 1) ∷ one_left
 
-is_run : IsRunOf any_start any_said 2 sessions none_left
+is_run : IsRunOf any_start any_said 2 sessions None none_left
 is_run = (
   (refl, refl),
   (
-    record { login = refl; idle = refl; head = (1, refl, refl) },
+    record { running = refl; login = refl; idle = refl; head = (1, refl, refl) },
     (
       refl,
       (
         refl,
         (
-          record { login = refl; detached = refl; idle = refl; base = refl; cluster = refl; next = refl; lawful = tt },
+          record { running = refl; login = refl; detached = refl; idle = refl; base = refl; cluster = refl; next = refl; lawful = tt },
           (
-            record { login = refl; detached = refl; idle = refl; base = refl; cluster = refl; next = refl; lawful = tt },
-            (record { first = refl; head = (1, refl, refl) }, (record { first = refl; head = (1, refl, refl) }, tt)),
+            record { running = refl; login = refl; detached = refl; idle = refl; base = refl; cluster = refl; next = refl; lawful = tt },
+            (record { running = refl; first = refl; head = (1, refl, refl) }, (record { running = refl; first = refl; head = (1, refl, refl) }, tt)),
           ),
         ),
       ),
@@ -57,12 +57,19 @@ is_run = (
 )
 
 -- the head stays below the one in flight, and both are kept above it
-kept_both : (head_of 2 one_left 1 ≡ start 2) × (drawn_above one_left 1 ≡ record { revision = at 1 1; ended = false } ∷ record { revision = at 2 1; ended = true } ∷ []) × (last_draw_time one_left 1 ≡ 2) × (draws_made one_left ≡ 2)
+kept_both : (head_of 2 None one_left 1 ≡ start 2) × (drawn_above one_left 1 ≡ record { revision = at 1 1; ended = false } ∷ record { revision = at 2 1; ended = true } ∷ []) × (last_draw_time one_left 1 ≡ 2) × (draws_made one_left ≡ 2)
 kept_both = (refl, refl, refl, refl)
 
 -- then it moves past both
-kept_none : (head_of 2 none_left 1 ≡ with_entry (start 2) (at 2 1)) × (drawn_above none_left 1 ≡ []) × (head_of 2 none_left 2 ≡ start 2)
+kept_none : (head_of 2 None none_left 1 ≡ with_entry (start 2) (at 2 1)) × (drawn_above none_left 1 ≡ []) × (head_of 2 None none_left 2 ≡ start 2)
 kept_none = (refl, refl, refl)
 
-pins_then : (session_pin 2 one_left 1 ≡ Some (record { base = start 2; sweep = start 2 })) × (session_pin 2 none_left 0 ≡ Some (record { base = with_entry (start 2) (at 2 1); sweep = start 2 })) × (session_pin 2 none_left 1 ≡ None)
+pins_then : (session_base one_left 1 ≡ Some (start 2)) × (session_base none_left 0 ≡ Some (with_entry (start 2) (at 2 1))) × (session_base none_left 1 ≡ None)
 pins_then = (refl, refl, refl)
+
+-- session 1 observes, session 0 refreshes, and then session 1 leaves: its cursor, the owner 65, stays at its own base until then
+abbrev observed : Past
+observed = event.Refresh 0 (with_entry (start 2) (at 2 1)) ∷ event.Went 1 kind.Pin ∷ event.End (at 1 1) ∷ one_left
+
+cursors_then : (cursor_at observed 1 ≡ Some (start 2)) × (owner_base sessions observed 1 65 ≡ Some (start 2)) × (owner_base sessions observed 1 64 ≡ None) × (cursor_at (event.Went 1 kind.End ∷ observed) 1 ≡ None)
+cursors_then = (refl, refl, refl, refl)

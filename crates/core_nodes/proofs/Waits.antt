@@ -1,5 +1,5 @@
 -- What a memory keeps above its own entry, and what a revision that has ended awaits.
-use Rattle.std.proofs.Common.{◌≡◌, ◌↔◌, ℕ, Bool, true, false, ◌⊎◌, inl, inr, List, map, refl, sym, ap, subst, ◌∙◌}
+use Rattle.std.proofs.Common.{◌≡◌, ◌↔◌, ℕ, Bool, true, false, ◌⊎◌, inl, inr, List, map, refl, sym, ap, subst, ◌∙◌, None}
 use Rattle.std.specs.Prelude.{Contains}
 use Rattle.jr_rev.specs.declared.revision.Revision.{Revision}
 use Rattle.jr_rev.specs.declared.vector.RevVec.{RevVec}
@@ -55,11 +55,11 @@ module _ (clusters : ℕ) (sessions : List ℕ) (nodes : AreNodes clusters sessi
 
   -- what has ended by the past has by the memory
   pub has_ended : (r : Revision) → r.cluster ≡ k → is_drawn past r ≡ true → is_ended past r ≡ true → HasEnded s r
-  has_ended r same drawn ended = (same ∙ sym is.cluster, by (is_before (local past k) r) refl)
+  has_ended r same drawn ended = (same ∙ sym is.cluster, by (is_before (local None past k) r) refl)
     where
-      by : (b : Bool) → is_before (local past k) r ≡ b → (is_at_most r (own_entry s) ≡ true) ⊎ Contains s.above (record { revision = r; ended = true })
+      by : (b : Bool) → is_before (local None past k) r ≡ b → (is_at_most r (own_entry s) ≡ true) ⊎ Contains s.above (record { revision = r; ended = true })
       by true above = inr (kept_above r true (record { node = same; drawn = drawn; above = above; ended = ended }))
-      by false low = inl (subst (λ (e : Revision). is_at_most r e ≡ true) (sym (own_is clusters sessions nodes past sound k node s is)) (not_before (local past k) r low))
+      by false low = inl (subst (λ (e : Revision). is_at_most r e ≡ true) (sym (own_is clusters sessions nodes past sound k node s is)) (not_before (local None past k) r low))
 
   -- what is awaited by the memory is awaited by the past
   awaited : (r : Revision) (answer : Awaits) → IsAwaited s r answer → IsAwaitedAt clusters past k r answer

@@ -1,23 +1,25 @@
 -- What the memories of the cluster nodes are by the journal.
-use Rattle.std.specs.Prelude.{◌≡◌, ℕ, Bool, true, false, cond, not, ◌&&◌, ◌==◌, List, map, filter, reverse, slice_get, Option, None, Some, IsTrue, IsFalse}
+use Rattle.std.specs.Prelude.{◌≡◌, ◌↔◌, ℕ, ◌+◌, ◌-◌, Bool, true, false, cond, not, ◌&&◌, ◌==◌, nat_le, List, [], ◌∷◌, map, filter, reverse, slice_get, Option, None, Some, is_some, IsTrue, IsFalse}
 use Rattle.std.specs.List.{count_by}
 use Rattle.std.specs.Option.{option_map, option_map_or}
 use Rattle.jr_rev.specs.declared.revision.Revision.{Revision}
 use Rattle.jr_rev.specs.declared.vector.Pin.{Pin}
 use Rattle.jr_rev.specs.Revisions.{is_before, is_at_most}
-use Rattle.jr_rev.specs.Vectors.{sees, start}
+use Rattle.jr_rev.specs.declared.vector.RevVec.{RevVec}
+use Rattle.jr_rev.specs.Vectors.{IsVector, sees, start_of}
 use Rattle.oak_machine.specs.declared.event.Event.{Event}
 use Rattle.oak_machine.specs.declared.event.Event.TheVariants as event
 use Rattle.oak_machine.specs.declared.event.StepKind.TheVariants as kind
 use Rattle.oak_machine.specs.History.{Past}
 use Rattle.oak_machine.specs.Commits.{is_drawn, is_ended, is_in_flight}
 use Rattle.oak_machine.specs.Heads.{draws_by, head_of, last_draw_time, local}
-use Rattle.oak_machine.specs.Sessions.{base_of, has_left, has_login}
+use Rattle.oak_machine.specs.Sessions.{has_left, has_login}
 use Rattle.oak_node.specs.declared.drawn.Drawn.{Drawn}
 use Rattle.oak_node.specs.declared.memory.Awaits.{Awaits}
 use Rattle.oak_node.specs.declared.memory.Awaits.TheVariants.{Ready, Pending}
 use Rattle.oak_node.specs.Memory.{NodeState, IsMemory}
-use Rattle.oak_node.specs.Pins.{pin_of}
+use Rattle.oak_node.specs.Pins.{pin_of, without_pin}
+use Rattle.core_heads.specs.Sound.{Public}
 
 -- ---- the memory
 
@@ -27,7 +29,7 @@ as_drawn past = λ r. record { revision = r; ended = is_ended past r }
 
 -- the revisions that cluster node k drew above its local one, the first first
 abbrev pub revisions_above : Past → ℕ → List Revision
-revisions_above past k = filter (is_before (local past k)) (reverse (draws_by past k))
+revisions_above past k = filter (is_before (local None past k)) (reverse (draws_by past k))
 
 -- the same, as a memory keeps them
 abbrev pub drawn_above : Past → ℕ → List Drawn
@@ -37,14 +39,26 @@ drawn_above past k = map (as_drawn past) (revisions_above past k)
 pub record IsAboveOf (past : Past) (k : ℕ) (r : Revision) (e : Bool) : Type 0 where
   pub node : r.cluster ≡ k
   pub drawn : IsTrue (is_drawn past r)
-  pub above : IsTrue (is_before (local past k) r)
+  pub above : IsTrue (is_before (local None past k) r)
   pub ended : is_ended past r ≡ e
 
--- the memory of cluster node k is that of the past: its head, nothing swept, its last draw, and what it drew above its local revision
+-- a vector with the sweep vector that it is taken with: this has eight entries, sees the start, and sees no more than the vector
+pub record IsPair (base sweep : RevVec) : Type 0 where
+  pub vector : IsVector sweep
+  pub begun : IsTrue (sees sweep (start_of 1))
+  pub below : (x : Revision) → IsTrue (sees sweep x) → IsTrue (sees base x)
+
+-- two vectors of the root at a moment: what was public, and with it how far each cluster node had swept
+pub record IsOnRoot (clusters : ℕ) (moment : Past) (last sweep : RevVec) : Type 0 where
+  pub vector : IsVector last
+  pub public : (x : Revision) → IsTrue (sees last x) ↔ Public clusters moment x
+  pub pair : IsPair last sweep
+
+-- the memory of cluster node k is that of the past: its head, with a sweep vector that goes with it, its last draw, and what it drew above its local revision
 pub record IsMemoryOf (clusters : ℕ) (past : Past) (k : ℕ) (s : NodeState) : Type 0 where
   pub cluster : s.cluster ≡ k
-  pub head : s.head ≡ head_of clusters past k
-  pub sweep : s.sweep ≡ start clusters
+  pub head : s.head ≡ head_of clusters None past k
+  pub sweep : IsPair s.head s.sweep
   pub last : s.last_time ≡ last_draw_time past k
   pub above : s.above ≡ drawn_above past k
   pub memory : IsMemory s
@@ -69,7 +83,7 @@ draws_made past = count_by is_draw past
 
 -- the head of k doesn't see r, and q is the earliest revision of k in flight
 pub record AwaitsFlight (clusters : ℕ) (past : Past) (k : ℕ) (r q : Revision) : Type 0 where
-  pub unseen : sees (head_of clusters past k) r ≡ false
+  pub unseen : sees (head_of clusters None past k) r ≡ false
   pub flying : IsTrue (is_in_flight past q)
   pub node : q.cluster ≡ k
   pub earlier : IsTrue (is_before q r)
@@ -77,7 +91,7 @@ pub record AwaitsFlight (clusters : ℕ) (past : Past) (k : ℕ) (r q : Revision
 
 -- the head of k sees r, or r awaits a revision in flight
 abbrev pub IsAwaitedAt : ℕ → Past → ℕ → Revision → Awaits → Type 0
-IsAwaitedAt clusters past k r Ready = sees (head_of clusters past k) r ≡ true
+IsAwaitedAt clusters past k r Ready = sees (head_of clusters None past k) r ≡ true
 IsAwaitedAt clusters past k r (Pending q) = AwaitsFlight clusters past k r q
 
 -- ---- the pins
@@ -86,27 +100,68 @@ IsAwaitedAt clusters past k r (Pending q) = AwaitsFlight clusters past k r q
 abbrev pub is_of_node : List ℕ → ℕ → ℕ → Bool
 is_of_node sessions k s = option_map_or (λ m. m == k) (slice_get sessions s) false
 
--- the session's pin by the past: its base, from its login until it leaves
-abbrev pub session_pin : ℕ → Past → ℕ → Option Pin
-session_pin clusters past s = cond (has_login past s && not (has_left past s)) (option_map (λ v. record { base = v; sweep = start clusters }) (base_of past s)) None
+-- the vector of the latest Login or Refresh of s, at which its cluster node pinned it
+abbrev pub pinned_at : Past → ℕ → Option RevVec
+pinned_at [] s = None
+pinned_at (event.Login t v ∷ past) s = cond (t == s) (Some v) (pinned_at past s)
+pinned_at (event.Refresh t v ∷ past) s = cond (t == s) (Some v) (pinned_at past s)
+pinned_at (_ ∷ past) s = pinned_at past s
 
--- the pins of the memory of cluster node k are those of its sessions by the past
-abbrev pub ArePinsOf : ℕ → List ℕ → Past → ℕ → NodeState → Type 0
-ArePinsOf clusters sessions past k s = (owner : ℕ) → pin_of s owner ≡ cond (is_of_node sessions k owner) (session_pin clusters past owner) None
+-- the same, from the session's login until it leaves
+abbrev pub session_base : Past → ℕ → Option RevVec
+session_base past s = cond (has_login past s && not (has_left past s)) (pinned_at past s) None
 
--- the session is of cluster node k, has come and not left, and this pin is at its base
-pub record IsPinned (clusters : ℕ) (sessions : List ℕ) (past : Past) (k s : ℕ) (pin : Pin) : Type 0 where
+-- the vector at which session s pinned its cursor last, which is that of its own pin then, until it leaves
+abbrev pub cursor_at : Past → ℕ → Option RevVec
+cursor_at [] s = None
+cursor_at (event.Went t kind.Pin ∷ past) s = cond (t == s) (session_base past s) (cursor_at past s)
+cursor_at (event.Went t kind.End ∷ past) s = cond (t == s) None (cursor_at past s)
+cursor_at (_ ∷ past) s = cursor_at past s
+
+-- the owner of the cursor of session s: there are at most 64 sessions
+abbrev pub cursor_owner : ℕ → ℕ
+cursor_owner s = 64 + s
+
+-- the vector of an owner that is no session: it's the cursor of a session of cluster node k
+abbrev pub cursor_base : List ℕ → Past → ℕ → ℕ → Option RevVec
+cursor_base sessions past k owner = cond (nat_le 64 owner && is_of_node sessions k (owner - 64)) (cursor_at past (owner - 64)) None
+
+-- the vector at which cluster node k pins an owner: a session of the node at its base, a cursor of one at its own
+abbrev pub owner_base : List ℕ → Past → ℕ → ℕ → Option RevVec
+owner_base sessions past k owner = cond (is_some (slice_get sessions owner)) (cond (is_of_node sessions k owner) (session_base past owner) None) (cursor_base sessions past k owner)
+
+-- the base of a pin, where there is one
+abbrev pub base_of_pin : Option Pin → Option RevVec
+base_of_pin pin = option_map (λ (p : Pin). p.base) pin
+
+-- the pins of the memory of cluster node k are at the vectors of their owners by the past, each with a sweep vector that goes with it
+pub record ArePinsOf (sessions : List ℕ) (past : Past) (k : ℕ) (s : NodeState) : Type 0 where
+  pub bases : (owner : ℕ) → base_of_pin (pin_of s owner) ≡ owner_base sessions past k owner
+  pub pairs : (owner : ℕ) (pin : Pin) → pin_of s owner ≡ Some pin → IsPair pin.base pin.sweep
+
+-- the session is of cluster node k, has come and not left, and was pinned at this vector
+pub record IsPinnedAt (sessions : List ℕ) (past : Past) (k s : ℕ) (v : RevVec) : Type 0 where
   pub node : slice_get sessions s ≡ Some k
   pub login : IsTrue (has_login past s)
   pub stays : IsFalse (has_left past s)
-  pub base : base_of past s ≡ Some pin.base
-  pub sweep : pin.sweep ≡ start clusters
+  pub base : pinned_at past s ≡ Some v
 
--- the session whose pin the event moves
+-- the owner is the cursor of a session of cluster node k, which was pinned at this vector
+pub record IsCursorAt (sessions : List ℕ) (past : Past) (k owner : ℕ) (v : RevVec) : Type 0 where
+  pub session : ℕ
+  pub owner_is : owner ≡ cursor_owner session
+  pub node : slice_get sessions session ≡ Some k
+  pub base : cursor_at past session ≡ Some v
+
+-- the same memory, with no pin for the session, nor for its cursor
+abbrev pub without_session : NodeState → ℕ → NodeState
+without_session m s = without_pin (without_pin m s) (cursor_owner s)
+
+-- the session of which the event moves a pin, its own or its cursor's
 abbrev pub moved_pin : Event → Option ℕ
 moved_pin (event.Login s v) = Some s
 moved_pin (event.Refresh s v) = Some s
-moved_pin (event.Attach s id) = Some s
+moved_pin (event.Went s kind.Pin) = Some s
 moved_pin (event.Went s kind.End) = Some s
 moved_pin _ = None
 

@@ -82,7 +82,7 @@ module _ (past : Past) (r : Revision) (dr : Draw) (pending : edit_of past r ≡ 
   -- the tree that a reader sees who doesn't see the commit stays
   pub tree_same : (s : Sight) → s r ≡ false → tree_of s (falling (event.Commit r ∷ past)) ≡ tree_of s (falling past)
   tree_same s unseen =
-      let shape : Commits → Nodes = λ es. fold (λ t e. applied t e.1) [] (cond (s the_start) ((the_start, start_writes) ∷ es) es) in
+      let shape : Commits → Nodes = λ es. fold (λ t e. applied (Some e.0) t e.1) [] (cond (s the_start) ((the_start, start_writes) ∷ es) es) in
       tree_onto s [] (edits (event.Commit r ∷ past))
       ∙ (ap (λ (o : Option Draw). shape (filter (λ e. s e.0) (option_map_or (λ d. insert_entry revision_cmp (committed_edits past) r d.edit.writes) o (committed_edits past)))) drawn
       ∙ (ap shape (filter-unseen s r dr.edit.writes unseen (committed_edits past))

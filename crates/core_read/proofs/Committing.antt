@@ -19,8 +19,8 @@ use Rattle.oak_doc.specs.declared.update.UpdateOp.{UpdateOp}
 use Rattle.oak_doc.specs.declared.update.Change.{Change}
 use Rattle.oak_doc.specs.declared.update.Change.TheVariants as change
 use Rattle.oak_doc.specs.Updates.{of_revision, with_revision, values_of_property, changed, document_of, after_changes}
-use Rattle.oak_read.specs.Meaning.{Documents, commit_root_of, path_of}
-use Rattle.core_read.specs.Items.{here_of, put_of, written}
+use Rattle.oak_read.specs.Meaning.{Documents, commit_root_of, main_of, path_of}
+use Rattle.jr_tree.specs.Items.{here_of, put_of, written}
 use Rattle.core_read.specs.Holds.{here_entry, prop_entry, root_entry, is_at_path, IsWrite, IsSameAt, IsWhole, IsUndone}
 use Rattle.core_read.specs.Committing.{entry_of, entries_at, rooting, is_marking, IsWriteOp, IsWrittenAt, IsUnwritten, IsPartly}
 use Rattle.jr_tree.proofs.Pointwise.{same_path}
@@ -130,7 +130,7 @@ rooting_here r depth d true = (refl, refl)
 rooting_here r depth d false = (refl, refl)
 
 root_same : (d e : Document) (r : Revision) → e.commit_root ≡ d.commit_root → e.id ≡ d.id → commit_root_of e r ≡ commit_root_of d r
-root_same d e r h k = ap (λ i. option_map_or (λ depth. id.Node (take depth (path_of i))) (of_revision e.commit_root r) i) k ∙ ap (λ (es : List (Revision × ℕ)). option_map_or (λ depth. id.Node (take depth (path_of d.id))) (of_revision es r) d.id) h
+root_same d e r h k = ap (λ i. option_map_or (λ depth. id.Node (take depth (path_of i))) (of_revision e.commit_root r) (main_of i)) k ∙ ap (λ (es : List (Revision × ℕ)). option_map_or (λ depth. id.Node (take depth (path_of d.id))) (of_revision es r) (main_of d.id)) h
 
 or_nothing : {X : Type 0} (a b : Option X) → b ≡ None → option_or a b ≡ a
 or_nothing None b h = h

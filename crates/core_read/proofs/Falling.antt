@@ -43,19 +43,19 @@ edits_sorted past begun = both _ _ begun (committed_sorted past)
 
 -- ---- turned round
 
-pub tree_onto : (s : Sight) (done es : Commits) → tree_of s (onto done es) ≡ fold (λ t e. applied t e.1) (tree_of s done) (filter (λ e. s e.0) es)
+pub tree_onto : (s : Sight) (done es : Commits) → tree_of s (onto done es) ≡ fold (λ t e. applied (Some e.0) t e.1) (tree_of s done) (filter (λ e. s e.0) es)
 tree_onto s done [] = refl
 tree_onto s done (e ∷ es) = tree_onto s (e ∷ done) es ∙ by (s e.0)
   where
-    by : (b : Bool) → fold (λ t e. applied t e.1) (cond b (applied (tree_of s done) e.1) (tree_of s done)) (filter (λ e. s e.0) es) ≡ fold (λ t e. applied t e.1) (tree_of s done) (cond b (e ∷ filter (λ e. s e.0) es) (filter (λ e. s e.0) es))
+    by : (b : Bool) → fold (λ t e. applied (Some e.0) t e.1) (cond b (applied (Some e.0) (tree_of s done) e.1) (tree_of s done)) (filter (λ e. s e.0) es) ≡ fold (λ t e. applied (Some e.0) t e.1) (tree_of s done) (cond b (e ∷ filter (λ e. s e.0) es) (filter (λ e. s e.0) es))
     by true = refl
     by false = refl
 
 -- the tree at a vector that sees the start
-pub tree_falling : (past : Past) (v : RevVec) → sees v the_start ≡ true → tree_of (sees v) (falling past) ≡ tree_at past v
+pub tree_falling : (past : Past) (v : RevVec) → sees v the_start ≡ true → tree_of (sees v) (falling past) ≡ tree_at None past v
 tree_falling past v h =
     tree_onto (sees v) [] (edits past)
-    ∙ ap (λ b. fold (λ t e. applied t e.1) [] (cond b ((the_start, start_writes) ∷ filter (λ e. sees v e.0) (committed_edits past)) (filter (λ e. sees v e.0) (committed_edits past)))) h
+    ∙ ap (λ b. fold (λ t e. applied (Some e.0) t e.1) [] (cond b ((the_start, start_writes) ∷ filter (λ e. sees v e.0) (committed_edits past)) (filter (λ e. sees v e.0) (committed_edits past)))) h
 
 Each-all : {X : Type 0} (P : X → Type 0) → ((x : X) → P x) → (xs : List X) → Each P xs
 Each-all P f [] = tt
@@ -129,7 +129,7 @@ closed_of past s closed [] found = tt
 closed_of past s closed (e ∷ es) found = ((λ h. Each-all _ (λ o k. closed e.0 e.1 found.0 h o.0 k) es), closed_of past s closed es found.1)
 
 hides : (past : Past) (s : Sight) (e : Revision × List Write) (es : Commits) → s e.0 ≡ false → tree_of s (e ∷ es) ≡ tree_of s es
-hides past s e es h = ap (λ b. cond b (applied (tree_of s es) e.1) (tree_of s es)) h
+hides past s e es h = ap (λ b. cond b (applied (Some e.0) (tree_of s es) e.1) (tree_of s es)) h
 
 sound_of : (past : Past) (es : Commits) → Fall es → Each (λ e. edit_of past e.0 ≡ Some e.1) es → Each (λ e. IsSoundEdit past e.0 e.1) es
     → Each (λ e. tree_of (is_in_base past e.0) (falling past) ≡ tree_of (is_in_base past e.0) es) es → AreSound (is_in_base past) es

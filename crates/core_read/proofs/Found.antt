@@ -22,18 +22,18 @@ use Rattle.jr_rev.specs.Vectors.{sees}
 use Rattle.jr_tree.specs.declared.tree.Node.{Node}
 use Rattle.jr_tree.specs.declared.edit.Write.{Write}
 use Rattle.jr_tree.specs.declared.edit.Write.TheVariants.{Here, Gone, Put, Unset}
-use Rattle.jr_tree.specs.Trees.{node_at, property_at}
+use Rattle.jr_tree.specs.Trees.{born_of, born_at, node_at, property_at}
 use Rattle.oak_doc.specs.declared.document.Document.{Document}
 use Rattle.oak_doc.specs.Updates.{of_revision, values_of_property}
-use Rattle.oak_read.specs.Meaning.{Documents, is_committed, found_node, value_of, properties_in, documents_at, latest, commit_root_of, path_of}
+use Rattle.oak_read.specs.Meaning.{Documents, is_committed, found_node, entry_of, value_of, added_by, properties_in, documents_at, latest, commit_root_of, main_of, path_of}
 use Rattle.oak_machine.specs.History.{Past}
 use Rattle.oak_machine.specs.Commits.{is_in_flight, tree_at}
-use Rattle.core_read.specs.Items.{here_of, put_of, written}
-use Rattle.core_read.specs.Commits.{last}
+use Rattle.jr_tree.specs.Items.{here_of, put_of, written}
+use Rattle.core_read.specs.Commits.{last, last_by, last_entry}
 use Rattle.core_read.specs.Holds.{edit_of, falling, the_start, IsSoundPast, IsClosedSight, is_at_path, here_entry, prop_entry, is_rooted, has_revision, Holds, IsSwept}
 use Rattle.core_read.proofs.Entries.{first, sorted_insert, same_lists}
-use Rattle.core_read.proofs.Latest.{same_revision, only, last-map, passing, latest_last, writing, last_last}
-use Rattle.core_read.proofs.Proper.{same_name}
+use Rattle.core_read.proofs.Latest.{same_revision, only, only_entry, last-map, last_entry-map, revision_map, passing, latest_entry, latest_last, writing, last_entry_last, last_last}
+use Rattle.jr_tree.proofs.Proper.{same_name}
 use Rattle.core_read.proofs.Trees.{Tells}
 use Rattle.core_read.proofs.Falling.{falling_falls, found_falling, tells_falling, tree_falling}
 
@@ -92,7 +92,7 @@ module _ (val : Name → Option Property) where
   abbrev pub gathered : List (Name × Property) → List Name → List (Name × Property)
   gathered ps names = fold (λ ps n. option_map_or (insert_entry name_cmp ps n) (val n) ps) ps names
 
-  gathered_sorted : (names : List Name) (ps : List (Name × Property)) → is_sorted name_cmp ps ≡ true → is_sorted name_cmp (gathered ps names) ≡ true
+  pub gathered_sorted : (names : List Name) (ps : List (Name × Property)) → is_sorted name_cmp ps ≡ true → is_sorted name_cmp (gathered ps names) ≡ true
   gathered_sorted [] ps s = s
   gathered_sorted (n ∷ names) ps s = gathered_sorted names (option_map_or (insert_entry name_cmp ps n) (val n) ps) (by (val n))
     where
@@ -120,7 +120,7 @@ module _ (val : Name → Option Property) where
   twice false true x y = refl
   twice false false x y = refl
 
-  gathered_at : (m : Name) (names : List Name) (ps : List (Name × Property)) → lookup (is_at (name_cmp m)) (gathered ps names) ≡ cond (list_any (eq_by_cmp name_cmp m) names) (option_or (val m) (lookup (is_at (name_cmp m)) ps)) (lookup (is_at (name_cmp m)) ps)
+  pub gathered_at : (m : Name) (names : List Name) (ps : List (Name × Property)) → lookup (is_at (name_cmp m)) (gathered ps names) ≡ cond (list_any (eq_by_cmp name_cmp m) names) (option_or (val m) (lookup (is_at (name_cmp m)) ps)) (lookup (is_at (name_cmp m)) ps)
   gathered_at m [] ps = refl
   gathered_at m (n ∷ names) ps =
       gathered_at m names (option_map_or (insert_entry name_cmp ps n) (val n) ps)
@@ -151,8 +151,8 @@ module _ (ds : Documents) (past : Past) (t v : RevVec) (holds : Holds ds past) (
     ] refl
 
     -- a commit root is a node's document
-    root_is_node : (o : Option ℕ) → (q : Path) × (option_map_or (λ depth. id.Node (take depth (path_of d.id))) o d.id ≡ id.Node q)
-    root_is_node None = (p, holds.named p d is)
+    root_is_node : (o : Option ℕ) → (q : Path) × (option_map_or (λ depth. id.Node (take depth (path_of d.id))) o (main_of d.id) ≡ id.Node q)
+    root_is_node None = (p, ap main_of (holds.named p d is))
     root_is_node (Some depth) = (take depth (path_of d.id), refl)
 
     unsaid_at : (r : Revision) → edit_of past r ≡ None → (i : DocId) → (q : Path) × (i ≡ id.Node q) → has_revision (ds i) r ≡ false
@@ -193,12 +193,17 @@ module _ (ds : Documents) (past : Past) (t v : RevVec) (holds : Holds ds past) (
     node_value : option_map not (value_of ds t v (λ e. e.deleted) (d ∷ [])) ≡ last (here_of p) (sees v) (falling past)
     node_value = only _ _ node_agrees _ _ (last-map not _ _ (latest_last counts d.deleted)) (last_last (here_of p) (sees v) (falling past) (falling_falls past sound.begun))
 
+    -- and the revision of what counts of the node
+    node_revision : added_by ds t v (d ∷ []) ≡ last_by p (sees v) (falling past)
+    node_revision = revision_map not (entry_of ds t v (λ e. e.deleted) (d ∷ [])) ∙ ap (option_map (λ e. e.0))
+        (only_entry _ _ node_agrees _ _ (last_entry-map not _ _ (latest_entry counts d.deleted)) (last_entry_last (here_of p) (sees v) (falling past) (falling_falls past sound.begun)))
+
     prop_value : (n : Name) → value_of ds t v (λ d. values_of_property d.props n) (d ∷ []) ≡ last (put_of p n) (sees v) (falling past)
     prop_value n = only _ _ (prop_agrees n) _ _ (latest_last counts (values_of_property d.props n)) (last_last (put_of p n) (sees v) (falling past) (falling_falls past sound.begun))
 
   -- ---- the theorem
 
-  tells : Tells (tree_at past v) (sees v) (falling past)
+  tells : Tells (tree_at None past v) (sees v) (falling past)
   tells = subst (λ t. Tells t (sees v) (falling past)) (tree_falling past v begun) (tells_falling past sound (sees v) closed)
 
   -- no document: no write
@@ -231,19 +236,19 @@ module _ (ds : Documents) (past : Past) (t v : RevVec) (holds : Holds ds past) (
   absent (Some node) h = absurd (false≢true (sym h))
 
   module _ (p : Path) (d : Document) (is : ds (id.Node p) ≡ Some d) where
-    there : option_map_or not (value_of ds t v (λ e. e.deleted) (d ∷ [])) false ≡ is_some (node_at (tree_at past v) p)
+    there : option_map_or not (value_of ds t v (λ e. e.deleted) (d ∷ [])) false ≡ is_some (node_at (tree_at None past v) p)
     there = as_flag _ ∙ (ap (λ o. unwrap_or o false) (node_value p d is) ∙ sym (tells.node p))
 
     abbrev value_at : Name → Option Property
     value_at n = option_flatten (value_of ds t v (λ d. values_of_property d.props n) (d ∷ []))
 
-    property_there : (n : Name) → value_at n ≡ property_at (tree_at past v) p n
+    property_there : (n : Name) → value_at n ≡ property_at (tree_at None past v) p n
     property_there n = as_value (value_of ds t v (λ d. values_of_property d.props n) (d ∷ [])) ∙ (ap (λ o. unwrap_or o None) (prop_value p d is n) ∙ sym (tells.prop p n))
 
     nameless : (n : Name) → list_any (eq_by_cmp name_cmp n) (keys_of d.props ++ []) ≡ false → value_at n ≡ None
     nameless n h = ap (λ o. option_flatten (option_map (λ e. e.1) (latest (filter (λ e. sees v e.0 && is_committed ds t d e.0) (unwrap_or o []) ++ [])))) (missing n d.props h)
 
-    properties_there : (node : Node) → node_at (tree_at past v) p ≡ Some node → properties_in ds t v (d ∷ []) ≡ node.props
+    properties_there : (node : Node) → node_at (tree_at None past v) p ≡ Some node → properties_in ds t v (d ∷ []) ≡ node.props
     properties_there node e = same_lists name_cmp nat_list_cmp_total name_exact (properties_in ds t v (d ∷ [])) node.props
         (gathered_sorted value_at (keys_of d.props ++ []) [] refl) (tells.orderly p node e) (λ n. gathered_at value_at n (keys_of d.props ++ []) [] ∙ by n _ refl)
       where
@@ -258,22 +263,30 @@ module _ (ds : Documents) (past : Past) (t v : RevVec) (holds : Holds ds past) (
         by n true h = or_none (value_at n) ∙ looked n
         by n false h = sym (nameless n h) ∙ looked n
 
-    abbrev shape : List Document → Option (List (Name × Property))
-    shape all = cond (option_map_or not (value_of ds t v (λ e. e.deleted) all) false) (Some (properties_in ds t v all)) None
+    added_there : (node : Node) → node_at (tree_at None past v) p ≡ Some node → added_by ds t v (d ∷ []) ≡ node.born
+    added_there node e =
+        node_revision p d is
+        ∙ sym (ap born_of (sym e) ∙ (tells.born p ∙ ap (λ (o : Option Node). cond (is_some o) (last_by p (sees v) (falling past)) None) e))
 
-    shaped : (o : Option Node) → node_at (tree_at past v) p ≡ o → shape (d ∷ []) ≡ option_map (λ node. node.props) o
-    shaped None e = ap (λ b. cond b (Some (properties_in ds t v (d ∷ []))) None) (there ∙ ap is_some e)
-    shaped (Some node) e = ap (λ b. cond b (Some (properties_in ds t v (d ∷ []))) None) (there ∙ ap is_some e) ∙ ap (λ (ps : List (Name × Property)). Some ps) (properties_there node e)
+    abbrev node_of : List Document → Node
+    node_of all = record { props = properties_in ds t v all; born = added_by ds t v all }
 
-    found_in : found_node ds t v p ≡ option_map (λ node. node.props) (node_at (tree_at past v) p)
+    abbrev shape : List Document → Option Node
+    shape all = cond (option_map_or not (value_of ds t v (λ e. e.deleted) all) false) (Some (node_of all)) None
+
+    shaped : (o : Option Node) → node_at (tree_at None past v) p ≡ o → shape (d ∷ []) ≡ o
+    shaped None e = ap (λ b. cond b (Some (node_of (d ∷ []))) None) (there ∙ ap is_some e)
+    shaped (Some node) e = ap (λ b. cond b (Some (node_of (d ∷ []))) None) (there ∙ ap is_some e) ∙ (λ i. Some (record { props = properties_there node e i; born = added_there node e i }))
+
+    found_in : found_node ds t v p ≡ node_at (tree_at None past v) p
     found_in =
         ap (λ (o : Option Document). option_and_then (λ d. shape (documents_at ds t v p d)) o) is
         ∙ (ap (λ prev. shape (d ∷ filter_map (λ e. ds (id.Prev e.number p)) prev)) (holds.whole p d is)
-        ∙ shaped (node_at (tree_at past v) p) refl)
+        ∙ shaped (node_at (tree_at None past v) p) refl)
 
-  pub found : (p : Path) → found_node ds t v p ≡ option_map (λ node. node.props) (node_at (tree_at past v) p)
+  pub found : (p : Path) → found_node ds t v p ≡ node_at (tree_at None past v) p
   found p = by (ds (id.Node p)) refl
     where
-      by : (o : Option Document) → ds (id.Node p) ≡ o → found_node ds t v p ≡ option_map (λ node. node.props) (node_at (tree_at past v) p)
+      by : (o : Option Document) → ds (id.Node p) ≡ o → found_node ds t v p ≡ node_at (tree_at None past v) p
       by (Some d) is = found_in p d is
-      by None is = ap (option_and_then _) is ∙ sym (ap (option_map (λ node. node.props)) (absent _ (tells.node p ∙ ap (λ o. unwrap_or o false) (no_writes p is))))
+      by None is = ap (option_and_then _) is ∙ sym (absent _ (tells.node p ∙ ap (λ o. unwrap_or o false) (no_writes p is)))

@@ -4,7 +4,7 @@ use Rattle.std.specs.declared.cmp.Ordering.{Ordering}
 use Rattle.std.specs.declared.cmp.Ordering.TheVariants.{Less, Equal, Greater}
 use Rattle.std.specs.Ordering.{is_eq, is_lt, is_le, eq_by_cmp, ordering_reverse}
 use Rattle.std.specs.Cmp.{alike_right, tied_itself}
-use Rattle.std.specs.Option.{option_map, option_and_then, option_or}
+use Rattle.std.specs.Option.{option_map, option_and_then, option_or, unwrap_or}
 use Rattle.std.specs.List.{filter}
 use mathlib.Core.Bool.{false≢true}
 use Rattle.jr_rev.specs.declared.revision.Revision.{Revision}
@@ -13,8 +13,8 @@ use Rattle.jr_rev.proofs.Order.{revision_total, revision_exact}
 use Rattle.jr_tree.specs.declared.edit.Write.{Write}
 use Rattle.oak_doc.specs.Updates.{of_revision}
 use Rattle.oak_read.specs.Meaning.{latest, later_of}
-use Rattle.core_read.specs.Items.{written}
-use Rattle.core_read.specs.Commits.{Commits, Sight, last, Each, Fall}
+use Rattle.jr_tree.specs.Items.{written}
+use Rattle.core_read.specs.Commits.{Commits, Sight, last, last_entry, Each, Fall}
 use Rattle.core_read.proofs.Entries.{exactly}
 
 -- ---- the order of revisions
@@ -103,8 +103,27 @@ entry_value : {X : Type 0} (g : Revision → Option X) (o : Option (Revision × 
 entry_value g None l = l
 entry_value g (Some f) l = (f.0, l.0, l.1)
 
+-- where two functions agree, so do their last entries
+pub only_entry : {X : Type 0} (g h : Revision → Option X) → ((r : Revision) → g r ≡ h r) → (a b : Option (Revision × X)) → IsLastEntry g a → IsLastEntry h b → a ≡ b
+only_entry g h same None None l m = refl
+only_entry g h same None (Some y) l m = none_some (g y.0) y.1 (l y.0) (same y.0 ∙ m.0) _
+only_entry g h same (Some x) None l m = none_some (g x.0) x.1 (same x.0 ∙ m x.0) l.0 _
+only_entry g h same (Some x) (Some y) l m =
+    let one : x.0 ≡ y.0 = at_most_both x.0 y.0 (m.1 x.0 (ap is_some (sym (same x.0) ∙ l.0))) (l.1 y.0 (ap is_some (same y.0 ∙ m.0))) in
+    let value : x.1 ≡ y.1 = ap (λ o. unwrap_or o x.1) (sym l.0 ∙ (same x.0 ∙ (ap h one ∙ m.0))) in
+    λ i. Some (one i, value i)
+
+pub last_entry-map : {X Y : Type 0} (f : X → Y) (g : Revision → Option X) (o : Option (Revision × X)) → IsLastEntry g o → IsLastEntry (λ r. option_map f (g r)) (option_map (λ (e : Revision × X). (e.0, f e.1)) o)
+last_entry-map f g None l = λ r. ap (option_map f) (l r)
+last_entry-map f g (Some x) l = (ap (option_map f) l.0, λ q h. l.1 q (map_some f (g q) h))
+
+-- the revision of an entry, whatever is made of its value
+pub revision_map : {X Y : Type 0} (f : X → Y) (o : Option (Revision × X)) → option_map (λ (e : Revision × X). e.0) o ≡ option_map (λ (e : Revision × Y). e.0) (option_map (λ (e : Revision × X). (e.0, f e.1)) o)
+revision_map f None = refl
+revision_map f (Some e) = refl
+
 -- equal functions have the same last entry
-moved : {X : Type 0} (g h : Revision → Option X) → ((r : Revision) → h r ≡ g r) → (o : Option (Revision × X)) → IsLastEntry g o → IsLastEntry h o
+pub moved : {X : Type 0} (g h : Revision → Option X) → ((r : Revision) → h r ≡ g r) → (o : Option (Revision × X)) → IsLastEntry g o → IsLastEntry h o
 moved g h same None l = λ r. same r ∙ l r
 moved g h same (Some f) l = (same f.0 ∙ l.0, λ q k. l.1 q (ap is_some (sym (same q)) ∙ k))
 
@@ -149,7 +168,7 @@ module _ {X : Type 0} (test : Revision → Bool) where
       by true p = (other e es f.0 (apart p _ refl) ∙ l.0, λ q k. either_of e es q k _ (λ s. subst (λ (x : Revision). is_at_most x f.0 ≡ true) (sym s) (before_at_most e.0 f.0 p)) (λ s. l.1 q s))
       by false p = (shown e es h, λ q k. either_of e es q k _ (λ s. at_most_itself q e.0 s) (λ s. at_most_trans q f.0 e.0 (l.1 q s) (not_before e.0 f.0 p)))
 
-  latest_entry : (es : List (Revision × X)) → IsLastEntry (passing es) (latest (filter (λ e. test e.0) es ++ []))
+  pub latest_entry : (es : List (Revision × X)) → IsLastEntry (passing es) (latest (filter (λ e. test e.0) es ++ []))
   latest_entry [] = λ r. elim (test r) as (λ b. ◌≡◌ {A = Option X} (cond b None None) None) [ true ↦ refl | false ↦ refl ]
   latest_entry (e ∷ es) =
       let rest : IsLastEntry (passing es) (latest (filter (λ e. test e.0) es ++ [])) = latest_entry es in
@@ -194,9 +213,9 @@ module _ {X : Type 0} (f : Write → Option X) (s : Sight) where
   then_some true None h = h
   then_some false None h = h
 
-  pub last_last : (es : Commits) → Fall es → IsLast (λ r. writing (of_revision es r) r) (last f s es)
-  last_last [] fall = λ r. writing_none (s r)
-  last_last (e ∷ es) fall = by (cond (s e.0) (written f e.1) None) refl (last f s es) (last_last es fall.1)
+  pub last_entry_last : (es : Commits) → Fall es → IsLastEntry (λ r. writing (of_revision es r) r) (last_entry f s es)
+  last_entry_last [] fall = λ r. writing_none (s r)
+  last_entry_last (e ∷ es) fall = by (cond (s e.0) (written f e.1) None) refl (last_entry f s es) (last_entry_last es fall.1)
     where
       G : Revision → Option X
       G r = writing (of_revision (e ∷ es) r) r
@@ -220,6 +239,17 @@ module _ {X : Type 0} (f : Write → Option X) (s : Sight) where
         | false ↦ λ k. away r k
       ] refl
 
-      by : (o : Option X) → cond (s e.0) (written f e.1) None ≡ o → (rest : Option X) → IsLast (λ r. writing (of_revision es r) r) rest → IsLast G (option_or o rest)
-      by (Some x) k rest l = (e.0, here ∙ k, below)
-      by None k rest l = last_moved (λ r. writing (of_revision es r) r) G (alike k) rest l
+      by : (o : Option X) → cond (s e.0) (written f e.1) None ≡ o → (rest : Option (Revision × X)) → IsLastEntry (λ r. writing (of_revision es r) r) rest → IsLastEntry G (option_or (option_map (λ x. (e.0, x)) o) rest)
+      by (Some x) k rest l = (here ∙ k, below)
+      by None k rest l = moved (λ r. writing (of_revision es r) r) G (alike k) rest l
+
+  last_value : (es : Commits) → option_map (λ e. e.1) (last_entry f s es) ≡ last f s es
+  last_value [] = refl
+  last_value (e ∷ es) = by (cond (s e.0) (written f e.1) None) ∙ ap (option_or (cond (s e.0) (written f e.1) None)) (last_value es)
+    where
+      by : (o : Option X) → option_map (λ (e : Revision × X). e.1) (option_or (option_map (λ x. (e.0, x)) o) (last_entry f s es)) ≡ option_or o (option_map (λ e. e.1) (last_entry f s es))
+      by None = refl
+      by (Some x) = refl
+
+  pub last_last : (es : Commits) → Fall es → IsLast (λ r. writing (of_revision es r) r) (last f s es)
+  last_last es fall = subst (IsLast (λ r. writing (of_revision es r) r)) (last_value es) (entry_value (λ r. writing (of_revision es r) r) (last_entry f s es) (last_entry_last es fall))

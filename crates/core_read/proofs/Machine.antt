@@ -23,18 +23,19 @@ drawn_at (Some d) ended h = (d, refl)
 pub commit_told : (past : Past) (r : Revision) → IsTold past → MayCommit past r → IsTold (event.Commit r ∷ past)
 commit_told past r told may = let d = drawn_at (draw_of past r) _ may.open_.in_flight in told_commit past r d.0 told may d.1
 
-after_start : (clusters : ℕ) (past : Past) (r : Revision) → r ≡ next_draw clusters past r.cluster → is_before the_start r ≡ true
+after_start : (clusters : ℕ) (past : Past) (r : Revision) → r ≡ next_draw clusters None past r.cluster → is_before the_start r ≡ true
 after_start clusters past r h = let t = ap (λ (x : Revision). x.time) h in let positive : 0 < r.time = omega arith in time_before the_start r positive
 
-pub draw_told : (starts : Starts) → StartsProper starts → (h : History) (d : Draw) → MayDraw starts h d → IsTold h.past → IsFreshDraw h.past d → IsTold (event.Draw d ∷ h.past)
-draw_told starts proper h d may told new =
-    let p = proper h d.session d.edit d.marks d.base may.base may.lawful in
-    told_draw h.past d told new.fresh (after_start h.clusters h.past d.revision may.next) new.base new.rises p.0 (covers_writes (tree_at h.past d.base) d.edit.writes d.marks p.1) new.hidden
+pub draw_told : (starts : Starts) → StartsProper starts → (clusters : ℕ) (sessions : List ℕ) (past : Past) (d : Draw) → MayDraw starts (record { clusters = clusters; sessions = sessions; begin = None; past = past }) d
+    → IsTold past → IsFreshDraw past d → IsTold (event.Draw d ∷ past)
+draw_told starts proper clusters sessions past d may told new =
+    let p = proper (record { clusters = clusters; sessions = sessions; begin = None; past = past }) d.session d.edit d.marks d.base may.base may.lawful in
+    told_draw past d told new.fresh (after_start clusters past d.revision may.next) new.base new.rises p.0 (covers_writes (tree_at None past d.base) d.edit.writes d.marks p.1) new.hidden
 
 module _ (starts : Starts) (says : Says) (clusters : ℕ) (sessions : List ℕ) (proper : StartsProper starts)
-    (heads : (d : Draw) (past : Past) → IsRunOf starts says clusters sessions (event.Draw d ∷ past) → IsFreshDraw past d) where
-  pub told_run : (past : Past) → IsRunOf starts says clusters sessions past → IsTold past
+    (heads : (d : Draw) (past : Past) → IsRunOf starts says clusters sessions None (event.Draw d ∷ past) → IsFreshDraw past d) where
+  pub told_run : (past : Past) → IsRunOf starts says clusters sessions None past → IsTold past
   told_run [] run = told_start
-  told_run (event.Draw d ∷ past) run = draw_told starts proper (record { clusters = clusters; sessions = sessions; past = past }) d run.0 (told_run past run.1) (heads d past run)
+  told_run (event.Draw d ∷ past) run = draw_told starts proper clusters sessions past d run.0 (told_run past run.1) (heads d past run)
   told_run (event.Commit r ∷ past) run = commit_told past r (told_run past run.1) run.0
   told_run (e ∷ past) run = told_calm past e refl (told_run past run.1)

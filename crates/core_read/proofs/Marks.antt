@@ -23,11 +23,11 @@ use Rattle.oak_clash.specs.declared.mark.MarkAt.{MarkAt}
 use Rattle.oak_clash.specs.Clashes.{clash, clashing}
 use Rattle.oak_machine.specs.Marks.{marks_of_write, mark_cmp, mark_at_cmp, marks_for, with_marks}
 use Rattle.oak_machine.specs.Laws.{is_of_item}
-use Rattle.core_read.specs.Items.{here_of, put_of, written}
+use Rattle.jr_tree.specs.Items.{here_of, put_of, written}
 use Rattle.core_read.specs.Commits.{Apart}
 use Rattle.core_read.specs.Told.{IsIn, Covers}
 use Rattle.core_read.proofs.Entries.{first, second, both}
-use Rattle.core_read.proofs.Proper.{same_name}
+use Rattle.jr_tree.proofs.Proper.{same_name}
 
 or_right : (a b : Bool) → b ≡ true → (a || b) ≡ true
 or_right true b h = refl
@@ -48,7 +48,7 @@ unwritten (Some x) h = absurd (h refl)
 same_paths : (p : Path) → eq_by_cmp path_cmp p p ≡ true
 same_paths p = ap is_eq (tied_itself path_total p)
 
-meet : (ms os : List MarkAt) (p : Path) (a b : Mark) → IsIn (record { path = p; mark = a }) ms → IsIn (record { path = p; mark = b }) os → clash a b ≡ true → clashing ms os ≡ true
+pub meet : (ms os : List MarkAt) (p : Path) (a b : Mark) → IsIn (record { path = p; mark = a }) ms → IsIn (record { path = p; mark = b }) os → clash a b ≡ true → clashing ms os ≡ true
 meet ms os p a b h k c = any_in (λ (m : MarkAt). list_any (λ (o : MarkAt). eq_by_cmp path_cmp m.path o.path && clash m.mark o.mark) os) (record { path = p; mark = a }) ms h
     (any_in (λ (o : MarkAt). eq_by_cmp path_cmp p o.path && clash a o.mark) (record { path = p; mark = b }) os k (both _ _ (same_paths p) c))
 

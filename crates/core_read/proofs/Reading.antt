@@ -96,5 +96,5 @@ swept_of past t held = record { begun = held.begun; quiet = λ r s e. by r s (is
 -- ---- the theorem
 
 pub reading : (ds : Documents) (past : Past) (t v : RevVec) → Holds ds past → IsTold past → IsInUse past v → IsInUse past t
-    → (p : Path) → found_node ds t v p ≡ option_map (λ node. node.props) (node_at (tree_at past v) p)
+    → (p : Path) → found_node ds t v p ≡ node_at (tree_at None past v) p
 reading ds past t v holds told held swept p = found ds past t v holds told.sound held.closed held.begun (swept_of past t swept) p

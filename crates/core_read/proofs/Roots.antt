@@ -7,7 +7,7 @@ use Rattle.jr_path.specs.declared.path.Path.{Path}
 use Rattle.oak_clash.specs.declared.mark.MarkAt.{MarkAt}
 use Rattle.oak_clash.specs.Clashes.{common, commit_root}
 use Rattle.core_read.specs.Told.{IsIn}
-use Rattle.core_read.proofs.Proper.{same_name}
+use Rattle.jr_tree.proofs.Proper.{same_name}
 
 -- p is c and more names
 abbrev pub IsBelow : Path → Path → Type 0

@@ -9,7 +9,7 @@ use Rattle.jr_value.specs.declared.value.Value.TheVariants as value
 use Rattle.jr_rev.specs.declared.revision.Revision.{Revision}
 use Rattle.jr_tree.specs.declared.edit.Write.TheVariants.{Here, Gone, Put, Unset}
 use Rattle.jr_tree.specs.Trees.{property_at}
-use Rattle.core_read.specs.Items.{put_of}
+use Rattle.jr_tree.specs.Items.{put_of}
 use Rattle.core_read.specs.Commits.{Commits, Sight, tree_of, last}
 
 abbrev a : Path

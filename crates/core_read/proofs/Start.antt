@@ -17,7 +17,7 @@ use Rattle.jr_rev.specs.Revisions.{revision_cmp}
 use Rattle.jr_tree.specs.declared.edit.Write.{Write}
 use Rattle.oak_doc.specs.declared.document.Document.{Document}
 use Rattle.oak_doc.specs.Updates.{of_revision, values_of_property}
-use Rattle.core_read.specs.Items.{here_of, put_of, written}
+use Rattle.jr_tree.specs.Items.{here_of, put_of, written}
 use Rattle.core_read.specs.Holds.{the_start, start_writes, here_entry, prop_entry, root_entry, has_revision, Holds}
 use Rattle.core_read.specs.Start.{start_document, system, versions, start_documents}
 use Rattle.core_read.proofs.Latest.{same_revision}

@@ -15,13 +15,13 @@ use Rattle.jr_tree.specs.declared.edit.Write.{Write}
 use Rattle.jr_tree.proofs.Pointwise.{same_path}
 use Rattle.oak_doc.specs.declared.document.Document.{Document}
 use Rattle.oak_doc.specs.Updates.{of_revision}
-use Rattle.oak_read.specs.Meaning.{Documents, commit_root_of, path_of}
+use Rattle.oak_read.specs.Meaning.{Documents, commit_root_of, main_of, path_of}
 use Rattle.oak_machine.specs.declared.event.Draw.{Draw}
 use Rattle.oak_machine.specs.declared.event.Event.{Event}
 use Rattle.oak_machine.specs.declared.event.Event.TheVariants as event
 use Rattle.oak_machine.specs.History.{Past}
 use Rattle.oak_machine.specs.Commits.{draw_of, is_in_flight, is_drawn, is_ended}
-use Rattle.core_read.specs.Items.{here_of, put_of, written}
+use Rattle.jr_tree.specs.Items.{here_of, put_of, written}
 use Rattle.core_read.specs.Holds.{edit_of, the_start, is_at_path, here_entry, prop_entry, root_entry, has_revision, is_rooted, Holds, IsWrite, IsSameAt, IsSameBut, IsWhole, IsUndone}
 use Rattle.core_read.proofs.Latest.{same_revision}
 use Rattle.core_read.proofs.Committed.{split, still_none}
@@ -40,7 +40,7 @@ root_path p None = p
 root_path p (Some depth) = take depth p
 
 pub commit_root_at : (d : Document) (p : Path) → d.id ≡ id.Node p → (q : Revision) → commit_root_of d q ≡ id.Node (root_path p (of_revision d.commit_root q))
-commit_root_at d p h q = ap (λ (i : DocId). option_map_or (λ depth. id.Node (take depth (path_of i))) (of_revision d.commit_root q) i) h ∙ by (of_revision d.commit_root q)
+commit_root_at d p h q = ap (λ (i : DocId). option_map_or (λ depth. id.Node (take depth (path_of i))) (of_revision d.commit_root q) (main_of i)) h ∙ by (of_revision d.commit_root q)
   where
     by : (o : Option ℕ) → option_map_or (λ depth. id.Node (take depth p)) o (id.Node p) ≡ id.Node (root_path p o)
     by None = refl

@@ -69,7 +69,7 @@ no_edit past r after not = by (eq_by_cmp revision_cmp r the_start) refl (of_revi
 pub base_is : (past : Past) (r : Revision) (d : Draw) → draw_of past r ≡ Some d → (o : Revision) → is_in_base past r o ≡ sees d.base o
 base_is past r d drawn o = ap (λ (x : Option Draw). option_map_or (λ d. sees d.base o) x false) drawn
 
-marks_is : (past : Past) (r : Revision) (d : Draw) → draw_of past r ≡ Some d → marks_of past r ≡ d.marks
+pub marks_is : (past : Past) (r : Revision) (d : Draw) → draw_of past r ≡ Some d → marks_of past r ≡ d.marks
 marks_is past r d drawn = ap (λ (x : Option Draw). option_map_or (λ d. d.marks) x []) drawn
 
 -- the premise on other commits, from the machine's rule for a Commit
@@ -131,7 +131,7 @@ module _ (past : Past) (r : Revision) (dr : Draw) (told : IsTold past) (may : Ma
   }
 
   -- a vector in held sees the same tree
-  pub tree_commit : (v : RevVec) → IsInUse past v → tree_at (event.Commit r ∷ past) v ≡ tree_at past v
+  pub tree_commit : (v : RevVec) → IsInUse past v → tree_at None (event.Commit r ∷ past) v ≡ tree_at None past v
   tree_commit v held = sym (tree_falling (event.Commit r ∷ past) v held.begun) ∙ (tree_same past r dr pending good.after drawn (sees v) (held.settled r may.open_.in_flight) ∙ tree_falling past v held.begun)
 
 -- ---- a Draw
@@ -177,7 +177,7 @@ module _ (past : Past) (d : Draw) (told : IsTold past) (fresh : draw_of past d.r
 
   -- the base of the new draw is in held, and sees only earlier revisions; no earlier base sees it
   pub told_draw : IsInUse past d.base → ((o : Revision) → sees d.base o ≡ true → is_before o d.revision ≡ true)
-      → IsProper (tree_at past d.base) d.edit.writes → Covers d.marks d.edit.writes
+      → IsProper (tree_at None past d.base) d.edit.writes → Covers d.marks d.edit.writes
       → ((q : Revision) (e : Draw) → draw_of past q ≡ Some e → is_in_base past q d.revision ≡ false)
       → IsTold (event.Draw d ∷ past)
   told_draw held rises proper covers hidden = record {
@@ -283,7 +283,7 @@ in_use_calm past (event.Commit r) v h held = absurd (false≢true h)
 in_use_calm past (event.End r) v h held = record { settled = λ o f. held.settled o (still_flying past r o f); closed = held.closed; begun = held.begun }
 in_use_calm past e v h held = record { settled = held.settled; closed = held.closed; begun = held.begun }
 
-pub tree_calm : (past : Past) (e : Event) (v : RevVec) → is_calm e ≡ true → tree_at (e ∷ past) v ≡ tree_at past v
+pub tree_calm : (past : Past) (e : Event) (v : RevVec) → is_calm e ≡ true → tree_at None (e ∷ past) v ≡ tree_at None past v
 tree_calm past (event.Commit r) v h = absurd (false≢true h)
 tree_calm past e v h = refl
 

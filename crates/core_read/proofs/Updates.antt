@@ -28,7 +28,7 @@ use Rattle.core_read.specs.Holds.{here_entry, prop_entry, root_entry, has_revisi
 use Rattle.core_read.specs.Writes.{is_entry_of, IsOrderedDocument}
 use Rattle.core_read.proofs.Entries.{exactly, first, second, sorted_insert, sorted_remove, lookup-remove, none_below}
 use Rattle.core_read.proofs.Latest.{same_revision}
-use Rattle.core_read.proofs.Proper.{same_name}
+use Rattle.jr_tree.proofs.Proper.{same_name}
 
 -- ---- entries by revision
 

@@ -1,6 +1,6 @@
 -- Commits in descending order: the tree that a reader sees, and what it sees at an item.
-use Rattle.std.specs.Prelude.{◌≡◌, Bool, cond, List, [], ◌∷◌, Option, None, is_some, IsTrue, IsFalse}
-use Rattle.std.specs.Option.{option_or}
+use Rattle.std.specs.Prelude.{◌≡◌, Bool, cond, List, [], ◌∷◌, Option, None, Some, is_some, IsTrue, IsFalse}
+use Rattle.std.specs.Option.{option_map, option_or}
 use Rattle.jr_path.specs.declared.name.Name.{Name}
 use Rattle.jr_path.specs.declared.path.Path.{Path}
 use Rattle.jr_rev.specs.declared.revision.Revision.{Revision}
@@ -8,7 +8,7 @@ use Rattle.jr_rev.specs.Revisions.{is_before}
 use Rattle.jr_tree.specs.declared.edit.Write.{Write}
 use Rattle.jr_tree.specs.Trees.{Nodes}
 use Rattle.jr_tree.specs.Edits.{applied, IsProper}
-use Rattle.core_read.specs.Items.{here_of, put_of, written}
+use Rattle.jr_tree.specs.Items.{here_of, put_of, written}
 
 -- edits by revision, the greatest revision first
 abbrev pub Commits : Type 0
@@ -18,15 +18,24 @@ Commits = List (Revision × List Write)
 abbrev pub Sight : Type 0
 Sight = Revision → Bool
 
--- the tree that is seen: the edits that are seen, applied to nothing in ascending order
+-- the tree that is seen: the edits that are seen, applied to nothing in ascending order, each with its revision
 abbrev pub tree_of : Sight → Commits → Nodes
 tree_of s [] = []
-tree_of s (e ∷ es) = cond (s e.0) (applied (tree_of s es) e.1) (tree_of s es)
+tree_of s (e ∷ es) = cond (s e.0) (applied (Some e.0) (tree_of s es) e.1) (tree_of s es)
 
 -- what the last write of an item writes, over the edits that are seen
 abbrev pub last : {X : Type 0} → (Write → Option X) → Sight → Commits → Option X
 last f s [] = None
 last f s (e ∷ es) = option_or (cond (s e.0) (written f e.1) None) (last f s es)
+
+-- the same, with the revision of that edit
+abbrev pub last_entry : {X : Type 0} → (Write → Option X) → Sight → Commits → Option (Revision × X)
+last_entry f s [] = None
+last_entry f s (e ∷ es) = option_or (option_map (λ x. (e.0, x)) (cond (s e.0) (written f e.1) None)) (last_entry f s es)
+
+-- the revision of the last edit that writes the node at p
+abbrev pub last_by : Path → Sight → Commits → Option Revision
+last_by p s es = option_map (λ e. e.0) (last_entry (here_of p) s es)
 
 -- P holds of each element
 abbrev pub Each : {X : Type 0} → (X → Type 0) → List X → Type 0

@@ -15,7 +15,7 @@ use Rattle.oak_doc.specs.declared.update.UpdateOp.{UpdateOp}
 use Rattle.oak_doc.specs.declared.update.Change.{Change}
 use Rattle.oak_doc.specs.declared.update.Change.TheVariants as change
 use Rattle.oak_read.specs.Meaning.{Documents, commit_root_of}
-use Rattle.core_read.specs.Items.{here_of, put_of, written}
+use Rattle.jr_tree.specs.Items.{here_of, put_of, written}
 use Rattle.core_read.specs.Holds.{here_entry, prop_entry, root_entry, is_at_path}
 
 -- the entry that a write makes in the document of the node at p

@@ -23,7 +23,7 @@ use Rattle.oak_doc.specs.Updates.{of_revision, values_of_property}
 use Rattle.oak_read.specs.Meaning.{Documents, commit_root_of}
 use Rattle.oak_machine.specs.History.{Past}
 use Rattle.oak_machine.specs.Commits.{committed_edits, is_in_base, is_in_flight}
-use Rattle.core_read.specs.Items.{here_of, put_of, written}
+use Rattle.jr_tree.specs.Items.{here_of, put_of, written}
 use Rattle.core_read.specs.Commits.{Commits, Sight, Apart, tree_of}
 
 -- the writes that make the initial tree

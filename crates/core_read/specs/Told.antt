@@ -13,7 +13,7 @@ use Rattle.oak_clash.specs.declared.mark.MarkAt.{MarkAt}
 use Rattle.oak_machine.specs.declared.event.Draw.{Draw}
 use Rattle.oak_machine.specs.History.{Past}
 use Rattle.oak_machine.specs.Commits.{draw_of, is_in_flight, is_in_base}
-use Rattle.core_read.specs.Items.{here_of, put_of, written}
+use Rattle.jr_tree.specs.Items.{here_of, put_of, written}
 use Rattle.core_read.specs.Holds.{edit_of, the_start, IsSoundPast, IsReady, IsClosedSight}
 
 -- k is one of the list

@@ -1,5 +1,6 @@
 -- The names of the children of a path in a tree: they rise, and which of them come before a document or up to it.
-use Rattle.std.proofs.Common.{◌≡◌, ◌+◌, length, Bool, true, false, cond, ◌||◌, Some, None, Option, List, [], ◌∷◌, ◌++◌, refl, sym, ap, ◌∙◌, is_some}
+use Rattle.std.proofs.Common.{◌≡◌, ◌+◌, length, Bool, true, false, cond, ◌||◌, Some, None, Option, List, [], ◌∷◌, ◌++◌, map, refl, sym, ap, ◌∙◌, is_some}
+use Rattle.std.specs.Option.{option_map}
 use Rattle.std.specs.Prelude.{option_to_list, codes}
 use Rattle.std.specs.declared.cmp.Ordering.{Ordering}
 use Rattle.std.specs.declared.cmp.Ordering.TheVariants.{Less, Equal, Greater}
@@ -16,11 +17,13 @@ use Rattle.jr_path.specs.declared.path.Path.{Path}
 use Rattle.jr_path.specs.declared.path.DocId.TheVariants as id
 use Rattle.jr_path.proofs.Maps.{name_exact}
 use Rattle.jr_tree.specs.declared.tree.Node.{Node}
-use Rattle.jr_tree.specs.Trees.{Nodes, node_at, is_child_of, children_of}
+use Rattle.jr_rev.specs.declared.revision.Revision.{Revision}
+use Rattle.jr_tree.specs.Trees.{Nodes, born_at, born_of, node_at, is_child_of, children_of, dated_children_of}
 use Rattle.jr_tree.proofs.Pointwise.{same_path}
 use Rattle.oak_read.proofs.Below.{child_path, longer, own_child, own_name, same_front, joined-child}
-use Rattle.core_read.proofs.Entries.{is_less, first, second}
-use Rattle.core_watch.specs.Standing.{children_to}
+use Rattle.core_read.proofs.Entries.{exactly, is_less, first, none_below, second}
+use Rattle.jr_path.proofs.Maps.{path_total}
+use Rattle.core_watch.specs.Standing.{Child, children_to, dated}
 
 -- ---- two children are as their names
 
@@ -208,3 +211,36 @@ module _ (t : Nodes) (p : Path) where
   pub same_children : (test test' : Ordering → Bool) (q q' : Path) → ((n : Name) → is_some (node_at t (p ++ n ∷ [])) ≡ true → test (id_cmp (id.Node (p ++ n ∷ [])) (id.Node q)) ≡ test' (id_cmp (id.Node (p ++ n ∷ [])) (id.Node q')))
       → children_to test t p q ≡ children_to test' t p q'
   same_children test test' q q' h = filter_same (λ n. test (id_cmp (id.Node (p ++ n ∷ [])) (id.Node q))) (λ n. test' (id_cmp (id.Node (p ++ n ∷ [])) (id.Node q'))) (children_of t p) (all_from h (children_of t p) (children_there t p))
+
+-- ---- the revisions that added them
+
+-- each child's revision is that of the node of its name
+module _ (whole : Nodes) (p : Path) where
+  dated_within : (t : Nodes) → is_sorted path_cmp t ≡ true → ((q : Path) (node : Node) → node_at t q ≡ Some node → node_at whole q ≡ Some node) → dated_children_of t p ≡ map (dated whole p) (children_of t p)
+  dated_within [] s within = refl
+  dated_within (e ∷ t) s within = by (is_child_of p e.0) refl (last_name e.0) refl (dated_within t (second _ _ s) (λ q node h. within q node (passed q node h (eq_by_cmp path_cmp q e.0) refl)))
+    where
+      passed : (q : Path) (node : Node) → node_at t q ≡ Some node → (b : Bool) → eq_by_cmp path_cmp q e.0 ≡ b → cond b (Some e.1) (node_at t q) ≡ Some node
+      passed q node h true g = absurd (false≢true (ap is_some (sym (none_below path_cmp path_total q e.0 (exactly _ g) t (first _ _ s)) ∙ h)))
+      passed q node h false g = h
+
+      own : node_at whole e.0 ≡ Some e.1
+      own = within e.0 e.1 (ap (λ o. cond (is_eq o) (Some e.1) (node_at t e.0)) (tied_itself path_total e.0))
+
+      by : (b : Bool) → is_child_of p e.0 ≡ b → (o : Option Name) → last_name e.0 ≡ o → dated_children_of t p ≡ map (dated whole p) (children_of t p)
+          → cons_option (cond b (option_map (λ n. (n, e.1.born)) o) None) (dated_children_of t p) ≡ map (dated whole p) (cons_option (cond b o None) (children_of t p))
+      by false is o last rest = rest
+      by true is None last rest = rest
+      by true is (Some n) last rest =
+          let at : node_at whole (p ++ n ∷ []) ≡ Some e.1 = ap (node_at whole) (sym (child_path p e.0 n is last)) ∙ own in
+          λ i. (n, born_of (sym at i)) ∷ rest i
+
+pub dated_are : (t : Nodes) → is_sorted path_cmp t ≡ true → (p : Path) → dated_children_of t p ≡ map (dated t p) (children_of t p)
+dated_are t s p = dated_within t p t s (λ q node h. h)
+
+-- one child more at the end
+pub dated_more : (t : Nodes) (p : Path) (xs : List Name) (b : Bool) (o : Option Name) → map (dated t p) xs ++ option_to_list (cond b (option_map (dated t p) o) None) ≡ map (dated t p) (xs ++ option_to_list (cond b o None))
+dated_more t p [] true None = refl
+dated_more t p [] true (Some n) = refl
+dated_more t p [] false o = refl
+dated_more t p (x ∷ xs) b o = ap (λ (rest : List Child). dated t p x ∷ rest) (dated_more t p xs b o)

@@ -21,7 +21,7 @@ use Rattle.oak_read.specs.declared.reader.Reader.{Reader}
 use Rattle.oak_read.specs.declared.reader.Step.{Step}
 use Rattle.oak_read.specs.declared.reader.Step.TheVariants as step
 use Rattle.oak_machine.specs.Commits.{tree_at}
-use Rattle.core_watch.specs.Standing.{Stands, IsReading}
+use Rattle.core_watch.specs.Standing.{Child, Stands, IsReading}
 use Rattle.core_watch.specs.Moments.{Moment, AreSteady, answered, after_moments, roots_left, IsDone}
 use Rattle.core_watch.proofs.Behind.{Entries, behind, each_found, IsNext, next_is}
 use Rattle.core_watch.proofs.Moments.{goes_on, fed_keeps}
@@ -33,7 +33,7 @@ done_ends : (ms : List Moment) (r : Reader) → IsDone r.step → IsDone (after_
 done_ends [] r done = done
 done_ends (m ∷ ms) r done = done_ends ms (answered r m) (by r.alloc r.pin r.parent r.at r.known r.names r.step done)
   where
-    by : (a : Global) (pin : Pin) (parent : Option Path) (at : Path) (known : Known) (names : List Name) (s : Step) → IsDone s
+    by : (a : Global) (pin : Pin) (parent : Option Path) (at : Path) (known : Known) (names : List Child) (s : Step) → IsDone s
         → IsDone (answered (record { alloc = a; pin = pin; parent = parent; at = at; known = known; names = names; step = s }) m).step
     by a pin parent at known names (step.Done o) done = tt
     by a pin parent at known names step.Main done = absurd done
@@ -46,14 +46,14 @@ abbrev IsPlain : Step → Type 0
 IsPlain (step.Previous left) = ⊥
 IsPlain _ = Unit {0}
 
-plain_stands : (t : Nodes) (pin : Pin) (at : Path) (known : Known) (names : List Name) (s : Step) → Stands t pin None at known names s → IsPlain s
+plain_stands : (t : Nodes) (pin : Pin) (at : Path) (known : Known) (names : List Child) (s : Step) → Stands t pin None at known names s → IsPlain s
 plain_stands t pin at known names (step.Previous left) h = absurd h
 plain_stands t pin at known names step.Main h = tt
 plain_stands t pin at known names step.Next h = tt
 plain_stands t pin at known names (step.Roots left) h = tt
 plain_stands t pin at known names (step.Done o) h = tt
 
-module _ (a : Global) (pin : Pin) (at : Path) (names : List Name) where
+module _ (a : Global) (pin : Pin) (at : Path) (names : List Child) where
   abbrev reader : Known → Step → Reader
   reader known s = record { alloc = a; pin = pin; parent = None; at = at; known = known; names = names; step = s }
 
@@ -97,12 +97,12 @@ node_ends a pin p m k ms steady h =
     -- a reader of a node stays one
     plain : (r : Reader) → r.parent ≡ (answered (node_reader a pin p) k).parent → IsReading (documents_in k.table) k.past r → IsPlain r.step
     plain r same reading =
-        plain_stands (tree_at k.past r.pin.base) r.pin r.at r.known r.names r.step
-        (subst (λ (parent : Option Path). Stands (tree_at k.past r.pin.base) r.pin parent r.at r.known r.names r.step) (same ∙ (fed_keeps (node_reader a pin p) (answer k.table (due (node_reader a pin p)))).same_kind) reading.stands)
+        plain_stands (tree_at None k.past r.pin.base) r.pin r.at r.known r.names r.step
+        (subst (λ (parent : Option Path). Stands (tree_at None k.past r.pin.base) r.pin parent r.at r.known r.names r.step) (same ∙ (fed_keeps (node_reader a pin p) (answer k.table (due (node_reader a pin p)))).same_kind) reading.stands)
 
 -- ---- a reader of children
 
-module _ (a : Global) (pin : Pin) (p q : Path) (names : List Name) (known : Known) where
+module _ (a : Global) (pin : Pin) (p q : Path) (names : List Child) (known : Known) where
   abbrev child_reader : Step → Reader
   child_reader s = record { alloc = a; pin = pin; parent = Some p; at = q; known = known; names = names; step = s }
 
@@ -124,7 +124,7 @@ next_rises m r is next = by r.alloc r.pin r.parent r.at r.known r.names r.step n
     Rises : Path → Reader → Type 0
     Rises at r' = IsDone r'.step ⊎ ((id_cmp (id.Node at) (id.Node r'.at) ≡ Less) × (is_some (documents_in m.table (id.Node r'.at)) ≡ true))
 
-    by : (a : Global) (pin : Pin) (parent : Option Path) (at : Path) (known : Known) (names : List Name) (s : Step) → s ≡ step.Next
+    by : (a : Global) (pin : Pin) (parent : Option Path) (at : Path) (known : Known) (names : List Child) (s : Step) → s ≡ step.Next
         → Rises at (answered (record { alloc = a; pin = pin; parent = parent; at = at; known = known; names = names; step = s }) m)
     by a pin parent at known names s is_next = subst (λ (s : Step). Rises at (answered (record { alloc = a; pin = pin; parent = parent; at = at; known = known; names = names; step = s }) m)) (sym is_next) (first (behind (id.Node at) m.table) refl)
       where

@@ -27,7 +27,7 @@ use Rattle.jr_rev.specs.declared.vector.Pin.{Pin}
 use Rattle.jr_rev.specs.declared.revision.Revision.{Revision}
 use Rattle.jr_rev.specs.Vectors.{sees}
 use Rattle.jr_tree.specs.declared.tree.Node.{Node}
-use Rattle.jr_tree.specs.Trees.{Nodes, node_at, is_child_of}
+use Rattle.jr_tree.specs.Trees.{Nodes, born_of, born_at, node_at, is_child_of}
 use Rattle.oak_doc.specs.declared.document.Document.{Document}
 use Rattle.oak_read.specs.Meaning.{Documents, documents_in, path_of, commit_root_of, child_found, found_node}
 use Rattle.oak_read.specs.Wanted.{Known, Ids, unknown, listed, previous_wanted, roots_wanted, left_of}
@@ -47,10 +47,10 @@ use Rattle.core_read.specs.Told.{IsTold, IsInUse}
 use Rattle.core_read.proofs.Entries.{first as first_part, second as second_part}
 use Rattle.core_read.proofs.Falling.{tells_falling, tree_falling}
 use Rattle.core_watch.specs.Copies.{IsCopy}
-use Rattle.core_watch.specs.Standing.{HasEntry, is_known_or_left, IsRooted, AreCopies, children_to, HasNames, HasBegun, IsOnWay, Stands, IsReading}
-use Rattle.core_watch.proofs.Rooted.{root_says, own_copy, known_alike, known_same, means}
+use Rattle.core_watch.specs.Standing.{HasEntry, is_known_or_left, IsRooted, AreCopies, Child, children_to, dated, HasNames, HasBegun, IsOnWay, Stands, IsReading}
+use Rattle.core_watch.proofs.Rooted.{known_born, root_says, own_copy, known_alike, known_same, means}
 use Rattle.core_watch.proofs.Left.{rooted_from, noted_at, noted_rising, still_known, still_unknown, same_known, now_known}
-use Rattle.core_watch.proofs.Children.{child_order, one_more_child, no_children, all_children, same_children}
+use Rattle.core_watch.proofs.Children.{child_order, dated_are, dated_more, one_more_child, no_children, all_children, same_children}
 use Rattle.core_watch.proofs.Behind.{Entries, behind, has, each_found, IsNext, next_is, nothing_behind}
 
 from_some : {X : Type 0} (o : Option X) → is_some o ≡ true → (x : X) × (o ≡ Some x)
@@ -96,12 +96,12 @@ module _ (table : Entries) (is : IsTable table) (past : Past) (a : Global) (pin 
   ds = documents_in table
 
   abbrev tree : Nodes
-  tree = tree_at past pin.base
+  tree = tree_at None past pin.base
 
   abbrev Copies : Known → Type 0
   Copies known = AreCopies (documents_in table) pin.base known
 
-  abbrev reader : Option Path → Path → Known → List Name → Step → Reader
+  abbrev reader : Option Path → Path → Known → List Child → Step → Reader
   reader parent at known names s = record { alloc = a; pin = pin; parent = parent; at = at; known = known; names = names; step = s }
 
   abbrev Reads : Reader → Type 0
@@ -110,7 +110,7 @@ module _ (table : Entries) (is : IsTable table) (past : Past) (a : Global) (pin 
   in_order : is_sorted path_cmp tree ≡ true
   in_order = subst (λ (t : Nodes). is_sorted path_cmp t ≡ true) (tree_falling past pin.base held.begun) (tells_falling past told.sound (sees pin.base) held.closed).order
 
-  meaning : (p : Path) → found_node (documents_in table) pin.sweep pin.base p ≡ option_map (λ n. n.props) (node_at tree p)
+  meaning : (p : Path) → found_node (documents_in table) pin.sweep pin.base p ≡ node_at tree p
   meaning p = means (documents_in table) past pin.sweep pin.base holds held swept told p
 
   -- a node of the tree has a document
@@ -119,7 +119,7 @@ module _ (table : Entries) (is : IsTable table) (past : Past) (a : Global) (pin 
     where
       by : (o : Option Document) → documents_in table (id.Node p) ≡ o → is_some o ≡ true
       by (Some d) e = refl
-      by None e = ap is_some (sym (none_found (documents_in table) pin.sweep pin.base p e)) ∙ (ap is_some (meaning p) ∙ (is_some_map (λ n. n.props) (node_at tree p) ∙ some))
+      by None e = ap is_some (sym (none_found (documents_in table) pin.sweep pin.base p e)) ∙ (ap is_some (meaning p) ∙ some)
 
   -- the names of its path are names
   lawful_there : (x : DocId) → has x table ≡ true → All IsName (path_of x)
@@ -127,43 +127,43 @@ module _ (table : Entries) (is : IsTable table) (past : Past) (a : Global) (pin 
 
   -- ---- all that a node takes is known
 
-  back : (o : Option (List (Name × Property))) → option_map (λ (n : Node). n.props) (option_map (λ ps. record { props = ps }) o) ≡ o
-  back None = refl
-  back (Some ps) = refl
-
-  roots_read : (parent : Option Path) (at : Path) (known : Known) (names : List Name) (s : Step) → Copies known → IsRooted pin.sweep pin.base known [] (is_none parent) at → IsOnWay is_lt tree parent at names → Reads (on_roots (reader parent at known names s))
+  roots_read : (parent : Option Path) (at : Path) (known : Known) (names : List Child) (s : Step) → Copies known → IsRooted pin.sweep pin.base known [] (is_none parent) at → IsOnWay is_lt tree parent at names → Reads (on_roots (reader parent at known names s))
   roots_read None at known names s copies rooted way = record {
     copies = copies;
-    stands = back (found_node (documents_in known) pin.sweep pin.base at) ∙ (known_same (documents_in table) past pin.sweep pin.base holds held swept known copies.each true at rooted refl ∙ meaning at);
+    stands = known_same (documents_in table) past pin.sweep pin.base holds held swept known copies.each true at rooted refl ∙ meaning at;
   }
   roots_read (Some p) at known names s copies rooted way = record { copies = copies; stands = record { child = way.child; so_far = named (child_name p at way.child) } }
     where
       there : is_some (found_node (documents_in known) pin.sweep pin.base at) ≡ is_some (node_at tree at)
-      there = known_alike (documents_in table) past pin.sweep pin.base holds held swept known copies.each false at rooted ∙ (ap is_some (meaning at) ∙ is_some_map (λ n. n.props) (node_at tree at))
+      there = known_alike (documents_in table) past pin.sweep pin.base holds held swept known copies.each false at rooted ∙ ap is_some (meaning at)
 
-      named : (m : Name) × (at ≡ p ++ m ∷ []) → names ++ option_to_list (child_found (documents_in known) pin.sweep pin.base p (id.Node at)) ≡ children_to is_le tree p at
+      born : born_of (found_node (documents_in known) pin.sweep pin.base at) ≡ born_at tree at
+      born = known_born (documents_in table) past pin.sweep pin.base holds held swept known copies.each false at rooted ∙ ap born_of (meaning at)
+
+      named : (m : Name) × (at ≡ p ++ m ∷ []) → names ++ option_to_list (child_found (documents_in known) pin.sweep pin.base p (id.Node at)) ≡ map (dated tree p) (children_to is_le tree p at)
       named one =
-          ap (λ (b : Bool). names ++ option_to_list (cond b (last_name at) None)) (ap (λ b. b && is_some (found_node (documents_in known) pin.sweep pin.base at)) way.child ∙ there)
-          ∙ (ap (λ (ns : List Name). ns ++ option_to_list (cond (is_some (node_at tree at)) (last_name at) None)) way.so_far
-          ∙ subst (λ (q : Path). children_to is_lt tree p q ++ option_to_list (cond (is_some (node_at tree q)) (last_name q) None) ≡ children_to is_le tree p q) (sym one.1)
-          (ap (λ (o : Option Name). children_to is_lt tree p (p ++ one.0 ∷ []) ++ option_to_list (cond (is_some (node_at tree (p ++ one.0 ∷ []))) o None)) (own_name p one.0)
-          ∙ one_more_child tree in_order p one.0))
+          (λ i. names ++ option_to_list (cond ((ap (λ b. b && is_some (found_node (documents_in known) pin.sweep pin.base at)) way.child ∙ there) i) (option_map (λ n. (n, born i)) (last_name at)) None))
+          ∙ (ap (λ (ns : List Child). ns ++ option_to_list (cond (is_some (node_at tree at)) (option_map (λ n. (n, born_at tree at)) (last_name at)) None)) way.so_far
+          ∙ subst (λ (q : Path). map (dated tree p) (children_to is_lt tree p q) ++ option_to_list (cond (is_some (node_at tree q)) (option_map (λ n. (n, born_at tree q)) (last_name q)) None) ≡ map (dated tree p) (children_to is_le tree p q)) (sym one.1)
+          (ap (λ (o : Option Name). map (dated tree p) (children_to is_lt tree p (p ++ one.0 ∷ [])) ++ option_to_list (cond (is_some (node_at tree (p ++ one.0 ∷ []))) (option_map (λ n. (n, born_at tree (p ++ one.0 ∷ []))) o) None)) (own_name p one.0)
+          ∙ (dated_more tree p (children_to is_lt tree p (p ++ one.0 ∷ [])) (is_some (node_at tree (p ++ one.0 ∷ []))) (Some one.0)
+          ∙ ap (map (dated tree p)) (one_more_child tree in_order p one.0))))
 
   -- ---- the commit roots
 
-  left_stands : (parent : Option Path) (at : Path) (known : Known) (names : List Name) (e : DocId × Unit {0}) (es : Ids) → IsRooted pin.sweep pin.base known (e ∷ es) (is_none parent) at → IsOnWay is_lt tree parent at names
+  left_stands : (parent : Option Path) (at : Path) (known : Known) (names : List Child) (e : DocId × Unit {0}) (es : Ids) → IsRooted pin.sweep pin.base known (e ∷ es) (is_none parent) at → IsOnWay is_lt tree parent at names
       → Stands tree pin parent at known names (step.Roots (record { first = e.0; rest = es }))
   left_stands None at known names e es rooted way = (rooted, way)
   left_stands (Some p) at known names e es rooted way = (rooted, way)
 
   -- with what is left: the next of it, or all is known
-  goes_on : (parent : Option Path) (at : Path) (known : Known) (names : List Name) (s : Step) (ids : Ids) → Copies known → IsRooted pin.sweep pin.base known ids (is_none parent) at → IsOnWay is_lt tree parent at names
+  goes_on : (parent : Option Path) (at : Path) (known : Known) (names : List Child) (s : Step) (ids : Ids) → Copies known → IsRooted pin.sweep pin.base known ids (is_none parent) at → IsOnWay is_lt tree parent at names
       → Reads (option_map_or (λ left. record (reader parent at known names s) { step = step.Roots left }) (left_of ids) (on_roots (reader parent at known names s)))
   goes_on parent at known names s [] copies rooted way = roots_read parent at known names s copies rooted way
   goes_on parent at known names s (e ∷ es) copies rooted way = record { copies = copies; stands = left_stands parent at known names e es rooted way }
 
   -- the node's document is known
-  main_read : (parent : Option Path) (at : Path) (known : Known) (names : List Name) (s : Step) → Copies known → (c : Document) → documents_in known (id.Node at) ≡ Some c → IsOnWay is_lt tree parent at names → Reads (on_main (reader parent at known names s))
+  main_read : (parent : Option Path) (at : Path) (known : Known) (names : List Child) (s : Step) → Copies known → (c : Document) → documents_in known (id.Node at) ≡ Some c → IsOnWay is_lt tree parent at names → Reads (on_main (reader parent at known names s))
   main_read parent at known names s copies c there way =
       subst (λ (ids : Ids). Reads (option_map_or (λ left. record (reader parent at known names s) { step = step.Previous left }) (left_of ids) (on_previous (reader parent at known names s)))) (sym none_listed)
       (goes_on parent at known names s (roots_wanted pin.sweep pin.base known (is_none parent) at) copies (rooted_from pin.sweep pin.base known (is_none parent) at c there (copies.each at c there).whole) way)
@@ -187,7 +187,7 @@ module _ (table : Entries) (is : IsTable table) (past : Past) (a : Global) (pin 
       at p d false e k = copies.each p d k
 
   -- the document of the node is there: it is noted
-  node_noted : (parent : Option Path) (at : Path) (known : Known) (names : List Name) (s : Step) → Copies known → (d : Document) → documents_in table (id.Node at) ≡ Some d → IsOnWay is_lt tree parent at names
+  node_noted : (parent : Option Path) (at : Path) (known : Known) (names : List Child) (s : Step) → Copies known → (d : Document) → documents_in table (id.Node at) ≡ Some d → IsOnWay is_lt tree parent at names
       → Reads (on_main (reader parent at (with_known known (id.Node at) (Some d)) names s))
   node_noted parent at known names s copies d there way =
       let c = from_some (documents_in (with_known known (id.Node at) (Some d)) (id.Node at)) (now_known known (id.Node at) (Some d) refl) in
@@ -204,17 +204,17 @@ module _ (table : Entries) (is : IsTable table) (past : Past) (a : Global) (pin 
       by Equal h = refl
       by Greater h = refl
 
-  begins : (p : Path) (at : Path) (names : List Name) → HasBegun p at names → HasNames is_lt tree p at names
+  begins : (p : Path) (at : Path) (names : List Child) → HasBegun p at names → HasNames is_lt tree p at names
   begins p at names begun = record {
     child = ap (is_child_of p) begun.least ∙ own_child p (codes "!");
-    so_far = begun.none ∙ subst (λ (q : Path). [] ≡ children_to is_lt tree p q) (sym begun.least) (sym (no_children tree p is_lt (p ++ codes "!" ∷ []) (none_lesser p)));
+    so_far = begun.none ∙ subst (λ (q : Path). [] ≡ map (dated tree p) (children_to is_lt tree p q)) (sym begun.least) (ap (map (dated tree p)) (sym (no_children tree p is_lt (p ++ codes "!" ∷ []) (none_lesser p))));
   }
 
   -- nor is there one of the least name without a document
-  passes_by : (p : Path) (at : Path) (names : List Name) → documents_in table (id.Node at) ≡ None → HasBegun p at names → HasNames is_le tree p at names
+  passes_by : (p : Path) (at : Path) (names : List Child) → documents_in table (id.Node at) ≡ None → HasBegun p at names → HasNames is_le tree p at names
   passes_by p at names none begun = record {
     child = ap (is_child_of p) begun.least ∙ own_child p (codes "!");
-    so_far = begun.none ∙ sym (no_children tree p is_le at not_up_to);
+    so_far = begun.none ∙ ap (map (dated tree p)) (sym (no_children tree p is_le at not_up_to));
   }
     where
       not_up_to : (n : Name) → is_some (node_at tree (p ++ n ∷ [])) ≡ true → is_le (id_cmp (id.Node (p ++ n ∷ [])) (id.Node at)) ≡ false
@@ -225,7 +225,7 @@ module _ (table : Entries) (is : IsTable table) (past : Past) (a : Global) (pin 
           by Equal h = absurd (false≢true (ap is_some (sym (ap (documents_in table) (id_exact (id.Node (p ++ n ∷ [])) (id.Node at) h) ∙ none)) ∙ document_there (p ++ n ∷ []) some))
           by Greater h = refl
 
-  feed_main : (parent : Option Path) (at : Path) (known : Known) (names : List Name) → Copies known → Stands tree pin parent at known names step.Main → Reads (fed_main (reader parent at known names step.Main) (documents_in table (id.Node at)))
+  feed_main : (parent : Option Path) (at : Path) (known : Known) (names : List Child) → Copies known → Stands tree pin parent at known names step.Main → Reads (fed_main (reader parent at known names step.Main) (documents_in table (id.Node at)))
   feed_main None at known names copies stands = by (documents_in table (id.Node at)) refl
     where
       by : (o : Option Document) → documents_in table (id.Node at) ≡ o → Reads (fed_main (reader None at known names step.Main) o)
@@ -240,9 +240,9 @@ module _ (table : Entries) (is : IsTable table) (past : Past) (a : Global) (pin 
   -- ---- the next document
 
   -- where there is no further document, or none of a child, all children are read
-  ends : (p : Path) (at : Path) (known : Known) (names : List Name) → Copies known → HasNames is_le tree p at names
+  ends : (p : Path) (at : Path) (known : Known) (names : List Child) → Copies known → HasNames is_le tree p at names
       → ((n : Name) → is_some (node_at tree (p ++ n ∷ [])) ≡ true → is_le (id_cmp (id.Node (p ++ n ∷ [])) (id.Node at)) ≡ true) → Reads (ended (reader (Some p) at known names step.Next))
-  ends p at known names copies way all = record { copies = copies; stands = way.so_far ∙ all_children tree p is_le at all }
+  ends p at known names copies way all = record { copies = copies; stands = way.so_far ∙ (ap (map (dated tree p)) (all_children tree p is_le at all) ∙ sym (dated_are tree in_order p)) }
 
   -- the next document is none of a child
   strays : (p : Path) (at : Path) (e : DocId × Document) → is_child_of p at ≡ true → IsNext (id.Node at) table e → ((q : Path) → e.0 ≡ id.Node q → is_child_of p q ≡ false)
@@ -276,10 +276,10 @@ module _ (table : Entries) (is : IsTable table) (past : Past) (a : Global) (pin 
           at_next Greater k = absurd (false≢true (sym (next.least (id.Node (p ++ n ∷ [])) document h) ∙ ap is_lt (id_total.antisymm (id.Node (p ++ n ∷ [])) e.0 ∙ ap ordering_reverse k)))
 
   -- the next document is that of a child: those up to the last one are those before it
-  moves : (p : Path) (at q : Path) (names : List Name) (e : DocId × Document) → e.0 ≡ id.Node q → is_child_of p q ≡ true → IsNext (id.Node at) table e → HasNames is_le tree p at names → HasNames is_lt tree p q names
+  moves : (p : Path) (at q : Path) (names : List Child) (e : DocId × Document) → e.0 ≡ id.Node q → is_child_of p q ≡ true → IsNext (id.Node at) table e → HasNames is_le tree p at names → HasNames is_lt tree p q names
   moves p at q names e is_q child next way = record {
     child = child;
-    so_far = way.so_far ∙ same_children tree p is_le is_lt at q alike;
+    so_far = way.so_far ∙ ap (map (dated tree p)) (same_children tree p is_le is_lt at q alike);
   }
     where
       above : id_cmp (id.Node at) (id.Node q) ≡ Less
@@ -296,7 +296,7 @@ module _ (table : Entries) (is : IsTable table) (past : Past) (a : Global) (pin 
           by Equal h = sym (ap is_lt (id_total.congr (id.Node (p ++ n ∷ [])) (id.Node at) (id.Node q) h ∙ above))
           by Greater h = sym (least (id.Node (p ++ n ∷ [])) (document_there (p ++ n ∷ []) some) (id_total.antisymm (id.Node at) (id.Node (p ++ n ∷ [])) ∙ ap ordering_reverse h))
 
-  feed_next : (p : Path) (at : Path) (known : Known) (names : List Name) → Copies known → HasNames is_le tree p at names → Reads (fed_next (reader (Some p) at known names step.Next) (option_map (λ e. e.1) (slice_get (behind (id.Node at) table) 0)))
+  feed_next : (p : Path) (at : Path) (known : Known) (names : List Child) → Copies known → HasNames is_le tree p at names → Reads (fed_next (reader (Some p) at known names step.Next) (option_map (λ e. e.1) (slice_get (behind (id.Node at) table) 0)))
   feed_next p at known names copies way = by (behind (id.Node at) table) refl
     where
       by : (es : Entries) → behind (id.Node at) table ≡ es → Reads (fed_next (reader (Some p) at known names step.Next) (option_map (λ e. e.1) (slice_get es 0)))
@@ -363,7 +363,7 @@ module _ (table : Entries) (is : IsTable table) (past : Past) (a : Global) (pin 
           (there_by (documents_in table (commit_root_of rooted.document q)) q (root_says (documents_in table) past pin.sweep pin.base holds held swept at rooted.document (copies.each at rooted.document rooted.there) q seen unswept whole entry))))
       by q seen unswept entry false is_known false is_first h = or_else (is_some (documents_in (with_known known first (documents_in table first)) (commit_root_of rooted.document q))) _ h
 
-  feed_roots : (parent : Option Path) (at : Path) (known : Known) (names : List Name) (left : Left) → Copies known → IsRooted pin.sweep pin.base known ((left.first, tt) ∷ left.rest) (is_none parent) at → IsOnWay is_lt tree parent at names
+  feed_roots : (parent : Option Path) (at : Path) (known : Known) (names : List Child) (left : Left) → Copies known → IsRooted pin.sweep pin.base known ((left.first, tt) ∷ left.rest) (is_none parent) at → IsOnWay is_lt tree parent at names
       → Reads (settled (noted (reader parent at known names (step.Roots left)) left.first (documents_in table left.first)))
   feed_roots parent at known names left copies rooted way =
       goes_on parent at (with_known known left.first (documents_in table left.first)) names (step.Roots left) left.rest (copies_noted known copies left.first)
@@ -371,7 +371,7 @@ module _ (table : Entries) (is : IsTable table) (past : Past) (a : Global) (pin 
 
   -- ---- any step
 
-  feed_step : (parent : Option Path) (at : Path) (known : Known) (names : List Name) (s : Step) → Copies known → Stands tree pin parent at known names s → Reads (fed (reader parent at known names s) (answer table (due (reader parent at known names s))))
+  feed_step : (parent : Option Path) (at : Path) (known : Known) (names : List Child) (s : Step) → Copies known → Stands tree pin parent at known names s → Reads (fed (reader parent at known names s) (answer table (due (reader parent at known names s))))
   feed_step None at known names step.Main copies stands = feed_main None at known names copies stands
   feed_step (Some p) at known names step.Main copies stands = feed_main (Some p) at known names copies stands
   feed_step None at known names step.Next copies stands = absurd stands

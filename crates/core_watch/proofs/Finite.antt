@@ -27,7 +27,7 @@ use Rattle.oak_read.specs.declared.reader.Step.TheVariants as step
 use Rattle.oak_read.proofs.Walking.{same_id}
 use Rattle.oak_machine.specs.Commits.{tree_at}
 use Rattle.core_read.proofs.Entries.{is_less}
-use Rattle.core_watch.specs.Standing.{IsNodeOf, AreChildrenOf}
+use Rattle.core_watch.specs.Standing.{Child, IsNodeOf, AreChildrenOf}
 use Rattle.core_watch.specs.Moments.{Moment, AreSteady, HasIdsAmong, EndsWith, answered, after_moments, first_of, IsDone}
 use Rattle.core_watch.proofs.Behind.{not_below_itself}
 use Rattle.core_watch.proofs.Ending.{next_rises}
@@ -55,7 +55,7 @@ IsLower s' s = (phase s' < phase s) ⊎ ((phase s' ≡ phase s) × (rest_of s' <
 abbrev Moves : Moment → Path → Step → Reader → Type 0
 Moves m at s r' = IsDone r'.step ⊎ (((id_cmp (id.Node at) (id.Node r'.at) ≡ Less) × (is_some (documents_in m.table (id.Node r'.at)) ≡ true)) ⊎ ((r'.at ≡ at) × IsLower r'.step s))
 
-module _ (m : Moment) (a : Global) (pin : Pin) (at : Path) (names : List Name) where
+module _ (m : Moment) (a : Global) (pin : Pin) (at : Path) (names : List Child) where
   abbrev reader : Option Path → Known → Step → Reader
   reader parent known s = record { alloc = a; pin = pin; parent = parent; at = at; known = known; names = names; step = s }
 
@@ -235,7 +235,7 @@ module _ (ids : List DocId) where
 
 -- ---- with what the tree has
 
-done_with : (s : Step) → IsDone s → (o : ReadOut) × (s ≡ step.Done o)
+pub done_with : (s : Step) → IsDone s → (o : ReadOut) × (s ≡ step.Done o)
 done_with (step.Done o) done = (o, refl)
 done_with step.Main done = absurd done
 done_with step.Next done = absurd done
@@ -243,13 +243,13 @@ done_with (step.Previous left) done = absurd done
 done_with (step.Roots left) done = absurd done
 
 module _ (ids : List DocId) (a : Global) (pin : Pin) (p : Path) (m : Moment) (f : ℕ → Moment) (steady : (n : ℕ) → AreSteady pin m (first_of n f)) (are : (i : ℕ) → HasIdsAmong ids (f i)) where
-  pub node_at_end : EndsWith (IsNodeOf (tree_at m.past pin.base) p) f (node_reader a pin p)
+  pub node_at_end : EndsWith (IsNodeOf (tree_at None m.past pin.base) p) f (node_reader a pin p)
   node_at_end =
       let e = ends ids f (node_reader a pin p) are in
       let o = done_with (after_moments (first_of e.0 f) (node_reader a pin p)).step e.1 in
       (e.0, o.0, o.1, reads_node a pin p m (first_of e.0 f) (steady e.0) o.0 o.1)
 
-  pub children_at_end : EndsWith (AreChildrenOf (tree_at m.past pin.base) p) f (children_reader a pin p)
+  pub children_at_end : EndsWith (AreChildrenOf (tree_at None m.past pin.base) p) f (children_reader a pin p)
   children_at_end =
       let e = ends ids f (children_reader a pin p) are in
       let o = done_with (after_moments (first_of e.0 f) (children_reader a pin p)).step e.1 in

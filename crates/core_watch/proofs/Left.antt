@@ -42,7 +42,7 @@ or_else : (a b : Bool) → b ≡ true → (a || b) ≡ true
 or_else true b h = refl
 or_else false b h = h
 
-either : (a b : Bool) → (a || b) ≡ true → (a ≡ true) ⊎ (b ≡ true)
+pub either : (a b : Bool) → (a || b) ≡ true → (a ≡ true) ⊎ (b ≡ true)
 either true b h = inl refl
 either false b h = inr h
 
@@ -86,7 +86,7 @@ module _ (known : Known) where
 
 -- ---- the commit roots of entries are asked for
 
-any_front : {X : Type 0} (f : X → Bool) (xs ys : List X) → list_any f xs ≡ true → list_any f (xs ++ ys) ≡ true
+pub any_front : {X : Type 0} (f : X → Bool) (xs ys : List X) → list_any f xs ≡ true → list_any f (xs ++ ys) ≡ true
 any_front f [] ys h = absurd (false≢true h)
 any_front f (x ∷ xs) ys h = by (either (f x) (list_any f xs) h) (λ k. any_front f xs ys k)
   where
@@ -94,7 +94,7 @@ any_front f (x ∷ xs) ys h = by (either (f x) (list_any f xs) h) (λ k. any_fro
     by (inl k) rest = or_first (f x) _ k
     by (inr k) rest = or_else (f x) _ (rest k)
 
-any_back : {X : Type 0} (f : X → Bool) (xs ys : List X) → list_any f ys ≡ true → list_any f (xs ++ ys) ≡ true
+pub any_back : {X : Type 0} (f : X → Bool) (xs ys : List X) → list_any f ys ≡ true → list_any f (xs ++ ys) ≡ true
 any_back f [] ys h = h
 any_back f (x ∷ xs) ys h = or_else (f x) _ (any_back f xs ys h)
 
@@ -103,7 +103,7 @@ some_of_not None h = h
 some_of_not (Some b) h = refl
 
 module _ (t v : RevVec) (d : Document) (q : Revision) (seen : sees v q ≡ true) (unswept : sees t q ≡ false) where
-  abbrev is_root : DocId → Bool
+  abbrev pub is_root : DocId → Bool
   is_root = eq_by_cmp id_cmp (commit_root_of d q)
 
   wanted : (sees v q && not (sees t q)) ≡ true
@@ -139,7 +139,7 @@ module _ (t v : RevVec) (d : Document) (q : Revision) (seen : sees v q ≡ true)
       by true some rest = any_front is_root (asked_roots t v d (keys_of p.1)) (property_roots t v d ps) (among_entries p.1 some)
       by false some rest = any_back is_root (asked_roots t v d (keys_of p.1)) (property_roots t v d ps) (rest some)
 
-  among_roots : (whole : Bool) → HasEntry whole d q → list_any is_root (roots_of t v whole d) ≡ true
+  pub among_roots : (whole : Bool) → HasEntry whole d q → list_any is_root (roots_of t v whole d) ≡ true
   among_roots whole (inl some) = any_front is_root (asked_roots t v d (keys_of d.deleted)) _ (among_entries d.deleted (some_of_not (of_revision d.deleted q) some))
   among_roots whole (inr some) = any_back is_root (asked_roots t v d (keys_of d.deleted)) _
       (subst (λ (b : Bool). list_any is_root (cond b (property_roots t v d d.props) []) ≡ true) (sym some.1) (among_properties some.0 d.props some.2))
@@ -147,7 +147,7 @@ module _ (t v : RevVec) (d : Document) (q : Revision) (seen : sees v q ≡ true)
 -- ---- what is left stands in order, and isn't known
 
 module _ (known : Known) where
-  abbrev AreUnknown : Ids → Type 0
+  abbrev pub AreUnknown : Ids → Type 0
   AreUnknown ids = list_all (λ e. is_none (documents_in known e.0)) ids ≡ true
 
   none_of : (o : Option Document) → is_some o ≡ false → is_none o ≡ true
@@ -170,7 +170,7 @@ module _ (known : Known) where
       by true e = h
       by false e = unknown_more x ids (none_of (documents_in known x) e) h
 
-  all_unknown : (xs : List DocId) (ids : Ids) → AreUnknown ids → AreUnknown (fold (with_unknown known) ids xs)
+  pub all_unknown : (xs : List DocId) (ids : Ids) → AreUnknown ids → AreUnknown (fold (with_unknown known) ids xs)
   all_unknown [] ids h = h
   all_unknown (x ∷ xs) ids h = all_unknown xs (with_unknown known ids x) (one_unknown x ids h)
 
@@ -181,7 +181,7 @@ module _ (known : Known) where
       by true = h
       by false = sorted_insert id_cmp id_total x tt ids h
 
-  all_rising : (xs : List DocId) (ids : Ids) → is_sorted id_cmp ids ≡ true → is_sorted id_cmp (fold (with_unknown known) ids xs) ≡ true
+  pub all_rising : (xs : List DocId) (ids : Ids) → is_sorted id_cmp ids ≡ true → is_sorted id_cmp (fold (with_unknown known) ids xs) ≡ true
   all_rising [] ids h = h
   all_rising (x ∷ xs) ids h = all_rising xs (with_unknown known ids x) (one_rising x ids h)
 

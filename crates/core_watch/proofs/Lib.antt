@@ -10,3 +10,7 @@ pub mod Moments
 pub mod Ending
 pub mod Worlds
 pub mod Finite
+pub mod Lasting
+pub mod Fed
+pub mod GoingOn
+pub mod Instants

@@ -18,7 +18,7 @@ use Rattle.oak_doc.specs.declared.document.Document.{Document}
 use Rattle.oak_doc.specs.Updates.{values_of_property}
 use Rattle.oak_read.specs.Meaning.{Documents, is_committed, latest, value_of, properties_in}
 use Rattle.core_read.proofs.Entries.{sorted_insert}
-use Rattle.core_read.proofs.Proper.{same_name}
+use Rattle.jr_tree.proofs.Proper.{same_name}
 
 module _ (val : Name → Option Property) where
   -- with the value of each of some names

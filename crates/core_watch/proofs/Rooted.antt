@@ -12,14 +12,14 @@ use Rattle.jr_rev.specs.declared.vector.RevVec.{RevVec}
 use Rattle.jr_rev.specs.Revisions.{revision_cmp}
 use Rattle.jr_rev.specs.Vectors.{sees}
 use Rattle.jr_tree.specs.declared.edit.Write.{Write}
-use Rattle.jr_tree.specs.Trees.{node_at}
+use Rattle.jr_tree.specs.Trees.{born_of, node_at}
 use Rattle.oak_doc.specs.declared.document.Document.{Document}
 use Rattle.oak_read.specs.Meaning.{Documents, documents_in, commit_root_of, is_committed, found_node}
 use Rattle.oak_read.specs.Wanted.{Known}
 use Rattle.oak_machine.specs.History.{Past}
 use Rattle.oak_machine.specs.Commits.{is_in_flight, tree_at}
 use Rattle.oak_read.proofs.Agreeing.{none_found as without_document}
-use Rattle.core_read.specs.Items.{here_of, put_of, written}
+use Rattle.jr_tree.specs.Items.{here_of, put_of, written}
 use Rattle.core_read.specs.Holds.{edit_of, the_start, is_at_path, here_entry, prop_entry, root_entry, has_revision, is_rooted, Holds, IsSwept}
 use Rattle.core_read.specs.Told.{IsTold, IsInUse}
 use Rattle.core_read.proofs.Latest.{same_revision}
@@ -27,7 +27,7 @@ use Rattle.core_read.proofs.Found.{writes_there, here_there, put_there, found}
 use Rattle.core_read.proofs.Steps.{commit_root_at, same_root}
 use Rattle.core_watch.specs.Copies.{IsAlike, IsCopy}
 use Rattle.core_watch.specs.Standing.{HasEntry, IsRooted}
-use Rattle.core_watch.proofs.Alike.{found_alike, found_same, none_found}
+use Rattle.core_watch.proofs.Alike.{born_alike, found_alike, found_same, none_found}
 
 or_first : (a b : Bool) → a ≡ true → (a || b) ≡ true
 or_first true b h = refl
@@ -130,6 +130,19 @@ module _ (ds : Documents) (past : Past) (t v : RevVec) (holds : Holds ds past) (
           done = λ q seen some. committed_here q seen (inl some) ∙ sym (committed_there p d e q seen whole (inl (sym (ap is_some (is_copy.alike.here q seen ∙ ap (λ o. here_entry o q) e)) ∙ some)));
         })
 
+    -- and the same revision added it
+    pub known_born : born_of (found_node (documents_in known) t v p) ≡ born_of (found_node ds t v p)
+    known_born = by (ds (id.Node p)) refl
+      where
+        by : (o : Option Document) → ds (id.Node p) ≡ o → born_of (found_node (documents_in known) t v p) ≡ born_of (found_node ds t v p)
+        by None e =
+            ap born_of (none_found (documents_in known) t v rooted.document p rooted.there is_copy.whole (λ q seen. is_copy.alike.here q seen ∙ ap (λ o. here_entry o q) e))
+            ∙ ap born_of (sym (without_document ds t v p e))
+        by (Some d) e = born_alike ds (documents_in known) t v rooted.document d p rooted.there e is_copy.whole (holds.whole p d e) (record {
+          same = λ q seen. is_copy.alike.here q seen ∙ ap (λ o. here_entry o q) e;
+          done = λ q seen some. committed_here q seen (inl some) ∙ sym (committed_there p d e q seen whole (inl (sym (ap is_some (is_copy.alike.here q seen ∙ ap (λ o. here_entry o q) e)) ∙ some)));
+        })
+
     pub known_same : whole ≡ true → found_node (documents_in known) t v p ≡ found_node ds t v p
     known_same all = by (ds (id.Node p)) refl
       where
@@ -151,5 +164,5 @@ module _ (ds : Documents) (past : Past) (t v : RevVec) (holds : Holds ds past) (
 
   module _ (told : IsTold past) where
     -- the documents mean the tree
-    pub means : (p : Path) → found_node ds t v p ≡ option_map (λ n. n.props) (node_at (tree_at past v) p)
+    pub means : (p : Path) → found_node ds t v p ≡ node_at (tree_at None past v) p
     means p = found ds past t v holds told.sound held.closed held.begun swept p

@@ -37,7 +37,7 @@ use Rattle.core_read.specs.Told.{IsTold, IsInUse}
 use Rattle.core_read.proofs.Latest.{same_revision}
 use Rattle.core_read.proofs.Told.{tree_commit}
 use Rattle.core_watch.specs.Copies.{IsAlike, IsCopy, IsSteady}
-use Rattle.core_watch.specs.Standing.{path_read, IsNodeOf, AreChildrenOf, Stands, IsReading}
+use Rattle.core_watch.specs.Standing.{Child, path_read, IsNodeOf, AreChildrenOf, Stands, IsReading}
 use Rattle.core_watch.proofs.Rooted.{alike_itself}
 
 -- ---- steady steps
@@ -134,24 +134,24 @@ abbrev pub IsGiven : Nodes → Option Path → Path → ReadOut → Type 0
 IsGiven t None p o = IsNodeOf t p o
 IsGiven t (Some q) p o = AreChildrenOf t q o
 
-given : (t : Nodes) (pin : Pin) (parent : Option Path) (at : Path) (known : Known) (names : List Name) (o : ReadOut) → Stands t pin parent at known names (step.Done o) → IsGiven t parent (unwrap_or parent at) o
+given : (t : Nodes) (pin : Pin) (parent : Option Path) (at : Path) (known : Known) (names : List Child) (o : ReadOut) → Stands t pin parent at known names (step.Done o) → IsGiven t parent (unwrap_or parent at) o
 given t pin None at known names o h = h
 given t pin (Some p) at known names o h = h
 
 -- where it is done it gives that of the tree at its base
-pub gives : (ds : Documents) (past : Past) (r : Reader) (o : ReadOut) → IsReading ds past r → r.step ≡ step.Done o → IsGiven (tree_at past r.pin.base) r.parent (path_read r) o
-gives ds past r o reading done = given (tree_at past r.pin.base) r.pin r.parent r.at r.known r.names o (subst (λ (s : Step). Stands (tree_at past r.pin.base) r.pin r.parent r.at r.known r.names s) done reading.stands)
+pub gives : (ds : Documents) (past : Past) (r : Reader) (o : ReadOut) → IsReading ds past r → r.step ≡ step.Done o → IsGiven (tree_at None past r.pin.base) r.parent (path_read r) o
+gives ds past r o reading done = given (tree_at None past r.pin.base) r.pin r.parent r.at r.known r.names o (subst (λ (s : Step). Stands (tree_at None past r.pin.base) r.pin r.parent r.at r.known r.names s) done reading.stands)
 
-node_only : (t : Nodes) (parent : Option Path) (p : Path) (o : ReadOut) → parent ≡ None → IsGiven t parent p o → IsNodeOf t p o
+pub node_only : (t : Nodes) (parent : Option Path) (p : Path) (o : ReadOut) → parent ≡ None → IsGiven t parent p o → IsNodeOf t p o
 node_only t None p o none h = h
 node_only t (Some q) p o none h = absurd (false≢true (sym (ap is_some none)))
 
-children_only : (t : Nodes) (parent : Option Path) (p q : Path) (o : ReadOut) → parent ≡ Some q → IsGiven t parent p o → AreChildrenOf t q o
+pub children_only : (t : Nodes) (parent : Option Path) (p q : Path) (o : ReadOut) → parent ≡ Some q → IsGiven t parent p o → AreChildrenOf t q o
 children_only t None p q o some h = absurd (false≢true (ap is_some some))
 children_only t (Some x) p q o some h = let same : x ≡ q = cc in subst (λ (y : Path). AreChildrenOf t y o) same h
 
-pub gives_node : (ds : Documents) (past : Past) (r : Reader) (o : ReadOut) → IsReading ds past r → r.parent ≡ None → r.step ≡ step.Done o → IsNodeOf (tree_at past r.pin.base) (path_read r) o
-gives_node ds past r o reading none done = node_only (tree_at past r.pin.base) r.parent (path_read r) o none (gives ds past r o reading done)
+pub gives_node : (ds : Documents) (past : Past) (r : Reader) (o : ReadOut) → IsReading ds past r → r.parent ≡ None → r.step ≡ step.Done o → IsNodeOf (tree_at None past r.pin.base) (path_read r) o
+gives_node ds past r o reading none done = node_only (tree_at None past r.pin.base) r.parent (path_read r) o none (gives ds past r o reading done)
 
-pub gives_children : (ds : Documents) (past : Past) (r : Reader) (p : Path) (o : ReadOut) → IsReading ds past r → r.parent ≡ Some p → r.step ≡ step.Done o → AreChildrenOf (tree_at past r.pin.base) p o
-gives_children ds past r p o reading some done = children_only (tree_at past r.pin.base) r.parent (path_read r) p o some (gives ds past r o reading done)
+pub gives_children : (ds : Documents) (past : Past) (r : Reader) (p : Path) (o : ReadOut) → IsReading ds past r → r.parent ≡ Some p → r.step ≡ step.Done o → AreChildrenOf (tree_at None past r.pin.base) p o
+gives_children ds past r p o reading some done = children_only (tree_at None past r.pin.base) r.parent (path_read r) p o some (gives ds past r o reading done)

@@ -1,5 +1,5 @@
 -- Copies of documents, and what stays the same of them for a vector while others go on.
-use Rattle.std.specs.Prelude.{◌≡◌, [], Option, Some, IsTrue}
+use Rattle.std.specs.Prelude.{◌≡◌, [], Option, Some, IsTrue, None}
 use Rattle.jr_path.specs.declared.name.Name.{Name}
 use Rattle.jr_path.specs.declared.path.Path.{Path}
 use Rattle.jr_path.specs.declared.path.DocId.TheVariants as id
@@ -28,4 +28,4 @@ pub record IsCopy (ds : Documents) (v : RevVec) (p : Path) (d : Document) : Type
 -- between two moments nothing changed that v sees: what its revisions have in each node's document, and the tree
 pub record IsSteady (v : RevVec) (ds now : Documents) (past later : Past) : Type 0 where
   pub alike : (p : Path) → IsAlike v (now (id.Node p)) (ds (id.Node p))
-  pub tree : tree_at later v ≡ tree_at past v
+  pub tree : tree_at None later v ≡ tree_at None past v

@@ -1,3 +1,5 @@
 pub mod Copies
 pub mod Standing
+pub mod Reading
 pub mod Moments
+pub mod Instants

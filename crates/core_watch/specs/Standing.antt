@@ -1,5 +1,5 @@
 -- What holds of a reader between its steps.
-use Rattle.std.specs.Prelude.{◌≡◌, Bool, ◌||◌, ◌⊎◌, List, [], ◌∷◌, ◌++◌, Option, None, Some, is_some, is_none, IsTrue, IsFalse, codes}
+use Rattle.std.specs.Prelude.{◌≡◌, Bool, ◌||◌, ◌⊎◌, List, [], ◌∷◌, ◌++◌, map, Option, None, Some, is_some, is_none, IsTrue, IsFalse, codes}
 use Rattle.std.specs.Option.{option_map, unwrap_or}
 use Rattle.std.specs.declared.cmp.Ordering.{Ordering}
 use Rattle.std.specs.Ordering.{is_le, is_lt}
@@ -16,7 +16,7 @@ use Rattle.jr_rev.specs.declared.revision.Revision.{Revision}
 use Rattle.jr_rev.specs.declared.vector.RevVec.{RevVec}
 use Rattle.jr_rev.specs.declared.vector.Pin.{Pin}
 use Rattle.jr_rev.specs.Vectors.{sees}
-use Rattle.jr_tree.specs.Trees.{Nodes, node_at, is_child_of, children_of}
+use Rattle.jr_tree.specs.Trees.{Nodes, born_at, node_at, is_child_of, children_of, dated_children_of}
 use Rattle.oak_doc.specs.declared.document.Document.{Document}
 use Rattle.oak_read.specs.Meaning.{Documents, documents_in, commit_root_of}
 use Rattle.oak_read.specs.Wanted.{Known, Ids}
@@ -54,33 +54,41 @@ pub record IsRooted (t v : RevVec) (known : Known) (left : Ids) (whole : Bool) (
 abbrev pub children_to : (Ordering → Bool) → Nodes → Path → Path → List Name
 children_to test tree p q = filter (λ n. test (id_cmp (id.Node (p ++ n ∷ [])) (id.Node q))) (children_of tree p)
 
+-- the name of a child, with the revision that added it
+abbrev pub Child : Type 0
+Child = Name × Option Revision
+
+-- a child of p of that name
+abbrev pub dated : Nodes → Path → Name → Child
+dated tree p n = (n, born_at tree (p ++ n ∷ []))
+
 -- a reader of children of p is at the path of a child, there or not, and its names are those of the children before it, or up to it
-pub record HasNames (test : Ordering → Bool) (tree : Nodes) (p : Path) (at : Path) (names : List Name) : Type 0 where
+pub record HasNames (test : Ordering → Bool) (tree : Nodes) (p : Path) (at : Path) (names : List Child) : Type 0 where
   pub child : IsTrue (is_child_of p at)
-  pub so_far : names ≡ children_to test tree p at
+  pub so_far : names ≡ map (dated tree p) (children_to test tree p at)
 
 -- the same, where children are read
-abbrev pub IsOnWay : (Ordering → Bool) → Nodes → Option Path → Path → List Name → Type 0
+abbrev pub IsOnWay : (Ordering → Bool) → Nodes → Option Path → Path → List Child → Type 0
 IsOnWay test tree None at names = Unit {0}
 IsOnWay test tree (Some p) at names = HasNames test tree p at names
 
 -- a reader of children begins at the least name that a child can have
-pub record HasBegun (p : Path) (at : Path) (names : List Name) : Type 0 where
+pub record HasBegun (p : Path) (at : Path) (names : List Child) : Type 0 where
   pub least : at ≡ p ++ codes "!" ∷ []
   pub none : names ≡ []
 
 -- what a reader gives is the node of a tree at a path
 abbrev pub IsNodeOf : Nodes → Path → ReadOut → Type 0
-IsNodeOf tree p (out.Node n) = option_map (λ n. n.props) n ≡ option_map (λ n. n.props) (node_at tree p)
+IsNodeOf tree p (out.Node n) = n ≡ node_at tree p
 IsNodeOf tree p (out.Children ns) = ⊥
 
--- it is the names of the children of a path in a tree, in order
+-- it is the names of the children of a path in a tree, in order, each with the revision that added the child
 abbrev pub AreChildrenOf : Nodes → Path → ReadOut → Type 0
 AreChildrenOf tree p (out.Node n) = ⊥
-AreChildrenOf tree p (out.Children ns) = ns ≡ children_of tree p
+AreChildrenOf tree p (out.Children ns) = ns ≡ dated_children_of tree p
 
 -- what is so at a step: no document lists previous ones, so none of these is due
-abbrev pub Stands : Nodes → Pin → Option Path → Path → Known → List Name → Step → Type 0
+abbrev pub Stands : Nodes → Pin → Option Path → Path → Known → List Child → Step → Type 0
 Stands tree pin None at known names step.Main = Unit {0}
 Stands tree pin (Some p) at known names step.Main = HasBegun p at names
 Stands tree pin None at known names step.Next = ⊥
@@ -98,4 +106,4 @@ pub record AreCopies (ds : Documents) (v : RevVec) (known : Known) : Type 0 wher
 -- a reader of a node or of children reads the tree at its base: what it knows are copies of documents, and it stands where its step says
 pub record IsReading (ds : Documents) (past : Past) (r : Reader) : Type 0 where
   pub copies : AreCopies ds r.pin.base r.known
-  pub stands : Stands (tree_at past r.pin.base) r.pin r.parent r.at r.known r.names r.step
+  pub stands : Stands (tree_at None past r.pin.base) r.pin r.parent r.at r.known r.names r.step

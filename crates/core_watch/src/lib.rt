@@ -34,9 +34,14 @@ ghost use Rattle.core_read.specs.Committing.{is_marking, IsWriteOp};
 ghost use Rattle.core_read.specs.Holds.{edit_of, has_revision, Holds, IsSameAt, IsSameBut, IsSwept, IsWrite};
 ghost use Rattle.core_read.specs.Told.{IsInUse, IsTold};
 ghost use Rattle.core_read.specs.World.{IsWorld, Progress};
+ghost use Rattle.core_keep.specs.Journal.{course_of, IsHeld, IsKeptWorld};
+ghost use Rattle.core_keep.specs.Steps.{IsChangeAt, IsMainAt, IsMoved, IsPreviousAt, IsPruned, IsUnlisted, IsUnwanted};
+ghost use Rattle.oak_doc.specs.declared.document.PrevEntry.{PrevEntry};
 ghost use Rattle.core_read.specs.Writes.{IsOrderedDocument};
 ghost use Rattle.core_watch.specs.Copies.{IsSteady};
 ghost use Rattle.core_watch.specs.Standing.{path_read, AreChildrenOf, IsNodeOf, IsReading};
+ghost use Rattle.core_watch.specs.Reading.{Ever, IsReading as IsReadingOn, ReadsOn};
+ghost use Rattle.core_watch.specs.Instants.{AreListed, AreReadable, first_instants, Grows, Instant, moments_of};
 ghost use Rattle.core_watch.specs.Moments.{after_moments, answered, AreSteady, EndsWith, first_of, HasIdsAmong, IsDone, IsFor, Moment, roots_left};
 
 /// Whatever comes between its steps, a reader ends with the node, or the names of the children, of the tree that the
@@ -44,10 +49,10 @@ ghost use Rattle.core_watch.specs.Moments.{after_moments, answered, AreSteady, E
 /// from one step to the next nothing changes that the base sees. That it ends needs that the documents that come have
 /// finitely many ids; what it gives where it is done doesn't.
 pub fn readers_read_the_tree()
-    ensures node { (ids : List DocId) (a : Global) (pin : Pin) (p : Path) (m : Moment) (f : ℕ → Moment) → ((n : ℕ) → AreSteady pin m (first_of n f)) → ((i : ℕ) → HasIdsAmong ids (f i)) → EndsWith (IsNodeOf (tree_at m.past pin.base) p) f (node_reader a pin p) }
-    ensures children { (ids : List DocId) (a : Global) (pin : Pin) (p : Path) (m : Moment) (f : ℕ → Moment) → ((n : ℕ) → AreSteady pin m (first_of n f)) → ((i : ℕ) → HasIdsAmong ids (f i)) → EndsWith (AreChildrenOf (tree_at m.past pin.base) p) f (children_reader a pin p) }
-    ensures node_done { (a : Global) (pin : Pin) (p : Path) (m : Moment) (ms : List Moment) (o : ReadOut) → AreSteady pin m ms → (after_moments ms (node_reader a pin p)).step ≡ step.Done o → IsNodeOf (tree_at m.past pin.base) p o }
-    ensures children_done { (a : Global) (pin : Pin) (p : Path) (m : Moment) (ms : List Moment) (o : ReadOut) → AreSteady pin m ms → (after_moments ms (children_reader a pin p)).step ≡ step.Done o → AreChildrenOf (tree_at m.past pin.base) p o }
+    ensures node { (ids : List DocId) (a : Global) (pin : Pin) (p : Path) (m : Moment) (f : ℕ → Moment) → ((n : ℕ) → AreSteady pin m (first_of n f)) → ((i : ℕ) → HasIdsAmong ids (f i)) → EndsWith (IsNodeOf (tree_at None m.past pin.base) p) f (node_reader a pin p) }
+    ensures children { (ids : List DocId) (a : Global) (pin : Pin) (p : Path) (m : Moment) (f : ℕ → Moment) → ((n : ℕ) → AreSteady pin m (first_of n f)) → ((i : ℕ) → HasIdsAmong ids (f i)) → EndsWith (AreChildrenOf (tree_at None m.past pin.base) p) f (children_reader a pin p) }
+    ensures node_done { (a : Global) (pin : Pin) (p : Path) (m : Moment) (ms : List Moment) (o : ReadOut) → AreSteady pin m ms → (after_moments ms (node_reader a pin p)).step ≡ step.Done o → IsNodeOf (tree_at None m.past pin.base) p o }
+    ensures children_done { (a : Global) (pin : Pin) (p : Path) (m : Moment) (ms : List Moment) (o : ReadOut) → AreSteady pin m ms → (after_moments ms (children_reader a pin p)).step ≡ step.Done o → AreChildrenOf (tree_at None m.past pin.base) p o }
 {}
 
 /// The same, a step at a time: a reader begins to read the tree, reads on over each answer of the documents and over each
@@ -56,8 +61,8 @@ pub fn readers_read_on()
     ensures begins { (ds : Documents) (past : Past) (a : Global) (pin : Pin) (p : Path) → IsReading ds past (node_reader a pin p) × IsReading ds past (children_reader a pin p) }
     ensures feeds { (table : List (DocId × Document)) (past : Past) (r : Reader) → IsTable table → Holds (documents_in table) past → IsTold past → IsInUse past r.pin.base → IsSwept past r.pin.sweep → IsReading (documents_in table) past r → IsReading (documents_in table) past (fed r (answer table (due r))) }
     ensures lasts { (ds now : Documents) (past later : Past) (r : Reader) → IsSteady r.pin.base ds now past later → IsReading ds past r → IsReading now later r }
-    ensures node { (ds : Documents) (past : Past) (r : Reader) (o : ReadOut) → IsReading ds past r → r.parent ≡ None → r.step ≡ step.Done o → IsNodeOf (tree_at past r.pin.base) (path_read r) o }
-    ensures children { (ds : Documents) (past : Past) (r : Reader) (p : Path) (o : ReadOut) → IsReading ds past r → r.parent ≡ Some p → r.step ≡ step.Done o → AreChildrenOf (tree_at past r.pin.base) p o }
+    ensures node { (ds : Documents) (past : Past) (r : Reader) (o : ReadOut) → IsReading ds past r → r.parent ≡ None → r.step ≡ step.Done o → IsNodeOf (tree_at None past r.pin.base) (path_read r) o }
+    ensures children { (ds : Documents) (past : Past) (r : Reader) (p : Path) (o : ReadOut) → IsReading ds past r → r.parent ≡ Some p → r.step ≡ step.Done o → AreChildrenOf (tree_at None past r.pin.base) p o }
     ensures keeps { (r : Reader) (x : Reply) → IsFor r.pin r.parent (path_read r) (fed r x) }
 {}
 
@@ -89,4 +94,40 @@ pub fn readers_end()
     ensures ends { (ids : List DocId) (f : ℕ → Moment) (r : Reader) → ((i : ℕ) → HasIdsAmong ids (f i)) → (n : ℕ) × IsDone (after_moments (first_of n f) r).step }
     ensures node { (a : Global) (pin : Pin) (p : Path) (m k : Moment) (ms : List Moment) → AreSteady pin m (k ∷ []) → roots_left (answered (node_reader a pin p) k).step ≤ length ms → IsDone (after_moments (k ∷ ms) (node_reader a pin p)).step }
     ensures rises { (m : Moment) (r : Reader) → IsTable m.table → r.step ≡ step.Next → IsDone (answered r m).step ⊎ ((id_cmp (id.Node r.at) (id.Node (answered r m).at) ≡ Less) × IsTrue (is_some (documents_in m.table (id.Node (answered r m).at)))) }
+{}
+
+/// The same beside splits and collections: whatever comes between its steps, a reader at a pin that is held ends with the
+/// node, or the children, of the tree that the journal has at its base; where at each step the documents keep what the
+/// journal tells, and from one step to the next others let readers read on.
+pub fn readers_read_the_tree_beside_collections()
+    ensures node { (ids : List DocId) (a : Global) (pin : Pin) (p : Path) (i : Instant) (f : ℕ → Instant) → ((n : ℕ) → AreReadable pin i (first_instants n f)) → ((n : ℕ) → HasIdsAmong ids (f n).moment) → EndsWith (IsNodeOf (tree_at None i.moment.past pin.base) p) (λ n. (f n).moment) (node_reader a pin p) }
+    ensures children { (ids : List DocId) (a : Global) (pin : Pin) (p : Path) (i : Instant) (f : ℕ → Instant) → ((n : ℕ) → AreReadable pin i (first_instants n f)) → ((n : ℕ) → HasIdsAmong ids (f n).moment) → EndsWith (AreChildrenOf (tree_at None i.moment.past pin.base) p) (λ n. (f n).moment) (children_reader a pin p) }
+    ensures node_done { (a : Global) (pin : Pin) (p : Path) (i : Instant) (is : List Instant) (o : ReadOut) → AreReadable pin i is → (after_moments (moments_of is) (node_reader a pin p)).step ≡ step.Done o → IsNodeOf (tree_at None i.moment.past pin.base) p o }
+    ensures children_done { (a : Global) (pin : Pin) (p : Path) (i : Instant) (is : List Instant) (o : ReadOut) → AreReadable pin i is → (after_moments (moments_of is) (children_reader a pin p)).step ≡ step.Done o → AreChildrenOf (tree_at None i.moment.past pin.base) p o }
+{}
+
+/// A step at a time: such a reader begins to read the tree, reads on over each answer of the documents and over all that
+/// others do, and gives what the tree has.
+pub fn readers_read_on_beside_collections()
+    ensures begins { (ds : Documents) (past : Past) (ever : Ever) (a : Global) (pin : Pin) (p : Path) → IsReadingOn ds past ever (node_reader a pin p) × IsReadingOn ds past ever (children_reader a pin p) }
+    ensures feeds { (table : List (DocId × Document)) (past : Past) (ever : Ever) (done : Progress) (r : Reader) → IsTable table → IsKeptWorld (documents_in table) past done → IsHeld past r.pin.base r.pin.sweep → AreListed (documents_in table) ever → IsReadingOn (documents_in table) past ever r → IsReadingOn (documents_in table) past ever (fed r (answer table (due r))) }
+    ensures lasts { (ever more : Ever) (ds now : Documents) (past later : Past) (r : Reader) → ReadsOn r.pin ever ds now past later → Grows ever more → IsReadingOn ds past ever r → IsReadingOn now later more r }
+    ensures node { (ds : Documents) (past : Past) (ever : Ever) (r : Reader) (o : ReadOut) → IsReadingOn ds past ever r → r.parent ≡ None → r.step ≡ step.Done o → IsNodeOf (tree_at None past r.pin.base) (path_read r) o }
+    ensures children { (ds : Documents) (past : Past) (ever : Ever) (r : Reader) (p : Path) (o : ReadOut) → IsReadingOn ds past ever r → r.parent ≡ Some p → r.step ≡ step.Done o → AreChildrenOf (tree_at None past r.pin.base) p o }
+{}
+
+/// What others do lets readers at a held pin read on: writes and undos, marks and notes, documents of no node, the last
+/// write with its Commit and each other event; entries that go as garbage, what a split lists, a document of an absent node
+/// that goes, and previous documents that nobody lists and that go, or that come and were never listed.
+pub fn steps_let_readers_read_on()
+    ensures event { (pin : Pin) (ever : Ever) (ds : Documents) (past : Past) (done : Progress) (e : Event) → IsKeptWorld ds past done → ((r : Revision) → IsFalse (is_commit_of r e)) → ReadsOn pin ever ds ds past (e ∷ past) }
+    ensures write { (pin : Pin) (ever : Ever) (ds now : Documents) (past : Past) (done : Progress) (r : Revision) (drawn : Draw) (p : Path) (marks : List Change) (op : UpdateOp) (number : ℕ) → IsKeptWorld ds past done → IsHeld past pin.base pin.sweep → draw_of past r ≡ Some drawn → IsTrue (is_in_flight past r) → edit_of past r ≡ None → IsWriteOp op r drawn.edit.writes (commit_root drawn.marks) p marks → IsFalse (done r p) → IsMainAt ds now p (after_changes (ds (id.Node p)) op number) → ReadsOn pin ever ds now past past }
+    ensures undo { (pin : Pin) (ever : Ever) (ds now : Documents) (past : Past) (done : Progress) (r : Revision) (drawn : Draw) (p : Path) (d : Document) (op : UpdateOp) (number : ℕ) → IsKeptWorld ds past done → IsHeld past pin.base pin.sweep → draw_of past r ≡ Some drawn → IsTrue (is_in_flight past r) → edit_of past r ≡ None → ds (id.Node p) ≡ Some d → IsOrderedDocument d → op.changes ≡ change.Undo r ∷ [] → IsMainAt ds now p (after_changes (Some d) op number) → ReadsOn pin ever ds now past past }
+    ensures mark { (pin : Pin) (ever : Ever) (ds now : Documents) (past : Past) (done : Progress) (p : Path) (op : UpdateOp) (number : ℕ) → IsKeptWorld ds past done → IsHeld past pin.base pin.sweep → op.id ≡ id.Node p → IsTrue (list_all is_marking op.changes) → IsMainAt ds now p (after_changes (ds (id.Node p)) op number) → ReadsOn pin ever ds now past past }
+    ensures others { (pin : Pin) (ever : Ever) (ds now : Documents) (past : Past) (done : Progress) → IsKeptWorld ds past done → IsHeld past pin.base pin.sweep → ((q : Path) → now (id.Node q) ≡ ds (id.Node q)) → ((k : ℕ) (q : Path) → now (id.Prev k q) ≡ ds (id.Prev k q)) → ReadsOn pin ever ds now past past }
+    ensures last { (pin : Pin) (ever : Ever) (ds now : Documents) (past : Past) (done : Progress) (r : Revision) (drawn : Draw) (op : UpdateOp) (number : ℕ) → IsKeptWorld ds past done → IsHeld past pin.base pin.sweep → draw_of past r ≡ Some drawn → MayCommit past r → op.id ≡ id.Node (commit_root drawn.marks) → op.changes ≡ change.Revisions r ∷ [] → IsMainAt ds now (commit_root drawn.marks) (after_changes (ds (id.Node (commit_root drawn.marks))) op number) → IsKeptWorld now (event.Commit r ∷ past) done → ReadsOn pin ever ds now past (event.Commit r ∷ past) }
+    ensures pruned { (pin : Pin) (ever : Ever) (ds now : Documents) (past : Past) (done : Progress) (p : Path) (old d : Document) → IsKeptWorld ds past done → IsHeld past pin.base pin.sweep → ds (id.Node p) ≡ Some old → IsMainAt ds now p d → IsPruned ds (course_of past) p old d → ReadsOn pin ever ds now past past }
+    ensures moved { (pin : Pin) (ever : Ever) (ds now : Documents) (past : Past) (done : Progress) (p : Path) (old d : Document) (e : PrevEntry) (x : Document) → IsKeptWorld ds past done → IsHeld past pin.base pin.sweep → ds (id.Node p) ≡ Some old → ds (id.Prev e.number p) ≡ Some x → IsMainAt ds now p d → IsMoved (course_of past) p old d e x → ReadsOn pin ever ds now past past }
+    ensures removed { (pin : Pin) (ever : Ever) (ds now : Documents) (past : Past) (done : Progress) (p : Path) (old : Document) → IsKeptWorld ds past done → IsHeld past pin.base pin.sweep → ds (id.Node p) ≡ Some old → IsChangeAt ds now p → now (id.Node p) ≡ None → ((k : ℕ) → now (id.Prev k p) ≡ ds (id.Prev k p)) → IsUnwanted (course_of past) p old → ReadsOn pin ever ds now past past }
+    ensures previous { (pin : Pin) (ever : Ever) (ds now : Documents) (past : Past) (done : Progress) (p : Path) (k : ℕ) → IsKeptWorld ds past done → IsHeld past pin.base pin.sweep → IsPreviousAt ds now p k → IsUnlisted ds p k → (now (id.Prev k p) ≡ None) ⊎ IsFalse (ever p k) → ReadsOn pin ever ds now past past }
 {}

@@ -1,5 +1,15 @@
 -- The world before any step is kept.
-use Rattle.std.proofs.Common.{◌≡◌, ℕ, zero, suc, ◌+◌, ◌-◌, ◌<◌, false, List, [], length, map, is_some, refl, sym, ap, subst, ◌∙◌, arith}
+use Rattle.std.proofs.Math.Path.{fun_ext}
+use Rattle.std.proofs.Common.{filter_map, Option, Some, None, true}
+use Rattle.std.specs.Option.{option_map_or}
+use Rattle.jr_path.specs.declared.path.DocId.TheVariants as id
+use Rattle.jr_path.specs.declared.path.Path.{Path}
+use Rattle.oak_doc.specs.declared.document.Document.{Document}
+use Rattle.core_clash.specs.Sound.{Sound}
+use Rattle.core_world.specs.States.{moved_in}
+use Rattle.core_keep.proofs.Start.{holds_keeps, kept_start, start_separate}
+use Rattle.oak_read.specs.Meaning.{documents_in}
+use Rattle.std.proofs.Common.{◌≡◌, ℕ, zero, suc, ◌+◌, ◌-◌, ◌<◌, false, List, [], length, map, is_some, refl, sym, ap, subst, ◌∙◌, arith, true}
 use Rattle.std.proofs.Math.ListN.{get_or}
 use Rattle.std.proofs.lemmas.List.FromFn.{length-map-range_with_len}
 use Rattle.std.specs.List.{range_with_len}
@@ -12,7 +22,7 @@ use Rattle.core_clash.specs.Steps.{Reached}
 use Rattle.core_clash.proofs.Reach.{reached_sound}
 use Rattle.core_nodes.specs.Nodes.{ArePinsOf, IsMemoryOf}
 use Rattle.core_nodes.proofs.Events.{begun_is, begun_pins}
-use Rattle.core_world.specs.Kept.{IsKept}
+use Rattle.core_world.specs.Kept.{AreSessionsKept}
 use Rattle.core_world.specs.Start.{start_state, start_table}
 use Rattle.core_world.specs.States.{memory_at, nodes_in}
 use Rattle.core_world.proofs.Begins.{start_holds, start_is}
@@ -33,24 +43,40 @@ place clusters first (suc count) (suc i) d h = place clusters (first + 1) count 
 begun_at : (clusters k : ℕ) → IsNode clusters k → memory_at (all_begun clusters 1 clusters) k ≡ begun k (start clusters)
 begun_at clusters k node = read_at (all_begun clusters 1 clusters) k ∙ (place clusters 1 clusters (k - 1) (begun k no_entries) (let a = node.0 in let b = node.1 in omega arith) ∙ ap (λ j. begun j (start clusters)) (let a = node.0 in omega arith))
 
-pub start_kept : (starts : Starts) (says : Says) (clusters : ℕ) (sessions : List ℕ) → AreNodes clusters sessions → IsKept starts says (start_state clusters sessions)
+-- its documents list no previous ones
+pub start_moved : (c n : ℕ) → moved_in (start_table c n) ≡ (λ p. [])
+start_moved c n = fun_ext (λ p. by p (nodes_in (start_table c n) p) refl)
+  where
+    by : (p : Path) (o : Option Document) → nodes_in (start_table c n) p ≡ o → option_map_or (λ d. filter_map (λ e. documents_in (start_table c n).documents (id.Prev e.number p)) d.prev) o [] ≡ []
+    by p None h = refl
+    by p (Some d) h = ap (filter_map (λ e. documents_in (start_table c n).documents (id.Prev e.number p))) ((start_holds c n).whole p d h)
+
+pub start_kept : (starts : Starts) (says : Says) (clusters : ℕ) (sessions : List ℕ) → AreNodes clusters sessions → AreSessionsKept starts says (start_state clusters sessions)
 start_kept starts says clusters sessions nodes = record {
   nodes = nodes;
   run = tt;
-  detached = λ s. refl;
   committing = record {
     writers = λ r. record { paths = []; left = []; written = []; due = []; undoing = false; wants = false };
-    sound = reached_sound _ (Rattle.core_clash.specs.Steps.begun 4 (nodes_in (start_table clusters (length sessions))) (start_is clusters (length sessions)));
+    sound = subst (λ (moved : Path → List Document). Sound (record { number = 4; docs = nodes_in (start_table clusters (length sessions)); moved = moved; past = []; writers = λ r. record { paths = []; left = []; written = []; due = []; undoing = false; wants = false } }))
+        (sym (start_moved clusters (length sessions)))
+        (reached_sound _ (Rattle.core_clash.specs.Steps.begun 4 (nodes_in (start_table clusters (length sessions))) (start_is clusters (length sessions))));
     theirs = λ s x h. absurd (false≢true (ap is_some h));
     listed = λ s x h. absurd (false≢true (ap is_some h));
-    holds = start_holds clusters (length sessions);
-    partly = λ r d h. absurd (false≢true (ap is_some h));
+    kept = record {
+      keeps = holds_keeps (documents_in (start_table clusters (length sessions)).documents) [] (start_holds clusters (length sessions)) (kept_start no_entries).told (λ r. refl);
+      told = (kept_start no_entries).told;
+      separate = start_separate;
+      bounded = record { settled = λ o f. refl; closed = λ o us e h. absurd (false≢true h) };
+      swept = λ o f. refl;
+      partly = λ r d h f. absurd (false≢true (ap is_some h));
+    };
+    unstopped = λ k. refl;
   };
   working = record { idle = λ s h. refl; stays = λ s x h. absurd (false≢true (ap is_some h)) };
   memories = record {
     counted = length-map-range_with_len (λ k. begun k (start clusters)) 1 clusters;
     memory = λ k node. subst (λ (m : NodeState). IsMemoryOf clusters [] k m) (sym (begun_at clusters k node)) (begun_is clusters sessions nodes k node);
-    pins = λ k node. subst (λ (m : NodeState). ArePinsOf clusters sessions [] k m) (sym (begun_at clusters k node)) (begun_pins clusters sessions k);
+    pins = λ k node. subst (λ (m : NodeState). ArePinsOf sessions [] k m) (sym (begun_at clusters k node)) (begun_pins clusters sessions k);
   };
-  readers = record { reads = λ s r h. absurd (false≢true (ap is_some h)); at_pin = λ s r h. absurd (false≢true (ap is_some h)) };
+  readers = record { ever = λ p k. true; listed = λ p d h e i. refl; above = λ s r h. absurd (false≢true (ap is_some h)); reads = λ s r h. absurd (false≢true (ap is_some h)); at_base = λ s r h. absurd (false≢true (ap is_some h)); pairs = λ s r h. absurd (false≢true (ap is_some h)) };
 }

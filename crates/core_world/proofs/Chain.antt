@@ -1,5 +1,5 @@
 -- From the start a commit can be made whole: each step's premises can be met.
-use Rattle.std.proofs.Common.{◌≡◌, inl, inr, ℕ, zero, suc, Some, [], ◌∷◌, is_some, refl, ap, arith}
+use Rattle.std.proofs.Common.{◌≡◌, inl, inr, ℕ, zero, suc, Some, None, [], ◌∷◌, is_some, refl, ap, arith}
 use Rattle.std.specs.Prelude.{slice_get}
 use Rattle.std.specs.Option.{unwrap_or}
 use mathlib.Core.Bool.{false≢true}
@@ -9,7 +9,7 @@ use Rattle.oak_clash.specs.Clashes.{marked_paths}
 use Rattle.oak_machine.specs.Commits.{tree_at}
 use Rattle.oak_machine.specs.Laws.{AreOfWrites, HasBase, Starts, StartsProper}
 use Rattle.oak_machine.specs.Runs.{AreNodes, IsNode, any_said}
-use Rattle.core_world.specs.Kept.{IsKept}
+use Rattle.core_world.specs.Kept.{AreSessionsKept}
 use Rattle.core_world.specs.States.{State}
 use Rattle.core_world.specs.Steps.{after_leave, after_refresh}
 use Rattle.core_world.proofs.Begun.{start_kept}
@@ -20,7 +20,7 @@ use Rattle.core_world.proofs.Rows.{begins, drawn, edit, first_done, marks, next,
 
 -- the law that lets each proper edit with its marks start
 abbrev proper_starts : Starts
-proper_starts h s e ms = (v : RevVec) → HasBase h s v → IsProper (tree_at h.past v) e.writes × AreOfWrites (tree_at h.past v) e ms
+proper_starts h s e ms = (v : RevVec) → HasBase h s v → IsProper (tree_at h.begin h.past v) e.writes × AreOfWrites (tree_at h.begin h.past v) e ms
 
 proper : StartsProper proper_starts
 proper h s e ms v base starts = starts v base
@@ -34,20 +34,20 @@ two_nodes = record { eight = omega arith; some = omega arith; node = each }
     each (suc (suc s)) k h = absurd (false≢true (ap is_some h))
 
 -- nothing is committed yet, so each base sees the initial tree
-lawful_first : (v : RevVec) → IsProper (tree_at begins.past v) (edit 1).writes × AreOfWrites (tree_at begins.past v) (edit 1) marks
+lawful_first : (v : RevVec) → IsProper (tree_at None begins.past v) (edit 1).writes × AreOfWrites (tree_at None begins.past v) (edit 1) marks
 lawful_first v = (record { tree = record { paths = refl; names = refl; root = refl; parents = refl }; once = refl; changing = refl; emptied = refl }, refl)
 
-lawful_second : (v : RevVec) → IsProper (tree_at begins.past v) (edit 2).writes × AreOfWrites (tree_at begins.past v) (edit 2) marks
+lawful_second : (v : RevVec) → IsProper (tree_at None begins.past v) (edit 2).writes × AreOfWrites (tree_at None begins.past v) (edit 2) marks
 lawful_second v = (record { tree = record { paths = refl; names = refl; root = refl; parents = refl }; once = refl; changing = refl; emptied = refl }, refl)
 
 abbrev Kept : State → Type 0
-Kept w = IsKept proper_starts any_said w
+Kept w = AreSessionsKept proper_starts any_said w
 
 both_in : Kept begins
 both_in = login_keeps proper_starts any_said proper _ (login_keeps proper_starts any_said proper _ (start_kept proper_starts any_said 2 (1 ∷ 2 ∷ []) two_nodes) 0 refl refl) 1 refl refl
 
 both_drawn : Kept drawn
-both_drawn = draw_keeps proper_starts any_said proper _ (draw_keeps proper_starts any_said proper begins both_in 0 refl refl refl (edit 1) marks (λ v base. lawful_first v) (marked_paths marks)) 1 refl refl refl (edit 2) marks (λ v base. lawful_second v) (marked_paths marks)
+both_drawn = draw_keeps proper_starts any_said proper _ (draw_keeps proper_starts any_said proper begins both_in 0 refl refl refl refl (edit 1) marks (λ v base. lawful_first v) (λ o h. absurd (false≢true h)) (marked_paths marks)) 1 refl refl refl refl (edit 2) marks (λ v base. lawful_second v) (λ o h. absurd (false≢true h)) (marked_paths marks)
 
 both_wrote : Kept wrote
 both_wrote = write_keeps proper_starts any_said proper _ (write_keeps proper_starts any_said proper drawn both_drawn 1 _ refl refl refl [] [] refl refl) 0 _ refl refl refl [] [] refl refl
@@ -72,4 +72,4 @@ second_kept = finish_keeps proper_starts any_said proper (next (next first_done 
 
 -- the first moves on to the head, and leaves
 first_left : Kept (after_leave (after_refresh second_done 0) 0)
-first_left = leave_keeps proper_starts any_said proper _ (refresh_keeps proper_starts any_said proper second_done second_kept 0 refl refl refl refl) 0 refl refl refl refl
+first_left = leave_keeps proper_starts any_said proper _ (refresh_keeps proper_starts any_said proper second_done second_kept 0 refl refl refl refl) 0 refl refl refl refl refl

@@ -24,39 +24,35 @@ use Rattle.oak_machine.specs.declared.event.StepKind.TheVariants as kind
 use Rattle.oak_machine.specs.Commits.{marks_of}
 use Rattle.oak_machine.specs.Laws.{Says, Starts, StartsProper}
 use Rattle.oak_machine.specs.Runs.{MayFollow, MayRefuse}
-use Rattle.oak_machine.specs.Sessions.{has_left, has_login, is_attached, is_drawing, is_end_of_session}
+use Rattle.oak_machine.specs.Sessions.{has_left, has_login, is_drawing, is_end_of_session}
 use Rattle.oak_read.specs.declared.reader.Reader.{Reader}
 use Rattle.oak_read.specs.Meaning.{documents_in}
 use Rattle.oak_store.specs.Tables.{Table, after_undo, next_number}
 use Rattle.core_read.specs.Told.{IsInUse}
 use Rattle.core_heads.proofs.Runs.{held_in_use, sound_run}
-use Rattle.core_clash.specs.Core.{root_of}
+use Rattle.core_clash.specs.Core.{root_of, whole}
 use Rattle.core_clash.specs.Sessions.{IsTheirs, Running}
 use Rattle.core_clash.specs.Sound.{Cause}
 use Rattle.core_clash.proofs.Steps.{may_refuse_at_last, may_refuse_at_mark}
 use Rattle.core_clash.proofs.Updates.{last_is, mark_is}
 use Rattle.core_nodes.specs.Nodes.{is_of_node, leaves_memory, moved_pin}
-use Rattle.core_watch.specs.Copies.{IsSteady}
-use Rattle.core_world.specs.States.{State, core_in, history_in, nodes_in, with_session}
+use Rattle.core_world.specs.States.{State, core_in, history_in, nodes_in, with_session, moved_in}
 use Rattle.core_world.specs.Steps.{after_last, after_mark, after_undoing, after_update, after_want, after_write, after_write_in_want, lasted_by, marked_by, refused}
-use Rattle.core_world.specs.Kept.{AreAtWork, AreCommitting, IsKept}
+use Rattle.core_world.specs.Kept.{AreAtWork, AreCommitting, AreSessionsKept, has_written}
 use Rattle.core_world.proofs.Committers.{at_idle, at_session, session_twice}
 use Rattle.core_world.proofs.Flights.{draws_nothing, number_itself, still_idle}
-use Rattle.core_world.proofs.Lasting.{commit_follows, commit_steady, last_commits, may_last}
-use Rattle.core_world.proofs.Lives.{told}
+use Rattle.core_world.proofs.Lasting.{commit_follows, commit_lets, last_commits, may_last}
+use Rattle.core_world.proofs.Lives.{reader_held, told}
+use Rattle.core_world.proofs.Letting.{LetsRead, lets_calm}
 use Rattle.core_world.proofs.Logged.{IsDrawnBy, drawn_by}
-use Rattle.core_world.proofs.Marking.{mark_cause, mark_commits, mark_steady, may_mark}
+use Rattle.core_world.proofs.Marking.{mark_cause, mark_commits, mark_lets, may_mark}
 use Rattle.core_world.proofs.Memories.{aside}
-use Rattle.core_world.proofs.Readers.{event_reads, pinned_is}
+use Rattle.core_world.proofs.Readers.{event_reads, live_is, moved_base}
 use Rattle.core_world.proofs.Refusing.{refuse_commits, want_commits}
-use Rattle.core_world.proofs.Undoing.{undo_commits, undo_steady}
-use Rattle.core_world.proofs.Writing.{write_commits, write_steady}
+use Rattle.core_world.proofs.Undoing.{undo_commits, undo_lets}
+use Rattle.core_world.proofs.Writing.{write_commits, write_lets}
 
-module _ (starts : Starts) (says : Says) (proper : StartsProper starts) (w : State) (kept : IsKept starts says w) where
-  -- the base of whoever reads is in use
-  pub reader_in_use : (s : ℕ) (r : Reader) → w.reading s ≡ Some r → IsInUse w.past r.pin.base
-  reader_in_use s r h = held_in_use w.past r.pin.base ((sound_run w.clusters w.sessions kept.nodes starts says w.past kept.run).bases s r.pin.base (pinned_is w.clusters w.past s r.pin (kept.readers.at_pin s r h)).base)
-
+module _ (starts : Starts) (says : Says) (proper : StartsProper starts) (w : State) (kept : AreSessionsKept starts says w) where
   module _ (s : ℕ) (x : Running) (here : w.running s ≡ Some x) where
     pub its : IsTheirs w.past kept.committing.writers s x
     its = kept.committing.theirs s x here
@@ -71,9 +67,9 @@ module _ (starts : Starts) (says : Says) (proper : StartsProper starts) (w : Sta
     on_its_node = subst (λ (n : ℕ). slice_get w.sessions n ≡ Some x.draw.revision.cluster) its.session drawn.node
 
     -- an event of this session that is neither a draw, nor an end, nor one of the pins, with a change of one document
-    module _ (e : Event) (u : Table) (y : Running) (may : MayFollow starts says (history_in w) e) (draws : draws_nothing e ≡ true) (ends : (q : ℕ) → is_end_of_session q e ≡ false) (stands : (q : ℕ) → is_attached (e ∷ w.past) q ≡ is_attached w.past q)
+    module _ (e : Event) (u : Table) (y : Running) (may : MayFollow starts says (history_in w) e) (draws : draws_nothing e ≡ true) (ends : (q : ℕ) → is_end_of_session q e ≡ false) (unbased : moved_base e ≡ None)
         (leaves : (j : ℕ) → leaves_memory j e ≡ true) (unmoved : moved_pin e ≡ None) (committing : AreCommitting (e ∷ w.past) u (with_session w.running s (Some y)))
-        (steady : (v : RevVec) → IsInUse w.past v → IsSteady v (documents_in w.table.documents) (documents_in u.documents) w.past (e ∷ w.past)) where
+        (lets : LetsRead w.table u w.past (e ∷ w.past)) where
       stay_on : (q : ℕ) → has_left w.past q ≡ false → has_left (e ∷ w.past) q ≡ false
       stay_on q h = ap (λ b. b || has_left w.past q) (ends q) ∙ h
 
@@ -83,36 +79,35 @@ module _ (starts : Starts) (says : Says) (proper : StartsProper starts) (w : Sta
         stays = at_session (λ q (z : Running). has_left (e ∷ w.past) q ≡ false) w.running s y (stay_on s (kept.working.stays s x here)) (λ q z f h. stay_on q (kept.working.stays q z h));
       }
 
-      pub with_event : IsKept starts says (record w { past = e ∷ w.past; table = u; running = with_session w.running s (Some y) })
+      pub with_event : AreSessionsKept starts says (record w { past = e ∷ w.past; table = u; running = with_session w.running s (Some y) })
       with_event = record {
         nodes = kept.nodes;
         run = (may, kept.run);
-        detached = λ q. stands q ∙ kept.detached q;
         committing = committing;
         working = working;
         memories = aside starts says w.clusters w.sessions kept.nodes w.past w.memories kept.memories e (may, kept.run) leaves (λ j. ap (λ o. option_map_or (λ n. not (is_of_node w.sessions j n)) o true) unmoved);
-        readers = event_reads w.clusters w.past w.table w.reading kept.readers e u (λ q r h. steady r.pin.base (reader_in_use q r h)) (λ q r h. ap (λ o. option_map_or (λ n. n == q) o false) unmoved);
+        readers = event_reads w.past w.table w.reading kept.readers (reader_held starts says proper w kept) e u lets (λ q r h. ap (λ o. option_map_or (λ n. n == q) o false) unbased);
       }
 
     module _ (uncommitted : x.committed ≡ false) (going : x.writer.undoing ≡ false) where
       -- ---- a write
 
-      pub write_keeps : (p : Path) (rest : List Path) → x.writer.due ≡ [] → x.writer.left ≡ p ∷ rest → IsKept starts says (after_write w s x p rest)
+      pub write_keeps : (p : Path) (rest : List Path) → x.writer.due ≡ [] → x.writer.left ≡ p ∷ rest → AreSessionsKept starts says (after_write w s x p rest)
       write_keeps p rest unmet next =
           let op = write_op x.draw.revision x.draw.edit.writes x.draw.marks p in
-          let wrote : Writer = record x.writer { left = rest; written = x.writer.written ++ p ∷ []; due = found x.draw.base x.draw.revision p x.draw.marks (nodes_in w.table p) } in
-          with_event (event.Went s kind.Write) (after_update w.table op) (record { draw = x.draw; writer = wrote; committed = x.committed }) (login, kept.working.stays s x here) refl (λ q. refl) (λ q. refl) (λ j. refl) refl
+          let wrote : Writer = record x.writer { left = rest; written = x.writer.written ++ p ∷ []; due = found x.draw.base x.draw.revision p x.draw.marks (whole p (nodes_in w.table p) (moved_in w.table p)) } in
+          with_event (event.Went s kind.Write) (after_update w.table op) (record { draw = x.draw; writer = wrote; committed = x.committed }) (login, kept.working.stays s x here) refl (λ q. refl) refl (λ j. refl) refl
           (subst (λ (n : ℕ). AreCommitting (event.Went n kind.Write ∷ w.past) (after_update w.table op) (with_session w.running s (Some (record { draw = x.draw; writer = wrote; committed = x.committed })))) its.session
           (write_commits w.past w.table w.running kept.committing (told starts says proper w kept) s x here uncommitted going p rest unmet next))
-          (λ v used. subst (λ (n : ℕ). IsSteady v (documents_in w.table.documents) (documents_in (after_update w.table op).documents) w.past (event.Went n kind.Write ∷ w.past)) its.session
-          (write_steady w.past w.table w.running kept.committing (told starts says proper w kept) s x here uncommitted going p rest unmet next v used))
+          (subst (λ (n : ℕ). LetsRead w.table (after_update w.table op) w.past (event.Went n kind.Write ∷ w.past)) its.session
+          (write_lets w.past w.table w.running kept.committing (told starts says proper w kept) s x here uncommitted going p rest unmet next))
 
       -- ---- a refusal
 
-      pub refused_keeps : (item : Item) (o : Revision) → Cause w.past x.draw.revision item o → MayRefuse w.past x.draw.revision item o → IsKept starts says (refused w s x item o)
-      refused_keeps item o cause may = with_event (event.Refuse x.draw.revision item o) w.table (record { draw = x.draw; writer = record x.writer { due = []; undoing = true }; committed = x.committed }) may refl (λ q. refl) (λ q. refl) (λ j. refl) refl
+      pub refused_keeps : (item : Item) (o : Revision) → Cause w.past x.draw.revision item o → MayRefuse w.past x.draw.revision item o → AreSessionsKept starts says (refused w s x item o)
+      refused_keeps item o cause may = with_event (event.Refuse x.draw.revision item o) w.table (record { draw = x.draw; writer = record x.writer { due = []; undoing = true }; committed = x.committed }) may refl (λ q. refl) refl (λ j. refl) refl
           (refuse_commits w.past w.table w.running kept.committing (told starts says proper w kept) s x here uncommitted going item o cause)
-          (λ v used. Rattle.core_watch.proofs.Steady.event_steady v (documents_in w.table.documents) w.past (event.Refuse x.draw.revision item o) (λ q. refl))
+          (lets_calm w.table w.past (λ r. has_written (kept.committing.writers r)) kept.committing.kept (event.Refuse x.draw.revision item o) (λ q. refl) refl)
 
       -- ---- a mark
 
@@ -123,21 +118,21 @@ module _ (starts : Starts) (says : Says) (proper : StartsProper starts) (w : Sta
         abbrev doc : Document
         doc = after_changes (nodes_in w.table root) (mark_op root f.other x.draw.revision f.theirs) (next_number w.table)
 
-        marked_keeps : noted (nodes_in w.table root) f.other ≡ false → IsKept starts says (marked_by w s x f rest (Ok doc))
+        marked_keeps : noted (nodes_in w.table root) f.other ≡ false → AreSessionsKept starts says (marked_by w s x f rest (Ok doc))
         marked_keeps free =
             let now : Table = Rattle.oak_store.specs.Tables.with_document w.table (id.Node root) doc (next_number w.table) in
-            with_event (event.Went s kind.Mark) now (record { draw = x.draw; writer = record x.writer { due = rest }; committed = x.committed }) (login, kept.working.stays s x here) refl (λ q. refl) (λ q. refl) (λ j. refl) refl
+            with_event (event.Went s kind.Mark) now (record { draw = x.draw; writer = record x.writer { due = rest }; committed = x.committed }) (login, kept.working.stays s x here) refl (λ q. refl) refl (λ j. refl) refl
             (subst (λ (n : ℕ). AreCommitting (event.Went n kind.Mark ∷ w.past) now (with_session w.running s (Some (record { draw = x.draw; writer = record x.writer { due = rest }; committed = x.committed })))) its.session
             (mark_commits w.past w.table w.running kept.committing (told starts says proper w kept) s x here uncommitted going f rest next free))
-            (λ v used. subst (λ (n : ℕ). IsSteady v (documents_in w.table.documents) (documents_in now.documents) w.past (event.Went n kind.Mark ∷ w.past)) its.session
-            (mark_steady w.past w.table w.running kept.committing (told starts says proper w kept) s x here uncommitted going f rest next free v used))
+            (subst (λ (n : ℕ). LetsRead w.table now w.past (event.Went n kind.Mark ∷ w.past)) its.session
+            (mark_lets w.past w.table w.running kept.committing (told starts says proper w kept) s x here uncommitted going f rest next free))
 
-        pub mark_keeps : IsKept starts says (after_mark w s x f rest)
+        pub mark_keeps : AreSessionsKept starts says (after_mark w s x f rest)
         mark_keeps = by (mark_is (nodes_in w.table root) w.past x.draw.revision f (next_number w.table))
           where
-            by : ((noted (nodes_in w.table root) f.other ≡ false) × (updated (nodes_in w.table root) (mark_op root f.other x.draw.revision f.theirs) (next_number w.table) ≡ Ok doc)) ⊎ ((g : OpFault) × (updated (nodes_in w.table root) (mark_op root f.other x.draw.revision f.theirs) (next_number w.table) ≡ Err g)) → IsKept starts says (after_mark w s x f rest)
-            by (inl h) = subst (λ (o : Result Document OpFault). IsKept starts says (marked_by w s x f rest o)) (sym h.1) (marked_keeps h.0)
-            by (inr h) = subst (λ (o : Result Document OpFault). IsKept starts says (marked_by w s x f rest o)) (sym h.1)
+            by : ((noted (nodes_in w.table root) f.other ≡ false) × (updated (nodes_in w.table root) (mark_op root f.other x.draw.revision f.theirs) (next_number w.table) ≡ Ok doc)) ⊎ ((g : OpFault) × (updated (nodes_in w.table root) (mark_op root f.other x.draw.revision f.theirs) (next_number w.table) ≡ Err g)) → AreSessionsKept starts says (after_mark w s x f rest)
+            by (inl h) = subst (λ (o : Result Document OpFault). AreSessionsKept starts says (marked_by w s x f rest o)) (sym h.1) (marked_keeps h.0)
+            by (inr h) = subst (λ (o : Result Document OpFault). AreSessionsKept starts says (marked_by w s x f rest o)) (sym h.1)
                 (refused_keeps f.mine f.other (mark_cause w.past w.table w.running kept.committing (told starts says proper w kept) s x here uncommitted going f rest next)
                 (may_refuse_at_mark (core_in w.past w.table kept.committing.writers) x.draw f rest kept.committing.sound (may_mark w.past w.table w.running kept.committing (told starts says proper w kept) s x here uncommitted going f rest next)))
 
@@ -158,32 +153,31 @@ module _ (starts : Starts) (says : Says) (proper : StartsProper starts) (w : Sta
         lasts : IsLast x.draw.marks
         lasts = subst (λ (ms : List MarkAt). IsLast ms) marks_are (last_is (nodes_in w.table (root_of w.past x.draw.revision)) w.past x.draw.revision (next_number w.table))
 
-        committed_keeps : is_some (collision (nodes_in w.table (commit_root x.draw.marks)) x.draw.revision) ≡ false → IsKept starts says (lasted_by w s x (Ok last_doc))
+        committed_keeps : is_some (collision (nodes_in w.table (commit_root x.draw.marks)) x.draw.revision) ≡ false → AreSessionsKept starts says (lasted_by w s x (Ok last_doc))
         committed_keeps free =
             with_event (event.Commit x.draw.revision) (Rattle.oak_store.specs.Tables.with_document w.table (id.Node (commit_root x.draw.marks)) last_doc (next_number w.table)) (record { draw = x.draw; writer = x.writer; committed = true })
-            (commit_follows w.past w.table w.running kept.committing (told starts says proper w kept) s x here uncommitted going unmet none_left free) refl (λ q. refl) (λ q. refl) (λ j. refl) refl
+            (commit_follows w.past w.table w.running kept.committing (told starts says proper w kept) s x here uncommitted going unmet none_left free) refl (λ q. refl) refl (λ j. refl) refl
             (last_commits w.past w.table w.running kept.committing (told starts says proper w kept) s x here uncommitted going unmet none_left free)
-            (commit_steady w.past w.table w.running kept.committing (told starts says proper w kept) s x here uncommitted going unmet none_left free)
+            (commit_lets w.past w.table w.running kept.committing (told starts says proper w kept) s x here uncommitted going unmet none_left free)
 
-        pub last_keeps : IsKept starts says (after_last w s x)
+        pub last_keeps : AreSessionsKept starts says (after_last w s x)
         last_keeps = by lasts
           where
             at_root : (e : Revision × Item) → collision (nodes_in w.table (commit_root x.draw.marks)) x.draw.revision ≡ Some e → collision (nodes_in w.table (root_of w.past x.draw.revision)) x.draw.revision ≡ Some e
             at_root e h = subst (λ (ms : List MarkAt). collision (nodes_in w.table (commit_root ms)) x.draw.revision ≡ Some e) (sym marks_are) h
 
-            by : IsLast x.draw.marks → IsKept starts says (after_last w s x)
-            by (inl h) = subst (λ (o : Result Document OpFault). IsKept starts says (lasted_by w s x o)) (sym h.1) (committed_keeps h.0)
-            by (inr h) = subst (λ (o : Result Document OpFault). IsKept starts says (lasted_by w s x o)) (sym h.2)
+            by : IsLast x.draw.marks → AreSessionsKept starts says (after_last w s x)
+            by (inl h) = subst (λ (o : Result Document OpFault). AreSessionsKept starts says (lasted_by w s x o)) (sym h.1) (committed_keeps h.0)
+            by (inr h) = subst (λ (o : Result Document OpFault). AreSessionsKept starts says (lasted_by w s x o)) (sym h.2)
                 (refused_keeps h.0.1 h.0.0 (kept.committing.sound.caused (commit_root x.draw.marks) x.draw.revision h.0.0 h.0.1 h.1)
                 (may_refuse_at_last (core_in w.past w.table kept.committing.writers) x.draw h.0.0 h.0.1 kept.committing.sound (may_last w.past w.table w.running kept.committing (told starts says proper w kept) s x here uncommitted going unmet none_left) (at_root h.0 h.1)))
 
       -- ---- want of memory
 
-      pub want_keeps : IsKept starts says (after_want w s x)
+      pub want_keeps : AreSessionsKept starts says (after_want w s x)
       want_keeps = record {
         nodes = kept.nodes;
         run = kept.run;
-        detached = kept.detached;
         committing = want_commits w.past w.table w.running kept.committing (told starts says proper w kept) s x here uncommitted going;
         working = record {
           idle = at_idle (λ q. is_drawing w.past q ≡ false) w.running s _ (λ q f h. kept.working.idle q h);
@@ -195,27 +189,27 @@ module _ (starts : Starts) (says : Says) (proper : StartsProper starts) (w : Sta
 
     -- ---- undoing
 
-    pub undo_keeps : (p : Path) (rest : List Path) → x.committed ≡ false → x.writer.undoing ≡ true → x.writer.written ≡ p ∷ rest → IsKept starts says (after_undoing w s x p rest)
+    pub undo_keeps : (p : Path) (rest : List Path) → x.committed ≡ false → x.writer.undoing ≡ true → x.writer.written ≡ p ∷ rest → AreSessionsKept starts says (after_undoing w s x p rest)
     undo_keeps p rest uncommitted undoing next =
         let now : Table = after_undo w.table (id.Node p) x.draw.revision in
-        with_event (event.Went s kind.Undo) now (record { draw = x.draw; writer = record x.writer { written = rest }; committed = x.committed }) (login, kept.working.stays s x here) refl (λ q. refl) (λ q. refl) (λ j. refl) refl
+        with_event (event.Went s kind.Undo) now (record { draw = x.draw; writer = record x.writer { written = rest }; committed = x.committed }) (login, kept.working.stays s x here) refl (λ q. refl) refl (λ j. refl) refl
         (subst (λ (n : ℕ). AreCommitting (event.Went n kind.Undo ∷ w.past) now (with_session w.running s (Some (record { draw = x.draw; writer = record x.writer { written = rest }; committed = x.committed })))) its.session
         (undo_commits w.past w.table w.running kept.committing (told starts says proper w kept) s x here uncommitted undoing p rest next))
-        (λ v used. subst (λ (n : ℕ). IsSteady v (documents_in w.table.documents) (documents_in now.documents) w.past (event.Went n kind.Undo ∷ w.past)) its.session
-        (undo_steady w.past w.table w.running kept.committing (told starts says proper w kept) s x here uncommitted undoing p rest next v used))
+        (subst (λ (n : ℕ). LetsRead w.table now w.past (event.Went n kind.Undo ∷ w.past)) its.session
+        (undo_lets w.past w.table w.running kept.committing (told starts says proper w kept) s x here uncommitted undoing p rest next))
 
 -- a write, and memory refused for what is met there
-module _ (starts : Starts) (says : Says) (proper : StartsProper starts) (w : State) (kept : IsKept starts says w) (s : ℕ) (x : Running) (here : w.running s ≡ Some x) (uncommitted : x.committed ≡ false) (going : x.writer.undoing ≡ false)
+module _ (starts : Starts) (says : Says) (proper : StartsProper starts) (w : State) (kept : AreSessionsKept starts says w) (s : ℕ) (x : Running) (here : w.running s ≡ Some x) (uncommitted : x.committed ≡ false) (going : x.writer.undoing ≡ false)
     (p : Path) (rest : List Path) (unmet : x.writer.due ≡ []) (next : x.writer.left ≡ p ∷ rest) where
   abbrev wrote : Running
-  wrote = record { draw = x.draw; writer = record x.writer { left = rest; written = x.writer.written ++ p ∷ []; due = found x.draw.base x.draw.revision p x.draw.marks (nodes_in w.table p) }; committed = x.committed }
+  wrote = record { draw = x.draw; writer = record x.writer { left = rest; written = x.writer.written ++ p ∷ []; due = found x.draw.base x.draw.revision p x.draw.marks (whole p (nodes_in w.table p) (moved_in w.table p)) }; committed = x.committed }
 
   abbrev wants : Running
   wants = record { draw = x.draw; writer = record x.writer { left = rest; written = x.writer.written ++ p ∷ []; due = []; undoing = true; wants = true }; committed = x.committed }
 
-  pub write_in_want_keeps : IsKept starts says (after_write_in_want w s x p rest)
+  pub write_in_want_keeps : AreSessionsKept starts says (after_write_in_want w s x p rest)
   write_in_want_keeps =
       let written = write_keeps starts says proper w kept s x here uncommitted going p rest unmet next in
       let there : (after_write w s x p rest).running s ≡ Some wrote = ap (λ b. cond b (Some wrote) (w.running s)) (number_itself s) in
-      subst (λ (run : ℕ → Option Running). IsKept starts says (record (after_write w s x p rest) { running = run })) (session_twice w.running s (Some wrote) (Some wants))
+      subst (λ (run : ℕ → Option Running). AreSessionsKept starts says (record (after_write w s x p rest) { running = run })) (session_twice w.running s (Some wrote) (Some wants))
       (want_keeps starts says proper (after_write w s x p rest) written s wrote there uncommitted going)

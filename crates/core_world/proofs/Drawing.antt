@@ -1,6 +1,8 @@
 -- A session draws a revision.
 use Rattle.std.proofs.Common.{◌≡◌, ℕ, Bool, true, false, cond, Some, None, Option, List, ◌∷◌, is_some, refl, sym, ap, ◌∙◌}
+use Rattle.std.specs.Option.{option_map_or}
 use mathlib.Core.Bool.{false≢true}
+use Rattle.jr_rev.specs.Vectors.{sees}
 use Rattle.jr_rev.specs.declared.revision.Revision.{Revision}
 use Rattle.jr_rev.specs.Revisions.{is_before, is_same}
 use Rattle.oak_machine.specs.declared.event.Draw.{Draw}
@@ -13,10 +15,11 @@ use Rattle.oak_read.specs.Meaning.{documents_in}
 use Rattle.oak_store.specs.Tables.{Table}
 use Rattle.core_read.specs.Holds.{the_start}
 use Rattle.core_read.specs.Told.{IsTold}
-use Rattle.core_read.specs.World.{IsWorld}
 use Rattle.core_read.proofs.Told.{no_edit}
-use Rattle.core_read.proofs.World.{with_progress, world_draw}
+use Rattle.core_keep.specs.Journal.{is_bounded, is_swept, with_progress, IsKeptWorld}
+use Rattle.core_keep.proofs.Events.{kept_draw}
 use Rattle.core_heads.proofs.Runs.{fresh_run, told_past}
+use Rattle.core_clash.specs.Collecting.{SeesBounded}
 use Rattle.core_clash.specs.Core.{MayBegin, with_writer}
 use Rattle.core_clash.specs.Sessions.{IsTheirs, Running}
 use Rattle.core_clash.proofs.Basics.{decide, is_same_self, not_both, writer_mine, writer_other}
@@ -28,10 +31,10 @@ use Rattle.core_world.specs.Kept.{AreCommitting}
 use Rattle.core_world.proofs.Committers.{at_session}
 use Rattle.core_world.proofs.Paths.{mark_path, paths_once}
 use Rattle.core_world.proofs.Progress.{is_among, progress_with}
-use Rattle.core_world.proofs.Working.{partly_by, world_of}
+use Rattle.core_world.proofs.Working.{world_by, world_of}
 
 module _ (starts : Starts) (says : Says) (proper : StartsProper starts) (clusters : ℕ) (sessions : List ℕ) (nodes : AreNodes clusters sessions)
-    (past : Past) (t : Table) (running : ℕ → Option Running) (a : AreCommitting past t running) (d : Draw) (run : IsRunOf starts says clusters sessions (event.Draw d ∷ past)) where
+    (past : Past) (t : Table) (running : ℕ → Option Running) (a : AreCommitting past t running) (d : Draw) (run : IsRunOf starts says clusters sessions None (event.Draw d ∷ past)) (bounded : SeesBounded past d.base) where
   abbrev later : Past
   later = event.Draw d ∷ past
 
@@ -64,8 +67,23 @@ module _ (starts : Starts) (says : Says) (proper : StartsProper starts) (cluster
   may : MayBegin (core_in past t a.writers) d (paths_to_write d.marks)
   may = may_begin clusters sessions nodes starts says proper (core_in past t a.writers) d (paths_to_write d.marks) run (mark_path d.marks) (paths_once d.marks)
 
-  readable : IsWorld (documents_in t.documents) later (with_progress (λ q. is_among (a.writers q).written) d.revision (λ p. false))
-  readable = world_draw (documents_in t.documents) past _ (world_of past t running a told) d fresh (no_edit past d.revision after_start uncommitted) told_later
+  -- no bound sees it yet
+  unbounded : is_bounded past d.revision ≡ false
+  unbounded = by (is_bounded past d.revision) refl
+    where
+      by : (b : Bool) → is_bounded past d.revision ≡ b → b ≡ false
+      by false h = refl
+      by true h = absurd (false≢true (sym may.begins.itself ∙ (ap (λ (o : Option Draw). option_map_or (λ (e : Draw). sees e.base d.revision) o false) drawn_now ∙ bounded d.revision h)))
+
+  unswept : is_swept past d.revision ≡ false
+  unswept = by (is_swept past d.revision) refl
+    where
+      by : (b : Bool) → is_swept past d.revision ≡ b → b ≡ false
+      by false h = refl
+      by true h = absurd (false≢true (sym unbounded ∙ a.sound.bounds.swept d.revision h))
+
+  readable : IsKeptWorld (documents_in t.documents) later (with_progress (λ q. is_among (a.writers q).written) d.revision (λ p. false))
+  readable = kept_draw (documents_in t.documents) past _ (world_of past t running a told) d fresh (no_edit past d.revision after_start uncommitted) told_later unbounded unswept
 
   -- a revision that was drawn before is another
   other : (r : Revision) (e : Draw) → draw_of past r ≡ Some e → is_same r d.revision ≡ false
@@ -92,9 +110,9 @@ module _ (starts : Starts) (says : Says) (proper : StartsProper starts) (cluster
   pub draw_commits : AreCommitting later t (with_session running d.session (Some (beginning d)))
   draw_commits = record {
     writers = with_writer a.writers d.revision (beginning d).writer;
-    sound = draw_keeps (core_in past t a.writers) d (paths_to_write d.marks) a.sound may;
+    sound = draw_keeps (core_in past t a.writers) d (paths_to_write d.marks) a.sound may bounded;
     theirs = theirs;
     listed = at_session (λ q (y : Running). y.writer.paths ≡ paths_to_write y.draw.marks) running d.session (beginning d) refl (λ q y f h. a.listed q y h);
-    holds = readable.holds;
-    partly = partly_by (documents_in t.documents) later _ (λ q. is_among (with_writer a.writers d.revision (beginning d).writer q).written) (progress_with a.writers d.revision (beginning d).writer (λ p. false) (λ p. refl)) readable;
+    kept = world_by (documents_in t.documents) later _ (λ q. is_among (with_writer a.writers d.revision (beginning d).writer q).written) (progress_with a.writers d.revision (beginning d).writer (λ p. false) (λ p. refl)) readable;
+    unstopped = a.unstopped;
   }

@@ -1,6 +1,6 @@
 -- The draw of a commit, and the end of its revision, keep the world.
-use Rattle.std.proofs.Common.{◌≡◌, ℕ, ◌≤◌, Bool, true, false, cond, ◌||◌, Some, None, Option, List, [], ◌∷◌, is_some, refl, sym, ap, subst, ◌∙◌}
-use Rattle.std.specs.Prelude.{◌==◌, slice_get}
+use Rattle.std.proofs.Common.{◌≡◌, ℕ, ◌≤◌, Bool, true, false, cond, Some, None, Option, List, ◌∷◌, is_some, refl, sym, ap, subst, ◌∙◌}
+use Rattle.std.specs.Prelude.{slice_get}
 use Rattle.std.specs.Option.{option_map_or, unwrap_or}
 use mathlib.Core.Bool.{false≢true}
 use Rattle.jr_path.specs.declared.path.Path.{Path}
@@ -20,64 +20,67 @@ use Rattle.oak_machine.specs.Sessions.{base_of, has_left, has_login, is_attached
 use Rattle.oak_node.specs.Heads.{finished, next_draw, with_draw}
 use Rattle.oak_node.specs.Memory.{NodeState, own_entry}
 use Rattle.oak_node.specs.Pins.{pin_of}
+use Rattle.core_clash.specs.Collecting.{SeesBounded}
 use Rattle.core_clash.specs.Sessions.{IsTheirs, Running}
-use Rattle.core_nodes.specs.Nodes.{session_pin}
+use Rattle.core_nodes.specs.Nodes.{IsPair, base_of_pin, pinned_at, session_base}
 use Rattle.core_nodes.proofs.Events.{next_is}
+use Rattle.core_nodes.proofs.Pins.{session_owner}
 use Rattle.core_world.specs.States.{State, base_in, history_in, memory_at, memory_of, node_of, with_memory, with_session}
 use Rattle.core_world.specs.Steps.{IsThrough, after_draw, after_finish, after_notes, beginning, draw_in, memories_with}
-use Rattle.core_world.specs.Kept.{AreAtWork, AreMemories, IsKept}
+use Rattle.core_world.specs.Kept.{AreAtWork, AreMemories, AreSessionsKept}
 use Rattle.core_world.proofs.Committers.{at_idle, at_idle_now, at_others, at_session}
 use Rattle.core_world.proofs.Commits.{drawn, its, on_its_node}
 use Rattle.core_world.proofs.Drawing.{draw_commits}
 use Rattle.core_world.proofs.Finishing.{finish_commits, quiet_commits}
-use Rattle.core_world.proofs.Flights.{drawn_idle, ended_idle, number_itself, still_idle}
-use Rattle.core_world.proofs.Lives.{its_node, on_node, session_there, told}
+use Rattle.core_world.proofs.Flights.{drawn_idle, ended_idle, still_idle}
+use Rattle.core_world.proofs.Lives.{reads_calm, its_node, on_node, runs_on, session_there, told}
 use Rattle.core_world.proofs.Memories.{aside, draw_memories, end_memories, set_here}
-use Rattle.core_world.proofs.Readers.{quiet_reads, session_pinned}
-
--- a session that has logged in and isn't attached has a base
-pub base_there : (past : Past) (s : ℕ) → has_login past s ≡ true → is_attached past s ≡ false → is_some (base_of past s) ≡ true
-base_there [] s login detached = absurd (false≢true login)
-base_there (event.Login t v ∷ past) s login detached = by (λ l d. base_there past s l d) (t == s) login detached
-  where
-    by : (has_login past s ≡ true → is_attached past s ≡ false → is_some (base_of past s) ≡ true) → (b : Bool) → (b || has_login past s) ≡ true → cond b false (is_attached past s) ≡ false → is_some (cond b (Some v) (base_of past s)) ≡ true
-    by rest true l d = refl
-    by rest false l d = rest l d
-base_there (event.Refresh t v ∷ past) s login detached = by (λ d. base_there past s login d) (t == s) detached
-  where
-    by : (is_attached past s ≡ false → is_some (base_of past s) ≡ true) → (b : Bool) → cond b false (is_attached past s) ≡ false → is_some (cond b (Some v) (base_of past s)) ≡ true
-    by rest true d = refl
-    by rest false d = rest d
-base_there (event.Attach t id ∷ past) s login detached = by (λ d. base_there past s login d) (t == s) detached
-  where
-    by : (is_attached past s ≡ false → is_some (base_of past s) ≡ true) → (b : Bool) → cond b true (is_attached past s) ≡ false → is_some (cond b (Rattle.oak_machine.specs.Sessions.last_checkpoint past id) (base_of past s)) ≡ true
-    by rest true d = absurd (false≢true (sym d))
-    by rest false d = rest d
-base_there (e ∷ past) s login detached = base_there past s login detached
+use Rattle.core_world.proofs.Readers.{detached_base, session_based, some_pinned}
 
 some_base : (o : Option RevVec) → is_some o ≡ true → (v : RevVec) × (o ≡ Some v)
 some_base None h = absurd (false≢true h)
 some_base (Some v) h = (v, refl)
 
-module _ (starts : Starts) (says : Says) (proper : StartsProper starts) (w : State) (kept : IsKept starts says w) where
+module _ (starts : Starts) (says : Says) (proper : StartsProper starts) (w : State) (kept : AreSessionsKept starts says w) where
   -- ---- the pin of a session
 
-  -- a node's memory has the session's pin
-  pub its_pin : (s : ℕ) → is_some (slice_get w.sessions s) ≡ true → pin_of (memory_of w s) s ≡ session_pin w.clusters w.past s
-  its_pin s there =
-      kept.memories.pins (node_of w s) (its_node starts says proper w kept s there) s
-      ∙ ap (λ b. cond b (session_pin w.clusters w.past s) None) (ap (λ o. option_map_or (λ m. m == node_of w s) o false) (on_node starts says proper w kept s there) ∙ number_itself (node_of w s))
+  -- a node's memory has the session's pin, at its base
+  pub its_base : (s : ℕ) → is_some (slice_get w.sessions s) ≡ true → base_of_pin (pin_of (memory_of w s) s) ≡ session_base w.past s
+  its_base s there =
+      (kept.memories.pins (node_of w s) (its_node starts says proper w kept s there)).bases s
+      ∙ session_owner w.sessions w.past (node_of w s) s (on_node starts says proper w kept s there)
+
+  pub its_pair : (s : ℕ) → is_some (slice_get w.sessions s) ≡ true → (pin : Pin) → pin_of (memory_of w s) s ≡ Some pin → IsPair pin.base pin.sweep
+  its_pair s there pin h = (kept.memories.pins (node_of w s) (its_node starts says proper w kept s there)).pairs s pin h
 
   module _ (s : ℕ) (login : has_login w.past s ≡ true) (stays : has_left w.past s ≡ false) where
-    -- the base of the session's pin is its base
-    pub base_is : base_of w.past s ≡ Some (base_in w s)
-    base_is =
-        let v = some_base (base_of w.past s) (base_there w.past s login (kept.detached s)) in
-        v.1 ∙ sym (ap (λ (o : Option Pin). Some (option_map_or (λ (pin : Pin). pin.base) o (memory_of w s).head)) (its_pin s (session_there starts says proper w kept s login) ∙ session_pinned w.clusters w.past s v.0 login stays v.1))
+    pinned_there : base_of_pin (pin_of (memory_of w s) s) ≡ pinned_at w.past s
+    pinned_there =
+        let v = some_base (pinned_at w.past s) (some_pinned w.past s login) in
+        its_base s (session_there starts says proper w kept s login) ∙ (session_based w.past s v.0 login stays v.1 ∙ sym v.1)
+
+    -- a session that is there has a pin
+    pub some_pin : (pin : Pin) × (pin_of (memory_of w s) s ≡ Some pin)
+    some_pin = by (pin_of (memory_of w s) s) refl (ap is_some pinned_there ∙ some_pinned w.past s login)
+      where
+        by : (o : Option Pin) → pin_of (memory_of w s) s ≡ o → is_some (base_of_pin o) ≡ true → (pin : Pin) × (pin_of (memory_of w s) s ≡ Some pin)
+        by None e h = absurd (false≢true h)
+        by (Some pin) e h = (pin, e)
+
+    -- the base of the session's pin
+    pub pinned_is : pinned_at w.past s ≡ Some (base_in w s)
+    pinned_is =
+        sym pinned_there
+        ∙ (ap base_of_pin some_pin.1
+        ∙ sym (ap (λ (o : Option Pin). Some (option_map_or (λ (pin : Pin). pin.base) o (memory_of w s).head)) some_pin.1))
+
+    -- is its base, where it isn't attached
+    pub base_is : is_attached w.past s ≡ false → base_of w.past s ≡ Some (base_in w s)
+    base_is detached = detached_base w.past s detached ∙ pinned_is
 
     -- ---- a draw
 
-    module _ (none : w.running s ≡ None) (edit : Edit) (marks : List MarkAt) (lawful : starts (history_in w) s edit marks) where
+    module _ (detached : is_attached w.past s ≡ false) (none : w.running s ≡ None) (edit : Edit) (marks : List MarkAt) (lawful : starts (history_in w) s edit marks) (bounded : SeesBounded w.past (base_in w s)) where
       abbrev d : Draw
       d = draw_in w s edit marks
 
@@ -92,16 +95,17 @@ module _ (starts : Starts) (says : Says) (proper : StartsProper starts) (w : Sta
 
       pub may_draw : MayDraw starts (history_in w) (draw_in w s edit marks)
       may_draw = record {
+        running = runs_on starts says w kept s;
         login = login;
-        detached = kept.detached s;
+        detached = detached;
         idle = kept.working.idle s none;
-        base = base_is;
+        base = base_is detached;
         cluster = on_node starts says proper w kept s there ∙ ap (λ k. Some k) (sym same_node);
-        next = next_is w.clusters w.past (node_of w s) (memory_of w s) (kept.memories.memory (node_of w s) node) ∙ ap (λ k. Rattle.oak_machine.specs.Heads.next_draw w.clusters w.past k) (sym same_node);
+        next = next_is w.clusters w.past (node_of w s) (memory_of w s) (kept.memories.memory (node_of w s) node) ∙ ap (λ k. Rattle.oak_machine.specs.Heads.next_draw w.clusters None w.past k) (sym same_node);
         lawful = lawful;
       }
 
-      run : IsRunOf starts says w.clusters w.sessions (event.Draw d ∷ w.past)
+      run : IsRunOf starts says w.clusters w.sessions None (event.Draw d ∷ w.past)
       run = (may_draw, kept.run)
 
       working : AreAtWork (event.Draw d ∷ w.past) (with_session w.running s (Some (beginning d)))
@@ -110,16 +114,15 @@ module _ (starts : Starts) (says : Says) (proper : StartsProper starts) (w : Sta
         stays = at_session (λ q (z : Running). has_left w.past q ≡ false) w.running s (beginning d) stays (λ q z f h. kept.working.stays q z h);
       }
 
-      pub draw_keeps : (paths : List Path) → IsKept starts says (after_draw w s edit marks paths)
+      pub draw_keeps : (paths : List Path) → AreSessionsKept starts says (after_draw w s edit marks paths)
       draw_keeps paths = record {
         nodes = kept.nodes;
         run = run;
-        detached = kept.detached;
-        committing = draw_commits starts says proper w.clusters w.sessions kept.nodes w.past w.table w.running kept.committing d run;
+        committing = draw_commits starts says proper w.clusters w.sessions kept.nodes w.past w.table w.running kept.committing d run bounded;
         working = working;
         memories = subst (λ (k : ℕ). AreMemories w.clusters w.sessions (event.Draw d ∷ w.past) (with_memory w.memories k (after_notes d.revision (with_draw (memory_at w.memories k) d.revision) paths))) same_node
             (draw_memories starts says w.clusters w.sessions kept.nodes w.past w.memories kept.memories d run (ap (λ k. next_draw (memory_at w.memories k)) (sym same_node)) paths);
-        readers = quiet_reads w.clusters w.past w.table w.reading kept.readers (event.Draw d) (λ q. refl) (λ q r h. refl);
+        readers = reads_calm starts says proper w kept (event.Draw d) (λ q. refl) refl (λ q r h. refl);
       }
 
   -- ---- the end of a revision
@@ -144,7 +147,7 @@ module _ (starts : Starts) (says : Says) (proper : StartsProper starts) (w : Sta
     its_cluster : IsNode w.clusters r.cluster
     its_cluster = kept.nodes.node s r.cluster (on_its_node starts says proper w kept s x here)
 
-    run_ended : IsRunOf starts says w.clusters w.sessions later
+    run_ended : IsRunOf starts says w.clusters w.sessions None later
     run_ended = (Rattle.core_clash.proofs.Pasts.in_flight w.past r x.draw mine.draw mine.unended, kept.run)
 
     ended_memories : AreMemories w.clusters w.sessions later (memories_with w s done)
@@ -155,43 +158,41 @@ module _ (starts : Starts) (says : Says) (proper : StartsProper starts) (w : Sta
     now_idle : is_drawing later s ≡ false
     now_idle = subst (λ (n : ℕ). is_drawing later n ≡ false) mine.session (ended_idle starts says w.clusters w.sessions w.past r x.draw kept.run mine.draw mine.unended)
 
-    ended_kept : IsKept starts says (record w { past = event.End x.draw.revision ∷ w.past; memories = memories_with w s (finished (memory_of w s) x.draw.revision); running = with_session w.running s None })
+    ended_kept : AreSessionsKept starts says (record w { past = event.End x.draw.revision ∷ w.past; memories = memories_with w s (finished (memory_of w s) x.draw.revision); running = with_session w.running s None })
     ended_kept = record {
       nodes = kept.nodes;
       run = run_ended;
-      detached = kept.detached;
       committing = finish_commits w.past w.table w.running kept.committing (told starts says proper w kept) s x here through;
       working = record {
         idle = at_idle_now (λ q. is_drawing later q ≡ false) w.running s now_idle (λ q f h. still_idle (event.End r) w.past q refl (kept.working.idle q h));
         stays = at_others (λ q (z : Running). has_left w.past q ≡ false) w.running s (λ q z f h. kept.working.stays q z h);
       };
       memories = ended_memories;
-      readers = quiet_reads w.clusters w.past w.table w.reading kept.readers (event.End r) (λ q. refl) (λ q y h. refl);
+      readers = reads_calm starts says proper w kept (event.End r) (λ q. refl) refl (λ q y h. refl);
     }
 
 -- ---- the head moves
 
 -- an event of the head of cluster node k, as its memory has it
-module _ (starts : Starts) (says : Says) (proper : StartsProper starts) (w : State) (kept : IsKept starts says w) (k : ℕ) (node : IsNode w.clusters k) where
-  pub head_keeps : IsKept starts says (record w { past = event.Head k (memory_at w.memories k).head ∷ w.past })
+module _ (starts : Starts) (says : Says) (proper : StartsProper starts) (w : State) (kept : AreSessionsKept starts says w) (k : ℕ) (node : IsNode w.clusters k) where
+  pub head_keeps : AreSessionsKept starts says (record w { past = event.Head k (memory_at w.memories k).head ∷ w.past })
   head_keeps =
       let e : Event = event.Head k (memory_at w.memories k).head in
-      let run : IsRunOf starts says w.clusters w.sessions (e ∷ w.past) = ((kept.memories.memory k node).head, kept.run) in
+      let run : IsRunOf starts says w.clusters w.sessions None (e ∷ w.past) = ((kept.committing.unstopped k, (kept.memories.memory k node).head), kept.run) in
       record {
         nodes = kept.nodes;
         run = run;
-        detached = kept.detached;
-        committing = quiet_commits w.past w.table w.running kept.committing (told starts says proper w kept) e refl;
+        committing = quiet_commits w.past w.table w.running kept.committing (told starts says proper w kept) e refl (λ k. refl);
         working = record { idle = λ q h. still_idle e w.past q refl (kept.working.idle q h); stays = kept.working.stays };
         memories = aside starts says w.clusters w.sessions kept.nodes w.past w.memories kept.memories e run (λ j. refl) (λ j. refl);
-        readers = quiet_reads w.clusters w.past w.table w.reading kept.readers e (λ q. refl) (λ q r h. refl);
+        readers = reads_calm starts says proper w kept e (λ q. refl) refl (λ q r h. refl);
       }
 
-module _ (starts : Starts) (says : Says) (proper : StartsProper starts) (w : State) (kept : IsKept starts says w) (s : ℕ) (x : Running) (here : w.running s ≡ Some x) (through : IsThrough x) where
+module _ (starts : Starts) (says : Says) (proper : StartsProper starts) (w : State) (kept : AreSessionsKept starts says w) (s : ℕ) (x : Running) (here : w.running s ≡ Some x) (through : IsThrough x) where
   abbrev ended : State
   ended = record w { past = event.End x.draw.revision ∷ w.past; memories = memories_with w s (finished (memory_of w s) x.draw.revision); running = with_session w.running s None }
 
-  kept_ended : IsKept starts says ended
+  kept_ended : AreSessionsKept starts says ended
   kept_ended = ended_kept starts says proper w kept s x here through
 
   the_node : IsNode w.clusters (node_of w s)
@@ -201,9 +202,9 @@ module _ (starts : Starts) (says : Says) (proper : StartsProper starts) (w : Sta
   set_is : memory_at (memories_with w s (finished (memory_of w s) x.draw.revision)) (node_of w s) ≡ finished (memory_of w s) x.draw.revision
   set_is = set_here w.memories (node_of w s) (finished (memory_of w s) x.draw.revision) the_node.0 (subst (λ (n : ℕ). node_of w s ≤ n) (sym kept.memories.counted) the_node.1)
 
-  moved_kept : (b : Bool) → IsKept starts says (record ended { past = cond b (event.Head (node_of w s) (finished (memory_of w s) x.draw.revision).head ∷ ended.past) ended.past })
+  moved_kept : (b : Bool) → AreSessionsKept starts says (record ended { past = cond b (event.Head (node_of w s) (finished (memory_of w s) x.draw.revision).head ∷ ended.past) ended.past })
   moved_kept false = kept_ended
-  moved_kept true = subst (λ (m : NodeState). IsKept starts says (record ended { past = event.Head (node_of w s) m.head ∷ ended.past })) set_is (head_keeps starts says proper ended kept_ended (node_of w s) the_node)
+  moved_kept true = subst (λ (m : NodeState). AreSessionsKept starts says (record ended { past = event.Head (node_of w s) m.head ∷ ended.past })) set_is (head_keeps starts says proper ended kept_ended (node_of w s) the_node)
 
-  pub finish_keeps : IsKept starts says (after_finish w s x)
+  pub finish_keeps : AreSessionsKept starts says (after_finish w s x)
   finish_keeps = moved_kept (is_before (own_entry (memory_of w s)) (own_entry (finished (memory_of w s) x.draw.revision)))

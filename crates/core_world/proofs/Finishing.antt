@@ -1,5 +1,6 @@
 -- A revision ends, with its committer; and events that touch no committer.
-use Rattle.std.proofs.Common.{◌≡◌, inl, inr, ℕ, true, false, ◌||◌, Some, None, Option, List, ◌∷◌, refl, sym, ap, ◌∙◌}
+use Rattle.core_keep.specs.Journal.{is_swept}
+use Rattle.std.proofs.Common.{◌≡◌, inl, inr, ℕ, Bool, true, false, ◌||◌, Some, None, Option, List, ◌∷◌, refl, sym, ap, ◌∙◌}
 use mathlib.Core.Bool.{false≢true}
 use Rattle.jr_path.specs.declared.path.Path.{Path}
 use Rattle.jr_rev.specs.declared.revision.Revision.{Revision}
@@ -8,13 +9,15 @@ use Rattle.oak_doc.specs.declared.document.Document.{Document}
 use Rattle.oak_machine.specs.declared.event.Event.{Event}
 use Rattle.oak_machine.specs.declared.event.Event.TheVariants as event
 use Rattle.oak_machine.specs.History.{Past}
-use Rattle.oak_machine.specs.Commits.{is_committed, is_ended}
+use Rattle.oak_machine.specs.Commits.{is_committed, is_ended, is_in_flight}
+use Rattle.oak_machine.specs.Sessions.{is_stop_of, is_stopped}
 use Rattle.oak_read.specs.Meaning.{documents_in}
 use Rattle.oak_store.specs.Tables.{Table}
 use Rattle.core_read.specs.Holds.{edit_of, has_revision}
 use Rattle.core_read.specs.Told.{IsTold}
-use Rattle.core_read.specs.World.{IsWorld}
-use Rattle.core_read.proofs.World.{world_end, world_quiet}
+use Rattle.core_keep.specs.Journal.{is_idle, IsKeptWorld}
+use Rattle.core_keep.proofs.Events.{kept_end, kept_idle}
+use Rattle.core_keep.proofs.World.{unsaid_at}
 use Rattle.core_clash.specs.Core.{IsDone, MayFinish, is_quiet, root_of}
 use Rattle.core_clash.specs.Sessions.{IsTheirs, Running}
 use Rattle.core_clash.proofs.Finished.{event_keeps, finish_keeps}
@@ -23,7 +26,7 @@ use Rattle.core_world.specs.Steps.{IsThrough, paths_to_write}
 use Rattle.core_world.specs.Kept.{AreCommitting}
 use Rattle.core_world.proofs.Committers.{at_others, of_others}
 use Rattle.core_world.proofs.Progress.{is_among}
-use Rattle.core_world.proofs.Working.{mine, world_of}
+use Rattle.core_world.proofs.Working.{flies, mine, world_of}
 
 -- what a document notes as committed it has
 noted_said : (o : Option Document) (r : Revision) → noted o r ≡ has_revision o r
@@ -31,9 +34,17 @@ noted_said None r = refl
 noted_said (Some d) r = refl
 
 module _ (past : Past) (t : Table) (running : ℕ → Option Running) (a : AreCommitting past t running) (told : IsTold past) where
-  -- what is committed has an edit
-  pub committed_edit : {A : Type 0} (r : Revision) → is_committed past r ≡ true → edit_of past r ≡ None → A
-  committed_edit r c none = absurd (false≢true (sym (a.holds.unsaid (root_of past r) r none) ∙ (sym (noted_said (nodes_in t (root_of past r)) r) ∙ a.sound.status r c)))
+  -- what is committed, and no bound has swept, has an edit
+  pub committed_edit : {A : Type 0} (r : Revision) → is_swept past r ≡ false → is_committed past r ≡ true → edit_of past r ≡ None → A
+  committed_edit r fresh c none = absurd (false≢true (sym (unsaid_at (documents_in t.documents) past _ a.kept (root_of past r) r none) ∙ (sym (noted_said (nodes_in t (root_of past r)) r) ∙ a.sound.status r fresh c)))
+
+  -- no bound has swept what is in flight
+  pub unswept : (r : Revision) → is_in_flight past r ≡ true → is_swept past r ≡ false
+  unswept r flies = by (is_swept past r) refl
+    where
+      by : (b : Bool) → is_swept past r ≡ b → b ≡ false
+      by false h = refl
+      by true h = absurd (false≢true (sym (a.sound.bounds.settled r flies) ∙ a.sound.bounds.swept r h))
 
   module _ (s : ℕ) (x : Running) (here : running s ≡ Some x) (through : IsThrough x) where
     abbrev r : Revision
@@ -56,11 +67,11 @@ module _ (past : Past) (t : Table) (running : ℕ → Option Running) (a : AreCo
     nothing_left none p = by done
       where
         by : IsDone (core_in past t a.writers) r → is_among (a.writers r).written p ≡ false
-        by (inl c) = committed_edit r c none
+        by (inl c) = committed_edit r (unswept r (flies past t running a told s x here)) c none
         by (inr u) = ap (λ (ps : List Path). is_among ps p) u.1
 
-    readable : IsWorld (documents_in t.documents) later (λ q. is_among (a.writers q).written)
-    readable = world_end (documents_in t.documents) past _ (world_of past t running a told) r x.draw may_finish.draw nothing_left
+    readable : IsKeptWorld (documents_in t.documents) later (λ q. is_among (a.writers q).written)
+    readable = kept_end (documents_in t.documents) past _ (world_of past t running a told) r x.draw may_finish.draw (flies past t running a told s x here) nothing_left
 
     theirs : (q : ℕ) (y : Running) → with_session running s None q ≡ Some y → IsTheirs later a.writers q y
     theirs = at_others (IsTheirs later a.writers) running s
@@ -75,8 +86,8 @@ module _ (past : Past) (t : Table) (running : ℕ → Option Running) (a : AreCo
       sound = finish_keeps (core_in past t a.writers) x.draw a.sound may_finish;
       theirs = theirs;
       listed = at_others (λ q (y : Running). y.writer.paths ≡ paths_to_write y.draw.marks) running s (λ q y f h. a.listed q y h);
-      holds = readable.holds;
-      partly = readable.partly;
+      kept = readable;
+      unstopped = a.unstopped;
     }
 
 -- ---- other events
@@ -87,20 +98,21 @@ theirs_quiet (event.Commit r) past writers q y h its = absurd (false≢true h)
 theirs_quiet (event.End r) past writers q y h its = absurd (false≢true h)
 theirs_quiet e past writers q y h its = record { session = its.session; draw = its.draw; unended = its.unended; committed = its.committed; writer = its.writer }
 
-clash_quiet : (e : Event) → is_quiet e ≡ true → Rattle.core_read.proofs.Steps.is_quiet e ≡ true
+clash_quiet : (e : Event) → is_quiet e ≡ true → is_idle e ≡ true
 clash_quiet (event.Draw d) h = h
 clash_quiet (event.Commit r) h = h
 clash_quiet (event.End r) h = h
+clash_quiet (event.Bound m t) h = h
 clash_quiet e h = refl
 
-pub quiet_commits : (past : Past) (t : Table) (running : ℕ → Option Running) → AreCommitting past t running → IsTold past → (e : Event) → is_quiet e ≡ true → AreCommitting (e ∷ past) t running
-quiet_commits past t running a told e quiet =
-    let readable : IsWorld (documents_in t.documents) (e ∷ past) (λ q. is_among (a.writers q).written) = world_quiet (documents_in t.documents) past _ e (clash_quiet e quiet) (world_of past t running a told) in
+pub quiet_commits : (past : Past) (t : Table) (running : ℕ → Option Running) → AreCommitting past t running → IsTold past → (e : Event) → is_quiet e ≡ true → ((k : ℕ) → is_stop_of k e ≡ false) → AreCommitting (e ∷ past) t running
+quiet_commits past t running a told e quiet on =
+    let readable : IsKeptWorld (documents_in t.documents) (e ∷ past) (λ q. is_among (a.writers q).written) = kept_idle (documents_in t.documents) past _ e (clash_quiet e quiet) (world_of past t running a told) in
     record {
       writers = a.writers;
       sound = event_keeps (core_in past t a.writers) e quiet a.sound;
       theirs = λ q y h. theirs_quiet e past a.writers q y quiet (a.theirs q y h);
       listed = a.listed;
-      holds = readable.holds;
-      partly = readable.partly;
+      kept = readable;
+      unstopped = λ k. ap (λ b. b || is_stopped past k) (on k) ∙ a.unstopped k;
     }

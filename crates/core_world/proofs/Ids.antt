@@ -24,7 +24,7 @@ use Rattle.oak_clash.specs.declared.mark.MarkAt.{MarkAt}
 use Rattle.oak_commit.specs.Writing.{written_ids}
 use Rattle.core_read.specs.Commits.{Each}
 use Rattle.core_read.specs.Holds.{is_at_path}
-use Rattle.core_read.specs.Items.{here_of, put_of, written}
+use Rattle.jr_tree.specs.Items.{here_of, put_of, written}
 use Rattle.core_read.specs.Told.{IsIn}
 use Rattle.core_read.proofs.Entries.{first, second, sorted_insert}
 use Rattle.core_world.proofs.Tables.{one_id}

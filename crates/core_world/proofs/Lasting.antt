@@ -23,9 +23,13 @@ use Rattle.oak_store.specs.Tables.{Table, next_number, with_document}
 use Rattle.jr_rev.specs.declared.vector.RevVec.{RevVec}
 use Rattle.core_read.specs.Holds.{is_at_path}
 use Rattle.core_read.specs.Told.{IsIn, IsInUse, IsTold}
-use Rattle.core_read.specs.World.{IsWorld}
 use Rattle.core_read.proofs.Updates.{last_same}
-use Rattle.core_read.proofs.World.{world_last}
+use Rattle.core_keep.specs.Journal.{IsKeptWorld}
+use Rattle.core_keep.specs.Steps.{IsMainAt}
+use Rattle.core_keep.proofs.Events.{kept_last}
+use Rattle.core_watch.proofs.GoingOn.{on_last}
+use Rattle.core_world.proofs.Letting.{LetsRead, lets_on, lists_main}
+use Rattle.core_read.specs.Holds.{IsSameBut}
 use Rattle.core_clash.specs.Core.{Docs, MayLast, root_of}
 use Rattle.core_clash.specs.Sessions.{IsTheirs, Running}
 use Rattle.core_clash.specs.Sound.{Sound}
@@ -34,17 +38,15 @@ use Rattle.core_clash.proofs.Basics.{is_same_self}
 use Rattle.core_clash.proofs.Committed.{commit_keeps}
 use Rattle.core_clash.proofs.Steps.{may_commit}
 use Rattle.core_clash.proofs.Updates.{notes}
-use Rattle.core_watch.specs.Copies.{IsSteady}
-use Rattle.core_watch.proofs.Steady.{last_steady}
-use Rattle.core_world.specs.States.{core_in, nodes_in, with_session}
+use Rattle.core_world.specs.States.{core_in, moved_in, nodes_in, with_session}
 use Rattle.core_world.specs.Steps.{paths_to_write}
 use Rattle.core_world.specs.Kept.{AreCommitting}
 use Rattle.core_world.proofs.Committers.{at_session, of_others}
 use Rattle.core_world.proofs.Ids.{IsWrittenIn, written_at}
 use Rattle.core_world.proofs.Paths.{in_is}
 use Rattle.core_world.proofs.Progress.{among_in, is_among}
-use Rattle.core_world.proofs.Tables.{put_node, put_write}
-use Rattle.core_world.proofs.Working.{goes, mine, world_of}
+use Rattle.core_world.proofs.Tables.{moved_stays, put_main, put_node}
+use Rattle.core_world.proofs.Working.{goes, kept_name, mine, world_of}
 
 module _ (past : Past) (t : Table) (running : ℕ → Option Running) (a : AreCommitting past t running) (told : IsTold past) (s : ℕ) (x : Running) (here : running s ≡ Some x) (uncommitted : x.committed ≡ false) (going : x.writer.undoing ≡ false)
     (unmet : x.writer.due ≡ []) (none_left : x.writer.left ≡ []) where
@@ -99,15 +101,22 @@ module _ (past : Past) (t : Table) (running : ℕ → Option Running) (a : AreCo
     pub commit_follows : MayCommit past x.draw.revision
     commit_follows = may_commit (core_in past t a.writers) x.draw a.sound may_last free_there
 
-    sound_at : (ms : List MarkAt) → marks_of past r ≡ ms → Sound (record { number = next_number t; docs = Rattle.core_clash.specs.Core.with_document (nodes_in t) (commit_root ms) (doc ms); past = later; writers = a.writers })
-    sound_at ms is = subst (λ (ms : List MarkAt). Sound (record { number = next_number t; docs = Rattle.core_clash.specs.Core.with_document (nodes_in t) (commit_root ms) (doc ms); past = later; writers = a.writers })) is
+    sound_at : (ms : List MarkAt) → marks_of past r ≡ ms → Sound (record { number = next_number t; docs = Rattle.core_clash.specs.Core.with_document (nodes_in t) (commit_root ms) (doc ms); moved = moved_in t; past = later; writers = a.writers })
+    sound_at ms is = subst (λ (ms : List MarkAt). Sound (record { number = next_number t; docs = Rattle.core_clash.specs.Core.with_document (nodes_in t) (commit_root ms) (doc ms); moved = moved_in t; past = later; writers = a.writers })) is
         (commit_keeps (core_in past t a.writers) x.draw (next_number t) (Rattle.core_clash.specs.Core.with_document (nodes_in t) (root_of past r) (doc (marks_of past r))) a.sound may_last (notes (nodes_in t) past r (next_number t) free_there))
 
-    sound : Sound (core_in later now a.writers)
-    sound = subst (λ (docs : Docs). Sound (record { number = next_number t; docs = docs; past = later; writers = a.writers })) (sym (put_node t (commit_root x.draw.marks) (doc x.draw.marks) (next_number t))) (sound_at x.draw.marks marks_are)
+    main : IsMainAt (documents_in t.documents) (documents_in now.documents) (commit_root x.draw.marks) (doc x.draw.marks)
+    main = put_main t (commit_root x.draw.marks) (doc x.draw.marks) (next_number t)
 
-    readable : IsWorld (documents_in now.documents) later (λ q. is_among (a.writers q).written)
-    readable = world_last (documents_in t.documents) (documents_in now.documents) past _ (world_of past t running a told) r x.draw may_last.going.draw commit_follows all_written (op x.draw.marks) (next_number t) refl refl (put_write t (commit_root x.draw.marks) (doc x.draw.marks) (next_number t))
+    same_but : IsSameBut r (commit_root x.draw.marks) (nodes_in t (commit_root x.draw.marks)) (doc x.draw.marks)
+    same_but = last_same r (commit_root x.draw.marks) (nodes_in t (commit_root x.draw.marks)) (op x.draw.marks) (next_number t) refl (kept_name (documents_in t.documents) past _ a.kept (commit_root x.draw.marks)) refl
+
+    sound : Sound (core_in later now a.writers)
+    sound = subst (λ (docs : Docs). Sound (record { number = next_number t; docs = docs; moved = moved_in now; past = later; writers = a.writers })) (sym (put_node t (commit_root x.draw.marks) (doc x.draw.marks) (next_number t)))
+        (subst (λ (moved : Path → List Document). Sound (record { number = next_number t; docs = Rattle.core_clash.specs.Core.with_document (nodes_in t) (commit_root x.draw.marks) (doc x.draw.marks); moved = moved; past = later; writers = a.writers })) (sym (moved_stays t now (commit_root x.draw.marks) (doc x.draw.marks) main same_but.whole)) (sound_at x.draw.marks marks_are))
+
+    readable : IsKeptWorld (documents_in now.documents) later (λ q. is_among (a.writers q).written)
+    readable = kept_last (documents_in t.documents) (documents_in now.documents) past _ (world_of past t running a told) r x.draw may_last.going.draw commit_follows all_written (op x.draw.marks) (next_number t) refl refl main
 
     theirs : (q : ℕ) (y : Running) → with_session running s (Some (record { draw = x.draw; writer = x.writer; committed = true })) q ≡ Some y → IsTheirs later a.writers q y
     theirs = at_session (IsTheirs later a.writers) running s _
@@ -123,12 +132,12 @@ module _ (past : Past) (t : Table) (running : ℕ → Option Running) (a : AreCo
       sound = sound;
       theirs = theirs;
       listed = at_session (λ q (y : Running). y.writer.paths ≡ paths_to_write y.draw.marks) running s _ (a.listed s x here) (λ q y f h. a.listed q y h);
-      holds = readable.holds;
-      partly = readable.partly;
+      kept = readable;
+      unstopped = a.unstopped;
     }
 
-    -- a vector in use sees what it saw
-    pub commit_steady : (v : RevVec) → IsInUse past v → IsSteady v (documents_in t.documents) (documents_in now.documents) past later
-    commit_steady v used =
-        last_steady v (documents_in t.documents) (documents_in now.documents) past r x.draw (commit_root x.draw.marks) (doc x.draw.marks) told used commit_follows may_last.going.draw (put_write t (commit_root x.draw.marks) (doc x.draw.marks) (next_number t))
-        (last_same r (commit_root x.draw.marks) (nodes_in t (commit_root x.draw.marks)) (op x.draw.marks) (next_number t) refl (a.holds.named (commit_root x.draw.marks)) refl)
+    -- readers read on
+    pub commit_lets : LetsRead t now past later
+    commit_lets = lets_on t now past later
+        (λ pin ever held. on_last pin ever (documents_in t.documents) (documents_in now.documents) past _ (world_of past t running a told) held r x.draw (op x.draw.marks) (next_number t) may_last.going.draw commit_follows refl refl main readable)
+        (lists_main (documents_in t.documents) (documents_in now.documents) (commit_root x.draw.marks) (doc x.draw.marks) main same_but.whole) (λ q. refl) (λ q. refl)

@@ -1,4 +1,5 @@
 pub mod Tables
+pub mod Letting
 pub mod Flights
 pub mod Committers
 pub mod Ids
@@ -25,5 +26,25 @@ pub mod Others
 pub mod Tabled
 pub mod Named
 pub mod Truths
+pub mod Roots
+pub mod Rooted
+pub mod Setting
+pub mod Telling
+pub mod Backs
+pub mod Checkpoints
+pub mod Attaching
+pub mod Keeping
 pub mod Rows
 mod Chain
+pub mod Layers
+pub mod Held
+pub mod Bounded
+pub mod Rising
+pub mod Changing
+pub mod Collects
+pub mod Splitting
+pub mod Seated
+pub mod Whole
+pub mod Collected
+pub mod Unsplit
+pub mod Shadowed

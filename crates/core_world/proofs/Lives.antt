@@ -11,21 +11,28 @@ use Rattle.oak_machine.specs.declared.event.StepKind.TheVariants as kind
 use Rattle.oak_machine.specs.Heads.{head_of}
 use Rattle.oak_machine.specs.Laws.{Says, Starts, StartsProper}
 use Rattle.oak_machine.specs.Runs.{IsNode, IsRunOf}
-use Rattle.oak_machine.specs.Sessions.{has_left, has_login, is_attached, is_end_of_session, next_index}
+use Rattle.oak_machine.specs.Sessions.{has_left, has_login, is_end_of_session, is_stopped, is_stopped_under, next_index}
 use Rattle.oak_machine.specs.Steps.{is_kind}
 use Rattle.oak_read.specs.declared.reader.Reader.{Reader}
 use Rattle.core_read.specs.Told.{IsTold}
-use Rattle.core_heads.proofs.Runs.{told_past}
+use Rattle.jr_rev.specs.declared.revision.Revision.{Revision}
+use Rattle.oak_machine.specs.Commits.{is_commit_of}
+use Rattle.jr_rev.specs.declared.vector.Pin.{Pin}
+use Rattle.oak_node.specs.Pins.{pin_of}
+use Rattle.core_heads.proofs.Runs.{held_in_use, sound_run, told_past}
+use Rattle.core_read.specs.Told.{IsInUse}
+use Rattle.core_keep.specs.Journal.{IsHeld as IsHeldPair}
 use Rattle.core_clash.specs.Sessions.{Running}
-use Rattle.core_nodes.specs.Nodes.{moved_pin}
+use Rattle.core_nodes.specs.Nodes.{cursor_owner, moved_pin}
 use Rattle.core_world.specs.States.{State, history_in, memory_of, node_of}
-use Rattle.core_world.specs.Steps.{after_leave, after_login, after_refresh, after_said, after_went}
-use Rattle.core_world.specs.Kept.{IsKept}
+use Rattle.core_world.specs.Steps.{after_leave, after_login, after_observe, after_refresh, after_said, after_went}
+use Rattle.core_world.specs.Kept.{AreReading, AreSessionsKept, has_written}
+use Rattle.core_world.proofs.Letting.{is_bound}
 use Rattle.core_world.proofs.Finishing.{quiet_commits}
 use Rattle.core_world.proofs.Flights.{same_number, still_idle}
 use Rattle.core_world.proofs.Logged.{login_node, some_number}
-use Rattle.core_world.proofs.Memories.{aside, leave_memories, login_memories, refresh_memories}
-use Rattle.core_world.proofs.Readers.{pin_reads, pinned_is, quiet_reads}
+use Rattle.core_world.proofs.Memories.{aside, leave_memories, login_memories, observe_memories, refresh_memories}
+use Rattle.core_world.proofs.Readers.{pin_reads, live_is, moved_base, moves_base_of, pair_held, quiet_reads}
 
 pub chosen_false : (b c : Bool) → c ≡ false → cond b false c ≡ false
 chosen_false true c h = refl
@@ -36,11 +43,20 @@ pub goes_not : (s : ℕ) (k : StepKind) → is_kind k kind.End ≡ false → (q 
 goes_not s kind.End h q = absurd (false≢true (sym h))
 goes_not s k h q = refl
 
-pub moves_no_pin : (s : ℕ) (k : StepKind) → is_kind k kind.End ≡ false → moved_pin (event.Went s k) ≡ None
-moves_no_pin s kind.End h = absurd (false≢true (sym h))
-moves_no_pin s k h = refl
+pub moves_no_pin : (s : ℕ) (k : StepKind) → is_kind k kind.End ≡ false → is_kind k kind.Pin ≡ false → moved_pin (event.Went s k) ≡ None
+moves_no_pin s kind.End h i = absurd (false≢true (sym h))
+moves_no_pin s kind.Pin h i = absurd (false≢true (sym i))
+moves_no_pin s k h i = refl
 
-module _ (starts : Starts) (says : Says) (proper : StartsProper starts) (w : State) (kept : IsKept starts says w) where
+-- the cluster node of a session wasn't stopped
+pub runs_on : (starts : Starts) (says : Says) (w : State) → AreSessionsKept starts says w → (s : ℕ) → is_stopped_under w.sessions w.past s ≡ false
+runs_on starts says w kept s = by (slice_get w.sessions s)
+  where
+    by : (o : Option ℕ) → option_map_or (is_stopped w.past) o false ≡ false
+    by None = refl
+    by (Some k) = kept.committing.unstopped k
+
+module _ (starts : Starts) (says : Says) (proper : StartsProper starts) (w : State) (kept : AreSessionsKept starts says w) where
   pub told : IsTold w.past
   told = told_past w.clusters w.sessions kept.nodes starts says proper w.past kept.run
 
@@ -52,7 +68,7 @@ module _ (starts : Starts) (says : Says) (proper : StartsProper starts) (w : Sta
     pub its_node : IsNode w.clusters (node_of w s)
     its_node = kept.nodes.node s (node_of w s) on_node
 
-    pub its_head : (memory_of w s).head ≡ head_of w.clusters w.past (node_of w s)
+    pub its_head : (memory_of w s).head ≡ head_of w.clusters None w.past (node_of w s)
     its_head = (kept.memories.memory (node_of w s) its_node).head
 
   pub session_there : (s : ℕ) → has_login w.past s ≡ true → is_some (slice_get w.sessions s) ≡ true
@@ -60,9 +76,23 @@ module _ (starts : Starts) (says : Says) (proper : StartsProper starts) (w : Sta
 
   -- who reads has logged in and hasn't left
   pub reader_login : (s : ℕ) (r : Reader) → w.reading s ≡ Some r → has_login w.past s ≡ true
-  reader_login s r h = (pinned_is w.clusters w.past s r.pin (kept.readers.at_pin s r h)).login
+  reader_login s r h = (live_is w.past s r.pin.base (kept.readers.at_base s r h)).login
 
-  no_reader : (s : ℕ) → has_login w.past s ≡ false → w.reading s ≡ None
+  -- the base of whoever reads is in use, and its pair is held
+  pub reader_in_use : (s : ℕ) (r : Reader) → w.reading s ≡ Some r → IsInUse w.past r.pin.base
+  reader_in_use s r h = held_in_use w.past r.pin.base ((sound_run w.clusters w.sessions kept.nodes starts says w.past kept.run).bases s r.pin.base (live_is w.past s r.pin.base (kept.readers.at_base s r h)).base)
+
+  pub reader_held : (s : ℕ) (r : Reader) → w.reading s ≡ Some r → IsHeldPair w.past r.pin.base r.pin.sweep
+  reader_held s r h = pair_held w.past r.pin (reader_in_use s r h) (kept.readers.pairs s r h) (kept.readers.above s r h)
+
+  -- readers after an event that is no Commit and no Bound, where no document is changed
+  pub reads_calm : (e : Event) → ((q : Revision) → is_commit_of q e ≡ false) → is_bound e ≡ false → ((s : ℕ) (r : Reader) → w.reading s ≡ Some r → moves_base_of s e ≡ false) → AreReading (e ∷ w.past) w.table w.reading
+  reads_calm = quiet_reads w.past w.table w.reading kept.readers reader_held (λ r. has_written (kept.committing.writers r)) kept.committing.kept
+
+  pub reads_pinned : (e : Event) (s : ℕ) → ((q : Revision) → is_commit_of q e ≡ false) → is_bound e ≡ false → moved_base e ≡ Some s → w.reading s ≡ None → AreReading (e ∷ w.past) w.table w.reading
+  reads_pinned = pin_reads w.past w.table w.reading kept.readers reader_held (λ r. has_written (kept.committing.writers r)) kept.committing.kept
+
+  pub no_reader : (s : ℕ) → has_login w.past s ≡ false → w.reading s ≡ None
   no_reader s new = by (w.reading s) refl
     where
       by : (o : Option Reader) → w.reading s ≡ o → o ≡ None
@@ -71,33 +101,31 @@ module _ (starts : Starts) (says : Says) (proper : StartsProper starts) (w : Sta
 
   -- ---- login and refresh
 
-  pub login_keeps : (s : ℕ) → is_some (slice_get w.sessions s) ≡ true → has_login w.past s ≡ false → IsKept starts says (after_login w s)
+  pub login_keeps : (s : ℕ) → is_some (slice_get w.sessions s) ≡ true → has_login w.past s ≡ false → AreSessionsKept starts says (after_login w s)
   login_keeps s there first =
       let e : Event = event.Login s (memory_of w s).head in
-      let run : IsRunOf starts says w.clusters w.sessions (e ∷ w.past) = (record { first = first; head = (node_of w s, on_node s there, its_head s there) }, kept.run) in
+      let run : IsRunOf starts says w.clusters w.sessions None (e ∷ w.past) = (record { running = runs_on starts says w kept s; first = first; head = (node_of w s, on_node s there, its_head s there) }, kept.run) in
       record {
         nodes = kept.nodes;
         run = run;
-        detached = λ q. chosen_false (s == q) (is_attached w.past q) (kept.detached q);
-        committing = quiet_commits w.past w.table w.running kept.committing told e refl;
+        committing = quiet_commits w.past w.table w.running kept.committing told e refl (λ k. refl);
         working = record { idle = λ q h. still_idle e w.past q refl (kept.working.idle q h); stays = kept.working.stays };
         memories = login_memories starts says w.clusters w.sessions kept.nodes w.past w.memories kept.memories s (node_of w s) (on_node s there) (memory_of w s).head run;
-        readers = pin_reads w.clusters w.past w.table w.reading kept.readers e s (λ q. refl) refl (no_reader s first);
+        readers = reads_pinned e s (λ q. refl) refl refl (no_reader s first);
       }
 
-  pub refresh_keeps : (s : ℕ) → has_login w.past s ≡ true → has_left w.past s ≡ false → w.running s ≡ None → w.reading s ≡ None → IsKept starts says (after_refresh w s)
+  pub refresh_keeps : (s : ℕ) → has_login w.past s ≡ true → has_left w.past s ≡ false → w.running s ≡ None → w.reading s ≡ None → AreSessionsKept starts says (after_refresh w s)
   refresh_keeps s login stays none unread =
       let e : Event = event.Refresh s (memory_of w s).head in
       let there = session_there s login in
-      let run : IsRunOf starts says w.clusters w.sessions (e ∷ w.past) = (record { login = login; idle = kept.working.idle s none; head = (node_of w s, on_node s there, its_head s there) }, kept.run) in
+      let run : IsRunOf starts says w.clusters w.sessions None (e ∷ w.past) = (record { running = runs_on starts says w kept s; login = login; idle = kept.working.idle s none; head = (node_of w s, on_node s there, its_head s there) }, kept.run) in
       record {
         nodes = kept.nodes;
         run = run;
-        detached = λ q. chosen_false (s == q) (is_attached w.past q) (kept.detached q);
-        committing = quiet_commits w.past w.table w.running kept.committing told e refl;
+        committing = quiet_commits w.past w.table w.running kept.committing told e refl (λ k. refl);
         working = record { idle = λ q h. still_idle e w.past q refl (kept.working.idle q h); stays = kept.working.stays };
         memories = refresh_memories starts says w.clusters w.sessions kept.nodes w.past w.memories kept.memories s (node_of w s) (on_node s there) (memory_of w s).head run stays;
-        readers = pin_reads w.clusters w.past w.table w.reading kept.readers e s (λ q. refl) refl unread;
+        readers = reads_pinned e s (λ q. refl) refl refl unread;
       }
 
   -- ---- the end of a session, replies, and other steps
@@ -110,45 +138,56 @@ module _ (starts : Starts) (says : Says) (proper : StartsProper starts) (w : Sta
       by false e = refl
       by true e = absurd (false≢true (ap (λ (o : Option Running). is_some o) (sym none ∙ (ap w.running (same_number s q e) ∙ h))))
 
-  pub leave_keeps : (s : ℕ) → has_login w.past s ≡ true → has_left w.past s ≡ false → w.running s ≡ None → w.reading s ≡ None → IsKept starts says (after_leave w s)
-  leave_keeps s login stays none unread =
+  pub leave_keeps : (s : ℕ) → slice_get w.sessions (cursor_owner s) ≡ None → has_login w.past s ≡ true → has_left w.past s ≡ false → w.running s ≡ None → w.reading s ≡ None → AreSessionsKept starts says (after_leave w s)
+  leave_keeps s few login stays none unread =
       let e : Event = event.Went s kind.End in
       let there = session_there s login in
-      let run : IsRunOf starts says w.clusters w.sessions (e ∷ w.past) = ((login, stays), kept.run) in
+      let run : IsRunOf starts says w.clusters w.sessions None (e ∷ w.past) = ((login, stays), kept.run) in
       record {
         nodes = kept.nodes;
         run = run;
-        detached = kept.detached;
-        committing = quiet_commits w.past w.table w.running kept.committing told e refl;
+        committing = quiet_commits w.past w.table w.running kept.committing told e refl (λ k. refl);
         working = record { idle = λ q h. still_idle e w.past q refl (kept.working.idle q h); stays = λ q x h. ap (λ b. b || has_left w.past q) (apart_working s none q x h) ∙ kept.working.stays q x h };
-        memories = leave_memories starts says w.clusters w.sessions kept.nodes w.past w.memories kept.memories s (node_of w s) (on_node s there) run;
-        readers = pin_reads w.clusters w.past w.table w.reading kept.readers e s (λ q. refl) refl unread;
+        memories = leave_memories starts says w.clusters w.sessions kept.nodes w.past w.memories kept.memories s (node_of w s) (on_node s there) few run;
+        readers = reads_pinned e s (λ q. refl) refl refl unread;
       }
 
-  pub said_keeps : (s i : ℕ) (text : Text) → i ≡ next_index w.past s → says (history_in w) s i text → IsKept starts says (after_said w s i text)
+  pub observe_keeps : (s : ℕ) → slice_get w.sessions (cursor_owner s) ≡ None → has_login w.past s ≡ true → has_left w.past s ≡ false → w.reading s ≡ None → (pin : Pin) → pin_of (memory_of w s) s ≡ Some pin → AreSessionsKept starts says (after_observe w s pin)
+  observe_keeps s few login stays unread pin has =
+      let e : Event = event.Went s kind.Pin in
+      let there = session_there s login in
+      let run : IsRunOf starts says w.clusters w.sessions None (e ∷ w.past) = ((login, stays), kept.run) in
+      record {
+        nodes = kept.nodes;
+        run = run;
+        committing = quiet_commits w.past w.table w.running kept.committing told e refl (λ k. refl);
+        working = record { idle = λ q h. still_idle e w.past q refl (kept.working.idle q h); stays = kept.working.stays };
+        memories = observe_memories starts says w.clusters w.sessions kept.nodes w.past w.memories kept.memories s (node_of w s) (on_node s there) few pin has run;
+        readers = reads_pinned e s (λ q. refl) refl refl unread;
+      }
+
+  pub said_keeps : (s i : ℕ) (text : Text) → i ≡ next_index w.past s → says (history_in w) s i text → AreSessionsKept starts says (after_said w s i text)
   said_keeps s i text next lawful =
       let e : Event = event.Said s i text in
-      let run : IsRunOf starts says w.clusters w.sessions (e ∷ w.past) = ((next, lawful), kept.run) in
+      let run : IsRunOf starts says w.clusters w.sessions None (e ∷ w.past) = ((next, lawful), kept.run) in
       record {
         nodes = kept.nodes;
         run = run;
-        detached = kept.detached;
-        committing = quiet_commits w.past w.table w.running kept.committing told e refl;
+        committing = quiet_commits w.past w.table w.running kept.committing told e refl (λ k. refl);
         working = record { idle = λ q h. still_idle e w.past q refl (kept.working.idle q h); stays = kept.working.stays };
         memories = aside starts says w.clusters w.sessions kept.nodes w.past w.memories kept.memories e run (λ j. refl) (λ j. refl);
-        readers = quiet_reads w.clusters w.past w.table w.reading kept.readers e (λ q. refl) (λ q r h. refl);
+        readers = reads_calm e (λ q. refl) refl (λ q r h. refl);
       }
 
-  pub went_keeps : (s : ℕ) (k : StepKind) → is_kind k kind.End ≡ false → has_login w.past s ≡ true → has_left w.past s ≡ false → IsKept starts says (after_went w s k)
-  went_keeps s k other login stays =
+  pub went_keeps : (s : ℕ) (k : StepKind) → is_kind k kind.End ≡ false → is_kind k kind.Pin ≡ false → has_login w.past s ≡ true → has_left w.past s ≡ false → AreSessionsKept starts says (after_went w s k)
+  went_keeps s k other apart login stays =
       let e : Event = event.Went s k in
-      let run : IsRunOf starts says w.clusters w.sessions (e ∷ w.past) = ((login, stays), kept.run) in
+      let run : IsRunOf starts says w.clusters w.sessions None (e ∷ w.past) = ((login, stays), kept.run) in
       record {
         nodes = kept.nodes;
         run = run;
-        detached = kept.detached;
-        committing = quiet_commits w.past w.table w.running kept.committing told e refl;
+        committing = quiet_commits w.past w.table w.running kept.committing told e refl (λ k. refl);
         working = record { idle = λ q h. still_idle e w.past q refl (kept.working.idle q h); stays = λ q x h. ap (λ b. b || has_left w.past q) (goes_not s k other q) ∙ kept.working.stays q x h };
-        memories = aside starts says w.clusters w.sessions kept.nodes w.past w.memories kept.memories e run (λ j. refl) (λ j. ap (λ o. option_map_or (λ n. not (Rattle.core_nodes.specs.Nodes.is_of_node w.sessions j n)) o true) (moves_no_pin s k other));
-        readers = quiet_reads w.clusters w.past w.table w.reading kept.readers e (λ q. refl) (λ q r h. ap (λ o. option_map_or (λ n. n == q) o false) (moves_no_pin s k other));
+        memories = aside starts says w.clusters w.sessions kept.nodes w.past w.memories kept.memories e run (λ j. refl) (λ j. ap (λ o. option_map_or (λ n. not (Rattle.core_nodes.specs.Nodes.is_of_node w.sessions j n)) o true) (moves_no_pin s k other apart));
+        readers = reads_calm e (λ q. refl) refl (λ q r h. ap (λ o. option_map_or (λ n. n == q) o false) (moves_no_pin s k other apart));
       }

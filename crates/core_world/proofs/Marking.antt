@@ -1,5 +1,5 @@
 -- A committer marks a collision on the commit root of another.
-use Rattle.std.proofs.Common.{◌≡◌, inl, ℕ, false, Some, Option, List, ◌∷◌, refl, sym, ap, subst, ◌∙◌}
+use Rattle.std.proofs.Common.{◌≡◌, inl, ℕ, false, Some, Option, List, ◌∷◌, refl, sym, ap, subst, ◌∙◌, []}
 use Rattle.jr_path.specs.declared.path.Path.{Path}
 use Rattle.jr_path.specs.declared.path.DocId.TheVariants as id
 use Rattle.jr_rev.specs.declared.revision.Revision.{Revision}
@@ -13,27 +13,29 @@ use Rattle.oak_machine.specs.History.{Past}
 use Rattle.oak_read.specs.Meaning.{documents_in}
 use Rattle.oak_store.specs.Tables.{Table, next_number, with_document}
 use Rattle.jr_rev.specs.declared.vector.RevVec.{RevVec}
-use Rattle.core_read.specs.Told.{IsInUse, IsTold}
-use Rattle.core_read.specs.World.{IsWorld}
+use Rattle.core_read.specs.Told.{IsTold}
 use Rattle.core_read.proofs.Committing.{markings_all}
 use Rattle.core_read.proofs.Updates.{update_same}
-use Rattle.core_read.proofs.World.{world_mark_op, world_quiet}
+use Rattle.core_keep.specs.Journal.{IsKeptWorld}
+use Rattle.core_keep.proofs.Events.{kept_idle}
+use Rattle.core_keep.proofs.World.{kept_mark_op}
+use Rattle.core_watch.proofs.GoingOn.{on_mark}
+use Rattle.core_world.proofs.Letting.{LetsRead, lets_event, lets_on, lets_then, lists_main}
+use Rattle.core_read.specs.Holds.{IsSameBut}
 use Rattle.core_clash.specs.Core.{Docs, MayMark, root_of, with_writer}
 use Rattle.core_clash.specs.Sessions.{Running}
 use Rattle.core_clash.specs.Sound.{Cause, Sound}
 use Rattle.core_clash.specs.Views.{In}
 use Rattle.core_clash.proofs.Marked.{mark_keeps}
 use Rattle.core_clash.proofs.Updates.{marks}
-use Rattle.core_watch.specs.Copies.{IsSteady}
-use Rattle.core_watch.proofs.Steady.{change_steady, event_steady, steady_then}
-use Rattle.core_world.specs.States.{core_in, nodes_in, with_session}
+use Rattle.core_world.specs.States.{core_in, moved_in, nodes_in, with_session}
 use Rattle.core_world.specs.Steps.{paths_to_write}
 use Rattle.core_world.specs.Kept.{AreCommitting}
 use Rattle.core_world.proofs.Committers.{at_session, theirs_step}
 use Rattle.core_world.proofs.Progress.{is_among}
 use Rattle.core_world.proofs.Refusing.{same_progress}
-use Rattle.core_world.proofs.Tables.{put_node, put_write}
-use Rattle.core_world.proofs.Working.{flies, goes, mine, partly_by, world_of}
+use Rattle.core_world.proofs.Tables.{moved_stays, put_main, put_node}
+use Rattle.core_world.proofs.Working.{goes, kept_name, mine, world_by, world_of}
 
 module _ (past : Past) (t : Table) (running : ℕ → Option Running) (a : AreCommitting past t running) (told : IsTold past) (s : ℕ) (x : Running) (here : running s ≡ Some x) (uncommitted : x.committed ≡ false) (going : x.writer.undoing ≡ false)
     (f : Met) (rest : List Met) (next : x.writer.due ≡ f ∷ rest) where
@@ -68,14 +70,20 @@ module _ (past : Past) (t : Table) (running : ℕ → Option Running) (a : AreCo
   pub mark_cause : Cause past x.draw.revision f.mine f.other
   mark_cause = (a.sound.due r f (subst (λ (fs : List Met). In f fs) (sym may_mark.next) (inl refl))).cause
 
+  same_but : IsSameBut r root (nodes_in t root) doc
+  same_but = update_same r root (nodes_in t root) op n refl (kept_name (documents_in t.documents) past _ a.kept root) (markings_all r op.changes refl)
+
   module _ (free : noted (nodes_in t (root_of past f.other)) f.other ≡ false) where
     sound : Sound (core_in later now (with_writer a.writers r (noticing (a.writers r))))
-    sound = subst (λ (docs : Docs). Sound (record { number = n; docs = docs; past = later; writers = with_writer a.writers r (noticing (a.writers r)) })) (sym (put_node t root doc n))
-        (mark_keeps (core_in past t a.writers) x.draw f rest n (Rattle.core_clash.specs.Core.with_document (nodes_in t) root doc) a.sound may_mark (marks (nodes_in t) past r f n free))
+    sound = subst (λ (docs : Docs). Sound (record { number = n; docs = docs; moved = moved_in now; past = later; writers = with_writer a.writers r (noticing (a.writers r)) })) (sym (put_node t root doc n))
+        (subst (λ (moved : Path → List Document). Sound (record { number = n; docs = Rattle.core_clash.specs.Core.with_document (nodes_in t) root doc; moved = moved; past = later; writers = with_writer a.writers r (noticing (a.writers r)) })) (sym (moved_stays t now root doc (put_main t root doc n) same_but.whole))
+        (mark_keeps (core_in past t a.writers) x.draw f rest n (Rattle.core_clash.specs.Core.with_document (nodes_in t) root doc) a.sound may_mark (marks (nodes_in t) past r f n free)))
 
-    readable : IsWorld (documents_in now.documents) later (λ q. is_among (a.writers q).written)
-    readable = world_quiet (documents_in now.documents) past _ (event.Went x.draw.session kind.Mark) refl
-        (world_mark_op (documents_in t.documents) (documents_in now.documents) past _ (world_of past t running a told) root op n refl refl (put_write t root doc n))
+    marked_world : IsKeptWorld (documents_in now.documents) past (λ q. is_among (a.writers q).written)
+    marked_world = kept_mark_op (documents_in t.documents) (documents_in now.documents) past _ (world_of past t running a told) root op n refl refl (put_main t root doc n)
+
+    readable : IsKeptWorld (documents_in now.documents) later (λ q. is_among (a.writers q).written)
+    readable = kept_idle (documents_in now.documents) past _ (event.Went x.draw.session kind.Mark) refl marked_world
 
     pub mark_commits : AreCommitting later now (with_session running s (Some (record { draw = x.draw; writer = noticing x.writer; committed = x.committed })))
     mark_commits = record {
@@ -83,13 +91,13 @@ module _ (past : Past) (t : Table) (running : ℕ → Option Running) (a : AreCo
       sound = sound;
       theirs = theirs_step past a.writers running a.theirs s x here (noticing (a.writers r)) (noticing x.writer) (ap noticing (mine past t running a told s x here).writer) x.committed later (λ q. refl) (λ q. refl) (λ q k. refl) (mine past t running a told s x here).committed;
       listed = at_session (λ q (y : Running). y.writer.paths ≡ paths_to_write y.draw.marks) running s _ (a.listed s x here) (λ q y f h. a.listed q y h);
-      holds = readable.holds;
-      partly = partly_by (documents_in now.documents) later _ (λ q. is_among (with_writer a.writers r (noticing (a.writers r)) q).written) (same_progress a.writers r (noticing (a.writers r)) refl) readable;
+      kept = world_by (documents_in now.documents) later _ (λ q. is_among (with_writer a.writers r (noticing (a.writers r)) q).written) (same_progress a.writers r (noticing (a.writers r)) refl) readable;
+      unstopped = a.unstopped;
     }
 
-    -- a vector in use sees what it saw
-    pub mark_steady : (v : RevVec) → IsInUse past v → IsSteady v (documents_in t.documents) (documents_in now.documents) past later
-    mark_steady v used =
-        steady_then v (documents_in t.documents) (documents_in now.documents) (documents_in now.documents) past past later
-        (change_steady v (documents_in t.documents) (documents_in now.documents) past r root doc used (flies past t running a told s x here) (put_write t root doc n) (update_same r root (nodes_in t root) op n refl (a.holds.named root) (markings_all r op.changes refl)))
-        (event_steady v (documents_in now.documents) past (event.Went x.draw.session kind.Mark) (λ q. refl))
+    -- readers read on
+    pub mark_lets : LetsRead t now past later
+    mark_lets = lets_then t now now past past later (λ pin held. held)
+        (lets_on t now past past (λ pin ever held. on_mark pin ever (documents_in t.documents) (documents_in now.documents) past _ (world_of past t running a told) held root op n refl refl (put_main t root doc n))
+        (lists_main (documents_in t.documents) (documents_in now.documents) root doc (put_main t root doc n) same_but.whole) (λ q. refl) (λ q. refl))
+        (lets_event now past _ marked_world (event.Went x.draw.session kind.Mark) (λ q. refl) (λ q. refl) (λ q. refl))

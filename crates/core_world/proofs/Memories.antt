@@ -1,14 +1,18 @@
 -- The memories of all cluster nodes, after a step on one of them.
-use Rattle.std.proofs.Common.{◌≡◌, ℕ, ◌-◌, ◌≤◌, Bool, true, false, not, Some, List, [], ◌∷◌, length, refl, sym, ap, subst, ◌∙◌, arith}
+use Rattle.std.proofs.Common.{◌≡◌, ℕ, ◌-◌, ◌≤◌, Bool, true, false, not, ◌⊎◌, inl, inr, Some, List, [], ◌∷◌, length, refl, sym, ap, subst, ◌∙◌, arith, None}
 use Rattle.std.proofs.Math.ListN.{get_or}
 use Rattle.std.proofs.lemmas.List.{get_or-set_same, get_or-set_other, length-set}
 use Rattle.std.proofs.lemmas.Option.{unwrap_or-slice_get}
-use Rattle.std.specs.Prelude.{◌==◌, ◌≢◌, slice_get}
+use Rattle.std.specs.Prelude.{◌==◌, ◌≢◌, drop, slice_get}
+use Rattle.std.specs.BTreeMap.{is_at}
+use Rattle.std.specs.Map.{lookup}
+use Rattle.std.specs.Ordering.{nat_cmp}
+use Rattle.jr_rev.specs.declared.vector.Pin.{Pin}
 use Rattle.std.specs.Option.{option_map_or}
 use Rattle.jr_path.specs.declared.path.Path.{Path}
 use Rattle.jr_rev.specs.declared.revision.Revision.{Revision}
 use Rattle.jr_rev.specs.declared.vector.RevVec.{RevVec}
-use Rattle.jr_rev.specs.Vectors.{no_entries}
+use Rattle.jr_rev.specs.Vectors.{no_entries, sees, start_of}
 use Rattle.oak_machine.specs.declared.event.Draw.{Draw}
 use Rattle.oak_machine.specs.declared.event.Event.{Event}
 use Rattle.oak_machine.specs.declared.event.Event.TheVariants as event
@@ -16,16 +20,25 @@ use Rattle.oak_machine.specs.declared.event.StepKind.TheVariants as kind
 use Rattle.oak_machine.specs.History.{Past}
 use Rattle.oak_machine.specs.Laws.{Says, Starts}
 use Rattle.oak_machine.specs.Runs.{AreNodes, IsNode, IsRunOf}
-use Rattle.oak_machine.specs.Sessions.{has_left}
-use Rattle.oak_node.specs.Heads.{finished, next_draw, with_draw}
+use Rattle.oak_machine.specs.Sessions.{has_left, is_stopped}
+use Rattle.oak_node.specs.Heads.{finished, learned, next_draw, with_draw}
 use Rattle.oak_node.specs.Memory.{NodeState, begun}
-use Rattle.oak_node.specs.Pins.{pin_now, without_pin}
+use Rattle.oak_node.specs.Notes.{without_seen}
+use Rattle.oak_node.specs.Pins.{pin_now, pin_of, with_pin}
 use Rattle.oak_node.proofs.Places.{insert_sorted, remove_sorted}
-use Rattle.core_nodes.specs.Nodes.{ArePinsOf, IsMemoryOf, is_of_node, leaves_memory, leaves_pins}
+use Rattle.core_nodes.specs.Nodes.{ArePinsOf, IsMemoryOf, IsOnRoot, base_of_pin, cursor_owner, is_of_node, leaves_memory, leaves_pins, without_session}
+use Rattle.oak_machine.specs.Heads.{local}
+use Rattle.core_read.proofs.Latest.{at_most_trans}
+use Rattle.core_heads.proofs.Below.{raised_stands}
+use Rattle.core_heads.proofs.Entries.{raised_length, raised_sees, seen_raised}
+use Rattle.core_heads.proofs.Locals.{head_own}
+use Rattle.core_heads.proofs.Runs.{sound_run}
+use Rattle.jr_rev.specs.Revisions.{is_at_most}
+use Rattle.core_nodes.proofs.Learning.{learn_run}
 use Rattle.core_nodes.proofs.Events.{apart_run, draw_run, end_run, leave_run, login_run, notes_kept, refresh_run}
-use Rattle.core_nodes.proofs.Pins.{pins_kept}
+use Rattle.core_nodes.proofs.Pins.{cursor_put, pins_kept}
 use Rattle.core_world.specs.States.{memory_at, with_memory}
-use Rattle.core_world.specs.Steps.{after_notes, pinned}
+use Rattle.core_world.specs.Steps.{after_notes, pinned, swept_to}
 use Rattle.core_world.specs.Kept.{AreMemories}
 use Rattle.core_world.proofs.Flights.{other_number, same_number}
 
@@ -44,7 +57,7 @@ set_there : (ms : List NodeState) (k : ℕ) (m : NodeState) (j : ℕ) → 1 ≤ 
 set_there ms k m j lk lj h = read_at (with_memory ms k m) j ∙ (get_or-set_other ms (k - 1) (j - 1) m (begun j no_entries) (apart_places j k lj lk h) ∙ sym (read_at ms j))
 
 -- what holds of the memory that is set and of the others holds of each
-at_memory : (P : ℕ → NodeState → Type 0) (ms : List NodeState) (k : ℕ) (m : NodeState) (j : ℕ) → 1 ≤ k → k ≤ length ms → 1 ≤ j → P k m → ((j == k) ≡ false → P j (memory_at ms j)) → P j (memory_at (with_memory ms k m) j)
+pub at_memory : (P : ℕ → NodeState → Type 0) (ms : List NodeState) (k : ℕ) (m : NodeState) (j : ℕ) → 1 ≤ k → k ≤ length ms → 1 ≤ j → P k m → ((j == k) ≡ false → P j (memory_at ms j)) → P j (memory_at (with_memory ms k m) j)
 at_memory P ms k m j lk hk lj here there = by (j == k) refl
   where
     by : (b : Bool) → (j == k) ≡ b → P j (memory_at (with_memory ms k m) j)
@@ -53,25 +66,25 @@ at_memory P ms k m j lk hk lj here there = by (j == k) refl
 
 module _ (starts : Starts) (says : Says) (clusters : ℕ) (sessions : List ℕ) (nodes : AreNodes clusters sessions) (past : Past) (ms : List NodeState) (are : AreMemories clusters sessions past ms) where
   -- a step on the memory of cluster node k
-  step_on : (k : ℕ) → IsNode clusters k → (m : NodeState) (later : Past) → IsMemoryOf clusters later k m → ArePinsOf clusters sessions later k m
+  step_on : (k : ℕ) → IsNode clusters k → (m : NodeState) (later : Past) → IsMemoryOf clusters later k m → ArePinsOf sessions later k m
       → ((j : ℕ) → IsNode clusters j → (j == k) ≡ false → IsMemoryOf clusters later j (memory_at ms j))
-      → ((j : ℕ) → IsNode clusters j → (j == k) ≡ false → ArePinsOf clusters sessions later j (memory_at ms j))
+      → ((j : ℕ) → IsNode clusters j → (j == k) ≡ false → ArePinsOf sessions later j (memory_at ms j))
       → AreMemories clusters sessions later (with_memory ms k m)
   step_on k node m later memory pins memories all_pins = record {
     counted = length-set ms (k - 1) m ∙ are.counted;
     memory = λ j of. at_memory (λ i x. IsMemoryOf clusters later i x) ms k m j node.0 within of.0 memory (memories j of);
-    pins = λ j of. at_memory (λ i x. ArePinsOf clusters sessions later i x) ms k m j node.0 within of.0 pins (all_pins j of);
+    pins = λ j of. at_memory (λ i x. ArePinsOf sessions later i x) ms k m j node.0 within of.0 pins (all_pins j of);
   }
     where
       within : k ≤ length ms
       within = subst (λ (n : ℕ). k ≤ n) (sym are.counted) node.1
 
   -- an event that leaves all memories
-  pub aside : (e : Event) → IsRunOf starts says clusters sessions (e ∷ past) → ((j : ℕ) → leaves_memory j e ≡ true) → ((j : ℕ) → leaves_pins sessions j e ≡ true) → AreMemories clusters sessions (e ∷ past) ms
+  pub aside : (e : Event) → IsRunOf starts says clusters sessions None (e ∷ past) → ((j : ℕ) → leaves_memory j e ≡ true) → ((j : ℕ) → leaves_pins sessions j e ≡ true) → AreMemories clusters sessions (e ∷ past) ms
   aside e run leaves leaves_all = record {
     counted = are.counted;
     memory = λ j of. apart_run starts says clusters sessions nodes e past j (memory_at ms j) run (leaves j) (are.memory j of);
-    pins = λ j of. pins_kept clusters sessions past j (memory_at ms j) (are.pins j of) e (leaves_all j);
+    pins = λ j of. pins_kept sessions past j (memory_at ms j) (are.pins j of) e (leaves_all j);
   }
 
   -- ---- the pin of a session
@@ -88,39 +101,54 @@ module _ (starts : Starts) (says : Says) (clusters : ℕ) (sessions : List ℕ) 
         by false e = refl
         by true e = absurd (other_number j k h (sym (same_number k j e)))
 
-    pub login_memories : (v : RevVec) → IsRunOf starts says clusters sessions (event.Login s v ∷ past) → AreMemories clusters sessions (event.Login s v ∷ past) (with_memory ms k (pinned (memory_at ms k) s))
+    pub login_memories : (v : RevVec) → IsRunOf starts says clusters sessions None (event.Login s v ∷ past) → AreMemories clusters sessions (event.Login s v ∷ past) (with_memory ms k (pinned (memory_at ms k) s))
     login_memories v run = step_on k node (pinned (memory_at ms k) s) (event.Login s v ∷ past)
         (let is = apart_run starts says clusters sessions nodes (event.Login s v) past k (memory_at ms k) run refl (are.memory k node) in
         Rattle.core_nodes.proofs.Events.pins_kept clusters (event.Login s v ∷ past) k (memory_at ms k) _ is (insert_sorted s (pin_now (memory_at ms k)) (memory_at ms k).pins is.memory.owners))
         (login_run starts says clusters sessions nodes past k (memory_at ms k) (are.memory k node) (are.pins k node) s v run on)
         (λ j of h. apart_run starts says clusters sessions nodes (event.Login s v) past j (memory_at ms j) run refl (are.memory j of))
-        (λ j of h. pins_kept clusters sessions past j (memory_at ms j) (are.pins j of) (event.Login s v) (of_other j h))
+        (λ j of h. pins_kept sessions past j (memory_at ms j) (are.pins j of) (event.Login s v) (of_other j h))
 
-    pub refresh_memories : (v : RevVec) → IsRunOf starts says clusters sessions (event.Refresh s v ∷ past) → has_left past s ≡ false → AreMemories clusters sessions (event.Refresh s v ∷ past) (with_memory ms k (pinned (memory_at ms k) s))
+    pub refresh_memories : (v : RevVec) → IsRunOf starts says clusters sessions None (event.Refresh s v ∷ past) → has_left past s ≡ false → AreMemories clusters sessions (event.Refresh s v ∷ past) (with_memory ms k (pinned (memory_at ms k) s))
     refresh_memories v run stays = step_on k node (pinned (memory_at ms k) s) (event.Refresh s v ∷ past)
         (let is = apart_run starts says clusters sessions nodes (event.Refresh s v) past k (memory_at ms k) run refl (are.memory k node) in
         Rattle.core_nodes.proofs.Events.pins_kept clusters (event.Refresh s v ∷ past) k (memory_at ms k) _ is (insert_sorted s (pin_now (memory_at ms k)) (memory_at ms k).pins is.memory.owners))
         (refresh_run starts says clusters sessions nodes past k (memory_at ms k) (are.memory k node) (are.pins k node) s v run on stays)
         (λ j of h. apart_run starts says clusters sessions nodes (event.Refresh s v) past j (memory_at ms j) run refl (are.memory j of))
-        (λ j of h. pins_kept clusters sessions past j (memory_at ms j) (are.pins j of) (event.Refresh s v) (of_other j h))
+        (λ j of h. pins_kept sessions past j (memory_at ms j) (are.pins j of) (event.Refresh s v) (of_other j h))
 
-    pub leave_memories : IsRunOf starts says clusters sessions (event.Went s kind.End ∷ past) → AreMemories clusters sessions (event.Went s kind.End ∷ past) (with_memory ms k (without_pin (memory_at ms k) s))
-    leave_memories run = step_on k node (without_pin (memory_at ms k) s) (event.Went s kind.End ∷ past)
+    pub leave_memories : slice_get sessions (cursor_owner s) ≡ None → IsRunOf starts says clusters sessions None (event.Went s kind.End ∷ past) → AreMemories clusters sessions (event.Went s kind.End ∷ past) (with_memory ms k (without_session (memory_at ms k) s))
+    leave_memories none run = step_on k node (without_session (memory_at ms k) s) (event.Went s kind.End ∷ past)
         (let is = apart_run starts says clusters sessions nodes (event.Went s kind.End) past k (memory_at ms k) run refl (are.memory k node) in
-        Rattle.core_nodes.proofs.Events.pins_kept clusters (event.Went s kind.End ∷ past) k (memory_at ms k) _ is (remove_sorted s (memory_at ms k).pins is.memory.owners))
-        (leave_run clusters sessions past k (memory_at ms k) (are.memory k node) (are.pins k node) s)
+        Rattle.core_nodes.proofs.Events.pins_kept clusters (event.Went s kind.End ∷ past) k (memory_at ms k) _ is (remove_sorted (cursor_owner s) _ (remove_sorted s (memory_at ms k).pins is.memory.owners)))
+        (leave_run clusters sessions past k (memory_at ms k) (are.memory k node) (are.pins k node) s on none)
         (λ j of h. apart_run starts says clusters sessions nodes (event.Went s kind.End) past j (memory_at ms j) run refl (are.memory j of))
-        (λ j of h. pins_kept clusters sessions past j (memory_at ms j) (are.pins j of) (event.Went s kind.End) (of_other j h))
+        (λ j of h. pins_kept sessions past j (memory_at ms j) (are.pins j of) (event.Went s kind.End) (of_other j h))
+
+    pub observe_memories : slice_get sessions (cursor_owner s) ≡ None → (pin : Pin) → pin_of (memory_at ms k) s ≡ Some pin → IsRunOf starts says clusters sessions None (event.Went s kind.Pin ∷ past) → AreMemories clusters sessions (event.Went s kind.Pin ∷ past) (with_memory ms k (with_pin (memory_at ms k) (cursor_owner s) pin))
+    observe_memories none pin has run = step_on k node (with_pin (memory_at ms k) (cursor_owner s) pin) (event.Went s kind.Pin ∷ past)
+        (let is = apart_run starts says clusters sessions nodes (event.Went s kind.Pin) past k (memory_at ms k) run refl (are.memory k node) in
+        Rattle.core_nodes.proofs.Events.pins_kept clusters (event.Went s kind.Pin ∷ past) k (memory_at ms k) _ is (insert_sorted (cursor_owner s) pin (memory_at ms k).pins is.memory.owners))
+        (cursor_put sessions past k (memory_at ms k) (are.pins k node) s pin on none has)
+        (λ j of h. apart_run starts says clusters sessions nodes (event.Went s kind.Pin) past j (memory_at ms j) run refl (are.memory j of))
+        (λ j of h. pins_kept sessions past j (memory_at ms j) (are.pins j of) (event.Went s kind.Pin) (of_other j h))
 
   -- ---- draws and ends
+
+  -- a memory with the same pins
+  same_pins : (later : Past) (k : ℕ) (m n : NodeState) → n.pins ≡ m.pins → ArePinsOf sessions later k m → ArePinsOf sessions later k n
+  same_pins later k m n same has = record {
+    bases = λ owner. ap (λ (ps : List (ℕ × Pin)). base_of_pin (lookup (is_at (nat_cmp owner)) ps)) same ∙ has.bases owner;
+    pairs = λ owner pin h. has.pairs owner pin (sym (ap (λ (ps : List (ℕ × Pin)). lookup (is_at (nat_cmp owner)) ps) same) ∙ h);
+  }
 
   notes_memory : (later : Past) (k : ℕ) (r : Revision) (paths : List Path) (m : NodeState) → IsMemoryOf clusters later k m → IsMemoryOf clusters later k (after_notes r m paths)
   notes_memory later k r [] m is = is
   notes_memory later k r (p ∷ ps) m is = notes_memory later k r ps _ (notes_kept clusters later k m _ is)
 
-  notes_pins : (later : Past) (k : ℕ) (r : Revision) (paths : List Path) (m : NodeState) → ArePinsOf clusters sessions later k m → ArePinsOf clusters sessions later k (after_notes r m paths)
+  notes_pins : (later : Past) (k : ℕ) (r : Revision) (paths : List Path) (m : NodeState) → ArePinsOf sessions later k m → ArePinsOf sessions later k (after_notes r m paths)
   notes_pins later k r [] m has = has
-  notes_pins later k r (p ∷ ps) m has = notes_pins later k r ps _ has
+  notes_pins later k r (p ∷ ps) m has = notes_pins later k r ps _ (record { bases = has.bases; pairs = has.pairs })
 
   apart_node : (j k : ℕ) → (j == k) ≡ false → not (k == j) ≡ true
   apart_node j k h = by (k == j) refl
@@ -129,21 +157,87 @@ module _ (starts : Starts) (says : Says) (clusters : ℕ) (sessions : List ℕ) 
       by false e = refl
       by true e = absurd (other_number j k h (sym (same_number k j e)))
 
-  pub draw_memories : (d : Draw) → IsRunOf starts says clusters sessions (event.Draw d ∷ past) → d.revision ≡ next_draw (memory_at ms d.revision.cluster) → (paths : List Path)
+  pub draw_memories : (d : Draw) → IsRunOf starts says clusters sessions None (event.Draw d ∷ past) → d.revision ≡ next_draw (memory_at ms d.revision.cluster) → (paths : List Path)
       → AreMemories clusters sessions (event.Draw d ∷ past) (with_memory ms d.revision.cluster (after_notes d.revision (with_draw (memory_at ms d.revision.cluster) d.revision) paths))
   draw_memories d run next paths =
       let k = d.revision.cluster in
       let node : IsNode clusters k = nodes.node d.session k run.0.cluster in
       step_on k node (after_notes d.revision (with_draw (memory_at ms k) d.revision) paths) (event.Draw d ∷ past)
       (notes_memory (event.Draw d ∷ past) k d.revision paths _ (subst (λ (r : Revision). IsMemoryOf clusters (event.Draw d ∷ past) k (with_draw (memory_at ms k) r)) (sym next) (draw_run starts says clusters sessions nodes d past run (memory_at ms k) (are.memory k node))))
-      (notes_pins (event.Draw d ∷ past) k d.revision paths _ (pins_kept clusters sessions past k (memory_at ms k) (are.pins k node) (event.Draw d) refl))
+      (notes_pins (event.Draw d ∷ past) k d.revision paths _ (same_pins (event.Draw d ∷ past) k (memory_at ms k) (with_draw (memory_at ms k) d.revision) refl (pins_kept sessions past k (memory_at ms k) (are.pins k node) (event.Draw d) refl)))
       (λ j of h. apart_run starts says clusters sessions nodes (event.Draw d) past j (memory_at ms j) run (apart_node j k h) (are.memory j of))
-      (λ j of h. pins_kept clusters sessions past j (memory_at ms j) (are.pins j of) (event.Draw d) refl)
+      (λ j of h. pins_kept sessions past j (memory_at ms j) (are.pins j of) (event.Draw d) refl)
 
-  pub end_memories : (r : Revision) → IsNode clusters r.cluster → IsRunOf starts says clusters sessions (event.End r ∷ past) → AreMemories clusters sessions (event.End r ∷ past) (with_memory ms r.cluster (finished (memory_at ms r.cluster) r))
+  pub end_memories : (r : Revision) → IsNode clusters r.cluster → IsRunOf starts says clusters sessions None (event.End r ∷ past) → AreMemories clusters sessions (event.End r ∷ past) (with_memory ms r.cluster (finished (memory_at ms r.cluster) r))
   end_memories r node run =
       step_on r.cluster node (finished (memory_at ms r.cluster) r) (event.End r ∷ past)
       (end_run starts says clusters sessions nodes r past run (memory_at ms r.cluster) (are.memory r.cluster node))
-      (pins_kept clusters sessions past r.cluster (memory_at ms r.cluster) (are.pins r.cluster node) (event.End r) refl)
+      (same_pins (event.End r ∷ past) r.cluster (memory_at ms r.cluster) (finished (memory_at ms r.cluster) r) refl (pins_kept sessions past r.cluster (memory_at ms r.cluster) (are.pins r.cluster node) (event.End r) refl))
       (λ j of h. apart_run starts says clusters sessions nodes (event.End r) past j (memory_at ms j) run (apart_node j r.cluster h) (are.memory j of))
-      (λ j of h. pins_kept clusters sessions past j (memory_at ms j) (are.pins j of) (event.End r) refl)
+      (λ j of h. pins_kept sessions past j (memory_at ms j) (are.pins j of) (event.End r) refl)
+
+  -- ---- what a node learns
+
+  pub learn_memories : (k : ℕ) → IsNode clusters k → is_stopped past k ≡ false → (n : ℕ) (last sweep : RevVec) → IsOnRoot clusters (drop n past) last sweep → IsRunOf starts says clusters sessions None past
+      → IsRunOf starts says clusters sessions None (event.In k (learned (memory_at ms k) last sweep).head ∷ past)
+      × AreMemories clusters sessions (event.In k (learned (memory_at ms k) last sweep).head ∷ past) (with_memory ms k (learned (memory_at ms k) last sweep))
+  learn_memories k node goes n last sweep root run =
+      let m = learned (memory_at ms k) last sweep in
+      let learns = learn_run starts says clusters sessions nodes past run k n node goes (memory_at ms k) (are.memory k node) last sweep root in (
+        learns.0,
+        step_on k node m (event.In k m.head ∷ past) learns.1
+            (same_pins (event.In k m.head ∷ past) k (memory_at ms k) m refl (pins_kept sessions past k (memory_at ms k) (are.pins k node) (event.In k m.head) refl))
+            (λ j of h. apart_run starts says clusters sessions nodes (event.In k m.head) past j (memory_at ms j) learns.0 (apart_node j k h) (are.memory j of))
+            (λ j of h. pins_kept sessions past j (memory_at ms j) (are.pins j of) (event.In k m.head) refl),
+      )
+
+  -- a step of a session that takes the notes that its node's head sees
+  pub pending_memories : (s k : ℕ) → IsNode clusters k → IsRunOf starts says clusters sessions None (event.Went s kind.Back ∷ past) → AreMemories clusters sessions (event.Went s kind.Back ∷ past) (with_memory ms k (without_seen (memory_at ms k)))
+  pending_memories s k node run =
+      let e : Event = event.Went s kind.Back in
+      step_on k node (without_seen (memory_at ms k)) (e ∷ past)
+      (notes_kept clusters (e ∷ past) k (memory_at ms k) _ (apart_run starts says clusters sessions nodes e past k (memory_at ms k) run refl (are.memory k node)))
+      (same_pins (e ∷ past) k (memory_at ms k) (without_seen (memory_at ms k)) refl (pins_kept sessions past k (memory_at ms k) (are.pins k node) e refl))
+      (λ j of h. apart_run starts says clusters sessions nodes e past j (memory_at ms j) run refl (are.memory j of))
+      (λ j of h. pins_kept sessions past j (memory_at ms j) (are.pins j of) e refl)
+
+  -- a node that learns how far its own sweep went, which is at most its local revision
+  pub swept_memories : (s k : ℕ) → IsNode clusters k → (r : Revision) → r.cluster ≡ k → is_at_most r (local None past k) ≡ true → IsRunOf starts says clusters sessions None (event.Went s kind.Learn ∷ past)
+      → AreMemories clusters sessions (event.Went s kind.Learn ∷ past) (with_memory ms k (swept_to (memory_at ms k) r))
+  swept_memories s k node r of low run =
+      let e : Event = event.Went s kind.Learn in
+      let m = memory_at ms k in
+      let is = are.memory k node in
+      step_on k node (swept_to m r) (e ∷ past)
+      (record {
+        cluster = is.cluster;
+        head = is.head;
+        sweep = record {
+          vector = record { eight = raised_length m.sweep r ∙ is.sweep.vector.eight; stands = raised_stands m.sweep r is.sweep.vector.stands };
+          begun = raised_sees m.sweep r (start_of 1) is.sweep.begun;
+          below = λ x h. own x (seen_raised m.sweep r x h);
+        };
+        last = is.last;
+        above = is.above;
+        memory = record {
+          low = is.memory.low;
+          high = is.memory.high;
+          own = is.memory.own;
+          own_node = is.memory.own_node;
+          rising = is.memory.rising;
+          flying = is.memory.flying;
+          of_node = is.memory.of_node;
+          times = is.memory.times;
+          owners = is.memory.owners;
+        };
+      })
+      (same_pins (e ∷ past) k m (swept_to m r) refl (pins_kept sessions past k m (are.pins k node) e refl))
+      (λ j on h. apart_run starts says clusters sessions nodes e past j (memory_at ms j) run refl (are.memory j on))
+      (λ j on h. pins_kept sessions past j (memory_at ms j) (are.pins j on) e refl)
+    where
+      own : (x : Revision) → (sees (memory_at ms k).sweep x ≡ true) ⊎ ((x.cluster ≡ r.cluster) × (is_at_most x r ≡ true)) → sees (memory_at ms k).head x ≡ true
+      own x (inl a) = (are.memory k node).sweep.below x a
+      own x (inr p) =
+          let n = nodes.eight in let u = node.1 in
+          subst (λ (v : RevVec). sees v x ≡ true) (sym (are.memory k node).head)
+          (head_own clusters past k x node.0 (omega arith) ((sound_run clusters sessions nodes starts says past run.1).ins k node).eight (p.0 ∙ of) (at_most_trans x r (local None past k) p.1 low))

@@ -1,73 +1,184 @@
 -- The readers of all sessions, after a step of one.
-use Rattle.std.proofs.Common.{◌≡◌, ℕ, Bool, true, false, cond, not, ◌&&◌, Some, None, Option, ◌∷◌, is_some, refl, sym, ap, ◌∙◌}
+use Rattle.std.proofs.Common.{◌≡◌, ℕ, Bool, true, false, cond, not, ◌&&◌, ◌||◌, Some, None, Option, List, [], ◌∷◌, is_some, refl, sym, ap, ◌∙◌}
 use Rattle.std.specs.Prelude.{◌==◌}
-use Rattle.std.specs.Option.{option_map, option_map_or, unwrap_or}
+use Rattle.std.specs.Option.{option_map_or}
 use mathlib.Core.Bool.{false≢true}
 use Rattle.jr_rev.specs.declared.revision.Revision.{Revision}
-use Rattle.jr_rev.specs.declared.vector.Pin.{Pin}
 use Rattle.jr_rev.specs.declared.vector.RevVec.{RevVec}
-use Rattle.jr_rev.specs.Vectors.{start}
 use Rattle.oak_machine.specs.declared.event.Event.{Event}
 use Rattle.oak_machine.specs.History.{Past}
 use Rattle.oak_machine.specs.Commits.{is_commit_of}
-use Rattle.oak_machine.specs.Sessions.{base_of, has_left, has_login}
+use Rattle.oak_machine.specs.declared.event.Event.TheVariants as event
+use Rattle.oak_machine.specs.declared.event.StepKind.TheVariants as kind
+use Rattle.oak_machine.specs.Sessions.{base_of, has_left, has_login, is_attached, last_checkpoint}
 use Rattle.oak_read.specs.declared.reader.Reader.{Reader}
 use Rattle.oak_read.specs.Meaning.{documents_in}
 use Rattle.oak_store.specs.Tables.{Table}
-use Rattle.core_nodes.specs.Nodes.{moved_pin, session_pin}
-use Rattle.core_nodes.proofs.Pins.{pin_left}
-use Rattle.core_watch.specs.Copies.{IsSteady}
-use Rattle.core_watch.proofs.Steady.{event_steady, lasts}
-use Rattle.core_world.specs.Kept.{AreReading}
+use Rattle.core_nodes.specs.Nodes.{moved_pin, pinned_at, session_base}
+use Rattle.oak_machine.specs.Laws.{Says, Starts}
+use Rattle.oak_machine.specs.Runs.{AreNodes, IsRunOf}
+use Rattle.core_heads.specs.Sound.{IsHeld}
+use Rattle.core_heads.proofs.Later.{held_kept}
+use Rattle.core_heads.proofs.Runs.{later_run, sound_run}
+use Rattle.core_read.specs.World.{Progress}
+use Rattle.core_read.specs.Holds.{IsSwept}
+use Rattle.core_read.specs.Told.{IsInUse}
+use Rattle.core_keep.specs.Journal.{IsHeld as IsHeldPair, IsKeptWorld}
+use Rattle.core_nodes.specs.Nodes.{IsPair}
+use Rattle.jr_rev.specs.declared.vector.Pin.{Pin}
+use Rattle.jr_rev.specs.Vectors.{sees}
+use Rattle.oak_machine.specs.Commits.{is_in_flight}
+use Rattle.core_world.specs.Kept.{AreReading, IsAboveBounds, live_base}
+use Rattle.core_world.proofs.Letting.{is_bound, LetsRead, lets_calm}
 use Rattle.core_world.proofs.Flights.{same_number}
 
 -- ---- a pin of a session
 
--- the session has logged in and hasn't left, and the pin is at its base
-pub record HasPin (clusters : ℕ) (past : Past) (s : ℕ) (pin : Pin) : Type 0 where
+-- the session has logged in and hasn't left, and was pinned at this vector
+pub record HasBase (past : Past) (s : ℕ) (v : RevVec) : Type 0 where
   pub login : has_login past s ≡ true
   pub stays : has_left past s ≡ false
-  pub base : base_of past s ≡ Some pin.base
-  pub sweep : pin.sweep ≡ start clusters
+  pub base : pinned_at past s ≡ Some v
 
-pub pinned_is : (clusters : ℕ) (past : Past) (s : ℕ) (pin : Pin) → session_pin clusters past s ≡ Some pin → HasPin clusters past s pin
-pinned_is clusters past s pin h = by (has_login past s) (has_left past s) (base_of past s) refl refl refl h
+pub based_is : (past : Past) (s : ℕ) (v : RevVec) → session_base past s ≡ Some v → HasBase past s v
+based_is past s v h = by (has_login past s) (has_left past s) refl refl h
   where
-    by : (a b : Bool) (o : Option RevVec) → has_login past s ≡ a → has_left past s ≡ b → base_of past s ≡ o → cond (a && not b) (option_map (λ v. record { base = v; sweep = start clusters }) o) None ≡ Some pin → HasPin clusters past s pin
-    by false b o l m n k = absurd (false≢true (ap is_some k))
-    by true true o l m n k = absurd (false≢true (ap is_some k))
-    by true false None l m n k = absurd (false≢true (ap is_some k))
-    by true false (Some v) l m n k = let e = ap (λ p. unwrap_or p pin) k in record { login = l; stays = m; base = n ∙ ap (λ (p : Pin). Some p.base) e; sweep = ap (λ (p : Pin). p.sweep) (sym e) }
+    by : (a b : Bool) → has_login past s ≡ a → has_left past s ≡ b → cond (a && not b) (pinned_at past s) None ≡ Some v → HasBase past s v
+    by false b l m k = absurd (false≢true (ap is_some k))
+    by true true l m k = absurd (false≢true (ap is_some k))
+    by true false l m k = record { login = l; stays = m; base = k }
 
-pub session_pinned : (clusters : ℕ) (past : Past) (s : ℕ) (v : RevVec) → has_login past s ≡ true → has_left past s ≡ false → base_of past s ≡ Some v → session_pin clusters past s ≡ Some (record { base = v; sweep = start clusters })
-session_pinned clusters past s v l m b =
-    ap (λ a. cond (a && not (has_left past s)) (option_map (λ v. record { base = v; sweep = start clusters }) (base_of past s)) None) l
-    ∙ (ap (λ a. cond (not a) (option_map (λ v. record { base = v; sweep = start clusters }) (base_of past s)) None) m
-    ∙ ap (option_map (λ v. record { base = v; sweep = start clusters })) b)
+pub session_based : (past : Past) (s : ℕ) (v : RevVec) → has_login past s ≡ true → has_left past s ≡ false → pinned_at past s ≡ Some v → session_base past s ≡ Some v
+session_based past s v l m b =
+    ap (λ a. cond (a && not (has_left past s)) (pinned_at past s) None) l
+    ∙ (ap (λ a. cond (not a) (pinned_at past s) None) m
+    ∙ b)
 
--- the event moves the pin of session s
-abbrev pub moves_pin_of : ℕ → Event → Bool
-moves_pin_of s e = option_map_or (λ t. t == s) (moved_pin e) false
+-- the base of a session that isn't attached is the vector at which it was pinned
+pub detached_base : (past : Past) (s : ℕ) → is_attached past s ≡ false → base_of past s ≡ pinned_at past s
+detached_base [] s h = refl
+detached_base (event.Login t v ∷ past) s h = by (λ d. detached_base past s d) (t == s) h
+  where
+    by : (is_attached past s ≡ false → base_of past s ≡ pinned_at past s) → (b : Bool) → cond b false (is_attached past s) ≡ false → cond b (Some v) (base_of past s) ≡ cond b (Some v) (pinned_at past s)
+    by rest true d = refl
+    by rest false d = rest d
+detached_base (event.Refresh t v ∷ past) s h = by (λ d. detached_base past s d) (t == s) h
+  where
+    by : (is_attached past s ≡ false → base_of past s ≡ pinned_at past s) → (b : Bool) → cond b false (is_attached past s) ≡ false → cond b (Some v) (base_of past s) ≡ cond b (Some v) (pinned_at past s)
+    by rest true d = refl
+    by rest false d = rest d
+detached_base (event.Attach t id ∷ past) s h = by (λ d. detached_base past s d) (t == s) h
+  where
+    by : (is_attached past s ≡ false → base_of past s ≡ pinned_at past s) → (b : Bool) → cond b true (is_attached past s) ≡ false → cond b (last_checkpoint past id) (base_of past s) ≡ pinned_at past s
+    by rest true d = absurd (false≢true (sym d))
+    by rest false d = rest d
+detached_base (e ∷ past) s h = detached_base past s h
 
-module _ (clusters : ℕ) (past : Past) (t : Table) (reading : ℕ → Option Reader) (are : AreReading clusters past t reading) where
-  -- an event, with documents that are alike for whoever reads
-  pub event_reads : (e : Event) (u : Table) → ((s : ℕ) (r : Reader) → reading s ≡ Some r → IsSteady r.pin.base (documents_in t.documents) (documents_in u.documents) past (e ∷ past)) → ((s : ℕ) (r : Reader) → reading s ≡ Some r → moves_pin_of s e ≡ false) → AreReading clusters (e ∷ past) u reading
-  event_reads e u steady apart = record {
-    reads = λ s r h. lasts (documents_in t.documents) (documents_in u.documents) past (e ∷ past) r (steady s r h) (are.reads s r h);
-    at_pin = λ s r h. pin_left clusters past e s (apart s r h) ∙ are.at_pin s r h;
+-- ---- bases
+
+-- the session has logged in and hasn't left, and this is its base
+pub record HasLive (past : Past) (s : ℕ) (v : RevVec) : Type 0 where
+  pub login : has_login past s ≡ true
+  pub stays : has_left past s ≡ false
+  pub base : base_of past s ≡ Some v
+
+pub live_is : (past : Past) (s : ℕ) (v : RevVec) → live_base past s ≡ Some v → HasLive past s v
+live_is past s v h = by (has_login past s) (has_left past s) refl refl h
+  where
+    by : (a b : Bool) → has_login past s ≡ a → has_left past s ≡ b → cond (a && not b) (base_of past s) None ≡ Some v → HasLive past s v
+    by false b l m k = absurd (false≢true (ap is_some k))
+    by true true l m k = absurd (false≢true (ap is_some k))
+    by true false l m k = record { login = l; stays = m; base = k }
+
+pub is_live : (past : Past) (s : ℕ) (v : RevVec) → has_login past s ≡ true → has_left past s ≡ false → base_of past s ≡ Some v → live_base past s ≡ Some v
+is_live past s v l m b =
+    ap (λ a. cond (a && not (has_left past s)) (base_of past s) None) l
+    ∙ (ap (λ a. cond (not a) (base_of past s) None) m
+    ∙ b)
+
+-- the session whose base the event moves, or which leaves
+abbrev pub moved_base : Event → Option ℕ
+moved_base (event.Attach s id) = Some s
+moved_base e = moved_pin e
+
+-- the event moves the base of session s
+abbrev pub moves_base_of : ℕ → Event → Bool
+moves_base_of s e = option_map_or (λ t. t == s) (moved_base e) false
+
+pub live_left : (past : Past) (e : Event) (s : ℕ) → moves_base_of s e ≡ false → live_base (e ∷ past) s ≡ live_base past s
+live_left past (event.Login t v) s h = ap (λ b. cond ((b || has_login past s) && not (has_left past s)) (cond b (Some v) (base_of past s)) None) h
+live_left past (event.Refresh t v) s h = ap (λ b. cond (has_login past s && not (has_left past s)) (cond b (Some v) (base_of past s)) None) h
+live_left past (event.Attach t id) s h = ap (λ b. cond (has_login past s && not (has_left past s)) (cond b (last_checkpoint past id) (base_of past s)) None) h
+live_left past (event.Went t kind.End) s h = ap (λ b. cond (has_login past s && not (b || has_left past s)) (base_of past s) None) h
+live_left past e s h = refl
+
+-- what goes with a vector in use has swept
+pub pair_swept : (past : Past) (v t : RevVec) → IsInUse past v → IsPair v t → IsSwept past t
+pair_swept past v t used pair = record { begun = pair.begun; quiet = λ r seen none. by r seen (is_in_flight past r) refl }
+  where
+    by : (r : Revision) → sees t r ≡ true → (b : Bool) → is_in_flight past r ≡ b → b ≡ false
+    by r seen false f = refl
+    by r seen true f = absurd (false≢true (sym (used.settled r f) ∙ pair.below r seen))
+
+-- a pair in use that is above the bounds so far is held
+pub pair_held : (past : Past) (x : Pin) → IsInUse past x.base → IsPair x.base x.sweep → IsAboveBounds past x → IsHeldPair past x.base x.sweep
+pair_held past x used pair above = record { base = used; sweep = pair_swept past x.base x.sweep used pair; above = above.base; swept = above.sweep }
+
+module _ (past : Past) (t : Table) (reading : ℕ → Option Reader) (are : AreReading past t reading) (held : (s : ℕ) (r : Reader) → reading s ≡ Some r → IsHeldPair past r.pin.base r.pin.sweep) where
+  -- an event, with documents by which each reader reads on
+  pub event_reads : (e : Event) (u : Table) → LetsRead t u past (e ∷ past) → ((s : ℕ) (r : Reader) → reading s ≡ Some r → moves_base_of s e ≡ false) → AreReading (e ∷ past) u reading
+  event_reads e u lets apart = record {
+    ever = are.ever;
+    listed = lets.lists are.ever are.listed;
+    reads = λ s r h. lets.reads are.ever r (held s r h) (are.reads s r h);
+    above = λ s r h. record { base = λ q b. (are.above s r h).base q (sym (lets.bounds q) ∙ b); sweep = λ q b. (are.above s r h).sweep q (sym (lets.sweeps q) ∙ b) };
+    at_base = λ s r h. live_left past e s (apart s r h) ∙ are.at_base s r h;
+    pairs = are.pairs;
   }
 
-  -- an event that is no Commit, where no document is changed
-  pub quiet_reads : (e : Event) → ((q : Revision) → is_commit_of q e ≡ false) → ((s : ℕ) (r : Reader) → reading s ≡ Some r → moves_pin_of s e ≡ false) → AreReading clusters (e ∷ past) t reading
-  quiet_reads e h apart = event_reads e t (λ s r k. event_steady r.pin.base (documents_in t.documents) past e h) apart
+  -- an event that is no Commit and no Bound, where no document is changed
+  pub quiet_reads : (done : Progress) → IsKeptWorld (documents_in t.documents) past done → (e : Event) → ((q : Revision) → is_commit_of q e ≡ false) → is_bound e ≡ false → ((s : ℕ) (r : Reader) → reading s ≡ Some r → moves_base_of s e ≡ false) → AreReading (e ∷ past) t reading
+  quiet_reads done world e h calm apart = event_reads e t (lets_calm t past done world e h calm) apart
 
   -- an event that moves the pin of one session, which reads nothing
-  apart_from : (s : ℕ) → reading s ≡ None → (q : ℕ) (r : Reader) → reading q ≡ Some r → (s == q) ≡ false
+  pub apart_from : (s : ℕ) → reading s ≡ None → (q : ℕ) (r : Reader) → reading q ≡ Some r → (s == q) ≡ false
   apart_from s none q r h = by (s == q) refl
     where
       by : (b : Bool) → (s == q) ≡ b → b ≡ false
       by false e = refl
       by true e = absurd (false≢true (ap (λ (o : Option Reader). is_some o) (sym none ∙ (ap reading (same_number s q e) ∙ h))))
 
-  pub pin_reads : (e : Event) (s : ℕ) → ((q : Revision) → is_commit_of q e ≡ false) → moved_pin e ≡ Some s → reading s ≡ None → AreReading clusters (e ∷ past) t reading
-  pin_reads e s h moved none = quiet_reads e h (λ q r k. ap (λ o. option_map_or (λ n. n == q) o false) moved ∙ apart_from s none q r k)
+  pub pin_reads : (done : Progress) → IsKeptWorld (documents_in t.documents) past done → (e : Event) (s : ℕ) → ((q : Revision) → is_commit_of q e ≡ false) → is_bound e ≡ false → moved_base e ≡ Some s → reading s ≡ None → AreReading (e ∷ past) t reading
+  pin_reads done world e s h calm moved none = quiet_reads done world e h calm (λ q r k. ap (λ o. option_map_or (λ n. n == q) o false) moved ∙ apart_from s none q r k)
+
+-- ---- pins of memories
+
+-- a session that has logged in was pinned
+pub some_pinned : (past : Past) (s : ℕ) → has_login past s ≡ true → is_some (pinned_at past s) ≡ true
+some_pinned [] s login = absurd (false≢true login)
+some_pinned (event.Login t v ∷ past) s login = by (some_pinned past s) (t == s) login
+  where
+    by : (has_login past s ≡ true → is_some (pinned_at past s) ≡ true) → (b : Bool) → (b || has_login past s) ≡ true → is_some (cond b (Some v) (pinned_at past s)) ≡ true
+    by rest true l = refl
+    by rest false l = rest l
+some_pinned (event.Refresh t v ∷ past) s login = by (some_pinned past s login) (t == s)
+  where
+    by : is_some (pinned_at past s) ≡ true → (b : Bool) → is_some (cond b (Some v) (pinned_at past s)) ≡ true
+    by rest true = refl
+    by rest false = rest
+some_pinned (e ∷ past) s login = some_pinned past s login
+
+-- a vector at which a session was pinned is held, also while it is attached
+pub pinned_held : (starts : Starts) (says : Says) (clusters : ℕ) (sessions : List ℕ) (nodes : AreNodes clusters sessions) (past : Past) → IsRunOf starts says clusters sessions None past → (s : ℕ) (v : RevVec) → pinned_at past s ≡ Some v → IsHeld past v
+pinned_held starts says clusters sessions nodes [] run s v h = absurd (false≢true (ap is_some h))
+pinned_held starts says clusters sessions nodes (event.Login t u ∷ past) run s v h = by (λ k. pinned_held starts says clusters sessions nodes past run.1 s v k) (t == s) refl
+  where
+    by : (pinned_at past s ≡ Some v → IsHeld past v) → (b : Bool) → (t == s) ≡ b → IsHeld (event.Login t u ∷ past) v
+    by rest true e = (sound_run clusters sessions nodes starts says (event.Login t u ∷ past) run).bases s v (ap (λ b. cond b (Some u) (base_of past s)) e ∙ (sym (ap (λ b. cond b (Some u) (pinned_at past s)) e) ∙ h))
+    by rest false e = held_kept clusters past (event.Login t u ∷ past) (later_run clusters sessions nodes starts says (event.Login t u) past run) v (rest (sym (ap (λ b. cond b (Some u) (pinned_at past s)) e) ∙ h))
+pinned_held starts says clusters sessions nodes (event.Refresh t u ∷ past) run s v h = by (λ k. pinned_held starts says clusters sessions nodes past run.1 s v k) (t == s) refl
+  where
+    by : (pinned_at past s ≡ Some v → IsHeld past v) → (b : Bool) → (t == s) ≡ b → IsHeld (event.Refresh t u ∷ past) v
+    by rest true e = (sound_run clusters sessions nodes starts says (event.Refresh t u ∷ past) run).bases s v (ap (λ b. cond b (Some u) (base_of past s)) e ∙ (sym (ap (λ b. cond b (Some u) (pinned_at past s)) e) ∙ h))
+    by rest false e = held_kept clusters past (event.Refresh t u ∷ past) (later_run clusters sessions nodes starts says (event.Refresh t u) past run) v (rest (sym (ap (λ b. cond b (Some u) (pinned_at past s)) e) ∙ h))
+pinned_held starts says clusters sessions nodes (e ∷ past) run s v h = held_kept clusters past (e ∷ past) (later_run clusters sessions nodes starts says e past run) v (pinned_held starts says clusters sessions nodes past run.1 s v h)

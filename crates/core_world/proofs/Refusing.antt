@@ -9,8 +9,8 @@ use Rattle.oak_machine.specs.History.{Past}
 use Rattle.oak_read.specs.Meaning.{documents_in}
 use Rattle.oak_store.specs.Tables.{Table}
 use Rattle.core_read.specs.Told.{IsTold}
-use Rattle.core_read.specs.World.{IsWorld}
-use Rattle.core_read.proofs.World.{world_quiet}
+use Rattle.core_keep.specs.Journal.{IsKeptWorld}
+use Rattle.core_keep.proofs.Events.{kept_idle}
 use Rattle.core_clash.specs.Core.{with_writer}
 use Rattle.core_clash.specs.Sessions.{Running}
 use Rattle.core_clash.specs.Sound.{Cause}
@@ -22,7 +22,7 @@ use Rattle.core_world.specs.Steps.{paths_to_write}
 use Rattle.core_world.specs.Kept.{AreCommitting}
 use Rattle.core_world.proofs.Committers.{at_session, theirs_step}
 use Rattle.core_world.proofs.Progress.{is_among}
-use Rattle.core_world.proofs.Working.{goes, mine, partly_by, world_of}
+use Rattle.core_world.proofs.Working.{goes, mine, world_by, world_of}
 
 -- a writer that stands with the same documents written has the same progress
 pub same_progress : (writers : Revision → Writer) (r : Revision) (w : Writer) → w.written ≡ (writers r).written → (q : Revision) (p : Path) → is_among (writers q).written p ≡ is_among (with_writer writers r w q).written p
@@ -39,8 +39,8 @@ module _ (past : Past) (t : Table) (running : ℕ → Option Running) (a : AreCo
     abbrev later : Past
     later = event.Refuse x.draw.revision item o ∷ past
 
-    readable : IsWorld (documents_in t.documents) later (λ q. is_among (a.writers q).written)
-    readable = world_quiet (documents_in t.documents) past _ (event.Refuse x.draw.revision item o) refl (world_of past t running a told)
+    readable : IsKeptWorld (documents_in t.documents) later (λ q. is_among (a.writers q).written)
+    readable = kept_idle (documents_in t.documents) past _ (event.Refuse x.draw.revision item o) refl (world_of past t running a told)
 
     pub refuse_commits : AreCommitting later t (with_session running s (Some (record { draw = x.draw; writer = turned x.writer; committed = x.committed })))
     refuse_commits = record {
@@ -48,8 +48,8 @@ module _ (past : Past) (t : Table) (running : ℕ → Option Running) (a : AreCo
       sound = refuse_keeps (core_in past t a.writers) x.draw item o a.sound (goes past t running a told s x here uncommitted going) cause;
       theirs = theirs_step past a.writers running a.theirs s x here (turned (a.writers r)) (turned x.writer) (ap turned (mine past t running a told s x here).writer) x.committed later (λ q. refl) (λ q. refl) (λ q k. refl) (mine past t running a told s x here).committed;
       listed = at_session (λ q (y : Running). y.writer.paths ≡ paths_to_write y.draw.marks) running s _ (a.listed s x here) (λ q y f h. a.listed q y h);
-      holds = readable.holds;
-      partly = partly_by (documents_in t.documents) later _ (λ q. is_among (with_writer a.writers r (turned (a.writers r)) q).written) (same_progress a.writers r (turned (a.writers r)) refl) readable;
+      kept = world_by (documents_in t.documents) later _ (λ q. is_among (with_writer a.writers r (turned (a.writers r)) q).written) (same_progress a.writers r (turned (a.writers r)) refl) readable;
+      unstopped = a.unstopped;
     }
 
   abbrev wanting : Writer → Writer
@@ -61,6 +61,6 @@ module _ (past : Past) (t : Table) (running : ℕ → Option Running) (a : AreCo
     sound = want_keeps (core_in past t a.writers) x.draw a.sound (goes past t running a told s x here uncommitted going);
     theirs = theirs_step past a.writers running a.theirs s x here (wanting (a.writers r)) (wanting x.writer) (ap wanting (mine past t running a told s x here).writer) x.committed past (λ q. refl) (λ q. refl) (λ q k. refl) (mine past t running a told s x here).committed;
     listed = at_session (λ q (y : Running). y.writer.paths ≡ paths_to_write y.draw.marks) running s _ (a.listed s x here) (λ q y f h. a.listed q y h);
-    holds = a.holds;
-    partly = partly_by (documents_in t.documents) past _ (λ q. is_among (with_writer a.writers r (wanting (a.writers r)) q).written) (same_progress a.writers r (wanting (a.writers r)) refl) (world_of past t running a told);
+    kept = world_by (documents_in t.documents) past _ (λ q. is_among (with_writer a.writers r (wanting (a.writers r)) q).written) (same_progress a.writers r (wanting (a.writers r)) refl) (world_of past t running a told);
+    unstopped = a.unstopped;
   }

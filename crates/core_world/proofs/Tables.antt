@@ -22,7 +22,10 @@ use Rattle.oak_store.specs.Tables.{Table, after_undo, found, next_number, with_d
 use Rattle.core_read.specs.Holds.{IsWrite}
 use Rattle.core_read.proofs.Entries.{exactly}
 use Rattle.core_clash.specs.Core.{with_document as with_node}
-use Rattle.core_world.specs.States.{nodes_in}
+use Rattle.core_keep.specs.Steps.{IsMainAt}
+use Rattle.oak_read.specs.Meaning.{Documents}
+use Rattle.std.specs.List.{filter_map}
+use Rattle.core_world.specs.States.{moved_in, nodes_in}
 
 -- ---- ids
 
@@ -72,6 +75,60 @@ put_write t p d n = record {
   else_ = λ q h. put_is t (id.Node p) d n (id.Node q) ∙ ap (λ b. cond b (Some d) (documents_in t.documents (id.Node q))) (other_node q p h);
 }
 
+-- a node's document is no previous one
+other_kind : (k : ℕ) (q p : Path) → eq_by_cmp id_cmp (id.Prev k q) (id.Node p) ≡ false
+other_kind k q p = by (eq_by_cmp id_cmp (id.Prev k q) (id.Node p)) refl
+  where
+    never : id.Prev k q ≡ id.Node p → ⊥
+    never h = cc
+
+    by : (b : Bool) → eq_by_cmp id_cmp (id.Prev k q) (id.Node p) ≡ b → b ≡ false
+    by false h = refl
+    by true h = absurd (never (one_id (id.Prev k q) (id.Node p) h))
+
+-- the node's document alone is changed
+main_from : (ds now : Documents) (p : Path) (d : Document) → ((j : DocId) → now j ≡ cond (eq_by_cmp id_cmp j (id.Node p)) (Some d) (ds j)) → IsMainAt ds now p d
+main_from ds now p d put = record {
+  elsewhere = record {
+    node = λ q h. put (id.Node q) ∙ ap (λ b. cond b (Some d) (ds (id.Node q))) (other_node q p h);
+    previous = λ k q h. put (id.Prev k q) ∙ ap (λ b. cond b (Some d) (ds (id.Prev k q))) (other_kind k q p);
+  };
+  at = put (id.Node p) ∙ ap (λ b. cond b (Some d) (ds (id.Node p))) (id_itself (id.Node p));
+  previous_here = λ k. put (id.Prev k p) ∙ ap (λ b. cond b (Some d) (ds (id.Prev k p))) (other_kind k p p);
+}
+
+-- what is listed stays, where the changed document lists what it listed
+abbrev lists_in : Documents → Path → List Document
+lists_in ds p = option_map_or (λ d. filter_map (λ e. ds (id.Prev e.number p)) d.prev) (ds (id.Node p)) []
+
+listed_stay : (ds now : Documents) (p : Path) (d : Document) → IsMainAt ds now p d → d.prev ≡ option_map_or (λ d. d.prev) (ds (id.Node p)) [] → (q : Path) → lists_in now q ≡ lists_in ds q
+listed_stay ds now p d main same q = ap (λ (f : ℕ → Option Document). option_map_or (λ d. filter_map (λ e. f e.number) d.prev) (now (id.Node q)) []) (fun_ext (λ k. previous k)) ∙ by (eq_by_cmp path_cmp q p) refl
+  where
+    previous : (k : ℕ) → now (id.Prev k q) ≡ ds (id.Prev k q)
+    previous k = at (eq_by_cmp path_cmp q p) refl
+      where
+        at : (b : Bool) → eq_by_cmp path_cmp q p ≡ b → now (id.Prev k q) ≡ ds (id.Prev k q)
+        at false h = main.elsewhere.previous k q h
+        at true h = subst (λ (z : Path). now (id.Prev k z) ≡ ds (id.Prev k z)) (sym (Rattle.jr_path.proofs.Maps.path_exact q p (exactly (path_cmp q p) h))) (main.previous_here k)
+
+    here : (z : Path) (o : Option Document) → filter_map (λ e. ds (id.Prev e.number z)) (option_map_or (λ d. d.prev) o []) ≡ option_map_or (λ d. filter_map (λ e. ds (id.Prev e.number z)) d.prev) o []
+    here z None = refl
+    here z (Some old) = refl
+
+    by : (b : Bool) → eq_by_cmp path_cmp q p ≡ b → option_map_or (λ d. filter_map (λ e. ds (id.Prev e.number q)) d.prev) (now (id.Node q)) [] ≡ lists_in ds q
+    by false h = ap (λ (o : Option Document). option_map_or (λ d. filter_map (λ e. ds (id.Prev e.number q)) d.prev) o []) (main.elsewhere.node q h)
+    by true h =
+        let one : q ≡ p = Rattle.jr_path.proofs.Maps.path_exact q p (exactly (path_cmp q p) h) in
+        subst (λ (z : Path). option_map_or (λ d. filter_map (λ e. ds (id.Prev e.number z)) d.prev) (now (id.Node z)) [] ≡ lists_in ds z) (sym one)
+        (ap (λ (o : Option Document). option_map_or (λ d. filter_map (λ e. ds (id.Prev e.number p)) d.prev) o []) main.at
+        ∙ (ap (filter_map (λ e. ds (id.Prev e.number p))) same ∙ here p (ds (id.Node p))))
+
+pub put_main : (t : Table) (p : Path) (d : Document) (n : ℕ) → IsMainAt (documents_in t.documents) (documents_in (with_document t (id.Node p) d n).documents) p d
+put_main t p d n = main_from (documents_in t.documents) (documents_in (with_document t (id.Node p) d n).documents) p d (put_is t (id.Node p) d n)
+
+pub moved_stays : (t u : Table) (p : Path) (d : Document) → IsMainAt (documents_in t.documents) (documents_in u.documents) p d → d.prev ≡ option_map_or (λ d. d.prev) (nodes_in t p) [] → moved_in u ≡ moved_in t
+moved_stays t u p d main same = fun_ext (λ q. listed_stay (documents_in t.documents) (documents_in u.documents) p d main same q)
+
 -- ---- a document's value is set
 
 pub set_at : (i j : DocId) (w : Document) (es : List (DocId × Document)) → is_some (lookup (is_at (id_cmp j)) es) ≡ true → lookup (is_at (id_cmp i)) (set_value (is_at (id_cmp j)) es w) ≡ cond (eq_by_cmp id_cmp i j) (Some w) (lookup (is_at (id_cmp i)) es)
@@ -116,3 +173,6 @@ module _ (t : Table) (p : Path) (r : Revision) where
     at = undo_at d is (id.Node p) ∙ ap (λ b. cond b (Some (undone d r (next_number t))) (documents_in t.documents (id.Node p))) (id_itself (id.Node p));
     else_ = λ q h. undo_at d is (id.Node q) ∙ ap (λ b. cond b (Some (undone d r (next_number t))) (documents_in t.documents (id.Node q))) (other_node q p h);
   }
+
+  pub undo_main : (d : Document) → found t (id.Node p) ≡ Some d → IsMainAt (documents_in t.documents) (documents_in (after_undo t (id.Node p) r).documents) p (undone d r (next_number t))
+  undo_main d is = main_from (documents_in t.documents) (documents_in (after_undo t (id.Node p) r).documents) p (undone d r (next_number t)) (undo_at d is)

@@ -1,15 +1,22 @@
 -- What is true of each world that is kept.
+use Rattle.oak_clash.specs.declared.mark.Mark.{Mark}
+use Rattle.core_clash.specs.Sound.{marked_in}
+use Rattle.core_clash.specs.Core.{whole}
+use Rattle.core_clash.proofs.Whole.{whole_from}
+use Rattle.core_world.specs.States.{moved_in}
+use Rattle.core_keep.proofs.Journal.{edit_is, reading}
+use Rattle.core_world.specs.Kept.{IsAboveBounds}
+use Rattle.core_world.proofs.Readers.{pair_held}
 use Rattle.std.proofs.Common.{◌≡◌, ◌⊎◌, inl, inr, ℕ, ◌≤◌, Bool, true, false, not, ◌&&◌, cond, Some, None, Option, List, [], ◌∷◌, length, is_some, refl, sym, ap, subst, ◌∙◌, arith}
 use Rattle.std.specs.Prelude.{slice_get}
-use Rattle.std.specs.Option.{option_map, option_map_or, unwrap_or}
+use Rattle.std.specs.Option.{option_map_or, unwrap_or}
 use mathlib.Core.Bool.{false≢true}
 use Rattle.jr_path.specs.declared.path.Path.{Path}
 use Rattle.jr_path.specs.declared.path.Item.{Item}
 use Rattle.jr_rev.specs.declared.revision.Revision.{Revision}
 use Rattle.jr_rev.specs.declared.vector.Pin.{Pin}
-use Rattle.jr_rev.specs.declared.vector.RevVec.{RevVec}
 use Rattle.jr_rev.specs.Revisions.{is_before, is_same}
-use Rattle.jr_rev.specs.Vectors.{sees, start, start_of}
+use Rattle.jr_rev.specs.Vectors.{sees, start_of}
 use Rattle.jr_tree.specs.Trees.{node_at}
 use Rattle.oak_clash.specs.Clashes.{commit_root}
 use Rattle.oak_commit.specs.Clashing.{Met, Writer, found, marked}
@@ -21,13 +28,11 @@ use Rattle.oak_machine.specs.History.{Past}
 use Rattle.oak_machine.specs.Commits.{IsClosed, IsSettled, are_clashing, draw_of, is_committed, is_drawn, is_ended, is_in_base, is_in_flight, is_refused, refusal_of, tree_at}
 use Rattle.oak_machine.specs.Laws.{Says, Starts, StartsProper}
 use Rattle.oak_machine.specs.Runs.{AreNodes, IsNode, IsRunOf}
-use Rattle.oak_machine.specs.Sessions.{base_of, has_left, has_login}
+use Rattle.oak_machine.specs.Sessions.{base_of, has_left, has_login, is_attached}
 use Rattle.oak_node.specs.Heads.{IsInFlight, known_time}
 use Rattle.oak_node.specs.Pins.{pin_of}
 use Rattle.oak_read.specs.Meaning.{documents_in, found_node}
 use Rattle.core_read.specs.Holds.{edit_of, root_entry, the_start}
-use Rattle.core_read.specs.Told.{IsInUse}
-use Rattle.core_read.proofs.Reading.{reading}
 use Rattle.core_read.proofs.Told.{base_is as base_sees, no_edit}
 use Rattle.core_read.proofs.Vectors.{time_before}
 use Rattle.core_heads.specs.Sound.{IsHeld}
@@ -36,23 +41,24 @@ use Rattle.core_clash.specs.Core.{root_of}
 use Rattle.core_clash.specs.Sessions.{IsTheirs, Running}
 use Rattle.core_clash.specs.Sound.{Cause, IsRooted}
 use Rattle.core_clash.specs.Views.{In}
-use Rattle.core_clash.proofs.Basics.{not_both, same_revision, some_of, test}
+use Rattle.core_keep.specs.Journal.{is_swept}
+use Rattle.core_clash.proofs.Basics.{not_both, or_left, same_revision, some_of, test}
 use Rattle.core_clash.proofs.Complete.{complete, meets_clashing}
 use Rattle.core_clash.proofs.Meetings.{meeting}
 use Rattle.core_clash.proofs.Pasts.{in_flight, refused_for}
-use Rattle.core_clash.proofs.Steps.{no_unseen_clash, told_root, undone_whole}
+use Rattle.core_clash.proofs.Steps.{no_unseen_clash, told_root, undone_here}
+use Rattle.core_nodes.specs.Nodes.{IsPair, base_of_pin}
 use Rattle.core_nodes.proofs.Times.{known_events}
 use Rattle.core_nodes.proofs.Waits.{flying_is}
-use Rattle.core_world.specs.Kept.{IsFreeOf, IsKept}
+use Rattle.core_world.specs.Kept.{IsFreeOf, AreSessionsKept}
 use Rattle.core_world.specs.States.{State, base_in, core_in, memory_at, memory_of, nodes_in}
 use Rattle.core_world.proofs.Commits.{on_its_node}
-use Rattle.core_world.proofs.Draws.{base_is, its_pin}
+use Rattle.core_world.proofs.Draws.{base_is, its_base, its_pair, some_pin}
 use Rattle.core_world.proofs.Lives.{session_there, told}
-use Rattle.core_world.proofs.Loads.{start_in_use}
-use Rattle.core_world.proofs.Readers.{HasPin, pinned_is, session_pinned}
+use Rattle.core_world.proofs.Readers.{HasBase, based_is, pinned_held}
 
 -- the commit root of a drawn revision stays, whatever follows
-pub root_stays : (starts : Starts) (says : Says) (clusters : ℕ) (sessions : List ℕ) → AreNodes clusters sessions → (e : Event) (past : Past) (r : Revision) → IsRunOf starts says clusters sessions (e ∷ past) → is_drawn past r ≡ true → root_of (e ∷ past) r ≡ root_of past r
+pub root_stays : (starts : Starts) (says : Says) (clusters : ℕ) (sessions : List ℕ) → AreNodes clusters sessions → (e : Event) (past : Past) (r : Revision) → IsRunOf starts says clusters sessions None (e ∷ past) → is_drawn past r ≡ true → root_of (e ∷ past) r ≡ root_of past r
 root_stays starts says clusters sessions nodes (event.Draw d) past r run drawn = by (is_same r d.revision) refl
   where
     fresh : draw_of past d.revision ≡ None
@@ -63,15 +69,15 @@ root_stays starts says clusters sessions nodes (event.Draw d) past r run drawn =
     by true h = absurd (false≢true (sym (ap (λ (o : Option Draw). is_some o) (ap (draw_of past) (same_revision r d.revision h) ∙ fresh)) ∙ drawn))
 root_stays starts says clusters sessions nodes e past r run drawn = refl
 
-module _ (starts : Starts) (says : Says) (proper : StartsProper starts) (w : State) (kept : IsKept starts says w) where
+module _ (starts : Starts) (says : Says) (proper : StartsProper starts) (w : State) (kept : AreSessionsKept starts says w) where
   -- ---- pins
 
   module _ (s : ℕ) (there : is_some (slice_get w.sessions s) ≡ true) (pin : Pin) (has_pin : pin_of (memory_of w s) s ≡ Some pin) where
-    pinned : HasPin w.clusters w.past s pin
-    pinned = pinned_is w.clusters w.past s pin (sym (its_pin starts says proper w kept s there) ∙ has_pin)
+    based : HasBase w.past s pin.base
+    based = based_is w.past s pin.base (sym (its_base starts says proper w kept s there) ∙ ap base_of_pin has_pin)
 
     held : IsHeld w.past pin.base
-    held = (sound_run w.clusters w.sessions kept.nodes starts says w.past kept.run).bases s pin.base pinned.base
+    held = pinned_held starts says w.clusters w.sessions kept.nodes w.past kept.run s pin.base based.base
 
     pub pin_settled : IsSettled w.past pin.base
     pin_settled = held_settled w.past pin.base held
@@ -79,15 +85,22 @@ module _ (starts : Starts) (says : Says) (proper : StartsProper starts) (w : Sta
     pub pin_closed : IsClosed w.past pin.base
     pin_closed = closed_run w.clusters w.sessions kept.nodes starts says w.past kept.run pin.base held
 
-    pub pin_shows : (p : Path) → found_node (documents_in w.table.documents) pin.sweep pin.base p ≡ option_map (λ node. node.props) (node_at (tree_at w.past pin.base) p)
-    pin_shows p = reading (documents_in w.table.documents) w.past pin.sweep pin.base kept.committing.holds (told starts says proper w kept) (held_in_use w.past pin.base held)
-        (subst (λ (v : RevVec). IsInUse w.past v) (sym pinned.sweep) (start_in_use starts says proper w kept)) p
+    pub pin_shows : IsAboveBounds w.past pin → (p : Path) → found_node (documents_in w.table.documents) pin.sweep pin.base p ≡ node_at (tree_at None w.past pin.base) p
+    pin_shows above p =
+        let world = kept.committing.kept in
+        reading (documents_in w.table.documents) w.past pin.base pin.sweep world.keeps world.told world.separate world.bounded world.swept
+        (pair_held w.past pin (held_in_use w.past pin.base held) (its_pair starts says proper w kept s there pin has_pin) above) p
 
   -- a session that is there has a pin, at its base
-  pub pin_there : (s : ℕ) → has_login w.past s ≡ true → has_left w.past s ≡ false → (pin_of (memory_of w s) s ≡ Some (record { base = base_in w s; sweep = start w.clusters })) × (base_of w.past s ≡ Some (base_in w s))
+  pub pin_there : (s : ℕ) → has_login w.past s ≡ true → has_left w.past s ≡ false → (pin : Pin) × (pin_of (memory_of w s) s ≡ Some pin) × (pin.base ≡ base_in w s) × (is_attached w.past s ≡ false → base_of w.past s ≡ Some (base_in w s)) × IsPair pin.base pin.sweep
   pin_there s login stays =
-      let base = base_is starts says proper w kept s login stays in
-      (its_pin starts says proper w kept s (session_there starts says proper w kept s login) ∙ session_pinned w.clusters w.past s (base_in w s) login stays base, base)
+      let p = some_pin starts says proper w kept s login stays in (
+        p.0,
+        p.1,
+        sym (ap (λ (o : Option Pin). option_map_or (λ (pin : Pin). pin.base) o (memory_of w s).head) p.1),
+        base_is starts says proper w kept s login stays,
+        its_pair starts says proper w kept s (session_there starts says proper w kept s login) p.0 p.1,
+      )
 
   -- ---- committers
 
@@ -115,12 +128,27 @@ module _ (starts : Starts) (says : Says) (proper : StartsProper starts) (w : Sta
     sees_start : sees x.draw.base (start_of 1) ≡ true
     sees_start = sym (base_sees w.past x.draw.revision x.draw mine.draw (start_of 1)) ∙ kept.committing.sound.start x.draw.revision (ap (λ (o : Option Draw). is_some o) mine.draw)
 
-    -- the document in which it meets another tells the other's commit root
-    pub met_rooted : (p : Path) (f : Met) → In f (found x.draw.base x.draw.revision p x.draw.marks (nodes_in w.table p)) → IsRooted (nodes_in w.table p) f.other (root_of w.past f.other)
+    -- whom the base doesn't see no bound has swept
+    fresh : (o : Revision) → sees x.draw.base o ≡ false → (b : Bool) → is_swept w.past o ≡ b → b ≡ false
+    fresh o outside false h = refl
+    fresh o outside true h = absurd (false≢true (sym outside ∙ (sym (base_sees w.past x.draw.revision x.draw mine.draw o)
+        ∙ kept.committing.sound.bounds.below x.draw.revision o (in_flight w.past x.draw.revision x.draw mine.draw mine.unended) (kept.committing.sound.bounds.swept o h))))
+
+    -- a document that has a mark of whom it doesn't see tells the commit root
+    outside_rooted : (p : Path) (o : Revision) (m : Mark) → sees x.draw.base o ≡ false → marked_in (nodes_in w.table p) (moved_in w.table p) o m ≡ true → IsRooted (nodes_in w.table p) o (root_of w.past o)
+    outside_rooted p o m outside mark = told_root (core_in w.past w.table kept.committing.writers) o p m kept.committing.sound (fresh o outside (is_swept w.past o) refl)
+        (λ e. false≢true (sym outside ∙ (ap (sees x.draw.base) e ∙ sees_start))) mark
+
+    -- the document in which it meets another, there or in a previous one, tells the other's commit root
+    pub met_rooted : (p : Path) (f : Met) → In f (found x.draw.base x.draw.revision p x.draw.marks (whole p (nodes_in w.table p) (moved_in w.table p))) → IsRooted (nodes_in w.table p) f.other (root_of w.past f.other)
     met_rooted p f h =
+        let met = (meeting x.draw.base x.draw.revision p x.draw.marks (whole p (nodes_in w.table p) (moved_in w.table p))).each f h in
+        outside_rooted p f.other met.mark.0 met.outside (whole_from p f.other (nodes_in w.table p) (moved_in w.table p) met.mark.0 met.mark.1)
+
+    pub met_here : (p : Path) (f : Met) → In f (found x.draw.base x.draw.revision p x.draw.marks (nodes_in w.table p)) → IsRooted (nodes_in w.table p) f.other (root_of w.past f.other)
+    met_here p f h =
         let met = (meeting x.draw.base x.draw.revision p x.draw.marks (nodes_in w.table p)).each f h in
-        told_root (core_in w.past w.table kept.committing.writers) f.other p met.mark.0 kept.committing.sound
-        (λ e. false≢true (sym met.outside ∙ (ap (sees x.draw.base) e ∙ sees_start))) met.mark.1
+        outside_rooted p f.other met.mark.0 met.outside (or_left (marked (nodes_in w.table p) f.other met.mark.0) _ met.mark.1)
 
   -- ---- commits
 
@@ -170,9 +198,9 @@ module _ (starts : Starts) (says : Says) (proper : StartsProper starts) (w : Sta
 
     pub leaves_nothing : (p : Path) (d : Document) → nodes_in w.table p ≡ Some d → IsFreeOf r d
     leaves_nothing p d is = record {
-      marks = λ m. subst (λ (o : Option Document). marked o r m ≡ false) is (undone_whole (core_in w.past w.table kept.committing.writers) r p m kept.committing.sound no_start ended uncommitted);
-      root = ap (λ (o : Option ℕ). is_some o) (subst (λ (o : Option Document). root_entry o r ≡ None) is (kept.committing.holds.no_root p r none grounded));
-      said = subst (λ (o : Option Document). Rattle.core_read.specs.Holds.has_revision o r ≡ false) is (kept.committing.holds.unsaid p r none);
+      marks = λ m. subst (λ (o : Option Document). marked o r m ≡ false) is (undone_here (core_in w.past w.table kept.committing.writers) r p m kept.committing.sound no_start ended uncommitted);
+      root = ap (λ (o : Option ℕ). is_some o) (subst (λ (o : Option Document). root_entry o r ≡ None) is ((kept.committing.kept.keeps p).no_root r (edit_is w.past kept.committing.kept.told r ∙ none) refl grounded));
+      said = subst (λ (o : Option Document). Rattle.core_read.specs.Holds.has_revision o r ≡ false) is ((kept.committing.kept.keeps p).unsaid r (edit_is w.past kept.committing.kept.told r ∙ none) refl);
     }
 
   -- ---- times

@@ -14,7 +14,10 @@ use Rattle.oak_store.specs.Tables.{Table}
 use Rattle.core_read.specs.Committing.{IsPartly}
 use Rattle.core_read.specs.Holds.{edit_of, the_start}
 use Rattle.core_read.specs.Told.{IsTold}
-use Rattle.core_read.specs.World.{IsWorld, Progress}
+use Rattle.core_read.specs.World.{Progress}
+use Rattle.core_keep.specs.Journal.{IsKeptWorld}
+use Rattle.oak_doc.specs.declared.document.Document.{Document}
+use Rattle.jr_path.specs.declared.path.DocId.TheVariants as id
 use Rattle.core_read.proofs.Told.{no_edit}
 use Rattle.core_clash.specs.Core.{IsGoing, root_of}
 use Rattle.core_clash.specs.Sessions.{IsTheirs, Running}
@@ -25,8 +28,8 @@ use Rattle.core_world.proofs.Progress.{partly_same}
 
 module _ (past : Past) (t : Table) (running : ℕ → Option Running) (a : AreCommitting past t running) (told : IsTold past) where
   -- the documents, the past and the progress of the writers
-  pub world_of : IsWorld (documents_in t.documents) past (λ r. has_written (a.writers r))
-  world_of = record { holds = a.holds; told = told; partly = a.partly }
+  pub world_of : IsKeptWorld (documents_in t.documents) past (λ r. has_written (a.writers r))
+  world_of = a.kept
 
   module _ (s : ℕ) (x : Running) (here : running s ≡ Some x) where
     pub mine : IsTheirs past a.writers s x
@@ -48,8 +51,19 @@ module _ (past : Past) (t : Table) (running : ℕ → Option Running) (a : AreCo
     pending uncommitted = no_edit past x.draw.revision after_start (mine.committed ∙ uncommitted)
 
     pub goes : x.committed ≡ false → x.writer.undoing ≡ false → IsGoing (core_in past t a.writers) x.draw
-    goes uncommitted going = record { draw = mine.draw; unended = mine.unended; uncommitted = mine.committed ∙ uncommitted; going = ap (λ (w : Writer). w.undoing) mine.writer ∙ going }
+    goes uncommitted going = record { running = a.unstopped x.draw.revision.cluster; draw = mine.draw; unended = mine.unended; uncommitted = mine.committed ∙ uncommitted; going = ap (λ (w : Writer). w.undoing) mine.writer ∙ going }
 
 -- what is written, by another measure of the same
-pub partly_by : (ds : Documents) (past : Past) (done more : Progress) → ((q : Revision) (p : Path) → done q p ≡ more q p) → IsWorld ds past done → (r : Revision) (d : Draw) → draw_of past r ≡ Some d → edit_of past r ≡ None → IsPartly ds r d.edit.writes (commit_root d.marks) (more r)
-partly_by ds past done more same world r d drawn none = partly_same ds r d.edit.writes (commit_root d.marks) (done r) (more r) (same r) (world.partly r d drawn none)
+pub world_by : (ds : Documents) (past : Past) (done more : Progress) → ((q : Revision) (p : Path) → done q p ≡ more q p) → IsKeptWorld ds past done → IsKeptWorld ds past more
+world_by ds past done more same world = record {
+  keeps = world.keeps;
+  told = world.told;
+  separate = world.separate;
+  bounded = world.bounded;
+  swept = world.swept;
+  partly = λ r d drawn flying none. partly_same ds r d.edit.writes (commit_root d.marks) (done r) (more r) (same r) (world.partly r d drawn flying none);
+}
+
+-- the node's document has its name
+pub kept_name : (ds : Documents) (past : Past) (done : Progress) → IsKeptWorld ds past done → (p : Path) (d : Document) → ds (id.Node p) ≡ Some d → d.id ≡ id.Node p
+kept_name ds past done world p d h = (world.keeps p).named d h

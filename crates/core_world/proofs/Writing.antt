@@ -20,17 +20,17 @@ use Rattle.oak_machine.specs.declared.event.StepKind.TheVariants as kind
 use Rattle.oak_machine.specs.History.{Past}
 use Rattle.oak_read.specs.Meaning.{documents_in}
 use Rattle.oak_store.specs.Tables.{Table, next_number, with_document}
-use Rattle.jr_rev.specs.declared.vector.RevVec.{RevVec}
 use Rattle.core_read.specs.Committing.{IsWriteOp, is_marking}
 use Rattle.core_read.specs.Holds.{IsSameBut}
-use Rattle.core_read.specs.Told.{IsInUse, IsTold}
-use Rattle.core_read.specs.World.{IsWorld}
+use Rattle.core_read.specs.Told.{IsTold}
 use Rattle.core_read.proofs.Committing.{op_all}
 use Rattle.core_read.proofs.Entries.{first, second, both}
 use Rattle.core_read.proofs.Roots.{below_root}
 use Rattle.core_read.proofs.Updates.{update_same}
-use Rattle.core_read.proofs.World.{with_progress, world_quiet, world_write_op}
-use Rattle.core_clash.specs.Core.{Docs, MayWrite, with_writer}
+use Rattle.core_keep.specs.Journal.{with_progress, IsKeptWorld}
+use Rattle.core_keep.proofs.Events.{kept_idle}
+use Rattle.core_keep.proofs.World.{kept_write_op}
+use Rattle.core_clash.specs.Core.{Docs, MayWrite, whole, with_writer}
 use Rattle.core_clash.specs.Sessions.{Running}
 use Rattle.core_clash.specs.Sound.{Sound}
 use Rattle.core_clash.specs.Views.{In, Once, mark_at}
@@ -38,24 +38,24 @@ use Rattle.core_clash.proofs.Basics.{In-right, is_in, once_apart}
 use Rattle.core_clash.proofs.Meetings.{meeting}
 use Rattle.core_clash.proofs.Updates.{writes, write_is}
 use Rattle.core_clash.proofs.Written.{write_keeps}
-use Rattle.core_watch.specs.Copies.{IsSteady}
-use Rattle.core_watch.proofs.Steady.{change_steady, event_steady, steady_then}
-use Rattle.core_world.specs.States.{core_in, nodes_in, with_session}
+use Rattle.core_watch.proofs.GoingOn.{on_write}
+use Rattle.core_world.proofs.Letting.{LetsRead, lets_event, lets_on, lets_then, lists_main}
+use Rattle.core_world.specs.States.{core_in, moved_in, nodes_in, with_session}
 use Rattle.core_world.specs.Steps.{after_update, paths_to_write, with_result}
 use Rattle.core_world.specs.Kept.{AreCommitting}
 use Rattle.core_world.proofs.Committers.{at_session, theirs_step}
 use Rattle.core_world.proofs.Paths.{HasMark, path_marked}
 use Rattle.core_world.proofs.Progress.{among_more, is_among, not_among, progress_with}
-use Rattle.core_world.proofs.Tables.{put_node, put_write}
-use Rattle.core_world.proofs.Working.{flies, goes, mine, partly_by, pending, world_of}
+use Rattle.core_world.proofs.Tables.{moved_stays, put_main, put_node}
+use Rattle.core_world.proofs.Working.{flies, goes, kept_name, mine, pending, world_by, world_of}
 
 -- ---- marks that are entries of no item
 
-all_append : {X : Type 0} (test : X → Bool) (xs ys : List X) → list_all test xs ≡ true → list_all test ys ≡ true → list_all test (xs ++ ys) ≡ true
+pub all_append : {X : Type 0} (test : X → Bool) (xs ys : List X) → list_all test xs ≡ true → list_all test ys ≡ true → list_all test (xs ++ ys) ≡ true
 all_append test [] ys h k = k
 all_append test (x ∷ xs) ys h k = both _ _ (first _ _ h) (all_append test xs ys (second _ _ h) k)
 
-all_flat : {X Y : Type 0} (test : Y → Bool) (f : X → List Y) → ((x : X) → list_all test (f x) ≡ true) → (xs : List X) → list_all test (flat_map f xs) ≡ true
+pub all_flat : {X Y : Type 0} (test : Y → Bool) (f : X → List Y) → ((x : X) → list_all test (f x) ≡ true) → (xs : List X) → list_all test (flat_map f xs) ≡ true
 all_flat test f h [] = refl
 all_flat test f h (x ∷ xs) = all_append test (f x) (flat_map f xs) (h x) (all_flat test f h xs)
 
@@ -89,7 +89,7 @@ module _ (past : Past) (t : Table) (running : ℕ → Option Running) (a : AreCo
 
   -- what a writer is then
   abbrev wrote : Writer → Writer
-  wrote w = record w { left = rest; written = w.written ++ p ∷ []; due = found x.draw.base x.draw.revision p x.draw.marks (nodes_in t p) }
+  wrote w = record w { left = rest; written = w.written ++ p ∷ []; due = found x.draw.base x.draw.revision p x.draw.marks (whole p (nodes_in t p) (moved_in t p)) }
 
   abbrev later : Past
   later = event.Went x.draw.session kind.Write ∷ past
@@ -103,11 +103,6 @@ module _ (past : Past) (t : Table) (running : ℕ → Option Running) (a : AreCo
 
   made : after_update t op ≡ now
   made = ap (with_result t (id.Node p)) (write_is (nodes_in t p) x.draw p n)
-
-  sound : Sound (core_in later now (with_writer a.writers r (wrote (a.writers r))))
-  sound = subst (λ (docs : Docs). Sound (record { number = n; docs = docs; past = later; writers = with_writer a.writers r (wrote (a.writers r)) })) (sym (put_node t p doc n))
-      (write_keeps (core_in past t a.writers) x.draw p rest n (Rattle.core_clash.specs.Core.with_document (nodes_in t) p doc) (found x.draw.base r p x.draw.marks (nodes_in t p)) a.sound may
-      (writes (nodes_in t) x.draw p n (a.sound.ordered p) (a.sound.edits r x.draw may.going.draw)) (meeting x.draw.base r p x.draw.marks (nodes_in t p)))
 
   -- p is a marked path, and not written yet
   in_left : In p (a.writers r).left
@@ -124,20 +119,30 @@ module _ (past : Past) (t : Table) (running : ℕ → Option Running) (a : AreCo
   wop = record { at = refl; changes = refl; marking = markings_mark r p x.draw.marks; below = below_root x.draw.marks (mark_at p marked.mark) (is_in (mark_at p marked.mark) x.draw.marks marked.in_marks) }
 
   same_but : IsSameBut r p (nodes_in t p) doc
-  same_but = update_same r p (nodes_in t p) op n refl (a.holds.named p) (op_all op r x.draw.edit.writes (commit_root x.draw.marks) p (markings_at r p x.draw.marks) (nodes_in t p) n wop (a.holds.named p) ((a.partly r x.draw may.going.draw (pending past t running a told s x here uncommitted)).left p new))
+  same_but = update_same r p (nodes_in t p) op n refl (kept_name (documents_in t.documents) past _ a.kept p)
+      (op_all op r x.draw.edit.writes (commit_root x.draw.marks) p (markings_at r p x.draw.marks) (nodes_in t p) n wop (kept_name (documents_in t.documents) past _ a.kept p) ((a.kept.partly r x.draw may.going.draw (flies past t running a told s x here) (pending past t running a told s x here uncommitted)).left p new))
 
-  -- a vector in use sees what it saw
-  pub write_steady : (v : RevVec) → IsInUse past v → IsSteady v (documents_in t.documents) (documents_in (after_update t op).documents) past later
-  write_steady v used = subst (λ (u : Table). IsSteady v (documents_in t.documents) (documents_in u.documents) past later) (sym made)
-      (steady_then v (documents_in t.documents) (documents_in now.documents) (documents_in now.documents) past past later
-      (change_steady v (documents_in t.documents) (documents_in now.documents) past r p doc used (flies past t running a told s x here) (put_write t p doc n) same_but)
-      (event_steady v (documents_in now.documents) past (event.Went x.draw.session kind.Write) (λ q. refl)))
+  sound : Sound (core_in later now (with_writer a.writers r (wrote (a.writers r))))
+  sound = subst (λ (docs : Docs). Sound (record { number = n; docs = docs; moved = moved_in now; past = later; writers = with_writer a.writers r (wrote (a.writers r)) })) (sym (put_node t p doc n))
+      (subst (λ (moved : Path → List Document). Sound (record { number = n; docs = Rattle.core_clash.specs.Core.with_document (nodes_in t) p doc; moved = moved; past = later; writers = with_writer a.writers r (wrote (a.writers r)) })) (sym (moved_stays t now p doc (put_main t p doc n) same_but.whole))
+      (write_keeps (core_in past t a.writers) x.draw p rest n (Rattle.core_clash.specs.Core.with_document (nodes_in t) p doc) (found x.draw.base r p x.draw.marks (whole p (nodes_in t p) (moved_in t p))) a.sound may
+      (writes (nodes_in t) x.draw p n (a.sound.ordered p) (a.sound.edits r x.draw may.going.draw)) (meeting x.draw.base r p x.draw.marks (whole p (nodes_in t p) (moved_in t p)))))
 
-  readable : IsWorld (documents_in now.documents) later (with_progress (λ q. is_among (a.writers q).written) r (λ q. eq_by_cmp path_cmp q p || is_among (a.writers r).written q))
-  readable = world_quiet (documents_in now.documents) past _ (event.Went x.draw.session kind.Write) refl
-      (world_write_op (documents_in t.documents) (documents_in now.documents) past _ (world_of past t running a told) r x.draw may.going.draw (flies past t running a told s x here) (pending past t running a told s x here uncommitted) p op n (markings_at r p x.draw.marks)
+  written_world : IsKeptWorld (documents_in now.documents) past (with_progress (λ q. is_among (a.writers q).written) r (λ q. eq_by_cmp path_cmp q p || is_among (a.writers r).written q))
+  written_world = kept_write_op (documents_in t.documents) (documents_in now.documents) past _ (world_of past t running a told) r x.draw may.going.draw (flies past t running a told s x here) (pending past t running a told s x here uncommitted) p op n (markings_at r p x.draw.marks)
       wop
-      new (put_write t p doc n))
+      new (put_main t p doc n)
+
+  -- readers read on
+  pub write_lets : LetsRead t (after_update t op) past later
+  write_lets = subst (λ (u : Table). LetsRead t u past later) (sym made)
+      (lets_then t now now past past later (λ pin held. held)
+      (lets_on t now past past (λ pin ever held. on_write pin ever (documents_in t.documents) (documents_in now.documents) past _ (world_of past t running a told) held r x.draw may.going.draw (flies past t running a told s x here) (pending past t running a told s x here uncommitted) p (markings_at r p x.draw.marks) op n wop new (put_main t p doc n))
+      (lists_main (documents_in t.documents) (documents_in now.documents) p doc (put_main t p doc n) same_but.whole) (λ q. refl) (λ q. refl))
+      (lets_event now past _ written_world (event.Went x.draw.session kind.Write) (λ q. refl) (λ q. refl) (λ q. refl)))
+
+  readable : IsKeptWorld (documents_in now.documents) later (with_progress (λ q. is_among (a.writers q).written) r (λ q. eq_by_cmp path_cmp q p || is_among (a.writers r).written q))
+  readable = kept_idle (documents_in now.documents) past _ (event.Went x.draw.session kind.Write) refl written_world
 
   pub write_commits : AreCommitting later (after_update t op) (with_session running s (Some (record { draw = x.draw; writer = wrote x.writer; committed = x.committed })))
   write_commits = subst (λ (u : Table). AreCommitting later u (with_session running s (Some (record { draw = x.draw; writer = wrote x.writer; committed = x.committed })))) (sym made) (record {
@@ -145,6 +150,6 @@ module _ (past : Past) (t : Table) (running : ℕ → Option Running) (a : AreCo
     sound = sound;
     theirs = theirs_step past a.writers running a.theirs s x here (wrote (a.writers r)) (wrote x.writer) (ap wrote (mine past t running a told s x here).writer) x.committed later (λ q. refl) (λ q. refl) (λ q k. refl) (mine past t running a told s x here).committed;
     listed = at_session (λ q (y : Running). y.writer.paths ≡ paths_to_write y.draw.marks) running s _ (a.listed s x here) (λ q y f h. a.listed q y h);
-    holds = readable.holds;
-    partly = partly_by (documents_in now.documents) later _ (λ q. is_among (with_writer a.writers r (wrote (a.writers r)) q).written) (progress_with a.writers r (wrote (a.writers r)) _ (λ q. sym (among_more (a.writers r).written p q))) readable;
+    kept = world_by (documents_in now.documents) later _ (λ q. is_among (with_writer a.writers r (wrote (a.writers r)) q).written) (progress_with a.writers r (wrote (a.writers r)) _ (λ q. sym (among_more (a.writers r).written p q))) readable;
+    unstopped = a.unstopped;
   })

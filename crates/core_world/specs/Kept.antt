@@ -1,10 +1,18 @@
 -- What each world keeps: the journal is a run, the documents hold what it tells, the committers are sound, the memories are those of the journal, and the readers read.
-use Rattle.std.specs.Prelude.{◌≡◌, ℕ, Bool, List, length, Option, None, Some, IsFalse}
-use Rattle.std.specs.Ordering.{eq_by_cmp}
+use Rattle.std.specs.Prelude.{◌≡◌, ◌==◌, ◌∷◌, ◌&&◌, ℕ, Bool, cond, not, IsTrue, List, [], drop, length, Option, None, Some, IsFalse}
+use Rattle.std.specs.BTreeMap.{is_at}
+use Rattle.std.specs.FinMap.{is_sorted}
+use Rattle.std.specs.Map.{lookup}
+use Rattle.std.specs.Ordering.{eq_by_cmp, nat_cmp}
 use Rattle.std.specs.List.{list_any}
-use Rattle.jr_path.specs.Names.{path_cmp}
+use Rattle.jr_path.specs.Names.{name_cmp, path_cmp}
+use Rattle.jr_path.specs.declared.path.DocId.TheVariants as id
+use Rattle.jr_path.specs.declared.text.Text.{Text}
+use Rattle.jr_rev.specs.declared.vector.Pin.{Pin}
+use Rattle.oak_machine.specs.declared.event.Event.TheVariants as event
 use Rattle.jr_path.specs.declared.path.Path.{Path}
 use Rattle.jr_rev.specs.declared.revision.Revision.{Revision}
+use Rattle.jr_rev.specs.declared.vector.RevVec.{RevVec}
 use Rattle.oak_clash.specs.Clashes.{commit_root}
 use Rattle.oak_clash.specs.declared.mark.Mark.{Mark}
 use Rattle.oak_commit.specs.Clashing.{Writer, has, has_mark}
@@ -14,18 +22,22 @@ use Rattle.oak_machine.specs.History.{Past}
 use Rattle.oak_machine.specs.Commits.{draw_of}
 use Rattle.oak_machine.specs.Laws.{Says, Starts}
 use Rattle.oak_machine.specs.Runs.{AreNodes, IsNode, IsRunOf}
-use Rattle.oak_machine.specs.Sessions.{has_left, is_attached, is_drawing}
+use Rattle.oak_machine.specs.Sessions.{base_of, has_left, has_login, is_drawing, is_stopped, kept_checkpoint, last_checkpoint}
 use Rattle.oak_node.specs.Memory.{NodeState}
 use Rattle.oak_read.specs.declared.reader.Reader.{Reader}
 use Rattle.oak_read.specs.Meaning.{documents_in}
 use Rattle.oak_store.specs.Tables.{Table}
-use Rattle.core_read.specs.Committing.{IsPartly}
-use Rattle.core_read.specs.Holds.{Holds, edit_of}
 use Rattle.core_clash.specs.Sessions.{IsTheirs, Running}
 use Rattle.core_clash.specs.Sound.{Sound}
-use Rattle.core_nodes.specs.Nodes.{ArePinsOf, IsMemoryOf, session_pin}
-use Rattle.core_watch.specs.Standing.{IsReading}
-use Rattle.core_world.specs.States.{State, core_in, memory_at}
+use Rattle.core_nodes.specs.Nodes.{ArePinsOf, IsMemoryOf, IsOnRoot, IsPair, base_of_pin}
+use Rattle.core_watch.specs.Reading.{Ever, IsReading}
+use Rattle.core_watch.specs.Instants.{AreListed}
+use Rattle.jr_rev.specs.Vectors.{sees}
+use Rattle.core_read.specs.Told.{IsIn}
+use Rattle.core_keep.specs.Holding.{Holding}
+use Rattle.core_keep.specs.Journal.{is_bounded, is_swept, IsKeptWorld}
+use Rattle.core_world.specs.Held.{holding_in}
+use Rattle.core_world.specs.States.{State, actor_pin, core_in, memory_at, nodes_in}
 use Rattle.core_world.specs.Steps.{paths_to_write}
 
 -- ---- documents and committers
@@ -35,14 +47,14 @@ abbrev pub has_written : Writer → Path → Bool
 has_written w p = list_any (eq_by_cmp path_cmp p) w.written
 
 -- there are writers of all draws, also of those that have ended, with which the core is sound; the committers at work are those of their draws, and each writes the marked documents;
--- the documents hold the past; and each draw that isn't committed is written just where its writer has written
+-- the documents keep what the past tells, and each draw in flight that isn't committed is written just where its writer has written; and no cluster node was stopped
 pub record AreCommitting (past : Past) (t : Table) (running : ℕ → Option Running) : Type 0 where
   pub writers : Revision → Writer
   pub sound : Sound (core_in past t writers)
   pub theirs : (s : ℕ) (x : Running) → running s ≡ Some x → IsTheirs past writers s x
   pub listed : (s : ℕ) (x : Running) → running s ≡ Some x → x.writer.paths ≡ paths_to_write x.draw.marks
-  pub holds : Holds (documents_in t.documents) past
-  pub partly : (r : Revision) (d : Draw) → draw_of past r ≡ Some d → edit_of past r ≡ None → IsPartly (documents_in t.documents) r d.edit.writes (commit_root d.marks) (has_written (writers r))
+  pub kept : IsKeptWorld (documents_in t.documents) past (λ r. has_written (writers r))
+  pub unstopped : (k : ℕ) → IsFalse (is_stopped past k)
 
 -- the sessions with a committer at work are just those with a draw in flight, and they haven't left
 pub record AreAtWork (past : Past) (running : ℕ → Option Running) : Type 0 where
@@ -55,25 +67,93 @@ pub record AreAtWork (past : Past) (running : ℕ → Option Running) : Type 0 w
 pub record AreMemories (clusters : ℕ) (sessions : List ℕ) (past : Past) (memories : List NodeState) : Type 0 where
   pub counted : length memories ≡ clusters
   pub memory : (k : ℕ) → IsNode clusters k → IsMemoryOf clusters past k (memory_at memories k)
-  pub pins : (k : ℕ) → IsNode clusters k → ArePinsOf clusters sessions past k (memory_at memories k)
+  pub pins : (k : ℕ) → IsNode clusters k → ArePinsOf sessions past k (memory_at memories k)
 
 -- ---- readers
 
--- each reader reads the tree at the pin of its session
-pub record AreReading (clusters : ℕ) (past : Past) (t : Table) (reading : ℕ → Option Reader) : Type 0 where
-  pub reads : (s : ℕ) (r : Reader) → reading s ≡ Some r → IsReading (documents_in t.documents) past r
-  pub at_pin : (s : ℕ) (r : Reader) → reading s ≡ Some r → session_pin clusters past s ≡ Some r.pin
+-- the base of session s, from its login until it leaves
+abbrev pub live_base : Past → ℕ → Option RevVec
+live_base past s = cond (has_login past s && not (has_left past s)) (base_of past s) None
+
+-- a pair sees what the bounds so far see, in both vectors
+pub record IsAboveBounds (past : Past) (x : Pin) : Type 0 where
+  pub base : (r : Revision) → IsTrue (is_bounded past r) → IsTrue (sees x.base r)
+  pub sweep : (r : Revision) → IsTrue (is_swept past r) → IsTrue (sees x.sweep r)
+
+-- each reader reads the tree at the base of its session, with a sweep vector that goes with it, above the bounds so far; there are the numbers of previous documents that were ever listed
+pub record AreReading (past : Past) (t : Table) (reading : ℕ → Option Reader) : Type 0 where
+  pub ever : Ever
+  pub listed : AreListed (documents_in t.documents) ever
+  pub reads : (s : ℕ) (r : Reader) → reading s ≡ Some r → IsReading (documents_in t.documents) past ever r
+  pub above : (s : ℕ) (r : Reader) → reading s ≡ Some r → IsAboveBounds past r.pin
+  pub at_base : (s : ℕ) (r : Reader) → reading s ≡ Some r → live_base past s ≡ Some r.pin.base
+  pub pairs : (s : ℕ) (r : Reader) → reading s ≡ Some r → IsPair r.pin.base r.pin.sweep
+
+-- ---- the root
+
+-- the root's document is there; it tells what is public, and how far each cluster node has swept
+pub record IsRootKept (clusters : ℕ) (past : Past) (t : Table) : Type 0 where
+  pub document : Document
+  pub there : nodes_in t [] ≡ Some document
+  pub tells : IsOnRoot clusters past document.last_rev document.sweep_rev
+
+-- the root told these vectors at some moment so far
+abbrev pub WereOnRoot : ℕ → Past → RevVec → RevVec → Type 0
+WereOnRoot clusters past last sweep = (n : ℕ) × IsOnRoot clusters (drop n past) last sweep
+
+-- ---- the settings
+
+-- the vector of the checkpoint that session s attached to, until it is detached
+abbrev pub reader_at : Past → ℕ → Option RevVec
+reader_at [] s = None
+reader_at (event.Attach t id ∷ past) s = cond (t == s) (last_checkpoint past id) (reader_at past s)
+reader_at (event.Detach t ∷ past) s = cond (t == s) None (reader_at past s)
+reader_at (_ ∷ past) s = reader_at past s
+
+-- the settings' document is there; it has exactly the last checkpoint of each id that wasn't released since, and a reader for exactly the sessions that are attached and weren't detached since, each with a sweep vector that goes with it
+pub record AreSettingsKept (past : Past) (t : Table) : Type 0 where
+  pub document : Document
+  pub there : documents_in t.documents id.Settings ≡ Some document
+  pub ordered : IsTrue (is_sorted name_cmp document.checkpoints)
+  pub numbered : IsTrue (is_sorted nat_cmp document.readers)
+  pub checkpoints : (id : Text) → base_of_pin (lookup (is_at (name_cmp id)) document.checkpoints) ≡ kept_checkpoint past id
+  pub checkpoint_pairs : (id : Text) (pin : Pin) → lookup (is_at (name_cmp id)) document.checkpoints ≡ Some pin → IsPair pin.base pin.sweep
+  pub readers : (s : ℕ) → base_of_pin (lookup (is_at (nat_cmp s)) document.readers) ≡ reader_at past s
+  pub reader_pairs : (s : ℕ) (pin : Pin) → lookup (is_at (nat_cmp s)) document.readers ≡ Some pin → IsPair pin.base pin.sweep
 
 -- ---- the whole
 
-pub record IsKept (starts : Starts) (says : Says) (w : State) : Type 0 where
+-- what sessions, their commits, readers and memories keep
+pub record AreSessionsKept (starts : Starts) (says : Says) (w : State) : Type 0 where
   pub nodes : AreNodes w.clusters w.sessions
-  pub run : IsRunOf starts says w.clusters w.sessions w.past
-  pub detached : (s : ℕ) → IsFalse (is_attached w.past s)
+  pub run : IsRunOf starts says w.clusters w.sessions None w.past
   pub committing : AreCommitting w.past w.table w.running
   pub working : AreAtWork w.past w.running
   pub memories : AreMemories w.clusters w.sessions w.past w.memories
-  pub readers : AreReading w.clusters w.past w.table w.reading
+  pub readers : AreReading w.past w.table w.reading
+
+-- the same, with what is kept of the root and of the settings
+pub record AreLayersKept (starts : Starts) (says : Says) (w : State) : Type 0 where
+  pub sessions : AreSessionsKept starts says w
+  pub root : IsRootKept w.clusters w.past w.table
+  pub settings : AreSettingsKept w.past w.table
+
+-- all that is held is above the bounds so far: heads, pins, and what the settings keep
+pub record AreAboveBounds (past : Past) (h : Holding) : Type 0 where
+  pub heads : (k : ℕ) → IsFalse (h.gone k) → IsAboveBounds past (h.heads k)
+  pub pins : (k : ℕ) → IsFalse (h.gone k) → (x : Pin) → IsIn x (h.pins k) → IsAboveBounds past x
+  pub kept : (x : Pin) → IsIn x h.kept → IsAboveBounds past x
+
+-- each reader reads at the pin of its session
+abbrev pub IsPinned : State → Type 0
+IsPinned w = (s : ℕ) (r : Reader) → w.reading s ≡ Some r → actor_pin w s ≡ Some r.pin
+
+pub record IsKept (starts : Starts) (says : Says) (w : State) : Type 0 where
+  pub sessions : AreSessionsKept starts says w
+  pub root : IsRootKept w.clusters w.past w.table
+  pub settings : AreSettingsKept w.past w.table
+  pub above : AreAboveBounds w.past (holding_in w)
+  pub pinned : IsPinned w
 
 -- ---- what is left of a revision
 

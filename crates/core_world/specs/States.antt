@@ -1,6 +1,12 @@
 -- The state of a world: all but the tasks of its sessions.
-use Rattle.std.specs.Prelude.{ℕ, ◌-◌, cond, ◌==◌, List, slice_get, slice_set, Option}
-use Rattle.std.specs.Option.{option_map_or, unwrap_or}
+use Rattle.oak_machine.specs.Sessions.{is_attached}
+use Rattle.jr_rev.specs.declared.vector.Pin.{Pin}
+use Rattle.std.specs.Ordering.{nat_cmp}
+use Rattle.std.specs.BTreeMap.{is_at}
+use Rattle.std.specs.Map.{lookup}
+use Rattle.std.specs.Prelude.{ℕ, ◌-◌, cond, ◌==◌, List, [], slice_get, slice_set, Option, None}
+use Rattle.std.specs.List.{filter_map}
+use Rattle.std.specs.Option.{option_map_or, unwrap_or, option_and_then}
 use Rattle.jr_path.specs.declared.path.Path.{Path}
 use Rattle.jr_path.specs.declared.path.DocId.TheVariants as id
 use Rattle.jr_rev.specs.declared.revision.Revision.{Revision}
@@ -30,7 +36,7 @@ pub record State : Type 0 where
 
 -- what the journal of a state tells
 abbrev pub history_in : State → History
-history_in w = record { clusters = w.clusters; sessions = w.sessions; past = w.past }
+history_in w = record { clusters = w.clusters; sessions = w.sessions; begin = None; past = w.past }
 
 -- of the sessions, s has this now, and the others have what they had
 abbrev pub with_session : {X : Type 0} → (ℕ → Option X) → ℕ → Option X → ℕ → Option X
@@ -42,9 +48,13 @@ with_session has s x q = cond (q == s) x (has q)
 abbrev pub nodes_in : Table → Path → Option Document
 nodes_in t p = documents_in t.documents (id.Node p)
 
--- the core of many committers: the documents, the events so far, and the writer of each draw
+-- of each node the previous documents that its document lists and that are there
+abbrev pub moved_in : Table → Path → List Document
+moved_in t p = option_map_or (λ d. filter_map (λ e. documents_in t.documents (id.Prev e.number p)) d.prev) (nodes_in t p) []
+
+-- the core of many committers: the documents with the previous ones that they list, the events so far, and the writer of each draw
 abbrev pub core_in : Past → Table → (Revision → Writer) → Core
-core_in past t writers = record { number = t.number; docs = nodes_in t; past = past; writers = writers }
+core_in past t writers = record { number = t.number; docs = nodes_in t; moved = moved_in t; past = past; writers = writers }
 
 -- ---- memories
 
@@ -67,3 +77,11 @@ memory_of w s = memory_at w.memories (node_of w s)
 -- the base of session s: that of its pin
 abbrev pub base_in : State → ℕ → RevVec
 base_in w s = option_map_or (λ pin. pin.base) (pin_of (memory_of w s) s) (memory_of w s).head
+
+-- the pair that the settings keep for session s, where they have it as a reader
+abbrev pub reader_pin : Table → ℕ → Option Pin
+reader_pin t s = option_and_then (λ d. lookup (is_at (nat_cmp s)) d.readers) (documents_in t.documents id.Settings)
+
+-- the pin at which session s reads: while it is attached that of the settings, else that of its node's memory
+abbrev pub actor_pin : State → ℕ → Option Pin
+actor_pin w s = cond (is_attached w.past s) (reader_pin w.table s) (pin_of (memory_of w s) s)

@@ -8,6 +8,8 @@ use Rattle.jr_path.specs.declared.path.DocId.TheVariants as id
 use Rattle.jr_path.specs.declared.text.Text.{Text}
 use Rattle.jr_path.specs.Ids.{names_of}
 use Rattle.jr_rev.specs.declared.revision.Revision.{Revision}
+use Rattle.jr_rev.specs.declared.vector.Pin.{Pin}
+use Rattle.jr_rev.specs.declared.vector.RevVec.{RevVec}
 use Rattle.jr_rev.specs.Revisions.{is_before}
 use Rattle.jr_tree.specs.declared.edit.Edit.{Edit}
 use Rattle.oak_clash.specs.declared.mark.MarkAt.{MarkAt}
@@ -19,21 +21,24 @@ use Rattle.oak_doc.specs.declared.update.UpdateOp.{UpdateOp}
 use Rattle.oak_doc.specs.declared.update.OpFault.{OpFault}
 use Rattle.oak_doc.specs.declared.update.OpFault.TheVariants as fault
 use Rattle.oak_doc.specs.declared.update.Kept.TheVariants as kept
-use Rattle.oak_doc.specs.Updates.{updated}
+use Rattle.oak_doc.specs.declared.update.Change.{Change}
+use Rattle.oak_doc.specs.declared.update.Change.TheVariants as change
+use Rattle.oak_doc.specs.Updates.{raised, updated}
 use Rattle.oak_machine.specs.declared.event.Draw.{Draw}
 use Rattle.oak_machine.specs.declared.event.Event.TheVariants as event
 use Rattle.oak_machine.specs.declared.event.StepKind.{StepKind}
 use Rattle.oak_machine.specs.declared.event.StepKind.TheVariants as kind
 use Rattle.oak_machine.specs.History.{Past}
-use Rattle.oak_node.specs.Heads.{finished, next_draw, with_draw}
+use Rattle.oak_node.specs.Heads.{finished, learned, next_draw, with_draw}
 use Rattle.oak_node.specs.Memory.{NodeState, own_entry}
-use Rattle.oak_node.specs.Notes.{with_note}
-use Rattle.oak_node.specs.Pins.{pin_now, with_pin, without_pin}
+use Rattle.oak_node.specs.Notes.{with_note, without_seen}
+use Rattle.oak_node.specs.Pins.{pin_now, with_pin}
 use Rattle.oak_read.specs.declared.reader.Reader.{Reader}
 use Rattle.oak_store.specs.Tables.{Table, after_undo, next_number, with_document}
-use Rattle.core_clash.specs.Core.{root_of}
+use Rattle.core_clash.specs.Core.{root_of, whole}
 use Rattle.core_clash.specs.Sessions.{Running}
-use Rattle.core_world.specs.States.{State, base_in, memory_of, node_of, nodes_in, with_memory, with_session}
+use Rattle.core_nodes.specs.Nodes.{cursor_owner, without_session}
+use Rattle.core_world.specs.States.{State, base_in, memory_of, node_of, nodes_in, with_memory, with_session, moved_in}
 
 -- ---- documents
 
@@ -69,9 +74,13 @@ after_login w s = record w { past = event.Login s (memory_of w s).head ∷ w.pas
 abbrev pub after_refresh : State → ℕ → State
 after_refresh w s = record w { past = event.Refresh s (memory_of w s).head ∷ w.past; memories = memories_with w s (pinned (memory_of w s) s) }
 
--- it leaves, and has no pin any more
+-- it leaves, and has no pin any more, nor has its cursor
 abbrev pub after_leave : State → ℕ → State
-after_leave w s = record w { past = event.Went s kind.End ∷ w.past; memories = memories_with w s (without_pin (memory_of w s) s) }
+after_leave w s = record w { past = event.Went s kind.End ∷ w.past; memories = memories_with w s (without_session (memory_of w s) s) }
+
+-- it observes: its cursor is pinned at its own pin
+abbrev pub after_observe : State → ℕ → Pin → State
+after_observe w s pin = record w { past = event.Went s kind.Pin ∷ w.past; memories = memories_with w s (with_pin (memory_of w s) (cursor_owner s) pin) }
 
 -- it says its reply of index i
 abbrev pub after_said : State → ℕ → ℕ → Text → State
@@ -120,7 +129,7 @@ abbrev pub after_write : State → ℕ → Running → Path → List Path → St
 after_write w s x p rest = record w {
   past = event.Went s kind.Write ∷ w.past;
   table = after_update w.table (write_op x.draw.revision x.draw.edit.writes x.draw.marks p);
-  running = goes_on w s x (record x.writer { left = rest; written = x.writer.written ++ p ∷ []; due = found x.draw.base x.draw.revision p x.draw.marks (nodes_in w.table p) });
+  running = goes_on w s x (record x.writer { left = rest; written = x.writer.written ++ p ∷ []; due = found x.draw.base x.draw.revision p x.draw.marks (whole p (nodes_in w.table p) (moved_in w.table p)) });
 }
 
 -- the same, but memory is refused for what it meets there: it turns to undoing
@@ -190,6 +199,70 @@ after_finish w s x = let done = finished (memory_of w s) x.draw.revision in reco
 -- it has committed, or has undone all that it wrote
 abbrev pub IsThrough : Running → Type 0
 IsThrough x = (x.committed ≡ true) ⊎ ((x.writer.undoing ≡ true) × (x.writer.written ≡ []))
+
+-- ---- background work
+
+-- the document of the node at p, where there is one, is told that r is published
+abbrev pub back_op : Path → Revision → UpdateOp
+back_op p r = record { id = id.Node p; create = false; cond = None; changes = change.LastRev r ∷ [] }
+
+-- the root is told that r is swept
+abbrev pub sweep_op : Revision → UpdateOp
+sweep_op r = record { id = id.Node []; create = false; cond = None; changes = change.SweepRev r ∷ [] }
+
+-- a background write of session s takes from memory the notes that its node's head sees
+abbrev pub after_pending : State → ℕ → State
+after_pending w s = record w { past = event.Went s kind.Back ∷ w.past; memories = memories_with w s (without_seen (memory_of w s)) }
+
+-- it tells the document of a changed node, or of one above it
+abbrev pub after_back : State → ℕ → Path → Revision → State
+after_back w s p r = record w { past = event.Went s kind.Back ∷ w.past; table = after_update w.table (back_op p r) }
+
+-- and last the root: r is published
+abbrev pub after_out : State → ℕ → Revision → State
+after_out w s r = record w { past = event.Out (node_of w s) r ∷ w.past; table = after_update w.table (back_op [] r) }
+
+-- a sweep of session s tells the root how far it went
+abbrev pub after_sweep : State → ℕ → Revision → State
+after_sweep w s r = record w { past = event.Sweep (node_of w s) r ∷ w.past; table = after_update w.table (sweep_op r) }
+
+-- the cluster node of session s learns what the root told at some moment
+abbrev pub after_learn : State → ℕ → RevVec → RevVec → State
+after_learn w s last sweep = let m = learned (memory_of w s) last sweep in record w { past = event.In (node_of w s) m.head ∷ w.past; memories = memories_with w s m }
+
+-- the same memory, with the sweep vector raised to r
+abbrev pub swept_to : NodeState → Revision → NodeState
+swept_to m r = record m { sweep = raised m.sweep r }
+
+-- the cluster node of session s learns how far its own sweep went, and no more
+abbrev pub after_learn_swept : State → ℕ → Revision → State
+after_learn_swept w s r = record w { past = event.Went s kind.Learn ∷ w.past; memories = memories_with w s (swept_to (memory_of w s) r) }
+
+-- ---- checkpoints
+
+-- the settings' update for one change
+abbrev pub settings_op : Change → UpdateOp
+settings_op c = record { id = id.Settings; create = false; cond = None; changes = c ∷ [] }
+
+-- session s makes a checkpoint of that id, at its pin
+abbrev pub after_checkpoint : State → ℕ → Text → Pin → State
+after_checkpoint w s id pin = record w { past = event.Checkpoint id pin.base ∷ w.past; table = after_update w.table (settings_op (change.Checkpoint id pin)) }
+
+-- a checkpoint that is kept is released
+abbrev pub after_release : State → Text → State
+after_release w id = record w { past = event.Release id ∷ w.past; table = after_update w.table (settings_op (change.Release id)) }
+
+-- session s attaches to a checkpoint that is kept: the settings copy it under the session's number
+abbrev pub after_attach : State → ℕ → Text → State
+after_attach w s id = record w { past = event.Attach s id ∷ w.past; table = after_update w.table (settings_op (change.Attach s id)) }
+
+-- session s asks the settings to attach to, or to release, a checkpoint that they don't have: no more than their number changes
+abbrev pub after_unfound : State → ℕ → Change → State
+after_unfound w s c = record w { past = event.Went s kind.Settings ∷ w.past; table = after_update w.table (settings_op c) }
+
+-- session s, which was pinned at its node's head, is no reader any more
+abbrev pub after_detach : State → ℕ → State
+after_detach w s = record w { past = event.Detach s ∷ w.past; table = after_update w.table (settings_op (change.Detach s)) }
 
 -- ---- a step is one session's
 

@@ -1,1 +1,5 @@
+pub mod Accepted
 mod MarkOrder
+pub mod Membership
+pub mod OfWrites
+mod Rows

@@ -1,11 +1,14 @@
-//! The plan of a commit: the marks that an edit makes.
+//! The plan of a commit: the marks that an edit makes, and when it may be committed on a tree.
 #![tactic(auto)]
+
+mod laws;
 
 ghost use Rattle.std.specs.Prelude.{◌≡◌, [], ◌∷◌, IfOk, OnOk};
 ghost use Rattle.oak_machine.specs.Marks.{marks_for, marks_of_node, marks_of_write, with_marks};
 
 use jr_path::{DeepCopy, Keyed, List, Path};
 use jr_tree::{Edit, Write};
+pub use laws::{plans_are_proper, what_is_not_refused_is_a_plan};
 use oak_clash::{Mark, MarkAt};
 use std::alloc::{AllocError, Global};
 
@@ -54,43 +57,4 @@ fn note(found: &mut Keyed<MarkAt, bool>, path: Path, mark: Mark) -> Result<(), A
 {
     found.put(MarkAt { path, mark }, true)?;
     Ok(())
-}
-
-#[cfg(test)]
-mod tests {
-    use super::*;
-    use jr_path::{Name, PathFault};
-    use jr_value::{Property, Value};
-    use std::test::Fail;
-
-    // The nodes `/a` and `/a/b` come, and a property of `/a` is put.
-    fn edit(alloc: Global) -> Result<Edit, PathFault> {
-        let five = Property::Single(Value::Long(5));
-        let a = Path::parse(alloc, "/a")?;
-        let b = Path::parse(alloc, "/a/b")?;
-        let mut writes = List::new(alloc);
-        writes.push(Write::Here(b))?;
-        writes.push(Write::Put(a.copy()?, Name::parse(alloc, "p")?, five))?;
-        writes.push(Write::Here(a))?;
-        Ok(Edit { writes })
-    }
-
-    #[test]
-    fn marks_of_two_nodes(rt: HostRuntime) -> Result<(), Fail> {
-        let alloc = rt.alloc();
-        let marks = marks_of(alloc, &edit(alloc)?)?;
-        let rows = [
-            ("/", Mark::Touch),
-            ("/a", Mark::Exists),
-            ("/a", Mark::Touch),
-            ("/a", Mark::Prop(Name::parse(alloc, "p")?)),
-            ("/a/b", Mark::Exists),
-        ];
-        assert_eq!(rt; marks.inner().len(), rows.len());
-        for (found, (path, mark)) in marks.inner().iter().zip(&rows) {
-            assert_eq!(rt; found.path.text()?.as_str(), *path);
-            assert!(rt; found.mark == *mark);
-        }
-        Ok(())
-    }
 }

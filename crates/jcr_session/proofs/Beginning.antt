@@ -52,6 +52,10 @@ memory_is h s edit marks (out.Ready (end.Children f)) own now stood makes = absu
 memory_is h s edit marks (out.Ready (end.Pinned f)) own now stood makes = absurd makes
 memory_is h s edit marks (out.Ready (end.Commit f)) own now stood makes = absurd makes
 memory_is h s edit marks (out.Ready end.Ended) own now stood makes = absurd makes
+memory_is h s edit marks (out.Ready (end.Published o)) own now stood makes = absurd makes
+memory_is h s edit marks (out.Ready (end.Learnt u)) own now stood makes = absurd makes
+memory_is h s edit marks (out.Ready (end.Set p)) own now stood makes = absurd makes
+memory_is h s edit marks (out.Ready end.NoCheckpoint) own now stood makes = absurd makes
 memory_is h s edit marks (out.Wait r) own now stood makes = absurd makes
 memory_is h s edit marks out.Memory own now stood makes = refl
 

@@ -40,7 +40,7 @@ module _ (law : Orders) (past : Past) (s : ℕ) (r : Revision) where
   drawn_went k has = record { drawn = has.drawn; theirs = has.theirs; last = last_stays r (event.Went s k ∷ []) past s refl has.last }
 
   view_went : (k : StepKind) (base view : Nodes) → HasView law past s base view → HasView law (event.Went s k ∷ past) s base view
-  view_went k base view has = record { base_is = has.base_is; pending = has.pending; from = has.from; to = has.to }
+  view_went k base view has = record { base_is = has.base_is; pending = has.pending; from = has.from; to = has.to; born = has.born }
 
   -- its commit point
   drawn_commit : HasDrawn law past s r → HasDrawn law (event.Commit r ∷ past) s r
@@ -54,7 +54,7 @@ module _ (law : Orders) (past : Past) (s : ℕ) (r : Revision) where
   drawn_refuse item o has = record { drawn = has.drawn; theirs = has.theirs; last = last_stays r (event.Refuse r item o ∷ []) past s refl has.last }
 
   view_refuse : (item : Item) (o : Revision) (base view : Nodes) → HasView law past s base view → HasView law (event.Refuse r item o ∷ past) s base view
-  view_refuse item o base view has = record { base_is = has.base_is; pending = has.pending; from = has.from; to = has.to }
+  view_refuse item o base view has = record { base_is = has.base_is; pending = has.pending; from = has.from; to = has.to; born = has.born }
 
   refused : (item : Item) (o : Revision) → refusal_of (event.Refuse r item o ∷ past) r ≡ Some (item, o)
   refused item o = ap (λ b. cond b (Some (item, o)) (refusal_of past r)) (same_itself r)
@@ -81,6 +81,7 @@ module _ (law : Orders) (past : Past) (s : ℕ) (r : Revision) where
         pending = pending;
         from = view_is.from;
         to = view_is.to;
+        born = view_is.born;
         idle = idle;
         uncommitted = ap (λ (o : Option Revision). option_map_or (is_committed (p ++ past)) o false) (drawn ∙ has.drawn) ∙ (same ∙ unmade);
       }
@@ -166,7 +167,7 @@ module _ (law : Orders) (past : Past) (s : ℕ) (r : Revision) where
           ∙ (ap (λ b. b || is_drawing_among (event.End r ∷ event.Draw d ∷ past) past s) (nothing (d.session == s))
           ∙ among_more past (event.End r ∷ event.Draw d ∷ past) (λ q h. right (is_same q r) h) s past idle);
     },
-    record { base_is = view_is.base_is; pending = view_is.pending; from = view_is.from; to = view_is.to },
+    record { base_is = view_is.base_is; pending = view_is.pending; from = view_is.from; to = view_is.to; born = view_is.born },
     unmade,
   )
     where

@@ -1,5 +1,5 @@
 -- A session begins to commit what is pending.
-use Rattle.std.proofs.Common.{◌≡◌, inl, ℕ, Bool, true, false, Some, Option, List, [], ◌∷◌, ◌++◌, is_some, refl, sym, ap, ◌∙◌, subst}
+use Rattle.std.proofs.Common.{◌≡◌, inl, ℕ, Bool, true, false, Some, Option, List, [], ◌∷◌, ◌++◌, is_some, refl, sym, ap, ◌∙◌, subst, None}
 use Rattle.std.specs.Prelude.{reverse}
 use mathlib.Core.Bool.{false≢true}
 use Rattle.jr_rev.proofs.Order.{same_revision}
@@ -47,6 +47,7 @@ use Rattle.jcr_session.specs.Sights.{IsBeside, IsIn, says_of, starts_of}
 use Rattle.jcr_session.specs.Standing.{HasTurned, HasView, IsInSave, IsPlanFor, IsPlanOf, IsSaving, IsTurned, MayAnswer, Sees, Stands, StandsAt, due_by, due_for, is_unread, is_writing}
 use Rattle.jcr_session.proofs.Committing.{committing_drawn}
 use Rattle.jcr_session.proofs.Replying.{apart, between_at, forgo_save, idle_between, save_by}
+use Rattle.jcr_session.proofs.Others.{run_none}
 use Rattle.jcr_session.proofs.Reading.{beside_both}
 use Rattle.jcr_session.proofs.Saying.{answer_waits}
 use Rattle.jcr_session.proofs.Turning.{Link, free, has_turned_later, is_awaiting, kept, never_ends, not_ended, plain_step, turned_later}
@@ -81,10 +82,10 @@ module _ (law : JcrLaw) (old : Shown) (run : SessionRun) (stands : Stands law ol
     -- behind events of others, with a place for the reply
     module _ (mid : Shown) (room : Option ℕ) (waits : Waits (starts_of law) (says_of law) old mid old.work room) where
       in_mid : IsIn law mid
-      in_mid = in_then law old mid old.work room waits in_old.nodes in_old.run in_old
+      in_mid = in_then law old mid old.work room waits in_old.nodes in_old.begun in_old.run in_old
 
       turn_mid : IsTurn law.sessions mid.history.past mid.session seen.base seen.view
-      turn_mid = turn_waits law old mid old.work room waits in_old.nodes in_old.run seen.base seen.view turn_old
+      turn_mid = turn_waits law old mid old.work room waits in_old.nodes in_old.begun in_old.run seen.base seen.view turn_old
 
       session_mid : mid.session ≡ run.session
       session_mid = waits.session ∙ stands.session
@@ -101,7 +102,7 @@ module _ (law : JcrLaw) (old : Shown) (run : SessionRun) (stands : Stands law ol
       starts_mid =
           subst (λ (ms : List MarkAt). MayStart law.sessions mid.history mid.session edit ms) (sym planned.3)
           (subst (λ (ws : List Write). MayStart law.sessions mid.history mid.session (record edit { writes = ws }) (marks_for [] (changes seen.base seen.view))) (sym planned.2)
-          (may_start law.sessions mid.history mid.session run.index seen.base seen.view turn_mid saving_mid planned.0 planned.1))
+          (may_start law.sessions mid.history in_mid.begun mid.session run.index seen.base seen.view turn_mid saving_mid planned.0 planned.1))
 
       commit_may : MayBegin (starts_of law) mid.history mid.session (task.Commit edit marks)
       commit_may = (in_mid.login, in_mid.stays, in_mid.detached, starts_mid)
@@ -131,10 +132,10 @@ module _ (law : JcrLaw) (old : Shown) (run : SessionRun) (stands : Stands law ol
           run_drawn = subst (λ (h : History). IsRun (starts_of law) (says_of law) h) grown steps.grows.run
 
           in_begun : IsIn law begun
-          in_begun = in_then law mid begun (Starting (task.Commit edit marks)) more begins in_mid.nodes in_mid.run in_mid
+          in_begun = in_then law mid begun (Starting (task.Commit edit marks)) more begins in_mid.nodes in_mid.begun in_mid.run in_mid
 
           turn_begun : IsTurn law.sessions begun.history.past s seen.base seen.view
-          turn_begun = turn_waits law mid begun (Starting (task.Commit edit marks)) more begins in_mid.nodes in_mid.run seen.base seen.view turn_mid
+          turn_begun = turn_waits law mid begun (Starting (task.Commit edit marks)) more begins in_mid.nodes in_mid.begun in_mid.run seen.base seen.view turn_mid
 
           abbrev waiting : Shown
           waiting = record begun { history = moment }
@@ -143,17 +144,17 @@ module _ (law : JcrLaw) (old : Shown) (run : SessionRun) (stands : Stands law ol
           waited = record { others = steps.others; grows = record { grown = refl; theirs = steps.grows.theirs; run = run_drawn.1 }; session = refl; beside = refl; alone = steps.alone }
 
           in_behind : IsIn law waiting
-          in_behind = in_beside law begun waiting waited in_begun.nodes in_begun.run in_begun
+          in_behind = in_beside law begun waiting waited in_begun.nodes in_begun.begun in_begun.run in_begun
 
           turn_behind : IsTurn law.sessions behind s seen.base seen.view
-          turn_behind = turn_beside law begun waiting waited in_begun.nodes in_begun.run seen.base seen.view turn_begun
+          turn_behind = turn_beside law begun waiting waited in_begun.nodes in_begun.begun in_begun.run seen.base seen.view turn_begun
 
           unmade : is_committed behind made.0.revision ≡ false
           unmade = by (is_committed behind made.0.revision) refl
             where
               by : (b : Bool) → is_committed behind made.0.revision ≡ b → b ≡ false
-              by true h = absurd (false≢true (sym (ap is_some (fresh_run begun.history.clusters begun.history.sessions in_begun.nodes (starts_of law) (says_of law) made.0 behind run_drawn).fresh)
-                  ∙ committed_is_drawn (starts_of law) (says_of law) begun.history.clusters begun.history.sessions (λ q r same. sym (same_revision r q same)) behind made.0.revision run_drawn.1 h))
+              by true h = absurd (false≢true (sym (ap is_some (fresh_run begun.history.clusters begun.history.sessions in_begun.nodes (starts_of law) (says_of law) made.0 behind (run_none (starts_of law) (says_of law) begun.history.clusters begun.history.sessions in_begun.begun (event.Draw made.0 ∷ behind) run_drawn)).fresh)
+                  ∙ committed_is_drawn (starts_of law) (says_of law) begun.history.clusters begun.history.sessions begun.history.begin (λ q r same. sym (same_revision r q same)) behind made.0.revision run_drawn.1 h))
               by false h = refl
 
           moved : (F : History → ℕ → Type 0) → F drawn s → F new.history new.session
@@ -162,6 +163,7 @@ module _ (law : JcrLaw) (old : Shown) (run : SessionRun) (stands : Stands law ol
           in_new : IsIn law new
           in_new = record {
             nodes = moved (λ h n. AreNodes h.clusters h.sessions) in_behind.nodes;
+            begun = moved (λ h n. h.begin ≡ None) in_behind.begun;
             run = steps.grows.run;
             login = moved (λ h n. has_login h.past n ≡ true) in_behind.login;
             stays = moved (λ h n. has_left h.past n ≡ false) in_behind.stays;
@@ -184,6 +186,7 @@ module _ (law : JcrLaw) (old : Shown) (run : SessionRun) (stands : Stands law ol
           stands_new : Stands law new saving
           stands_new = record {
             nodes = in_new.nodes;
+            begun = in_new.begun;
             run_is = steps.grows.run;
             session = session_new;
             few = stands.few;
@@ -197,7 +200,7 @@ module _ (law : JcrLaw) (old : Shown) (run : SessionRun) (stands : Stands law ol
                 subst (λ (w : Work). Rattle.jcr_session.specs.Standing.IsCommitting law.sessions new.history.past new.session seen.base seen.view w) (sym made.4)
                     (moved (λ h n. Rattle.jcr_session.specs.Standing.IsCommitting law.sessions h.past n seen.base seen.view (Writing made.0.revision))
                     (committing_drawn law.sessions behind s made.0.revision made.0 seen.base seen.view made.1.session refl turn_behind.over.idle
-                    record { base_is = turn_behind.over.base_is; pending = turn_behind.over.pending; from = turn_behind.over.from; to = turn_behind.over.to } unmade)),
+                    record { base_is = turn_behind.over.base_is; pending = turn_behind.over.pending; from = turn_behind.over.from; to = turn_behind.over.to; born = turn_behind.over.born } unmade)),
               ),
             );
           }
@@ -220,8 +223,8 @@ module _ (law : JcrLaw) (old : Shown) (run : SessionRun) (stands : Stands law ol
           }
 
           draws_old : HasTurned law old new run saving (turn.Stepped kind.Draw)
-          draws_old = turned_later law old mid new run saving (turn.Stepped kind.Draw) in_old.nodes (kept waits.work_is (waits.same_due refl)) (by_waits law old mid old.work room waits) (not_ended (turn.Stepped kind.Draw) refl)
-              (turned_later law mid begun new run saving (turn.Stepped kind.Draw) in_mid.nodes (free (ap is_writing begins.work_is) (ap is_awaiting begins.work_is) (ap is_awaiting (waits.work_is ∙ idle_old))) (by_waits law mid begun (Starting (task.Commit edit marks)) more begins)
+          draws_old = turned_later law old mid new run saving (turn.Stepped kind.Draw) in_old.nodes in_old.begun (kept waits.work_is (waits.same_due refl)) (by_waits law old mid old.work room waits) (not_ended (turn.Stepped kind.Draw) refl)
+              (turned_later law mid begun new run saving (turn.Stepped kind.Draw) in_mid.nodes in_mid.begun (free (ap is_writing begins.work_is) (ap is_awaiting begins.work_is) (ap is_awaiting (waits.work_is ∙ idle_old))) (by_waits law mid begun (Starting (task.Commit edit marks)) more begins)
               (not_ended (turn.Stepped kind.Draw) refl) draws_new)
 
         -- memory is refused for the draw
@@ -230,8 +233,8 @@ module _ (law : JcrLaw) (old : Shown) (run : SessionRun) (stands : Stands law ol
           stopped = subst (λ (w : Work). Makes (after steps.others begun.history) begun.session w out.Memory steps.own new.work) begins.work_is steps.makes
 
           stops : IsBeside law old new
-          stops = beside_both law old mid new in_old.nodes (by_waits law old mid old.work room waits)
-              (beside_both law mid begun new in_mid.nodes (by_waits law mid begun (Starting (task.Commit edit marks)) more begins) record {
+          stops = beside_both law old mid new in_old.nodes in_old.begun (by_waits law old mid old.work room waits)
+              (beside_both law mid begun new in_mid.nodes in_mid.begun (by_waits law mid begun (Starting (task.Commit edit marks)) more begins) record {
                 others = steps.others;
                 grows = subst (λ (own : Past). Grows (starts_of law) (says_of law) begun.session begun.history new.history steps.others own) stopped.0 steps.grows;
                 session = steps.session;
@@ -266,5 +269,5 @@ module _ (law : JcrLaw) (old : Shown) (run : SessionRun) (stands : Stands law ol
 
         pub commit_stopped : (last : Shown) (now : SessionRun) (t : Turn) → HasTurned law new last run now t → HasTurned law old last run now t
         commit_stopped last now t turned = let x = plan_seen run.sight edit marks planned in
-            has_turned_later law old new last run now t in_old.nodes (links edit marks x.0 x.1 x.2 mid room waits begun new more begins steps) (stops edit marks x.0 x.1 x.2 mid room waits begun new more begins steps)
-            (never_ends law new last run now (in_beside law old new (stops edit marks x.0 x.1 x.2 mid room waits begun new more begins steps) in_old.nodes in_old.run in_old)) turned
+            has_turned_later law old new last run now t in_old.nodes in_old.begun (links edit marks x.0 x.1 x.2 mid room waits begun new more begins steps) (stops edit marks x.0 x.1 x.2 mid room waits begun new more begins steps)
+            (never_ends law new last run now (in_beside law old new (stops edit marks x.0 x.1 x.2 mid room waits begun new more begins steps) in_old.nodes in_old.begun in_old.run in_old)) turned

@@ -1,5 +1,5 @@
 -- What a session answers to a refresh once its base has moved, and to a save once its commit has ended.
-use Rattle.std.proofs.Common.{◌≡◌, false, Some, [], ◌∷◌, ◌++◌, refl, sym, ap, ◌∙◌, subst}
+use Rattle.std.proofs.Common.{◌≡◌, false, Some, [], ◌∷◌, ◌++◌, refl, sym, ap, ◌∙◌, subst, None}
 use Rattle.jr_path.specs.declared.path.Item.{Item}
 use Rattle.jr_path.specs.declared.text.Text.{Text}
 use Rattle.jr_rev.specs.declared.revision.Revision.{Revision}
@@ -50,11 +50,11 @@ module _ (law : JcrLaw) (p : Shown) (run : SessionRun) (stands : Stands law p ru
       commands = stands.commands;
       index = stands.index;
       idle = at_refreshed.1.idle;
-      says = says_refreshed law.sessions p.history p.session run.index [] [] v command_is at_refreshed.1.moved;
+      says = says_refreshed law.sessions p.history stands.begun p.session run.index [] [] v command_is at_refreshed.1.moved;
       leaves = λ added later others. subst (λ (x : Sight). SeesThen law.sessions (added ++ p.history.past) p.session run.index (answer_text (ShowsVector v)) x) (sym at_refreshed.1.unread)
           (turn_refreshed law.sessions (added ++ p.history.past) p.session run.index v (base_tree (added ++ p.history.past) p.session) command_is refl
           (idle_stays (added ++ p.history.past) added p.history.past p.session others at_refreshed.1.still)
-          (subst IsTree (sym (tree_still law p.history.clusters p.history.sessions at_refreshed.0.nodes p.session added p.history.past at_refreshed.0.run later others)) at_refreshed.0.tree));
+          (subst IsTree (sym (tree_still law p.history.clusters p.history.sessions at_refreshed.0.nodes p.session added p.history.past at_refreshed.0.begun at_refreshed.0.run later others)) at_refreshed.0.tree));
     }
 
   -- ---- a save
@@ -81,7 +81,7 @@ module _ (law : JcrLaw) (p : Shown) (run : SessionRun) (stands : Stands law p ru
     saved_room = here.2.room
 
     over_then : (base view : Nodes) → IsOver law.sessions p.history.past p.session base view → (added : Past) → IsRun (starts_of law) (says_of law) (after added p.history) → AreOthers p.session added p.history.past → IsOver law.sessions (added ++ p.history.past) p.session base view
-    over_then base view over added later others = over_still law p.history.clusters p.history.sessions inside.nodes p.session added p.history.past inside.run later others base view over
+    over_then base view over added later others = over_still law p.history.clusters p.history.sessions inside.nodes p.session added p.history.past inside.begun inside.run later others base view over
 
     -- it is committed, and the base sees it: the tree there isn't read yet
     pub shows_revision : (r : Revision) → e ≡ commit.Committed r → MayAnswer law p (record run { sight = sight.Unread }) (answer_text (ShowsRevision r))
@@ -93,11 +93,11 @@ module _ (law : JcrLaw) (p : Shown) (run : SessionRun) (stands : Stands law p ru
           commands = stands.commands;
           index = stands.index;
           idle = here.3;
-          says = says_saved law.sessions p.history p.session run.index [] [] r c.0 save_is c.1 c.2 c.3 c.4 c.5;
+          says = says_saved law.sessions p.history stands.begun p.session run.index [] [] r c.0 save_is c.1 c.2 c.3 c.4 c.5;
           leaves = λ added later others.
               turn_saved law.sessions (added ++ p.history.past) p.session run.index r (base_tree (added ++ p.history.past) p.session) save_is refl
               (idle_stays (added ++ p.history.past) added p.history.past p.session others c.6)
-              (subst IsTree (sym (tree_still law p.history.clusters p.history.sessions inside.nodes p.session added p.history.past inside.run later others)) inside.tree);
+              (subst IsTree (sym (tree_still law p.history.clusters p.history.sessions inside.nodes p.session added p.history.past inside.begun inside.run later others)) inside.tree);
         }
 
     -- it isn't: the session stands where it stood
@@ -110,9 +110,9 @@ module _ (law : JcrLaw) (p : Shown) (run : SessionRun) (stands : Stands law p ru
         commands = stands.commands;
         index = stands.index;
         idle = here.3;
-        says = says_memory law.sessions p.history p.session run.index here.0.base here.0.view command.Save over save_is;
+        says = says_memory law.sessions p.history stands.begun p.session run.index here.0.base here.0.view command.Save over save_is;
         leaves = λ added later others. subst (λ (x : Sight). SeesThen law.sessions (added ++ p.history.past) p.session run.index memory_text x) (sym here.1)
-            (turn_memory law.sessions (after added p.history) p.session run.index here.0.base here.0.view (over_then here.0.base here.0.view over added later others));
+            (turn_memory law.sessions (record (after added p.history) { begin = None }) refl p.session run.index here.0.base here.0.view (over_then here.0.base here.0.view over added later others));
       }
 
     pub shows_clash : (item : Item) (o : Revision) → e ≡ commit.Clash item o → MayAnswer law p run (answer_text (Refused 10 (datum.Item item ∷ datum.Revision o ∷ [])))
@@ -124,7 +124,7 @@ module _ (law : JcrLaw) (p : Shown) (run : SessionRun) (stands : Stands law p ru
           commands = stands.commands;
           index = stands.index;
           idle = here.3;
-          says = (command.Save, Refused 10 (datum.Item item ∷ datum.Revision o ∷ []), save_is, refl, clashed c.0 o item c.1 c.2 c.3);
+          says = (stands.begun, (command.Save, Refused 10 (datum.Item item ∷ datum.Revision o ∷ []), save_is, refl, clashed c.0 o item c.1 c.2 c.3));
           leaves = λ added later others. subst (λ (x : Sight). SeesThen law.sessions (added ++ p.history.past) p.session run.index (answer_text (Refused 10 (datum.Item item ∷ datum.Revision o ∷ []))) x) (sym here.1)
               (turn_refused law.sessions (added ++ p.history.past) p.session run.index (answer_text (Refused 10 (datum.Item item ∷ datum.Revision o ∷ []))) here.0.base here.0.view
               (over_then here.0.base here.0.view c.4 added later others) refl);

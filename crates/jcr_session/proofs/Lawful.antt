@@ -91,12 +91,12 @@ module _ (law : Orders) (past : Past) (s : ℕ) (a : Answer) where
   may_answer : (c : Command) → answer_of law past s c ≡ Some a → MaySay law past s c a
   may_answer c is = may_by c (built c) refl is
 
-next_says : (law : Orders) (h : History) (s : ℕ) (a : Answer) → answer_next law h.past s ≡ Some a → SaysBy law h s (next_index h.past s) (answer_text a)
-next_says law h s a is = by (command_at law s (next_index h.past s)) refl is
+next_says : (law : Orders) (h : History) → h.begin ≡ None → (s : ℕ) (a : Answer) → answer_next law h.past s ≡ Some a → SaysBy law h s (next_index h.past s) (answer_text a)
+next_says law h begun s a is = by (command_at law s (next_index h.past s)) refl is
   where
     by : (o : Option Command) → command_at law s (next_index h.past s) ≡ o → option_and_then (answer_of law h.past s) o ≡ Some a → SaysBy law h s (next_index h.past s) (answer_text a)
     by None at is = none_some is
-    by (Some c) at is = (c, a, at, refl, may_answer law h.past s a c is)
+    by (Some c) at is = (begun, (c, a, at, refl, may_answer law h.past s a c is))
 
 text_says : {T : Type 0} (bytes : T → List ℕ) (law : Orders) (h : History) (s : ℕ) (found : Option T) (o : Option Answer) → option_map bytes found ≡ option_map answer_text o → ((a : Answer) → o ≡ Some a → SaysBy law h s (next_index h.past s) (answer_text a))
     → IfSome found (λ text. SaysBy law h s (next_index h.past s) (bytes text))
@@ -104,7 +104,7 @@ text_says bytes law h s None o is says = tt
 text_says bytes law h s (Some t) None is says = none_some (sym is)
 text_says bytes law h s (Some t) (Some a) is says = subst (λ (text : List ℕ). SaysBy law h s (next_index h.past s) text) (sym (some_is is)) (says a refl)
 
-pub reply_says : {T E : Type 0} (bytes : T → List ℕ) (law : Orders) (h : History) (s : ℕ) (r : Result (Option T) E) → IfOk r (λ found. option_map bytes found ≡ option_map answer_text (answer_next law h.past s))
+pub reply_says : {T E : Type 0} (bytes : T → List ℕ) (law : Orders) (h : History) → h.begin ≡ None → (s : ℕ) (r : Result (Option T) E) → IfOk r (λ found. option_map bytes found ≡ option_map answer_text (answer_next law h.past s))
     → IfOk r (λ found. IfSome found (λ text. SaysBy law h s (next_index h.past s) (bytes text)))
-reply_says bytes law h s (Ok found) is = text_says bytes law h s found (answer_next law h.past s) is (next_says law h s)
-reply_says bytes law h s (Err e) is = tt
+reply_says bytes law h begun s (Ok found) is = text_says bytes law h s found (answer_next law h.past s) is (next_says law h begun s)
+reply_says bytes law h begun s (Err e) is = tt

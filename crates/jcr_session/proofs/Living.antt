@@ -10,7 +10,7 @@ use Rattle.jr_tree.specs.Trees.{IsTree}
 use Rattle.jr_tree.proofs.ProperChanges.{no_changes}
 use Rattle.oak_machine.specs.declared.event.Event.TheVariants as event
 use Rattle.oak_machine.specs.declared.event.StepKind.TheVariants as kind
-use Rattle.oak_machine.specs.History.{History, Past}
+use Rattle.oak_machine.specs.History.{Begin, History, Past}
 use Rattle.oak_machine.specs.Commits.{is_committed}
 use Rattle.oak_machine.specs.Laws.{Says, Starts, after}
 use Rattle.oak_machine.specs.Runs.{AreNodes, IsRun, IsRunOf}
@@ -43,15 +43,15 @@ same_number : (t s : ℕ) → (t == s) ≡ true → t ≡ s
 same_number t s h = grind (arith, nat_tests)
 
 -- what has not logged in hasn't left
-not_left : (starts : Starts) (says : Says) (clusters : ℕ) (sessions : List ℕ) (past : Past) → IsRunOf starts says clusters sessions past → (s : ℕ) → has_login past s ≡ false → has_left past s ≡ false
-not_left starts says clusters sessions [] run s h = refl
-not_left starts says clusters sessions (event.Login t v ∷ past) run s h = not_left starts says clusters sessions past run.1 s (neither (t == s) _ h).1
-not_left starts says clusters sessions (event.Went t kind.End ∷ past) run s h =
+not_left : (starts : Starts) (says : Says) (clusters : ℕ) (sessions : List ℕ) (begin : Begin) (past : Past) → IsRunOf starts says clusters sessions begin past → (s : ℕ) → has_login past s ≡ false → has_left past s ≡ false
+not_left starts says clusters sessions begin [] run s h = refl
+not_left starts says clusters sessions begin (event.Login t v ∷ past) run s h = not_left starts says clusters sessions begin past run.1 s (neither (t == s) _ h).1
+not_left starts says clusters sessions begin (event.Went t kind.End ∷ past) run s h =
     elim (t == s) as (λ b. (t == s) ≡ b → (b || has_left past s) ≡ false) [
       | true ↦ λ same. absurd (false≢true (sym h ∙ subst (λ (n : ℕ). has_login past n ≡ true) (same_number t s same) run.0.0))
-      | false ↦ λ same. not_left starts says clusters sessions past run.1 s h
+      | false ↦ λ same. not_left starts says clusters sessions begin past run.1 s h
     ] refl
-not_left starts says clusters sessions (e ∷ past) run s h = not_left starts says clusters sessions past run.1 s h
+not_left starts says clusters sessions begin (e ∷ past) run s h = not_left starts says clusters sessions begin past run.1 s h
 
 -- ---- outside
 
@@ -117,6 +117,9 @@ module _ (law : JcrLaw) (old mid new : Shown) (run : SessionRun) (stands : Stand
   nodes_mid : AreNodes mid.history.clusters mid.history.sessions
   nodes_mid = subst (λ (h : History). AreNodes h.clusters h.sessions) (sym waits.grows.grown) stands.nodes
 
+  begun_mid : mid.history.begin ≡ None
+  begun_mid = subst (λ (h : History). h.begin ≡ None) (sym waits.grows.grown) stands.begun
+
   moved : (F : History → ℕ → Type 0) → F logged s → F new.history new.session
   moved F x = subst (λ (h : History). F h new.session) (sym is_logged) (subst (λ (n : ℕ). F logged n) (sym steps.session) x)
 
@@ -124,14 +127,15 @@ module _ (law : JcrLaw) (old mid new : Shown) (run : SessionRun) (stands : Stand
   login_now = ap (λ b. b || has_login q s) (own s)
 
   tree_now : IsTree (base_tree logged.past s)
-  tree_now = base_is_tree law logged s nodes_mid run_logged
+  tree_now = base_is_tree law logged s nodes_mid begun_mid run_logged
 
   inside_now : IsIn law new
   inside_now = record {
     nodes = moved (λ h n. AreNodes h.clusters h.sessions) nodes_mid;
+    begun = moved (λ h n. h.begin ≡ None) begun_mid;
     run = steps.grows.run;
     login = moved (λ h n. has_login h.past n ≡ true) login_now;
-    stays = moved (λ h n. has_left h.past n ≡ false) (not_left (starts_of law) (says_of law) mid.history.clusters mid.history.sessions q run_logged.1 s out_now);
+    stays = moved (λ h n. has_left h.past n ≡ false) (not_left (starts_of law) (says_of law) mid.history.clusters mid.history.sessions mid.history.begin q run_logged.1 s out_now);
     detached = moved (λ h n. is_attached h.past n ≡ false) (ap (λ b. cond b false (is_attached q s)) (own s));
     tree = moved (λ h n. IsTree (base_tree h.past n)) tree_now;
   }
@@ -146,6 +150,7 @@ module _ (law : JcrLaw) (old mid new : Shown) (run : SessionRun) (stands : Stand
       pending = none_now ∙ sym (no_changes (base_tree logged.past s) tree_now);
       from = tree_now;
       to = tree_now;
+      born = λ p. refl;
       idle = among_same q (event.Login s pin.base) (λ r. refl) q s ∙ still_now;
       uncommitted = ap (λ (o : Option Revision). option_map_or (is_committed logged.past) o false) drawn_none;
     };
@@ -161,6 +166,7 @@ module _ (law : JcrLaw) (old mid new : Shown) (run : SessionRun) (stands : Stand
   stands_now : Stands law new run_now
   stands_now = record {
     nodes = moved (λ h n. AreNodes h.clusters h.sessions) nodes_mid;
+    begun = moved (λ h n. h.begin ≡ None) begun_mid;
     run_is = steps.grows.run;
     session = steps.session ∙ (waits.session ∙ stands.session);
     few = stands.few;
@@ -174,7 +180,7 @@ module _ (law : JcrLaw) (old mid new : Shown) (run : SessionRun) (stands : Stand
   logged_in now t is told =
       subst (λ (x : Turn). HasTurned law old new run now x) (sym told)
       (subst (λ (x : SessionRun). HasTurned law old new run x (turn.Stepped kind.Login)) (sym is)
-      (turned_later law old mid new run run_now (turn.Stepped kind.Login) stands.nodes (free (ap is_writing waits.work_is) (ap is_awaiting waits.work_is) (ap is_awaiting is_out.idle)) (by_waits law old mid (Starting task.Login) room waits) (not_ended (turn.Stepped kind.Login) refl)
+      (turned_later law old mid new run run_now (turn.Stepped kind.Login) stands.nodes stands.begun (free (ap is_writing waits.work_is) (ap is_awaiting waits.work_is) (ap is_awaiting is_out.idle)) (by_waits law old mid (Starting task.Login) room waits) (not_ended (turn.Stepped kind.Login) refl)
       record {
         others = steps.others;
         own = steps.own;
@@ -182,7 +188,7 @@ module _ (law : JcrLaw) (old mid new : Shown) (run : SessionRun) (stands : Stand
         beside = steps.beside;
         alone = steps.alone;
         tells = (of_step, inl (event.Login s pin.base, made.0, refl));
-        made = plain_step (after steps.others mid.history) mid new steps.own (event.Login s pin.base ∷ []) made.0 (not_left (starts_of law) (says_of law) mid.history.clusters mid.history.sessions q run_logged.1 s out_now) (ap is_awaiting waits.work_is) refl tt;
+        made = plain_step (after steps.others mid.history) mid new steps.own (event.Login s pin.base ∷ []) made.0 (not_left (starts_of law) (says_of law) mid.history.clusters mid.history.sessions mid.history.begin q run_logged.1 s out_now) (ap is_awaiting waits.work_is) refl tt;
         same = (refl, refl);
         stands = stands_now;
       }))

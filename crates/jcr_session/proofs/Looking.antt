@@ -79,12 +79,13 @@ module _ (law : JcrLaw) (p : Shown) (run : SessionRun) (stands : Stands law p ru
 
     turn_new : IsTurn law.sessions new.history.past new.session base_new base_new
     turn_new =
-        subst (λ (t : Nodes). IsTurn law.sessions new.history.past new.session t t) (sym (tree_beside law p new beside unread_in.nodes unread_in.run))
-        (turn_beside law p new beside unread_in.nodes unread_in.run (base_tree p.history.past p.session) (base_tree p.history.past p.session) turn_old)
+        subst (λ (t : Nodes). IsTurn law.sessions new.history.past new.session t t) (sym (tree_beside law p new beside unread_in.nodes unread_in.begun unread_in.run))
+        (turn_beside law p new beside unread_in.nodes unread_in.begun unread_in.run (base_tree p.history.past p.session) (base_tree p.history.past p.session) turn_old)
 
     stands_new : (now : SessionRun) (x : Sight) → now ≡ record run { sight = x } → Sees law new (record run { sight = x }) x → Stands law new now
     stands_new now x is h = subst (λ (r : SessionRun). Stands law new r) (sym is) record {
       nodes = inside.nodes;
+      begun = inside.begun;
       run_is = inside.run;
       session = beside.session ∙ stands.session;
       few = stands.few;
@@ -142,8 +143,8 @@ module _ (law : JcrLaw) (p : Shown) (run : SessionRun) (stands : Stands law p ru
     refused_is law p run stands unread new beside inside now is idle,
   )
 
-pub looked_both : (law later : JcrLaw) (a b c : Shown) (r s t : SessionRun) → later ≡ law → AreNodes a.history.clusters a.history.sessions → HasLooked law a b r s → HasLooked later b c s t → HasLooked law a c r t
-looked_both law later a b c r s t laws nodes first then =
+pub looked_both : (law later : JcrLaw) (a b c : Shown) (r s t : SessionRun) → later ≡ law → AreNodes a.history.clusters a.history.sessions → a.history.begin ≡ None → HasLooked law a b r s → HasLooked later b c s t → HasLooked law a c r t
+looked_both law later a b c r s t laws nodes begun first then =
     let second : HasLooked law b c s t = subst (λ (l : JcrLaw). HasLooked l b c s t) laws then in record {
       stands = second.stands;
       same = record {
@@ -152,7 +153,7 @@ looked_both law later a b c r s t laws nodes first then =
         index = second.same.index ∙ first.same.index;
         phase = second.same.phase ∙ first.same.phase;
       };
-      beside = beside_both law a b c nodes first.beside second.beside;
+      beside = beside_both law a b c nodes begun first.beside second.beside;
       still = λ read. (let x = first.still read in let y = second.still (ap is_unread x.1 ∙ read) in (y.0 ∙ x.0, y.1 ∙ x.1));
     }
 
@@ -215,13 +216,13 @@ ends_read law a b c run like now looked turned = by (is_unread run) refl
 
 pub turned_behind : (law : JcrLaw) (a b c : Shown) (run like now : SessionRun) (t : Turn) → Stands law a run → HasLooked law a b run like → is_unread like ≡ false → HasTurned law b c like now t → HasTurned law a c run now t
 turned_behind law a b c run like now t old looked read turned =
-    has_turned_later law a b c run now t old.nodes (link_read law a b run like old looked.stands looked.same read (λ h. (looked.still h).0)) looked.beside (ends_read law a b c run like now looked)
+    has_turned_later law a b c run now t old.nodes old.begun (link_read law a b run like old looked.stands looked.same read (λ h. (looked.still h).0)) looked.beside (ends_read law a b c run like now looked)
     (turned_like law b c run like now t looked.same.session looked.same.commands looked.same.index turned)
 
 -- where memory was refused for reading, and the command is answered so
 pub forgone_behind : (law : JcrLaw) (a b c : Shown) (run like now : SessionRun) (t : Turn) → Stands law a run → HasLooked law a b run like → is_unread run ≡ true → IsRefused b like → HasTurned law b c like now t → HasTurned law a c run now t
 forgone_behind law a b c run like now t old looked unread refused turned =
-    has_turned_later law a b c run now t old.nodes (free (ap is_writing refused.idle) (ap is_awaiting refused.idle) (looks_unawaited a run.sight (unread_looks law a run old unread))) looked.beside (ends_read law a b c run like now looked)
+    has_turned_later law a b c run now t old.nodes old.begun (free (ap is_writing refused.idle) (ap is_awaiting refused.idle) (looks_unawaited a run.sight (unread_looks law a run old unread))) looked.beside (ends_read law a b c run like now looked)
     (turned_like law b c run like now t looked.same.session looked.same.commands looked.same.index turned)
 
 -- a session that has left makes no step

@@ -10,7 +10,7 @@ use Rattle.jr_rev.proofs.Order.{same_revision}
 use Rattle.oak_machine.specs.declared.event.Draw.{Draw}
 use Rattle.oak_machine.specs.declared.event.Event.{Event}
 use Rattle.oak_machine.specs.declared.event.Event.TheVariants as event
-use Rattle.oak_machine.specs.History.{Past}
+use Rattle.oak_machine.specs.History.{Begin, Past}
 use Rattle.oak_machine.specs.Commits.{draw_of, is_committed, is_drawn, is_ended, is_end_of, refusal_of}
 use Rattle.oak_machine.specs.Laws.{Says, Starts, is_event_of, is_revision_of}
 use Rattle.oak_machine.specs.Runs.{AreNodes, IsRunOf}
@@ -27,6 +27,12 @@ any_both : {X : Type 0} (test : X → Bool) (a b : List X) → list_any test a �
 any_both test [] b h k = k
 any_both test (x ∷ a) b h k = let n = neither (test x) _ h in ap (λ c. c || list_any test (a ++ b)) n.0 ∙ any_both test a b n.1 k
 
+-- ---- where it begins
+
+-- a run that begins before any commit
+pub run_none : (starts : Starts) (says : Says) (clusters : ℕ) (sessions : List ℕ) {begin : Begin} → begin ≡ None → (past : Past) → IsRunOf starts says clusters sessions begin past → IsRunOf starts says clusters sessions None past
+run_none starts says clusters sessions begun past run = subst (λ (b : Begin). IsRunOf starts says clusters sessions b past) begun run
+
 -- ---- draws
 
 -- what is drawn in one past is so in another
@@ -38,7 +44,7 @@ drawn_some None h = absurd (false≢true h)
 drawn_some (Some d) h = (d, refl)
 
 module _ (clusters : ℕ) (sessions : List ℕ) (nodes : AreNodes clusters sessions) (starts : Starts) (says : Says) where
-  keeps_one : (e : Event) (past : Past) → IsRunOf starts says clusters sessions (e ∷ past) → Keeps past (e ∷ past)
+  keeps_one : (e : Event) (past : Past) → IsRunOf starts says clusters sessions None (e ∷ past) → Keeps past (e ∷ past)
   keeps_one (event.Draw d) past run r f h =
       elim (is_same r d.revision) as (λ b. is_same r d.revision ≡ b → cond b (Some d) (draw_of past r) ≡ Some f) [
         | true ↦ λ same. absurd (false≢true (ap is_some (sym (fresh_run clusters sessions nodes starts says d past run).fresh ∙ subst (λ (q : Revision). draw_of past q ≡ Some f) (same_revision r d.revision same) h)))
@@ -46,12 +52,12 @@ module _ (clusters : ℕ) (sessions : List ℕ) (nodes : AreNodes clusters sessi
       ] refl
   keeps_one e past run r f h = h
 
-  pub draw_stays : (added past : Past) → IsRunOf starts says clusters sessions (added ++ past) → (r : Revision) (d : Draw) → draw_of past r ≡ Some d → draw_of (added ++ past) r ≡ Some d
+  pub draw_stays : (added past : Past) → IsRunOf starts says clusters sessions None (added ++ past) → (r : Revision) (d : Draw) → draw_of past r ≡ Some d → draw_of (added ++ past) r ≡ Some d
   draw_stays [] past run r d h = h
   draw_stays (e ∷ added) past run r d h = keeps_one e (added ++ past) run r d (draw_stays added past run.1 r d h)
 
   -- a revision of the session stays one
-  pub revision_stays : (added past : Past) → IsRunOf starts says clusters sessions (added ++ past) → (s : ℕ) (r : Revision) → is_revision_of past s r ≡ true → is_revision_of (added ++ past) s r ≡ true
+  pub revision_stays : (added past : Past) → IsRunOf starts says clusters sessions None (added ++ past) → (s : ℕ) (r : Revision) → is_revision_of past s r ≡ true → is_revision_of (added ++ past) s r ≡ true
   revision_stays added past run s r h = by (draw_of past r) refl h
     where
       by : (o : Option Draw) → draw_of past r ≡ o → option_map_or (λ d. d.session == s) o false ≡ true → option_map_or (λ d. d.session == s) (draw_of (added ++ past) r) false ≡ true
@@ -66,7 +72,7 @@ module _ (clusters : ℕ) (sessions : List ℕ) (nodes : AreNodes clusters sessi
         ap (λ (o : Option Draw). option_map_or (λ d. d.session == s) o false) (kw r d.0 d.1 ∙ sym (kv r d.0 d.1))
 
     -- events are of the session in each later past alike
-    any_same : (added past w v : Past) → IsRunOf starts says clusters sessions (added ++ past) → Keeps (added ++ past) w → Keeps (added ++ past) v → list_any (is_event_of w s) added ≡ list_any (is_event_of v s) added
+    any_same : (added past w v : Past) → IsRunOf starts says clusters sessions None (added ++ past) → Keeps (added ++ past) w → Keeps (added ++ past) v → list_any (is_event_of w s) added ≡ list_any (is_event_of v s) added
     any_same [] past w v run kw kv = refl
     any_same (event.Commit r ∷ added) past w v run kw kv =
         ap (λ b. b || list_any (is_event_of w s) added) (same_owner (added ++ past) w v kw kv r (first_of_both _ _ run.0.open_.in_flight))
@@ -92,19 +98,21 @@ module _ (clusters : ℕ) (sessions : List ℕ) (nodes : AreNodes clusters sessi
     any_same (event.Bound m t ∷ added) past w v run kw kv = any_same added past w v run.1 kw kv
     any_same (event.Checkpoint id x ∷ added) past w v run kw kv = any_same added past w v run.1 kw kv
     any_same (event.Release id ∷ added) past w v run kw kv = any_same added past w v run.1 kw kv
+    any_same (event.Stop k ∷ added) past w v run kw kv = any_same added past w v run.1 kw kv
+    any_same (event.Recover k ∷ added) past w v run kw kv = any_same added past w v run.1 kw kv
 
     -- what others added at two times
-    pub others_both : (later added past : Past) → IsRunOf starts says clusters sessions (later ++ (added ++ past)) → IsRunOf starts says clusters sessions (added ++ past)
+    pub others_both : {begin : Begin} → begin ≡ None → (later added past : Past) → IsRunOf starts says clusters sessions begin (later ++ (added ++ past)) → IsRunOf starts says clusters sessions begin (added ++ past)
         → list_any (is_event_of (added ++ past) s) added ≡ false → list_any (is_event_of (later ++ (added ++ past)) s) later ≡ false
         → list_any (is_event_of ((later ++ added) ++ past) s) (later ++ added) ≡ false
-    others_both later added past run early first second =
+    others_both begun later added past run early first second =
         subst (λ (w : Past). list_any (is_event_of w s) (later ++ added) ≡ false) (sym (append_assoc later added past))
         (any_both (is_event_of (later ++ (added ++ past)) s) later added second
-        (any_same added past (later ++ (added ++ past)) (added ++ past) early (draw_stays later (added ++ past) run) (λ r d h. h) ∙ first))
+        (any_same added past (later ++ (added ++ past)) (added ++ past) (run_none starts says clusters sessions begun (added ++ past) early) (draw_stays later (added ++ past) (run_none starts says clusters sessions begun (later ++ (added ++ past)) run)) (λ r d h. h) ∙ first))
 
     module _ (r : Revision) where
       -- others neither commit nor refuse what the session drew
-      pub uncommitted_own : (added past : Past) → IsRunOf starts says clusters sessions (added ++ past) → (whole : Past) → is_revision_of whole s r ≡ true → list_any (is_event_of whole s) added ≡ false → is_committed past r ≡ false → is_committed (added ++ past) r ≡ false
+      pub uncommitted_own : (added past : Past) → IsRunOf starts says clusters sessions None (added ++ past) → (whole : Past) → is_revision_of whole s r ≡ true → list_any (is_event_of whole s) added ≡ false → is_committed past r ≡ false → is_committed (added ++ past) r ≡ false
       uncommitted_own [] past run whole theirs others h = h
       uncommitted_own (event.Commit q ∷ added) past run whole theirs others h =
           let n = neither (is_revision_of whole s q) _ others in

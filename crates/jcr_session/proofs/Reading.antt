@@ -5,13 +5,14 @@ use Rattle.std.specs.BTreeMap.{insert_entry}
 use Rattle.jr_path.specs.Names.{path_cmp}
 use Rattle.jr_path.specs.declared.name.Name.{Name}
 use Rattle.jr_path.specs.declared.path.Path.{Path}
+use Rattle.jr_rev.specs.declared.revision.Revision.{Revision}
 use Rattle.jr_tree.specs.declared.tree.Node.{Node}
-use Rattle.jr_tree.specs.Trees.{Nodes, children_of, node_at}
+use Rattle.jr_tree.specs.Trees.{Nodes, dated_children_of, node_at}
 use Rattle.oak_machine.specs.declared.event.StepKind.{StepKind}
-use Rattle.oak_machine.specs.History.{History, Past}
+use Rattle.oak_machine.specs.History.{Begin, History, Past}
 use Rattle.oak_machine.specs.Laws.{AreOthers, after}
 use Rattle.oak_machine.specs.Runs.{AreNodes, IsRun}
-use Rattle.oak_port.specs.Ports.{Beside, Grows, Idle, Makes, Seat, Shown, Starting, Steps, Waits, Work}
+use Rattle.oak_port.specs.Ports.{Beside, Grows, Idle, Makes, Seat, Shown, Starting, Steps, Waits, Work, tree_of}
 use Rattle.oak_port.specs.declared.task.StepOut.{StepOut}
 use Rattle.oak_port.specs.declared.task.StepOut.TheVariants as out
 use Rattle.oak_port.specs.declared.task.Task.{Task}
@@ -49,12 +50,12 @@ pub alone_both : (o : Option (List Seat)) (later added : Past) → IfSome o (λ 
 alone_both None later added first second = tt
 alone_both (Some seats) later added first second = ap (λ (p : Past). p ++ added) second ∙ first
 
-pub beside_both : (law : JcrLaw) (a b c : Shown) → AreNodes a.history.clusters a.history.sessions → IsBeside law a b → IsBeside law b c → IsBeside law a c
-beside_both law a b c nodes first second = record {
+pub beside_both : (law : JcrLaw) (a b c : Shown) → AreNodes a.history.clusters a.history.sessions → a.history.begin ≡ None → IsBeside law a b → IsBeside law b c → IsBeside law a c
+beside_both law a b c nodes begun first second = record {
   others = second.others ++ first.others;
   grows = record {
     grown = second.grows.grown ∙ (ap (λ (h : History). after second.others h) first.grows.grown ∙ after_both second.others first.others a.history);
-    theirs = others_both a.history.clusters a.history.sessions nodes (starts_of law) (says_of law) a.session second.others first.others a.history.past
+    theirs = others_both a.history.clusters a.history.sessions nodes (starts_of law) (says_of law) a.session begun second.others first.others a.history.past
         (subst (λ (h : History). IsRun (starts_of law) (says_of law) h) (second.grows.grown ∙ ap (λ (h : History). after second.others h) first.grows.grown) second.grows.run)
         (subst (λ (h : History). IsRun (starts_of law) (says_of law) h) first.grows.grown first.grows.run)
         first.grows.theirs
@@ -86,28 +87,29 @@ module _ (law : JcrLaw) (old new : Shown) (t : Task) (answer : StepOut) (inside 
     }
 
     in_new : IsIn law new
-    in_new = in_beside law old new waited inside.nodes inside.run inside
+    in_new = in_beside law old new waited inside.nodes inside.begun inside.run inside
 
     tree_new : base_at new ≡ base_at old
-    tree_new = tree_beside law old new waited inside.nodes inside.run
+    tree_new = tree_beside law old new waited inside.nodes inside.begun inside.run
 
-    tree_there : base_tree (steps.others ++ old.history.past) old.session ≡ base_at new
+    tree_there : tree_of old.history.begin (steps.others ++ old.history.past) old.session ≡ base_at new
     tree_there =
-        ap (λ (h : History). base_tree h.past old.session) (sym (steps.grows.grown ∙ ap (λ (own : Past). after own (after steps.others old.history)) none))
-        ∙ ap (base_tree new.history.past) (sym steps.session)
+        ap (λ (b : Begin). tree_of b (steps.others ++ old.history.past) old.session) inside.begun
+        ∙ (ap (λ (h : History). base_tree h.past old.session) (sym (steps.grows.grown ∙ ap (λ (own : Past). after own (after steps.others old.history)) none))
+        ∙ ap (base_tree new.history.past) (sym steps.session))
 
 -- ---- beginning to read
 
 module _ (law : JcrLaw) (old new : Shown) (inside : IsIn law old) where
   module _ (t : Task) (waits : Waits (starts_of law) (says_of law) old new (Starting t) old.room) where
     pub in_started : IsIn law new
-    in_started = in_then law old new (Starting t) old.room waits inside.nodes inside.run inside
+    in_started = in_then law old new (Starting t) old.room waits inside.nodes inside.begun inside.run inside
 
     tree_started : base_at new ≡ base_at old
-    tree_started = tree_then law old new (Starting t) old.room waits inside.nodes inside.run
+    tree_started = tree_then law old new (Starting t) old.room waits inside.nodes inside.begun inside.run
 
   pub in_refused : Waits (starts_of law) (says_of law) old new Idle old.room → IsIn law new
-  in_refused waits = in_then law old new Idle old.room waits inside.nodes inside.run inside
+  in_refused waits = in_then law old new Idle old.room waits inside.nodes inside.begun inside.run inside
 
   pub node_started : (tree : Nodes) (left : List Path) (path copy : Path) → copy ≡ path → Waits (starts_of law) (says_of law) old new (Starting (task.Load copy)) old.room → IsPart (base_at old) tree (path ∷ left)
       → (new.work ≡ Starting (task.Load path)) × IsPart (base_at new) tree (path ∷ left)
@@ -165,7 +167,7 @@ module _ (law : JcrLaw) (old new : Shown) (path : Path) (inside : IsIn law old) 
     room = steps.room;
   }
 
-  pub names_found : (names : List Name) → old.work ≡ Starting (task.List path) → Steps (starts_of law) (says_of law) old new (out.Ready (end.Children names)) → HasStepped law old new Idle × (names ≡ children_of (base_at new) path)
+  pub names_found : (names : List (Name × Option Revision)) → old.work ≡ Starting (task.List path) → Steps (starts_of law) (says_of law) old new (out.Ready (end.Children names)) → HasStepped law old new Idle × (names ≡ dated_children_of (base_at new) path)
   names_found names busy steps = let m = makes law old new (task.List path) (out.Ready (end.Children names)) inside busy steps in (
     record {
       inside = in_new law old new (task.List path) (out.Ready (end.Children names)) inside busy steps m.1;
@@ -174,7 +176,7 @@ module _ (law : JcrLaw) (old new : Shown) (path : Path) (inside : IsIn law old) 
       work_is = m.2;
       room = steps.room;
     },
-    m.0 ∙ ap (λ (t : Nodes). children_of t path) (tree_there law old new (task.List path) (out.Ready (end.Children names)) inside busy steps m.1),
+    m.0 ∙ ap (λ (t : Nodes). dated_children_of t path) (tree_there law old new (task.List path) (out.Ready (end.Children names)) inside busy steps m.1),
   )
 
   pub task_refused : (t : Task) → old.work ≡ Starting t → Steps (starts_of law) (says_of law) old new out.Memory → HasStepped law old new Idle
@@ -196,6 +198,10 @@ module _ (law : JcrLaw) (old new : Shown) (path : Path) (inside : IsIn law old) 
       by (task.Load p) m = done m.0 m.1
       by (task.List p) m = done m.0 m.1
       by (task.Commit e ms) m = done m.0 m.1
+      by task.BackWrite m = done m.0 m.1
+      by task.BackRead m = done m.0 m.1
+      by (task.Checkpoint i) m = done m.0 m.1
+      by (task.Release i) m = done m.0 m.1
 
 -- ---- what is read of a tree stays
 
@@ -212,7 +218,7 @@ AfterLoad new path tree left loaded.Refused = new.work ≡ Idle
 -- the same of the names of the children of a path
 abbrev pub AfterList : Shown → Path → Nodes → List Path → Listed → Type 0
 AfterList new path tree left listed.Going = (new.work ≡ Starting (task.List path)) × IsPart (base_at new) tree (path ∷ left)
-AfterList new path tree left (listed.Names names) = (new.work ≡ Idle) × IsPart (base_at new) tree (left ++ map (λ n. path ++ n ∷ []) names)
+AfterList new path tree left (listed.Names names) = (new.work ≡ Idle) × IsPart (base_at new) tree (left ++ map (λ n. path ++ n.0 ∷ []) names)
 AfterList new path tree left listed.Refused = new.work ≡ Idle
 
 -- the session is in, only events of others were added, and so much is read
@@ -242,6 +248,10 @@ module _ (law : JcrLaw) (old new : Shown) (path : Path) (tree : Nodes) (left : L
   loaded_with (out.Ready (end.Pinned pin)) busy steps = absurd (makes law old new (task.Load path) (out.Ready (end.Pinned pin)) inside busy steps)
   loaded_with (out.Ready (end.Commit e)) busy steps = absurd (makes law old new (task.Load path) (out.Ready (end.Commit e)) inside busy steps)
   loaded_with (out.Ready end.Ended) busy steps = absurd (makes law old new (task.Load path) (out.Ready end.Ended) inside busy steps)
+  loaded_with (out.Ready (end.Published o)) busy steps = absurd (makes law old new (task.Load path) (out.Ready (end.Published o)) inside busy steps)
+  loaded_with (out.Ready (end.Learnt u)) busy steps = absurd (makes law old new (task.Load path) (out.Ready (end.Learnt u)) inside busy steps)
+  loaded_with (out.Ready (end.Set p)) busy steps = absurd (makes law old new (task.Load path) (out.Ready (end.Set p)) inside busy steps)
+  loaded_with (out.Ready end.NoCheckpoint) busy steps = absurd (makes law old new (task.Load path) (out.Ready end.NoCheckpoint) inside busy steps)
   loaded_with (out.Wait r) busy steps = absurd (makes law old new (task.Load path) (out.Wait r) inside busy steps)
 
   pub has_loaded : (answer : StepOut) (came : Loaded) → old.work ≡ Starting (task.Load path) → Steps (starts_of law) (says_of law) old new answer → came ≡ loaded_by answer → HasLoaded law old new path tree left came
@@ -260,6 +270,10 @@ module _ (law : JcrLaw) (old new : Shown) (path : Path) (tree : Nodes) (left : L
   listed_with (out.Ready (end.Pinned pin)) busy there steps = absurd (makes law old new (task.List path) (out.Ready (end.Pinned pin)) inside busy steps)
   listed_with (out.Ready (end.Commit e)) busy there steps = absurd (makes law old new (task.List path) (out.Ready (end.Commit e)) inside busy steps)
   listed_with (out.Ready end.Ended) busy there steps = absurd (makes law old new (task.List path) (out.Ready end.Ended) inside busy steps)
+  listed_with (out.Ready (end.Published o)) busy there steps = absurd (makes law old new (task.List path) (out.Ready (end.Published o)) inside busy steps)
+  listed_with (out.Ready (end.Learnt u)) busy there steps = absurd (makes law old new (task.List path) (out.Ready (end.Learnt u)) inside busy steps)
+  listed_with (out.Ready (end.Set p)) busy there steps = absurd (makes law old new (task.List path) (out.Ready (end.Set p)) inside busy steps)
+  listed_with (out.Ready end.NoCheckpoint) busy there steps = absurd (makes law old new (task.List path) (out.Ready end.NoCheckpoint) inside busy steps)
   listed_with (out.Wait r) busy there steps = absurd (makes law old new (task.List path) (out.Wait r) inside busy steps)
 
   pub has_listed : (answer : StepOut) (came : Listed) → old.work ≡ Starting (task.List path) → is_some (node_at tree path) ≡ true → Steps (starts_of law) (says_of law) old new answer → came ≡ listed_by answer → HasListed law old new path tree left came
@@ -282,15 +296,15 @@ loaded_refused law old new path tree left came is has = subst (λ (c : Loaded). 
 pub listed_going : (law : JcrLaw) (old new : Shown) (path : Path) (tree : Nodes) (left : List Path) (came : Listed) → came ≡ listed.Going → HasListed law old new path tree left came → (new.work ≡ Starting (task.List path)) × IsPart (base_at new) tree (path ∷ left)
 listed_going law old new path tree left came is has = subst (λ (c : Listed). AfterList new path tree left c) is has.after
 
-pub listed_names : (law : JcrLaw) (old new : Shown) (path : Path) (tree : Nodes) (left : List Path) (came : Listed) (names : List Name) → came ≡ listed.Names names → HasListed law old new path tree left came → (new.work ≡ Idle) × IsPart (base_at new) tree (left ++ map (λ n. path ++ n ∷ []) names)
+pub listed_names : (law : JcrLaw) (old new : Shown) (path : Path) (tree : Nodes) (left : List Path) (came : Listed) (names : List (Name × Option Revision)) → came ≡ listed.Names names → HasListed law old new path tree left came → (new.work ≡ Idle) × IsPart (base_at new) tree (left ++ map (λ n. path ++ n.0 ∷ []) names)
 listed_names law old new path tree left came names is has = subst (λ (c : Listed). AfterList new path tree left c) is has.after
 
 pub listed_refused : (law : JcrLaw) (old new : Shown) (path : Path) (tree : Nodes) (left : List Path) (came : Listed) → came ≡ listed.Refused → HasListed law old new path tree left came → new.work ≡ Idle
 listed_refused law old new path tree left came is has = subst (λ (c : Listed). AfterList new path tree left c) is has.after
 
 -- a law that a call leaves as it was
-pub beside_more : (law later : JcrLaw) (a b c : Shown) → later ≡ law → AreNodes a.history.clusters a.history.sessions → IsBeside law a b → IsBeside later b c → IsBeside law a c
-beside_more law later a b c same nodes first second = beside_both law a b c nodes first (subst (λ (l : JcrLaw). IsBeside l b c) same second)
+pub beside_more : (law later : JcrLaw) (a b c : Shown) → later ≡ law → AreNodes a.history.clusters a.history.sessions → a.history.begin ≡ None → IsBeside law a b → IsBeside later b c → IsBeside law a c
+beside_more law later a b c same nodes begun first second = beside_both law a b c nodes begun first (subst (λ (l : JcrLaw). IsBeside l b c) same second)
 
 pub in_more : (law later : JcrLaw) (p : Shown) → later ≡ law → IsIn later p → IsIn law p
 in_more law later p same inside = subst (λ (l : JcrLaw). IsIn l p) same inside

@@ -1,5 +1,5 @@
 -- What a session may answer where it stands, and where it stands once that is said.
-use Rattle.std.proofs.Common.{◌≡◌, ℕ, zero, suc, ◌+◌, ◌<◌, ◌≤◌, length, Bool, true, false, cond, Some, List, [], ◌∷◌, ◌++◌, is_some, refl, sym, ap, ◌∙◌, subst, arith}
+use Rattle.std.proofs.Common.{◌≡◌, ℕ, zero, suc, ◌+◌, ◌<◌, ◌≤◌, length, Bool, true, false, cond, Some, List, [], ◌∷◌, ◌++◌, is_some, refl, sym, ap, ◌∙◌, subst, arith, None}
 use Rattle.std.specs.Prelude.{◌==◌, slice_get}
 use Rattle.std.proofs.lemmas.Bool.Decides.{nat_tests}
 use mathlib.Core.Bool.{false≢true}
@@ -51,7 +51,7 @@ module _ (law : JcrLaw) (old new : Shown) (run : SessionRun) (text : Text) (may 
   -- what may be answered may still be answered after events of others
   pub answer_waits : IsBeside law old new → new.work ≡ Idle → MayAnswer law new run text
   answer_waits waits idle = record {
-    inside = in_beside law old new waits may.inside.nodes may.inside.run may.inside;
+    inside = in_beside law old new waits may.inside.nodes may.inside.begun may.inside.run may.inside;
     session = waits.session ∙ may.session;
     few = may.few;
     commands = may.commands;
@@ -78,7 +78,7 @@ module _ (law : JcrLaw) (old new : Shown) (run : SessionRun) (text : Text) (may 
           (subst (λ (p : Past). SeesThen law.sessions p old.session run.index text run.sight) (append_assoc more waits.others old.history.past)
           (may.leaves (more ++ waits.others)
           (subst (λ (h : History). IsRun (starts_of law) (says_of law) h) (after_both more waits.others old.history) run_now)
-          (others_both old.history.clusters old.history.sessions may.inside.nodes (starts_of law) (says_of law) old.session more waits.others old.history.past run_now later waits.grows.theirs others_now)))
+          (others_both old.history.clusters old.history.sessions may.inside.nodes (starts_of law) (says_of law) old.session may.inside.begun more waits.others old.history.past run_now later waits.grows.theirs others_now)))
 
   abbrev then_run : SessionRun
   then_run = record run { index = run.index + 1; phase = phase.Between }
@@ -102,6 +102,7 @@ module _ (law : JcrLaw) (old new : Shown) (run : SessionRun) (text : Text) (may 
     };
     stands = record {
       nodes = moved (λ h s. AreNodes h.clusters h.sessions) may.inside.nodes;
+      begun = moved (λ h s. h.begin ≡ None) may.inside.begun;
       run_is = done.grows.run;
       session = done.session ∙ may.session;
       few = may.few;
@@ -114,7 +115,7 @@ module _ (law : JcrLaw) (old new : Shown) (run : SessionRun) (text : Text) (may 
     where
       behind : run.index + 1 ≤ length run.commands
       behind =
-          let c = may.says in
+          let c = may.says.1 in
           let at : slice_get run.commands run.index ≡ Some c.0 = sym (may.commands run.index) ∙ (ap (λ s. command_at law.sessions s run.index) (sym may.session) ∙ c.2) in
           let w : run.index < length run.commands = get_within run.commands run.index c.0 at in
           omega arith
@@ -145,13 +146,13 @@ module _ (law : JcrLaw) (old new : Shown) (run : SessionRun) (text : Text) (may 
       before_shown = record old { history = after done.others old.history }
 
       inside_before : IsIn law before_shown
-      inside_before = in_beside law old before_shown (record { others = done.others; grows = record { grown = refl; theirs = done.grows.theirs; run = before }; session = refl; beside = refl; alone = done.alone }) may.inside.nodes may.inside.run may.inside
+      inside_before = in_beside law old before_shown (record { others = done.others; grows = record { grown = refl; theirs = done.grows.theirs; run = before }; session = refl; beside = refl; alone = done.alone }) may.inside.nodes may.inside.begun may.inside.run may.inside
 
       inside_said : IsIn law (record old { history = record old.history { past = said } })
-      inside_said = record { nodes = inside_before.nodes; run = whole; login = inside_before.login; stays = inside_before.stays; detached = inside_before.detached; tree = inside_before.tree }
+      inside_said = record { nodes = inside_before.nodes; begun = inside_before.begun; run = whole; login = inside_before.login; stays = inside_before.stays; detached = inside_before.detached; tree = inside_before.tree }
 
       inside_now : IsIn law new
-      inside_now = let y = moved (λ h s. IsIn law (record old { history = h; session = s })) inside_said in record { nodes = y.nodes; run = y.run; login = y.login; stays = y.stays; detached = y.detached; tree = y.tree }
+      inside_now = let y = moved (λ h s. IsIn law (record old { history = h; session = s })) inside_said in record { nodes = y.nodes; begun = y.begun; run = y.run; login = y.login; stays = y.stays; detached = y.detached; tree = y.tree }
 
       sees_now : (x : Sight) → SeesThen law.sessions (done.others ++ old.history.past) old.session run.index text x → Sees law new then_run x
       sees_now sight.Unread h = (done.work, moved (λ h s. IsTurn law.sessions h.past s (base_tree h.past s) (base_tree h.past s)) h)
@@ -167,13 +168,13 @@ module _ (law : JcrLaw) (p : Shown) (s : ℕ) (inside : IsIn law p) where
     then_past = added ++ p.history.past
 
     over_then : (base view : Nodes) → IsOver law.sessions p.history.past p.session base view → IsOver law.sessions then_past p.session base view
-    over_then = over_still law p.history.clusters p.history.sessions inside.nodes p.session added p.history.past inside.run later others
+    over_then = over_still law p.history.clusters p.history.sessions inside.nodes p.session added p.history.past inside.begun inside.run later others
 
     turn_then : (base view : Nodes) → IsTurn law.sessions p.history.past p.session base view → IsTurn law.sessions then_past p.session base view
-    turn_then = turn_still law p.history.clusters p.history.sessions inside.nodes p.session added p.history.past inside.run later others
+    turn_then = turn_still law p.history.clusters p.history.sessions inside.nodes p.session added p.history.past inside.begun inside.run later others
 
     base_then : base_tree then_past p.session ≡ base_tree p.history.past p.session
-    base_then = tree_still law p.history.clusters p.history.sessions inside.nodes p.session added p.history.past inside.run later others
+    base_then = tree_still law p.history.clusters p.history.sessions inside.nodes p.session added p.history.past inside.begun inside.run later others
 
   -- a text by which a view stays
   sees_same : (run : SessionRun) (i : ℕ) (text : Text) → ((h : History) (base view : Nodes) → IsTurn law.sessions h.past p.session base view → IsTurn law.sessions (event.Said p.session i text ∷ h.past) p.session base view)
@@ -237,14 +238,14 @@ module _ (law : JcrLaw) (p : Shown) (run : SessionRun) (c : Command) (is : IsBet
   pub forgoes : MayAnswer law p run memory_text
   forgoes =
       let o = over_of run.sight at_between.1 not_reading in
-      stays_by memory_text (says_memory law.sessions p.history p.session run.index o.0 o.1 c o.2.over command_is)
-      (λ h base view turn. turn_memory law.sessions h p.session run.index base view turn.over)
+      stays_by memory_text (says_memory law.sessions p.history inside_is.begun p.session run.index o.0 o.1 c o.2.over command_is)
+      (λ h base view turn. turn_memory law.sessions (record h { begin = None }) refl p.session run.index base view turn.over)
 
   pub shows_base : (v : RevVec) → c ≡ command.Head → base_of p.history.past p.session ≡ Some v → MayAnswer law p run (answer_text (ShowsVector v))
   shows_base v head based =
       let at = subst (λ (d : Command). command_at law.sessions p.session run.index ≡ Some d) head command_is in
-      stays_by (answer_text (ShowsVector v)) (says_head law.sessions p.history p.session run.index [] [] v at based)
-      (λ h base view turn. turn_head law.sessions h p.session run.index base view v turn at)
+      stays_by (answer_text (ShowsVector v)) (says_head law.sessions p.history inside_is.begun p.session run.index [] [] v at based)
+      (λ h base view turn. turn_head law.sessions (record h { begin = None }) refl p.session run.index base view v turn at)
 
 -- ---- with a view
 
@@ -261,8 +262,8 @@ module _ (law : JcrLaw) (p : Shown) (run : SessionRun) (c : Command) (is : IsBet
     commands = is.stands.commands;
     index = is.stands.index;
     idle = is.idle;
-    says = says_view law.sessions p.history p.session run.index seen.base seen.view c turn_is.over (command_is law p run c is) plain;
-    leaves = λ added later others. turn_view law.sessions (after added p.history) p.session run.index seen.base seen.view c
+    says = says_view law.sessions p.history is.stands.begun p.session run.index seen.base seen.view c turn_is.over (command_is law p run c is) plain;
+    leaves = λ added later others. turn_view law.sessions (record (after added p.history) { begin = None }) refl p.session run.index seen.base seen.view c
         (turn_then law p p.session (inside_is law p run c is) added later others seen.base seen.view turn_is) (command_is law p run c is) plain;
   }
 
@@ -286,9 +287,9 @@ module _ (law : JcrLaw) (p : Shown) (run : SessionRun) (c : Command) (is : IsBet
     }
 
     pub nothing_pending : changes seen.base seen.view ≡ [] → MayAnswer law p run (answer_text ShowsNothing)
-    nothing_pending none = same_view (answer_text ShowsNothing) (says_unchanged law.sessions p.history p.session run.index seen.base seen.view turn_is save_at none)
-        (λ h turn. turn_unchanged law.sessions h p.session run.index seen.base seen.view turn save_at none)
+    nothing_pending none = same_view (answer_text ShowsNothing) (says_unchanged law.sessions p.history is.stands.begun p.session run.index seen.base seen.view turn_is save_at none)
+        (λ h turn. turn_unchanged law.sessions (record h { begin = None }) refl p.session run.index seen.base seen.view turn save_at none)
 
     pub too_many_pending : has_few_nodes seen.view ≡ false → MayAnswer law p run (answer_text too_many_nodes)
-    too_many_pending many = same_view (answer_text too_many_nodes) (says_too_many law.sessions p.history p.session run.index seen.base seen.view turn_is save_at many)
-        (λ h turn. turn_too_many law.sessions h p.session run.index seen.base seen.view turn)
+    too_many_pending many = same_view (answer_text too_many_nodes) (says_too_many law.sessions p.history is.stands.begun p.session run.index seen.base seen.view turn_is save_at many)
+        (λ h turn. turn_too_many law.sessions (record h { begin = None }) refl p.session run.index seen.base seen.view turn)

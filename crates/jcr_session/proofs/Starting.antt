@@ -59,7 +59,7 @@ module _ (law : JcrLaw) (old mid new : Shown) (t : Task) (answer : StepOut) (roo
   of_step = subst (λ (w : Work). AreOfStep (after steps.others mid.history) s w answer steps.own) waits.work_is steps.of_step
 
   pub inside_mid : IsIn law mid
-  inside_mid = in_then law old mid (Starting t) room waits inside.nodes inside.run inside
+  inside_mid = in_then law old mid (Starting t) room waits inside.nodes inside.begun inside.run inside
 
   abbrev q : Past
   q = steps.others ++ mid.history.past
@@ -78,7 +78,7 @@ module _ (law : JcrLaw) (old mid new : Shown) (t : Task) (answer : StepOut) (roo
       dropped (e ∷ own) h run = dropped own h run.1
 
   pub inside_moment : IsIn law (record mid { history = moment })
-  inside_moment = in_beside law mid (record mid { history = moment }) (record { others = steps.others; grows = record { grown = refl; theirs = steps.grows.theirs; run = run_moment }; session = refl; beside = refl; alone = steps.alone }) inside_mid.nodes inside_mid.run inside_mid
+  inside_moment = in_beside law mid (record mid { history = moment }) (record { others = steps.others; grows = record { grown = refl; theirs = steps.grows.theirs; run = run_moment }; session = refl; beside = refl; alone = steps.alone }) inside_mid.nodes inside_mid.begun inside_mid.run inside_mid
 
   pub moved : (F : History → ℕ → Type 0) → F (after steps.own moment) s → F new.history new.session
   moved F x = subst (λ (h : History). F h new.session) (sym steps.grows.grown) (subst (λ (n : ℕ). F (after steps.own moment) n) (sym steps.session) x)
@@ -100,6 +100,7 @@ module _ (law : JcrLaw) (old mid new : Shown) (t : Task) (answer : StepOut) (roo
     pub stands_by : (now : SessionRun) → now.session ≡ run.session → now.commands ≡ run.commands → now.index ≡ run.index → next_index (steps.own ++ q) s ≡ next_index q s → StandsAt law new now now.phase → Stands law new now
     stands_by now session commands index next at = record {
       nodes = moved (λ h n. AreNodes h.clusters h.sessions) inside_mid.nodes;
+      begun = moved (λ h n. h.begin ≡ None) inside_mid.begun;
       run_is = steps.grows.run;
       session = same_session ∙ sym session;
       few = subst (λ (cs : List Command). length cs ≤ 10000) (sym commands) stands.few;
@@ -139,7 +140,7 @@ left law old mid new room run now t stands between read next waits steps is told
     let moment = inside_moment law old mid new task.End (out.Ready end.Ended) room inside waits steps in
     subst (λ (x : Turn). HasTurned law old new run now x) (sym told)
     (subst (λ (x : SessionRun). HasTurned law old new run x (turn.Stepped kind.End)) (sym is)
-    (turned_later law old mid new run (record run { phase = phase.Over }) (turn.Stepped kind.End) stands.nodes (free (ap is_writing waits.work_is) (ap is_awaiting waits.work_is) (ap is_awaiting (idle_between law old run stands between read))) (by_waits law old mid (Starting task.End) room waits) (not_ended (turn.Stepped kind.End) refl)
+    (turned_later law old mid new run (record run { phase = phase.Over }) (turn.Stepped kind.End) stands.nodes stands.begun (free (ap is_writing waits.work_is) (ap is_awaiting waits.work_is) (ap is_awaiting (idle_between law old run stands between read))) (by_waits law old mid (Starting task.End) room waits) (not_ended (turn.Stepped kind.End) refl)
     record {
       others = steps.others;
       own = steps.own;
@@ -199,11 +200,12 @@ module _ (law : JcrLaw) (old mid new : Shown) (room : Option ℕ) (run : Session
   inside_moved : IsIn law new
   inside_moved = record {
     nodes = by_moved (λ h n. AreNodes h.clusters h.sessions) inside_then.nodes;
+    begun = by_moved (λ h n. h.begin ≡ None) inside_then.begun;
     run = steps.grows.run;
     login = by_moved (λ h n. has_login h.past n ≡ true) inside_then.login;
     stays = by_moved (λ h n. has_left h.past n ≡ false) inside_then.stays;
     detached = by_moved (λ h n. is_attached h.past n ≡ false) (ap (λ b. cond b false (is_attached behind mid.session)) (own mid.session));
-    tree = by_moved (λ h n. IsTree (base_tree h.past n)) (base_is_tree law moved_history mid.session inside_then.nodes run_moved);
+    tree = by_moved (λ h n. IsTree (base_tree h.past n)) (base_is_tree law moved_history mid.session inside_then.nodes inside_then.begun run_moved);
   }
 
   refreshing_is : command_at law.sessions run.session run.index ≡ Some (command.Refresh false)
@@ -218,7 +220,7 @@ module _ (law : JcrLaw) (old mid new : Shown) (room : Option ℕ) (run : Session
   moves_base now t is told =
       subst (λ (x : Turn). HasTurned law old new run now x) (sym told)
       (subst (λ (x : SessionRun). HasTurned law old new run x (turn.Stepped kind.Pin)) (sym is)
-      (turned_later law old mid new run (record run { phase = phase.Refreshed pin.base; sight = sight.Unread }) (turn.Stepped kind.Pin) stands.nodes (free (ap is_writing waits.work_is) (ap is_awaiting waits.work_is) (ap is_awaiting (idle_between law old run stands between read))) (by_waits law old mid (Starting task.Refresh) room waits) (not_ended (turn.Stepped kind.Pin) refl)
+      (turned_later law old mid new run (record run { phase = phase.Refreshed pin.base; sight = sight.Unread }) (turn.Stepped kind.Pin) stands.nodes stands.begun (free (ap is_writing waits.work_is) (ap is_awaiting waits.work_is) (ap is_awaiting (idle_between law old run stands between read))) (by_waits law old mid (Starting task.Refresh) room waits) (not_ended (turn.Stepped kind.Pin) refl)
       record {
         others = steps.others;
         own = steps.own;
@@ -249,6 +251,10 @@ pinned_is (out.Ready (end.Node f)) pin h = absurd (false≢true (ap is_some h))
 pinned_is (out.Ready (end.Children f)) pin h = absurd (false≢true (ap is_some h))
 pinned_is (out.Ready (end.Commit f)) pin h = absurd (false≢true (ap is_some h))
 pinned_is (out.Ready end.Ended) pin h = absurd (false≢true (ap is_some h))
+pinned_is (out.Ready (end.Published o)) pin h = absurd (false≢true (ap is_some h))
+pinned_is (out.Ready (end.Learnt u)) pin h = absurd (false≢true (ap is_some h))
+pinned_is (out.Ready (end.Set p)) pin h = absurd (false≢true (ap is_some h))
+pinned_is (out.Ready end.NoCheckpoint) pin h = absurd (false≢true (ap is_some h))
 pinned_is (out.Went k) pin h = absurd (false≢true (ap is_some h))
 pinned_is (out.Wait q) pin h = absurd (false≢true (ap is_some h))
 pinned_is out.Memory pin h = absurd (false≢true (ap is_some h))
@@ -272,12 +278,16 @@ module _ (law : JcrLaw) (old mid new : Shown) (room : Option ℕ) (run : Session
       by (out.Ready (end.Children f)) never m = absurd m
       by (out.Ready (end.Commit f)) never m = absurd m
       by (out.Ready end.Ended) never m = absurd m
+      by (out.Ready (end.Published o)) never m = absurd m
+      by (out.Ready (end.Learnt u)) never m = absurd m
+      by (out.Ready (end.Set p)) never m = absurd m
+      by (out.Ready end.NoCheckpoint) never m = absurd m
       by (out.Went k) never m = absurd m
       by (out.Wait q) never m = absurd m
 
   refused_beside : IsBeside law old new
   refused_beside = let inside = inside_of law old run stands between in
-      beside_both law old mid new inside.nodes (by_waits law old mid (Starting task.Refresh) room waits) record {
+      beside_both law old mid new inside.nodes inside.begun (by_waits law old mid (Starting task.Refresh) room waits) record {
         others = steps.others;
         grows = subst (λ (own : Past). Grows (starts_of law) (says_of law) mid.session mid.history new.history steps.others own) refused_step.0 steps.grows;
         session = steps.session;
@@ -289,5 +299,5 @@ module _ (law : JcrLaw) (old mid new : Shown) (room : Option ℕ) (run : Session
   refresh_stops = answer_waits law old new run memory_text (forgo_refresh law old run stands between read next) refused_beside refused_step.1
 
   pub refresh_stopped : (last : Shown) (now : SessionRun) (t : Turn) → HasTurned law new last run now t → HasTurned law old last run now t
-  refresh_stopped last now t turned = has_turned_later law old new last run now t stands.nodes (free (ap is_writing refused_step.1) (ap is_awaiting refused_step.1) (ap is_awaiting (idle_between law old run stands between read))) refused_beside
-      (never_ends law new last run now (in_beside law old new refused_beside stands.nodes stands.run_is (inside_of law old run stands between))) turned
+  refresh_stopped last now t turned = has_turned_later law old new last run now t stands.nodes stands.begun (free (ap is_writing refused_step.1) (ap is_awaiting refused_step.1) (ap is_awaiting (idle_between law old run stands between read))) refused_beside
+      (never_ends law new last run now (in_beside law old new refused_beside stands.nodes stands.begun stands.run_is (inside_of law old run stands between))) turned

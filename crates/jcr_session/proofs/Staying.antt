@@ -1,5 +1,5 @@
 -- A session stands where it stood while others make their steps; and a new one stands before its login.
-use Rattle.std.proofs.Common.{◌≡◌, ℕ, ◌≤◌, true, false, Some, Option, List, [], ◌∷◌, ◌++◌, length, refl, sym, ap, ◌∙◌, subst, arith}
+use Rattle.std.proofs.Common.{◌≡◌, ℕ, ◌≤◌, true, false, Some, Option, List, [], ◌∷◌, ◌++◌, length, refl, sym, ap, ◌∙◌, subst, arith, None}
 use Rattle.std.specs.Prelude.{slice_get}
 use Rattle.std.specs.List.{list_any}
 use Rattle.jr_tree.specs.Trees.{Nodes}
@@ -23,23 +23,23 @@ use Rattle.jcr_session.specs.declared.sight.Sight.TheVariants as sight
 use Rattle.jcr_session.specs.declared.sight.Walk.{Walk}
 use Rattle.jcr_session.specs.Sights.{IsBeside, IsFetching, IsIn, Reads, says_of, starts_of}
 use Rattle.jcr_session.specs.Standing.{HasCommitted, HasSaved, IsCommitting, IsInSave, IsNew, IsSaving, Sees, Stands, StandsAt}
-use Rattle.jcr_session.proofs.Waiting.{by_waits, committed_beside, committing_beside, in_beside, login_stays, next_beside, nodes_beside, shown_beside, tree_beside, turn_beside}
+use Rattle.jcr_session.proofs.Waiting.{begun_beside, by_waits, committed_beside, committing_beside, in_beside, login_stays, next_beside, nodes_beside, shown_beside, tree_beside, turn_beside}
 
 module _ (law : JcrLaw) (p q : Shown) (run : SessionRun) (stands : Stands law p run) (beside : IsBeside law p q) (work : q.work ≡ p.work) (room : q.room ≡ p.room) where
   abbrev added : Past
   added = beside.others
 
   base_now : base_tree q.history.past q.session ≡ base_tree p.history.past p.session
-  base_now = tree_beside law p q beside stands.nodes stands.run_is
+  base_now = tree_beside law p q beside stands.nodes stands.begun stands.run_is
 
   turn_now : (base view : Nodes) → IsTurn law.sessions p.history.past p.session base view → IsTurn law.sessions q.history.past q.session base view
-  turn_now = turn_beside law p q beside stands.nodes stands.run_is
+  turn_now = turn_beside law p q beside stands.nodes stands.begun stands.run_is
 
   turn_at_base : IsTurn law.sessions p.history.past p.session (base_tree p.history.past p.session) (base_tree p.history.past p.session) → IsTurn law.sessions q.history.past q.session (base_tree q.history.past q.session) (base_tree q.history.past q.session)
   turn_at_base turn = subst (λ (t : Nodes). IsTurn law.sessions q.history.past q.session t t) (sym base_now) (turn_now (base_tree p.history.past p.session) (base_tree p.history.past p.session) turn)
 
   in_now : IsIn law p → IsIn law q
-  in_now = in_beside law p q beside stands.nodes stands.run_is
+  in_now = in_beside law p q beside stands.nodes stands.begun stands.run_is
 
   drawing_now : is_drawing p.history.past p.session ≡ false → is_drawing q.history.past q.session ≡ false
   drawing_now idle = shown_beside law p q beside (λ h n. is_drawing h.past n ≡ false) (idle_stays (added ++ p.history.past) added p.history.past p.session beside.grows.theirs idle)
@@ -60,13 +60,13 @@ module _ (law : JcrLaw) (p q : Shown) (run : SessionRun) (stands : Stands law p 
   in_save_now (sight.Reading w) h = absurd h
   in_save_now (sight.Seen seen) (saving, committing) = (
     saving_now saving,
-    subst (λ (x : Work). IsCommitting law.sessions q.history.past q.session seen.base seen.view x) (sym work) (committing_beside law p q beside stands.nodes stands.run_is seen.base seen.view p.work committing),
+    subst (λ (x : Work). IsCommitting law.sessions q.history.past q.session seen.base seen.view x) (sym work) (committing_beside law p q beside stands.nodes stands.begun stands.run_is seen.base seen.view p.work committing),
   )
 
   has_saved_now : (e : CommitEnd) (x : Sight) → HasSaved law p run e x → HasSaved law q run e x
   has_saved_now e sight.Unread h = absurd h
   has_saved_now e (sight.Reading w) h = absurd h
-  has_saved_now e (sight.Seen seen) (saving, idle, committed) = (saving_now saving, work ∙ idle, committed_beside law p q beside stands.nodes stands.run_is seen.base seen.view e committed)
+  has_saved_now e (sight.Seen seen) (saving, idle, committed) = (saving_now saving, work ∙ idle, committed_beside law p q beside stands.nodes stands.begun stands.run_is seen.base seen.view e committed)
 
   at_now : (f : Phase) → StandsAt law p run f → StandsAt law q run f
   at_now phase.Outside h = record {
@@ -97,7 +97,8 @@ module _ (law : JcrLaw) (p q : Shown) (run : SessionRun) (stands : Stands law p 
 
   pub stands_beside : Stands law q run
   stands_beside = record {
-    nodes = nodes_beside law p q beside stands.nodes stands.run_is;
+    nodes = nodes_beside law p q beside stands.nodes stands.begun stands.run_is;
+    begun = begun_beside law p q beside stands.nodes stands.begun stands.run_is;
     run_is = beside.grows.run;
     session = beside.session ∙ stands.session;
     few = stands.few;
@@ -116,7 +117,7 @@ nothing_behind : {X : Type 0} (a : List X) → a ++ [] ≡ a
 nothing_behind [] = refl
 nothing_behind (x ∷ a) = ap (λ l. x ∷ l) (nothing_behind a)
 
-module _ (law : JcrLaw) (p : Shown) (session : ℕ) (commands : List Command) (run : SessionRun) (new : IsNew session commands run) (few : length commands ≤ 10000) (nodes : AreNodes p.history.clusters p.history.sessions) (run_is : IsRun (starts_of law) (says_of law) p.history) (own : p.session ≡ session) (theirs : (i : ℕ) → command_at law.sessions session i ≡ slice_get commands i) (idle : p.work ≡ Idle) (none : list_any (is_event_of p.history.past session) p.history.past ≡ false) where
+module _ (law : JcrLaw) (p : Shown) (session : ℕ) (commands : List Command) (run : SessionRun) (new : IsNew session commands run) (few : length commands ≤ 10000) (nodes : AreNodes p.history.clusters p.history.sessions) (begun : p.history.begin ≡ None) (run_is : IsRun (starts_of law) (says_of law) p.history) (own : p.session ≡ session) (theirs : (i : ℕ) → command_at law.sessions session i ≡ slice_get commands i) (idle : p.work ≡ Idle) (none : list_any (is_event_of p.history.past session) p.history.past ≡ false) where
   abbrev past : Past
   past = p.history.past
 
@@ -136,6 +137,7 @@ module _ (law : JcrLaw) (p : Shown) (session : ℕ) (commands : List Command) (r
   pub new_stands : Stands law p run
   new_stands = record {
     nodes = nodes;
+    begun = begun;
     run_is = run_is;
     session = own ∙ sym new.session_is;
     few = subst (λ (cs : List Command). length cs ≤ 10000) (sym new.commands_are) few;

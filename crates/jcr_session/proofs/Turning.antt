@@ -18,7 +18,7 @@ use Rattle.oak_machine.specs.Runs.{AreNodes, IsRun}
 use Rattle.oak_machine.specs.Sessions.{has_left, has_login, is_attached, is_login_of, next_index}
 use Rattle.oak_machine.specs.Steps.{is_appended_by}
 use Rattle.oak_machine.proofs.Stays.{any_later}
-use Rattle.oak_port.specs.Ports.{Answers, AreOfStep, Awaiting, Beside, Deciding, Grows, HasRoom, Idle, IsFinish, Makes, Seat, Shown, Starting, Steps, Undoing, Waits, Work, Writing, WritesOn, is_by_due}
+use Rattle.oak_port.specs.Ports.{Answers, AreOfStep, Awaiting, Beside, Deciding, Grows, HasRoom, Idle, IsFinish, Makes, Seat, Shown, Starting, Steps, Undoing, Waits, Work, Writing, WritesOn, is_by_due, Publishing, Learning}
 use Rattle.oak_commit.specs.declared.outcome.CommitEnd.{CommitEnd}
 use Rattle.oak_commit.specs.declared.outcome.CommitEnd.TheVariants as commit
 use Rattle.oak_port.specs.declared.task.StepOut.{StepOut}
@@ -61,6 +61,8 @@ any_due due own h = h
 pub unawaited : (h : History) (w : Work) → is_awaiting w ≡ false → IsSeenFor h w
 unawaited h Idle never = tt
 unawaited h (Starting t) never = tt
+unawaited h (Publishing r) never = tt
+unawaited h (Learning u) never = tt
 unawaited h (Writing r) never = tt
 unawaited h (Undoing r e) never = tt
 unawaited h (Deciding r) never = tt
@@ -110,13 +112,13 @@ made_later h old mid new now own (turn.Waiting q) link session made never = by l
 made_later h old mid new now own turn.Ended link session made never = absurd (never refl)
 made_later h old mid new now own turn.Memory link session made never = made
 
-pub turned_later : (law : JcrLaw) (a b c : Shown) (run now : SessionRun) (answer : Turn) → AreNodes a.history.clusters a.history.sessions → Link a b → IsBeside law a b → (answer ≡ turn.Ended → ⊥) → IsTurned law b c run now answer → IsTurned law a c run now answer
-turned_later law a b c run now answer nodes link waits never turned = record {
+pub turned_later : (law : JcrLaw) (a b c : Shown) (run now : SessionRun) (answer : Turn) → AreNodes a.history.clusters a.history.sessions → a.history.begin ≡ None → Link a b → IsBeside law a b → (answer ≡ turn.Ended → ⊥) → IsTurned law b c run now answer → IsTurned law a c run now answer
+turned_later law a b c run now answer nodes begun link waits never turned = record {
   others = turned.others ++ waits.others;
   own = turned.own;
   grows = record {
     grown = turned.grows.grown ∙ ap (λ (h : History). after turned.own h) moment;
-    theirs = others_both a.history.clusters a.history.sessions nodes (starts_of law) (says_of law) a.session turned.others waits.others a.history.past later first waits.grows.theirs
+    theirs = others_both a.history.clusters a.history.sessions nodes (starts_of law) (says_of law) a.session begun turned.others waits.others a.history.past later first waits.grows.theirs
         (subst (λ (s : ℕ). AreOthers s turned.others (waits.others ++ a.history.past)) waits.session (subst (λ (h : History). AreOthers b.session turned.others h.past) waits.grows.grown turned.grows.theirs));
     run = turned.grows.run;
   };
@@ -205,7 +207,7 @@ module _ (law : JcrLaw) (old new : Shown) (answer : StepOut) (run : SessionRun) 
       dropped (e ∷ own) h run = dropped own h run.1
 
   inside_moment : IsIn law (record old { history = moment })
-  inside_moment = in_beside law old (record old { history = moment }) (record { others = steps.others; grows = record { grown = refl; theirs = steps.grows.theirs; run = run_moment }; session = refl; beside = refl; alone = steps.alone }) inside.nodes inside.run inside
+  inside_moment = in_beside law old (record old { history = moment }) (record { others = steps.others; grows = record { grown = refl; theirs = steps.grows.theirs; run = run_moment }; session = refl; beside = refl; alone = steps.alone }) inside.nodes inside.begun inside.run inside
 
   -- what holds of the history after the step holds of what is shown
   moved : (F : History → ℕ → Type 0) → F (after steps.own moment) old.session → F new.history new.session
@@ -217,16 +219,18 @@ module _ (law : JcrLaw) (old new : Shown) (answer : StepOut) (run : SessionRun) 
   inside_quiet : IsQuiet old.session steps.own → IsIn law new
   inside_quiet quiet = record {
     nodes = moved (λ h s. AreNodes h.clusters h.sessions) inside.nodes;
+    begun = moved (λ h s. h.begin ≡ None) inside.begun;
     run = steps.grows.run;
     login = moved (λ h s. has_login h.past s ≡ true) login_then;
     stays = moved (λ h s. has_left h.past s ≡ false) (quiet.left moment.past ∙ inside_moment.stays);
     detached = moved (λ h s. is_attached h.past s ≡ false) (quiet.attached moment.past ∙ inside_moment.detached);
-    tree = moved (λ h s. IsTree (base_tree h.past s)) (base_is_tree law (after steps.own moment) old.session inside.nodes run_new);
+    tree = moved (λ h s. IsTree (base_tree h.past s)) (base_is_tree law (after steps.own moment) old.session inside.nodes inside.begun run_new);
   }
 
   stands_quiet : (f : Phase) → next_index (steps.own ++ moment.past) old.session ≡ next_index moment.past old.session → StandsAt law new (record run { phase = f }) f → Stands law new (record run { phase = f })
   stands_quiet f next at = record {
     nodes = moved (λ h s. AreNodes h.clusters h.sessions) inside.nodes;
+    begun = moved (λ h s. h.begin ≡ None) inside.begun;
     run_is = steps.grows.run;
     session = steps.session ∙ stands.session;
     few = stands.few;
@@ -257,7 +261,7 @@ module _ (law : JcrLaw) (old new : Shown) (answer : StepOut) (run : SessionRun) 
     saving_now f is = record { saving = is.saving; room = subst (λ (x : Option ℕ). Rattle.oak_port.specs.Ports.HasRoom x 40) (sym steps.room) is.room }
 
     still : (base view : Nodes) (work : Work) → IsCommitting law.sessions old.history.past old.session base view work → IsCommitting law.sessions moment.past old.session base view work
-    still = committing_still law old.history.clusters old.history.sessions inside.nodes old.session steps.others old.history.past inside.run run_moment steps.grows.theirs
+    still = committing_still law old.history.clusters old.history.sessions inside.nodes old.session steps.others old.history.past inside.begun inside.run run_moment steps.grows.theirs
 
     goes_on : (seen : Seen) → run.sight ≡ sight.Seen seen → IsSaving law old run → IsQuiet old.session steps.own → IsCommitting law.sessions (steps.own ++ moment.past) old.session seen.base seen.view new.work → StandsAt law new (record run { phase = phase.Saving }) phase.Saving
     goes_on seen same is quiet committing = (
@@ -275,11 +279,12 @@ module _ (law : JcrLaw) (old new : Shown) (answer : StepOut) (run : SessionRun) 
     inside_moved : (v : RevVec) → steps.own ≡ event.Refresh old.session v ∷ [] → IsIn law new
     inside_moved v same = record {
       nodes = moved (λ h s. AreNodes h.clusters h.sessions) inside.nodes;
+      begun = moved (λ h s. h.begin ≡ None) inside.begun;
       run = steps.grows.run;
       login = moved (λ h s. has_login h.past s ≡ true) login_then;
       stays = moved (λ h s. has_left h.past s ≡ false) (subst (λ (own : Past). has_left (own ++ moment.past) old.session ≡ false) (sym same) inside_moment.stays);
       detached = moved (λ h s. is_attached h.past s ≡ false) (subst (λ (own : Past). is_attached (own ++ moment.past) old.session ≡ false) (sym same) (ap (λ b. cond b false (is_attached moment.past old.session)) mine));
-      tree = moved (λ h s. IsTree (base_tree h.past s)) (base_is_tree law (after steps.own moment) old.session inside.nodes run_new);
+      tree = moved (λ h s. IsTree (base_tree h.past s)) (base_is_tree law (after steps.own moment) old.session inside.nodes inside.begun run_new);
     }
       where
         mine : (old.session == old.session) ≡ true
@@ -332,6 +337,10 @@ module _ (law : JcrLaw) (old new : Shown) (answer : StepOut) (run : SessionRun) 
     step_by (Undoing r e) (out.Ready (end.Children n)) seen at same is committing m told = absurd m
     step_by (Undoing r e) (out.Ready (end.Pinned n)) seen at same is committing m told = absurd m
     step_by (Undoing r e) (out.Ready end.Ended) seen at same is committing m told = absurd m
+    step_by (Undoing r e) (out.Ready (end.Published o)) seen at same is committing m told = absurd m
+    step_by (Undoing r e) (out.Ready (end.Learnt u)) seen at same is committing m told = absurd m
+    step_by (Undoing r e) (out.Ready (end.Set p)) seen at same is committing m told = absurd m
+    step_by (Undoing r e) (out.Ready end.NoCheckpoint) seen at same is committing m told = absurd m
     step_by (Undoing r e) (out.Wait q) seen at same is committing m told = absurd m
     step_by (Undoing r e) out.Memory seen at same is committing m told = tt
     step_by (Deciding r) (out.Went k) seen at same is committing (a, finish, work) told =
@@ -360,10 +369,16 @@ module _ (law : JcrLaw) (old new : Shown) (answer : StepOut) (run : SessionRun) 
     step_by (Awaiting r) (out.Ready (end.Children n)) seen at same is committing m told = absurd m
     step_by (Awaiting r) (out.Ready (end.Pinned n)) seen at same is committing m told = absurd m
     step_by (Awaiting r) (out.Ready end.Ended) seen at same is committing m told = absurd m
+    step_by (Awaiting r) (out.Ready (end.Published o)) seen at same is committing m told = absurd m
+    step_by (Awaiting r) (out.Ready (end.Learnt u)) seen at same is committing m told = absurd m
+    step_by (Awaiting r) (out.Ready (end.Set p)) seen at same is committing m told = absurd m
+    step_by (Awaiting r) (out.Ready end.NoCheckpoint) seen at same is committing m told = absurd m
     step_by (Awaiting r) (out.Went k) seen at same is committing m told = absurd m
     step_by (Awaiting r) out.Memory seen at same is committing m told = tt
     step_by Idle a seen at same is committing m told = absurd committing
     step_by (Starting t) a seen at same is committing m told = absurd committing
+    step_by (Publishing r) a seen at same is committing m told = absurd committing
+    step_by (Learning u) a seen at same is committing m told = absurd committing
 
     -- a step of a commit is a turn
     pub commit_turns : Turned answer
@@ -402,6 +417,8 @@ module _ (law : JcrLaw) (old new : Shown) (answer : StepOut) (run : SessionRun) 
     refused_by (Awaiting r) seen same is committing m = absurd m
     refused_by Idle seen same is committing m = absurd committing
     refused_by (Starting t) seen same is committing m = absurd committing
+    refused_by (Publishing r) seen same is committing m = absurd committing
+    refused_by (Learning u) seen same is committing m = absurd committing
 
     refused : answer ≡ out.Memory → IsRefusedStep old.work
     refused memory = let x = seen_by run.sight at_save in refused_by old.work x.0 x.1 x.2 x.3 (subst (λ (a : StepOut). Makes moment old.session old.work a steps.own new.work) memory steps.makes)
@@ -429,12 +446,12 @@ pub never_ends : {A : Type 0} (law : JcrLaw) (b c : Shown) (run now : SessionRun
 never_ends law b c run now inside turned =
     absurd (false≢true (sym (left_stays (turned.others ++ b.history.past) turned.others b.history.past b.session turned.grows.theirs inside.stays) ∙ turned.made.1))
 
-pub has_turned_later : (law : JcrLaw) (a b c : Shown) (run now : SessionRun) (t : Turn) → AreNodes a.history.clusters a.history.sessions → Link a b → IsBeside law a b → (IsTurned law b c run now turn.Ended → b ≡ a) → HasTurned law b c run now t → HasTurned law a c run now t
-has_turned_later law a b c run now (turn.Stepped k) nodes link waits ends turned = turned_later law a b c run now (turn.Stepped k) nodes link waits (not_ended (turn.Stepped k) refl) turned
-has_turned_later law a b c run now (turn.Said i) nodes link waits ends turned = turned_later law a b c run now (turn.Said i) nodes link waits (not_ended (turn.Said i) refl) turned
-has_turned_later law a b c run now (turn.Waiting q) nodes link waits ends turned = turned_later law a b c run now (turn.Waiting q) nodes link waits (not_ended (turn.Waiting q) refl) turned
-has_turned_later law a b c run now turn.Ended nodes link waits ends turned = subst (λ (p : Shown). IsTurned law p c run now turn.Ended) (ends turned) turned
-has_turned_later law a b c run now turn.Memory nodes link waits ends turned = tt
+pub has_turned_later : (law : JcrLaw) (a b c : Shown) (run now : SessionRun) (t : Turn) → AreNodes a.history.clusters a.history.sessions → a.history.begin ≡ None → Link a b → IsBeside law a b → (IsTurned law b c run now turn.Ended → b ≡ a) → HasTurned law b c run now t → HasTurned law a c run now t
+has_turned_later law a b c run now (turn.Stepped k) nodes begun link waits ends turned = turned_later law a b c run now (turn.Stepped k) nodes begun link waits (not_ended (turn.Stepped k) refl) turned
+has_turned_later law a b c run now (turn.Said i) nodes begun link waits ends turned = turned_later law a b c run now (turn.Said i) nodes begun link waits (not_ended (turn.Said i) refl) turned
+has_turned_later law a b c run now (turn.Waiting q) nodes begun link waits ends turned = turned_later law a b c run now (turn.Waiting q) nodes begun link waits (not_ended (turn.Waiting q) refl) turned
+has_turned_later law a b c run now turn.Ended nodes begun link waits ends turned = subst (λ (p : Shown). IsTurned law p c run now turn.Ended) (ends turned) turned
+has_turned_later law a b c run now turn.Memory nodes begun link waits ends turned = tt
 
 inside_saving : (law : JcrLaw) (p : Shown) (run : SessionRun) → Stands law p run → run.phase ≡ phase.Saving → IsIn law p
 inside_saving law p run stands saving = (subst (λ (f : Phase). StandsAt law p run f) saving stands.at).0
@@ -449,7 +466,7 @@ pub commit_twice : (law : JcrLaw) (old mid new : Shown) (answer : StepOut) (run 
     → now ≡ record run { phase = phase_by answer run.phase } → t ≡ turn_by answer → HasTurned law old new run now t
 commit_twice law old mid new answer run now t stands saving first second is told =
     let r = commit_refused law old mid out.Memory run stands (inside_saving law old run stands saving) first saving refl in
-    has_turned_later law old mid new run now t stands.nodes r.2 r.1 (never_ends law mid new run now (inside_saving law mid run r.0 saving)) (commit_once law mid new answer run now t r.0 saving second is told)
+    has_turned_later law old mid new run now t stands.nodes stands.begun r.2 r.1 (never_ends law mid new run now (inside_saving law mid run r.0 saving)) (commit_once law mid new answer run now t r.0 saving second is told)
 
 -- a commit under way is something that is being done
 pub commit_busy : (law : JcrLaw) (p : Shown) (run : SessionRun) → Stands law p run → run.phase ≡ phase.Saving → p.work ≡ Idle → ⊥
@@ -470,7 +487,7 @@ module _ (law : JcrLaw) (old : Shown) (run : SessionRun) (text : Text) (may : Ma
   -- there are at most 10,000 replies
   pub index_small : run.index < 10000
   index_small =
-      let c = may.says in
+      let c = may.says.1 in
       let at : slice_get run.commands run.index ≡ Some c.0 = sym (may.commands run.index) ∙ (ap (λ s. command_at law.sessions s run.index) (sym may.session) ∙ c.2) in
       let w : run.index < length run.commands = get_within run.commands run.index c.0 at in
       let f : length run.commands ≤ 10000 = may.few in
@@ -495,7 +512,7 @@ module _ (law : JcrLaw) (old : Shown) (run : SessionRun) (text : Text) (may : Ma
   answer_later new room waits = answer_waits law old new run text may (by_waits law old new old.work room waits) (waits.work_is ∙ may.idle)
 
   pub said_later : (mid new : Shown) (room : Option ℕ) (now : SessionRun) (t : Turn) → Waits (starts_of law) (says_of law) old mid old.work room → HasTurned law mid new run now t → HasTurned law old new run now t
-  said_later mid new room now t waits turned = has_turned_later law old mid new run now t may.inside.nodes (kept waits.work_is (waits.same_due refl)) (by_waits law old mid old.work room waits) (never_ends law mid new run now (in_beside law old mid (by_waits law old mid old.work room waits) may.inside.nodes may.inside.run may.inside)) turned
+  said_later mid new room now t waits turned = has_turned_later law old mid new run now t may.inside.nodes may.inside.begun (kept waits.work_is (waits.same_due refl)) (by_waits law old mid old.work room waits) (never_ends law mid new run now (in_beside law old mid (by_waits law old mid old.work room waits) may.inside.nodes may.inside.begun may.inside.run may.inside)) turned
 
 -- where nothing was being done, and is not now
 module _ (law : JcrLaw) (old new : Shown) (room : Option ℕ) (waits : Waits (starts_of law) (says_of law) old new Idle room) (run : SessionRun) where
@@ -504,8 +521,8 @@ module _ (law : JcrLaw) (old new : Shown) (room : Option ℕ) (waits : Waits (st
 
   pub said_idle : (last : Shown) (now : SessionRun) (t : Turn) (text : Text) → MayAnswer law old run text → HasTurned law new last run now t → HasTurned law old last run now t
   said_idle last now t text may turned =
-      has_turned_later law old new last run now t may.inside.nodes (free (ap is_writing waits.work_is) (ap is_awaiting waits.work_is) (ap is_awaiting may.idle)) (by_waits law old new Idle room waits)
-      (never_ends law new last run now (in_beside law old new (by_waits law old new Idle room waits) may.inside.nodes may.inside.run may.inside)) turned
+      has_turned_later law old new last run now t may.inside.nodes may.inside.begun (free (ap is_writing waits.work_is) (ap is_awaiting waits.work_is) (ap is_awaiting may.idle)) (by_waits law old new Idle room waits)
+      (never_ends law new last run now (in_beside law old new (by_waits law old new Idle room waits) may.inside.nodes may.inside.begun may.inside.run may.inside)) turned
 
 pub room_kept : (starts : _) (says : _) (old new : Shown) (work : Work) (n : ℕ) → Waits starts says old new work (Some n) → HasRoom new.room n
 room_kept starts says old new work n waits = subst (λ (x : Option ℕ). HasRoom x n) (sym waits.room_is) (let h : n ≤ n = omega arith in h)

@@ -1,19 +1,19 @@
 -- While others add events, a session stands where it stood.
-use Rattle.std.proofs.Common.{◌≡◌, ℕ, true, false, ◌||◌, Option, List, [], ◌∷◌, ◌++◌, sym, ap, ◌∙◌, subst}
+use Rattle.std.proofs.Common.{◌≡◌, ℕ, true, false, ◌||◌, Option, List, [], ◌∷◌, ◌++◌, sym, ap, ◌∙◌, subst, None}
 use Rattle.std.specs.Prelude.{◌==◌}
 use Rattle.std.specs.List.{list_any}
 use Rattle.jr_rev.specs.declared.revision.Revision.{Revision}
 use Rattle.jr_tree.specs.Trees.{IsTree, Nodes}
 use Rattle.oak_machine.specs.declared.event.Event.TheVariants as event
 use Rattle.oak_machine.specs.declared.event.StepKind.TheVariants as kind
-use Rattle.oak_machine.specs.History.{History, Past}
+use Rattle.oak_machine.specs.History.{Begin, History, Past}
 use Rattle.oak_machine.specs.Commits.{is_commit_of, is_committed, is_ended, is_end_of, refusal_of}
 use Rattle.oak_machine.specs.Laws.{after, is_event_of}
 use Rattle.oak_machine.specs.Runs.{AreNodes, IsRun, IsRunOf}
 use Rattle.oak_machine.specs.Sessions.{has_left, has_login, is_attached, is_login_of, next_index}
 use Rattle.oak_machine.proofs.Induction.{neither, other}
 use Rattle.oak_machine.proofs.Stays.{any_later}
-use Rattle.oak_port.specs.Ports.{Awaiting, Deciding, Idle, Shown, Starting, Undoing, Waits, Work, Writing}
+use Rattle.oak_port.specs.Ports.{Awaiting, Deciding, Idle, Shown, Starting, Undoing, Waits, Work, Writing, Publishing, Learning}
 use Rattle.oak_commit.specs.declared.outcome.CommitEnd.{CommitEnd}
 use Rattle.oak_commit.specs.declared.outcome.CommitEnd.TheVariants as commit
 use Rattle.core_law.specs.State.{base_tree}
@@ -24,7 +24,7 @@ use Rattle.core_law.proofs.Passing.{drawn_stays, idle_stays, next_stays, pending
 use Rattle.jcr_session.specs.declared.law.JcrLaw.{JcrLaw}
 use Rattle.jcr_session.specs.Sights.{IsBeside, IsIn, says_of, starts_of}
 use Rattle.jcr_session.specs.Standing.{HasCommitted, HasDrawn, HasView, IsCommitting, IsToldEnd}
-use Rattle.jcr_session.proofs.Others.{last_others, refusal_own, revision_stays, uncommitted_own}
+use Rattle.jcr_session.proofs.Others.{last_others, refusal_own, revision_stays, run_none, uncommitted_own}
 
 -- ---- whether it is in
 
@@ -47,15 +47,21 @@ attached_stays whole (e ∷ added) past s others h = attached_stays whole added 
 
 -- ---- by pasts
 
-module _ (law : JcrLaw) (clusters : ℕ) (sessions : List ℕ) (nodes : AreNodes clusters sessions) (s : ℕ) (added past : Past) (run : IsRunOf (starts_of law) (says_of law) clusters sessions past) (later : IsRunOf (starts_of law) (says_of law) clusters sessions (added ++ past)) (others : list_any (is_event_of (added ++ past) s) added ≡ false) where
+module _ (law : JcrLaw) (clusters : ℕ) (sessions : List ℕ) (nodes : AreNodes clusters sessions) (s : ℕ) (added past : Past) {begin : Begin} (begun : begin ≡ None) (begun_run : IsRunOf (starts_of law) (says_of law) clusters sessions begin past) (begun_later : IsRunOf (starts_of law) (says_of law) clusters sessions begin (added ++ past)) (others : list_any (is_event_of (added ++ past) s) added ≡ false) where
+  past_run : IsRunOf (starts_of law) (says_of law) clusters sessions None past
+  past_run = run_none (starts_of law) (says_of law) clusters sessions begun past begun_run
+
+  past_later : IsRunOf (starts_of law) (says_of law) clusters sessions None (added ++ past)
+  past_later = run_none (starts_of law) (says_of law) clusters sessions begun (added ++ past) begun_later
+
   pub tree_still : base_tree (added ++ past) s ≡ base_tree past s
-  tree_still = base_tree_stays clusters sessions nodes (starts_of law) (says_of law) s (added ++ past) added past later others
+  tree_still = base_tree_stays clusters sessions nodes (starts_of law) (says_of law) s (added ++ past) added past past_later others
 
   pub over_still : (base view : Nodes) → IsOver law.sessions past s base view → IsOver law.sessions (added ++ past) s base view
-  over_still = over_same law.sessions (starts_of law) (says_of law) clusters sessions nodes s added past run later others
+  over_still = over_same law.sessions (starts_of law) (says_of law) clusters sessions nodes s added past past_run past_later others
 
   pub turn_still : (base view : Nodes) → IsTurn law.sessions past s base view → IsTurn law.sessions (added ++ past) s base view
-  turn_still = turn_same law.sessions (starts_of law) (says_of law) clusters sessions nodes s added past run later others
+  turn_still = turn_same law.sessions (starts_of law) (says_of law) clusters sessions nodes s added past past_run past_later others
 
   turn_at_base : IsTurn law.sessions past s (base_tree past s) (base_tree past s) → IsTurn law.sessions (added ++ past) s (base_tree (added ++ past) s) (base_tree (added ++ past) s)
   turn_at_base turn = subst (λ (t : Nodes). IsTurn law.sessions (added ++ past) s t t) (sym tree_still) (turn_still (base_tree past s) (base_tree past s) turn)
@@ -66,17 +72,18 @@ module _ (law : JcrLaw) (clusters : ℕ) (sessions : List ℕ) (nodes : AreNodes
     pending = pending_stays law.sessions (added ++ past) added past s others ∙ has.pending;
     from = has.from;
     to = has.to;
+    born = has.born;
   }
 
   drawn_still : (r : Revision) → HasDrawn law.sessions past s r → HasDrawn law.sessions (added ++ past) s r
   drawn_still r has = record {
     drawn = drawn_stays (added ++ past) added past s others ∙ has.drawn;
-    theirs = revision_stays clusters sessions nodes (starts_of law) (says_of law) added past later s r has.theirs;
+    theirs = revision_stays clusters sessions nodes (starts_of law) (says_of law) added past past_later s r has.theirs;
     last = last_others (added ++ past) r added past s others has.last;
   }
 
   open_still : (r : Revision) → HasDrawn law.sessions past s r → is_committed past r ≡ false → is_committed (added ++ past) r ≡ false
-  open_still r has h = uncommitted_own clusters sessions nodes (starts_of law) (says_of law) s r added past later (added ++ past) (drawn_still r has).theirs others h
+  open_still r has h = uncommitted_own clusters sessions nodes (starts_of law) (says_of law) s r added past past_later (added ++ past) (drawn_still r has).theirs others h
 
   told_still : (r : Revision) (e : CommitEnd) → HasDrawn law.sessions past s r → IsToldEnd past r e → IsToldEnd (added ++ past) r e
   told_still r (commit.Clash item o) has h = refusal_own clusters sessions nodes (starts_of law) (says_of law) s r added past (added ++ past) (drawn_still r has).theirs others ∙ h
@@ -90,9 +97,11 @@ module _ (law : JcrLaw) (clusters : ℕ) (sessions : List ℕ) (nodes : AreNodes
   committing_still base view (Awaiting r) (has, made, ended) = (drawn_still r has, any_later (is_commit_of r) added past made, any_later (is_end_of r) added past ended)
   committing_still base view Idle h = h
   committing_still base view (Starting t) h = h
+  committing_still base view (Publishing r) h = h
+  committing_still base view (Learning u) h = h
 
   refused_still : (r : Revision) (o : _) → is_ended past r ≡ true → refusal_of past r ≡ o → refusal_of (added ++ past) r ≡ o
-  refused_still r o ended h = Rattle.core_law.proofs.Passing.refusal_stays (starts_of law) (says_of law) clusters sessions past r ended added later ∙ h
+  refused_still r o ended h = Rattle.core_law.proofs.Passing.refusal_stays (starts_of law) (says_of law) clusters sessions past r ended added past_later ∙ h
 
   pub committed_still : (base view : Nodes) (e : CommitEnd) → HasCommitted law.sessions past s base view e → HasCommitted law.sessions (added ++ past) s base view e
   committed_still base view (commit.Committed r) (v, drawn, ended, made, moved, seen, idle) =
@@ -117,19 +126,23 @@ module _ (law : JcrLaw) (old new : Shown) (beside : IsBeside law old new) where
   pub next_beside : next_index new.history.past new.session ≡ next_index old.history.past old.session
   next_beside = shown_beside (λ h n. next_index h.past n ≡ next_index old.history.past old.session) (next_stays (added ++ old.history.past) added old.history.past old.session beside.grows.theirs)
 
-  module _ (nodes : AreNodes old.history.clusters old.history.sessions) (run : IsRun (starts_of law) (says_of law) old.history) where
+  module _ (nodes : AreNodes old.history.clusters old.history.sessions) (begun : old.history.begin ≡ None) (run : IsRun (starts_of law) (says_of law) old.history) where
     later : IsRun (starts_of law) (says_of law) (after added old.history)
     later = subst (λ (h : History). IsRun (starts_of law) (says_of law) h) same beside.grows.run
 
     pub nodes_beside : AreNodes new.history.clusters new.history.sessions
     nodes_beside = shown_beside (λ h n. AreNodes h.clusters h.sessions) nodes
 
+    pub begun_beside : new.history.begin ≡ None
+    begun_beside = shown_beside (λ h n. h.begin ≡ None) begun
+
     pub tree_beside : base_tree new.history.past new.session ≡ base_tree old.history.past old.session
-    tree_beside = shown_beside (λ h n. base_tree h.past n ≡ base_tree old.history.past old.session) (tree_still law old.history.clusters old.history.sessions nodes old.session added old.history.past run later beside.grows.theirs)
+    tree_beside = shown_beside (λ h n. base_tree h.past n ≡ base_tree old.history.past old.session) (tree_still law old.history.clusters old.history.sessions nodes old.session added old.history.past begun run later beside.grows.theirs)
 
     pub in_beside : IsIn law old → IsIn law new
     in_beside inside = record {
       nodes = nodes_beside;
+      begun = begun_beside;
       run = beside.grows.run;
       login = shown_beside (λ h n. has_login h.past n ≡ true) (any_later (is_login_of old.session) added old.history.past inside.login);
       stays = shown_beside (λ h n. has_left h.past n ≡ false) (left_stays (added ++ old.history.past) added old.history.past old.session beside.grows.theirs inside.stays);
@@ -138,27 +151,27 @@ module _ (law : JcrLaw) (old new : Shown) (beside : IsBeside law old new) where
     }
 
     pub turn_beside : (base view : Nodes) → IsTurn law.sessions old.history.past old.session base view → IsTurn law.sessions new.history.past new.session base view
-    turn_beside base view turn = shown_beside (λ h n. IsTurn law.sessions h.past n base view) (turn_still law old.history.clusters old.history.sessions nodes old.session added old.history.past run later beside.grows.theirs base view turn)
+    turn_beside base view turn = shown_beside (λ h n. IsTurn law.sessions h.past n base view) (turn_still law old.history.clusters old.history.sessions nodes old.session added old.history.past begun run later beside.grows.theirs base view turn)
 
     pub committing_beside : (base view : Nodes) (work : Work) → IsCommitting law.sessions old.history.past old.session base view work → IsCommitting law.sessions new.history.past new.session base view work
-    committing_beside base view work is = shown_beside (λ h n. IsCommitting law.sessions h.past n base view work) (committing_still law old.history.clusters old.history.sessions nodes old.session added old.history.past run later beside.grows.theirs base view work is)
+    committing_beside base view work is = shown_beside (λ h n. IsCommitting law.sessions h.past n base view work) (committing_still law old.history.clusters old.history.sessions nodes old.session added old.history.past begun run later beside.grows.theirs base view work is)
 
     pub committed_beside : (base view : Nodes) (e : CommitEnd) → HasCommitted law.sessions old.history.past old.session base view e → HasCommitted law.sessions new.history.past new.session base view e
-    committed_beside base view e is = shown_beside (λ h n. HasCommitted law.sessions h.past n base view e) (committed_still law old.history.clusters old.history.sessions nodes old.session added old.history.past run later beside.grows.theirs base view e is)
+    committed_beside base view e is = shown_beside (λ h n. HasCommitted law.sessions h.past n base view e) (committed_still law old.history.clusters old.history.sessions nodes old.session added old.history.past begun run later beside.grows.theirs base view e is)
 
 pub by_waits : (law : JcrLaw) (old new : Shown) (work : Work) (room : Option ℕ) → Waits (starts_of law) (says_of law) old new work room → IsBeside law old new
 by_waits law old new work room waits = record { others = waits.others; grows = waits.grows; session = waits.session; beside = waits.beside; alone = waits.alone }
 
 module _ (law : JcrLaw) (old new : Shown) (work : Work) (room : Option ℕ) (waits : Waits (starts_of law) (says_of law) old new work room) where
-  module _ (nodes : AreNodes old.history.clusters old.history.sessions) (run : IsRun (starts_of law) (says_of law) old.history) where
+  module _ (nodes : AreNodes old.history.clusters old.history.sessions) (begun : old.history.begin ≡ None) (run : IsRun (starts_of law) (says_of law) old.history) where
     pub tree_then : base_tree new.history.past new.session ≡ base_tree old.history.past old.session
-    tree_then = tree_beside law old new (by_waits law old new work room waits) nodes run
+    tree_then = tree_beside law old new (by_waits law old new work room waits) nodes begun run
 
     pub in_then : IsIn law old → IsIn law new
-    in_then inside = in_beside law old new (by_waits law old new work room waits) nodes run inside
+    in_then inside = in_beside law old new (by_waits law old new work room waits) nodes begun run inside
 
     pub turn_waits : (base view : Nodes) → IsTurn law.sessions old.history.past old.session base view → IsTurn law.sessions new.history.past new.session base view
-    turn_waits base view turn = turn_beside law old new (by_waits law old new work room waits) nodes run base view turn
+    turn_waits base view turn = turn_beside law old new (by_waits law old new work room waits) nodes begun run base view turn
 
   pub next_waits : next_index new.history.past new.session ≡ next_index old.history.past old.session
   next_waits = next_beside law old new (by_waits law old new work room waits)

@@ -2,7 +2,7 @@
 use Rattle.std.proofs.Common.{◌≡◌, ◌⊎◌, inl, inr, ℕ, zero, suc, ◌+◌, ◌-◌, Bool, true, false, cond, ◌||◌, Some, None, Option, List, [], ◌∷◌, ◌++◌, length, take, is_some, map, refl, sym, ap, ◌∙◌, subst, arith}
 use Rattle.std.specs.Prelude.{slice_get}
 use Rattle.std.specs.Ordering.{eq_by_cmp, is_eq}
-use Rattle.std.specs.Option.{option_map_or, unwrap_or}
+use Rattle.std.specs.Option.{option_map, option_map_or, unwrap_or}
 use Rattle.std.specs.Cmp.{IsEquivalence}
 use Rattle.std.specs.BTreeMap.{insert_entry}
 use Rattle.std.specs.List.{list_all, list_any, filter_map}
@@ -15,8 +15,9 @@ use Rattle.jr_path.specs.declared.name.Name.{Name}
 use Rattle.jr_path.specs.declared.path.Path.{Path}
 use Rattle.jr_path.proofs.Maps.{path_exact, path_total, lookup-insert_entry}
 use Rattle.jr_path.proofs.Parts.{below_is_prefix}
+use Rattle.jr_rev.specs.declared.revision.Revision.{Revision}
 use Rattle.jr_tree.specs.declared.tree.Node.{Node}
-use Rattle.jr_tree.specs.Trees.{IsTree, Nodes, children_of, has_parent, is_child_of, node_at}
+use Rattle.jr_tree.specs.Trees.{IsTree, Nodes, children_of, dated_children_of, has_parent, is_child_of, node_at}
 use Rattle.jr_tree.proofs.Entries.{first, same_lists, second, sorted_insert}
 use Rattle.jr_tree.proofs.Pointwise.{same_path}
 use Rattle.jcr_session.specs.Sights.{IsPart}
@@ -88,6 +89,17 @@ last_below p n = ap (λ k. slice_get (p ++ n ∷ []) (k - 1)) (length_both p (n 
 
 child_below : (p : Path) (n : Name) → is_child_of p (p ++ n ∷ []) ≡ true
 child_below p n = ap (λ o. option_map_or (eq_by_cmp path_cmp p) o false) (parent_below p (n ∷ []) 0 refl ∙ ap (λ (q : Path). Some q) (append_nil p)) ∙ path_ties.refl p
+
+-- the paths of the children are the same with the revisions that added them
+listed_dated : (p : Path) (t : Nodes) → map (λ n. p ++ n.0 ∷ []) (dated_children_of t p) ≡ map (λ n. p ++ n ∷ []) (children_of t p)
+listed_dated p [] = refl
+listed_dated p (e ∷ t) = by (listed_dated p t) (is_child_of p e.0) (last_name e.0)
+  where
+    by : map (λ n. p ++ n.0 ∷ []) (dated_children_of t p) ≡ map (λ n. p ++ n ∷ []) (children_of t p) → (b : Bool) (o : Option Name)
+        → map (λ n. p ++ n.0 ∷ []) (Rattle.std.specs.List.cons_option (cond b (option_map (λ n. (n, e.1.born)) o) None) (dated_children_of t p)) ≡ map (λ n. p ++ n ∷ []) (Rattle.std.specs.List.cons_option (cond b o None) (children_of t p))
+    by rest true (Some n) = ap (λ (l : List Path). (p ++ n ∷ []) ∷ l) rest
+    by rest true None = rest
+    by rest false o = rest
 
 -- what is under a child that stands is under one of those that are listed
 listed : (p q : Path) (n : Name) → is_under q (p ++ n ∷ []) ≡ true → (t : Nodes) → is_some (node_at t (p ++ n ∷ [])) ≡ true → list_any (is_under q) (map (λ m. p ++ m ∷ []) (children_of t p)) ≡ true
@@ -169,8 +181,8 @@ module _ (t : Nodes) (tree : IsTree t) (read : Nodes) where
   node_there p node = ap is_some (lookup-insert_entry path_cmp path_total p p node read ∙ ap (λ b. cond b (Some node) (node_at read p)) (path_ties.refl p))
 
   -- the children of a node that is read are left in its place
-  pub part_children : (p : Path) (left : List Path) (names : List Name) → IsPart t read (p ∷ left) → is_some (node_at read p) ≡ true → names ≡ children_of t p → IsPart t read (left ++ map (λ n. p ++ n ∷ []) names)
-  part_children p left names part there are = subst (λ (ns : List Name). IsPart t read (left ++ map (λ n. p ++ n ∷ []) ns)) (sym are)
+  pub part_children : (p : Path) (left : List Path) (names : List (Name × Option Revision)) → IsPart t read (p ∷ left) → is_some (node_at read p) ≡ true → names ≡ dated_children_of t p → IsPart t read (left ++ map (λ n. p ++ n.0 ∷ []) names)
+  part_children p left names part there are = subst (λ (ps : List Path). IsPart t read (left ++ ps)) (sym (ap (λ (ns : List (Name × Option Revision)). map (λ n. p ++ n.0 ∷ []) ns) are ∙ listed_dated p t))
       record { order = part.order; theirs = part.theirs; covered = λ q is. by q is (part.covered q is) }
     where
       children : List Path
@@ -235,9 +247,9 @@ part_starts t is tree left path none nothing root =
     (subst (λ (l : List Path). IsPart t [] (path ∷ l)) (sym nothing) (subst (λ (p : Path). IsPart t [] (p ∷ [])) (sym root) (part_begins t is [])))
 
 -- the paths of the children are put behind those that are left
-pub part_pushed : (t tree : Nodes) (left now : List Path) (path : Path) (names pushed : List Name) → pushed ≡ names → now ≡ left ++ map (λ n. path ++ n ∷ []) pushed → IsPart t tree (left ++ map (λ n. path ++ n ∷ []) names) → IsPart t tree now
+pub part_pushed : (t tree : Nodes) (left now : List Path) (path : Path) (names pushed : List (Name × Option Revision)) → pushed ≡ names → now ≡ left ++ map (λ n. path ++ n.0 ∷ []) pushed → IsPart t tree (left ++ map (λ n. path ++ n.0 ∷ []) names) → IsPart t tree now
 part_pushed t tree left now path names pushed same put part =
-    subst (λ (l : List Path). IsPart t tree l) (sym (put ∙ ap (λ (ns : List Name). left ++ map (λ n. path ++ n ∷ []) ns) same)) part
+    subst (λ (l : List Path). IsPart t tree l) (sym (put ∙ ap (λ (ns : List (Name × Option Revision)). left ++ map (λ n. path ++ n.0 ∷ []) ns) same)) part
 
 -- the last path is taken off those that are left
 pub part_popped : (t : Nodes) → IsTree t → (tree : Nodes) (before left : List Path) (path : Path) → before ≡ left ++ path ∷ [] → IsPart t tree before → IsPart t tree (path ∷ left)

@@ -1,5 +1,5 @@
 -- How a session reads the tree at its base, and what it knows of the history meanwhile.
-use Rattle.std.specs.Prelude.{◌≡◌, ◌⊎◌, List, [], ◌∷◌, Some, is_some, IfSome, IsTrue, IsFalse}
+use Rattle.std.specs.Prelude.{◌≡◌, ◌⊎◌, List, [], ◌∷◌, None, Some, is_some, IfSome, IsTrue, IsFalse}
 use Rattle.std.specs.List.{list_any}
 use Rattle.std.specs.FinMap.{is_sorted}
 use Rattle.jr_path.specs.Names.{is_under, path_cmp}
@@ -43,9 +43,10 @@ pub record IsBeside (law : JcrLaw) (old new : Shown) : Type 0 where
   pub beside : new.beside ≡ old.beside
   pub alone : IfSome old.beside.seats (λ seats. others ≡ [])
 
--- the history is a run by the law, in which the session has logged in, hasn't left and isn't attached, and reads a tree at its base
+-- the history begins before any commit and is a run by the law, in which the session has logged in, hasn't left and isn't attached, and reads a tree at its base
 pub record IsIn (law : JcrLaw) (p : Shown) : Type 0 where
   pub nodes : AreNodes p.history.clusters p.history.sessions
+  pub begun : p.history.begin ≡ None
   pub run : IsRun (starts_of law) (says_of law) p.history
   pub login : IsTrue (has_login p.history.past p.session)
   pub stays : IsFalse (has_left p.history.past p.session)

@@ -6,7 +6,8 @@ use Rattle.jr_rev.specs.declared.revision.Revision.{Revision}
 use Rattle.jr_rev.specs.declared.vector.Pin.{Pin}
 use Rattle.jr_rev.specs.declared.vector.RevVec.{RevVec}
 use Rattle.jr_rev.specs.Vectors.{sees}
-use Rattle.jr_tree.specs.Trees.{IsTree, Nodes}
+use Rattle.jr_path.specs.declared.path.Path.{Path}
+use Rattle.jr_tree.specs.Trees.{IsTree, Nodes, born_at}
 use Rattle.jr_tree.specs.Edits.{changes}
 use Rattle.oak_machine.specs.declared.event.Event.{Event}
 use Rattle.oak_machine.specs.declared.event.Event.TheVariants as event
@@ -89,12 +90,13 @@ pub record HasDrawn (law : Orders) (past : Past) (s : ℕ) (r : Revision) : Type
   pub theirs : IsTrue (is_revision_of past s r)
   pub last : IsFalse (is_drawing (event.End r ∷ past) s)
 
--- what the session sees is the tree at its base with what is pending
+-- what the session sees is the tree at its base with what is pending, where a node that is added has no revision yet
 pub record HasView (law : Orders) (past : Past) (s : ℕ) (base view : Nodes) : Type 0 where
   pub base_is : base ≡ base_tree past s
   pub pending : pending_of law past s ≡ changes base view
   pub from : IsTree base
   pub to : IsTree view
+  pub born : (p : Path) → born_at view p ≡ born_at base p
 
 -- how a commit that isn't made ends is what the history tells: a clash by its refusal
 abbrev pub IsToldEnd : Past → Revision → CommitEnd → Type 0
@@ -170,9 +172,10 @@ StandsAt law p run phase.Saving = IsIn law p × IsInSave law p run run.sight
 StandsAt law p run (phase.Saved e) = IsIn law p × HasSaved law p run e run.sight
 StandsAt law p run phase.Over = IsGone p run
 
--- the port is the session's, its history a run by the law, which has the session's commands; the session's replies are those of the history, and it stands where these say
+-- the port is the session's, its history a run by the law that begins before any commit, which has the session's commands; the session's replies are those of the history, and it stands where these say
 pub record Stands (law : JcrLaw) (p : Shown) (run : SessionRun) : Type 0 where
   pub nodes : AreNodes p.history.clusters p.history.sessions
+  pub begun : p.history.begin ≡ None
   pub run_is : IsRun (starts_of law) (says_of law) p.history
   pub session : p.session ≡ run.session
   pub few : length run.commands ≤ 10000
@@ -208,7 +211,7 @@ Tells h s i turn.Memory own = ⊥
 
 -- what was committed is seen by the head, where the session waits for that
 abbrev pub IsSeenFor : History → Work → Type 0
-IsSeenFor h (Awaiting r) = IsTrue (sees (head_of h.clusters h.past r.cluster) r)
+IsSeenFor h (Awaiting r) = IsTrue (sees (head_of h.clusters h.begin h.past r.cluster) r)
 IsSeenFor h _ = ⊤
 
 -- a committed revision that ends is then waited for
@@ -234,7 +237,7 @@ pub record IsUnseen (h : History) (s : ℕ) (r : Revision) : Type 0 where
   pub theirs : IsTrue (is_revision_of h.past s r)
   pub committed : IsTrue (is_committed h.past r)
   pub ended : IsTrue (is_ended h.past r)
-  pub unseen : IsFalse (sees (head_of h.clusters h.past r.cluster) r)
+  pub unseen : IsFalse (sees (head_of h.clusters h.begin h.past r.cluster) r)
 
 -- when a turn is of each kind
 abbrev pub IsMade : History → Shown → Shown → SessionRun → Past → Turn → Type 0

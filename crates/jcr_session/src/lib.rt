@@ -8,8 +8,6 @@ mod past;
 mod pending;
 mod run;
 mod sight;
-#[cfg(test)]
-mod tests;
 mod turn;
 
 pub use law::JcrLaw;

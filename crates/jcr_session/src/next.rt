@@ -19,10 +19,11 @@ use jcr_trans::{
 use jr_path::{DeepCopy, List};
 use jr_rev::{RevVec, Revision};
 use jr_tree::{Datum, Refusal, Tree};
-use oak_machine::{Journal, base_of, is_committed, is_ended, next_index};
+use oak_machine::Journal;
+use oak_past::{base_of, is_committed, is_ended, next_index};
 use std::alloc::{AllocError, Global};
 
-/// The text of the reply that the law lets the next command of a session have, where the journal alone decides it: a reading or
+/// The text of the reply that the law lets the next command of a session have, where the journal begins before any commit and alone decides it: a reading or
 /// view command by the tree at the session's base with its pending edits, a save by how its commit ended, a refresh by where the
 /// base moved for it, `head` by the base. None where the session has no next command, for a save that is neither refused nor at the
 /// end of its commit, for a refresh before the base moved, and for `head` before the login. Want of memory is no such reply. It
@@ -33,6 +34,7 @@ pub fn eval(
     journal: &Journal,
     session: u32,
 ) -> Result<Option<String>, AllocError>
+    requires begun { journal.now.start ≡ None }
     ensures reply { IfOk result (λ found. option_map string_bytes found ≡ option_map answer_text (answer_next law.now.sessions (history_of journal.now).past session)) }
     ensures lawful { IfOk result (λ found. IfSome found (λ text. SaysBy law.now.sessions (history_of journal.now) session (next_index (history_of journal.now).past session) (string_bytes text))) }
 {
@@ -45,6 +47,7 @@ fn answer(
     journal: &Journal,
     session: u32,
 ) -> Result<Option<String>, AllocError>
+    requires begun { journal.now.start ≡ None }
     ensures { IfOk result (λ found. option_map string_bytes found ≡ option_map answer_text (answer_next law.now.sessions (history_of journal.now).past session)) }
 {
     let index = next_index(journal.events.as_slice(), session);
@@ -62,6 +65,7 @@ fn reply(
     session: u32,
     command: &Command,
 ) -> Result<Option<String>, AllocError>
+    requires begun { journal.now.start ≡ None }
     ensures { IfOk result (λ found. option_map string_bytes found ≡ option_map answer_text (answer_of law.now.sessions (history_of journal.now).past session command.now)) }
 {
     let events = journal.events.as_slice();
@@ -118,6 +122,7 @@ fn save_reply(
     journal: &Journal,
     session: u32,
 ) -> Result<Option<String>, AllocError>
+    requires begun { journal.now.start ≡ None }
     ensures { IfOk result (λ found. option_map string_bytes found ≡ option_map answer_text (save_answer law.now.sessions (history_of journal.now).past session (drawn_since (history_of journal.now).past session))) }
 {
     match drawn_since(journal.events.as_slice(), session) {
@@ -176,6 +181,7 @@ fn unsaved_reply(
     journal: &Journal,
     session: u32,
 ) -> Result<Option<String>, AllocError>
+    requires begun { journal.now.start ≡ None }
     ensures { IfOk result (λ found. option_map string_bytes found ≡ option_map answer_text (save_answer law.now.sessions (history_of journal.now).past session None)) }
 {
     let pending = pending_of(alloc, law, journal, session)?;

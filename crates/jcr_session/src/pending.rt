@@ -1,5 +1,5 @@
 // The pending edits of a session, by the law and a journal.
-ghost use Rattle.std.specs.Prelude.{◌≡◌, ◌∷◌, not, IfOk, OnOk};
+ghost use Rattle.std.specs.Prelude.{◌≡◌, ◌∷◌, None, not, IfOk, OnOk};
 ghost use Rattle.std.specs.List.{filter, fold};
 ghost use Rattle.jr_path.specs.Names.{is_under};
 ghost use Rattle.jr_tree.specs.Edits.{applied};
@@ -13,7 +13,8 @@ use crate::next::command_at;
 use jcr_trans::{Command, run};
 use jr_path::{DeepCopy, List, Path, Text};
 use jr_tree::{Edit, Node, Tree, Write, changes};
-use oak_machine::{Event, Events, Journal, base_of, last_checkpoint, tree_at};
+use oak_machine::{Event, Events, Journal};
+use oak_past::{base_of, last_checkpoint, tree_at};
 use std::alloc::{AllocError, Global};
 
 // The view of a session: the tree at its base with its pending edits.
@@ -23,6 +24,7 @@ pub(crate) fn view_of(
     journal: &Journal,
     session: u32,
 ) -> Result<Tree, AllocError>
+    requires begun { journal.now.start ≡ None }
     ensures { IfOk result (λ view. view ≡ view_of law.now.sessions (history_of journal.now).past session) }
 {
     let base = base_tree(alloc, journal, session)?;
@@ -45,6 +47,7 @@ pub(crate) fn pending_of(
         clusters: journal.clusters,
         sessions: List::new(alloc),
         events: Events::new(alloc),
+        start: None,
     };
     for event in journal.events.as_slice() {
         pending = pending_next(alloc, law, &before, session, event, pending)?;
@@ -62,7 +65,8 @@ fn pending_next(
     event: &Event,
     pending: List<Write>,
 ) -> Result<List<Write>, AllocError>
-    requires { pending ≡ pending_of law.now.sessions (history_of before.now).past session }
+    requires begun { before.now.start ≡ None }
+    requires pending { pending ≡ pending_of law.now.sessions (history_of before.now).past session }
     ensures { IfOk result (λ writes. writes ≡ pending_of law.now.sessions (event.now ∷ (history_of before.now).past) session) }
 {
     match event {
@@ -102,6 +106,7 @@ fn pending_said(
     text: &Text,
     pending: List<Write>,
 ) -> Result<List<Write>, AllocError>
+    requires begun { before.now.start ≡ None }
     ensures { IfOk result (λ writes. writes ≡ pending_said law.now.sessions (history_of before.now).past session index text.now pending) }
 {
     if !text.as_str().starts_with("ok") {
@@ -172,7 +177,7 @@ fn reapply(alloc: Global, tree: &mut Tree, write: &Write) -> Result<(), AllocErr
         _ => {
             let mut writes = List::new(alloc);
             writes.push(write.copy()?)?;
-            tree.apply(&Edit { writes })
+            tree.apply(&Edit { writes }, None)
         }
     }
 }
@@ -213,6 +218,7 @@ fn put_node(alloc: Global, tree: &mut Tree, path: &Path) -> Result<(), AllocErro
 
 // The tree at the base of a session.
 pub(crate) fn base_tree(alloc: Global, journal: &Journal, session: u32) -> Result<Tree, AllocError>
+    requires begun { journal.now.start ≡ None }
     ensures { IfOk result (λ tree. tree ≡ base_tree (history_of journal.now).past session) }
 {
     match base_of(journal.events.as_slice(), session) {
@@ -223,8 +229,8 @@ pub(crate) fn base_tree(alloc: Global, journal: &Journal, session: u32) -> Resul
 
 // A tree with edits.
 fn with_edits(mut tree: Tree, writes: List<Write>) -> Result<Tree, AllocError>
-    ensures { IfOk result (λ after. after ≡ applied tree writes) }
+    ensures { IfOk result (λ after. after ≡ applied None tree writes) }
 {
-    tree.apply(&Edit { writes })?;
+    tree.apply(&Edit { writes }, None)?;
     Ok(tree)
 }

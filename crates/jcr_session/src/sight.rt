@@ -8,6 +8,7 @@ ghost use Rattle.jcr_session.specs.Sights.{HasRead, IsBeside, IsIn, IsPart, Look
 
 use crate::law::JcrLaw;
 use jr_path::{DeepCopy, List, Name, Path};
+use jr_rev::Revision;
 use jr_tree::{Node, Tree};
 use oak_port::{Port, StepOut, Task, TaskEnd};
 use std::alloc::{AllocError, Global};
@@ -52,11 +53,11 @@ pub(crate) enum Loaded {
     Refused,
 }
 
-// The same of a step of reading the names of the children of a node.
+// The same of a step of reading the names of the children of a node, each with the revision that added the child.
 #[derive(Drop)]
 pub(crate) enum Listed {
     Going,
-    Names(List<Name>),
+    Names(List<(Name, Option<Revision>)>),
     Refused,
 }
 
@@ -250,11 +251,15 @@ fn read_names<P: Port<L = JcrLaw>>(
 }
 
 // Puts the paths of children behind those that are left.
-fn push_children(left: &mut Vec<Path>, path: &Path, names: &[Name]) -> Result<(), AllocError>
-    ensures { OnOk result (left.new.items ≡ left.old.items ++ map (λ n. path.now ++ n ∷ []) names.now) }
+fn push_children(
+    left: &mut Vec<Path>,
+    path: &Path,
+    names: &[(Name, Option<Revision>)],
+) -> Result<(), AllocError>
+    ensures { OnOk result (left.new.items ≡ left.old.items ++ map (λ n. path.now ++ n.0 ∷ []) names.now) }
 {
-    for name in names {
-        left.push(path.child(name)?)?;
+    for child in names {
+        left.push(path.child(&child.0)?)?;
     }
     Ok(())
 }

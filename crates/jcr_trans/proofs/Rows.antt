@@ -3,7 +3,7 @@ use Rattle.std.proofs.Common.{◌≡◌, None, Some, [], ◌∷◌, pos, refl}
 use Rattle.std.specs.Prelude.{codes}
 use Rattle.std.specs.Fmt.{digits}
 use Rattle.serde_json.proofs.OnLiterals.{serde_json_on_literals}
-use Rattle.jr_tree.specs.Trees.{initial_tree, node_of_type, Nodes}
+use Rattle.jr_tree.specs.Trees.{first_revision, initial_tree, node_of_type, typed_node, Nodes}
 use Rattle.jr_value.specs.declared.value.Property.TheVariants.{Single}
 use Rattle.jr_value.specs.declared.value.Value.TheVariants.{Long}
 use Rattle.jcr_trans.specs.declared.command.Command.TheVariants as command
@@ -22,8 +22,8 @@ with_p = view_after (command.Set (codes "a" ∷ []) (codes "p") (Single (Long (p
 added : answer_text (answered (command.Add (codes "a" ∷ []) None) initial_tree) ≡ codes "ok"
 added = refl
 
-view_with_a : with_a ≡ ([], node_of_type (codes "nt:unstructured")) ∷ (codes "a" ∷ [], node_of_type (codes "nt:unstructured"))
-    ∷ (codes "jcr:system" ∷ [], node_of_type (codes "rep:system")) ∷ (codes "jcr:system" ∷ codes "jcr:versionStorage" ∷ [], node_of_type (codes "rep:versionStorage")) ∷ []
+view_with_a : with_a ≡ ([], typed_node (Some first_revision) (codes "nt:unstructured")) ∷ (codes "a" ∷ [], node_of_type (codes "nt:unstructured"))
+    ∷ (codes "jcr:system" ∷ [], typed_node (Some first_revision) (codes "rep:system")) ∷ (codes "jcr:system" ∷ codes "jcr:versionStorage" ∷ [], typed_node (Some first_revision) (codes "rep:versionStorage")) ∷ []
 view_with_a = refl
 
 shown : answer_text (answered (command.Get (codes "a" ∷ codes "p" ∷ [])) with_p) ≡ codes "ok 1"

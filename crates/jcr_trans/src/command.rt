@@ -1,5 +1,5 @@
 // The commands of a session.
-ghost use Rattle.std.specs.Prelude.{◌≡◌};
+ghost use Rattle.std.specs.Prelude.{◌≡◌, IfOk};
 ghost use Rattle.jcr_trans.specs.Commands.{word_of};
 
 use jr_path::{DeepCopy, Keyed, List, Name, Path, Text};
@@ -173,18 +173,60 @@ impl DeepCopy for TreeNode {
     }
 }
 
+// Copies of two values.
+fn both<A: DeepCopy + Drop, B: DeepCopy>(a: &A, b: &B) -> Result<(A, B), AllocError>
+    ensures { IfOk result (λ made. made ≡ (a.now, b.now)) }
+{
+    Ok((a.copy()?, b.copy()?))
+}
+
+// Copies of three values.
+fn all<A: DeepCopy + Drop, B: DeepCopy + Drop, C: DeepCopy>(
+    a: &A,
+    b: &B,
+    c: &C,
+) -> Result<(A, B, C), AllocError>
+    ensures { IfOk result (λ made. made ≡ (a.now, b.now, c.now)) }
+{
+    Ok((a.copy()?, b.copy()?, c.copy()?))
+}
+
 impl DeepCopy for Command {
     fn copy(&self) -> Result<Command, AllocError> {
         match self {
-            Command::Add(a, b) => Ok(Command::Add(a.copy()?, b.copy()?)),
-            Command::Tree(a, b) => Ok(Command::Tree(a.copy()?, b.copy()?)),
-            Command::Set(a, b, c) => Ok(Command::Set(a.copy()?, b.copy()?, c.copy()?)),
-            Command::Unset(a, b) => Ok(Command::Unset(a.copy()?, b.copy()?)),
+            Command::Add(a, b) => {
+                let (a, b) = both(a, b)?;
+                Ok(Command::Add(a, b))
+            },
+            Command::Tree(a, b) => {
+                let (a, b) = both(a, b)?;
+                Ok(Command::Tree(a, b))
+            },
+            Command::Set(a, b, c) => {
+                let (a, b, c) = all(a, b, c)?;
+                Ok(Command::Set(a, b, c))
+            },
+            Command::Unset(a, b) => {
+                let (a, b) = both(a, b)?;
+                Ok(Command::Unset(a, b))
+            },
             Command::Remove(a) => Ok(Command::Remove(a.copy()?)),
-            Command::Move(a, b) => Ok(Command::Move(a.copy()?, b.copy()?)),
-            Command::Mixin(a, b) => Ok(Command::Mixin(a.copy()?, b.copy()?)),
-            Command::Unmixin(a, b) => Ok(Command::Unmixin(a.copy()?, b.copy()?)),
-            Command::SetType(a, b) => Ok(Command::SetType(a.copy()?, b.copy()?)),
+            Command::Move(a, b) => {
+                let (a, b) = both(a, b)?;
+                Ok(Command::Move(a, b))
+            },
+            Command::Mixin(a, b) => {
+                let (a, b) = both(a, b)?;
+                Ok(Command::Mixin(a, b))
+            },
+            Command::Unmixin(a, b) => {
+                let (a, b) = both(a, b)?;
+                Ok(Command::Unmixin(a, b))
+            },
+            Command::SetType(a, b) => {
+                let (a, b) = both(a, b)?;
+                Ok(Command::SetType(a, b))
+            },
             Command::Get(a) => Ok(Command::Get(a.copy()?)),
             Command::List(a) => Ok(Command::List(a.copy()?)),
             Command::Props(a) => Ok(Command::Props(a.copy()?)),
@@ -194,24 +236,34 @@ impl DeepCopy for Command {
             Command::Save => Ok(Command::Save),
             Command::Refresh(a) => Ok(Command::Refresh(a.copy()?)),
             Command::Head => Ok(Command::Head),
-            Command::Lock(a, b) => Ok(Command::Lock(a.copy()?, b.copy()?)),
+            Command::Lock(a, b) => {
+                let (a, b) = both(a, b)?;
+                Ok(Command::Lock(a, b))
+            },
             Command::Unlock(a) => Ok(Command::Unlock(a.copy()?)),
             Command::Token(a) => Ok(Command::Token(a.copy()?)),
             Command::DropToken(a) => Ok(Command::DropToken(a.copy()?)),
             Command::Checkin(a) => Ok(Command::Checkin(a.copy()?)),
             Command::Checkout(a) => Ok(Command::Checkout(a.copy()?)),
-            Command::Label(a, b, c, d) => Ok(Command::Label(
-                a.copy()?,
-                b.copy()?,
-                c.copy()?,
-                d.copy()?,
-            )),
-            Command::Unlabel(a, b) => Ok(Command::Unlabel(a.copy()?, b.copy()?)),
+            Command::Label(a, b, c, d) => {
+                let (a, b, c) = all(a, b, c)?;
+                Ok(Command::Label(a, b, c, *d))
+            },
+            Command::Unlabel(a, b) => {
+                let (a, b) = both(a, b)?;
+                Ok(Command::Unlabel(a, b))
+            },
             Command::Versions(a) => Ok(Command::Versions(a.copy()?)),
-            Command::Restore(a, b) => Ok(Command::Restore(a.copy()?, b.copy()?)),
-            Command::Observe(a, b, c) => Ok(Command::Observe(a.copy()?, b.copy()?, c.copy()?)),
+            Command::Restore(a, b) => {
+                let (a, b) = both(a, b)?;
+                Ok(Command::Restore(a, b))
+            },
+            Command::Observe(a, b, c) => Ok(Command::Observe(a.copy()?, *b, *c)),
             Command::Events => Ok(Command::Events),
-            Command::Query(a, b) => Ok(Command::Query(a.copy()?, b.copy()?)),
+            Command::Query(a, b) => {
+                let (a, b) = both(a, b)?;
+                Ok(Command::Query(a, b))
+            },
             Command::BackWrite => Ok(Command::BackWrite),
             Command::BackRead => Ok(Command::BackRead),
             Command::Split(a) => Ok(Command::Split(a.copy()?)),
@@ -221,7 +273,10 @@ impl DeepCopy for Command {
             Command::Attach(a) => Ok(Command::Attach(a.copy()?)),
             Command::Release(a) => Ok(Command::Release(a.copy()?)),
             Command::Detach => Ok(Command::Detach),
-            Command::OrderBefore(a, b) => Ok(Command::OrderBefore(a.copy()?, b.copy()?)),
+            Command::OrderBefore(a, b) => {
+                let (a, b) = both(a, b)?;
+                Ok(Command::OrderBefore(a, b))
+            },
             Command::Stop(a) => Ok(Command::Stop(a.copy()?)),
             Command::Recover(a) => Ok(Command::Recover(a.copy()?)),
         }

@@ -3,8 +3,6 @@
 
 mod checks;
 mod command;
-#[cfg(test)]
-mod tests;
 mod texts;
 mod view;
 

@@ -5,8 +5,6 @@
 mod arguments;
 mod commands;
 mod fault;
-#[cfg(test)]
-mod tests;
 mod tree;
 mod values;
 mod word;

@@ -11,8 +11,6 @@ mod list;
 mod name;
 mod path;
 mod path_text;
-#[cfg(test)]
-mod tests;
 mod text;
 
 pub use copies::DeepCopy;

@@ -63,31 +63,3 @@ fn line(alloc: Global, session: u32, index: u32, text: &Text) -> Result<String, 
     let text = text.as_str();
     Ok(format!(in alloc; "{session} {index} {text}\n")?)
 }
-
-#[cfg(test)]
-mod tests {
-    use super::*;
-    use jr_path::List;
-    use std::test::Fail;
-
-    #[test]
-    fn replies_of_two_sessions(rt: HostRuntime) -> Result<(), Fail> {
-        let alloc = rt.alloc();
-        let mut sessions = List::new(alloc);
-        sessions.push(1)?;
-        sessions.push(1)?;
-        let mut events = Events::new(alloc);
-        for (session, index, text) in [(1, 0, "ok"), (0, 0, "ok [\"a\"]"), (1, 1, "no 16 []")] {
-            let text = Text::copy_of(alloc, text)?;
-            events.push(Event::Said(session, index, text))?;
-        }
-        let journal = Journal {
-            clusters: 1,
-            sessions,
-            events,
-        };
-        let want = "0 0 ok [\"a\"]\n1 0 ok\n1 1 no 16 []\n";
-        assert_eq!(rt; lines(alloc, &journal)?.as_slice(), want.as_bytes());
-        Ok(())
-    }
-}

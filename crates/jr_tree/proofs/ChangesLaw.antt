@@ -6,9 +6,8 @@ use Rattle.std.specs.Ordering.{is_eq, eq_by_cmp, match_ordering}
 use Rattle.std.specs.Option.{option_and_then, option_map_or, option_map, option_or, unwrap_or}
 use Rattle.std.specs.Map.{lookup, values_of}
 use Rattle.std.specs.BTreeMap.{is_at, insert_entry}
-use Rattle.std.specs.List.{fold, filter, flat_map, list_all}
+use Rattle.std.specs.List.{filter, flat_map, list_all}
 use Rattle.std.specs.FinMap.{is_sorted}
-use Rattle.std.specs.FinMap.Entries.{below_all}
 use Rattle.std.specs.Cmp.{IsEquivalence}
 use Rattle.std.proofs.lemmas.Cmp.{nat_list_cmp_total, eq_by_cmp_equiv}
 use mathlib.Core.Bool.{false≢true}
@@ -20,10 +19,11 @@ use Rattle.jr_path.proofs.Maps.{path_total, path_exact, name_exact, lookup-inser
 use Rattle.jr_value.specs.declared.value.Property.{Property}
 use Rattle.jr_value.specs.Values.{same_property}
 use Rattle.jr_value.specs.Equality.{same_property_decides}
+use Rattle.jr_rev.specs.declared.revision.Revision.{Revision}
 use Rattle.jr_tree.specs.declared.tree.Node.{Node}
 use Rattle.jr_tree.specs.declared.edit.Write.{Write}
-use Rattle.jr_tree.specs.declared.edit.Write.TheVariants.{Here, Gone, Put, Unset}
-use Rattle.jr_tree.specs.Trees.{Nodes, has_names_in_order, node_at, property_at, IsTree}
+use Rattle.jr_tree.specs.declared.edit.Write.TheVariants.{Here, Put, Unset}
+use Rattle.jr_tree.specs.Trees.{Nodes, born_of, born_at, has_names_in_order, node_at, property_at, undated, IsTree}
 use Rattle.jr_tree.specs.Edits.{applied, changes, item_of, item_cmp, taking, property_changes, properties_at}
 use Rattle.jr_tree.specs.Changes.{Writes, with_writes, unset_missing, put_changed, nodes_taken, node_changes, nodes_changed}
 use Rattle.jr_tree.specs.Items.{here_of, put_of, written, has_after, property_after}
@@ -33,7 +33,8 @@ use Rattle.jr_tree.proofs.Proper.{same_name}
 use Rattle.jr_tree.proofs.LastWrites.{item_total}
 use Rattle.jr_tree.proofs.Written.{Reads, here_reads, put_reads, or_none, none_from}
 use Rattle.jr_tree.proofs.AtPath.{InOrder, prop_of, order-applied}
-use Rattle.jr_tree.proofs.EditLaw.{IsOrderly, Orderly-all, Orderly-applied, has_applied, property_applied}
+use Rattle.jr_tree.proofs.EditLaw.{born_applied, IsOrderly, Orderly-all, Orderly-applied, has_applied, property_applied}
+use Rattle.jr_tree.proofs.Undated.{undate, has-undated, node_at-undated, property-undated, sorted-undated}
 
 pub item_ties : IsEquivalence (eq_by_cmp item_cmp)
 item_ties = eq_by_cmp_equiv item_total
@@ -364,20 +365,60 @@ property_changed t u s o names p n =
         ap (λ w. unwrap_or w (property_at t p n)) (or_none (written_of (properties_at t p) n node))
         ∙ (ap (unwrap_or (written_of (properties_at t p) n node)) (sym (old_is n (node_at t p))) ∙ rewritten (lookup (is_at (name_cmp n)) (properties_at t p)) (lookup (is_at (name_cmp n)) node.props))
 
--- two nodes, or none, with the same properties
-same_node : (a b : Option Node) → IsOrderly a → IsOrderly b → is_some a ≡ is_some b → ((n : Name) → prop_of n a ≡ prop_of n b) → a ≡ b
-same_node None None s o h e = refl
-same_node None (Some y) s o h e = absurd (false≢true h)
-same_node (Some x) None s o h e = absurd (false≢true (sym h))
-same_node (Some x) (Some y) s o h e = ap (λ (ps : List (Name × Property)). Some (record { props = ps })) (same_lists name_cmp nat_list_cmp_total name_exact x.props y.props (s x refl) (o y refl) e)
+-- two nodes, or none, with the same properties, that the same revision added
+same_node : (a b : Option Node) → IsOrderly a → IsOrderly b → is_some a ≡ is_some b → born_of a ≡ born_of b → ((n : Name) → prop_of n a ≡ prop_of n b) → a ≡ b
+same_node None None s o h d e = refl
+same_node None (Some y) s o h d e = absurd (false≢true h)
+same_node (Some x) None s o h d e = absurd (false≢true (sym h))
+same_node (Some x) (Some y) s o h d e = λ i. Some (record { props = same_lists name_cmp nat_list_cmp_total name_exact x.props y.props (s x refl) (o y refl) e i; born = d i })
 
--- trees with the same nodes and properties are the same
-pub same_trees : (t u : Nodes) → InOrder t → InOrder u → ((p : Path) → IsOrderly (node_at t p)) → ((p : Path) → IsOrderly (node_at u p)) → ((p : Path) → is_some (node_at t p) ≡ is_some (node_at u p)) → ((p : Path) (n : Name) → property_at t p n ≡ property_at u p n) → t ≡ u
-same_trees t u s o names names' has same = same_lists path_cmp path_total path_exact t u s o (λ p. same_node (node_at t p) (node_at u p) (names p) (names' p) (has p) (same p))
+-- trees with the same nodes and properties, that the same revisions added, are the same
+pub same_trees : (t u : Nodes) → InOrder t → InOrder u → ((p : Path) → IsOrderly (node_at t p)) → ((p : Path) → IsOrderly (node_at u p)) → ((p : Path) → is_some (node_at t p) ≡ is_some (node_at u p)) → ((p : Path) → born_at t p ≡ born_at u p)
+    → ((p : Path) (n : Name) → property_at t p n ≡ property_at u p n) → t ≡ u
+same_trees t u s o names names' has born same = same_lists path_cmp path_total path_exact t u s o (λ p. same_node (node_at t p) (node_at u p) (names p) (names' p) (has p) (born p) (same p))
 
-pub changes_applied : (t u : Nodes) → IsTree t → IsTree u → applied t (changes t u) ≡ u
-changes_applied t u tree tree' =
+nobody : (o : Option Node) → born_of (option_map undate o) ≡ None
+nobody None = refl
+nobody (Some node) = refl
+
+undated_is : (t : Nodes) (p : Path) → born_at (undated t) p ≡ None
+undated_is t p = ap born_of (node_at-undated t p) ∙ nobody (node_at t p)
+
+Orderly-undated : (o : Option Node) → IsOrderly o → IsOrderly (option_map undate o)
+Orderly-undated None s = λ node e. absurd (false≢true (ap is_some e))
+Orderly-undated (Some old) s = λ node e. subst (λ (x : Option Node). option_map_or (λ node. is_sorted name_cmp node.props) x true ≡ true) e (s old refl)
+
+-- trees with the same nodes and properties differ in who added the nodes alone
+pub alike_trees : (t u : Nodes) → InOrder t → InOrder u → ((p : Path) → IsOrderly (node_at t p)) → ((p : Path) → IsOrderly (node_at u p)) → ((p : Path) → is_some (node_at t p) ≡ is_some (node_at u p)) → ((p : Path) (n : Name) → property_at t p n ≡ property_at u p n) → undated t ≡ undated u
+alike_trees t u s o names names' has same =
+    same_trees (undated t) (undated u) (sorted-undated t ∙ s) (sorted-undated u ∙ o) (λ p. orderly t p (names p)) (λ p. orderly u p (names' p)) (λ p. has-undated t p ∙ (has p ∙ sym (has-undated u p)))
+    (λ p. undated_is t p ∙ sym (undated_is u p)) (λ p n. property-undated t p n ∙ (same p n ∙ sym (property-undated u p n)))
+  where
+    orderly : (t : Nodes) (p : Path) → IsOrderly (node_at t p) → IsOrderly (node_at (undated t) p)
+    orderly t p h = subst IsOrderly (sym (node_at-undated t p)) (Orderly-undated (node_at t p) h)
+
+pub changes_applied : (born : Option Revision) (t u : Nodes) → IsTree t → IsTree u → undated (applied born t (changes t u)) ≡ undated u
+changes_applied born t u tree tree' =
     let names = Orderly-all t tree.names in
-    same_trees (applied t (changes t u)) u (order-applied t (changes t u) tree.paths) tree'.paths (Orderly-applied t (changes t u) tree.paths names) (Orderly-all u tree'.names)
-    (λ p. has_applied t (changes t u) tree.paths p ∙ has_changed t u tree.paths tree'.paths p)
-    (λ p n. property_applied t (changes t u) tree.paths names p n ∙ property_changed t u tree.paths tree'.paths tree'.names p n)
+    alike_trees (applied born t (changes t u)) u (order-applied born t (changes t u) tree.paths) tree'.paths (Orderly-applied born t (changes t u) tree.paths names) (Orderly-all u tree'.names)
+    (λ p. has_applied born t (changes t u) tree.paths p ∙ has_changed t u tree.paths tree'.paths p)
+    (λ p n. property_applied born t (changes t u) tree.paths names p n ∙ property_changed t u tree.paths tree'.paths tree'.names p n)
+
+-- who added a node that is written, or is as it was
+born_made : (a b : Option Node) → born_of b ≡ born_of a
+    → cond (unwrap_or (option_or (option_and_then (λ node. cond (is_some a) None (Some true)) b) (option_and_then (λ node. Some false) (cond (is_none b) a None))) (is_some a))
+    (cond (is_some (option_or (option_and_then (λ node. cond (is_some a) None (Some true)) b) (option_and_then (λ node. Some false) (cond (is_none b) a None)))) None (born_of a)) None ≡ born_of b
+born_made None None h = refl
+born_made None (Some n) h = sym h
+born_made (Some m) None h = refl
+born_made (Some m) (Some n) h = sym h
+
+-- applied without a revision the changes give the second tree itself, where what it adds is pending and the rest was added as in the first
+pub changes_exact : (t u : Nodes) → IsTree t → IsTree u → ((p : Path) → born_at u p ≡ born_at t p) → applied None t (changes t u) ≡ u
+changes_exact t u tree tree' born =
+    let names = Orderly-all t tree.names in
+    same_trees (applied None t (changes t u)) u (order-applied None t (changes t u) tree.paths) tree'.paths (Orderly-applied None t (changes t u) tree.paths names) (Orderly-all u tree'.names)
+    (λ p. has_applied None t (changes t u) tree.paths p ∙ has_changed t u tree.paths tree'.paths p)
+    (λ p. born_applied None t (changes t u) tree.paths p
+    ∙ (ap (λ (o : Option Bool). cond (unwrap_or o (is_some (node_at t p))) (cond (is_some o) None (born_at t p)) None) (here_changed t u tree.paths tree'.paths p) ∙ born_made (node_at t p) (node_at u p) (born p)))
+    (λ p n. property_applied None t (changes t u) tree.paths names p n ∙ property_changed t u tree.paths tree'.paths tree'.names p n)

@@ -11,6 +11,7 @@ use mathlib.Core.Bool.{false≢true}
 use Rattle.jr_path.specs.Names.{name_cmp, path_cmp}
 use Rattle.jr_path.specs.declared.path.Path.{Path}
 use Rattle.jr_path.proofs.Maps.{path_total, path_exact, lookup-insert_entry}
+use Rattle.jr_rev.specs.declared.revision.Revision.{Revision}
 use Rattle.jr_tree.specs.declared.tree.Node.{Node}
 use Rattle.jr_tree.specs.declared.edit.Write.{Write}
 use Rattle.jr_tree.specs.declared.edit.Write.TheVariants.{Here, Gone, Put, Unset}
@@ -19,7 +20,7 @@ use Rattle.jr_tree.specs.Edits.{item_of, applied, last_writes, with_node_write}
 use Rattle.jr_tree.specs.Merging.{is_touched, with_node_of, written_nodes, missing, with_room, without_paths, without_unless, without_gone, with_part, changed_part, merged}
 use Rattle.jr_tree.proofs.Pointwise.{same_path}
 use Rattle.jr_tree.proofs.Entries.{exactly, first, second, none_below, sorted_insert, sorted_remove, sorted_set, lookup-remove, same_lists}
-use Rattle.jr_tree.proofs.AtPath.{InOrder, come, filled, node_at-comes, node_at-fills, node_at-applied, order-comes, order-fills, order-applied, changed_there}
+use Rattle.jr_tree.proofs.AtPath.{InOrder, come, filled, props_of, node_at-comes, node_at-fills, node_at-applied, order-comes, order-fills, order-applied, changed_there}
 
 path_ties : IsEquivalence (eq_by_cmp path_cmp)
 path_ties = eq_by_cmp_equiv path_total
@@ -83,27 +84,27 @@ sorted_copies t part (w ∷ ws) s = sorted_copies t (with_node_of t part (item_o
 
 -- ---- writes of other nodes
 
-come_other : (p : Path) (o : Option Node) (w : Write) → eq_by_cmp path_cmp p (item_of w).path ≡ false → come p o w ≡ o
-come_other p o (Here q) e = ap (λ b. cond b (Some (unwrap_or o (record { props = [] }))) o) e
-come_other p o (Gone q) e = ap (λ b. cond b None o) e
-come_other p o (Put q m x) e = refl
-come_other p o (Unset q m) e = refl
+come_other : (born : Option Revision) (p : Path) (o : Option Node) (w : Write) → eq_by_cmp path_cmp p (item_of w).path ≡ false → come born p o w ≡ o
+come_other born p o (Here q) e = ap (λ b. cond b (Some (record { props = props_of o; born = born })) o) e
+come_other born p o (Gone q) e = ap (λ b. cond b None o) e
+come_other born p o (Put q m x) e = refl
+come_other born p o (Unset q m) e = refl
 
 filled_other : (p : Path) (o : Option Node) (w : Write) → eq_by_cmp path_cmp p (item_of w).path ≡ false → filled p o w ≡ o
 filled_other p o (Here q) e = refl
 filled_other p o (Gone q) e = refl
-filled_other p o (Put q m x) e = ap (λ b. cond b (option_map (λ node. record { props = insert_entry name_cmp node.props m x }) o) o) e
-filled_other p o (Unset q m) e = ap (λ b. cond b (option_map (λ node. record { props = remove_entry (is_at (name_cmp m)) node.props }) o) o) e
+filled_other p o (Put q m x) e = ap (λ b. cond b (option_map {T = Node} (λ node. record node { props = insert_entry name_cmp node.props m x }) o) o) e
+filled_other p o (Unset q m) e = ap (λ b. cond b (option_map {T = Node} (λ node. record node { props = remove_entry (is_at (name_cmp m)) node.props }) o) o) e
 
 neither : (a b : Bool) → (a || b) ≡ false → (a ≡ false) × (b ≡ false)
 neither true b h = absurd (false≢true (sym h))
 neither false b h = (refl, h)
 
-comes_other : (p : Path) (o : Option Node) (ws : List Write) → is_touched ws p ≡ false → fold (come p) o ws ≡ o
-comes_other p o [] h = refl
-comes_other p o (w ∷ ws) h =
+comes_other : (born : Option Revision) (p : Path) (o : Option Node) (ws : List Write) → is_touched ws p ≡ false → fold (come born p) o ws ≡ o
+comes_other born p o [] h = refl
+comes_other born p o (w ∷ ws) h =
     let parts = neither _ _ h in
-    ap (λ (x : Option Node). fold (come p) x ws) (come_other p o w parts.0) ∙ comes_other p o ws parts.1
+    ap (λ (x : Option Node). fold (come born p) x ws) (come_other born p o w parts.0) ∙ comes_other born p o ws parts.1
 
 fills_other : (p : Path) (o : Option Node) (ws : List Write) → is_touched ws p ≡ false → fold (filled p) o ws ≡ o
 fills_other p o [] h = refl
@@ -111,27 +112,27 @@ fills_other p o (w ∷ ws) h =
     let parts = neither _ _ h in
     ap (λ (x : Option Node). fold (filled p) x ws) (filled_other p o w parts.0) ∙ fills_other p o ws parts.1
 
-part_at : (t : Nodes) (us : List Write) (p : Path) → node_at (changed_part t us) p ≡ fold (filled p) (fold (come p) (cond (is_touched us p) (node_at t p) None) us) us
-part_at t us p =
-    node_at-fills p (fold with_node_write (written_nodes t us) us) us
-    ∙ ap (λ (o : Option Node). fold (filled p) o us) (node_at-comes p (written_nodes t us) us (sorted_copies t [] us refl) ∙ ap (λ (o : Option Node). fold (come p) o us) (written_at t us p))
+part_at : (born : Option Revision) (t : Nodes) (us : List Write) (p : Path) → node_at (changed_part born t us) p ≡ fold (filled p) (fold (come born p) (cond (is_touched us p) (node_at t p) None) us) us
+part_at born t us p =
+    node_at-fills p (fold (with_node_write born) (written_nodes t us) us) us
+    ∙ ap (λ (o : Option Node). fold (filled p) o us) (node_at-comes born p (written_nodes t us) us (sorted_copies t [] us refl) ∙ ap (λ (o : Option Node). fold (come born p) o us) (written_at t us p))
 
 -- an edit makes of the tree what the changed part has at the written nodes
-applied_at : (t : Nodes) (ws : List Write) → InOrder t → (p : Path) → node_at (applied t ws) p ≡ cond (is_touched (last_writes ws) p) (node_at (changed_part t (last_writes ws)) p) (node_at t p)
-applied_at t ws s p = node_at-applied p t ws s ∙ by (is_touched us p) refl
+applied_at : (born : Option Revision) (t : Nodes) (ws : List Write) → InOrder t → (p : Path) → node_at (applied born t ws) p ≡ cond (is_touched (last_writes ws) p) (node_at (changed_part born t (last_writes ws)) p) (node_at t p)
+applied_at born t ws s p = node_at-applied born p t ws s ∙ by (is_touched us p) refl
   where
     us : List Write
     us = last_writes ws
 
-    by : (b : Bool) → is_touched us p ≡ b → fold (filled p) (fold (come p) (node_at t p) us) us ≡ cond b (node_at (changed_part t us) p) (node_at t p)
-    by true h = sym (part_at t us p ∙ ap (λ b. fold (filled p) (fold (come p) (cond b (node_at t p) None) us) us) h)
-    by false h = ap (λ (o : Option Node). fold (filled p) o us) (comes_other p (node_at t p) us h) ∙ fills_other p (node_at t p) us h
+    by : (b : Bool) → is_touched us p ≡ b → fold (filled p) (fold (come born p) (node_at t p) us) us ≡ cond b (node_at (changed_part born t us) p) (node_at t p)
+    by true h = sym (part_at born t us p ∙ ap (λ b. fold (filled p) (fold (come born p) (cond b (node_at t p) None) us) us) h)
+    by false h = ap (λ (o : Option Node). fold (filled p) o us) (comes_other born p (node_at t p) us h) ∙ fills_other p (node_at t p) us h
 
-part_none : (t : Nodes) (us : List Write) (p : Path) → is_touched us p ≡ false → node_at (changed_part t us) p ≡ None
-part_none t us p h =
-    part_at t us p
-    ∙ (ap (λ b. fold (filled p) (fold (come p) (cond b (node_at t p) None) us) us) h
-    ∙ (ap (λ (o : Option Node). fold (filled p) o us) (comes_other p None us h) ∙ fills_other p None us h))
+part_none : (born : Option Revision) (t : Nodes) (us : List Write) (p : Path) → is_touched us p ≡ false → node_at (changed_part born t us) p ≡ None
+part_none born t us p h =
+    part_at born t us p
+    ∙ (ap (λ b. fold (filled p) (fold (come born p) (cond b (node_at t p) None) us) us) h
+    ∙ (ap (λ (o : Option Node). fold (filled p) o us) (comes_other born p None us h) ∙ fills_other p None us h))
 
 -- ---- room
 
@@ -140,16 +141,16 @@ one_of true true x o = refl
 one_of true false x o = refl
 one_of false r x o = refl
 
-room_at : (t : Nodes) (ps : List Path) (p : Path) → node_at (with_room t ps) p ≡ cond (list_any (eq_by_cmp path_cmp p) ps) (Some (record { props = [] })) (node_at t p)
+room_at : (t : Nodes) (ps : List Path) (p : Path) → node_at (with_room t ps) p ≡ cond (list_any (eq_by_cmp path_cmp p) ps) (Some (record { props = []; born = None })) (node_at t p)
 room_at t [] p = refl
 room_at t (q ∷ ps) p =
-    room_at (insert_entry path_cmp t q (record { props = [] })) ps p
-    ∙ (ap (cond (list_any (eq_by_cmp path_cmp p) ps) (Some (record { props = [] }))) (lookup-insert_entry path_cmp path_total p q (record { props = [] }) t)
-    ∙ one_of (eq_by_cmp path_cmp p q) (list_any (eq_by_cmp path_cmp p) ps) (record { props = [] }) (node_at t p))
+    room_at (insert_entry path_cmp t q (record { props = []; born = None })) ps p
+    ∙ (ap (cond (list_any (eq_by_cmp path_cmp p) ps) (Some (record { props = []; born = None }))) (lookup-insert_entry path_cmp path_total p q (record { props = []; born = None }) t)
+    ∙ one_of (eq_by_cmp path_cmp p q) (list_any (eq_by_cmp path_cmp p) ps) (record { props = []; born = None }) (node_at t p))
 
 sorted_room : (t : Nodes) (ps : List Path) → InOrder t → InOrder (with_room t ps)
 sorted_room t [] s = s
-sorted_room t (q ∷ ps) s = sorted_room (insert_entry path_cmp t q (record { props = [] })) ps (sorted_insert path_cmp path_total q (record { props = [] }) t s)
+sorted_room t (q ∷ ps) s = sorted_room (insert_entry path_cmp t q (record { props = []; born = None })) ps (sorted_insert path_cmp path_total q (record { props = []; born = None }) t s)
 
 none_of : {X : Type 0} (b r : Bool) (o : Option X) → cond r None (cond b None o) ≡ cond (b || r) None o
 none_of true true o = refl
@@ -212,7 +213,7 @@ room_undone t part n s =
     at p false h =
         removed_at (with_room t (take n ps)) ps (sorted_room t (take n ps) s) p
         ∙ (ap (λ b. cond b None (node_at (with_room t (take n ps)) p)) h
-        ∙ (room_at t (take n ps) p ∙ ap (λ b. cond b (Some (record { props = [] })) (node_at t p)) (fewer (eq_by_cmp path_cmp p) n ps h)))
+        ∙ (room_at t (take n ps) p ∙ ap (λ b. cond b (Some (record { props = []; born = None })) (node_at t p)) (fewer (eq_by_cmp path_cmp p) n ps h)))
 
 -- ---- what goes
 
@@ -295,10 +296,10 @@ merged_at : (t part : Nodes) (us : List Write) → InOrder t → InOrder part �
 merged_at t part us s o only p =
     places_at (without_gone (with_room t (missing t part)) part us) part o p
     ∙ (ap (option_map (λ n. unwrap_or (node_at part p) n)) (gone_at (with_room t (missing t part)) part us (sorted_room t (missing t part) s) p
-    ∙ ap (cond (is_touched us p && is_none (node_at part p)) None) (room_at t (missing t part) p ∙ ap (λ b. cond b (Some (record { props = [] })) (node_at t p)) (missing_at t part p)))
+    ∙ ap (cond (is_touched us p && is_none (node_at part p)) None) (room_at t (missing t part) p ∙ ap (λ b. cond b (Some (record { props = []; born = None })) (node_at t p)) (missing_at t part p)))
     ∙ by (node_at part p) (node_at t p) (is_touched us p) (only p))
   where
-    by : (x y : Option Node) (b : Bool) → (b ≡ false → x ≡ None) → option_map (λ n. unwrap_or x n) (cond (b && is_none x) None (cond (is_some x && is_none y) (Some (record { props = [] })) y)) ≡ cond b x y
+    by : (x y : Option Node) (b : Bool) → (b ≡ false → x ≡ None) → option_map (λ n. unwrap_or x n) (cond (b && is_none x) None (cond (is_some x && is_none y) (Some (record { props = []; born = None })) y)) ≡ cond b x y
     by None None true h = refl
     by None None false h = refl
     by None (Some n) true h = refl
@@ -307,19 +308,19 @@ merged_at t part us s o only p =
     by (Some x) (Some n) true h = refl
     by (Some x) y false h = absurd (false≢true (sym (ap is_some (h refl))))
 
-sorted_part : (t : Nodes) (us : List Write) → InOrder (changed_part t us)
-sorted_part t us = order-fills (fold with_node_write (written_nodes t us) us) us (order-comes (written_nodes t us) us (sorted_copies t [] us refl))
+sorted_part : (born : Option Revision) (t : Nodes) (us : List Write) → InOrder (changed_part born t us)
+sorted_part born t us = order-fills (fold (with_node_write born) (written_nodes t us) us) us (order-comes born (written_nodes t us) us (sorted_copies t [] us refl))
 
-merged_is : (t : Nodes) (ws : List Write) → InOrder t → merged t (changed_part t (last_writes ws)) (last_writes ws) ≡ applied t ws
-merged_is t ws s =
+merged_is : (born : Option Revision) (t : Nodes) (ws : List Write) → InOrder t → merged t (changed_part born t (last_writes ws)) (last_writes ws) ≡ applied born t ws
+merged_is born t ws s =
     let us = last_writes ws in
-    let part = changed_part t us in
-    same_lists path_cmp path_total path_exact _ _ (sorted_placed _ part (sorted_gone _ part us (sorted_room t (missing t part) s))) (order-applied t ws s)
-    (λ p. merged_at t part us s (sorted_part t us) (part_none t us) p ∙ sym (applied_at t ws s p))
+    let part = changed_part born t us in
+    same_lists path_cmp path_total path_exact _ _ (sorted_placed _ part (sorted_gone _ part us (sorted_room t (missing t part) s))) (order-applied born t ws s)
+    (λ p. merged_at t part us s (sorted_part born t us) (part_none born t us) p ∙ sym (applied_at born t ws s p))
 
 -- the steps of the code give the tree after the edit
-pub applied_apart : (nodes : Nodes) (ws last1 last2 : List Write) (part done : Nodes) → InOrder nodes → last1 ≡ last_writes ws → last2 ≡ last1 → part ≡ changed_part nodes last1 → done ≡ merged nodes part last2 → done ≡ applied nodes ws
-applied_apart nodes ws last1 last2 part done s a b c d = rw (d, c, b, a) (merged_is nodes ws s)
+pub applied_apart : (born : Option Revision) (nodes : Nodes) (ws last1 last2 : List Write) (part done : Nodes) → InOrder nodes → last1 ≡ last_writes ws → last2 ≡ last1 → part ≡ changed_part born nodes last1 → done ≡ merged nodes part last2 → done ≡ applied born nodes ws
+applied_apart born nodes ws last1 last2 part done s a b c d = rw (d, c, b, a) (merged_is born nodes ws s)
 
 map-take : {A : Type 0} (f : A → Path) (n : ℕ) (xs : List A) → map f (take n xs) ≡ take n (map f xs)
 map-take f zero xs = refl

@@ -45,7 +45,7 @@ property_at-put t p n x q m = by (node_at t p) refl
     of_node o = option_and_then (λ node. lookup (is_at (name_cmp m)) node.props) o
 
     with_x : Node → Node
-    with_x node = record { props = insert_entry name_cmp node.props n x }
+    with_x node = record node { props = insert_entry name_cmp node.props n x }
 
     at : (node : Node) → node_at t p ≡ Some node → (b : Bool) → eq_by_cmp path_cmp p q ≡ b
         → of_node (cond b (Some (with_x node)) (node_at t q)) ≡ cond (b && (eq_by_cmp name_cmp m n && true)) (Some x) (property_at t q m)

@@ -129,6 +129,6 @@ is_put x (Some y) h = refl
 pub proper_fits : (t : Nodes) (ws : List Write) → InOrder t → IsProper t ws → Fits t ws
 proper_fits t ws s proper = record {
   once = proper.once;
-  put = λ p n x e. sym (has_applied t ws s p) ∙ property_has n (node_at (applied t ws) p) (is_put x _ (second _ _ (found_put (is_change t (applied t ws)) p n x ws proper.changing e)));
+  put = λ p n x e. sym (has_applied None t ws s p) ∙ property_has n (node_at (applied None t ws) p) (is_put x _ (second _ _ (found_put (is_change t (applied None t ws)) p n x ws proper.changing e)));
   gone = λ p n g h. unset_writes p n ws (named_at (λ m. list_any (is_unset_of p m) ws) n (node_at t p) (found_gone (is_emptied t ws) p ws proper.emptied g) h);
 }

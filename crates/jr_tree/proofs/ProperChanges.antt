@@ -6,7 +6,7 @@ use Rattle.std.specs.Ordering.{is_eq, eq_by_cmp, match_ordering}
 use Rattle.std.specs.Option.{option_and_then, option_map_or, option_or}
 use Rattle.std.specs.Map.{lookup, values_of}
 use Rattle.std.specs.BTreeMap.{is_at, insert_entry}
-use Rattle.std.specs.List.{filter, flat_map, fold, list_all, list_any}
+use Rattle.std.specs.List.{filter, flat_map, list_all, list_any}
 use Rattle.std.specs.FinMap.{is_sorted}
 use Rattle.std.specs.Cmp.{IsTotalOrder, tied_itself}
 use Rattle.std.proofs.lemmas.Cmp.{nat_list_cmp_total}
@@ -22,13 +22,14 @@ use Rattle.jr_value.specs.Equality.{same_property_decides}
 use Rattle.jr_tree.specs.declared.tree.Node.{Node}
 use Rattle.jr_tree.specs.declared.edit.Write.{Write}
 use Rattle.jr_tree.specs.declared.edit.Write.TheVariants.{Here, Gone, Put, Unset}
-use Rattle.jr_tree.specs.Trees.{Nodes, node_at, property_at, IsTree}
+use Rattle.jr_tree.specs.Trees.{Nodes, node_at, undated, IsTree}
 use Rattle.jr_tree.specs.Edits.{applied, changes, is_change, is_emptied, is_once, is_same_item, is_unset_of, item_cmp, item_of, properties_at, property_changes, taking, IsProper}
 use Rattle.jr_tree.specs.Changes.{Writes, with_writes, unset_missing, put_changed, nodes_taken, node_changes, nodes_changed}
 use Rattle.jr_tree.specs.Items.{put_of, written}
 use Rattle.jr_tree.proofs.Entries.{exactly, first, second, both, none_below}
 use Rattle.jr_tree.proofs.LastWrites.{item_total}
 use Rattle.jr_tree.proofs.Written.{written_among}
+use Rattle.jr_tree.proofs.Undated.{Tree-alike, changes-undated}
 use Rattle.jr_tree.proofs.ChangesLaw.{changes_applied, given, is_keyed, item_ties, keyed_with, put_changed_of, sorted_with, values_read, written_of}
 
 -- ---- what holds of each of a list
@@ -260,12 +261,14 @@ module _ (t u : Nodes) (from : IsTree t) (to : IsTree u) where
 
   pub changes_proper : IsProper t (changes t u)
   changes_proper =
-      let leads : applied t (changes t u) ≡ u = changes_applied t u from to in
+      let leads : undated (applied None t (changes t u)) ≡ undated u = changes_applied None t u from to in
       let ws : List Write = nodes_taken u t ++ nodes_changed t u in
       record {
-        tree = subst IsTree (sym leads) to;
+        tree = Tree-alike u (applied None t (changes t u)) (sym leads) to;
         once = once_values (with_writes [] ws) (sorted_with [] ws refl) (keyed_with [] ws refl);
-        changing = subst (λ (v : Nodes). list_all (is_change t v) (changes t u) ≡ true) (sym leads) changing;
+        changing =
+            sym (changes-undated t (applied None t (changes t u)) (changes t u))
+            ∙ (ap (λ (v : Nodes). list_all (is_change t v) (changes t u)) leads ∙ (changes-undated t u (changes t u) ∙ changing));
         emptied = emptied;
       }
 

@@ -22,7 +22,7 @@ module _ {K X : Type 0} (test : K → Bool) where
 
 -- the properties of a node put back where they stood
 pub written_back : (p : Path) (old inner lent : Nodes) (node : Node) (props : List (Name × Property))
-    → inner ≡ old → Some node ≡ node_at inner p → props ≡ node.props → lent ≡ set_value (is_at (path_cmp p)) inner (record { props = props }) → lent ≡ old
+    → inner ≡ old → Some node ≡ node_at inner p → props ≡ node.props → lent ≡ set_value (is_at (path_cmp p)) inner (record node { props = props }) → lent ≡ old
 written_back p old inner lent node props same there kept lent_is =
-    lent_is ∙ (ap (λ (ps : List (Name × Property)). set_value (is_at (path_cmp p)) inner (record { props = ps })) kept
+    lent_is ∙ (ap (λ (ps : List (Name × Property)). set_value (is_at (path_cmp p)) inner (record node { props = ps })) kept
     ∙ (put_back (is_at (path_cmp p)) node inner (sym there) ∙ same))

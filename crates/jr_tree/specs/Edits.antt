@@ -1,5 +1,5 @@
 -- Edits: lists of writes of items.
-use Rattle.std.specs.Prelude.{Bool, true, false, cond, ◌&&◌, List, [], ◌∷◌, None, Some, IsTrue, is_some, is_none, not, map, ◌++◌}
+use Rattle.std.specs.Prelude.{Bool, true, false, cond, ◌&&◌, List, [], ◌∷◌, Option, None, Some, IsTrue, is_some, is_none, not, map, ◌++◌}
 use Rattle.std.specs.declared.cmp.Ordering.{Ordering}
 use Rattle.std.specs.Option.{option_map_or, option_cmp}
 use Rattle.std.specs.Ordering.{eq_by_cmp, ordering_then}
@@ -10,6 +10,7 @@ use Rattle.jr_path.specs.Names.{name_cmp, path_cmp}
 use Rattle.jr_path.specs.declared.name.Name.{Name}
 use Rattle.jr_path.specs.declared.path.Path.{Path}
 use Rattle.jr_path.specs.declared.path.Item.{Item}
+use Rattle.jr_rev.specs.declared.revision.Revision.{Revision}
 use Rattle.jr_value.specs.declared.value.Property.{Property}
 use Rattle.jr_value.specs.Values.{same_property}
 use Rattle.jr_tree.specs.declared.tree.Node.{Node}
@@ -34,25 +35,29 @@ abbrev pub last_writes : List Write → List Write
 last_writes [] = []
 last_writes (w ∷ ws) = cond (list_any (is_same_item w) ws) (last_writes ws) (w ∷ last_writes ws)
 
--- a node that comes has no properties, and a node that goes loses them
-abbrev pub with_node_write : Nodes → Write → Nodes
-with_node_write t (Here p) = cond (is_some (node_at t p)) t (insert_entry path_cmp t p (record { props = [] }))
-with_node_write t (Gone p) = remove_entry (is_at (path_cmp p)) t
-with_node_write t (Put p n x) = t
-with_node_write t (Unset p n) = t
+-- the properties of a node, or none
+abbrev pub properties_at : Nodes → Path → List (Name × Property)
+properties_at t p = option_map_or (λ node. node.props) (node_at t p) []
+
+-- a node that is here was added by the edit's revision, and has no properties where it comes; a node that goes loses them
+abbrev pub with_node_write : Option Revision → Nodes → Write → Nodes
+with_node_write born t (Here p) = insert_entry path_cmp t p (record { props = properties_at t p; born = born })
+with_node_write born t (Gone p) = remove_entry (is_at (path_cmp p)) t
+with_node_write born t (Put p n x) = t
+with_node_write born t (Unset p n) = t
 
 -- a property is written where its node stands
 abbrev pub with_property_write : Nodes → Write → Nodes
 with_property_write t (Here p) = t
 with_property_write t (Gone p) = t
 with_property_write t (Put p n x) =
-    option_map_or (λ node. set_value (is_at (path_cmp p)) t (record { props = insert_entry name_cmp node.props n x })) (node_at t p) t
+    option_map_or (λ node. set_value (is_at (path_cmp p)) t (record node { props = insert_entry name_cmp node.props n x })) (node_at t p) t
 with_property_write t (Unset p n) =
-    option_map_or (λ node. set_value (is_at (path_cmp p)) t (record { props = remove_entry (is_at (name_cmp n)) node.props })) (node_at t p) t
+    option_map_or (λ node. set_value (is_at (path_cmp p)) t (record node { props = remove_entry (is_at (name_cmp n)) node.props })) (node_at t p) t
 
--- the tree after an edit: the last write of each item counts, those of nodes first
-abbrev pub applied : Nodes → List Write → Nodes
-applied t ws = fold with_property_write (fold with_node_write t (last_writes ws)) (last_writes ws)
+-- the tree after an edit by a revision, or by none in a view: the last write of each item counts, those of nodes first
+abbrev pub applied : Option Revision → Nodes → List Write → Nodes
+applied born t ws = fold with_property_write (fold (with_node_write born) t (last_writes ws)) (last_writes ws)
 
 -- each item is written once
 abbrev pub is_once : List Write → Bool
@@ -71,10 +76,6 @@ abbrev pub is_unset_of : Path → Name → Write → Bool
 is_unset_of p n (Unset q m) = eq_by_cmp path_cmp p q && eq_by_cmp name_cmp n m
 is_unset_of p n _ = false
 
--- the properties of a node, or none
-abbrev pub properties_at : Nodes → Path → List (Name × Property)
-properties_at t p = option_map_or (λ node. node.props) (node_at t p) []
-
 -- each property of a node that goes is unset
 abbrev pub is_emptied : Nodes → List Write → Write → Bool
 is_emptied t ws (Gone p) = list_all (λ e. list_any (is_unset_of p e.0) ws) (properties_at t p)
@@ -82,9 +83,9 @@ is_emptied t ws _ = true
 
 -- the result is a tree, each item is written once and is changed by it, and a node that goes has each property unset
 pub record IsProper (t : Nodes) (ws : List Write) : Type 0 where
-  pub tree : IsTree (applied t ws)
+  pub tree : IsTree (applied None t ws)
   pub once : IsTrue (is_once ws)
-  pub changing : IsTrue (list_all (is_change t (applied t ws)) ws)
+  pub changing : IsTrue (list_all (is_change t (applied None t ws)) ws)
   pub emptied : IsTrue (list_all (is_emptied t ws) ws)
 
 -- the item of a write

@@ -6,10 +6,11 @@ use Rattle.std.specs.List.{list_any}
 use Rattle.jr_path.specs.Names.{name_cmp, path_cmp}
 use Rattle.jr_path.specs.declared.name.Name.{Name}
 use Rattle.jr_path.specs.declared.path.Path.{Path}
+use Rattle.jr_rev.specs.declared.revision.Revision.{Revision}
 use Rattle.jr_value.specs.declared.value.Property.{Property}
 use Rattle.jr_tree.specs.declared.edit.Write.{Write}
 use Rattle.jr_tree.specs.declared.edit.Write.TheVariants.{Here, Gone, Put, Unset}
-use Rattle.jr_tree.specs.Trees.{Nodes, node_at, property_at}
+use Rattle.jr_tree.specs.Trees.{Nodes, born_at, node_at, property_at}
 use Rattle.jr_tree.specs.Edits.{is_once}
 
 -- whether the node at p is there after a write of it
@@ -38,6 +39,10 @@ written f (w ∷ ws) = option_or (written f ws) (f w)
 -- whether the node at p is there after an edit
 abbrev pub has_after : Nodes → List Write → Path → Bool
 has_after t ws p = unwrap_or (written (here_of p) ws) (is_some (node_at t p))
+
+-- the revision that added the node at p, after an edit by a revision: this one where the node is written
+abbrev pub born_after : Option Revision → Nodes → List Write → Path → Option Revision
+born_after born t ws p = cond (has_after t ws p) (cond (is_some (written (here_of p) ws)) born (born_at t p)) None
 
 -- the property of that name of the node at p after an edit
 abbrev pub property_after : Nodes → List Write → Path → Name → Option Property

@@ -1,5 +1,5 @@
 -- Steps of applying an edit: the nodes that are written are copied, changed apart from the tree, and put in their places.
-use Rattle.std.specs.Prelude.{Bool, cond, List, [], is_some, is_none}
+use Rattle.std.specs.Prelude.{Bool, cond, List, [], Option, None, is_some, is_none}
 use Rattle.std.specs.Option.{option_map_or}
 use Rattle.std.specs.Ordering.{eq_by_cmp}
 use Rattle.std.specs.Map.{remove_entry, set_value, keys_of}
@@ -7,6 +7,7 @@ use Rattle.std.specs.BTreeMap.{is_at, insert_entry}
 use Rattle.std.specs.List.{fold, filter, list_any}
 use Rattle.jr_path.specs.Names.{path_cmp}
 use Rattle.jr_path.specs.declared.path.Path.{Path}
+use Rattle.jr_rev.specs.declared.revision.Revision.{Revision}
 use Rattle.jr_tree.specs.declared.edit.Write.{Write}
 use Rattle.jr_tree.specs.Trees.{Nodes, node_at}
 use Rattle.jr_tree.specs.Edits.{item_of, with_node_write, with_property_write}
@@ -29,7 +30,7 @@ missing t part = filter (λ p. is_none (node_at t p)) (keys_of part)
 
 -- with a node that has no properties at each of some paths
 abbrev pub with_room : Nodes → List Path → Nodes
-with_room t ps = fold (λ t p. insert_entry path_cmp t p (record { props = [] })) t ps
+with_room t ps = fold (λ t p. insert_entry path_cmp t p (record { props = []; born = None })) t ps
 
 abbrev pub without_paths : Nodes → List Path → Nodes
 without_paths t ps = fold (λ t p. remove_entry (is_at (path_cmp p)) t) t ps
@@ -47,8 +48,8 @@ abbrev pub with_part : Nodes → Nodes → Nodes
 with_part t part = fold (λ t e. option_map_or (λ old. set_value (is_at (path_cmp e.0)) t e.1) (node_at t e.0) t) t part
 
 -- the nodes that are written, with the writes made
-abbrev pub changed_part : Nodes → List Write → Nodes
-changed_part t ws = fold with_property_write (fold with_node_write (written_nodes t ws) ws) ws
+abbrev pub changed_part : Option Revision → Nodes → List Write → Nodes
+changed_part born t ws = fold with_property_write (fold (with_node_write born) (written_nodes t ws) ws) ws
 
 -- the tree with the changed part in its places
 abbrev pub merged : Nodes → Nodes → List Write → Nodes

@@ -7,24 +7,26 @@ ghost use Rattle.std.specs.Map.Iter.{deref};
 ghost use Rattle.jr_path.specs.Names.{path_cmp};
 ghost use Rattle.jr_tree.specs.declared.edit.Write.TheVariants as write;
 ghost use Rattle.jr_tree.specs.Merging.{with_node_of, written_nodes, missing, with_room, without_paths, without_gone, without_unless, with_part, changed_part, merged};
-ghost use Rattle.jr_tree.specs.Edits.{applied, with_node_write, with_property_write};
+ghost use Rattle.jr_tree.specs.Edits.{applied, properties_at, with_node_write, with_property_write};
 
 use crate::edit::{Edit, Write};
 use crate::tree::{Node, Tree};
 use jr_path::{DeepCopy, Keyed, Name, Path};
+use jr_rev::Revision;
 use jr_value::Property;
 use std::alloc::{AllocError, Global};
 
 impl Tree {
     /// Applies an edit: the last write of each item counts, those of nodes first. A node that comes has
     /// no properties before its own writes, and a node that goes loses its own; a property is written
-    /// where its node is there. A refusal leaves the tree as it was.
-    pub fn apply(&mut self, edit: &Edit) -> Result<(), AllocError>
-        ensures ok { OnOk result (self.new ≡ applied self.old edit.now.writes) }
+    /// where its node is there. Each node that a Here names gets the revision, or none in a view, as the
+    /// one that added it. A refusal leaves the tree as it was.
+    pub fn apply(&mut self, edit: &Edit, born: Option<Revision>) -> Result<(), AllocError>
+        ensures ok { OnOk result (self.new ≡ applied born self.old edit.now.writes) }
         ensures err { OnErr result (self.new ≡ self.old) }
     {
         let last = edit.last_writes()?;
-        let part = changed_part(&self.nodes, self.alloc, &last)?;
+        let part = changed_part(&self.nodes, self.alloc, &last, born)?;
         merge(&mut self.nodes, self.alloc, part, &last)?;
         Ok(())
     }
@@ -69,11 +71,12 @@ fn changed_part(
     nodes: &Keyed<Path, Node>,
     alloc: Global,
     writes: &[&Write],
+    born: Option<Revision>,
 ) -> Result<Keyed<Path, Node>, AllocError>
-    ensures { IfOk result (λ part. part ≡ changed_part nodes.now (map deref writes.now)) }
+    ensures { IfOk result (λ part. part ≡ changed_part born nodes.now (map deref writes.now)) }
 {
     let mut part = written_nodes(nodes, alloc, writes)?;
-    write_nodes(&mut part, alloc, writes)?;
+    write_nodes(&mut part, alloc, writes, born)?;
     write_properties(&mut part, writes)?;
     Ok(part)
 }
@@ -218,11 +221,12 @@ fn write_nodes(
     nodes: &mut Keyed<Path, Node>,
     alloc: Global,
     writes: &[&Write],
+    born: Option<Revision>,
 ) -> Result<(), AllocError>
-    ensures { OnOk result (nodes.new ≡ fold with_node_write nodes.old (map deref writes.now)) }
+    ensures { OnOk result (nodes.new ≡ fold (with_node_write born) nodes.old (map deref writes.now)) }
 {
     for write in writes {
-        write_node(nodes, alloc, write)?;
+        write_node(nodes, alloc, write, born)?;
     }
     Ok(())
 }
@@ -236,19 +240,37 @@ fn write_properties(nodes: &mut Keyed<Path, Node>, writes: &[&Write]) -> Result<
     Ok(())
 }
 
-fn write_node(nodes: &mut Keyed<Path, Node>, alloc: Global, write: &Write) -> Result<(), AllocError>
-    ensures { OnOk result (nodes.new ≡ with_node_write nodes.old write.now) }
+fn write_node(
+    nodes: &mut Keyed<Path, Node>,
+    alloc: Global,
+    write: &Write,
+    born: Option<Revision>,
+) -> Result<(), AllocError>
+    ensures { OnOk result (nodes.new ≡ with_node_write born nodes.old write.now) }
 {
     match write {
         Write::Here(path) => {
-            if !nodes.contains(path) {
-                nodes.put(path.copy()?, Node::new(alloc))?;
-            }
+            let props = properties_of(nodes, alloc, path)?;
+            nodes.put(path.copy()?, Node { props, born })?;
         }
         Write::Gone(path) => nodes.remove(path),
         Write::Put(..) | Write::Unset(..) => {}
     }
     Ok(())
+}
+
+// A copy of the properties of the node at a path, or none.
+fn properties_of(
+    nodes: &Keyed<Path, Node>,
+    alloc: Global,
+    path: &Path,
+) -> Result<Keyed<Name, Property>, AllocError>
+    ensures { IfOk result (λ props. props ≡ properties_at nodes.now path.now) }
+{
+    match nodes.get(path) {
+        Some(node) => node.props.copy(),
+        None => Ok(Keyed::new(alloc)),
+    }
 }
 
 fn write_property(nodes: &mut Keyed<Path, Node>, write: &Write) -> Result<(), AllocError>

@@ -1,21 +1,24 @@
 // Trees: a node for each path, and a property for each name of a node.
-ghost use Rattle.std.specs.Prelude.{◌≡◌, [], IfOk, IsTrue, cond, is_some, length, map};
+ghost use Rattle.std.specs.Prelude.{◌≡◌, [], IfOk, IsTrue, None, cond, is_some, length, map};
 ghost use Rattle.std.specs.Option.{option_copied};
 ghost use Rattle.std.specs.FinMap.{is_sorted};
 ghost use Rattle.std.specs.Map.Iter.{deref_pair};
 ghost use Rattle.jr_path.specs.Names.{last_name, path_cmp};
-ghost use Rattle.jr_tree.specs.Trees.{node_at, property_at, node_of_type, initial_tree, is_child_of, children_of, subtree_of};
+ghost use Rattle.jr_tree.specs.Trees.{node_at, property_at, node_of_type, typed_node, first_revision, initial_tree, is_child_of, children_of, subtree_of};
 
 use jr_path::{DeepCopy, Keyed, Name, Path};
+use jr_rev::Revision;
 use jr_value::{Property, Value};
 use std::alloc::{AllocError, Global};
 use std::collections::btree_map::Iter;
 use std::marker::Model;
 
-/// A node (JSR 283, 3.1 Items): a property for each of its names.
+/// A node (JSR 283, 3.1 Items): a property for each of its names, and the revision that added it, or none
+/// while its adding is pending.
 #[derive(Drop)]
 pub struct Node {
     pub props: Keyed<Name, Property>,
+    pub born: Option<Revision>,
 }
 
 /// A node for each path, seen as the list of nodes in the order of their paths.
@@ -40,24 +43,44 @@ impl Model for Tree {
 }
 
 impl Node {
-    /// A node with no properties. It takes no memory.
+    /// A pending node with no properties. It takes no memory.
     pub fn new(alloc: Global) -> Node
-        ensures { result.props ≡ [] }
+        ensures props { result.props ≡ [] }
+        ensures born { result.born ≡ None }
     {
         Node {
             props: Keyed::new(alloc),
+            born: None,
         }
     }
 
-    /// A node with its primary type (JSR 283, 3.7 Node Types), and no other property.
+    /// A pending node with its primary type (JSR 283, 3.7 Node Types), and no other property.
     pub fn of_type(alloc: Global, name: &str) -> Result<Node, AllocError>
         ensures { IfOk result (λ node. node ≡ node_of_type name.now) }
     {
-        let mut node = Node::new(alloc);
-        let key = plain_name(alloc, "jcr:primaryType")?;
-        let value = Value::Name(plain_name(alloc, name)?);
-        node.props.put(key, Property::Single(value))?;
-        Ok(node)
+        typed_node(alloc, name, None)
+    }
+}
+
+// A node with its primary type, and no other property, that a revision added.
+fn typed_node(alloc: Global, name: &str, born: Option<Revision>) -> Result<Node, AllocError>
+    ensures { IfOk result (λ node. node ≡ typed_node born name.now) }
+{
+    let mut props = Keyed::new(alloc);
+    let key = plain_name(alloc, "jcr:primaryType")?;
+    let value = Value::Name(plain_name(alloc, name)?);
+    props.put(key, Property::Single(value))?;
+    Ok(Node { props, born })
+}
+
+// The revision that added what is there before any commit.
+fn first_revision() -> Revision
+    ensures { result ≡ first_revision }
+{
+    Revision {
+        time: 0,
+        counter: 0,
+        cluster: 1,
     }
 }
 
@@ -75,6 +98,7 @@ impl DeepCopy for Node {
     fn copy(&self) -> Result<Node, AllocError> {
         Ok(Node {
             props: self.props.copy()?,
+            born: self.born,
         })
     }
 }
@@ -92,17 +116,18 @@ impl Tree {
 
     /// The tree before any commit: `/` of type nt:unstructured, `/jcr:system` of type rep:system and
     /// `/jcr:system/jcr:versionStorage` of type rep:versionStorage, each with its type alone
-    /// (JSR 283, 3.11 System Node).
+    /// (JSR 283, 3.11 System Node) and added by `r0-0-1`.
     pub fn initial(alloc: Global) -> Result<Tree, AllocError>
         ensures { IfOk result (λ tree. tree ≡ initial_tree) }
     {
         let root = Path::root(alloc);
         let system = root.child(&plain_name(alloc, "jcr:system")?)?;
         let versions = system.child(&plain_name(alloc, "jcr:versionStorage")?)?;
+        let born = Some(first_revision());
         let mut nodes = Keyed::new(alloc);
-        nodes.put(root, Node::of_type(alloc, "nt:unstructured")?)?;
-        nodes.put(system, Node::of_type(alloc, "rep:system")?)?;
-        nodes.put(versions, Node::of_type(alloc, "rep:versionStorage")?)?;
+        nodes.put(root, typed_node(alloc, "nt:unstructured", born)?)?;
+        nodes.put(system, typed_node(alloc, "rep:system", born)?)?;
+        nodes.put(versions, typed_node(alloc, "rep:versionStorage", born)?)?;
         Ok(Tree { alloc, nodes })
     }
 

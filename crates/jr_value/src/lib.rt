@@ -19,6 +19,3 @@ pub use laws::{
 };
 pub use order::values_of_one_kind_have_an_order;
 pub use value::{Kind, Property, Value};
-
-#[cfg(test)]
-mod tests;

@@ -52,7 +52,7 @@ counts s (e ∷ list) n = ap (λ m. fold (λ n x. n + cond (is_reply_of s x) 1 0
 
 module _ (clusters : ℕ) (sessions : List ℕ) (starts : Starts) (says : Says) (s : ℕ) where
   -- the replies so far
-  pub said_so_far : (past : Past) → IsRunOf starts says clusters sessions past → filter_map (index_said s) (reverse past) ≡ range_with_len 0 (next_index past s)
+  pub said_so_far : (past : Past) → IsRunOf starts says clusters sessions None past → filter_map (index_said s) (reverse past) ≡ range_with_len 0 (next_index past s)
   said_so_far [] run = refl
   said_so_far (event.Said t i text ∷ past) run =
       ap (filter_map (index_said s)) (reverse-append (event.Said t i text ∷ []) past)

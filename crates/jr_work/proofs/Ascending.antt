@@ -178,7 +178,7 @@ entries_of past = fold (λ es d. insert_entry revision_cmp es d.revision d.sessi
 
 module _ (clusters : ℕ) (sessions : List ℕ) (nodes : AreNodes clusters sessions) (starts : Starts) (says : Says) where
   -- each draw is the one of its revision
-  each_known : (past : Past) → IsRunOf starts says clusters sessions past → Each (λ d. draw_of past d.revision ≡ Some d) (draws_in past)
+  each_known : (past : Past) → IsRunOf starts says clusters sessions None past → Each (λ d. draw_of past d.revision ≡ Some d) (draws_in past)
   each_known [] run = tt
   each_known (event.Draw f ∷ past) run = (
     ap (λ b. cond b (Some f) (draw_of past f.revision)) (same_itself f.revision),
@@ -193,7 +193,7 @@ module _ (clusters : ℕ) (sessions : List ℕ) (nodes : AreNodes clusters sessi
       not_true true k = absurd (false≢true k)
       not_true false k = refl
 
-  draws_flown : (past : Past) → IsRunOf starts says clusters sessions past → AreFlown past (fold (λ es d. insert_entry revision_cmp es d.revision d.session) [] (filter (λ d. is_in_flight past d.revision) (draws_in past)))
+  draws_flown : (past : Past) → IsRunOf starts says clusters sessions None past → AreFlown past (fold (λ es d. insert_entry revision_cmp es d.revision d.session) [] (filter (λ d. is_in_flight past d.revision) (draws_in past)))
   draws_flown past run = folded_flown past (filter (λ d. is_in_flight past d.revision) (draws_in past)) [] (none_flown past)
       (each_where (λ d. draw_of past d.revision ≡ Some d) (λ d. flies_as past d.revision ≡ Some d.session) (λ d. is_in_flight past d.revision)
       (λ d h flies. flies_of past d.revision d h (open_of past d.revision flies)) (draws_in past) (each_known past run))
@@ -207,7 +207,7 @@ module _ (clusters : ℕ) (sessions : List ℕ) (nodes : AreNodes clusters sessi
       folded_found (filter (λ d. is_in_flight past d.revision) (draws_in past)) [] r (drawn_among past past r flown.draw flown.is (flies_again past r s flown))
 
   -- entries that tell what is in flight, and all of it, have the sessions in ascending order
-  pub values_flying : (past : Past) (es : List (Revision × ℕ)) → IsRunOf starts says clusters sessions past → AreFlown past es → ((r : Revision) (s : ℕ) → flies_as past r ≡ Some s → is_some (found es r) ≡ true) → values_of es ≡ flying_sessions past
+  pub values_flying : (past : Past) (es : List (Revision × ℕ)) → IsRunOf starts says clusters sessions None past → AreFlown past es → ((r : Revision) (s : ℕ) → flies_as past r ≡ Some s → is_some (found es r) ≡ true) → values_of es ≡ flying_sessions past
   values_flying past es run are all = ap values_of (same_flown past es (fold (λ es d. insert_entry revision_cmp es d.revision d.session) [] (filter (λ d. is_in_flight past d.revision) (draws_in past))) are all (draws_flown past run) (draws_found past))
 
 -- ---- from the seats
@@ -263,7 +263,7 @@ module _ (stage : Stage) (n : ℕ) (es : List (Revision × ℕ)) (kept : AreKept
 
 -- a stage whose seats are all looked at has each of its commits in flight
 module _ (stage : Stage) (is : IsStage stage) (es : List (Revision × ℕ)) (kept : AreKept stage (length stage.seats.items) es)
-    (starts : Starts) (says : Says) (nodes : AreNodes stage.world.history.clusters stage.world.history.sessions) (run : IsRunOf starts says stage.world.history.clusters stage.world.history.sessions stage.world.history.past) where
+    (starts : Starts) (says : Says) (nodes : AreNodes stage.world.history.clusters stage.world.history.sessions) (run : IsRunOf starts says stage.world.history.clusters stage.world.history.sessions None stage.world.history.past) where
   earlier_below : (j n : ℕ) → suc j < suc n → j < n
   earlier_below j n h = omega arith
 

@@ -13,7 +13,7 @@ use Rattle.oak_machine.specs.History.{Past}
 use Rattle.oak_machine.specs.Runs.{AreNodes}
 use Rattle.oak_port.specs.Ports.{Idle}
 use Rattle.oak_world.specs.Seen.{shown_at, shown_work}
-use Rattle.oak_world.specs.Worlds.{ActorState, WorldOf, idle, start_world, work_in}
+use Rattle.oak_world.specs.Worlds.{ActorState, WorldOf, idle, live, start_world, work_in}
 use Rattle.jcr_trans.specs.declared.command.Command.{Command}
 use Rattle.core_law.specs.State.{command_at}
 use Rattle.jcr_session.specs.declared.law.JcrLaw.{JcrLaw}
@@ -102,7 +102,7 @@ module _ (script : Script) (within : IsWithin script) where
             record {
               session = is.run.session_is;
               stands = λ n.
-                  new_stands (law_of script) (shown_at n start s) s session.commands seat.run is.run (session_within script within s session there).few (within_nodes script within) tt refl
+                  new_stands (law_of script) (shown_at n start s) s session.commands seat.run is.run (session_within script within s session there).few (within_nodes script within) refl tt refl
                   (λ i. commands_at script s i ∙ ap (λ (o : Option SessionScript). slice_get (option_map_or (λ x. x.commands) o []) i) there)
                   (idle_at (map (λ s. s.cluster) script.sessions) s) refl;
               flight = subst (λ (o : Option Flight). IsFlight [] s o) (sym is.flight) refl;
@@ -114,7 +114,7 @@ module _ (script : Script) (within : IsWithin script) where
       script_is = script_is;
       stage_is = record {
         law = ap (λ (w : WorldOf JcrLaw). w.law) world_is ∙ ap law_of (sym script_is);
-        history = subst (λ (x : Script). stage.world.history ≡ history_at x stage.world.history.past) (sym script_is) (subst (λ (w : WorldOf JcrLaw). w.history ≡ history_at script w.history.past) (sym world_is) refl);
+        history = subst (λ (x : Script). (live stage.world.history) ≡ history_at x stage.world.history.past) (sym script_is) (subst (λ (w : WorldOf JcrLaw). (live w.history) ≡ history_at script w.history.past) (sym world_is) refl);
         within = subst (λ (x : Script). IsWithin x) (sym script_is) within;
         seats = ap (λ (l : List Seat). length l) seats_are ∙ (new.many ∙ ap (λ (x : Script). length x.sessions) (sym script_is));
         each = λ s seat at.

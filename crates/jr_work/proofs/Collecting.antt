@@ -115,7 +115,7 @@ abbrev leaving : List Part
 leaving = closing 2 (Went 2 kind.End ∷ []) ∷ closing 1 (Went 1 kind.End ∷ []) ∷ closing 0 (Went 0 kind.End ∷ []) ∷ []
 
 abbrev journal : Journal
-journal = record { clusters = 1; sessions = 1 ∷ 1 ∷ 1 ∷ []; events = record { list = reverse (events_of (leaving ++ parts)); places = 0 } }
+journal = record { clusters = 1; sessions = 1 ∷ 1 ∷ 1 ∷ []; events = record { list = reverse (events_of (leaving ++ parts)); places = 0 }; start = None }
 
 scheduled : Scheduled script (history_of journal)
 scheduled = record {

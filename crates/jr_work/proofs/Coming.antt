@@ -24,9 +24,9 @@ use Rattle.oak_machine.specs.Sessions.{has_left, is_drawing, is_end_of_session, 
 use Rattle.oak_machine.specs.Steps.{is_appended_by, is_kind, is_moving, is_one_step, kind_number, kinds_for, leaves_went}
 use Rattle.oak_machine.proofs.Stays.{any_later}
 use Rattle.core_law.proofs.Passing.{next_stays}
-use Rattle.oak_port.specs.Ports.{Awaiting, Beside, Deciding, Idle, Seat as PortSeat, Shown, Starting, Undoing, Work, Writing, is_by_due, is_due}
+use Rattle.oak_port.specs.Ports.{Awaiting, Beside, Deciding, Idle, Seat as PortSeat, Shown, Starting, Undoing, Work, Writing, is_by_due, is_due, Publishing, Learning}
 use Rattle.oak_world.specs.Seen.{no_seat, seat_of, shown_at, shown_work}
-use Rattle.oak_world.specs.Worlds.{ActorState, WorldOf, actor_in, idle, work_in}
+use Rattle.oak_world.specs.Worlds.{ActorState, WorldOf, actor_in, idle, live, work_in}
 use Rattle.jcr_session.specs.declared.law.JcrLaw.{JcrLaw}
 use Rattle.jcr_session.specs.declared.run.SessionRun.{SessionRun}
 use Rattle.jcr_session.specs.declared.turn.Turn.{Turn}
@@ -161,7 +161,7 @@ is_end e = false
 -- ---- a turn
 
 module _ (script : Script) (n : GName) (s : ℕ) (old new : WorldOf JcrLaw) (seat : Seat) (now : SessionRun) (answer : Turn)
-    (law_is : old.law ≡ law_of script) (history : old.history ≡ history_at script old.history.past) (seated : IsSeated script old s seat)
+    (law_is : old.law ≡ law_of script) (history : (live old.history) ≡ history_at script old.history.past) (seated : IsSeated script old s seat)
     (turned : IsTurned old.law (shown_at n old s) (shown_at n new s) seat.run now answer) where
   abbrev past : Past
   past = old.history.past
@@ -169,22 +169,22 @@ module _ (script : Script) (n : GName) (s : ℕ) (old new : WorldOf JcrLaw) (sea
   abbrev own : Past
   own = turned.own
 
-  moment : after turned.others old.history ≡ history_at script past
-  moment = ap (λ (o : Past). after o old.history) turned.alone ∙ history
+  moment : after turned.others (live old.history) ≡ history_at script past
+  moment = ap (λ (o : Past). after o (live old.history)) turned.alone ∙ history
 
-  grown : new.history ≡ history_at script (own ++ past)
+  grown : (live new.history) ≡ history_at script (own ++ past)
   grown = turned.grows.grown ∙ ap (λ (h : History). after own h) moment
 
   pub past_now : new.history.past ≡ own ++ past
   past_now = ap (λ (h : History). h.past) grown
 
-  pub history_now : new.history ≡ history_at script new.history.past
+  pub history_now : (live new.history) ≡ history_at script new.history.past
   history_now = grown ∙ ap (λ (p : Past). history_at script p) (sym past_now)
 
   pub nodes : AreNodes script.clusters (map (λ x. x.cluster) script.sessions)
   nodes = subst (λ (h : History). AreNodes h.clusters h.sessions) history (seated.stands n).nodes
 
-  pub run_new : IsRunOf (starts_of old.law) (says_of old.law) script.clusters (map (λ x. x.cluster) script.sessions) (own ++ past)
+  pub run_new : IsRunOf (starts_of old.law) (says_of old.law) script.clusters (map (λ x. x.cluster) script.sessions) None (own ++ past)
   run_new = subst (λ (h : History). IsRun (starts_of old.law) (says_of old.law) h) grown turned.grows.run
 
   pub tells : Tells (history_at script past) s seat.run.index answer own
@@ -195,10 +195,12 @@ module _ (script : Script) (n : GName) (s : ℕ) (old new : WorldOf JcrLaw) (sea
 
   -- ---- what isn't seen
 
-  awaited_seen : (w : Work) (r : Revision) → awaited w ≡ Some r → IsSeenFor (history_at script past) w → sees (head_of script.clusters past r.cluster) r ≡ true
-  awaited_seen (Awaiting q) r is seen = subst (λ (x : Revision). sees (head_of script.clusters past x.cluster) x ≡ true) (some_is_some q r is) seen
+  awaited_seen : (w : Work) (r : Revision) → awaited w ≡ Some r → IsSeenFor (history_at script past) w → sees (head_of script.clusters None past r.cluster) r ≡ true
+  awaited_seen (Awaiting q) r is seen = subst (λ (x : Revision). sees (head_of script.clusters None past x.cluster) x ≡ true) (some_is_some q r is) seen
   awaited_seen Idle r is seen = none_is_some r is
   awaited_seen (Starting t) r is seen = none_is_some r is
+  awaited_seen (Publishing q) r is seen = none_is_some r is
+  awaited_seen (Learning u) r is seen = none_is_some r is
   awaited_seen (Writing q) r is seen = none_is_some r is
   awaited_seen (Undoing q e) r is seen = none_is_some r is
   awaited_seen (Deciding q) r is seen = none_is_some r is
@@ -221,7 +223,7 @@ module _ (script : Script) (n : GName) (s : ℕ) (old new : WorldOf JcrLaw) (sea
     awake = or_none (is_waiting script past s) _ (not_waiting script.clusters (map (λ x. x.cluster) script.sessions) nodes (starts_of old.law) (says_of old.law) script refl past (earlier own run_new) s all_seen)
         (ap (λ b. (next_index past s == length (commands_of script s)) && b) step.stays ∙ and_none _)
       where
-        earlier : (added : Past) → IsRunOf (starts_of old.law) (says_of old.law) script.clusters (map (λ x. x.cluster) script.sessions) (added ++ past) → IsRunOf (starts_of old.law) (says_of old.law) script.clusters (map (λ x. x.cluster) script.sessions) past
+        earlier : (added : Past) → IsRunOf (starts_of old.law) (says_of old.law) script.clusters (map (λ x. x.cluster) script.sessions) None (added ++ past) → IsRunOf (starts_of old.law) (says_of old.law) script.clusters (map (λ x. x.cluster) script.sessions) None past
         earlier [] run = run
         earlier (e ∷ added) run = earlier added run.1
 
@@ -243,13 +245,13 @@ module _ (script : Script) (n : GName) (s : ℕ) (old new : WorldOf JcrLaw) (sea
       near_cluster : (r.cluster == c) ≡ true
       near_cluster = (halves (is_revision_of past s r && is_moving (history_at script past) r) (r.cluster == c) kinds).1
 
-      run_mid : IsRunOf (starts_of old.law) (says_of old.law) script.clusters (map (λ x. x.cluster) script.sessions) (event.End r ∷ past)
-      run_mid = (subst (λ (o : Past). IsRunOf (starts_of old.law) (says_of old.law) script.clusters (map (λ x. x.cluster) script.sessions) (o ++ past)) is run_new).1
+      run_mid : IsRunOf (starts_of old.law) (says_of old.law) script.clusters (map (λ x. x.cluster) script.sessions) None (event.End r ∷ past)
+      run_mid = (subst (λ (o : Past). IsRunOf (starts_of old.law) (says_of old.law) script.clusters (map (λ x. x.cluster) script.sessions) None (o ++ past)) is run_new).1
 
       idle_mid : is_drawing (event.End r ∷ past) s ≡ false
       idle_mid = flight_own script.clusters (map (λ x. x.cluster) script.sessions) nodes (starts_of old.law) (says_of old.law) s (event.End r) past seat.flight run_mid theirs seated.flight
 
-      r_seen : sees (head_of script.clusters (event.End r ∷ past) r.cluster) r ≡ true
+      r_seen : sees (head_of script.clusters None (event.End r ∷ past) r.cluster) r ≡ true
       r_seen = moving_sees script.clusters (map (λ x. x.cluster) script.sessions) nodes (starts_of old.law) (says_of old.law) past r run_mid (node_of script.clusters (map (λ x. x.cluster) script.sessions) nodes (starts_of old.law) (says_of old.law) past run_mid.1 s r theirs) (not_true _ moves)
         where
           not_true : (b : Bool) → not b ≡ true → b ≡ false
@@ -278,7 +280,7 @@ module _ (script : Script) (n : GName) (s : ℕ) (old new : WorldOf JcrLaw) (sea
             where
               cases : ((is_revision_of past s q ≡ true) × (is_unseen script past q ≡ true)) ⊎ ((event.End r ≡ event.End q) × (is_revision_of past s q ≡ true) × (is_committed past q ≡ true)) → true ≡ false
               cases (inl (m, u)) = absurd (false≢true (sym (all_seen q m) ∙ u))
-              cases (inr (same, m, co)) = absurd (false≢true (sym (last_of (is_committed (event.End r ∷ past) q) (is_ended (event.End r ∷ past) q) (sees (head_of script.clusters (event.End r ∷ past) q.cluster) q) h) ∙ subst (λ (x : Revision). sees (head_of script.clusters (event.End r ∷ past) x.cluster) x ≡ true) (end_is r q same) r_seen))
+              cases (inr (same, m, co)) = absurd (false≢true (sym (last_of (is_committed (event.End r ∷ past) q) (is_ended (event.End r ∷ past) q) (sees (head_of script.clusters None (event.End r ∷ past) q.cluster) q) h) ∙ subst (λ (x : Revision). sees (head_of script.clusters None (event.End r ∷ past) x.cluster) x ≡ true) (end_is r q same) r_seen))
 
       double : IsDouble script past s own
       double = record {
@@ -332,8 +334,8 @@ module _ (script : Script) (n : GName) (s : ℕ) (old new : WorldOf JcrLaw) (sea
     abbrev work_now : Work
     work_now = shown_work (work_in new.actors s)
 
-    run_as : (o : Past) → own ≡ o → IsRunOf (starts_of old.law) (says_of old.law) script.clusters (map (λ x. x.cluster) script.sessions) (o ++ past)
-    run_as o is = subst (λ (o : Past). IsRunOf (starts_of old.law) (says_of old.law) script.clusters (map (λ x. x.cluster) script.sessions) (o ++ past)) is run_new
+    run_as : (o : Past) → own ≡ o → IsRunOf (starts_of old.law) (says_of old.law) script.clusters (map (λ x. x.cluster) script.sessions) None (o ++ past)
+    run_as o is = subst (λ (o : Past). IsRunOf (starts_of old.law) (says_of old.law) script.clusters (map (λ x. x.cluster) script.sessions) None (o ++ past)) is run_new
 
     pub flight_stepped : (k : StepKind) → is_appended_by (history_at script past) s k (reverse own) ≡ true → IsOneStep own → IsFlight (own ++ past) s (flight_behind (own ++ past) seat.flight)
     flight_stepped k appended (inl (e, is, plain)) =
@@ -428,7 +430,7 @@ module _ (script : Script) (n : GName) (s : ℕ) (old new : WorldOf JcrLaw) (sea
       behind m = record {
         others = own;
         grows = record {
-          grown = turned.grows.grown ∙ ap (λ (o : Past). after own (after o old.history)) turned.alone;
+          grown = turned.grows.grown ∙ ap (λ (o : Past). after own (after o (live old.history))) turned.alone;
           theirs = are_others shape;
           run = turned.grows.run;
         };
@@ -452,9 +454,9 @@ module _ (script : Script) (n : GName) (s : ℕ) (old new : WorldOf JcrLaw) (sea
           by (inl none) = subst (λ (o : Past). IsFlight (o ++ past) t theirs.flight) (sym none) their_seat.flight
           by (inr (inl one)) = subst (λ (o : Past). IsFlight (o ++ past) t theirs.flight) (sym one.is)
               (flight_other script.clusters (map (λ x. x.cluster) script.sessions) nodes (starts_of old.law) (says_of old.law) t one.event past theirs.flight
-              (subst (λ (o : Past). IsRunOf (starts_of old.law) (says_of old.law) script.clusters (map (λ x. x.cluster) script.sessions) (o ++ past)) one.is run_new) (one_session past t s other one.event one.theirs) their_seat.flight)
+              (subst (λ (o : Past). IsRunOf (starts_of old.law) (says_of old.law) script.clusters (map (λ x. x.cluster) script.sessions) None (o ++ past)) one.is run_new) (one_session past t s other one.event one.theirs) their_seat.flight)
           by (inr (inr two)) =
-              let run = subst (λ (o : Past). IsRunOf (starts_of old.law) (says_of old.law) script.clusters (map (λ x. x.cluster) script.sessions) (o ++ past)) two.is run_new in
+              let run = subst (λ (o : Past). IsRunOf (starts_of old.law) (says_of old.law) script.clusters (map (λ x. x.cluster) script.sessions) None (o ++ past)) two.is run_new in
               subst (λ (o : Past). IsFlight (o ++ past) t theirs.flight) (sym two.is)
               (flight_other script.clusters (map (λ x. x.cluster) script.sessions) nodes (starts_of old.law) (says_of old.law) t (event.Head two.cluster two.head) (event.End two.revision ∷ past) theirs.flight run refl
               (flight_other script.clusters (map (λ x. x.cluster) script.sessions) nodes (starts_of old.law) (says_of old.law) t (event.End two.revision) past theirs.flight run.1 (one_session past t s other (event.End two.revision) two.theirs) their_seat.flight))
@@ -462,7 +464,7 @@ module _ (script : Script) (n : GName) (s : ℕ) (old new : WorldOf JcrLaw) (sea
       awaits_same : (r : Revision) → awaited (shown_work (work_in old.actors t)) ≡ Some r → awaited (shown_work (work_in new.actors t)) ≡ Some r
       awaits_same r h = ap (λ (x : PortSeat). awaited x.work) (other_seat t other) ∙ h
 
-      seen_event : (e : Event) → IsRunOf (starts_of old.law) (says_of old.law) script.clusters (map (λ x. x.cluster) script.sessions) (e ∷ past) → is_own past s e ≡ true → (r : Revision) → is_revision_of (e ∷ past) t r ≡ true → is_unseen script (e ∷ past) r ≡ true → awaited (shown_work (work_in old.actors t)) ≡ Some r
+      seen_event : (e : Event) → IsRunOf (starts_of old.law) (says_of old.law) script.clusters (map (λ x. x.cluster) script.sessions) None (e ∷ past) → is_own past s e ≡ true → (r : Revision) → is_revision_of (e ∷ past) t r ≡ true → is_unseen script (e ∷ past) r ≡ true → awaited (shown_work (work_in old.actors t)) ≡ Some r
       seen_event e run mine r own_is unseen = cases (was_unseen script.clusters (map (λ x. x.cluster) script.sessions) nodes (starts_of old.law) (says_of old.law) script refl past t r e run own_is unseen)
         where
           cases : ((is_revision_of past t r ≡ true) × (is_unseen script past r ≡ true)) ⊎ ((e ≡ event.End r) × (is_revision_of past t r ≡ true) × (is_committed past r ≡ true)) → awaited (shown_work (work_in old.actors t)) ≡ Some r
@@ -475,11 +477,11 @@ module _ (script : Script) (n : GName) (s : ℕ) (old new : WorldOf JcrLaw) (sea
           by : Shape → IsSeenBut script (own ++ past) t (awaited (shown_work (work_in new.actors t)))
           by (inl none) = subst (λ (o : Past). IsSeenBut script (o ++ past) t (awaited (shown_work (work_in new.actors t)))) (sym none) (λ r m u. awaits_same r (their_seat.seen r m u))
           by (inr (inl one)) = subst (λ (o : Past). IsSeenBut script (o ++ past) t (awaited (shown_work (work_in new.actors t)))) (sym one.is)
-              (λ r m u. awaits_same r (seen_event one.event (subst (λ (o : Past). IsRunOf (starts_of old.law) (says_of old.law) script.clusters (map (λ x. x.cluster) script.sessions) (o ++ past)) one.is run_new) one.theirs r m u))
+              (λ r m u. awaits_same r (seen_event one.event (subst (λ (o : Past). IsRunOf (starts_of old.law) (says_of old.law) script.clusters (map (λ x. x.cluster) script.sessions) None (o ++ past)) one.is run_new) one.theirs r m u))
           by (inr (inr two)) = subst (λ (o : Past). IsSeenBut script (o ++ past) t (awaited (shown_work (work_in new.actors t)))) (sym two.is) (λ r m u. awaits_same r (behind_head r m u))
             where
-              run_two : IsRunOf (starts_of old.law) (says_of old.law) script.clusters (map (λ x. x.cluster) script.sessions) (event.Head two.cluster two.head ∷ event.End two.revision ∷ past)
-              run_two = subst (λ (o : Past). IsRunOf (starts_of old.law) (says_of old.law) script.clusters (map (λ x. x.cluster) script.sessions) (o ++ past)) two.is run_new
+              run_two : IsRunOf (starts_of old.law) (says_of old.law) script.clusters (map (λ x. x.cluster) script.sessions) None (event.Head two.cluster two.head ∷ event.End two.revision ∷ past)
+              run_two = subst (λ (o : Past). IsRunOf (starts_of old.law) (says_of old.law) script.clusters (map (λ x. x.cluster) script.sessions) None (o ++ past)) two.is run_new
 
               behind_head : (r : Revision) → is_revision_of (event.Head two.cluster two.head ∷ event.End two.revision ∷ past) t r ≡ true → is_unseen script (event.Head two.cluster two.head ∷ event.End two.revision ∷ past) r ≡ true → awaited (shown_work (work_in old.actors t)) ≡ Some r
               behind_head r m u = cases (was_unseen script.clusters (map (λ x. x.cluster) script.sessions) nodes (starts_of old.law) (says_of old.law) script refl (event.End two.revision ∷ past) t r (event.Head two.cluster two.head) run_two m u)

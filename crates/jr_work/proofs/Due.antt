@@ -7,6 +7,9 @@ use Rattle.oak_commit.specs.declared.outcome.CommitEnd.TheVariants as end
 use Rattle.oak_port.specs.Ports.{Awaiting, Deciding, Idle, Starting, Undoing, Work as Shows, Writing}
 use Rattle.oak_world.specs.declared.actor.Work.{Work}
 use Rattle.oak_world.specs.declared.actor.Work.TheVariants as work
+use Rattle.oak_world.specs.declared.upkeep.Upkeep.{Upkeep}
+use Rattle.oak_world.specs.declared.upkeep.Upkeep.TheVariants as upkeep
+use Rattle.oak_world.specs.Upkeeps.{kind_kept}
 use Rattle.oak_world.specs.Seen.{shown_by, shown_work}
 use Rattle.oak_world.specs.Steps.{kind_due}
 use Rattle.jr_work.specs.SoFar.{is_last_due}
@@ -23,6 +26,16 @@ commits r (Some (end.Committed q)) = refl
 commits r (Some (end.Clash item q)) = refl
 commits r (Some end.Memory) = refl
 
+-- background work, and a change of the settings, make no last write
+upkeep_commits : (u : Upkeep) → is_last_due (Some (kind_kept u)) ≡ true → ⊥
+upkeep_commits upkeep.Write h = false≢true h
+upkeep_commits (upkeep.Noted n) h = false≢true h
+upkeep_commits (upkeep.Publish ids r) h = false≢true h
+upkeep_commits upkeep.Read h = false≢true h
+upkeep_commits (upkeep.Learn last sweep) h = false≢true h
+upkeep_commits (upkeep.Checkpoint i) h = false≢true h
+upkeep_commits (upkeep.Release i) h = false≢true h
+
 pub last_commits : (w : Work) → is_last_due (kind_due w) ≡ true → at_commit (shown_work w) ≡ true
 last_commits work.Rest h = absurd (false≢true h)
 last_commits work.Login h = absurd (false≢true h)
@@ -32,3 +45,4 @@ last_commits (work.Read r) h = absurd (false≢true h)
 last_commits (work.Plan edit marks) h = absurd (false≢true h)
 last_commits (work.Commit c) h = commits c.revision c.outcome
 last_commits (work.Move r) h = absurd (false≢true h)
+last_commits (work.Upkeep u) h = absurd (upkeep_commits u h)

@@ -305,7 +305,7 @@ module _ (past : Past) (s : ℕ) where
 
 module _ (clusters : ℕ) (sessions : List ℕ) (nodes : AreNodes clusters sessions) (starts : Starts) (says : Says) (s : ℕ) where
   -- an event that isn't the session's leaves what is kept
-  pub flight_other : (e : Event) (past : Past) (o : Option Flight) → IsRunOf starts says clusters sessions (e ∷ past) → is_own past s e ≡ false → IsFlight past s o → IsFlight (e ∷ past) s o
+  pub flight_other : (e : Event) (past : Past) (o : Option Flight) → IsRunOf starts says clusters sessions None (e ∷ past) → is_own past s e ≡ false → IsFlight past s o → IsFlight (e ∷ past) s o
   flight_other (event.Login t v) past o run other h = stays_calm past s _ (calm_login past s t v) o h
   flight_other (event.Refresh t v) past o run other h = stays_calm past s _ (calm_refresh past s t v) o h
   flight_other (event.Draw d) past o run other h = stays_calm past s _ (calm_draw past s d (fresh_run clusters sessions nodes starts says d past run).fresh other) o h
@@ -411,7 +411,7 @@ module _ (clusters : ℕ) (sessions : List ℕ) (nodes : AreNodes clusters sessi
         none false = refl
 
     -- a new draw
-    draws_first : (d : Draw) → IsRunOf starts says clusters sessions (event.Draw d ∷ past) → (d.session == s) ≡ true → IsFlight (event.Draw d ∷ past) s (flight_with (event.Draw d) None)
+    draws_first : (d : Draw) → IsRunOf starts says clusters sessions None (event.Draw d ∷ past) → (d.session == s) ≡ true → IsFlight (event.Draw d ∷ past) s (flight_with (event.Draw d) None)
     draws_first d run own = record {
       draw = d;
       last = ap (λ l. slice_get l 0) (first_of past s d true own);
@@ -461,7 +461,7 @@ module _ (clusters : ℕ) (sessions : List ℕ) (nodes : AreNodes clusters sessi
             by false k = k
         behind e list none = none
 
-        unended_in : (list : Past) → IsRunOf starts says clusters sessions list → is_drawn list d.revision ≡ false → is_ended list d.revision ≡ false
+        unended_in : (list : Past) → IsRunOf starts says clusters sessions None list → is_drawn list d.revision ≡ false → is_ended list d.revision ≡ false
         unended_in [] ran none = refl
         unended_in (event.End q ∷ list) ran none = elim (is_same d.revision q) as (λ b. is_same d.revision q ≡ b → (b || is_ended list d.revision) ≡ false) [
           | true ↦ λ same. absurd (false≢true (sym none ∙ flies_drawn list q same ran.0))
@@ -469,7 +469,7 @@ module _ (clusters : ℕ) (sessions : List ℕ) (nodes : AreNodes clusters sessi
         ] refl
         unended_in (e ∷ list) ran none = unended_in list ran.1 (behind e list none)
 
-        uncommitted_in : (list : Past) → IsRunOf starts says clusters sessions list → is_drawn list d.revision ≡ false → is_committed list d.revision ≡ false
+        uncommitted_in : (list : Past) → IsRunOf starts says clusters sessions None list → is_drawn list d.revision ≡ false → is_committed list d.revision ≡ false
         uncommitted_in [] ran none = refl
         uncommitted_in (event.Commit q ∷ list) ran none = elim (is_same d.revision q) as (λ b. is_same d.revision q ≡ b → (b || is_committed list d.revision) ≡ false) [
           | true ↦ λ same. absurd (false≢true (sym none ∙ flies_drawn list q same ran.0.open_.in_flight))
@@ -477,7 +477,7 @@ module _ (clusters : ℕ) (sessions : List ℕ) (nodes : AreNodes clusters sessi
         ] refl
         uncommitted_in (e ∷ list) ran none = uncommitted_in list ran.1 (behind e list none)
 
-        unrefused_in : (list : Past) → IsRunOf starts says clusters sessions list → is_drawn list d.revision ≡ false → is_refused list d.revision ≡ false
+        unrefused_in : (list : Past) → IsRunOf starts says clusters sessions None list → is_drawn list d.revision ≡ false → is_refused list d.revision ≡ false
         unrefused_in [] ran none = refl
         unrefused_in (event.Refuse q item o ∷ list) ran none = elim (is_same d.revision q) as (λ b. is_same d.revision q ≡ b → (b || is_refused list d.revision) ≡ false) [
           | true ↦ λ same. absurd (false≢true (sym none ∙ flies_drawn list q same ran.0.open_.in_flight))
@@ -488,14 +488,14 @@ module _ (clusters : ℕ) (sessions : List ℕ) (nodes : AreNodes clusters sessi
         open_now : is_ended past d.revision ≡ false
         open_now = unended_in past run.1 (undrawn past d.revision fresh)
 
-        uncommitted : (list : Past) → IsRunOf starts says clusters sessions past → is_committed past d.revision ≡ false
+        uncommitted : (list : Past) → IsRunOf starts says clusters sessions None past → is_committed past d.revision ≡ false
         uncommitted list ran = uncommitted_in past ran (undrawn past d.revision fresh)
 
-        unrefused : (list : Past) → IsRunOf starts says clusters sessions past → is_refused past d.revision ≡ false
+        unrefused : (list : Past) → IsRunOf starts says clusters sessions None past → is_refused past d.revision ≡ false
         unrefused list ran = unrefused_in past ran (undrawn past d.revision fresh)
 
     -- the end of what the session has in flight
-    ends_last : (r : Revision) (o : Option Flight) → IsRunOf starts says clusters sessions (event.End r ∷ past) → is_revision_of past s r ≡ true → IsFlight past s o → is_drawing (event.End r ∷ past) s ≡ false
+    ends_last : (r : Revision) (o : Option Flight) → IsRunOf starts says clusters sessions None (event.End r ∷ past) → is_revision_of past s r ≡ true → IsFlight past s o → is_drawing (event.End r ∷ past) s ≡ false
     ends_last r None run own h = calm_idle (event.End r) past s (λ q k. or_later (is_same q r) _ k) h
       where
         or_later : (a b : Bool) → b ≡ true → (a || b) ≡ true
@@ -518,7 +518,7 @@ module _ (clusters : ℕ) (sessions : List ℕ) (nodes : AreNodes clusters sessi
         ] refl
 
   -- an event of the session changes what is kept as it does
-  pub flight_own : (e : Event) (past : Past) (o : Option Flight) → IsRunOf starts says clusters sessions (e ∷ past) → is_own past s e ≡ true → IsFlight past s o → IsFlight (e ∷ past) s (flight_with e o)
+  pub flight_own : (e : Event) (past : Past) (o : Option Flight) → IsRunOf starts says clusters sessions None (e ∷ past) → is_own past s e ≡ true → IsFlight past s o → IsFlight (e ∷ past) s (flight_with e o)
   flight_own (event.Draw d) past o run own h = draws_first past d run own
   flight_own (event.Commit r) past o run own h = mapped past (event.Commit r) decided o (λ idle. calm_idle (event.Commit r) past s (λ q k. k) idle) (λ x k. settles past (event.Commit r) x refl (λ q. refl) refl (λ q. refl) (λ now. refl) k (settled_commit past r x k run.0.open_.in_flight own)) h
   flight_own (event.Refuse r item q) past o run own h = mapped past (event.Refuse r item q) decided o (λ idle. calm_idle (event.Refuse r item q) past s (λ q k. k) idle) (λ x k. settles past (event.Refuse r item q) x refl (λ q. refl) refl (λ q. refl) (λ now. refl) k (settled_refuse past r item q x k run.0.open_.in_flight own)) h

@@ -17,7 +17,7 @@ use Rattle.oak_port.specs.declared.task.Task.TheVariants as task
 use Rattle.core_law.specs.State.{base_tree}
 use Rattle.oak_world.specs.Seen.{seat_of, shown_at, shown_work}
 use Rattle.oak_world.specs.Steps.{kind_due}
-use Rattle.oak_world.specs.Worlds.{ActorState, WorldOf, actor_in, work_in}
+use Rattle.oak_world.specs.Worlds.{ActorState, WorldOf, actor_in, live, work_in}
 use Rattle.jcr_session.specs.declared.law.JcrLaw.{JcrLaw}
 use Rattle.jcr_session.specs.declared.run.Phase.{Phase}
 use Rattle.jcr_session.specs.declared.run.Phase.TheVariants as phase
@@ -120,8 +120,8 @@ module _ (n : GName) (s : ℕ) (old new : Stage) (seat seat_now : Seat)
   none_added : looked.beside.others ≡ []
   none_added = looked.beside.alone
 
-  same_history : new.world.history ≡ old.world.history
-  same_history = looked.beside.grows.grown ∙ ap (λ (o : Past). after o old.world.history) none_added
+  same_history : (live new.world.history) ≡ (live old.world.history)
+  same_history = looked.beside.grows.grown ∙ ap (λ (o : Past). after o (live old.world.history)) none_added
 
   same_past : past_of new ≡ past_of old
   same_past = ap (λ (h : History). h.past) same_history
@@ -171,7 +171,7 @@ module _ (n : GName) (s : ℕ) (old new : Stage) (seat seat_now : Seat)
   theirs t other apart is = record {
     session = is.session;
     stands = λ m. subst (λ (l : JcrLaw). Stands l (shown_at m new.world t) other.run) (sym read.0)
-        (stands_told old.world.law other.run (shown_at m new.world t).beside (shown_at m new.world t).due (shown_at m old.world t) new.world.history (shown_work (work_in new.world.actors t)) (actor_in new.world.actors t).reply
+        (stands_told old.world.law other.run (shown_at m new.world t).beside (shown_at m new.world t).due (shown_at m old.world t) (live new.world.history) (shown_work (work_in new.world.actors t)) (actor_in new.world.actors t).reply
         same_history (ap (λ (x : PortSeat). x.work) (other_seat t apart)) (ap (λ (x : PortSeat). x.room) (other_seat t apart)) (is.stands m));
     flight = subst (λ (p : Past). IsFlight p t other.flight) (sym same_past) is.flight;
     seen = subst (λ (p : Past). IsSeenBut old.script p t (awaited (shown_work (work_in new.world.actors t)))) (sym same_past) (λ r m u. ap (λ (x : PortSeat). awaited x.work) (other_seat t apart) ∙ is.seen r m u);

@@ -16,7 +16,7 @@ module _ (law : JcrLaw) (p : Shown) (b : Beside) (d : Option StepKind) (run : Se
   q = record p { beside = b; due = d }
 
   in_renamed : IsIn law p → IsIn law q
-  in_renamed i = record { nodes = i.nodes; run = i.run; login = i.login; stays = i.stays; detached = i.detached; tree = i.tree }
+  in_renamed i = record { nodes = i.nodes; begun = i.begun; run = i.run; login = i.login; stays = i.stays; detached = i.detached; tree = i.tree }
 
   saving_renamed : IsSaving law p run → IsSaving law q run
   saving_renamed i = record { saving = i.saving; room = i.room }
@@ -45,4 +45,4 @@ module _ (law : JcrLaw) (p : Shown) (b : Beside) (d : Option StepKind) (run : Se
   at_renamed phase.Over h = record { idle = h.idle; left = h.left; all = h.all }
 
   pub stands_renamed : Stands law p run → Stands law q run
-  stands_renamed s = record { nodes = s.nodes; run_is = s.run_is; session = s.session; few = s.few; commands = s.commands; index = s.index; within = s.within; at = at_renamed run.phase s.at }
+  stands_renamed s = record { nodes = s.nodes; begun = s.begun; run_is = s.run_is; session = s.session; few = s.few; commands = s.commands; index = s.index; within = s.within; at = at_renamed run.phase s.at }

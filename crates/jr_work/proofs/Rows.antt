@@ -56,7 +56,7 @@ abbrev leaving : List Part
 leaving = closing 1 (Went 1 kind.End ∷ []) ∷ closing 0 (Went 0 kind.End ∷ []) ∷ []
 
 abbrev reading_journal : Journal
-reading_journal = record { clusters = 1; sessions = 1 ∷ 1 ∷ []; events = record { list = reverse (events_of (leaving ++ reading_parts)); places = 0 } }
+reading_journal = record { clusters = 1; sessions = 1 ∷ 1 ∷ []; events = record { list = reverse (events_of (leaving ++ reading_parts)); places = 0 }; start = None }
 
 reading_scheduled : Scheduled reading (history_of reading_journal)
 reading_scheduled = record {
@@ -114,7 +114,7 @@ meeting_closed =
     ∷ []
 
 abbrev meeting_journal : Journal
-meeting_journal = record { clusters = 1; sessions = 1 ∷ 1 ∷ []; events = record { list = reverse (events_of (meeting_closed ++ meeting_parts)); places = 0 } }
+meeting_journal = record { clusters = 1; sessions = 1 ∷ 1 ∷ []; events = record { list = reverse (events_of (meeting_closed ++ meeting_parts)); places = 0 }; start = None }
 
 meeting_scheduled : Scheduled meeting (history_of meeting_journal)
 meeting_scheduled = record {

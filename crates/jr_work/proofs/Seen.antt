@@ -57,7 +57,7 @@ module _ (clusters : ℕ) (sessions : List ℕ) (nodes : AreNodes clusters sessi
   -- ---- what was drawn
 
   -- what hasn't been drawn has not ended
-  pub unended : (past : Past) → IsRunOf starts says clusters sessions past → (r : Revision) → is_drawn past r ≡ false → is_ended past r ≡ false
+  pub unended : (past : Past) → IsRunOf starts says clusters sessions None past → (r : Revision) → is_drawn past r ≡ false → is_ended past r ≡ false
   unended [] run r none = refl
   unended (event.End q ∷ past) run r none = elim (is_same r q) as (λ b. is_same r q ≡ b → (b || is_ended past r) ≡ false) [
     | true ↦ λ same. absurd (false≢true (sym none ∙ subst (λ (x : Revision). is_drawn past x ≡ true) (sym (same_revision r q same)) (first_of_both (is_drawn past q) _ run.0)))
@@ -71,14 +71,14 @@ module _ (clusters : ℕ) (sessions : List ℕ) (nodes : AreNodes clusters sessi
   unended (e ∷ past) run r none = unended past run.1 r none
 
   -- a later draw hides no earlier one
-  pub known : (past : Past) (d : Draw) → IsRunOf starts says clusters sessions (event.Draw d ∷ past) → (r : Revision) (f : Draw) → draw_of past r ≡ Some f → draw_of (event.Draw d ∷ past) r ≡ Some f
+  pub known : (past : Past) (d : Draw) → IsRunOf starts says clusters sessions None (event.Draw d ∷ past) → (r : Revision) (f : Draw) → draw_of past r ≡ Some f → draw_of (event.Draw d ∷ past) r ≡ Some f
   known past d run r f h = by (is_same r d.revision) refl
     where
       by : (b : Bool) → is_same r d.revision ≡ b → cond b (Some d) (draw_of past r) ≡ Some f
       by true same = none_is_some f (sym (fresh_run clusters sessions nodes starts says d past run).fresh ∙ subst (λ (x : Revision). draw_of past x ≡ Some f) (same_revision r d.revision same) h)
       by false same = h
 
-  pub known_of : (past : Past) (d : Draw) → IsRunOf starts says clusters sessions (event.Draw d ∷ past) → (s : ℕ) (r : Revision) → is_revision_of past s r ≡ true → is_revision_of (event.Draw d ∷ past) s r ≡ true
+  pub known_of : (past : Past) (d : Draw) → IsRunOf starts says clusters sessions None (event.Draw d ∷ past) → (s : ℕ) (r : Revision) → is_revision_of past s r ≡ true → is_revision_of (event.Draw d ∷ past) s r ≡ true
   known_of past d run s r h = by (draw_of past r) refl h
     where
       by : (o : Option Draw) → draw_of past r ≡ o → option_map_or (λ x. x.session == s) o false ≡ true → is_revision_of (event.Draw d ∷ past) s r ≡ true
@@ -86,7 +86,7 @@ module _ (clusters : ℕ) (sessions : List ℕ) (nodes : AreNodes clusters sessi
       by (Some f) is k = ap (λ (o : Option Draw). option_map_or (λ x. x.session == s) o false) (known past d run r f is) ∙ k
 
   -- each draw of s is one of its revisions
-  pub all_own : (past : Past) → IsRunOf starts says clusters sessions past → (s : ℕ) → list_all (λ d. is_revision_of past s d.revision) (draws_of past s) ≡ true
+  pub all_own : (past : Past) → IsRunOf starts says clusters sessions None past → (s : ℕ) → list_all (λ d. is_revision_of past s d.revision) (draws_of past s) ≡ true
   all_own [] run s = refl
   all_own (event.Draw f ∷ past) run s = elim (f.session == s) as (λ b. (f.session == s) ≡ b → list_all (λ d. is_revision_of (event.Draw f ∷ past) s d.revision) (cond b (f ∷ draws_of past s) (draws_of past s)) ≡ true) [
     | true ↦ λ own. and_true (is_revision_of (event.Draw f ∷ past) s f.revision) _ (ap (λ b. option_map_or (λ x. x.session == s) (cond b (Some f) (draw_of past f.revision)) false) (same_itself f.revision) ∙ own) (more (draws_of past s) (all_own past run.1 s))
@@ -103,14 +103,14 @@ module _ (clusters : ℕ) (sessions : List ℕ) (nodes : AreNodes clusters sessi
   all_own (e ∷ past) run s = all_own past run.1 s
 
   -- the cluster node of what a session drew is one, and the session's
-  pub node_of : (past : Past) → IsRunOf starts says clusters sessions past → (s : ℕ) (r : Revision) → is_revision_of past s r ≡ true → IsNode clusters r.cluster
+  pub node_of : (past : Past) → IsRunOf starts says clusters sessions None past → (s : ℕ) (r : Revision) → is_revision_of past s r ≡ true → IsNode clusters r.cluster
   node_of past run s r h = by (draw_of past r) refl h
     where
       by : (o : Option Draw) → draw_of past r ≡ o → option_map_or (λ x. x.session == s) o false ≡ true → IsNode clusters r.cluster
       by None is k = absurd (false≢true k)
       by (Some d) is k = ((sound_run clusters sessions nodes starts says past run).draws r d is).node
 
-  pub cluster_of : (past : Past) → IsRunOf starts says clusters sessions past → (s : ℕ) (r : Revision) → is_revision_of past s r ≡ true → slice_get sessions s ≡ Some r.cluster
+  pub cluster_of : (past : Past) → IsRunOf starts says clusters sessions None past → (s : ℕ) (r : Revision) → is_revision_of past s r ≡ true → slice_get sessions s ≡ Some r.cluster
   cluster_of [] run s r h = absurd (false≢true h)
   cluster_of (event.Draw d ∷ past) run s r h = by (λ k. cluster_of past run.1 s r k) (is_same r d.revision) refl h
     where
@@ -124,7 +124,7 @@ module _ (clusters : ℕ) (sessions : List ℕ) (nodes : AreNodes clusters sessi
 
   -- ---- a head that moves
 
-  module _ (past : Past) (q : Revision) (run : IsRunOf starts says clusters sessions (event.End q ∷ past)) (node : IsNode clusters q.cluster) where
+  module _ (past : Past) (q : Revision) (run : IsRunOf starts says clusters sessions None (event.End q ∷ past)) (node : IsNode clusters q.cluster) where
     abbrev later : Past
     later = event.End q ∷ past
 
@@ -141,28 +141,28 @@ module _ (clusters : ℕ) (sessions : List ℕ) (nodes : AreNodes clusters sessi
     settled_later r h = record { drawn = h.drawn; cluster = h.cluster; below = λ o flies same. h.below o (flew o flies) same }
 
     -- a head that moves at the end of a revision sees it
-    pub moving_reaches : is_same (local later q.cluster) (local past q.cluster) ≡ false → is_at_most q (local later q.cluster) ≡ true
-    moving_reaches moves = elim (is_at_most q (local later q.cluster)) as (λ b. is_at_most q (local later q.cluster) ≡ b → b ≡ true) [
+    pub moving_reaches : is_same (local None later q.cluster) (local None past q.cluster) ≡ false → is_at_most q (local None later q.cluster) ≡ true
+    moving_reaches moves = elim (is_at_most q (local None later q.cluster)) as (λ b. is_at_most q (local None later q.cluster) ≡ b → b ≡ true) [
       | true ↦ λ h. refl
-      | false ↦ λ h. absurd (false≢true (sym moves ∙ both_at_most (local later q.cluster) (local past q.cluster) (stays h (local_is later q.cluster)) (local_grows past later q.cluster settled_later)))
+      | false ↦ λ h. absurd (false≢true (sym moves ∙ both_at_most (local None later q.cluster) (local None past q.cluster) (stays h (local_is later q.cluster)) (local_grows past later q.cluster settled_later)))
     ] refl
       where
-        stays : is_at_most q (local later q.cluster) ≡ false → (local later q.cluster ≡ start_of q.cluster) ⊎ IsSettledDraw later q.cluster (local later q.cluster) → is_at_most (local later q.cluster) (local past q.cluster) ≡ true
-        stays h (inl start) = subst (λ (x : Revision). is_at_most x (local past q.cluster) ≡ true) (sym start) (local_first past q.cluster)
-        stays h (inr settled) = local_each past q.cluster (local later q.cluster) (record {
+        stays : is_at_most q (local None later q.cluster) ≡ false → (local None later q.cluster ≡ start_of q.cluster) ⊎ IsSettledDraw later q.cluster (local None later q.cluster) → is_at_most (local None later q.cluster) (local None past q.cluster) ≡ true
+        stays h (inl start) = subst (λ (x : Revision). is_at_most x (local None past q.cluster) ≡ true) (sym start) (local_first past q.cluster)
+        stays h (inr settled) = local_each past q.cluster (local None later q.cluster) (record {
           drawn = settled.drawn;
           cluster = settled.cluster;
           below = λ o flies same. before o flies same (is_same o q) refl;
         })
           where
-            before : (o : Revision) → is_in_flight past o ≡ true → o.cluster ≡ q.cluster → (b : Bool) → is_same o q ≡ b → is_before (local later q.cluster) o ≡ true
-            before o flies same true it = subst (λ (x : Revision). is_before (local later q.cluster) x ≡ true) (sym (same_revision o q it)) (not_at_most_before q (local later q.cluster) h)
+            before : (o : Revision) → is_in_flight past o ≡ true → o.cluster ≡ q.cluster → (b : Bool) → is_same o q ≡ b → is_before (local None later q.cluster) o ≡ true
+            before o flies same true it = subst (λ (x : Revision). is_before (local None later q.cluster) x ≡ true) (sym (same_revision o q it)) (not_at_most_before q (local None later q.cluster) h)
             before o flies same false it = settled.below o (still (is_drawn past o) (is_ended past o) flies) same
               where
                 still : (d b : Bool) → (d && not b) ≡ true → (is_drawn past o && not (is_same o q || is_ended past o)) ≡ true
                 still d b k = ap (λ c. is_drawn past o && not (c || is_ended past o)) it ∙ flies
 
-    pub moving_sees : is_same (local later q.cluster) (local past q.cluster) ≡ false → sees (head_of clusters later q.cluster) q ≡ true
+    pub moving_sees : is_same (local None later q.cluster) (local None past q.cluster) ≡ false → sees (head_of clusters None later q.cluster) q ≡ true
     moving_sees moves = head_own clusters later q.cluster q node.0 (let e = nodes.eight in let n = node.1 in omega arith)
         ((sound_run clusters sessions nodes starts says later run).ins q.cluster node).eight refl (moving_reaches moves)
 
@@ -179,14 +179,14 @@ module _ (clusters : ℕ) (sessions : List ℕ) (nodes : AreNodes clusters sessi
   unseen_all c e v h k l = ap (λ x. x && e && not v) h ∙ (ap (λ x. x && not v) k ∙ ap not l)
 
   module _ (script : Script) (same_clusters : script.clusters ≡ clusters) where
-    head_at : (past : Past) (r : Revision) → sees (head_of script.clusters past r.cluster) r ≡ sees (head_of clusters past r.cluster) r
-    head_at past r = ap (λ n. sees (head_of n past r.cluster) r) same_clusters
+    head_at : (past : Past) (r : Revision) → sees (head_of script.clusters None past r.cluster) r ≡ sees (head_of clusters None past r.cluster) r
+    head_at past r = ap (λ n. sees (head_of n None past r.cluster) r) same_clusters
 
     -- a head sees what it saw
-    still_unseen : (e : Event) (past : Past) → IsRunOf starts says clusters sessions (e ∷ past) → (r : Revision) → IsNode clusters r.cluster → sees (head_of script.clusters (e ∷ past) r.cluster) r ≡ false → sees (head_of script.clusters past r.cluster) r ≡ false
-    still_unseen e past run r node h = by (sees (head_of script.clusters past r.cluster) r) refl
+    still_unseen : (e : Event) (past : Past) → IsRunOf starts says clusters sessions None (e ∷ past) → (r : Revision) → IsNode clusters r.cluster → sees (head_of script.clusters None (e ∷ past) r.cluster) r ≡ false → sees (head_of script.clusters None past r.cluster) r ≡ false
+    still_unseen e past run r node h = by (sees (head_of script.clusters None past r.cluster) r) refl
       where
-        by : (b : Bool) → sees (head_of script.clusters past r.cluster) r ≡ b → b ≡ false
+        by : (b : Bool) → sees (head_of script.clusters None past r.cluster) r ≡ b → b ≡ false
         by false k = refl
         by true k = absurd (false≢true (sym h ∙ (head_at (e ∷ past) r ∙ below_seen _ _ r (grow_run clusters sessions nodes starts says (e ∷ []) past run r.cluster node) (sym (head_at past r) ∙ k))))
 
@@ -195,13 +195,13 @@ module _ (clusters : ℕ) (sessions : List ℕ) (nodes : AreNodes clusters sessi
     WasUnseen e past s r = ((is_revision_of past s r ≡ true) × (is_unseen script past r ≡ true)) ⊎ ((e ≡ event.End r) × (is_revision_of past s r ≡ true) × (is_committed past r ≡ true))
 
     module _ (past : Past) (s : ℕ) (r : Revision) where
-      plain : (e : Event) → IsRunOf starts says clusters sessions (e ∷ past) → is_revision_of past s r ≡ true → is_committed past r ≡ true → is_ended past r ≡ true → sees (head_of script.clusters (e ∷ past) r.cluster) r ≡ false → WasUnseen e past s r
+      plain : (e : Event) → IsRunOf starts says clusters sessions None (e ∷ past) → is_revision_of past s r ≡ true → is_committed past r ≡ true → is_ended past r ≡ true → sees (head_of script.clusters None (e ∷ past) r.cluster) r ≡ false → WasUnseen e past s r
       plain e run own committed ended unseen = inl (own, unseen_all _ _ _ committed ended (still_unseen e past run r (node_of past run.1 s r own) unseen))
 
-      pub was_unseen : (e : Event) → IsRunOf starts says clusters sessions (e ∷ past) → is_revision_of (e ∷ past) s r ≡ true → is_unseen script (e ∷ past) r ≡ true → WasUnseen e past s r
+      pub was_unseen : (e : Event) → IsRunOf starts says clusters sessions None (e ∷ past) → is_revision_of (e ∷ past) s r ≡ true → is_unseen script (e ∷ past) r ≡ true → WasUnseen e past s r
       was_unseen (event.Draw d) run own h = by (is_same r d.revision) refl own
         where
-          parts : (is_committed past r ≡ true) × (is_ended past r ≡ true) × (sees (head_of script.clusters (event.Draw d ∷ past) r.cluster) r ≡ false)
+          parts : (is_committed past r ≡ true) × (is_ended past r ≡ true) × (sees (head_of script.clusters None (event.Draw d ∷ past) r.cluster) r ≡ false)
           parts = unseen_parts _ _ _ h
 
           ended : is_ended past r ≡ true
@@ -214,20 +214,20 @@ module _ (clusters : ℕ) (sessions : List ℕ) (nodes : AreNodes clusters sessi
           by false same k = plain (event.Draw d) run k parts.0 ended parts.2
       was_unseen (event.Commit q) run own h = by (is_same r q) refl (unseen_parts _ _ _ h)
         where
-          by : (b : Bool) → is_same r q ≡ b → ((b || is_committed past r) ≡ true) × (is_ended past r ≡ true) × (sees (head_of script.clusters (event.Commit q ∷ past) r.cluster) r ≡ false) → WasUnseen (event.Commit q) past s r
+          by : (b : Bool) → is_same r q ≡ b → ((b || is_committed past r) ≡ true) × (is_ended past r ≡ true) × (sees (head_of script.clusters None (event.Commit q ∷ past) r.cluster) r ≡ false) → WasUnseen (event.Commit q) past s r
           by true same (c, ended, v) =
               let flies = subst (λ (x : Revision). is_in_flight past x ≡ true) (sym (same_revision r q same)) run.0.open_.in_flight in
               absurd (false≢true (sym (ap not ended) ∙ (halves (is_drawn past r) _ flies).1))
           by false same (c, ended, v) = plain (event.Commit q) run own c ended v
       was_unseen (event.End q) run own h = by (is_same r q) refl (unseen_parts _ _ _ h)
         where
-          by : (b : Bool) → is_same r q ≡ b → (is_committed past r ≡ true) × ((b || is_ended past r) ≡ true) × (sees (head_of script.clusters (event.End q ∷ past) r.cluster) r ≡ false) → WasUnseen (event.End q) past s r
+          by : (b : Bool) → is_same r q ≡ b → (is_committed past r ≡ true) × ((b || is_ended past r) ≡ true) × (sees (head_of script.clusters None (event.End q ∷ past) r.cluster) r ≡ false) → WasUnseen (event.End q) past s r
           by true same (c, ended, v) = inr (ap event.End (sym (same_revision r q same)), own, c)
           by false same (c, ended, v) = plain (event.End q) run own c ended v
       was_unseen e run own h = let p = unseen_parts _ _ _ h in plain e run own p.0 p.1 p.2
 
     -- where the head sees each commit of s that has ended, s doesn't wait
-    pub not_waiting : (past : Past) → IsRunOf starts says clusters sessions past → (s : ℕ) → ((r : Revision) → is_revision_of past s r ≡ true → is_unseen script past r ≡ false) → is_waiting script past s ≡ false
+    pub not_waiting : (past : Past) → IsRunOf starts says clusters sessions None past → (s : ℕ) → ((r : Revision) → is_revision_of past s r ≡ true → is_unseen script past r ≡ false) → is_waiting script past s ≡ false
     not_waiting past run s seen = by (draws_of past s) (all_own past run s)
       where
         by : (list : List Draw) → list_all (λ d. is_revision_of past s d.revision) list ≡ true → list_any (λ d. is_unseen script past d.revision) list ≡ false

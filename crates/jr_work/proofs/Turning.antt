@@ -18,7 +18,7 @@ use Rattle.oak_machine.specs.Heads.{head_of}
 use Rattle.oak_machine.specs.Sessions.{has_left, next_index}
 use Rattle.oak_port.specs.Ports.{Awaiting, HoldsBack, Seat as PortSeat, Shown, Work}
 use Rattle.oak_world.specs.Seen.{seat_of, shown_at, shown_work}
-use Rattle.oak_world.specs.Worlds.{WorldOf, actor_in, work_in}
+use Rattle.oak_world.specs.Worlds.{WorldOf, actor_in, live, work_in}
 use Rattle.jcr_trans.specs.declared.command.Command.{Command}
 use Rattle.core_law.specs.State.{command_at}
 use Rattle.jcr_session.specs.declared.law.JcrLaw.{JcrLaw}
@@ -68,7 +68,7 @@ commands_at script s i = by (slice_get script.sessions s) refl
         ∙ sym (ap (λ (o : Option SessionScript). slice_get (option_map_or (λ x. x.commands) o []) i) is)
 
 module _ (script : Script) (n : GName) (s : ℕ) (old new : WorldOf JcrLaw) (seat : Seat) (now : SessionRun) (answer : Turn)
-    (law_is : old.law ≡ law_of script) (history : old.history ≡ history_at script old.history.past) (seated : IsSeated script old s seat)
+    (law_is : old.law ≡ law_of script) (history : (live old.history) ≡ history_at script old.history.past) (seated : IsSeated script old s seat)
     (law_same : new.law ≡ old.law) (turned : IsTurned old.law (shown_at n old s) (shown_at n new s) seat.run now answer) where
   abbrev past : Past
   past = old.history.past
@@ -97,7 +97,7 @@ module _ (script : Script) (n : GName) (s : ℕ) (old new : WorldOf JcrLaw) (sea
       second false b h = h
 
 module _ (script : Script) (n : GName) (s : ℕ) (old new : WorldOf JcrLaw) (seat : Seat) (now : SessionRun)
-    (law_is : old.law ≡ law_of script) (history : old.history ≡ history_at script old.history.past) (seated : IsSeated script old s seat)
+    (law_is : old.law ≡ law_of script) (history : (live old.history) ≡ history_at script old.history.past) (seated : IsSeated script old s seat)
     (law_same : new.law ≡ old.law) where
   come_to : (answer : Turn) (turned : IsTurned old.law (shown_at n old s) (shown_at n new s) seat.run now answer) → IsComeTo script n s old new seat now answer law_is history seated law_same turned (flight_by answer (turned.own ++ old.history.past) seat.flight)
   come_to (turn.Stepped k) turned = by (tells script n s old new seat now (turn.Stepped k) law_is history seated turned) (made script n s old new seat now (turn.Stepped k) law_is history seated turned)
@@ -136,7 +136,7 @@ module _ (script : Script) (n : GName) (s : ℕ) (old new : WorldOf JcrLaw) (sea
         came = (
           none,
           waits_for script.clusters (map (λ x. x.cluster) script.sessions) (subst (λ (h : History). Rattle.oak_machine.specs.Runs.AreNodes h.clusters h.sessions) history (seated.stands n).nodes) (Rattle.jcr_session.specs.Sights.starts_of old.law) (Rattle.jcr_session.specs.Sights.says_of old.law) script refl old.history.past s r unseen.theirs
-              (all (is_committed old.history.past r) (is_ended old.history.past r) (sees (head_of script.clusters old.history.past r.cluster) r) unseen.committed unseen.ended unseen.unseen),
+              (all (is_committed old.history.past r) (is_ended old.history.past r) (sees (head_of script.clusters None old.history.past r.cluster) r) unseen.committed unseen.ended unseen.unseen),
         );
         flown = subst (λ (o : Past). IsFlight (o ++ old.history.past) s seat.flight) (sym none) seated.flight;
         seen = subst (λ (o : Past). IsSeenBut script (o ++ old.history.past) s (awaited (shown_work (work_in new.actors s)))) (sym none) (λ p m u. ap awaited (after ∙ sym before) ∙ seated.seen p m u);

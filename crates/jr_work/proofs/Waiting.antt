@@ -83,7 +83,7 @@ abbrev leaving : List Part
 leaving = closing 1 (Went 1 kind.End ∷ []) ∷ closing 0 (Went 0 kind.End ∷ []) ∷ []
 
 abbrev journal : Journal
-journal = record { clusters = 1; sessions = 1 ∷ 1 ∷ []; events = record { list = reverse (events_of (leaving ++ parts)); places = 0 } }
+journal = record { clusters = 1; sessions = 1 ∷ 1 ∷ []; events = record { list = reverse (events_of (leaving ++ parts)); places = 0 }; start = None }
 
 scheduled : Scheduled script (history_of journal)
 scheduled = record {
@@ -114,7 +114,7 @@ abbrev short_closed : List Part
 short_closed = closing 1 (Said 1 2 (codes "ok [\"x\",\"y\"]") ∷ Went 1 kind.End ∷ []) ∷ closing 0 (Went 0 kind.End ∷ []) ∷ []
 
 abbrev short_journal : Journal
-short_journal = record { clusters = 1; sessions = 1 ∷ 1 ∷ []; events = record { list = reverse (events_of (short_closed ++ reply_parts ++ short_parts)); places = 0 } }
+short_journal = record { clusters = 1; sessions = 1 ∷ 1 ∷ []; events = record { list = reverse (events_of (short_closed ++ reply_parts ++ short_parts)); places = 0 }; start = None }
 
 short_scheduled : Scheduled short (history_of short_journal)
 short_scheduled = record {

@@ -16,6 +16,7 @@ use Rattle.jr_script.specs.Schedules.{IsEntryWithin}
 use Rattle.jr_script.specs.declared.script.Entry.{Entry}
 use Rattle.jr_script.specs.declared.script.Script.{Script}
 use Rattle.jr_script.specs.declared.script.SessionScript.{SessionScript}
+use Rattle.oak_world.specs.Worlds.{Story, live}
 use Rattle.jr_work.specs.declared.stage.Stage.{Stage}
 use Rattle.jr_work.specs.Parts.{IsCut, Part, Rule, by_entry, events_of, to_end, to_reply}
 use Rattle.jr_work.specs.Places.{commands_of, flying_sessions, history_at, is_over}
@@ -137,7 +138,7 @@ over_more old new n rule one before ended t below = by (t == n) refl
 -- ---- the run
 
 -- a session that is over has answered each command, in order
-answered_by : (script : Script) (h : History) → IsRun (starts_of (law_of script)) (says_of (law_of script)) h → (s : ℕ) (session : SessionScript) → slice_get script.sessions s ≡ Some session → is_over script h.past s ≡ true → indexes_said h s ≡ range_with_len 0 (length session.commands)
+answered_by : (script : Script) (h : Story) → IsRun (starts_of (law_of script)) (says_of (law_of script)) (live h) → (s : ℕ) (session : SessionScript) → slice_get script.sessions s ≡ Some session → is_over script h.past s ≡ true → indexes_said (live h) s ≡ range_with_len 0 (length session.commands)
 answered_by script h run s session there over =
     said_so_far h.clusters h.sessions (starts_of (law_of script)) (says_of (law_of script)) s h.past run
     ∙ ap (range_with_len 0) (equal (next_index h.past s) (length (commands_of script s)) (halves (next_index h.past s == length (commands_of script s)) (has_left h.past s) over).0
@@ -148,7 +149,7 @@ module _ (script : Script) (begun played replied finished : Stage) (flying : Lis
     (flies : flying ≡ flying_sessions (past_of played)) (replies : ClosesAll played replied (map to_reply flying))
     (finishes : ClosesAll replied finished (map to_end (range_with_len 0 (length replied.seats.items))))
     (over : AreOver finished (length replied.seats.items))
-    (run : IsRun (starts_of finished.world.law) (says_of finished.world.law) finished.world.history) (apart : AreApart finished.world.history.past) where
+    (run : IsRun (starts_of finished.world.law) (says_of finished.world.law) (live finished.world.history)) (apart : AreApart finished.world.history.past) where
   script_played : played.script ≡ script
   script_played = plays.script ∙ begins.script_is
 
@@ -161,14 +162,14 @@ module _ (script : Script) (begun played replied finished : Stage) (flying : Lis
   law_is : finished.world.law ≡ law_of script
   law_is = finishes.stage.law ∙ ap law_of script_finished
 
-  history_is : finished.world.history ≡ history_at script (past_of finished)
+  history_is : (live finished.world.history) ≡ history_at script (past_of finished)
   history_is = finishes.stage.history ∙ ap (λ (x : Script). history_at x (past_of finished)) script_finished
 
   seats_are : length replied.seats.items ≡ length script.sessions
   seats_are = replies.stage.seats ∙ ap (λ (x : Script). length x.sessions) script_replied
 
-  run_is : IsRun (starts_of (law_of script)) (says_of (law_of script)) finished.world.history
-  run_is = subst (λ (l : JcrLaw). IsRun (starts_of l) (says_of l) finished.world.history) law_is run
+  run_is : IsRun (starts_of (law_of script)) (says_of (law_of script)) (live finished.world.history)
+  run_is = subst (λ (l : JcrLaw). IsRun (starts_of l) (says_of l) (live finished.world.history)) law_is run
 
   -- before any turn nothing is cut
   first_cut : IsCutSoFar begun.script (due_at begun.world) [] [] (past_of begun)
@@ -194,11 +195,11 @@ module _ (script : Script) (begun played replied finished : Stage) (flying : Lis
       (subst (λ (x : Script). (added : List Part) × (rules_of added ≡ map to_end (range_with_len 0 (length replied.seats.items))) × IsCutSoFar x (due_at finished.world) (added ++ parts) [] (past_of finished)) script_replied
       (finishes.closes parts (subst (λ (x : Script). IsCutSoFar x (due_at replied.world) parts [] (past_of replied)) (sym script_replied) cut)))
 
-  scheduled : Scheduled script finished.world.history
+  scheduled : Scheduled script (live finished.world.history)
   scheduled = by_played played_parts
     where
       by_finished : (entries answers ends : List Part) → rules_of entries ≡ map by_entry script.schedule → past_of played ≡ events_of entries → rules_of answers ≡ map to_reply flying
-          → rules_of ends ≡ map to_end (range_with_len 0 (length script.sessions)) → IsCutSoFar script (due_at finished.world) (ends ++ (answers ++ entries)) [] (past_of finished) → Scheduled script finished.world.history
+          → rules_of ends ≡ map to_end (range_with_len 0 (length script.sessions)) → IsCutSoFar script (due_at finished.world) (ends ++ (answers ++ entries)) [] (past_of finished) → Scheduled script (live finished.world.history)
       by_finished entries answers ends first events second third cut = record {
         scheduled = entries;
         replied = answers;
@@ -211,14 +212,14 @@ module _ (script : Script) (begun played replied finished : Stage) (flying : Lis
       }
 
       by_replied : (entries answers : List Part) → rules_of entries ≡ map by_entry script.schedule → past_of played ≡ events_of entries → rules_of answers ≡ map to_reply flying
-          → (added : List Part) × (rules_of added ≡ map to_end (range_with_len 0 (length script.sessions))) × IsCutSoFar script (due_at finished.world) (added ++ (answers ++ entries)) [] (past_of finished) → Scheduled script finished.world.history
+          → (added : List Part) × (rules_of added ≡ map to_end (range_with_len 0 (length script.sessions))) × IsCutSoFar script (due_at finished.world) (added ++ (answers ++ entries)) [] (past_of finished) → Scheduled script (live finished.world.history)
       by_replied entries answers first events second (ends, third, cut) = by_finished entries answers ends first events second third cut
 
       by_parts : (entries : List Part) → rules_of entries ≡ map by_entry script.schedule → past_of played ≡ events_of entries
-          → (added : List Part) × (rules_of added ≡ map to_reply flying) × IsCutSoFar script (due_at replied.world) (added ++ entries) [] (past_of replied) → Scheduled script finished.world.history
+          → (added : List Part) × (rules_of added ≡ map to_reply flying) × IsCutSoFar script (due_at replied.world) (added ++ entries) [] (past_of replied) → Scheduled script (live finished.world.history)
       by_parts entries first events (answers, second, cut) = by_replied entries answers first events second (finished_parts (answers ++ entries) cut)
 
-      by_played : (added : List Part) × (rules_of added ≡ map by_entry script.schedule) × IsCutSoFar script (due_at played.world) added [] (past_of played) → Scheduled script finished.world.history
+      by_played : (added : List Part) × (rules_of added ≡ map by_entry script.schedule) × IsCutSoFar script (due_at played.world) added [] (past_of played) → Scheduled script (live finished.world.history)
       by_played (entries, first, cut) = by_parts entries first cut.whole (replied_parts entries cut)
 
   -- the script was run to its end

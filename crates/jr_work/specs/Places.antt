@@ -23,7 +23,7 @@ use Rattle.jr_script.specs.declared.script.Script.{Script}
 
 -- the history of a script's run that has come so far
 abbrev pub history_at : Script → Past → History
-history_at script past = record { clusters = script.clusters; sessions = map (λ x. x.cluster) script.sessions; past = past }
+history_at script past = record { clusters = script.clusters; sessions = map (λ x. x.cluster) script.sessions; begin = None; past = past }
 
 -- the commands of session s; none, where there is no such session
 abbrev pub commands_of : Script → ℕ → List Command
@@ -49,7 +49,7 @@ flying_sessions past = values_of (fold (λ es d. insert_entry revision_cmp es d.
 
 -- r is committed and has ended, and the head of its cluster node doesn't see it yet
 abbrev pub is_unseen : Script → Past → Revision → Bool
-is_unseen script past r = is_committed past r && is_ended past r && not (sees (head_of script.clusters past r.cluster) r)
+is_unseen script past r = is_committed past r && is_ended past r && not (sees (head_of script.clusters None past r.cluster) r)
 
 -- s waits for the head to see what it committed
 abbrev pub is_waiting : Script → Past → ℕ → Bool

@@ -12,7 +12,7 @@ use Rattle.oak_machine.specs.Commits.{are_clashing, is_committed, is_ended, is_i
 use Rattle.oak_machine.specs.Runs.{IsRun}
 use Rattle.core_clash.specs.Sound.{Cause}
 use Rattle.oak_world.specs.Clashes.{MeetsNone, Wanted}
-use Rattle.oak_world.specs.Worlds.{WorldOf}
+use Rattle.oak_world.specs.Worlds.{WorldOf, live}
 use Rattle.jcr_session.specs.declared.law.JcrLaw.{JcrLaw}
 use Rattle.jcr_session.specs.Sights.{says_of, starts_of}
 use Rattle.jr_work.specs.Schedules.{Scheduled}
@@ -45,4 +45,4 @@ pub record FollowsScript (script : Script) (h : History) : Type 0 where
 -- the script was run to its end: the world is of its law, and what its journal tells follows the script
 pub record HasRun (script : Script) (w : WorldOf JcrLaw) : Type 0 where
   pub law : w.law ≡ law_of script
-  pub follows : FollowsScript script w.history
+  pub follows : FollowsScript script (live w.history)

@@ -12,7 +12,7 @@ use Rattle.oak_machine.specs.Sessions.{is_reply_of}
 use Rattle.oak_port.specs.Ports.{Awaiting, Work}
 use Rattle.oak_world.specs.Seen.{shown_at, shown_work}
 use Rattle.oak_world.specs.Steps.{kind_due}
-use Rattle.oak_world.specs.Worlds.{WorldOf, work_in}
+use Rattle.oak_world.specs.Worlds.{WorldOf, live, work_in}
 use Rattle.jcr_session.specs.declared.law.JcrLaw.{JcrLaw}
 use Rattle.jcr_session.specs.declared.run.SessionRun.{SessionRun}
 use Rattle.jcr_session.specs.declared.turn.Turn.{Turn}
@@ -61,7 +61,7 @@ pub record IsSeated (script : Script) (w : WorldOf JcrLaw) (s : ℕ) (seat : Sea
 pub record IsStage (stage : Stage) : Type 0 where
   pub within : IsWithin stage.script
   pub law : stage.world.law ≡ law_of stage.script
-  pub history : stage.world.history ≡ history_at stage.script (past_of stage)
+  pub history : (live stage.world.history) ≡ history_at stage.script (past_of stage)
   pub seats : length stage.seats.items ≡ length stage.script.sessions
   pub each : (s : ℕ) (seat : Seat) → slice_get stage.seats.items s ≡ Some seat → IsSeated stage.script stage.world s seat
 

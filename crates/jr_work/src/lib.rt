@@ -5,8 +5,6 @@ mod flight;
 mod laws;
 mod run;
 mod stage;
-#[cfg(test)]
-mod tests;
 
 pub use laws::cuts_grow;
 pub use run::run_steps;

@@ -266,7 +266,7 @@ impl Committer {
         ensures only { OnErr result (IsTrue (tells_written self.old reply)) }
     {
         match reply {
-            Reply::Updated(before) => self.advance(before),
+            Reply::Updated(before) => self.advance(before.as_ref()),
             Reply::Unmet(_, kept) => {
                 self.block(kept);
                 Ok(())
@@ -280,11 +280,11 @@ impl Committer {
     }
 
     // The update that was due is made.
-    fn advance(&mut self, before: Option<Document>) -> Result<(), AllocError>
+    fn advance(&mut self, before: Option<&Document>) -> Result<(), AllocError>
         requires { self.old.outcome ≡ None }
-        ensures ok { OnOk result (self.new ≡ advanced self.old before) }
-        ensures err { OnErr result (self.new ≡ wanting (advanced self.old before)) }
-        ensures only { OnErr result (IsTrue (tells_written self.old (Reply.Updated before))) }
+        ensures ok { OnOk result (self.new ≡ advanced self.old (option_copied before.entry)) }
+        ensures err { OnErr result (self.new ≡ wanting (advanced self.old (option_copied before.entry))) }
+        ensures only { OnErr result (IsTrue (tells_written self.old (Reply.Updated (option_copied before.entry)))) }
     {
         if !self.due.is_empty() {
             self.due.remove(0);
@@ -294,20 +294,18 @@ impl Committer {
     }
 
     // A document is written, or the last write is made.
-    fn go_on(&mut self, before: Option<Document>) -> Result<(), AllocError>
+    fn go_on(&mut self, before: Option<&Document>) -> Result<(), AllocError>
         requires going { self.old.outcome ≡ None }
         requires marked { self.old.writer.due ≡ [] }
-        ensures ok { OnOk result (self.new ≡ written_by self.old self.old.writer.left before) }
-        ensures err { OnErr result (self.new ≡ wanting (written_by self.old self.old.writer.left before)) }
-        ensures only { OnErr result (IsTrue (tells_written self.old (Reply.Updated before))) }
+        ensures ok { OnOk result (self.new ≡ written_by self.old self.old.writer.left (option_copied before.entry)) }
+        ensures err { OnErr result (self.new ≡ wanting (written_by self.old self.old.writer.left (option_copied before.entry))) }
+        ensures only { OnErr result (IsTrue (tells_written self.old (Reply.Updated (option_copied before.entry)))) }
     {
         let Some(id) = self.plan.ids().get(self.written) else {
             self.outcome = Some(CommitEnd::Committed(self.revision));
             return Ok(());
         };
-        let found = self
-            .plan
-            .found(&self.base, self.revision, id, before.as_ref());
+        let found = self.plan.found(&self.base, self.revision, id, before);
         self.written += 1;
         match found {
             Ok(due) => {

@@ -9,8 +9,6 @@ mod outcome;
 mod places;
 mod plan;
 mod stage;
-#[cfg(test)]
-mod tests;
 
 pub use committer::Committer;
 pub use outcome::CommitEnd;

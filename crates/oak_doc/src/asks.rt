@@ -30,6 +30,8 @@ pub enum MemoryAsk {
     Learn(RevVec, RevVec),
     /// The head, the sweep vector and the pins of a cluster node.
     Pins(u32),
+    /// To end all that a stopped cluster node has drawn, and to drop its pins.
+    Recover(u32),
 }
 
 /// The answer to an ask.
@@ -59,6 +61,10 @@ pub enum Reply {
         sweep: RevVec,
         pins: List<Pin>,
     },
+    /// To Pins: the cluster node is recovered, and keeps none.
+    Gone,
+    /// To Recover.
+    Recovered,
 }
 
 /// How a removal ended.

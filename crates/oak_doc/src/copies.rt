@@ -161,6 +161,8 @@ impl DeepCopy for Reply {
                 sweep: *sweep,
                 pins: pins.copy()?,
             }),
+            Reply::Gone => Ok(Reply::Gone),
+            Reply::Recovered => Ok(Reply::Recovered),
         }
     }
 }

@@ -23,11 +23,11 @@ use Rattle.jr_rev.specs.Vectors.{is_below}
 use Rattle.jr_rev.proofs.Order.{revision_total, same_revision}
 use Rattle.oak_machine.specs.declared.event.Event.TheVariants as event
 use Rattle.oak_machine.specs.declared.event.Event.{Event}
-use Rattle.oak_machine.specs.History.{Past, history_of}
+use Rattle.oak_machine.specs.History.{Begin, Past, history_of}
 use Rattle.oak_machine.specs.declared.event.Journal.{Journal}
 use Rattle.oak_machine.specs.Runs.{MayFollow, any_said, any_start, learned}
 use Rattle.oak_machine.specs.Commits.{is_committed, is_in_base, are_clashing}
-use Rattle.oak_machine.specs.Sessions.{base_of, is_attached, is_text, kept_checkpoint, last_checkpoint}
+use Rattle.oak_machine.specs.Sessions.{base_of, is_attached, is_stopped_under, is_text, kept_checkpoint, last_checkpoint}
 use Rattle.oak_machine.specs.Tests.{is_apart_among, is_below_kept_among, based_by, IsFreeBase, IsFreeBaseAmong}
 use Rattle.oak_machine.proofs.Induction.{either}
 
@@ -132,30 +132,32 @@ kept_decided past m = (λ h id v kept. kept_of past m past h id v (kept_is_made 
 
 -- ---- bases of sessions
 
-free_of : (now : Past) (v : RevVec) (past : Past) → IsFreeBaseAmong now v past → (s : ℕ) × IsFreeBase now v (Some s)
-free_of now v [] f = absurd f
-free_of now v (e ∷ past) (inl f) = by (based_by e) f
+free_of : (sessions : List ℕ) (now : Past) (v : RevVec) (past : Past) → IsFreeBaseAmong sessions now v past → (s : ℕ) × IsFreeBase sessions now v (Some s)
+free_of sessions now v [] f = absurd f
+free_of sessions now v (e ∷ past) (inl f) = by (based_by e) f
   where
-    by : (o : Option ℕ) → IsFreeBase now v o → (s : ℕ) × IsFreeBase now v (Some s)
+    by : (o : Option ℕ) → IsFreeBase sessions now v o → (s : ℕ) × IsFreeBase sessions now v (Some s)
     by None f = absurd f
     by (Some s) f = (s, f)
-free_of now v (e ∷ past) (inr f) = free_of now v past f
+free_of sessions now v (e ∷ past) (inr f) = free_of sessions now v past f
 
 -- the session of an event, or one of an earlier event
-based_here : (now : Past) (v : RevVec) (s : ℕ) (past : Past) (w : RevVec) → IsFreeBase now v (Some s) → (base_of past s ≡ Some w → IsFreeBaseAmong now v past)
-    → (t : ℕ) (x : Option RevVec) (b : Bool) → (t == s) ≡ b → cond b x (base_of past s) ≡ Some w → IsFreeBase now v (Some t) ⊎ IsFreeBaseAmong now v past
-based_here now v s past w f rest t x true e h = inl (subst (λ (u : ℕ). IsFreeBase now v (Some u)) (sym ((Decides-eqb t s).0 e)) f)
-based_here now v s past w f rest t x false e h = inr (rest h)
+based_here : (sessions : List ℕ) (now : Past) (v : RevVec) (s : ℕ) (past : Past) (w : RevVec) → IsFreeBase sessions now v (Some s) → (base_of past s ≡ Some w → IsFreeBaseAmong sessions now v past)
+    → (t : ℕ) (x : Option RevVec) (b : Bool) → (t == s) ≡ b → cond b x (base_of past s) ≡ Some w → IsFreeBase sessions now v (Some t) ⊎ IsFreeBaseAmong sessions now v past
+based_here sessions now v s past w f rest t x true e h = inl (subst (λ (u : ℕ). IsFreeBase sessions now v (Some u)) (sym ((Decides-eqb t s).0 e)) f)
+based_here sessions now v s past w f rest t x false e h = inr (rest h)
 
-free_from : (now : Past) (v : RevVec) (s : ℕ) → IsFreeBase now v (Some s) → (past : Past) (w : RevVec) → base_of past s ≡ Some w → IsFreeBaseAmong now v past
-free_from now v s f [] w h = absurd (false≢true (ap is_some h))
-free_from now v s f (event.Login t u ∷ past) w h = based_here now v s past w f (free_from now v s f past w) t (Some u) (t == s) refl h
-free_from now v s f (event.Refresh t u ∷ past) w h = based_here now v s past w f (free_from now v s f past w) t (Some u) (t == s) refl h
-free_from now v s f (event.Attach t id ∷ past) w h = based_here now v s past w f (free_from now v s f past w) t (last_checkpoint past id) (t == s) refl h
-free_from now v s f (e ∷ past) w h = inr (free_from now v s f past w h)
+free_from : (sessions : List ℕ) (now : Past) (v : RevVec) (s : ℕ) → IsFreeBase sessions now v (Some s) → (past : Past) (w : RevVec) → base_of past s ≡ Some w → IsFreeBaseAmong sessions now v past
+free_from sessions now v s f [] w h = absurd (false≢true (ap is_some h))
+free_from sessions now v s f (event.Login t u ∷ past) w h = based_here sessions now v s past w f (free_from sessions now v s f past w) t (Some u) (t == s) refl h
+free_from sessions now v s f (event.Refresh t u ∷ past) w h = based_here sessions now v s past w f (free_from sessions now v s f past w) t (Some u) (t == s) refl h
+free_from sessions now v s f (event.Attach t id ∷ past) w h = based_here sessions now v s past w f (free_from sessions now v s f past w) t (last_checkpoint past id) (t == s) refl h
+free_from sessions now v s f (e ∷ past) w h = inr (free_from sessions now v s f past w h)
 
-pub free_decided : (past : Past) (v : RevVec) → (IsFreeBaseAmong past v past → (s : ℕ) × (base_of past s ≡ Some v) × (is_attached past s ≡ false)) × ((s : ℕ) × (base_of past s ≡ Some v) × (is_attached past s ≡ false) → IsFreeBaseAmong past v past)
-free_decided past v = (λ f. let p = free_of past v past f in (p.0, p.1.0, p.1.1), λ p. free_from past v p.0 (p.1, p.2) past v p.1)
+pub free_decided : (sessions : List ℕ) (past : Past) (v : RevVec)
+    → (IsFreeBaseAmong sessions past v past → (s : ℕ) × (base_of past s ≡ Some v) × (is_attached past s ≡ false) × (is_stopped_under sessions past s ≡ false))
+    × ((s : ℕ) × (base_of past s ≡ Some v) × (is_attached past s ≡ false) × (is_stopped_under sessions past s ≡ false) → IsFreeBaseAmong sessions past v past)
+free_decided sessions past v = (λ f. let p = free_of sessions past v past f in (p.0, p.1.0, p.1.1, p.1.2), λ p. free_from sessions past v p.0 (p.1, p.2, p.3) past v p.1)
 
 -- ---- moments
 
@@ -181,28 +183,28 @@ earlier xs n = elim (cases_lt (length xs) n) [
 ]
 
 -- what is learned from a first part of the events is learned from a moment
-pub learned_then : (clusters k : ℕ) (events xs : List Event) (at : ℕ) (v w : RevVec) → xs ≡ events → at < length xs → v ≡ w → w ≡ learned clusters (reverse xs) (reverse (take at xs)) k
-    → v ≡ learned clusters (reverse events) (drop (length events - at) (reverse events)) k
-learned_then clusters k events xs at v w e low p q =
-    subst (λ (ys : List Event). v ≡ learned clusters (reverse ys) (drop (length ys - at) (reverse ys)) k) e
-    (p ∙ (q ∙ ap (λ x. learned clusters (reverse xs) x k) (moment xs at (omega arith))))
+pub learned_then : (clusters : ℕ) (begin : Begin) (k : ℕ) (events xs : List Event) (at : ℕ) (v w : RevVec) → xs ≡ events → at < length xs → v ≡ w → w ≡ learned clusters begin (reverse xs) (reverse (take at xs)) k
+    → v ≡ learned clusters begin (reverse events) (drop (length events - at) (reverse events)) k
+learned_then clusters begin k events xs at v w e low p q =
+    subst (λ (ys : List Event). v ≡ learned clusters begin (reverse ys) (drop (length ys - at) (reverse ys)) k) e
+    (p ∙ (q ∙ ap (λ x. learned clusters begin (reverse xs) x k) (moment xs at (omega arith))))
 
-pub learned_now : (clusters k : ℕ) (events xs : List Event) (v w : RevVec) → xs ≡ events → v ≡ w → w ≡ learned clusters (reverse xs) (reverse xs) k → v ≡ learned clusters (reverse events) (reverse events) k
-learned_now clusters k events xs v w e p q = subst (λ (ys : List Event). v ≡ learned clusters (reverse ys) (reverse ys) k) e (p ∙ q)
+pub learned_now : (clusters : ℕ) (begin : Begin) (k : ℕ) (events xs : List Event) (v w : RevVec) → xs ≡ events → v ≡ w → w ≡ learned clusters begin (reverse xs) (reverse xs) k → v ≡ learned clusters begin (reverse events) (reverse events) k
+learned_now clusters begin k events xs v w e p q = subst (λ (ys : List Event). v ≡ learned clusters begin (reverse ys) (reverse ys) k) e (p ∙ q)
 
 -- and what is learned from none of them but all is learned now
-pub learned_last : (clusters k : ℕ) (events xs : List Event) (at : ℕ) (v w : RevVec) (r : Bool) → xs ≡ events → length xs ≤ at → (v ≡ w → r ≡ true) → w ≡ learned clusters (reverse xs) (reverse xs) k
-    → ((n : ℕ) → n < at → v ≡ learned clusters (reverse events) (reverse (take n events)) k → ⊥) → (n : ℕ) → v ≡ learned clusters (reverse events) (drop n (reverse events)) k → r ≡ true
-learned_last clusters k events xs at v w r e high told now other n h =
-    let same : v ≡ learned clusters (reverse events) (reverse (take (length events - n) events)) k = h ∙ ap (λ x. learned clusters (reverse events) x k) (earlier events n) in
+pub learned_last : (clusters : ℕ) (begin : Begin) (k : ℕ) (events xs : List Event) (at : ℕ) (v w : RevVec) (r : Bool) → xs ≡ events → length xs ≤ at → (v ≡ w → r ≡ true) → w ≡ learned clusters begin (reverse xs) (reverse xs) k
+    → ((n : ℕ) → n < at → v ≡ learned clusters begin (reverse events) (reverse (take n events)) k → ⊥) → (n : ℕ) → v ≡ learned clusters begin (reverse events) (drop n (reverse events)) k → r ≡ true
+learned_last clusters begin k events xs at v w r e high told now other n h =
+    let same : v ≡ learned clusters begin (reverse events) (reverse (take (length events - n) events)) k = h ∙ ap (λ x. learned clusters begin (reverse events) x k) (earlier events n) in
     let l : length xs ≡ length events = ap length e in
     elim (cases_lt (length events - n) (length events)) [
       | inl less ↦ absurd (other (length events - n) (omega arith) same)
       | inr all ↦
           let m : length events - n ≡ length events = omega arith in
           let whole : reverse (take (length events - n) events) ≡ reverse events = ap (λ i. reverse (take i events)) m ∙ ap reverse (take-length events) in
-          let last : w ≡ learned clusters (reverse events) (reverse events) k = subst (λ (ys : List Event). w ≡ learned clusters (reverse ys) (reverse ys) k) e now in
-          told (same ∙ (ap (λ x. learned clusters (reverse events) x k) whole ∙ sym last))
+          let last : w ≡ learned clusters begin (reverse events) (reverse events) k = subst (λ (ys : List Event). w ≡ learned clusters begin (reverse ys) (reverse ys) k) e now in
+          told (same ∙ (ap (λ x. learned clusters begin (reverse events) x k) whole ∙ sym last))
     ]
 
 -- the same of events that are read where they stand
@@ -210,8 +212,8 @@ pub kept_at : (events xs : List Event) (m : RevVec) (r : Bool) → xs ≡ events
 kept_at events xs m r e is = subst (λ (ys : List Event). Decides r ((id : Text) (v : RevVec) → kept_checkpoint (reverse ys) id ≡ Some v → is_below m v ≡ true)) e (Decides-at r _ is (kept_decided (reverse xs) m))
 
 -- what is decided of an event by its kind
-pub at_kind : (j : Journal) (xs : List Event) (e x : Event) (r : Bool) → xs ≡ j.events.list → e ≡ x → Decides r (MayFollow any_start any_said (record { clusters = j.clusters; sessions = j.sessions; past = reverse xs }) x)
+pub at_kind : (j : Journal) (xs : List Event) (e x : Event) (r : Bool) → xs ≡ j.events.list → e ≡ x → Decides r (MayFollow any_start any_said (record { clusters = j.clusters; sessions = j.sessions; begin = j.start; past = reverse xs }) x)
     → Decides r (MayFollow any_start any_said (history_of j) e)
 at_kind j xs e x r is kind d =
     subst (λ (y : Event). Decides r (MayFollow any_start any_said (history_of j) y)) (sym kind)
-    (subst (λ (ys : List Event). Decides r (MayFollow any_start any_said (record { clusters = j.clusters; sessions = j.sessions; past = reverse ys }) x)) is d)
+    (subst (λ (ys : List Event). Decides r (MayFollow any_start any_said (record { clusters = j.clusters; sessions = j.sessions; begin = j.start; past = reverse ys }) x)) is d)

@@ -6,7 +6,7 @@ use mathlib.Core.Bool.{false≢true}
 use Rattle.jr_rev.specs.declared.revision.Revision.{Revision}
 use Rattle.jr_rev.specs.Revisions.{is_same}
 use Rattle.oak_machine.specs.declared.event.Event.TheVariants as event
-use Rattle.oak_machine.specs.History.{Past}
+use Rattle.oak_machine.specs.History.{Begin, Past}
 use Rattle.oak_machine.specs.Commits.{draw_of, is_drawn, is_committed}
 use Rattle.oak_machine.specs.Sessions.{base_of}
 use Rattle.oak_machine.specs.Laws.{Starts, Says, is_event_of}
@@ -26,9 +26,9 @@ pub still_drawn : (b : Bool) (d : _) (past : Past) (r : Revision) → is_drawn p
 still_drawn true d past r h = refl
 still_drawn false d past r h = h
 
-module _ (starts : Starts) (says : Says) (clusters : ℕ) (sessions : List ℕ) (same_revision : (q r : Revision) → is_same r q ≡ true → q ≡ r) where
+module _ (starts : Starts) (says : Says) (clusters : ℕ) (sessions : List ℕ) (begin : Begin) (same_revision : (q r : Revision) → is_same r q ≡ true → q ≡ r) where
   -- each committed revision is drawn
-  pub committed_is_drawn : (past : Past) (r : Revision) → IsRunOf starts says clusters sessions past → is_committed past r ≡ true → is_drawn past r ≡ true
+  pub committed_is_drawn : (past : Past) (r : Revision) → IsRunOf starts says clusters sessions begin past → is_committed past r ≡ true → is_drawn past r ≡ true
   committed_is_drawn [] r run h = absurd (false≢true h)
   committed_is_drawn (event.Commit q ∷ past) r run h = either (is_same r q) (is_committed past r) h _
       (λ same. subst (λ (x : Revision). is_drawn past x ≡ true) (same_revision q r same) (first_of_both (is_drawn past q) _ run.0.open_.in_flight))

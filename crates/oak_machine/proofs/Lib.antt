@@ -1,12 +1,8 @@
 pub mod Apart
-pub mod Backward
 pub mod Deciding
-pub mod Equal
 pub mod Forward
-pub mod Live
-pub mod Ranges
-pub mod LocalHead
 pub mod Induction
+pub mod Ranges
 mod Rows
 pub mod Stays
 mod StepRows

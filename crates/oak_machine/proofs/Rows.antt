@@ -54,24 +54,24 @@ abbrev draw_a : Event
 draw_a = Draw (record { revision = at 1; session = 0; base = vector 0; edit = add_a; marks = marks_a })
 
 abbrev first_save : Journal
-first_save = record { clusters = 1; sessions = 1 ∷ []; events = record { list = Login 0 (vector 0) ∷ draw_a ∷ Commit (at 1) ∷ End (at 1) ∷ Head 1 (vector 1) ∷ []; places = 0 } }
+first_save = record { clusters = 1; sessions = 1 ∷ []; events = record { list = Login 0 (vector 0) ∷ draw_a ∷ Commit (at 1) ∷ End (at 1) ∷ Head 1 (vector 1) ∷ []; places = 0 }; start = None }
 
 abbrev h : History
 h = history_of first_save
 
-value_is_there : property_at (tree_at h.past (vector 1)) a p ≡ Some five
+value_is_there : property_at (tree_at h.begin h.past (vector 1)) a p ≡ Some five
 value_is_there = refl
 
-not_seen_at_start : node_at (tree_at h.past (vector 0)) a ≡ None
+not_seen_at_start : node_at (tree_at h.begin h.past (vector 0)) a ≡ None
 not_seen_at_start = refl
 
-head_moved : head_of 1 h.past 1 ≡ vector 1
+head_moved : head_of 1 None h.past 1 ≡ vector 1
 head_moved = refl
 
 base_stays : base_of h.past 0 ≡ Some (vector 0)
 base_stays = refl
 
-next : next_draw 1 h.past 1 ≡ at 2
+next : next_draw 1 None h.past 1 ≡ at 2
 next = refl
 
 -- a law that lets everything start and be said
@@ -84,17 +84,17 @@ says h s i text = Unit {0}
 -- and that journal is a run
 is_run : IsRun starts says h
 is_run = (
-  refl,
+  (refl, refl),
   (
     refl,
     (
       record {
-        open_ = record { in_flight = refl; not_committed = refl; not_refused = refl };
+        open_ = record { running = refl; in_flight = refl; not_committed = refl; not_refused = refl };
         apart = λ o committed outside. absurd (false≢true committed);
       },
       (
-        record { login = refl; detached = refl; idle = refl; base = refl; cluster = refl; next = refl; lawful = tt },
-        (record { first = refl; head = (1, refl, refl) }, tt),
+        record { running = refl; login = refl; detached = refl; idle = refl; base = refl; cluster = refl; next = refl; lawful = tt },
+        (record { running = refl; first = refl; head = (1, refl, refl) }, tt),
       ),
     ),
   ),
@@ -138,42 +138,43 @@ each_meets = record {
         ∷ [];
     places = 0;
   };
+  start = None;
 }
 
 -- the run but for its commit
 each_run : IsRun starts says (history_of each_meets)
 each_run =
     let apart : (b : Bool) → false ≡ true → b ≡ false = λ b h. absurd (false≢true h) in (
-      record { login = refl; idle = refl; head = (1, refl, refl) },
+      record { running = refl; login = refl; idle = refl; head = (1, refl, refl) },
       (
-        refl,
+        (refl, refl),
         (
           refl,
           (
             refl,
             (
-              record { open_ = record { in_flight = refl; not_committed = refl; not_refused = refl }; met = refl; outside = refl; live = refl },
+              record { open_ = record { running = refl; in_flight = refl; not_committed = refl; not_refused = refl }; met = refl; outside = refl; live = refl },
               (
-                record { open_ = record { in_flight = refl; not_committed = refl; not_refused = refl }; met = refl; outside = refl; live = refl },
+                record { open_ = record { running = refl; in_flight = refl; not_committed = refl; not_refused = refl }; met = refl; outside = refl; live = refl },
                 (
-                  record { login = refl; detached = refl; idle = refl; base = refl; cluster = refl; next = refl; lawful = tt },
+                  record { running = refl; login = refl; detached = refl; idle = refl; base = refl; cluster = refl; next = refl; lawful = tt },
                   (
-                    record { login = refl; detached = refl; idle = refl; base = refl; cluster = refl; next = refl; lawful = tt },
+                    record { running = refl; login = refl; detached = refl; idle = refl; base = refl; cluster = refl; next = refl; lawful = tt },
                     (
-                      record { first = refl; head = (1, refl, refl) },
+                      record { running = refl; first = refl; head = (1, refl, refl) },
                       (
                         (refl, tt),
                         (
-                          record { login = refl; idle = refl; head = (1, refl, refl) },
+                          record { running = refl; login = refl; idle = refl; head = (1, refl, refl) },
                           (
-                            refl,
+                            (refl, refl),
                             (
                               refl,
                               (
-                                record { open_ = record { in_flight = refl; not_committed = refl; not_refused = refl }; apart = λ o committed outside. apart _ committed },
+                                record { open_ = record { running = refl; in_flight = refl; not_committed = refl; not_refused = refl }; apart = λ o committed outside. apart _ committed },
                                 (
-                                  record { login = refl; detached = refl; idle = refl; base = refl; cluster = refl; next = refl; lawful = tt },
-                                  (record { first = refl; head = (1, refl, refl) }, tt),
+                                  record { running = refl; login = refl; detached = refl; idle = refl; base = refl; cluster = refl; next = refl; lawful = tt },
+                                  (record { running = refl; first = refl; head = (1, refl, refl) }, tt),
                                 ),
                               ),
                             ),
@@ -190,7 +191,7 @@ each_run =
       ),
     )
 
-refused_leave_nothing : property_at (tree_at (history_of each_meets).past (vector 3)) a p ≡ None
+refused_leave_nothing : property_at (tree_at None (history_of each_meets).past (vector 3)) a p ≡ None
 refused_leave_nothing = refl
 
 -- many saves in a row
@@ -198,23 +199,23 @@ abbrev saves : ℕ → Past
 saves zero = Commit (at 1) ∷ Draw (record { revision = at 1; session = 0; base = vector 0; edit = add_a; marks = marks_a }) ∷ Login 0 (vector 0) ∷ []
 saves (suc k) = Commit (at (k + 2)) ∷ Draw (record { revision = at (k + 2); session = 0; base = vector (k + 1); edit = record { writes = Put a p (Single (Long (pos (k + 2)))) ∷ [] }; marks = marks_both }) ∷ saves k
 
-many : property_at (tree_at (saves 20) (vector 11)) a p ≡ Some (Single (Long (pos 11)))
+many : property_at (tree_at None (saves 20) (vector 11)) a p ≡ Some (Single (Long (pos 11)))
 many = refl
 
 -- the marks of the first edit, and that it is proper
-marks_are : marks_for (tree_at h.past (vector 0)) add_a.writes ≡ marks_a
+marks_are : marks_for (tree_at h.begin h.past (vector 0)) add_a.writes ≡ marks_a
 marks_are = refl
 
-proper : IsProper (tree_at h.past (vector 0)) add_a.writes
+proper : IsProper (tree_at h.begin h.past (vector 0)) add_a.writes
 proper = record { tree = record { paths = refl; names = refl; root = refl; parents = refl }; once = refl; changing = refl; emptied = refl }
 
 -- a node and a node below it are added: both parents are touched, and the commit root is the root
 abbrev ab : List (List ℕ)
 ab = codes "a" ∷ codes "b" ∷ []
 
-touched : marks_for (tree_at h.past (vector 0)) (Here a ∷ Here ab ∷ [])
+touched : marks_for (tree_at h.begin h.past (vector 0)) (Here a ∷ Here ab ∷ [])
     ≡ record { path = []; mark = mark.Touch } ∷ record { path = a; mark = mark.Exists } ∷ record { path = a; mark = mark.Touch } ∷ record { path = ab; mark = mark.Exists } ∷ []
 touched = refl
 
-root_of_both : commit_root (marks_for (tree_at h.past (vector 0)) (Here a ∷ Here ab ∷ [])) ≡ []
+root_of_both : commit_root (marks_for (tree_at h.begin h.past (vector 0)) (Here a ∷ Here ab ∷ [])) ≡ []
 root_of_both = refl

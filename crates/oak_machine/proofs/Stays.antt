@@ -5,7 +5,7 @@ use Rattle.std.specs.declared.cmp.Ordering.{Ordering}
 use Rattle.std.specs.declared.cmp.Ordering.TheVariants.{Less, Equal, Greater}
 use Rattle.std.specs.Ordering.{match_ordering}
 use Rattle.std.specs.BTreeMap.{insert_entry}
-use Rattle.std.specs.List.{filter, fold, list_any}
+use Rattle.std.specs.List.{filter, list_any}
 use mathlib.Core.Bool.{false≢true}
 use Rattle.jr_rev.specs.declared.revision.Revision.{Revision}
 use Rattle.jr_rev.specs.declared.vector.RevVec.{RevVec}
@@ -13,13 +13,11 @@ use Rattle.jr_rev.specs.Revisions.{revision_cmp}
 use Rattle.jr_rev.specs.Vectors.{sees}
 use Rattle.jr_rev.proofs.Order.{revision_exact}
 use Rattle.jr_tree.specs.declared.edit.Write.{Write}
-use Rattle.jr_tree.specs.Edits.{applied}
 use Rattle.oak_machine.specs.declared.event.Draw.{Draw}
 use Rattle.oak_machine.specs.declared.event.Event.{Event}
 use Rattle.oak_machine.specs.declared.event.Event.TheVariants as event
-use Rattle.oak_machine.specs.History.{Past}
-use Rattle.oak_machine.specs.Commits.{draw_of, is_drawn, is_ended, is_end_of, committed_edits, tree_at}
-use Rattle.jr_tree.specs.Trees.{initial_tree}
+use Rattle.oak_machine.specs.History.{Begin, Past, begin_tree}
+use Rattle.oak_machine.specs.Commits.{draw_of, is_drawn, is_ended, is_end_of, applied_all, committed_edits, tree_at}
 use Rattle.oak_machine.specs.Laws.{Starts, Says}
 use Rattle.oak_machine.specs.Runs.{IsRunOf}
 use Rattle.oak_machine.proofs.Induction.{first_of_both, still_drawn}
@@ -53,7 +51,7 @@ filter-insert_unseen v r ws unseen (e ∷ es) = by (filter-insert_unseen v r ws 
         ap (λ b. cond b ((e.0, ws) ∷ kept es) (kept es)) same ∙ sym (ap (λ b. cond b (e ∷ kept es) (kept es)) same)
     by rest Greater h = ap (λ tail. cond (sees v e.0) (e ∷ tail) tail) rest
 
-module _ (starts : Starts) (says : Says) (clusters : ℕ) (sessions : List ℕ) (v : RevVec) (past : Past) where
+module _ (starts : Starts) (says : Says) (clusters : ℕ) (sessions : List ℕ) (begin : Begin) (v : RevVec) (past : Past) where
   -- each revision drawn by now that v sees had ended in the past
   abbrev pub HadEnded : Past → Type 0
   HadEnded now = (r : Revision) → is_drawn now r ≡ true → sees v r ≡ true → is_ended past r ≡ true
@@ -67,12 +65,12 @@ module _ (starts : Starts) (says : Says) (clusters : ℕ) (sessions : List ℕ) 
   dropped es r unseen None = refl
   dropped es r unseen (Some d) = filter-insert_unseen v r d.edit.writes unseen es
 
-  edits_stay : (added : Past) → IsRunOf starts says clusters sessions (added ++ past) → HadEnded (added ++ past) → filter (λ e. sees v e.0) (committed_edits (added ++ past)) ≡ filter (λ e. sees v e.0) (committed_edits past)
+  edits_stay : (added : Past) → IsRunOf starts says clusters sessions begin (added ++ past) → HadEnded (added ++ past) → filter (λ e. sees v e.0) (committed_edits (added ++ past)) ≡ filter (λ e. sees v e.0) (committed_edits past)
   edits_stay [] run had = refl
   edits_stay (event.Commit r ∷ added) run had =
       dropped (committed_edits (added ++ past)) r (let b : sees v r ≡ false = unseen_commit added r run.0.open_.in_flight had (sees v r) refl in b) (draw_of (added ++ past) r) ∙ edits_stay added run.1 had
   edits_stay (event.Draw d ∷ added) run had = edits_stay added run.1 (λ r drawn seen. had r (still_drawn _ d (added ++ past) r drawn) seen)
   edits_stay (e ∷ added) run had = edits_stay added run.1 had
 
-  pub tree_stays : (added : Past) → IsRunOf starts says clusters sessions (added ++ past) → HadEnded (added ++ past) → tree_at (added ++ past) v ≡ tree_at past v
-  tree_stays added run had = ap (λ (es : List (Revision × List Write)). fold (λ t e. applied t e.1) initial_tree es) (edits_stay added run had)
+  pub tree_stays : (added : Past) → IsRunOf starts says clusters sessions begin (added ++ past) → HadEnded (added ++ past) → tree_at begin (added ++ past) v ≡ tree_at begin past v
+  tree_stays added run had = ap (applied_all (begin_tree begin)) (edits_stay added run had)

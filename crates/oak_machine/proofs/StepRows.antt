@@ -19,7 +19,7 @@ draw t s = event.Draw (record { revision = at t; session = s; base = vector 0; e
 
 -- session 0 has drawn the first revision, and session 1 the second
 abbrev h : History
-h = record { clusters = 1; sessions = 1 ∷ 1 ∷ []; past = draw 2 1 ∷ draw 1 0 ∷ event.Login 1 (vector 0) ∷ event.Login 0 (vector 0) ∷ [] }
+h = record { clusters = 1; sessions = 1 ∷ 1 ∷ []; begin = None; past = draw 2 1 ∷ draw 1 0 ∷ event.Login 1 (vector 0) ∷ event.Login 0 (vector 0) ∷ [] }
 
 -- the later one ends and moves nothing; the earlier one ends and moves the head
 later_ends : is_appended_by h 1 kind.Finish (event.End (at 2) ∷ []) ≡ true
@@ -61,3 +61,22 @@ split_said = refl
 
 split_alone : is_one_step h 0 (event.Split 0 [] (Rattle.oak_doc.specs.declared.asks.SplitEnd.TheVariants.Split 3) ∷ []) ≡ false
 split_alone = refl
+
+-- cluster node 1 is stopped with both in flight: a session of another ends both, in the order in which they were drawn, and has it recovered
+abbrev stopped : History
+stopped = record { clusters = 2; sessions = 1 ∷ 1 ∷ 2 ∷ []; begin = None; past = event.Stop 1 ∷ h.past }
+
+stops : is_appended_by (record { clusters = 2; sessions = 1 ∷ 1 ∷ 2 ∷ []; begin = None; past = h.past }) 2 kind.Stop (event.Stop 1 ∷ []) ≡ true
+stops = refl
+
+stops_itself : is_one_step (record { clusters = 2; sessions = 1 ∷ 1 ∷ 2 ∷ []; begin = None; past = h.past }) 0 (event.Stop 1 ∷ []) ≡ false
+stops_itself = refl
+
+recovers : is_appended_by stopped 2 kind.Recover (event.End (at 1) ∷ event.End (at 2) ∷ event.Recover 1 ∷ []) ≡ true
+recovers = refl
+
+leaves_one : is_one_step stopped 2 (event.End (at 1) ∷ event.Recover 1 ∷ []) ≡ false
+leaves_one = refl
+
+turns_them : is_one_step stopped 2 (event.End (at 2) ∷ event.End (at 1) ∷ event.Recover 1 ∷ []) ≡ false
+turns_them = refl

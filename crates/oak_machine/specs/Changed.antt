@@ -11,10 +11,10 @@ use Rattle.jr_tree.specs.declared.shared.ItemChange.{ItemChange}
 use Rattle.jr_tree.specs.declared.shared.CommitChanges.{CommitChanges}
 use Rattle.jr_tree.specs.declared.edit.Write.{Write}
 use Rattle.jr_tree.specs.declared.edit.Write.TheVariants.{Here, Gone, Put, Unset}
-use Rattle.jr_tree.specs.Trees.{Nodes, node_at, property_at, initial_tree}
-use Rattle.jr_tree.specs.Edits.{applied, item_cmp, item_of}
-use Rattle.oak_machine.specs.History.{Past}
-use Rattle.oak_machine.specs.Commits.{committed_edits}
+use Rattle.jr_tree.specs.Trees.{Nodes, node_at, property_at}
+use Rattle.jr_tree.specs.Edits.{item_cmp, item_of}
+use Rattle.oak_machine.specs.History.{Begin, Past, begin_tree}
+use Rattle.oak_machine.specs.Commits.{applied_all, committed_edits}
 
 -- whether the item of a write is there
 abbrev pub has_item : Nodes → Write → Bool
@@ -39,11 +39,11 @@ abbrev pub item_changes : Nodes → List Write → List ItemChange
 item_changes t ws = values_of (fold (λ es w. insert_entry item_cmp es (item_of w) (item_change t w)) [] ws)
 
 -- the tree of the commits below r that v sees
-abbrev pub tree_below : Past → RevVec → Revision → Nodes
-tree_below past v r = fold (λ t e. applied t e.1) initial_tree (filter (λ e. sees v e.0 && is_before e.0 r) (committed_edits past))
+abbrev pub tree_below : Begin → Past → RevVec → Revision → Nodes
+tree_below begin past v r = applied_all (begin_tree begin) (filter (λ e. sees v e.0 && is_before e.0 r) (committed_edits past))
 
 -- the commits that `to` sees and `from` doesn't, in ascending order, each with its item changes
-abbrev pub changes_between : Past → RevVec → RevVec → List CommitChanges
-changes_between past from to =
-    map (λ e. record { revision = e.0; changes = item_changes (tree_below past to e.0) e.1 })
+abbrev pub changes_between : Begin → Past → RevVec → RevVec → List CommitChanges
+changes_between begin past from to =
+    map (λ e. record { revision = e.0; changes = item_changes (tree_below begin past to e.0) e.1 })
     (filter (λ e. sees to e.0 && not (sees from e.0)) (committed_edits past))

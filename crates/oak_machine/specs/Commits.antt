@@ -9,14 +9,14 @@ use Rattle.jr_rev.specs.declared.vector.RevVec.{RevVec}
 use Rattle.jr_rev.specs.Revisions.{revision_cmp, is_same}
 use Rattle.jr_rev.specs.Vectors.{sees, is_below}
 use Rattle.jr_tree.specs.declared.edit.Write.{Write}
-use Rattle.jr_tree.specs.Trees.{Nodes, initial_tree}
+use Rattle.jr_tree.specs.Trees.{Nodes}
 use Rattle.jr_tree.specs.Edits.{applied}
 use Rattle.oak_clash.specs.declared.mark.MarkAt.{MarkAt}
 use Rattle.oak_clash.specs.Clashes.{clashing}
 use Rattle.oak_machine.specs.declared.event.Draw.{Draw}
 use Rattle.oak_machine.specs.declared.event.Event.{Event}
 use Rattle.oak_machine.specs.declared.event.Event.TheVariants as event
-use Rattle.oak_machine.specs.History.{Past}
+use Rattle.oak_machine.specs.History.{Begin, Past, begin_tree}
 
 abbrev pub is_commit_of : Revision → Event → Bool
 is_commit_of r (event.Commit q) = is_same r q
@@ -74,9 +74,13 @@ committed_edits [] = []
 committed_edits (event.Commit r ∷ past) = with_commit past (committed_edits past) r
 committed_edits (_ ∷ past) = committed_edits past
 
--- the tree that v sees: the initial one, with the committed edits that v sees applied in ascending order
-abbrev pub tree_at : Past → RevVec → Nodes
-tree_at past v = fold (λ t e. applied t e.1) initial_tree (filter (λ e. sees v e.0) (committed_edits past))
+-- a tree with some edits applied, each with its revision
+abbrev pub applied_all : Nodes → List (Revision × List Write) → Nodes
+applied_all tree edits = fold (λ t e. applied (Some e.0) t e.1) tree edits
+
+-- the tree that v sees: that of the beginning, with the committed edits that v sees applied in ascending order
+abbrev pub tree_at : Begin → Past → RevVec → Nodes
+tree_at begin past v = applied_all (begin_tree begin) (filter (λ e. sees v e.0) (committed_edits past))
 
 -- each drawn revision that v sees has ended
 abbrev pub IsSettled : Past → RevVec → Type 0

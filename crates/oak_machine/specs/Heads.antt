@@ -1,13 +1,13 @@
 -- The heads of the cluster nodes.
 use Rattle.std.specs.Prelude.{ℕ, ◌+◌, Bool, cond, ◌==◌, max, List, [], ◌∷◌, Option, None, Some}
 use Rattle.std.specs.Option.{option_map_or}
-use Rattle.std.specs.List.{filter, fold, list_all}
+use Rattle.std.specs.List.{filter, fold, list_all, list_any}
 use Rattle.jr_rev.specs.declared.revision.Revision.{Revision}
 use Rattle.jr_rev.specs.declared.vector.RevVec.{RevVec}
 use Rattle.jr_rev.specs.Revisions.{is_before}
-use Rattle.jr_rev.specs.Vectors.{entry, with_entry, start, start_of}
+use Rattle.jr_rev.specs.Vectors.{entry, with_entry}
 use Rattle.oak_machine.specs.declared.event.Event.TheVariants as event
-use Rattle.oak_machine.specs.History.{Past}
+use Rattle.oak_machine.specs.History.{Begin, Past, begin_at, begin_of}
 use Rattle.oak_machine.specs.Commits.{is_in_flight}
 
 -- the revisions that cluster node k has drawn
@@ -19,18 +19,22 @@ draws_by (_ ∷ past) k = draws_by past k
 abbrev pub greater_of : Revision → Revision → Revision
 greater_of a b = cond (is_before a b) b a
 
--- the greatest of some revisions, or the start of cluster node k
-abbrev pub greatest : ℕ → List Revision → Revision
-greatest k rs = fold greater_of (start_of k) rs
+-- the greatest of a first revision and some others
+abbrev pub greatest : Revision → List Revision → Revision
+greatest first rs = fold greater_of first rs
 
--- the greatest of some revisions, where there is one
-abbrev pub greatest_of : ℕ → List Revision → Option Revision
-greatest_of k [] = None
-greatest_of k (r ∷ rs) = Some (greatest k (r ∷ rs))
+-- the same, where there are others
+abbrev pub greatest_of : Revision → List Revision → Option Revision
+greatest_of first [] = None
+greatest_of first (r ∷ rs) = Some (greatest first (r ∷ rs))
 
 -- the revisions of cluster node k that are in flight
 abbrev pub flying : Past → ℕ → List Revision
 flying past k = filter (is_in_flight past) (draws_by past k)
+
+-- some revision of cluster node k is in flight
+abbrev pub is_flying : Past → ℕ → Bool
+is_flying past k = list_any (is_in_flight past) (draws_by past k)
 
 -- r is below every revision of cluster node k that is in flight
 abbrev pub is_below_flying : Past → ℕ → Revision → Bool
@@ -40,13 +44,13 @@ is_below_flying past k r = list_all (is_before r) (flying past k)
 abbrev pub below_flying : Past → ℕ → List Revision
 below_flying past k = filter (is_below_flying past k) (draws_by past k)
 
--- the greatest of them, or the start of cluster node k
-abbrev pub local : Past → ℕ → Revision
-local past k = greatest k (below_flying past k)
+-- the greatest of them, or what cluster node k begins from
+abbrev pub local : Begin → Past → ℕ → Revision
+local begin past k = greatest (begin_of begin k) (below_flying past k)
 
 -- the greatest of them, where there is one
-abbrev pub local_head : Past → ℕ → Option Revision
-local_head past k = greatest_of k (below_flying past k)
+abbrev pub local_head : Begin → Past → ℕ → Option Revision
+local_head begin past k = greatest_of (begin_of begin k) (below_flying past k)
 
 -- what cluster node k has published
 abbrev pub outs_of : Past → ℕ → List Revision
@@ -54,18 +58,19 @@ outs_of [] k = []
 outs_of (event.Out m r ∷ past) k = cond (m == k) (r ∷ outs_of past k) (outs_of past k)
 outs_of (_ ∷ past) k = outs_of past k
 
-abbrev pub published : Past → ℕ → Revision
-published past k = greatest k (outs_of past k)
+-- the greatest of it, or what cluster node k begins from
+abbrev pub published : Begin → Past → ℕ → Revision
+published begin past k = greatest (begin_of begin k) (outs_of past k)
 
--- what cluster node k has learned last
-abbrev pub last_in : ℕ → Past → ℕ → RevVec
-last_in clusters [] k = start clusters
-last_in clusters (event.In m v ∷ past) k = cond (m == k) v (last_in clusters past k)
-last_in clusters (_ ∷ past) k = last_in clusters past k
+-- what cluster node k has learned last, or the vector at the beginning
+abbrev pub last_in : ℕ → Begin → Past → ℕ → RevVec
+last_in clusters begin [] k = begin_at clusters begin
+last_in clusters begin (event.In m v ∷ past) k = cond (m == k) v (last_in clusters begin past k)
+last_in clusters begin (_ ∷ past) k = last_in clusters begin past k
 
 -- the head of cluster node k: its local revision, and for the others what it has learned last
-abbrev pub head_of : ℕ → Past → ℕ → RevVec
-head_of clusters past k = with_entry (last_in clusters past k) (local past k)
+abbrev pub head_of : ℕ → Begin → Past → ℕ → RevVec
+head_of clusters begin past k = with_entry (last_in clusters begin past k) (local begin past k)
 
 -- the greatest time in a vector
 abbrev pub greatest_time : RevVec → ℕ
@@ -78,5 +83,5 @@ last_draw_time (event.Draw d ∷ past) k = cond (d.revision.cluster == k) d.revi
 last_draw_time (_ ∷ past) k = last_draw_time past k
 
 -- the revision that cluster node k draws next
-abbrev pub next_draw : ℕ → Past → ℕ → Revision
-next_draw clusters past k = record { time = max (greatest_time (head_of clusters past k)) (last_draw_time past k) + 1; counter = 0; cluster = k }
+abbrev pub next_draw : ℕ → Begin → Past → ℕ → Revision
+next_draw clusters begin past k = record { time = max (greatest_time (head_of clusters begin past k)) (last_draw_time past k) + 1; counter = 0; cluster = k }

@@ -72,4 +72,4 @@ AreOfWrites t edit marks = filter is_of_item marks ≡ filter is_of_item (marks_
 
 -- an edit that may start is proper on the tree at the base of its session, with the marks of its writes
 abbrev pub StartsProper : Starts → Type 0
-StartsProper starts = (h : History) (s : ℕ) (edit : Edit) (marks : List MarkAt) (v : RevVec) → HasBase h s v → starts h s edit marks → IsProper (tree_at h.past v) edit.writes × AreOfWrites (tree_at h.past v) edit marks
+StartsProper starts = (h : History) (s : ℕ) (edit : Edit) (marks : List MarkAt) (v : RevVec) → HasBase h s v → starts h s edit marks → IsProper (tree_at h.begin h.past v) edit.writes × AreOfWrites (tree_at h.begin h.past v) edit marks

@@ -17,37 +17,45 @@ use Rattle.oak_doc.specs.Updates.{raised}
 use Rattle.oak_machine.specs.declared.event.Draw.{Draw}
 use Rattle.oak_machine.specs.declared.event.Event.{Event}
 use Rattle.oak_machine.specs.declared.event.Event.TheVariants as event
-use Rattle.oak_machine.specs.History.{History, Past}
+use Rattle.oak_machine.specs.History.{Begin, History, Past, IsBegun}
 use Rattle.oak_machine.specs.Commits.{is_drawn, is_committed, is_refused, is_in_flight, is_in_base, marks_of, are_clashing}
-use Rattle.oak_machine.specs.Heads.{head_of, local, published, next_draw}
-use Rattle.oak_machine.specs.Sessions.{base_of, has_login, has_left, has_reader, is_attached, is_drawing, kept_checkpoint, next_index, since}
+use Rattle.oak_machine.specs.Heads.{head_of, is_flying, local, published, next_draw}
+use Rattle.oak_machine.specs.Sessions.{base_of, has_login, has_left, has_reader, is_attached, is_drawing, is_recovered, is_stopped, is_stopped_under, kept_checkpoint, next_index, since}
 use Rattle.oak_machine.specs.Laws.{Starts, Says, AreOthers, after}
 
 -- v is the head of the cluster node of s
 abbrev pub IsHeadFor : History → ℕ → RevVec → Type 0
-IsHeadFor h s v = (k : ℕ) × (slice_get h.sessions s ≡ Some k) × (v ≡ head_of h.clusters h.past k)
+IsHeadFor h s v = (k : ℕ) × (slice_get h.sessions s ≡ Some k) × (v ≡ head_of h.clusters h.begin h.past k)
+
+-- the cluster node of s wasn't stopped
+abbrev pub IsRunning : History → ℕ → Type 0
+IsRunning h s = IsFalse (is_stopped_under h.sessions h.past s)
 
 pub record MayLogin (h : History) (s : ℕ) (v : RevVec) : Type 0 where
+  pub running : IsRunning h s
   pub first : IsFalse (has_login h.past s)
   pub head : IsHeadFor h s v
 
 pub record MayRefresh (h : History) (s : ℕ) (v : RevVec) : Type 0 where
+  pub running : IsRunning h s
   pub login : IsTrue (has_login h.past s)
   pub idle : IsFalse (is_drawing h.past s)
   pub head : IsHeadFor h s v
 
--- the next revision of the cluster node of an idle session, at its base, with an edit that the law lets start
+-- the next revision of the cluster node of an idle session, which wasn't stopped, at its base, with an edit that the law lets start
 pub record MayDraw (starts : Starts) (h : History) (d : Draw) : Type 0 where
+  pub running : IsRunning h d.session
   pub login : IsTrue (has_login h.past d.session)
   pub detached : IsFalse (is_attached h.past d.session)
   pub idle : IsFalse (is_drawing h.past d.session)
   pub base : base_of h.past d.session ≡ Some d.base
   pub cluster : slice_get h.sessions d.session ≡ Some d.revision.cluster
-  pub next : d.revision ≡ next_draw h.clusters h.past d.revision.cluster
+  pub next : d.revision ≡ next_draw h.clusters h.begin h.past d.revision.cluster
   pub lawful : starts h d.session d.edit d.marks
 
--- in flight, neither committed nor refused
+-- in flight, neither committed nor refused, and of a cluster node that wasn't stopped
 pub record IsOpen (past : Past) (r : Revision) : Type 0 where
+  pub running : IsFalse (is_stopped past r.cluster)
   pub in_flight : IsTrue (is_in_flight past r)
   pub not_committed : IsFalse (is_committed past r)
   pub not_refused : IsFalse (is_refused past r)
@@ -70,15 +78,15 @@ pub record MayRefuse (past : Past) (r : Revision) (item : Item) (o : Revision) :
   pub live : IsTrue (was_live_beside past r o)
 
 -- the head of k now, with the other nodes' entries raised to what they had published earlier
-abbrev pub learned : ℕ → Past → Past → ℕ → RevVec
-learned clusters now earlier k = fold (λ v m. cond (m == k) v (raised v (published earlier m))) (head_of clusters now k) (range_with_len 1 clusters)
+abbrev pub learned : ℕ → Begin → Past → Past → ℕ → RevVec
+learned clusters begin now earlier k = fold (λ v m. cond (m == k) v (raised v (published begin earlier m))) (head_of clusters begin now k) (range_with_len 1 clusters)
 
 abbrev pub MayLearn : History → ℕ → RevVec → Type 0
-MayLearn h k v = (n : ℕ) × (v ≡ learned h.clusters h.past (drop n h.past) k)
+MayLearn h k v = (n : ℕ) × (v ≡ learned h.clusters h.begin h.past (drop n h.past) k)
 
--- m is at most each head and each checkpoint that is kept, and t at most m
+-- m is at most the head of each cluster node that wasn't recovered and each checkpoint that is kept, and t at most m
 pub record MayBound (h : History) (m t : RevVec) : Type 0 where
-  pub heads : (k : ℕ) → 1 ≤ k → k ≤ h.clusters → IsTrue (is_below m (head_of h.clusters h.past k))
+  pub heads : (k : ℕ) → 1 ≤ k → k ≤ h.clusters → IsFalse (is_recovered h.past k) → IsTrue (is_below m (head_of h.clusters h.begin h.past k))
   pub checkpoints : (id : Text) (v : RevVec) → kept_checkpoint h.past id ≡ Some v → IsTrue (is_below m v)
   pub sweep : IsTrue (is_below t m)
 
@@ -108,19 +116,21 @@ MayFollow starts says h (event.Draw d) = MayDraw starts h d
 MayFollow starts says h (event.Commit r) = MayCommit h.past r
 MayFollow starts says h (event.Refuse r item o) = MayRefuse h.past r item o
 MayFollow starts says h (event.End r) = IsTrue (is_in_flight h.past r)
-MayFollow starts says h (event.Head k v) = v ≡ head_of h.clusters h.past k
-MayFollow starts says h (event.Out k r) = (r.cluster ≡ k) × IsTrue (is_at_most r (local h.past k))
-MayFollow starts says h (event.In k v) = MayLearn h k v
-MayFollow starts says h (event.Sweep k r) = (r.cluster ≡ k) × IsTrue (is_at_most r (published h.past k))
+MayFollow starts says h (event.Head k v) = IsFalse (is_stopped h.past k) × (v ≡ head_of h.clusters h.begin h.past k)
+MayFollow starts says h (event.Out k r) = (r.cluster ≡ k) × IsTrue (is_at_most r (local h.begin h.past k))
+MayFollow starts says h (event.In k v) = IsFalse (is_stopped h.past k) × MayLearn h k v
+MayFollow starts says h (event.Sweep k r) = (r.cluster ≡ k) × IsTrue (is_at_most r (published h.begin h.past k))
 MayFollow starts says h (event.Bound m t) = MayBound h m t
-MayFollow starts says h (event.Checkpoint id v) = (s : ℕ) × (base_of h.past s ≡ Some v) × IsFalse (is_attached h.past s)
-MayFollow starts says h (event.Attach s id) = IsSome (kept_checkpoint h.past id) × IsFalse (is_attached h.past s)
+MayFollow starts says h (event.Checkpoint id v) = (s : ℕ) × (base_of h.past s ≡ Some v) × IsFalse (is_attached h.past s) × IsRunning h s
+MayFollow starts says h (event.Attach s id) = IsSome (kept_checkpoint h.past id) × IsFalse (is_attached h.past s) × IsRunning h s
 MayFollow starts says h (event.Detach s) = IsFalse (is_attached h.past s) × IsTrue (has_reader h.past s)
 MayFollow starts says h (event.Release id) = IsSome (kept_checkpoint h.past id)
 MayFollow starts says h (event.Split s path e) = IsTrue (has_login h.past s) × IsTrue (is_split_end e)
 MayFollow starts says h (event.Collected s c) = MayCollect h.past s c
 MayFollow starts says h (event.Went s kind) = IsTrue (has_login h.past s) × IsFalse (has_left h.past s)
 MayFollow starts says h (event.Said s i text) = (i ≡ next_index h.past s) × says h s i text
+MayFollow starts says h (event.Stop k) = IsFalse (is_stopped h.past k)
+MayFollow starts says h (event.Recover k) = IsTrue (is_stopped h.past k) × IsFalse (is_flying h.past k)
 
 -- a law that lets everything start, and everything be said
 abbrev pub any_start : Starts
@@ -135,13 +145,13 @@ IsLawful starts says h (event.Draw d) = starts h d.session d.edit d.marks
 IsLawful starts says h (event.Said s i text) = says h s i text
 IsLawful starts says h _ = Unit {0}
 
-abbrev pub IsRunOf : Starts → Says → ℕ → List ℕ → Past → Type 0
-IsRunOf starts says clusters sessions [] = Unit {0}
-IsRunOf starts says clusters sessions (e ∷ past) = MayFollow starts says (record { clusters = clusters; sessions = sessions; past = past }) e × IsRunOf starts says clusters sessions past
+abbrev pub IsRunOf : Starts → Says → ℕ → List ℕ → Begin → Past → Type 0
+IsRunOf starts says clusters sessions begin [] = IsBegun clusters begin
+IsRunOf starts says clusters sessions begin (e ∷ past) = MayFollow starts says (record { clusters = clusters; sessions = sessions; begin = begin; past = past }) e × IsRunOf starts says clusters sessions begin past
 
--- each event may follow the events before it
+-- it begins properly, and each event may follow the events before it
 abbrev pub IsRun : Starts → Says → History → Type 0
-IsRun starts says h = IsRunOf starts says h.clusters h.sessions h.past
+IsRun starts says h = IsRunOf starts says h.clusters h.sessions h.begin h.past
 
 -- one of the cluster nodes
 abbrev pub IsNode : ℕ → ℕ → Type 0
@@ -159,6 +169,8 @@ IsOfNode clusters (event.Head k v) = IsNode clusters k
 IsOfNode clusters (event.Out k r) = IsNode clusters k
 IsOfNode clusters (event.In k v) = IsNode clusters k
 IsOfNode clusters (event.Sweep k r) = IsNode clusters k
+IsOfNode clusters (event.Stop k) = IsNode clusters k
+IsOfNode clusters (event.Recover k) = IsNode clusters k
 IsOfNode clusters _ = Unit {0}
 
 -- the machine without the law lets the event follow a history of one to eight cluster nodes, of which it is

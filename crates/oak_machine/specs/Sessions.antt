@@ -1,7 +1,8 @@
 -- What a journal says of a session.
-use Rattle.std.specs.Prelude.{ℕ, Bool, true, false, cond, not, ◌&&◌, ◌||◌, ◌==◌, [], ◌∷◌, Option, None, Some}
+use Rattle.std.specs.Prelude.{ℕ, Bool, true, false, cond, not, ◌&&◌, ◌||◌, ◌==◌, List, [], ◌∷◌, Option, None, Some, slice_get}
 use Rattle.std.specs.Ordering.{eq_by_cmp}
 use Rattle.std.specs.List.{count_by, list_any}
+use Rattle.std.specs.Option.{option_map_or}
 use Rattle.jr_path.specs.Names.{name_cmp}
 use Rattle.jr_path.specs.declared.text.Text.{Text}
 use Rattle.jr_rev.specs.declared.revision.Revision.{Revision}
@@ -73,6 +74,26 @@ is_drawing_among now (_ ∷ past) s = is_drawing_among now past s
 
 abbrev pub is_drawing : Past → ℕ → Bool
 is_drawing past s = is_drawing_among past past s
+
+abbrev pub is_stop_of : ℕ → Event → Bool
+is_stop_of k (event.Stop m) = m == k
+is_stop_of k _ = false
+
+-- cluster node k was stopped
+abbrev pub is_stopped : Past → ℕ → Bool
+is_stopped past k = list_any (is_stop_of k) past
+
+abbrev pub is_recovery_of : ℕ → Event → Bool
+is_recovery_of k (event.Recover m) = m == k
+is_recovery_of k _ = false
+
+-- and was recovered
+abbrev pub is_recovered : Past → ℕ → Bool
+is_recovered past k = list_any (is_recovery_of k) past
+
+-- the cluster node of s was stopped
+abbrev pub is_stopped_under : List ℕ → Past → ℕ → Bool
+is_stopped_under sessions past s = option_map_or (is_stopped past) (slice_get sessions s) false
 
 abbrev pub is_reply_of : ℕ → Event → Bool
 is_reply_of s (event.Said t i text) = t == s

@@ -1,5 +1,5 @@
 -- Which events the counted steps append. Reading steps append none.
-use Rattle.std.specs.Prelude.{ℕ, Bool, true, false, cond, not, ◌&&◌, ◌==◌, List, [], ◌∷◌, slice_get}
+use Rattle.std.specs.Prelude.{ℕ, Bool, true, false, cond, not, ◌&&◌, ◌==◌, List, [], ◌∷◌, reverse, slice_get}
 use Rattle.std.specs.Option.{option_map_or}
 use Rattle.std.specs.List.{list_any}
 use Rattle.jr_rev.specs.declared.revision.Revision.{Revision}
@@ -9,7 +9,8 @@ use Rattle.oak_machine.specs.declared.event.StepKind.TheVariants as kind
 use Rattle.oak_machine.specs.declared.event.Event.{Event}
 use Rattle.oak_machine.specs.declared.event.Event.TheVariants as event
 use Rattle.oak_machine.specs.History.{History}
-use Rattle.oak_machine.specs.Heads.{local}
+use Rattle.oak_machine.specs.Heads.{flying, local}
+use Rattle.oak_machine.specs.Sessions.{is_stopped}
 use Rattle.oak_machine.specs.Laws.{is_revision_of}
 
 -- s is a session of cluster node k
@@ -18,7 +19,7 @@ is_on h s k = option_map_or (λ m. m == k) (slice_get h.sessions s) false
 
 -- the end of r moves the head of its cluster node
 abbrev pub is_moving : History → Revision → Bool
-is_moving h r = not (is_same (local (event.End r ∷ h.past) r.cluster) (local h.past r.cluster))
+is_moving h r = not (is_same (local h.begin (event.End r ∷ h.past) r.cluster) (local h.begin h.past r.cluster))
 
 -- the steps of which a Went may be all that is appended: of the other kinds each step has an event of its own
 abbrev pub leaves_went : StepKind → Bool
@@ -29,6 +30,16 @@ leaves_went kind.Last = false
 leaves_went kind.Finish = false
 leaves_went kind.Say = false
 leaves_went _ = true
+
+-- the memory's step of a recovery of cluster node k: the ends of some revisions, and then Recover
+abbrev pub is_recovery : List Revision → ℕ → List Event → Bool
+is_recovery [] k (event.Recover m ∷ []) = m == k
+is_recovery (r ∷ rs) k (event.End q ∷ events) = is_same r q && is_recovery rs k events
+is_recovery rs k events = false
+
+-- these are all of it that are in flight, in the order in which they were drawn
+abbrev pub is_recovery_at : History → ℕ → List Event → Bool
+is_recovery_at h k events = is_stopped h.past k && is_recovery (reverse (flying h.past k)) k events
 
 -- the kinds, where the test holds
 abbrev pub where_test : Bool → List StepKind → List StepKind
@@ -43,6 +54,10 @@ kinds_for h s (event.Refuse r item o ∷ []) = where_test (is_revision_of h.past
 kinds_for h s (event.Commit r ∷ []) = where_test (is_revision_of h.past s r) (kind.Last ∷ [])
 kinds_for h s (event.End r ∷ []) = where_test (is_revision_of h.past s r && not (is_moving h r)) (kind.Finish ∷ [])
 kinds_for h s (event.End r ∷ event.Head k v ∷ []) = where_test (is_revision_of h.past s r && is_moving h r && r.cluster == k) (kind.Finish ∷ [])
+kinds_for h s (event.End r ∷ e ∷ events) = where_test (is_recovery_at h r.cluster (event.End r ∷ e ∷ events)) (kind.Recover ∷ [])
+kinds_for h s (event.Recover k ∷ []) = where_test (is_recovery_at h k (event.Recover k ∷ [])) (kind.Recover ∷ [])
+kinds_for h s (event.Stop k ∷ []) = where_test (not (is_on h s k)) (kind.Stop ∷ [])
+kinds_for h s (event.Out k r ∷ event.Sweep m q ∷ []) = where_test (is_stopped h.past k && m == k && is_same r q) (kind.Back ∷ [])
 kinds_for h s (event.Out k r ∷ []) = where_test (is_on h s k) (kind.Back ∷ [])
 kinds_for h s (event.In k v ∷ []) = where_test (is_on h s k) (kind.Learn ∷ [])
 kinds_for h s (event.Sweep k r ∷ []) = where_test (is_on h s k) (kind.Sweep ∷ [])
@@ -77,6 +92,8 @@ kind_number kind.Collect = 14
 kind_number kind.Settings = 15
 kind_number kind.Say = 16
 kind_number kind.End = 17
+kind_number kind.Stop = 18
+kind_number kind.Recover = 19
 
 abbrev pub is_kind : StepKind → StepKind → Bool
 is_kind a b = kind_number a == kind_number b

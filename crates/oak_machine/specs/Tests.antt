@@ -13,7 +13,7 @@ use Rattle.oak_machine.specs.declared.event.Event.{Event}
 use Rattle.oak_machine.specs.declared.event.Event.TheVariants as event
 use Rattle.oak_machine.specs.History.{Past}
 use Rattle.oak_machine.specs.Commits.{is_in_base, are_clashing}
-use Rattle.oak_machine.specs.Sessions.{base_of, is_attached, kept_checkpoint}
+use Rattle.oak_machine.specs.Sessions.{base_of, is_attached, is_stopped_under, kept_checkpoint}
 
 -- no revision committed among some events, which the base of r doesn't see, clashes with r
 abbrev pub is_apart_among : Past → Revision → Past → Bool
@@ -38,12 +38,12 @@ based_by (event.Refresh s v) = Some s
 based_by (event.Attach s id) = Some s
 based_by _ = None
 
--- v is the base of the session, which isn't attached
-abbrev pub IsFreeBase : Past → RevVec → Option ℕ → Type 0
-IsFreeBase now v None = ⊥
-IsFreeBase now v (Some s) = (base_of now s ≡ Some v) × IsFalse (is_attached now s)
+-- v is the base of the session, which isn't attached, and whose cluster node wasn't stopped
+abbrev pub IsFreeBase : List ℕ → Past → RevVec → Option ℕ → Type 0
+IsFreeBase sessions now v None = ⊥
+IsFreeBase sessions now v (Some s) = (base_of now s ≡ Some v) × IsFalse (is_attached now s) × IsFalse (is_stopped_under sessions now s)
 
 -- and the session is one that got a base among some events
-abbrev pub IsFreeBaseAmong : Past → RevVec → Past → Type 0
-IsFreeBaseAmong now v [] = ⊥
-IsFreeBaseAmong now v (e ∷ past) = IsFreeBase now v (based_by e) ⊎ IsFreeBaseAmong now v past
+abbrev pub IsFreeBaseAmong : List ℕ → Past → RevVec → Past → Type 0
+IsFreeBaseAmong sessions now v [] = ⊥
+IsFreeBaseAmong sessions now v (e ∷ past) = IsFreeBase sessions now v (based_by e) ⊎ IsFreeBaseAmong sessions now v past

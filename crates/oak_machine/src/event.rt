@@ -2,7 +2,7 @@
 use crate::Events;
 use jr_path::{Item, List, Path, Text};
 use jr_rev::{RevVec, Revision};
-use jr_tree::Edit;
+use jr_tree::{Edit, Tree};
 use oak_clash::MarkAt;
 use oak_doc::{Collected, SplitEnd};
 
@@ -46,6 +46,10 @@ pub enum StepKind {
     Say,
     /// A session ends.
     End,
+    /// A cluster node is stopped.
+    Stop,
+    /// A stopped cluster node is recovered: a document is read, or its memory or the settings changed.
+    Recover,
 }
 
 /// A commit draws its revision: its session, the base on which its edit was made, the edit and its marks.
@@ -100,12 +104,26 @@ pub enum Event {
     Went(u32, StepKind),
     /// A session's reply to its command of that index.
     Said(u32, u32, Text),
+    /// A cluster node is stopped, and takes no further part.
+    Stop(u32),
+    /// A stopped cluster node is recovered: nothing of it is in flight any more.
+    Recover(u32),
 }
 
-/// The events in their order, with the number of cluster nodes and the cluster node of each session.
+/// What a journal begins with that doesn't begin before any commit: the tree, and the vector that each
+/// head has then.
+#[derive(Drop)]
+pub struct Start {
+    pub tree: Tree,
+    pub at: RevVec,
+}
+
+/// The events in their order, with the number of cluster nodes, the cluster node of each session, and the
+/// start: None means the initial tree, and that each head has the start of each cluster node.
 #[derive(Drop)]
 pub struct Journal {
     pub clusters: u32,
     pub sessions: List<u32>,
     pub events: Events,
+    pub start: Option<Start>,
 }

@@ -1,5 +1,5 @@
 -- What a session is told of a world: the history so far and what is being done for the session, and what a step makes of these.
-use Rattle.std.specs.Prelude.{◌≡◌, ◌⊎◌, ◌≤◌, ◌<◌, ℕ, Bool, true, false, ⊤, List, [], ◌∷◌, ◌++◌, length, reverse, Option, None, Some, IfSome, IsTrue, IsFalse}
+use Rattle.std.specs.Prelude.{◌≡◌, ◌↔◌, ◌⊎◌, ◌≤◌, ◌<◌, ℕ, Bool, true, false, ⊤, List, [], ◌∷◌, ◌++◌, length, reverse, slice_get, Option, None, Some, IfSome, IsTrue, IsFalse}
 use Rattle.std.specs.Borrow.{GName}
 use Rattle.std.specs.Option.{option_map_or}
 use Rattle.jr_path.specs.declared.path.Item.{Item}
@@ -7,22 +7,22 @@ use Rattle.jr_path.specs.declared.path.Path.{Path}
 use Rattle.jr_path.specs.declared.text.Text.{Text}
 use Rattle.jr_rev.specs.declared.revision.Revision.{Revision}
 use Rattle.jr_rev.specs.declared.vector.RevVec.{RevVec}
-use Rattle.jr_rev.specs.Revisions.{is_before}
+use Rattle.jr_rev.specs.Revisions.{is_at_most, is_before}
 use Rattle.jr_rev.specs.Vectors.{sees}
 use Rattle.jr_tree.specs.declared.edit.Edit.{Edit}
-use Rattle.jr_tree.specs.Trees.{Nodes, children_of, initial_tree, node_at}
+use Rattle.jr_tree.specs.Trees.{Nodes, dated_children_of, node_at}
 use Rattle.oak_clash.specs.declared.mark.MarkAt.{MarkAt}
 use Rattle.oak_machine.specs.declared.event.Draw.{Draw}
 use Rattle.oak_machine.specs.declared.event.Event.{Event}
 use Rattle.oak_machine.specs.declared.event.Event.TheVariants as event
 use Rattle.oak_machine.specs.declared.event.StepKind.{StepKind}
 use Rattle.oak_machine.specs.declared.event.StepKind.TheVariants as kind
-use Rattle.oak_machine.specs.History.{History, Past}
+use Rattle.oak_machine.specs.History.{Begin, History, Past, begin_tree}
 use Rattle.oak_machine.specs.Commits.{is_in_flight, tree_at}
-use Rattle.oak_machine.specs.Heads.{head_of}
+use Rattle.oak_machine.specs.Heads.{head_of, local, published}
 use Rattle.oak_machine.specs.Laws.{AreOthers, Says, Starts, after}
-use Rattle.oak_machine.specs.Runs.{AreNodes, IsRun}
-use Rattle.oak_machine.specs.Sessions.{base_of, has_left, has_login, is_attached, next_index}
+use Rattle.oak_machine.specs.Runs.{AreNodes, IsNode, IsRun}
+use Rattle.oak_machine.specs.Sessions.{base_of, has_left, has_login, is_attached, kept_checkpoint, next_index}
 use Rattle.oak_machine.specs.Steps.{is_appended_by, is_kind}
 use Rattle.oak_commit.specs.declared.outcome.CommitEnd.{CommitEnd}
 use Rattle.oak_commit.specs.declared.outcome.CommitEnd.TheVariants as commit
@@ -34,7 +34,8 @@ use Rattle.oak_port.specs.declared.task.TaskEnd.TheVariants as end
 
 -- ---- what is being done for a session
 
--- nothing; a task; or a commit that has drawn its revision: it writes, or it undoes and will end so, or it is committed, or it has ended and its base doesn't see it yet
+-- nothing; a task; a commit that has drawn its revision: it writes, or it undoes and will end so, or it is committed, or it has ended and its base doesn't see it yet;
+-- a background write that has taken its notes, and will publish this revision; or a background read that has read this of the root
 pub data Work : Type 0 where
   Idle : Work
   Starting : Task → Work
@@ -42,6 +43,8 @@ pub data Work : Type 0 where
   Undoing : Revision → CommitEnd → Work
   Deciding : Revision → Work
   Awaiting : Revision → Work
+  Publishing : Revision → Work
+  Learning : RevVec → Work
 
 -- what is being done for a session, how many bytes of its next reply have a place, where that has one, and the kind of its next step
 pub record Seat : Type 0 where
@@ -85,8 +88,8 @@ pub record Waits (starts : Starts) (says : Says) (old new : Shown) (work : Work)
 -- ---- what a step makes
 
 -- the tree at the base of a session
-abbrev pub tree_of : Past → ℕ → Nodes
-tree_of past s = option_map_or (tree_at past) (base_of past s) initial_tree
+abbrev pub tree_of : Begin → Past → ℕ → Nodes
+tree_of begin past s = option_map_or (tree_at begin past) (base_of past s) (begin_tree begin)
 
 -- the events of the end of a revision: that it ended, and that the head moved, where it did
 abbrev pub IsFinish : Revision → Past → Type 0
@@ -112,24 +115,42 @@ pub record HoldsBack (past : Past) (q r : Revision) : Type 0 where
   pub earlier : IsTrue (is_before q r)
   pub flying : IsTrue (is_in_flight past q)
 
+-- the vector sees exactly what the cluster nodes have published
+abbrev pub IsPublic : History → RevVec → Type 0
+IsPublic h v = (r : Revision) → IsTrue (sees v r) ↔ (IsNode h.clusters r.cluster × IsTrue (is_at_most r (published h.begin h.past r.cluster)))
+
+-- the session is of cluster node k
+abbrev pub IsOn : History → ℕ → ℕ → Type 0
+IsOn h s k = slice_get h.sessions s ≡ Some k
+
 -- a step of a session at a history, by what is being done and what it answers: the events that it adds, the newest first, and what is being done then. Memory is refused without effect
 abbrev pub Makes : History → ℕ → Work → StepOut → Past → Work → Type 0
 Makes h s (Starting task.Login) (out.Ready (end.Pinned pin)) own now = (own ≡ event.Login s pin.base ∷ []) × (now ≡ Idle)
 Makes h s (Starting task.Refresh) (out.Ready (end.Pinned pin)) own now = (own ≡ event.Refresh s pin.base ∷ []) × (now ≡ Idle)
 Makes h s (Starting task.End) (out.Ready end.Ended) own now = (own ≡ event.Went s kind.End ∷ []) × (now ≡ Idle)
 Makes h s (Starting (task.Load p)) (out.Went k) own now = (k ≡ kind.Read) × (own ≡ []) × (now ≡ Starting (task.Load p))
-Makes h s (Starting (task.Load p)) (out.Ready (end.Node found)) own now = (found ≡ node_at (tree_of h.past s) p) × (own ≡ []) × (now ≡ Idle)
+Makes h s (Starting (task.Load p)) (out.Ready (end.Node found)) own now = (found ≡ node_at (tree_of h.begin h.past s) p) × (own ≡ []) × (now ≡ Idle)
 Makes h s (Starting (task.List p)) (out.Went k) own now = (k ≡ kind.Read) × (own ≡ []) × (now ≡ Starting (task.List p))
-Makes h s (Starting (task.List p)) (out.Ready (end.Children names)) own now = (names ≡ children_of (tree_of h.past s) p) × (own ≡ []) × (now ≡ Idle)
+Makes h s (Starting (task.List p)) (out.Ready (end.Children names)) own now = (names ≡ dated_children_of (tree_of h.begin h.past s) p) × (own ≡ []) × (now ≡ Idle)
 Makes h s (Starting (task.Commit edit marks)) (out.Went k) own now = (d : Draw) × IsDrawFor s edit marks d × (k ≡ kind.Draw) × (own ≡ event.Draw d ∷ []) × (now ≡ Writing d.revision)
+Makes h s (Starting task.BackWrite) (out.Went k) own now = (m : ℕ) × IsOn h s m × (k ≡ kind.Back) × (own ≡ event.Went s kind.Back ∷ []) × (now ≡ Publishing (local h.begin h.past m))
+Makes h s (Starting task.BackRead) (out.Went k) own now = (v : RevVec) × IsPublic h v × (k ≡ kind.Back) × (own ≡ event.Went s kind.Back ∷ []) × (now ≡ Learning v)
+Makes h s (Starting (task.Checkpoint i)) (out.Ready (end.Set None)) own now = (v : RevVec) × (base_of h.past s ≡ Some v) × (own ≡ event.Checkpoint i v ∷ []) × (now ≡ Idle)
+Makes h s (Starting (task.Release i)) (out.Ready (end.Set None)) own now = (own ≡ event.Release i ∷ []) × (now ≡ Idle)
+Makes h s (Starting (task.Release i)) (out.Ready end.NoCheckpoint) own now = (kept_checkpoint h.past i ≡ None) × (own ≡ event.Went s kind.Settings ∷ []) × (now ≡ Idle)
 Makes h s (Starting t) out.Memory own now = (own ≡ []) × (now ≡ Idle)
+Makes h s (Publishing r) (out.Went k) own now = (k ≡ kind.Back) × (own ≡ event.Went s kind.Back ∷ []) × (now ≡ Publishing r)
+Makes h s (Publishing r) (out.Ready (end.Published o)) own now = (m : ℕ) × IsOn h s m × (o ≡ r) × (own ≡ event.Out m r ∷ []) × (now ≡ Idle)
+Makes h s (Publishing r) out.Memory own now = (own ≡ []) × (now ≡ Idle)
+Makes h s (Learning u) (out.Ready (end.Learnt v)) own now = (m : ℕ) × IsOn h s m × ((r : Revision) → IsTrue (sees u r) → IsTrue (sees v r)) × (own ≡ event.In m v ∷ []) × (now ≡ Idle)
+Makes h s (Learning u) out.Memory own now = (own ≡ []) × (now ≡ Idle)
 Makes h s (Writing r) (out.Went k) own now = WritesOn s r k own now
 Makes h s (Writing r) out.Memory own now = (own ≡ []) × (now ≡ Undoing r commit.Memory)
 Makes h s (Undoing r e) (out.Went k) own now = (k ≡ kind.Undo) × (own ≡ event.Went s kind.Undo ∷ []) × (now ≡ Undoing r e)
 Makes h s (Undoing r e) (out.Ready (end.Commit f)) own now = (f ≡ e) × IsFinish r own × (now ≡ Idle)
 Makes h s (Deciding r) (out.Went k) own now = (k ≡ kind.Finish) × IsFinish r own × (now ≡ Awaiting r)
-Makes h s (Awaiting r) (out.Wait q) own now = (own ≡ []) × (now ≡ Awaiting r) × IsFalse (sees (head_of h.clusters h.past r.cluster) r) × HoldsBack h.past q r
-Makes h s (Awaiting r) (out.Ready (end.Commit f)) own now = (f ≡ commit.Committed r) × IsTrue (sees (head_of h.clusters h.past r.cluster) r) × (v : RevVec) × IsTrue (sees v r) × (own ≡ event.Refresh s v ∷ []) × (now ≡ Idle)
+Makes h s (Awaiting r) (out.Wait q) own now = (own ≡ []) × (now ≡ Awaiting r) × IsFalse (sees (head_of h.clusters h.begin h.past r.cluster) r) × HoldsBack h.past q r
+Makes h s (Awaiting r) (out.Ready (end.Commit f)) own now = (f ≡ commit.Committed r) × IsTrue (sees (head_of h.clusters h.begin h.past r.cluster) r) × (v : RevVec) × IsTrue (sees v r) × (own ≡ event.Refresh s v ∷ []) × (now ≡ Idle)
 Makes h s _ _ own now = ⊥
 
 -- the kind of the step that ended a task
@@ -137,7 +158,11 @@ abbrev pub last_kind : Work → StepKind
 last_kind (Starting task.Login) = kind.Login
 last_kind (Starting task.Refresh) = kind.Pin
 last_kind (Starting task.End) = kind.End
+last_kind (Starting (task.Checkpoint i)) = kind.Settings
+last_kind (Starting (task.Release i)) = kind.Settings
 last_kind (Starting t) = kind.Read
+last_kind (Publishing r) = kind.Back
+last_kind (Learning u) = kind.Learn
 last_kind (Undoing r e) = kind.Finish
 last_kind _ = kind.Pin
 
@@ -187,6 +212,7 @@ pub record Answers (starts : Starts) (says : Says) (old new : Shown) (index : �
 abbrev pub MayBegin : Starts → History → ℕ → Task → Type 0
 MayBegin starts h s task.Login = IsFalse (has_login h.past s)
 MayBegin starts h s (task.Commit edit marks) = IsTrue (has_login h.past s) × IsFalse (has_left h.past s) × IsFalse (is_attached h.past s) × starts h s edit marks
+MayBegin starts h s (task.Checkpoint i) = IsTrue (has_login h.past s) × IsFalse (has_left h.past s) × IsFalse (is_attached h.past s)
 MayBegin starts h s task.Refresh = IsTrue (has_login h.past s) × IsFalse (has_left h.past s) × IsFalse (is_attached h.past s)
 MayBegin starts h s _ = IsTrue (has_login h.past s) × IsFalse (has_left h.past s)
 

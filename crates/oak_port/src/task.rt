@@ -1,6 +1,6 @@
 // The tasks of a session, and what their steps answer.
-use jr_path::{List, Name, Path};
-use jr_rev::{Pin, Revision};
+use jr_path::{List, Name, Path, Text};
+use jr_rev::{Pin, RevVec, Revision};
 use jr_tree::{Edit, Node};
 use oak_clash::MarkAt;
 use oak_commit::CommitEnd;
@@ -17,10 +17,19 @@ pub enum Task {
     Refresh,
     /// The node at a path is read at its base.
     Load(Path),
-    /// The names of the children of a path are read at its base.
+    /// The names of the children of a path are read at its base, with the revisions that added them.
     List(Path),
     /// An edit with its marks is committed.
     Commit(Edit, List<MarkAt>),
+    /// What the session's cluster node changed is told to the documents, and last to the root, which says then that it is
+    /// published (Oak, DocumentNodeStore: "Background operations").
+    BackWrite,
+    /// The session's cluster node learns what the root says is published.
+    BackRead,
+    /// A checkpoint of that name is made at the session's base.
+    Checkpoint(Text),
+    /// The checkpoint of that name is released.
+    Release(Text),
 }
 
 /// How a task ends.
@@ -28,11 +37,19 @@ pub enum Task {
 pub enum TaskEnd {
     /// The node that was read; None where there is none.
     Node(Option<Node>),
-    /// The names of the children, in ascending order.
-    Children(List<Name>),
+    /// The names of the children, in ascending order, each with the revision that added the child.
+    Children(List<(Name, Option<Revision>)>),
     /// The pin that the session has from a login or a refresh on.
     Pinned(Pin),
     Commit(CommitEnd),
+    /// The revision up to which the cluster node's commits are published.
+    Published(Revision),
+    /// The head of the cluster node, which has learned.
+    Learnt(RevVec),
+    /// The settings are changed; of a session that attached, with the pin of the checkpoint.
+    Set(Option<Pin>),
+    /// The settings have no checkpoint of that name.
+    NoCheckpoint,
     /// The session has left.
     Ended,
 }

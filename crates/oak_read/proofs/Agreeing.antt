@@ -15,10 +15,12 @@ use Rattle.jr_value.specs.declared.value.Property.{Property}
 use Rattle.jr_rev.specs.declared.revision.Revision.{Revision}
 use Rattle.jr_rev.specs.declared.vector.RevVec.{RevVec}
 use Rattle.jr_rev.specs.Vectors.{sees}
+use Rattle.jr_tree.specs.declared.tree.Node.{Node}
+use Rattle.jr_tree.specs.Trees.{born_of}
 use Rattle.oak_doc.specs.declared.document.Document.{Document}
 use Rattle.oak_doc.specs.declared.document.PrevEntry.{PrevEntry}
 use Rattle.oak_doc.specs.Updates.{Props, of_revision, values_of_property}
-use Rattle.oak_read.specs.Meaning.{Documents, commit_root_of, is_committed, counting, latest, value_of, documents_at, properties_in, found_node}
+use Rattle.oak_read.specs.Meaning.{Documents, commit_root_of, is_committed, counting, latest, entry_of, value_of, added_by, documents_at, properties_in, found_node}
 use Rattle.oak_read.specs.Shown.{with_previous}
 use Rattle.oak_read.specs.Wanted.{asked_roots, property_roots, roots_of, listed}
 
@@ -71,12 +73,15 @@ module _ (ds known : Documents) (t v : RevVec) where
           ∙ ap (λ (rest : List (Revision × X)). cond (sees v e.0 && is_committed ds t d e.0) (e ∷ rest) rest) (go all')
 
   -- what counts for an item, where the commit roots of its entries agree
-  value_here : {X : Type 0} (field : Document → List (Revision × X)) (all : List Document) → AllByRecursion (λ d. AllByRecursion (Agree ds known) (asked_roots t v d (keys_of (field d)))) all → value_of known t v field all ≡ value_of ds t v field all
-  value_here {X} field all agree = ap (λ es. option_map (λ e. e.1) (latest es)) (over all agree)
+  entry_here : {X : Type 0} (field : Document → List (Revision × X)) (all : List Document) → AllByRecursion (λ d. AllByRecursion (Agree ds known) (asked_roots t v d (keys_of (field d)))) all → entry_of known t v field all ≡ entry_of ds t v field all
+  entry_here {X} field all agree = ap latest (over all agree)
     where
       over : (all : List Document) → AllByRecursion (λ d. AllByRecursion (Agree ds known) (asked_roots t v d (keys_of (field d)))) all → flat_map (counting known t v field) all ≡ flat_map (counting ds t v field) all
       over [] agree = refl
       over (d ∷ all) agree = ap (λ es. es ++ flat_map (counting known t v field) all) (counting_here d (field d) agree.0) ∙ ap (λ es. counting ds t v field d ++ es) (over all agree.1)
+
+  value_here : {X : Type 0} (field : Document → List (Revision × X)) (all : List Document) → AllByRecursion (λ d. AllByRecursion (Agree ds known) (asked_roots t v d (keys_of (field d)))) all → value_of known t v field all ≡ value_of ds t v field all
+  value_here field all agree = ap (option_map (λ e. e.1)) (entry_here field all agree)
 
   -- the commit roots of one property's entries are among those of all properties
   property_agrees : (d : Document) (n : Name) (ps : Props) → AllByRecursion (Agree ds known) (property_roots t v d ps) → AllByRecursion (Agree ds known) (asked_roots t v d (keys_of (values_of_property ps n)))
@@ -114,15 +119,22 @@ module _ (ds known : Documents) (t v : RevVec) where
   there_here : (whole : Bool) (all : List Document) → AllByRecursion (Agree ds known) (flat_map (roots_of t v whole) all) → is_there known all ≡ is_there ds all
   there_here whole all agree = ap (λ o. option_map_or not o false) (value_here (λ e. e.deleted) all (deleted_agree whole all agree))
 
-  abbrev found_from : Documents → List Document → Option (List (Name × Property))
-  found_from ds' all = cond (is_there ds' all) (Some (properties_in ds' t v all)) None
+  added_here : (whole : Bool) (all : List Document) → AllByRecursion (Agree ds known) (flat_map (roots_of t v whole) all) → added_by known t v all ≡ added_by ds t v all
+  added_here whole all agree = ap (option_map (λ e. e.0)) (entry_here (λ e. e.deleted) all (deleted_agree whole all agree))
+
+  abbrev node_from : Documents → List Document → Node
+  node_from ds' all = record { props = properties_in ds' t v all; born = added_by ds' t v all }
+
+  abbrev found_from : Documents → List Document → Option Node
+  found_from ds' all = cond (is_there ds' all) (Some (node_from ds' all)) None
 
   -- a node, where its document, those that it lists and the commit roots of all entries agree
   pub found_agrees : (p : Path) (d : Document) → known (id.Node p) ≡ Some d → ds (id.Node p) ≡ Some d → AllByRecursion (Agree ds known) (listed p d) → AllByRecursion (Agree ds known) (flat_map (roots_of t v true) (with_previous known p d)) → found_node known t v p ≡ found_node ds t v p
   found_agrees p d here there previous roots =
       ap (λ o. option_and_then (λ d. found_from known (documents_at known t v p d)) o) here
-      ∙ ap (λ b. cond b (Some (properties_in known t v (with_previous known p d))) None) (there_here true (with_previous known p d) roots)
-      ∙ ap (λ ps. cond (is_there ds (with_previous known p d)) (Some ps) None) (properties_here (with_previous known p d) roots)
+      ∙ ap (λ b. cond b (Some (node_from known (with_previous known p d))) None) (there_here true (with_previous known p d) roots)
+      ∙ ap (λ (ps : List (Name × Property)). cond (is_there ds (with_previous known p d)) (Some (record { props = ps; born = added_by known t v (with_previous known p d) })) None) (properties_here (with_previous known p d) roots)
+      ∙ ap (λ (born : Option Revision). cond (is_there ds (with_previous known p d)) (Some (record { props = properties_in ds t v (with_previous known p d); born = born })) None) (added_here true (with_previous known p d) roots)
       ∙ ap (found_from ds) (previous_here ds known p d previous)
       ∙ ap (λ o. option_and_then (λ d. found_from ds (documents_at ds t v p d)) o) (sym there)
 
@@ -130,14 +142,29 @@ module _ (ds known : Documents) (t v : RevVec) where
   some_cond true x = refl
   some_cond false x = refl
 
+  some_born : (b : Bool) (node : Node) → born_of (cond b (Some node) None) ≡ cond b node.born None
+  some_born true node = refl
+  some_born false node = refl
+
+  -- who added a node, where those of the entries of `_deleted` do
+  pub birth_agrees : (p : Path) (d : Document) → known (id.Node p) ≡ Some d → ds (id.Node p) ≡ Some d → AllByRecursion (Agree ds known) (listed p d) → AllByRecursion (Agree ds known) (flat_map (roots_of t v false) (with_previous known p d)) → born_of (found_node known t v p) ≡ born_of (found_node ds t v p)
+  birth_agrees p d here there previous roots =
+      ap (λ o. born_of (option_and_then (λ d. found_from known (documents_at known t v p d)) o)) here
+      ∙ some_born (is_there known (with_previous known p d)) (node_from known (with_previous known p d))
+      ∙ ap (λ b. cond b (added_by known t v (with_previous known p d)) None) (there_here false (with_previous known p d) roots)
+      ∙ ap (λ (born : Option Revision). cond (is_there ds (with_previous known p d)) born None) (added_here false (with_previous known p d) roots)
+      ∙ ap (λ all. cond (is_there ds all) (added_by ds t v all) None) (previous_here ds known p d previous)
+      ∙ sym (some_born (is_there ds (with_previous ds p d)) (node_from ds (with_previous ds p d)))
+      ∙ ap (λ o. born_of (option_and_then (λ d. found_from ds (documents_at ds t v p d)) o)) (sym there)
+
   -- whether there is a node, where those of the entries of `_deleted` do
   pub presence_agrees : (p : Path) (d : Document) → known (id.Node p) ≡ Some d → ds (id.Node p) ≡ Some d → AllByRecursion (Agree ds known) (listed p d) → AllByRecursion (Agree ds known) (flat_map (roots_of t v false) (with_previous known p d)) → is_some (found_node known t v p) ≡ is_some (found_node ds t v p)
   presence_agrees p d here there previous roots =
       ap (λ o. is_some (option_and_then (λ d. found_from known (documents_at known t v p d)) o)) here
-      ∙ some_cond (is_there known (with_previous known p d)) (properties_in known t v (with_previous known p d))
+      ∙ some_cond (is_there known (with_previous known p d)) (node_from known (with_previous known p d))
       ∙ there_here false (with_previous known p d) roots
       ∙ ap (is_there ds) (previous_here ds known p d previous)
-      ∙ sym (some_cond (is_there ds (with_previous ds p d)) (properties_in ds t v (with_previous ds p d)))
+      ∙ sym (some_cond (is_there ds (with_previous ds p d)) (node_from ds (with_previous ds p d)))
       ∙ ap (λ o. is_some (option_and_then (λ d. found_from ds (documents_at ds t v p d)) o)) (sym there)
 
 -- where there is no document there is no node

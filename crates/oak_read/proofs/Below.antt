@@ -1,7 +1,7 @@
 -- The children that documents show: each of them, and in ascending order.
 use Rattle.std.proofs.Common.{◌≡◌, ℕ, ◌+◌, ◌-◌, ◌<◌, ◌==◌, ◌&&◌, zero, suc, Bool, true, false, cond, List, [], ◌∷◌, ◌++◌, Option, None, Some, length, take, get_or, map, refl, sym, ap, ◌∙◌, subst, arith, add-one, length-append, append-nil}
 use Rattle.std.specs.Prelude.{IsTrue, IsSome, ◌↔◌, is_some, slice_get, codes}
-use Rattle.std.specs.Option.{option_map, option_and_then}
+use Rattle.std.specs.Option.{option_map, option_and_then, unwrap_or}
 use Rattle.std.specs.declared.cmp.Ordering.{Ordering}
 use Rattle.std.specs.declared.cmp.Ordering.TheVariants.{Less, Equal, Greater}
 use Rattle.std.specs.Ordering.{eq_by_cmp, is_eq, nat_cmp, ordering_then}
@@ -28,7 +28,8 @@ use Rattle.jr_path.specs.declared.path.DocId.TheVariants as id
 use Rattle.jr_path.proofs.Maps.{path_exact, path_total}
 use Rattle.jr_path.proofs.Orders.{id_exact, tested}
 use Rattle.jr_rev.specs.declared.vector.RevVec.{RevVec}
-use Rattle.jr_tree.specs.Trees.{is_child_of}
+use Rattle.jr_rev.specs.declared.revision.Revision.{Revision}
+use Rattle.jr_tree.specs.Trees.{born_of, is_child_of}
 use Rattle.oak_doc.specs.declared.document.Document.{Document}
 use Rattle.oak_read.specs.Meaning.{Documents, documents_in, found_node, child_found, found_children}
 
@@ -82,30 +83,44 @@ own_name p n =
 
 -- ---- what is found
 
+-- the name of a child, with the revision that added it
+abbrev pub Child : Type 0
+Child = Name × Option Revision
+
+named_from : (o : Option Name) (b : Option Revision) (c : Child) → option_map (λ n. (n, b)) o ≡ Some c → (o ≡ Some c.0) × (b ≡ c.1)
+named_from None b c h = cc
+named_from (Some n) b c h = (ap (λ (o : Option Child). Some (unwrap_or o c).0) h, ap (λ (o : Option Child). (unwrap_or o c).1) h)
+
 module _ (table : List (DocId × Document)) (t v : RevVec) (p : Path) where
   abbrev ds : Documents
   ds = documents_in table
 
+  -- a node is found one name below, and this revision added it
+  abbrev pub IsChild : Child → Type 0
+  IsChild c = (is_some (found_node ds t v (p ++ c.0 ∷ [])) ≡ true) × (born_of (found_node ds t v (p ++ c.0 ∷ [])) ≡ c.1)
+
   -- what is a child is found one name below
-  pub found_below : (x : DocId) (n : Name) → child_found ds t v p x ≡ Some n → (x ≡ id.Node (p ++ n ∷ [])) × (is_some (found_node ds t v (p ++ n ∷ [])) ≡ true)
-  found_below (id.Node q) n h = by (is_child_of p q && is_some (found_node ds t v q)) refl h
+  pub found_below : (x : DocId) (c : Child) → child_found ds t v p x ≡ Some c → (x ≡ id.Node (p ++ c.0 ∷ [])) × (is_some (found_node ds t v (p ++ c.0 ∷ [])) ≡ true) × (born_of (found_node ds t v (p ++ c.0 ∷ [])) ≡ c.1)
+  found_below (id.Node q) c h = by (is_child_of p q && is_some (found_node ds t v q)) refl h
     where
-      by : (b : Bool) → (is_child_of p q && is_some (found_node ds t v q)) ≡ b → cond b (last_name q) None ≡ Some n → (id.Node q ≡ id.Node (p ++ n ∷ [])) × (is_some (found_node ds t v (p ++ n ∷ [])) ≡ true)
+      by : (b : Bool) → (is_child_of p q && is_some (found_node ds t v q)) ≡ b → cond b (option_map (λ n. (n, born_of (found_node ds t v q))) (last_name q)) None ≡ Some c
+          → (id.Node q ≡ id.Node (p ++ c.0 ∷ [])) × (is_some (found_node ds t v (p ++ c.0 ∷ [])) ≡ true) × (born_of (found_node ds t v (p ++ c.0 ∷ [])) ≡ c.1)
       by true both last =
           let parts = both_true _ _ both in
-          let path : q ≡ p ++ n ∷ [] = child_path p q n parts.0 last in
-          (ap (λ x. id.Node x) path, ap (λ x. is_some (found_node ds t v x)) (sym path) ∙ parts.1)
+          let named = named_from (last_name q) (born_of (found_node ds t v q)) c last in
+          let path : q ≡ p ++ c.0 ∷ [] = child_path p q c.0 parts.0 named.0 in
+          (ap (λ x. id.Node x) path, ap (λ x. is_some (found_node ds t v x)) (sym path) ∙ parts.1, ap (λ x. born_of (found_node ds t v x)) (sym path) ∙ named.1)
       by false both last = cc
-  found_below (id.Prev m q) n h = cc
-  found_below id.Settings n h = cc
+  found_below (id.Prev m q) c h = cc
+  found_below id.Settings c h = cc
 
-  each_found : (ids : List DocId) → AllByRecursion (λ n. is_some (found_node ds t v (p ++ n ∷ [])) ≡ true) (found_children ds t v ids p)
+  each_found : (ids : List DocId) → AllByRecursion IsChild (found_children ds t v ids p)
   each_found [] = tt
   each_found (x ∷ xs) = by (child_found ds t v p x) refl (each_found xs)
     where
-      by : (o : Option Name) → child_found ds t v p x ≡ o → AllByRecursion (λ n. is_some (found_node ds t v (p ++ n ∷ [])) ≡ true) (found_children ds t v xs p) → AllByRecursion (λ n. is_some (found_node ds t v (p ++ n ∷ [])) ≡ true) (cons_option o (found_children ds t v xs p))
+      by : (o : Option Child) → child_found ds t v p x ≡ o → AllByRecursion IsChild (found_children ds t v xs p) → AllByRecursion IsChild (cons_option o (found_children ds t v xs p))
       by None is rest = rest
-      by (Some n) is rest = ((found_below x n is).1, rest)
+      by (Some c) is rest = let below = found_below x c is in ((below.1, below.2), rest)
 
 in_filter_map : {X Y : Type 0} (h : X → Option Y) (xs : List X) (k : ℕ) (x : X) (y : Y) → slice_get xs k ≡ Some x → h x ≡ Some y → Contains (filter_map h xs) y
 in_filter_map h [] k x y at gives = cc
@@ -120,26 +135,27 @@ in_filter_map {X} {Y} h (z ∷ xs) (suc k) x y at gives = by (h z) (in_filter_ma
 
 module _ (table : List (DocId × Document)) (t v : RevVec) (p : Path) where
   -- a node that is found one name below is among the children
-  found_is_child : (n : Name) → is_some (found_node (documents_in table) t v (p ++ n ∷ [])) ≡ true → Contains (found_children (documents_in table) t v (keys_of table) p) n
-  found_is_child n found = by (documents_in table (id.Node (p ++ n ∷ []))) refl
+  found_is_child : (n : Name) (born : Option Revision) → is_some (found_node (documents_in table) t v (p ++ n ∷ [])) ≡ true → born_of (found_node (documents_in table) t v (p ++ n ∷ [])) ≡ born → Contains (found_children (documents_in table) t v (keys_of table) p) (n, born)
+  found_is_child n born found added = by (documents_in table (id.Node (p ++ n ∷ []))) refl
     where
-      gives : child_found (documents_in table) t v p (id.Node (p ++ n ∷ [])) ≡ Some n
-      gives = rw (own_child p n, found) (own_name p n)
+      gives : child_found (documents_in table) t v p (id.Node (p ++ n ∷ [])) ≡ Some (n, born)
+      gives = rw (own_child p n, found, added) (ap (option_map (λ m. (m, born))) (own_name p n))
 
-      by : (o : Option Document) → documents_in table (id.Node (p ++ n ∷ [])) ≡ o → Contains (found_children (documents_in table) t v (keys_of table) p) n
+      by : (o : Option Document) → documents_in table (id.Node (p ++ n ∷ [])) ≡ o → Contains (found_children (documents_in table) t v (keys_of table) p) (n, born)
       by None is = let none : is_some (found_node (documents_in table) t v (p ++ n ∷ [])) ≡ false = rw is refl in cc
       by (Some d) is =
           let place = place_from_lookup (is_at (id_cmp (id.Node (p ++ n ∷ [])))) table d is in
           let same : id.Node (p ++ n ∷ []) ≡ place.1 = id_exact (id.Node (p ++ n ∷ [])) place.1 (is_equal _ place.3) in
-          in_filter_map (child_found (documents_in table) t v p) (keys_of table) place.0 (id.Node (p ++ n ∷ [])) n
+          in_filter_map (child_found (documents_in table) t v p) (keys_of table) place.0 (id.Node (p ++ n ∷ [])) (n, born)
           (slice_get-map (λ e. e.0) table place.0 ∙ ap (option_map (λ e. e.0)) place.2 ∙ ap (λ x. Some x) (sym same)) gives
 
   -- the children by documents are the nodes that are found one name below
-  pub children-found : (n : Name) → Contains (found_children (documents_in table) t v (keys_of table) p) n ↔ IsTrue (is_some (found_node (documents_in table) t v (p ++ n ∷ [])))
-  children-found n = (
-    All-contains (λ n. is_some (found_node (documents_in table) t v (p ++ n ∷ [])) ≡ true) (found_children (documents_in table) t v (keys_of table) p) n
-        (All-from_recursion (λ n. is_some (found_node (documents_in table) t v (p ++ n ∷ [])) ≡ true) (found_children (documents_in table) t v (keys_of table) p) (each_found table t v p (keys_of table))),
-    found_is_child n,
+  pub children-found : (n : Name) (born : Option Revision) → Contains (found_children (documents_in table) t v (keys_of table) p) (n, born)
+      ↔ (IsTrue (is_some (found_node (documents_in table) t v (p ++ n ∷ []))) × (born_of (found_node (documents_in table) t v (p ++ n ∷ [])) ≡ born))
+  children-found n born = (
+    All-contains (IsChild table t v p) (found_children (documents_in table) t v (keys_of table) p) (n, born)
+        (All-from_recursion (IsChild table t v p) (found_children (documents_in table) t v (keys_of table) p) (each_found table t v p (keys_of table))),
+    λ both. found_is_child n born both.0 both.1,
   )
 
 -- ---- the order
@@ -183,11 +199,11 @@ module _ {K J : Type 0} (R : K → K → Ordering) (S : J → J → Ordering) (h
       by (Some a) is rest = (all_above x a is xs sorted.0, rest)
 
 -- the children by documents rise, where the documents stand in the store's order
-pub children-ascend : (table : List (DocId × Document)) (t v : RevVec) (p : Path) → IsStrictlySortedBy id_cmp (keys_of table) → IsStrictlySortedBy name_cmp (found_children (documents_in table) t v (keys_of table) p)
-children-ascend table t v p sorted = sorted-filter_map id_cmp name_cmp (child_found (documents_in table) t v p) rises (keys_of table) sorted
+pub children-ascend : (table : List (DocId × Document)) (t v : RevVec) (p : Path) → IsStrictlySortedBy id_cmp (keys_of table) → IsStrictlySortedBy (λ c d. name_cmp c.0 d.0) (found_children (documents_in table) t v (keys_of table) p)
+children-ascend table t v p sorted = sorted-filter_map id_cmp (λ c d. name_cmp c.0 d.0) (child_found (documents_in table) t v p) rises (keys_of table) sorted
   where
-    rises : (x y : DocId) (a b : Name) → child_found (documents_in table) t v p x ≡ Some a → child_found (documents_in table) t v p y ≡ Some b → id_cmp x y ≡ Less → name_cmp a b ≡ Less
+    rises : (x y : DocId) (a b : Child) → child_found (documents_in table) t v p x ≡ Some a → child_found (documents_in table) t v p y ≡ Some b → id_cmp x y ≡ Less → name_cmp a.0 b.0 ≡ Less
     rises x y a b is_a is_b less =
-        let same_x : x ≡ id.Node (p ++ a ∷ []) = (found_below table t v p x a is_a).0 in
-        let same_y : y ≡ id.Node (p ++ b ∷ []) = (found_below table t v p y b is_b).0 in
-        names_rise p a b (rw (same_x, same_y) at less)
+        let same_x : x ≡ id.Node (p ++ a.0 ∷ []) = (found_below table t v p x a is_a).0 in
+        let same_y : y ≡ id.Node (p ++ b.0 ∷ []) = (found_below table t v p y b is_b).0 in
+        names_rise p a.0 b.0 (rw (same_x, same_y) at less)

@@ -23,8 +23,9 @@ use Rattle.jr_path.specs.declared.path.DocId.{DocId}
 use Rattle.jr_path.specs.declared.path.DocId.TheVariants as id
 use Rattle.jr_path.proofs.Orders.{id_total, id_exact}
 use Rattle.jr_path.proofs.Pieces.{AllNoSlash, all_no_slash, names_from_all}
-use Rattle.jr_value.specs.declared.value.Property.{Property}
-use Rattle.jr_tree.specs.Trees.{is_child_of}
+use Rattle.jr_rev.specs.declared.revision.Revision.{Revision}
+use Rattle.jr_tree.specs.declared.tree.Node.{Node}
+use Rattle.jr_tree.specs.Trees.{born_of, is_child_of}
 use Rattle.jr_rev.specs.declared.vector.Pin.{Pin}
 use Rattle.oak_doc.specs.declared.document.Document.{Document}
 use Rattle.oak_read.specs.Meaning.{documents_in, path_of, child_found, found_node, found_children}
@@ -35,8 +36,8 @@ use Rattle.oak_read.specs.declared.reader.ReadOut.{ReadOut}
 use Rattle.oak_read.specs.declared.reader.ReadOut.TheVariants as out
 use Rattle.oak_read.specs.declared.reader.Step.{Step}
 use Rattle.oak_read.specs.declared.reader.Step.TheVariants as step
-use Rattle.oak_read.proofs.Agreeing.{found_agrees, none_found, presence_agrees}
-use Rattle.oak_read.proofs.Below.{found_below, names_rise, own_child}
+use Rattle.oak_read.proofs.Agreeing.{birth_agrees, found_agrees, none_found, presence_agrees}
+use Rattle.oak_read.proofs.Below.{Child, found_below, names_rise, own_child}
 use Rattle.oak_read.proofs.Ranges.{child_between, none_before}
 use Rattle.oak_read.proofs.Walking.{Within, IsRead, ends_after, main_end, noted_at, own_id, within_noted}
 
@@ -52,8 +53,8 @@ first_known table known x d within there = (
   subst (λ o. documents_in (with_known known x o) x ≡ Some d) there (noted_at table known within x x ∙ ap (λ b. cond b (documents_in table x) (documents_in known x)) (own_id x) ∙ there),
 )
 
-abbrev gives : Option (List (Name × Property)) → ReadOut
-gives found = out.Node (option_map (λ ps. record { props = ps }) found)
+abbrev gives : Option Node → ReadOut
+gives found = out.Node found
 
 pub reads_node : ReadsNode
 reads_node table a pin p is = by (documents_in table (id.Node p)) refl
@@ -187,30 +188,34 @@ onto None xs = refl
 onto (Some x) xs = refl
 
 module _ (table : Entries) (is : IsTable table) (a : Global) (pin : Pin) (p : Path) where
+  -- the last name of a path, with the revision that added its node
+  abbrev dated_name : Path → Option Child
+  dated_name q = option_map (λ n. (n, born_of (found_node (documents_in table) pin.sweep pin.base q))) (last_name q)
+
   -- the least id that a child can have
   abbrev least : DocId
   least = id.Node (p ++ codes "!" ∷ [])
 
-  abbrev child : DocId → Option Name
+  abbrev child : DocId → Option Child
   child = child_found (documents_in table) pin.sweep pin.base p
 
-  abbrev found : Entries → List Name
+  abbrev found : Entries → List Child
   found es = filter_map child (keys_of es)
 
   abbrev Lawful : DocId × Document → Type 0
   Lawful e = All IsName (path_of e.0)
 
-  abbrev below : (x : DocId) (n : Name) → child x ≡ Some n → (x ≡ id.Node (p ++ n ∷ [])) × (is_some (found_node (documents_in table) pin.sweep pin.base (p ++ n ∷ [])) ≡ true)
+  abbrev below : (x : DocId) (c : Child) → child x ≡ Some c → (x ≡ id.Node (p ++ c.0 ∷ [])) × (is_some (found_node (documents_in table) pin.sweep pin.base (p ++ c.0 ∷ [])) ≡ true) × (born_of (found_node (documents_in table) pin.sweep pin.base (p ++ c.0 ∷ [])) ≡ c.1)
   below = found_below table pin.sweep pin.base p
 
   -- no child stands before the least id
   none_below : (x : DocId) → All IsName (path_of x) → id_cmp x least ≡ Less → child x ≡ None
   none_below x lawful less = by (child x) refl
     where
-      by : (o : Option Name) → child x ≡ o → o ≡ None
+      by : (o : Option Child) → child x ≡ o → o ≡ None
       by None h = refl
-      by (Some n) h =
-          let same : x ≡ id.Node (p ++ n ∷ []) = (below x n h).0 in
+      by (Some (n, b)) h =
+          let same : x ≡ id.Node (p ++ n ∷ []) = (below x (n, b) h).0 in
           absurd (none_before n (last_named p n (subst (λ x. All IsName (path_of x)) same lawful)) (names_rise p n (codes "!") (subst (λ x. id_cmp x least ≡ Less) same less)))
 
   -- behind a document that is none of a child there is no child
@@ -218,10 +223,10 @@ module _ (table : Entries) (is : IsTable table) (a : Global) (pin : Pin) (p : Pa
   none_behind x above lawful other [] all less = refl
   none_behind x above lawful other (e ∷ es) all less = ap (λ o. cons_option o (found es)) (by (child e.0) refl) ∙ none_behind x above lawful other es all.1 less.1
     where
-      by : (o : Option Name) → child e.0 ≡ o → o ≡ None
+      by : (o : Option Child) → child e.0 ≡ o → o ≡ None
       by None h = refl
-      by (Some n) h =
-          let same : e.0 ≡ id.Node (p ++ n ∷ []) = (below e.0 n h).0 in
+      by (Some (n, b)) h =
+          let same : e.0 ≡ id.Node (p ++ n ∷ []) = (below e.0 (n, b) h).0 in
           let names : AllNoSlash p = front_no_slash p (n ∷ []) (all_no_slash (p ++ n ∷ []) (names_from_all (p ++ n ∷ []) (subst (λ x. All IsName (path_of x)) same all.0))) in
           let between = child_between p (codes "!") n x names (all_no_slash (path_of x) (names_from_all (path_of x) lawful)) above (subst (λ y. id_cmp x y ≡ Less) same less.0) in
           absurd (false≢true (sym (other between.0 between.1) ∙ between.2))
@@ -256,11 +261,13 @@ module _ (table : Entries) (is : IsTable table) (a : Global) (pin : Pin) (p : Pa
           ∙ rest false false (ap is_eq is') (passes_not least e.0 (λ l. let g : Less ≡ Greater = sym l ∙ is' in cc))
 
   -- a child of which all is read
-  abbrev reader : Known → List Name → Path → Step → Reader
+  abbrev reader : Known → List Child → Path → Step → Reader
   reader known names q s = record { alloc = a; pin = pin; parent = Some p; at = q; known = known; names = names; step = s }
 
   same_child : (known : Known) (q : Path) (d : Document) → is_child_of p q ≡ true → documents_in table (id.Node q) ≡ Some d → IsRead table false pin.sweep pin.base q d known → child_found (documents_in known) pin.sweep pin.base p (id.Node q) ≡ child (id.Node q)
-  same_child known q d is_child there read = ap (λ b. cond (is_child_of p q && b) (last_name q) None) (presence_agrees (documents_in table) (documents_in known) pin.sweep pin.base q d read.here there read.previous read.roots)
+  same_child known q d is_child there read =
+      ap (λ b. cond (is_child_of p q && b) (option_map (λ n. (n, born_of (found_node (documents_in known) pin.sweep pin.base q))) (last_name q)) None) (presence_agrees (documents_in table) (documents_in known) pin.sweep pin.base q d read.here there read.previous read.roots)
+      ∙ ap (λ (b : Option Revision). cond (is_child_of p q && is_some (found_node (documents_in table) pin.sweep pin.base q)) (option_map (λ n. (n, b)) (last_name q)) None) (birth_agrees (documents_in table) (documents_in known) pin.sweep pin.base q d read.here there read.previous read.roots)
 
   all_lawful : AllByRecursion Lawful table
   all_lawful = recursion_from_All Lawful table is.lawful
@@ -269,7 +276,7 @@ module _ (table : Entries) (is : IsTable table) (a : Global) (pin : Pin) (p : Pa
   all_named = recursion_from_All (λ e. e.1.id ≡ e.0) table is.named
 
   no_child_none : (x : DocId) → ((q : Path) → x ≡ id.Node q → is_child_of p q ≡ false) → child x ≡ None
-  no_child_none (id.Node q) other = ap (λ b. cond (b && is_some (found_node (documents_in table) pin.sweep pin.base q)) (last_name q) None) (other q refl)
+  no_child_none (id.Node q) other = ap (λ b. cond (b && is_some (found_node (documents_in table) pin.sweep pin.base q)) (dated_name q) None) (other q refl)
   no_child_none (id.Prev n q) other = refl
   no_child_none id.Settings other = refl
 
@@ -278,7 +285,7 @@ module _ (table : Entries) (is : IsTable table) (a : Global) (pin : Pin) (p : Pa
   after x y (inr above) less = id_total.trans least x y above less
 
   -- behind the document of a child the reader finds the children that are left
-  walk : (rest : Entries) (known : Known) (names : List Name) (q : Path) → Within table known → (id.Node q ≡ least) ⊎ (id_cmp least (id.Node q) ≡ Less) → behind (id.Node q) table ≡ rest → EndsIn table (reader known names q step.Next) (out.Children (names ++ found rest))
+  walk : (rest : Entries) (known : Known) (names : List Child) (q : Path) → Within table known → (id.Node q ≡ least) ⊎ (id_cmp least (id.Node q) ≡ Less) → behind (id.Node q) table ≡ rest → EndsIn table (reader known names q step.Next) (out.Children (names ++ found rest))
   walk [] known names q within from at =
       ends_after table (reader known names q step.Next) (out.Children (names ++ []))
       (subst (λ (es : Entries). EndsIn table (fed_next (reader known names q step.Next) (option_map (λ e. e.1) (slice_get es 0))) (out.Children (names ++ []))) (sym at)
@@ -290,7 +297,7 @@ module _ (table : Entries) (is : IsTable table) (a : Global) (pin : Pin) (p : Pa
       (by e.0 refl (λ known' names' q' within' from' at'. walk more known' names' q' within' from' at'))))
     where
       Going : Type 0
-      Going = (known' : Known) (names' : List Name) (q' : Path) → Within table known' → (id.Node q' ≡ least) ⊎ (id_cmp least (id.Node q') ≡ Less) → behind (id.Node q') table ≡ more → EndsIn table (reader known' names' q' step.Next) (out.Children (names' ++ found more))
+      Going = (known' : Known) (names' : List Child) (q' : Path) → Within table known' → (id.Node q' ≡ least) ⊎ (id_cmp least (id.Node q') ≡ Less) → behind (id.Node q') table ≡ more → EndsIn table (reader known' names' q' step.Next) (out.Children (names' ++ found more))
 
       next : IsNext (id.Node q) table e more
       next = next_is (id.Node q) table e more is.ordered at
@@ -332,8 +339,8 @@ module _ (table : Entries) (is : IsTable table) (a : Global) (pin : Pin) (p : Pa
 
   no_document_no_child : documents_in table least ≡ None → child least ≡ None
   no_document_no_child none =
-      ap (λ b. cond (b && is_some (found_node (documents_in table) pin.sweep pin.base (p ++ codes "!" ∷ []))) (last_name (p ++ codes "!" ∷ [])) None) (own_child p (codes "!"))
-      ∙ ap (λ o. cond (is_some o) (last_name (p ++ codes "!" ∷ [])) None) (none_found (documents_in table) pin.sweep pin.base (p ++ codes "!" ∷ []) none)
+      ap (λ b. cond (b && is_some (found_node (documents_in table) pin.sweep pin.base (p ++ codes "!" ∷ []))) (dated_name (p ++ codes "!" ∷ [])) None) (own_child p (codes "!"))
+      ∙ ap (λ o. cond (is_some o) (dated_name (p ++ codes "!" ∷ [])) None) (none_found (documents_in table) pin.sweep pin.base (p ++ codes "!" ∷ []) none)
 
   -- the children, by the least one and those behind it
   all_children : found_children (documents_in table) pin.sweep pin.base (keys_of table) p ≡ option_to_list (child least) ++ found (behind least table)

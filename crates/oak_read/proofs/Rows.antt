@@ -49,7 +49,7 @@ documents rooted Settings = None
 not_yet : found_node (documents root) (start 1) (with_entry (start 1) r) a ≡ None
 not_yet = refl
 
-there : found_node (documents root_after) (start 1) (with_entry (start 1) r) a ≡ Some ((p, five) ∷ [])
+there : found_node (documents root_after) (start 1) (with_entry (start 1) r) a ≡ Some (record { props = (p, five) ∷ []; born = Some r })
 there = refl
 
 not_seen : found_node (documents root_after) (start 1) (start 1) a ≡ None
@@ -59,7 +59,7 @@ not_seen = refl
 abbrev table : Document → List (DocId × Document)
 table rooted = (Node [], rooted) ∷ (Node a, document_a) ∷ []
 
-child_there : found_children (documents_in (table root_after)) (start 1) (with_entry (start 1) r) (Node [] ∷ Node a ∷ []) [] ≡ (97 ∷ []) ∷ []
+child_there : found_children (documents_in (table root_after)) (start 1) (with_entry (start 1) r) (Node [] ∷ Node a ∷ []) [] ≡ (97 ∷ [], Some r) ∷ []
 child_there = refl
 
 child_not_yet : found_children (documents_in (table root)) (start 1) (with_entry (start 1) r) (Node [] ∷ Node a ∷ []) [] ≡ []
@@ -72,5 +72,5 @@ listing = record document_a { prev = record { number = 4; high = r; low = r } �
 abbrev previous : Document
 previous = record (document_of None (Prev 4 a)) { commit_root = (r, 0) ∷ []; props = (p, (r, None) ∷ []) ∷ (113 ∷ [], (r, Some five) ∷ []) ∷ [] }
 
-with_previous : found_node (documents_in ((Node [], root_after) ∷ (Node a, listing) ∷ (Prev 4 a, previous) ∷ [])) (start 1) (with_entry (start 1) r) a ≡ Some ((p, five) ∷ (113 ∷ [], five) ∷ [])
+with_previous : found_node (documents_in ((Node [], root_after) ∷ (Node a, listing) ∷ (Prev 4 a, previous) ∷ [])) (start 1) (with_entry (start 1) r) a ≡ Some (record { props = (p, five) ∷ (113 ∷ [], five) ∷ []; born = Some r })
 with_previous = refl

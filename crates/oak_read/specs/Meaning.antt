@@ -11,7 +11,8 @@ use Rattle.jr_path.specs.declared.path.Path.{Path}
 use Rattle.jr_path.specs.declared.path.DocId.{DocId}
 use Rattle.jr_path.specs.declared.path.DocId.TheVariants as id
 use Rattle.jr_value.specs.declared.value.Property.{Property}
-use Rattle.jr_tree.specs.Trees.{is_child_of}
+use Rattle.jr_tree.specs.declared.tree.Node.{Node}
+use Rattle.jr_tree.specs.Trees.{born_of, is_child_of}
 use Rattle.jr_rev.specs.declared.revision.Revision.{Revision}
 use Rattle.jr_rev.specs.declared.vector.RevVec.{RevVec}
 use Rattle.jr_rev.specs.Revisions.{is_before}
@@ -33,9 +34,15 @@ path_of (id.Node p) = p
 path_of (id.Prev n p) = p
 path_of id.Settings = []
 
--- the commit root of a revision in a document: the ancestor of the depth noted there, or the document itself
+-- of a previous document the document of its node, else the document itself
+abbrev pub main_of : DocId → DocId
+main_of (id.Prev n p) = id.Node p
+main_of (id.Node p) = id.Node p
+main_of id.Settings = id.Settings
+
+-- the commit root of a revision in a document: the ancestor of the depth noted there, or the document of its node
 abbrev pub commit_root_of : Document → Revision → DocId
-commit_root_of d r = option_map_or (λ depth. id.Node (take depth (path_of d.id))) (of_revision d.commit_root r) d.id
+commit_root_of d r = option_map_or (λ depth. id.Node (take depth (path_of d.id))) (of_revision d.commit_root r) (main_of d.id)
 
 -- the sweep vector sees the revision, or its commit root has it
 abbrev pub is_committed : Documents → RevVec → Document → Revision → Bool
@@ -56,9 +63,17 @@ module _ (ds : Documents) (t v : RevVec) where
   abbrev pub counting : {X : Type 0} → (Document → List (Revision × X)) → Document → List (Revision × X)
   counting field d = filter (λ e. sees v e.0 && is_committed ds t d e.0) (field d)
 
-  -- what counts for an item, over a document and its previous documents
+  -- the entry that counts for an item, over a document and its previous documents
+  abbrev pub entry_of : {X : Type 0} → (Document → List (Revision × X)) → List Document → Option (Revision × X)
+  entry_of field all = latest (flat_map (counting field) all)
+
+  -- its value
   abbrev pub value_of : {X : Type 0} → (Document → List (Revision × X)) → List Document → Option X
-  value_of field all = option_map (λ e. e.1) (latest (flat_map (counting field) all))
+  value_of field all = option_map (λ e. e.1) (entry_of field all)
+
+  -- the revision of the `_deleted` that counts
+  abbrev pub added_by : List Document → Option Revision
+  added_by all = option_map (λ e. e.0) (entry_of (λ d. d.deleted) all)
 
   -- the document of a path and the previous documents that it lists and that are there
   abbrev pub documents_at : Path → Document → List Document
@@ -68,15 +83,15 @@ module _ (ds : Documents) (t v : RevVec) where
   abbrev pub properties_in : List Document → List (Name × Property)
   properties_in all = fold (λ ps n. option_map_or (insert_entry name_cmp ps n) (option_flatten (value_of (λ d. values_of_property d.props n) all)) ps) [] (flat_map (λ d. keys_of d.props) all)
 
-  -- the properties of the node at a path, where its `_deleted` that counts is false
-  abbrev pub found_node : Path → Option (List (Name × Property))
-  found_node p = option_and_then (λ d. let all = documents_at p d in cond (option_map_or not (value_of (λ e. e.deleted) all) false) (Some (properties_in all)) None) (ds (id.Node p))
+  -- the node at a path, where its `_deleted` that counts is false; the revision of that entry added it
+  abbrev pub found_node : Path → Option Node
+  found_node p = option_and_then (λ d. let all = documents_at p d in cond (option_map_or not (value_of (λ e. e.deleted) all) false) (Some (record { props = properties_in all; born = added_by all })) None) (ds (id.Node p))
 
-  -- the last name of the path of a node's document, where the node is found and is a child of p
-  abbrev pub child_found : Path → DocId → Option Name
-  child_found p (id.Node q) = cond (is_child_of p q && is_some (found_node q)) (last_name q) None
+  -- the last name of the path of a node's document, with the revision that added it, where the node is found and is a child of p
+  abbrev pub child_found : Path → DocId → Option (Name × Option Revision)
+  child_found p (id.Node q) = cond (is_child_of p q && is_some (found_node q)) (option_map (λ n. (n, born_of (found_node q))) (last_name q)) None
   child_found p _ = None
 
-  -- the last names of the children of p that are found among the nodes of these ids
-  abbrev pub found_children : List DocId → Path → List Name
+  -- the last names of the children of p that are found among the nodes of these ids, each with the revision that added it
+  abbrev pub found_children : List DocId → Path → List (Name × Option Revision)
   found_children ids p = filter_map (child_found p) ids

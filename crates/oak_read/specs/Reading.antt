@@ -68,7 +68,7 @@ abbrev pub on_roots : Reader → Reader
 on_roots r = by r.parent
   where
     by : Option Path → Reader
-    by None = record r { step = step.Done (out.Node (option_map (λ ps. record { props = ps }) (found_node (documents_in r.known) r.pin.sweep r.pin.base r.at))) }
+    by None = record r { step = step.Done (out.Node (found_node (documents_in r.known) r.pin.sweep r.pin.base r.at)) }
     by (Some p) = record r { names = r.names ++ option_to_list (child_found (documents_in r.known) r.pin.sweep r.pin.base p (id.Node r.at)); step = step.Next }
 
 -- the node's document and its previous documents are known: next the commit roots
@@ -141,9 +141,9 @@ EndsIn table r o = (n : ℕ) × ((after_replies table n r).step ≡ step.Done o)
 -- a reader of a node ends in the node that the documents show at its pin
 abbrev pub ReadsNode : Type 0
 ReadsNode = (table : List (DocId × Document)) (a : Global) (pin : Pin) (p : Path) → IsTable table
-    → EndsIn table (node_reader a pin p) (out.Node (option_map (λ ps. record { props = ps }) (found_node (documents_in table) pin.sweep pin.base p)))
+    → EndsIn table (node_reader a pin p) (out.Node (found_node (documents_in table) pin.sweep pin.base p))
 
--- a reader of children ends in the names of the children that they show
+-- a reader of children ends in the children that they show
 abbrev pub ReadsChildren : Type 0
 ReadsChildren = (table : List (DocId × Document)) (a : Global) (pin : Pin) (p : Path) → IsTable table
     → EndsIn table (children_reader a pin p) (out.Children (found_children (documents_in table) pin.sweep pin.base (keys_of table) p))

@@ -1,7 +1,7 @@
 // Which entries count.
 ghost use Rattle.std.specs.Prelude.{◌≡◌, ◌&&◌, IfOk, take};
 ghost use Rattle.jr_rev.specs.Vectors.{sees};
-ghost use Rattle.oak_read.specs.Meaning.{documents_in, path_of, commit_root_of, is_committed};
+ghost use Rattle.oak_read.specs.Meaning.{documents_in, path_of, main_of, commit_root_of, is_committed};
 
 use jr_path::{DeepCopy, DocId, Keyed, Path};
 use jr_rev::{Pin, RevVec, Revision};
@@ -56,7 +56,17 @@ pub(crate) fn commit_root_of(
 {
     match document.commit_root.get(&r) {
         Some(depth) => Ok(DocId::Node(ancestor(alloc, &document.id, *depth)?)),
-        None => Ok(document.id.copy()?),
+        None => main_of(&document.id),
+    }
+}
+
+// Of a previous document the document of its node, else the document itself.
+fn main_of(id: &DocId) -> Result<DocId, AllocError>
+    ensures { IfOk result (λ main. main ≡ main_of id.now) }
+{
+    match id {
+        DocId::Node(path) | DocId::Prev(_, path) => Ok(DocId::Node(path.copy()?)),
+        DocId::Settings => Ok(DocId::Settings),
     }
 }
 

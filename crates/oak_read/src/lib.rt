@@ -9,8 +9,6 @@ mod committed;
 mod latest;
 mod node;
 mod reader;
-#[cfg(test)]
-mod tests;
 mod wanted;
 
 pub use children::{children_of_documents, find_children};

@@ -6,37 +6,40 @@ ghost use Rattle.std.specs.Map.Iter.{deref};
 ghost use Rattle.std.specs.Option.{option_copied, option_flatten, option_map};
 ghost use Rattle.jr_path.specs.declared.path.DocId.TheVariants.{Prev};
 ghost use Rattle.oak_doc.specs.Updates.{values_of_property};
-ghost use Rattle.oak_read.specs.Meaning.{documents_in, value_of, properties_in, found_node};
+ghost use Rattle.oak_read.specs.Meaning.{documents_in, entry_of, value_of, properties_in, found_node};
 ghost use Rattle.oak_read.specs.Shown.{with_previous, with_property};
 
 use crate::latest::latest_with;
 use jr_path::{DeepCopy, DocId, Keyed, Name, Path};
-use jr_rev::Pin;
+use jr_rev::{Pin, Revision};
 use jr_tree::Node;
 use jr_value::Property;
 use oak_doc::{Document, PrevEntry};
 use std::alloc::{AllocError, Global};
 
-/// The node at a path, as documents at rest show it at a pin; None where there is no node. A previous
-/// document that is gone counts as empty.
+/// The node at a path, as documents at rest show it at a pin, with the revision that added it; None where
+/// there is no node. A previous document that is gone counts as empty.
 pub fn find_node(
     alloc: Global,
     documents: &Keyed<DocId, Document>,
     pin: &Pin,
     path: &Path,
 ) -> Result<Option<Node>, AllocError>
-    ensures { IfOk result (λ node. option_map (λ n. n.props) node
+    ensures { IfOk result (λ node. node
         ≡ found_node (documents_in documents.now) pin.now.sweep pin.now.base path.now) }
 {
     let Some(document) = document_at(documents, DocId::Node(path.copy()?)) else {
         return Ok(None);
     };
     let all = documents_at(alloc, documents, path, document)?;
-    if deleted_at(alloc, documents, pin, &all)? != Some(false) {
+    let Some((added, false)) = deleted_at(alloc, documents, pin, &all)? else {
         return Ok(None);
-    }
+    };
     let props = properties_in(alloc, documents, pin, &all)?;
-    Ok(Some(Node { props }))
+    Ok(Some(Node {
+        props,
+        born: Some(added),
+    }))
 }
 
 // The properties that have a value over some documents.
@@ -110,21 +113,21 @@ fn push_found<'a>(
     Ok(())
 }
 
-// The `_deleted` that counts over some documents.
+// The `_deleted` that counts over some documents, with its revision.
 fn deleted_at(
     alloc: Global,
     documents: &Keyed<DocId, Document>,
     pin: &Pin,
     all: &[&Document],
-) -> Result<Option<bool>, AllocError>
-    ensures { IfOk result (λ deleted. deleted ≡ value_of (documents_in documents.now)
+) -> Result<Option<(Revision, bool)>, AllocError>
+    ensures { IfOk result (λ deleted. deleted ≡ entry_of (documents_in documents.now)
         pin.now.sweep pin.now.base (λ d. d.deleted) (map deref all.now)) }
 {
     let mut best = None;
     for document in all {
         best = latest_with(alloc, documents, pin, document, &document.deleted, best)?;
     }
-    Ok(best.map(|(_, deleted)| *deleted))
+    Ok(best.map(|(r, deleted)| (r, *deleted)))
 }
 
 // The value of a property that counts over some documents.

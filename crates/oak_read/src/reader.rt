@@ -3,13 +3,14 @@ ghost use Rattle.std.specs.Prelude.{◌≡◌, ◌↔◌, IfOk, IsTrue, OnErr, O
 ghost use Rattle.jr_path.specs.Ids.{id_cmp};
 ghost use Rattle.oak_read.specs.Reading.{ReadsChildren, ReadsNode, child_at, children_reader, due, ended, fed, fed_main, fed_next, node_reader, noted, on_main, on_previous, on_roots, passed_by, settled};
 ghost use Rattle.oak_doc.specs.declared.asks.Ask.TheVariants as ask;
+ghost use Rattle.oak_doc.specs.declared.asks.Reply.TheVariants.{Found};
 ghost use Rattle.oak_read.specs.declared.reader.Step.TheVariants.{Done};
 
 use crate::children::{child_found, is_child};
 use crate::node::find_node;
 use crate::wanted::{Left, previous_wanted, roots_wanted};
 use jr_path::{DeepCopy, DocId, Keyed, List, Name, Path};
-use jr_rev::Pin;
+use jr_rev::{Pin, Revision};
 use jr_tree::Node;
 use oak_doc::{Ask, Document, Reply};
 use std::alloc::{AllocError, Global};
@@ -20,11 +21,11 @@ use std::mem;
 pub enum ReadOut {
     /// The node; None where there is none.
     Node(Option<Node>),
-    /// The names of the children, in ascending order.
-    Children(List<Name>),
+    /// The names of the children, in ascending order, each with the revision that added it.
+    Children(List<(Name, Option<Revision>)>),
 }
 
-/// Reads a node, or the names of the children of a node, one document at a time (Oak, DocumentNodeStore:
+/// Reads a node, or the children of a node, one document at a time (Oak, DocumentNodeStore:
 /// "Reading"). It asks for the node's document, for the previous documents that it lists, and for the
 /// commit roots that tell of entries which the sweep vector doesn't see; each once where it is there.
 /// For children it does so for each document one name below the path, one after another in store order.
@@ -39,7 +40,7 @@ pub struct Reader {
     // The documents that were found.
     known: Keyed<DocId, Document>,
     // The children that are found so far.
-    names: List<Name>,
+    names: List<(Name, Option<Revision>)>,
     step: Step,
 }
 
@@ -73,7 +74,8 @@ impl Reader {
         })
     }
 
-    /// Reads the names of the nodes below a path, as they are seen at a pin.
+    /// Reads the names of the nodes below a path, as they are seen at a pin, with the revisions that added
+    /// them.
     pub fn children(alloc: Global, path: &Path, pin: &Pin) -> Result<Reader, AllocError>
         ensures { IfOk result (λ reader. reader ≡ children_reader alloc pin.now path.now) }
     {
@@ -115,17 +117,21 @@ impl Reader {
         ensures ok { OnOk result (self.new ≡ fed self.old reply) }
         ensures err { OnErr result (self.new ≡ self.old) }
     {
-        let Reply::Found(found) = reply else {
-            return Ok(());
-        };
+        match reply {
+            Reply::Found(found) => self.feed_found(found),
+            _ => Ok(()),
+        }
+    }
+
+    // The document that was asked for, or none.
+    fn feed_found(&mut self, found: Option<Document>) -> Result<(), AllocError>
+        ensures ok { OnOk result (self.new ≡ fed self.old (Found found)) }
+        ensures err { OnErr result (self.new ≡ self.old) }
+    {
         match &self.step {
             Step::Main => self.feed_main(found),
             Step::Next => self.feed_next(found),
-            Step::Previous(left) => {
-                let id = left.first.copy()?;
-                self.feed_left(id, found)
-            }
-            Step::Roots(left) => {
+            Step::Previous(left) | Step::Roots(left) => {
                 let id = left.first.copy()?;
                 self.feed_left(id, found)
             }
@@ -311,8 +317,8 @@ impl Reader {
             return Ok(());
         };
         let id = DocId::Node(self.at.copy()?);
-        if let Some(name) = child_found(self.alloc, &self.known, &self.pin, parent, &id)? {
-            self.names.push(name.copy()?)?;
+        if let Some(child) = child_found(self.alloc, &self.known, &self.pin, parent, &id)? {
+            self.names.push(child)?;
         }
         self.step = Step::Next;
         Ok(())

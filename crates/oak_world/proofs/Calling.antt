@@ -29,7 +29,7 @@ use Rattle.oak_world.specs.Kept.{ArePlaced, IsPlaced, IsWorld}
 use Rattle.oak_world.specs.Parts.{CanStep, Steps, needed, parts}
 use Rattle.oak_world.specs.Seen.{shown_at}
 use Rattle.oak_world.specs.Steps.{Begins, StepsIn, reads_after}
-use Rattle.oak_world.specs.Worlds.{ActorState, WorldOf, actor_in, said_in, shown_actor, shown_world, state_of, with_reply, with_work, work_in}
+use Rattle.oak_world.specs.Worlds.{ActorState, WorldOf, actor_in, live, said_in, shown_actor, shown_world, state_of, with_reply, with_work, work_in}
 use Rattle.oak_world.proofs.Calls.{actor_shown, begun_is, can, its_placed, own_are, replied_is, said_is, same_is, seen, set_placed, step_keeps_all, steps_in}
 use Rattle.oak_world.proofs.Keeping.{reply_keeps, said_keep, start_keeps}
 use Rattle.oak_world.proofs.Seats.{actor_within, memory_is, read_at}
@@ -42,6 +42,10 @@ begins_free pin task.Refresh v h = ap needed h
 begins_free pin (task.Load p) v h = ap needed h.3
 begins_free pin (task.List p) v h = ap needed h.3
 begins_free pin (task.Commit edit marks) v h = ap needed h
+begins_free pin task.BackWrite v h = ap needed h
+begins_free pin task.BackRead v h = ap needed h
+begins_free pin (task.Checkpoint i) v h = ap needed h
+begins_free pin (task.Release i) v h = ap needed h
 
 module _ (starts : Starts) (says : Says) (proper : StartsProper starts) (last : StartsLast starts says) {L : Type 0} (law : L) (j : Journal) (t : Table) (ms : List NodeState) (actors : List Actor) (is : IsWorld starts says (shown_world law j t ms actors)) (placed : ArePlaced actors j.events.places)
     (s k : ℕ) (on : slice_get j.sessions s ≡ Some k) (a : Actor) (at : a ≡ get_or actors s a) where
@@ -99,7 +103,7 @@ module _ (starts : Starts) (says : Says) (proper : StartsProper starts) (last : 
       pub saying_is : now ≡ said_in w s i text
       saying_is = said_is starts says proper last law j t ms actors is placed s k on a here b es i text shown list
 
-      pub say_stands : work_in w.actors s ≡ work.Rest → i ≡ next_index w.history.past s → says w.history s i text → Stands
+      pub say_stands : work_in w.actors s ≡ work.Rest → i ≡ next_index w.history.past s → says (live w.history) s i text → Stands
       say_stands idle next lawful = stands (said_in w s i text) saying_is (said_keep starts says proper last w is s there idle i text next lawful)
 
   -- ---- a task
@@ -117,7 +121,7 @@ module _ (starts : Starts) (says : Says) (proper : StartsProper starts) (last : 
     pub starting_is : shown_world law j t ms (slice_set actors s begun) ≡ with_work w s v
     starting_is = begun_is starts says proper last law j t ms actors is placed s k on a here begun j.events v (ap (λ (c : ℕ). record (shown_actor a) { work = v; began = c }) count) refl
 
-    pub start_stands : work_in w.actors s ≡ work.Rest → MayBegin starts w.history s x → pin ≡ pin_of (memory_of (state_of w) s) s → IsWorld starts says (shown_world law j t ms (slice_set actors s begun)) × ArePlaced (slice_set actors s begun) j.events.places
+    pub start_stands : work_in w.actors s ≡ work.Rest → MayBegin starts (live w.history) s x → pin ≡ pin_of (memory_of (state_of w) s) s → IsWorld starts says (shown_world law j t ms (slice_set actors s begun)) × ArePlaced (slice_set actors s begun) j.events.places
     start_stands idle may same = (
       subst (λ (x : WorldOf L). IsWorld starts says x) (sym starting_is) (start_keeps starts says proper last w is s there idle x v may (subst (λ (p : Option Pin). Begins p x v) same begins)),
       set_placed starts says proper last law j t ms actors is placed s k on a here begun j.events.places begun_placed refl,

@@ -29,7 +29,7 @@ use Rattle.oak_world.specs.Kept.{ArePlaced, IsPlaced, IsWorld, May}
 use Rattle.oak_world.specs.Parts.{CanStep, Parts, Steps, needed, parts}
 use Rattle.oak_world.specs.Steps.{Makes, StepsIn, reads_after}
 use Rattle.oak_world.specs.Seen.{shown_at}
-use Rattle.oak_world.specs.Worlds.{ActorState, WorldOf, actor_in, idle, node_in, parts_at, said_in, shown_actor, shown_world, state_of, with_parts, with_reply, with_work, work_in}
+use Rattle.oak_world.specs.Worlds.{ActorState, WorldOf, actor_in, idle, live, node_in, parts_at, said_in, shown_actor, shown_world, state_of, with_parts, with_reply, with_work, work_in}
 use Rattle.oak_world.proofs.Keeping.{can_step, seat, step_keeps, step_seen}
 use Rattle.oak_world.proofs.Placing.{own_places, placed_set}
 use Rattle.oak_world.proofs.Stepping.{makes}
@@ -115,7 +115,7 @@ module _ (starts : Starts) (says : Says) (proper : StartsProper starts) (last : 
       parts_are = ap (λ (x : NodeState). parts t x (reverse (reverse j.events.list))) memory_is ∙ ap (λ (xs : List Event). parts t m xs) (reverse-reverse j.events.list)
 
       roots : (c : Committing) → work_in w.actors s ≡ work.Commit c → c.roots ≡ map (λ (f : Met). root_of w.history.past f.other) c.writer.due
-      roots c does = (subst (λ (v : Work). May starts w.history s v) does (is.may s)).roots
+      roots c does = (subst (λ (v : Work). May starts (live w.history) s v) does (is.may s)).roots
 
       module _ (busy : a.work ≢ work.Rest) (made : Steps s k (parts t m j.events.list) a.work after b.work o) where
         made_there : Steps s (node_in w.history s) (parts_at w s) (work_in w.actors s) after b.work o
@@ -126,7 +126,7 @@ module _ (starts : Starts) (says : Says) (proper : StartsProper starts) (last : 
 
         makes_now : Makes s (state_of w) (work_in w.actors s) (state_of now) b.work o
         makes_now = subst (λ (x : WorldOf L). Makes s (state_of w) (work_in w.actors s) (state_of x) b.work o) same_world
-            (makes w s seated after b.work (shown_actor b) refl (work_in w.actors s) refl (λ e. busy (sym work_is ∙ e)) roots o made_there)
+            (makes w s seated after b.work (shown_actor b) refl is.unsplit (work_in w.actors s) refl (λ e. busy (sym work_is ∙ e)) roots o made_there)
 
         pub steps_in : b.began ≡ a.began → b.reply ≡ a.reply → b.reads ≡ reads_after a.work o a.reads → StepsIn w s now o
         steps_in began reply reads = record {

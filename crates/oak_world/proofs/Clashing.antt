@@ -11,9 +11,9 @@ use Rattle.oak_world.specs.Clashes.{MeetsNone, Wanted}
 module _ (starts : Starts) (says : Says) (proper : StartsProper starts) (w : State) (kept : IsKept starts says w) (r : Revision) where
   -- what clashes with none is committed, or wanted memory
   pub comes_or_wants : is_ended w.past r ≡ true → MeetsNone w.past r → (is_committed w.past r ≡ true) ⊎ Wanted w.past r
-  comes_or_wants ended none = by (is_committed w.past r) refl (comes_through starts says proper w kept r ended none)
+  comes_or_wants ended none = by (is_committed w.past r) refl (comes_through starts says proper w kept.sessions r ended none)
     where
-      by : (b : Bool) → is_committed w.past r ≡ b → (is_committed w.past r ≡ true) ⊎ (((kept.committing.writers r).wants ≡ true) × (is_refused w.past r ≡ false)) → (is_committed w.past r ≡ true) ⊎ Wanted w.past r
+      by : (b : Bool) → is_committed w.past r ≡ b → (is_committed w.past r ≡ true) ⊎ (((kept.sessions.committing.writers r).wants ≡ true) × (is_refused w.past r ≡ false)) → (is_committed w.past r ≡ true) ⊎ Wanted w.past r
       by true is h = inl is
       by false is (inl now) = inl now
       by false is (inr h) = inr (record { uncommitted = is; unrefused = h.1 })

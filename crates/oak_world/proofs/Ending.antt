@@ -47,7 +47,12 @@ use Rattle.oak_world.specs.declared.actor.Work.{Work}
 use Rattle.oak_world.specs.declared.actor.Work.TheVariants as work
 use Rattle.oak_world.specs.Ending.{EndsIn, IsWait}
 use Rattle.oak_world.specs.Parts.{EndsSo, committed, marked, read_on}
-use Rattle.oak_world.specs.Steps.{Makes, MakesCommit, MakesUpdate, StepsIn}
+use Rattle.oak_node.specs.Seen.{seen_paths}
+use Rattle.oak_world.specs.declared.upkeep.Upkeep.{Upkeep}
+use Rattle.oak_world.specs.declared.upkeep.Upkeep.TheVariants as upkeep
+use Rattle.oak_world.specs.Upkeeps.{told_ids}
+use Rattle.oak_world.proofs.Counting.{told_few, total}
+use Rattle.oak_world.specs.Steps.{Makes, MakesCommit, MakesUpdate, MakesUpkeep, Publishes, StepsIn}
 use Rattle.oak_world.specs.Worlds.{ActorState, WorldOf, idle, running_as, state_of, work_in}
 use Rattle.oak_world.proofs.Stages.{finish_stage}
 use Rattle.oak_world.proofs.States.{actor_set}
@@ -114,11 +119,35 @@ lowers w u s n o m (inr f) = f u o m
 
 -- ---- tasks of one step
 
+-- and among background work, and changes of the settings
+abbrev IsBrief : Upkeep → Type 0
+IsBrief (upkeep.Learn last sweep) = Unit {0}
+IsBrief (upkeep.Checkpoint i) = Unit {0}
+IsBrief (upkeep.Release i) = Unit {0}
+IsBrief _ = ⊥
+
+brief_rests : (s : ℕ) (t u : State) (k : Upkeep) (x : Work) (o : StepOut) → IsBrief k → MakesUpkeep s t k u x o → x ≡ work.Rest
+brief_rests s t u (upkeep.Learn last sweep) x (answers.Ready (ends.Learnt v)) short m = m.2
+brief_rests s t u (upkeep.Learn last sweep) x answers.Memory short m = m.1
+brief_rests s t u (upkeep.Learn last sweep) x _ short m = absurd m
+brief_rests s t u (upkeep.Checkpoint i) x (answers.Ready (ends.Set None)) short m = m.3
+brief_rests s t u (upkeep.Checkpoint i) x answers.Memory short m = m.1
+brief_rests s t u (upkeep.Checkpoint i) x _ short m = absurd m
+brief_rests s t u (upkeep.Release i) x (answers.Ready (ends.Set None)) short m = m.2
+brief_rests s t u (upkeep.Release i) x (answers.Ready ends.NoCheckpoint) short m = m.2
+brief_rests s t u (upkeep.Release i) x answers.Memory short m = m.1
+brief_rests s t u (upkeep.Release i) x _ short m = absurd m
+brief_rests s t u upkeep.Write x o short m = absurd short
+brief_rests s t u (upkeep.Noted n) x o short m = absurd short
+brief_rests s t u (upkeep.Publish ids r) x o short m = absurd short
+brief_rests s t u upkeep.Read x o short m = absurd short
+
 abbrev IsShort : Work → Type 0
 IsShort work.Login = Unit {0}
 IsShort work.End = Unit {0}
 IsShort work.Refresh = Unit {0}
 IsShort (work.Move r) = Unit {0}
+IsShort (work.Upkeep k) = IsBrief k
 IsShort _ = ⊥
 
 at_once : (s : ℕ) (t u : State) (v x : Work) (o : StepOut) → IsShort v → Makes s t v u x o → IsWait o ⊎ (x ≡ work.Rest)
@@ -134,6 +163,7 @@ at_once s t u work.Refresh x _ short m = absurd m
 at_once s t u (work.Move r) x (answers.Wait q) short m = inl tt
 at_once s t u (work.Move r) x (answers.Ready (ends.Commit (end.Committed o))) short m = inr m.1
 at_once s t u (work.Move r) x _ short m = absurd m
+at_once s t u (work.Upkeep k) x o short m = inr (brief_rests s t u k x o short m)
 at_once s t u work.Rest x o short m = absurd short
 at_once s t u (work.Read r) x o short m = absurd short
 at_once s t u (work.Plan edit marks) x o short m = absurd short
@@ -322,7 +352,7 @@ at_rest t = record { table = t.documents; past = [] }
 done_due : (t : Table) (r : Reader) → IsDone r.step → due (read_on t r) ≡ ask.Done
 done_due t r = by r.alloc r.pin r.parent r.at r.known r.names r.step
   where
-    by : (a : Global) (pin : Pin) (parent : Option Path) (at : Path) (known : Known) (names : List Name) (x : Step) → IsDone x
+    by : (a : Global) (pin : Pin) (parent : Option Path) (at : Path) (known : Known) (names : List (Name × Option Revision)) (x : Step) → IsDone x
         → due (read_on t (record { alloc = a; pin = pin; parent = parent; at = at; known = known; names = names; step = x })) ≡ ask.Done
     by a pin parent at known names (step.Done o) done = refl
     by a pin parent at known names step.Main done = absurd done
@@ -363,6 +393,57 @@ load_ends w s r table at =
     let e = readers_end (keys_of w.table.documents) (λ i. at_rest w.table) r (λ i. record { ordered = table; among = ids_known w.table.documents }) in
     (suc e.0, read_ends s e.0 w.table w r at refl e.1)
 
+-- ---- background work
+
+-- one document after another is told, and then the root
+publishes_end : {L : Type 0} (s n : ℕ) (ids : List DocId) (r : Revision) → length ids ≤ n → (w : WorldOf L) (k : Upkeep) → work_in w.actors s ≡ work.Upkeep k
+    → ((u : State) (x : Work) (o : StepOut) → MakesUpkeep s (state_of w) k u x o → Publishes s (state_of w) ids r u x o) → EndsIn (suc n) w s
+publishes_end {L} s zero ids r few w k at is = stepped w s zero (work.Upkeep k) at (λ u o x m now. inr (by u o x (is (state_of u) x o m) now))
+  where
+    by : (u : WorldOf L) (o : StepOut) (x : Work) → Publishes s (state_of w) ids r (state_of u) x o → work_in u.actors s ≡ x → EndsIn zero u s
+    by u (answers.Went kind.Back) x m now = let l : length ids ≡ length m.0 + 1 = ap length m.2 ∙ length-append m.0 (m.1 ∷ []) in absurd (omega (arith, l, few))
+    by u (answers.Ready (ends.Published o)) x m now = now ∙ m.3
+    by u answers.Memory x m now = now ∙ m.1
+    by u _ x m now = absurd m
+publishes_end {L} s (suc n) ids r few w k at is = stepped w s (suc n) (work.Upkeep k) at (λ u o x m now. inr (by u o x (is (state_of u) x o m) now (λ rest v l there. publishes_end s n rest r l v (upkeep.Publish rest r) there (λ t y p z. z))))
+  where
+    by : (u : WorldOf L) (o : StepOut) (x : Work) → Publishes s (state_of w) ids r (state_of u) x o → work_in u.actors s ≡ x
+        → ((rest : List DocId) (v : WorldOf L) → length rest ≤ n → work_in v.actors s ≡ work.Upkeep (upkeep.Publish rest r) → EndsIn (suc n) v s) → EndsIn (suc n) u s
+    by u (answers.Went kind.Back) x m now next = let l : length ids ≡ length m.0 + 1 = ap length m.2 ∙ length-append m.0 (m.1 ∷ []) in next m.0 u (omega (arith, l, few)) (now ∙ m.4)
+    by u (answers.Ready (ends.Published o)) x m now next = resting u s (now ∙ m.3) (suc n)
+    by u answers.Memory x m now next = resting u s (now ∙ m.1) (suc n)
+    by u _ x m now next = absurd m
+
+-- a background write
+writes_out : {L : Type 0} (w : WorldOf L) (s : ℕ) → work_in w.actors s ≡ work.Upkeep upkeep.Write → (n : ℕ) × EndsIn n w s
+writes_out {L} w s at = (suc (suc many), stepped w s (suc many) (work.Upkeep upkeep.Write) at (λ u o x m now. inr (by u o x m now)))
+  where
+    many : ℕ
+    many = total (seen_paths (memory_of (state_of w) s).head (memory_of (state_of w) s).notes)
+
+    by : (u : WorldOf L) (o : StepOut) (x : Work) → Makes s (state_of w) (work.Upkeep upkeep.Write) (state_of u) x o → work_in u.actors s ≡ x → EndsIn (suc many) u s
+    by u (answers.Went kind.Back) x m now = publishes_end s many (told_ids (m.0).paths) (m.0).upto (told_few (memory_of (state_of w) s) m.0 m.1) u (upkeep.Noted m.0) (now ∙ m.3) (λ t y p z. z)
+    by u answers.Memory x m now = resting u s (now ∙ m.1) (suc many)
+    by u _ x m now = absurd m
+
+-- a background read
+reads_in : {L : Type 0} (w : WorldOf L) (s : ℕ) → work_in w.actors s ≡ work.Upkeep upkeep.Read → EndsIn (suc (suc zero)) w s
+reads_in {L} w s at = stepped w s (suc zero) (work.Upkeep upkeep.Read) at (λ u o x m now. inr (by u o x m now))
+  where
+    by : (u : WorldOf L) (o : StepOut) (x : Work) → Makes s (state_of w) (work.Upkeep upkeep.Read) (state_of u) x o → work_in u.actors s ≡ x → EndsIn (suc zero) u s
+    by u (answers.Went kind.Back) x m now = short_ends u s zero (work.Upkeep (upkeep.Learn (m.0).last_rev (m.0).sweep_rev)) tt (now ∙ m.3)
+    by u answers.Memory x m now = resting u s (now ∙ m.1) (suc zero)
+    by u _ x m now = absurd m
+
+upkeep_ends : {L : Type 0} (w : WorldOf L) (s : ℕ) (k : Upkeep) → work_in w.actors s ≡ work.Upkeep k → (n : ℕ) × EndsIn n w s
+upkeep_ends w s upkeep.Write at = writes_out w s at
+upkeep_ends w s (upkeep.Noted n) at = (suc (length (told_ids n.paths)), publishes_end s (length (told_ids n.paths)) (told_ids n.paths) n.upto (omega arith) w (upkeep.Noted n) at (λ t y p z. z))
+upkeep_ends w s (upkeep.Publish ids r) at = (suc (length ids), publishes_end s (length ids) ids r (omega arith) w (upkeep.Publish ids r) at (λ t y p z. z))
+upkeep_ends w s upkeep.Read at = (suc (suc zero), reads_in w s at)
+upkeep_ends w s (upkeep.Learn last sweep) at = (suc zero, short_ends w s zero (work.Upkeep (upkeep.Learn last sweep)) tt at)
+upkeep_ends w s (upkeep.Checkpoint i) at = (suc zero, short_ends w s zero (work.Upkeep (upkeep.Checkpoint i)) tt at)
+upkeep_ends w s (upkeep.Release i) at = (suc zero, short_ends w s zero (work.Upkeep (upkeep.Release i)) tt at)
+
 -- ---- all
 
 ends_by : {L : Type 0} (w : WorldOf L) (s : ℕ) → IsTable w.table.documents → (v : Work) → work_in w.actors s ≡ v → (n : ℕ) × EndsIn n w s
@@ -373,6 +454,7 @@ ends_by w s table work.Refresh at = (suc zero, short_ends w s zero work.Refresh 
 ends_by w s table (work.Read r) at = load_ends w s r table at
 ends_by w s table (work.Plan edit marks) at = plan_ends w s edit marks at
 ends_by w s table (work.Commit c) at = commit_ends w s c at
+ends_by w s table (work.Upkeep k) at = upkeep_ends w s k at
 ends_by w s table (work.Move r) at = (suc zero, short_ends w s zero (work.Move r) tt at)
 
 -- each task of a session that alone takes steps ends, unless it is told to wait

@@ -1,6 +1,8 @@
 -- What a world keeps after each call for one of its sessions, and what a port tells of it.
+use Rattle.jr_path.specs.declared.path.Path.{Path}
+use Rattle.oak_doc.specs.declared.document.Document.{Document}
 use mathlib.Core.Bool.{false≢true}
-use Rattle.std.proofs.Common.{◌≡◌, ◌≢◌, ◌↔◌, ℕ, zero, suc, ◌^◌, ◌<◌, ◌≤◌, Bool, true, false, ◌||◌, Option, Some, None, List, [], ◌∷◌, length, map, is_some, refl, sym, ap, subst, ◌∙◌, arith}
+use Rattle.std.proofs.Common.{◌≡◌, ◌≢◌, ◌↔◌, cond, ℕ, zero, suc, ◌^◌, ◌<◌, ◌≤◌, Bool, true, false, ◌||◌, Option, Some, None, List, [], ◌∷◌, length, map, is_some, refl, sym, ap, subst, ◌∙◌, arith}
 use Rattle.std.specs.Prelude.{◌==◌, slice_get, slice_set, IsSome}
 use Rattle.std.specs.Borrow.{GName}
 use Rattle.std.proofs.lemmas.List.{length-set}
@@ -19,37 +21,41 @@ use Rattle.oak_machine.specs.declared.event.Event.TheVariants as event
 use Rattle.oak_machine.specs.History.{History, Past}
 use Rattle.oak_machine.specs.Laws.{AreOthers, Says, Starts, StartsProper, after}
 use Rattle.oak_machine.specs.Runs.{IsNode, IsRun, StartsLast}
-use Rattle.oak_machine.specs.Sessions.{next_index}
+use Rattle.oak_machine.specs.Sessions.{is_attached, next_index}
 use Rattle.oak_node.specs.Heads.{HasEnded, known_time}
 use Rattle.oak_node.specs.Pins.{pin_of}
 use Rattle.oak_read.specs.declared.reader.Reader.{Reader}
 use Rattle.oak_read.specs.Reading.{IsTable, children_reader, node_reader}
 use Rattle.core_clash.specs.Sessions.{Running}
 use Rattle.core_heads.proofs.Runs.{sound_run}
+use Rattle.core_nodes.specs.Nodes.{cursor_owner}
 use Rattle.core_nodes.proofs.Pasts.{ended_was_drawn}
 use Rattle.core_nodes.proofs.Waits.{has_ended}
 use Rattle.core_world.specs.Kept.{IsKept}
-use Rattle.core_world.specs.States.{State, memory_of, with_session}
+use Rattle.core_world.specs.States.{State, actor_pin, memory_of, reader_pin, with_session}
 use Rattle.core_world.specs.Steps.{after_said, with_reader}
 use Rattle.core_world.proofs.Flights.{other_number, same_number}
-use Rattle.core_world.proofs.Lives.{its_node, on_node, said_keeps}
-use Rattle.core_world.proofs.Loads.{list_keeps, load_keeps}
+use Rattle.core_world.proofs.Lives.{its_node, on_node}
 use Rattle.core_world.proofs.Truths.{due_drawn, flies_there, pin_there, time_known}
+use Rattle.core_world.proofs.Whole.{list_whole, load_whole, said_whole}
 use Rattle.oak_port.specs.declared.task.StepOut.{StepOut}
 use Rattle.oak_port.specs.declared.task.Task.{Task}
 use Rattle.oak_port.specs.declared.task.Task.TheVariants as task
 use Rattle.oak_port.specs.Ports.{Answers, Beside, Idle, Makes as Tells, MayBegin, Seat, Starting, Steps as StepSeen, Waits, Work as Shows}
 use Rattle.oak_world.specs.declared.actor.Work.{Work}
 use Rattle.oak_world.specs.declared.actor.Work.TheVariants as work
-use Rattle.oak_world.specs.Kept.{IsWorld, May}
+use Rattle.oak_world.specs.declared.upkeep.Upkeep.{Upkeep}
+use Rattle.oak_world.specs.declared.upkeep.Upkeep.TheVariants as upkeep
+use Rattle.oak_world.specs.Kept.{IsWorld, May, MayKeepUp}
 use Rattle.oak_world.specs.Parts.{CanStep, needed}
-use Rattle.oak_world.specs.Seen.{no_seat, seat_of, shown_at, shown_by, shown_work}
+use Rattle.oak_world.specs.Seen.{no_seat, seat_of, shown_at, shown_by, shown_upkeep, shown_work}
 use Rattle.oak_world.specs.Steps.{Begins, HasCome, StepsIn, kind_due, kind_of}
-use Rattle.oak_world.specs.Worlds.{ActorState, WorldOf, actor_in, node_in, reading_of, running_as, running_of, said_in, state_of, state_with, with_reply, with_work, work_in}
+use Rattle.oak_world.specs.Worlds.{ActorState, Story, WorldOf, actor_in, live, node_in, reading_of, running_as, running_of, said_in, state_of, state_with, with_reply, with_work, work_in}
 use Rattle.oak_world.proofs.States.{actor_other, actor_set, session_same, session_set}
 use Rattle.oak_world.proofs.Stages.{done_stage}
 use Rattle.oak_world.proofs.Staying.{may_last}
-use Rattle.oak_world.proofs.Walking.{IsStepOf, any_step}
+use Rattle.oak_world.proofs.StepsOf.{IsStepOf}
+use Rattle.oak_world.proofs.Walking.{any_step}
 
 -- ---- the seats of the others
 
@@ -57,6 +63,24 @@ seats_same : {X Y : Type 0} (f : X → Y) (xs : List X) (s : ℕ) (a : X) (d : Y
 seats_same f [] s a d = refl
 seats_same f (x ∷ xs) zero a d = refl
 seats_same f (x ∷ xs) (suc s) a d = ap (λ ys. f x ∷ ys) (seats_same f xs s a d)
+
+-- a list has nothing behind its end
+pub none_behind : {X : Type 0} (n : ℕ) (xs : List X) → length xs ≤ n → slice_get xs n ≡ None
+none_behind n [] le = refl
+none_behind zero (x ∷ xs) le = absurd (by le)
+  where
+    by : suc (length xs) ≤ zero → ⊥
+    by h = omega (arith, h)
+none_behind (suc n) (x ∷ xs) le = none_behind n xs (omega (arith, le))
+
+-- there is something before its end
+pub there_within : {X : Type 0} (n : ℕ) (xs : List X) → n < length xs → is_some (slice_get xs n) ≡ true
+there_within n [] h = absurd (by h)
+  where
+    by : n < zero → ⊥
+    by h = omega (arith, h)
+there_within zero (x ∷ xs) h = refl
+there_within (suc n) (x ∷ xs) h = there_within n xs (omega (arith, h))
 
 -- ---- one session does something else
 
@@ -73,11 +97,11 @@ module _ {L : Type 0} (w : WorldOf L) (s : ℕ) (seat : s < length w.actors) whe
   beside_same name v a same = ap {B = Beside} (λ (xs : List Seat). record { name = name; seats = Some xs }) (ap (λ (xs : List ActorState). slice_set (map seat_of xs) s no_seat) same ∙ seats_same seat_of w.actors s a no_seat)
 
   -- what a port tells of a call that adds no event
-  pub waits : (starts : Starts) (says : Says) → IsRun starts says w.history → (name : GName) (v : WorldOf L) (a : ActorState) → v.history ≡ w.history → v.actors ≡ slice_set w.actors s a
+  pub waits : (starts : Starts) (says : Says) → IsRun starts says (live w.history) → (name : GName) (v : WorldOf L) (a : ActorState) → v.history ≡ w.history → v.actors ≡ slice_set w.actors s a
       → (x : Shows) → shown_work a.work ≡ x → (room : Option ℕ) → a.reply ≡ room → (x ≡ shown_work (work_in w.actors s) → kind_due a.work ≡ kind_due (work_in w.actors s)) → Waits starts says (shown_at name w s) (shown_at name v s) x room
   waits starts says run name v a same actors x shown room reply due = record {
     others = [];
-    grows = record { grown = same; theirs = refl; run = subst (λ (h : History). IsRun starts says h) (sym same) run };
+    grows = record { grown = ap live same; theirs = refl; run = subst (λ (h : Story). IsRun starts says (live h)) (sym same) run };
     session = refl;
     work_is = ap (λ (b : ActorState). shown_work b.work) (set_is v.actors a actors) ∙ shown;
     room_is = ap (λ (b : ActorState). b.reply) (set_is v.actors a actors) ∙ reply;
@@ -87,7 +111,7 @@ module _ {L : Type 0} (w : WorldOf L) (s : ℕ) (seat : s < length w.actors) whe
   }
 
 -- what is told where nothing changes
-pub still_waits : (starts : Starts) (says : Says) {L : Type 0} (w : WorldOf L) (s : ℕ) (name : GName) → IsRun starts says w.history → Waits starts says (shown_at name w s) (shown_at name w s) (shown_work (work_in w.actors s)) (actor_in w.actors s).reply
+pub still_waits : (starts : Starts) (says : Says) {L : Type 0} (w : WorldOf L) (s : ℕ) (name : GName) → IsRun starts says (live w.history) → Waits starts says (shown_at name w s) (shown_at name w s) (shown_work (work_in w.actors s)) (actor_in w.actors s).reply
 still_waits starts says w s name run = record {
   others = [];
   grows = record { grown = refl; theirs = refl; run = run };
@@ -98,6 +122,16 @@ still_waits starts says w s name run = record {
   beside = refl;
   alone = refl;
 }
+
+-- background work is shown
+upkeep_shown : (u : Upkeep) → shown_upkeep u ≡ Idle → ⊥
+upkeep_shown upkeep.Write h = cc
+upkeep_shown (upkeep.Noted n) h = cc
+upkeep_shown (upkeep.Publish ids r) h = cc
+upkeep_shown upkeep.Read h = cc
+upkeep_shown (upkeep.Learn last sweep) h = cc
+upkeep_shown (upkeep.Checkpoint i) h = cc
+upkeep_shown (upkeep.Release i) h = cc
 
 -- a session that is shown to do nothing does nothing
 pub idle_shown : (v : Work) → shown_work v ≡ Idle → v ≡ work.Rest
@@ -115,6 +149,7 @@ idle_shown (work.Commit c) h = absurd (by c.outcome h)
     by (Some (end.Clash item r)) k = cc
     by (Some end.Memory) k = cc
 idle_shown (work.Move r) h = cc
+idle_shown (work.Upkeep u) h = absurd (upkeep_shown u h)
 
 -- what is due of a commit that hasn't ended
 staged : (c : Committing) → c.ended ≡ false → (x : Stage) → stage_of c ≡ x → is_some (kind_of x) ≡ true
@@ -135,6 +170,7 @@ busy_due starts h s (work.Read r) may = (λ k e. cc, λ busy. refl)
 busy_due starts h s (work.Plan edit marks) may = (λ k e. cc, λ busy. refl)
 busy_due starts h s (work.Commit c) may = (λ k e. cc, λ busy. staged c may.unended (stage_of c) refl)
 busy_due starts h s (work.Move r) may = (λ k e. cc, λ busy. refl)
+busy_due starts h s (work.Upkeep u) may = (λ k e. cc, λ busy. refl)
 
 -- a task that begins
 pub begins_shown : (pin : Option Pin) (t : Task) (v : Work) → Begins pin t v → shown_work v ≡ Starting t
@@ -144,6 +180,10 @@ begins_shown pin task.Refresh v h = ap shown_work h
 begins_shown pin (task.Load p) v h = ap shown_work h.3
 begins_shown pin (task.List p) v h = ap shown_work h.3
 begins_shown pin (task.Commit edit marks) v h = ap shown_work h
+begins_shown pin task.BackWrite v h = ap shown_work h
+begins_shown pin task.BackRead v h = ap shown_work h
+begins_shown pin (task.Checkpoint i) v h = ap shown_work h
+begins_shown pin (task.Release i) v h = ap shown_work h
 
 module _ (starts : Starts) (says : Says) (proper : StartsProper starts) (last : StartsLast starts says) {L : Type 0} (w : WorldOf L) (is : IsWorld starts says w) (s : ℕ) (there : is_some (slice_get w.history.sessions s) ≡ true) where
   abbrev does : Work
@@ -151,38 +191,42 @@ module _ (starts : Starts) (says : Says) (proper : StartsProper starts) (last : 
 
   pub seat : s < length w.actors
   seat =
-      let k : s < length w.history.sessions = slice_get_within w.history.sessions s (node_in w.history s) (on_node starts says proper (state_of w) is.kept s there) in
+      let k : s < length w.history.sessions = slice_get_within w.history.sessions s (node_in w.history s) (on_node starts says proper (state_of w) is.kept.sessions s there) in
       subst (λ n. s < n) (sym is.seats) k
 
   -- what other sessions do, they may still do after events that aren't theirs
-  others_may : (q : ℕ) (own : Past) → AreOthers q own w.history.past → IsRun starts says (after own w.history) → May starts (after own w.history) q (work_in w.actors q)
-  others_may q own others run = may_last starts says last w.history is.kept.nodes is.kept.run q own run others (work_in w.actors q) (λ c at f i. due_drawn starts says proper (state_of w) is.kept q (running_as q c) (ap (running_of q) at) f i) (is.may q)
+  others_may : (q : ℕ) (own : Past) → AreOthers q own w.history.past → IsRun starts says (after own (live w.history)) → May starts (after own (live w.history)) q (work_in w.actors q)
+  others_may q own others run = may_last starts says last w.history is.kept.sessions.nodes is.kept.sessions.run q own run others (work_in w.actors q) (λ c at f i. due_drawn starts says proper (state_of w) is.kept.sessions q (running_as q c) (ap (running_of q) at) f i) (is.may q)
 
   -- ---- what a step takes
 
-  come_pinned : HasCome w.history s → IsSome (pin_of (memory_of (state_of w) s) s)
-  come_pinned come = subst (λ (o : Option Pin). IsSome o) (sym (pin_there starts says proper (state_of w) is.kept s come.login come.stays).0) refl
+  come_pinned : HasCome (live w.history) s → IsSome (pin_of (memory_of (state_of w) s) s)
+  come_pinned come = subst (λ (o : Option Pin). IsSome o) (sym (pin_there starts says proper (state_of w) is.kept.sessions s come.login come.stays).1) refl
 
   on : slice_get w.history.sessions s ≡ Some (node_in w.history s)
-  on = on_node starts says proper (state_of w) is.kept s there
+  on = on_node starts says proper (state_of w) is.kept.sessions s there
 
   pub node : IsNode w.history.clusters (node_in w.history s)
-  node = its_node starts says proper (state_of w) is.kept s there
+  node = its_node starts says proper (state_of w) is.kept.sessions s there
 
-  moved_ended : (r : Revision) → May starts w.history s (work.Move r) → HasEnded (memory_of (state_of w) s) r
+  moved_ended : (r : Revision) → May starts (live w.history) s (work.Move r) → HasEnded (memory_of (state_of w) s) r
   moved_ended r may =
-      has_ended w.history.clusters w.history.sessions is.kept.nodes w.history.past (sound_run w.history.clusters w.history.sessions is.kept.nodes starts says w.history.past is.kept.run) (node_in w.history s) node (memory_of (state_of w) s) (is.kept.memories.memory (node_in w.history s) node) r
+      has_ended w.history.clusters w.history.sessions is.kept.sessions.nodes w.history.past (sound_run w.history.clusters w.history.sessions is.kept.sessions.nodes starts says w.history.past is.kept.sessions.run) (node_in w.history s) node (memory_of (state_of w) s) (is.kept.sessions.memories.memory (node_in w.history s) node) r
       (let k : Some r.cluster ≡ Some (node_in w.history s) = sym may.2 ∙ on in cc)
-      (ended_was_drawn starts says w.history.clusters w.history.sessions w.history.past is.kept.run r may.1) may.1
+      (ended_was_drawn starts says w.history.clusters w.history.sessions w.history.past is.kept.sessions.run r may.1) may.1
 
-  can_by : (v : Work) → work_in w.actors s ≡ v → May starts w.history s v → (places : ℕ) → needed v ≤ places → length w.history.past < 2 ^ 63 → CanStep s (memory_of (state_of w) s) places v
+  can_by : (v : Work) → work_in w.actors s ≡ v → May starts (live w.history) s v → (places : ℕ) → needed v ≤ places → length w.history.past < 2 ^ 63 → CanStep s (memory_of (state_of w) s) places v
   can_by work.Rest at may places kept short = tt
   can_by work.Login at may places kept short = tt
-  can_by work.End at may places kept short = tt
+  can_by work.End at may places kept short =
+      let k : s < length w.history.sessions = slice_get_within w.history.sessions s (node_in w.history s) on in
+      let few : length w.history.sessions ≤ 64 = is.few in
+      omega arith
   can_by work.Refresh at may places kept short = come_pinned may
   can_by (work.Read r) at may places kept short = tt
-  can_by (work.Plan edit marks) at may places kept short = let t : known_time (memory_of (state_of w) s) ≤ length w.history.past = time_known starts says proper (state_of w) is.kept (node_in w.history s) node in omega arith
-  can_by (work.Commit c) at may places kept short = record { flying = flies_there starts says proper (state_of w) is.kept s (running_as s c) (ap (running_of s) at); unended = may.unended; kept = kept }
+  can_by (work.Plan edit marks) at may places kept short = let t : known_time (memory_of (state_of w) s) ≤ length w.history.past = time_known starts says proper (state_of w) is.kept.sessions (node_in w.history s) node in omega arith
+  can_by (work.Commit c) at may places kept short = record { flying = flies_there starts says proper (state_of w) is.kept.sessions s (running_as s c) (ap (running_of s) at); unended = may.unended; kept = kept }
+  can_by (work.Upkeep u) at may places kept short = tt
   can_by (work.Move r) at may places kept short = record { ended = moved_ended r may; pinned = come_pinned may.0; place = kept }
 
   pub can_step : (places : ℕ) → needed (work_in w.actors s) ≤ places → length w.history.past < 2 ^ 63 → CanStep s (memory_of (state_of w) s) places (work_in w.actors s)
@@ -190,29 +234,36 @@ module _ (starts : Starts) (says : Says) (proper : StartsProper starts) (last : 
 
   -- ---- a step
 
+  -- no session has the number of its cursor
+  few_sessions : slice_get w.history.sessions (cursor_owner s) ≡ None
+  few_sessions = none_behind (cursor_owner s) w.history.sessions (let few : length w.history.sessions ≤ 64 = is.few in omega (arith, few))
+
   module _ (u : WorldOf L) (o : StepOut) (m : StepsIn w s u o) where
     step_is : IsStepOf starts says s (state_of w) (work_in w.actors s) (state_of u) m.does o
-    step_is = any_step starts says proper (state_of w) is.kept s there is.table (work_in w.actors s) refl refl (is.may s) (state_of u) m.does o m.makes
+    step_is = any_step starts says proper (state_of w) is.kept s there few_sessions (is.detached s) is.table (work_in w.actors s) refl refl (is.may s) (state_of u) m.does o m.makes
 
-    grown : u.history ≡ after step_is.own w.history
+    grown : (live u.history) ≡ after step_is.own (live w.history)
     grown = step_is.grown
 
-    run_now : IsRun starts says (after step_is.own w.history)
-    run_now = subst (λ (h : History). IsRun starts says h) grown step_is.kept.run
+    run_now : IsRun starts says (after step_is.own (live w.history))
+    run_now = subst (λ (h : History). IsRun starts says h) grown step_is.kept.sessions.run
 
     does_now : work_in u.actors s ≡ m.does
     does_now = ap (λ (a : ActorState). a.work) (set_is w s seat u.actors _ m.actors)
 
-    may_by : (q : ℕ) (b : Bool) → (q == s) ≡ b → May starts u.history q (work_in u.actors q)
-    may_by q true same = subst (λ (n : ℕ). May starts u.history n (work_in u.actors n)) (sym (same_number q s same))
-        (subst (λ (h : History). May starts h s (work_in u.actors s)) (sym grown) (subst (λ (v : Work). May starts (after step_is.own w.history) s v) (sym does_now) step_is.may))
+    may_by : (q : ℕ) (b : Bool) → (q == s) ≡ b → May starts (live u.history) q (work_in u.actors q)
+    may_by q true same = subst (λ (n : ℕ). May starts (live u.history) n (work_in u.actors n)) (sym (same_number q s same))
+        (subst (λ (h : History). May starts h s (work_in u.actors s)) (sym grown) (subst (λ (v : Work). May starts (after step_is.own (live w.history)) s v) (sym does_now) step_is.may))
     may_by q false apart = subst (λ (h : History). May starts h q (work_in u.actors q)) (sym grown)
-        (subst (λ (v : Work). May starts (after step_is.own w.history) q v) (sym (ap (λ (a : ActorState). a.work) (others_are w s seat u.actors _ m.actors q apart))) (others_may q step_is.own (step_is.apart q apart) run_now))
+        (subst (λ (v : Work). May starts (after step_is.own (live w.history)) q v) (sym (ap (λ (a : ActorState). a.work) (others_are w s seat u.actors _ m.actors q apart))) (others_may q step_is.own (step_is.apart q apart) run_now))
 
     pub step_keeps : IsTable u.table.documents → IsWorld starts says u
     step_keeps table = record {
       kept = step_is.kept;
       table = table;
+      few = subst (λ (h : History). length h.sessions ≤ 64) (sym grown) is.few;
+      detached = λ q. subst (λ (h : History). is_attached h.past q ≡ false) (sym grown) (step_is.detached q (is.detached q));
+      unsplit = λ p. ap (λ (f : Path → List Document). f p) step_is.same ∙ is.unsplit p;
       seats = ap length m.actors ∙ (length-set w.actors s _ ∙ (is.seats ∙ sym (ap (λ (h : History). length h.sessions) grown)));
       may = λ q. may_by q (q == s) refl;
     }
@@ -221,8 +272,8 @@ module _ (starts : Starts) (says : Says) (proper : StartsProper starts) (last : 
     step_seen name = record {
       others = [];
       own = step_is.own;
-      grows = record { grown = grown; theirs = refl; run = step_is.kept.run };
-      makes = subst (λ (v : Work). Tells w.history s (shown_work (work_in w.actors s)) o step_is.own (shown_work v)) (sym does_now) step_is.tells;
+      grows = record { grown = grown; theirs = refl; run = step_is.kept.sessions.run };
+      makes = subst (λ (v : Work). Tells (live w.history) s (shown_work (work_in w.actors s)) o step_is.own (shown_work v)) (sym does_now) step_is.tells;
       of_step = step_is.of_step;
       as_due = step_is.as_due;
       session = refl;
@@ -234,17 +285,20 @@ module _ (starts : Starts) (says : Says) (proper : StartsProper starts) (last : 
   -- ---- other calls
 
   -- a session does something else, and no event is added
-  set_keeps : (a : ActorState) → IsKept starts says (state_with w.history w.table w.memories (slice_set w.actors s a)) → May starts w.history s a.work → IsWorld starts says (record w { actors = slice_set w.actors s a })
+  set_keeps : (a : ActorState) → IsKept starts says (state_with w.history w.table w.memories (slice_set w.actors s a)) → May starts (live w.history) s a.work → IsWorld starts says (record w { actors = slice_set w.actors s a })
   set_keeps a kept may = record {
     kept = kept;
     table = is.table;
+    few = is.few;
+    detached = is.detached;
+    unsplit = is.unsplit;
     seats = length-set w.actors s a ∙ is.seats;
     may = λ q. by q (q == s) refl;
   }
     where
-      by : (q : ℕ) (b : Bool) → (q == s) ≡ b → May starts w.history q (work_in (slice_set w.actors s a) q)
-      by q true same = subst (λ (n : ℕ). May starts w.history n (work_in (slice_set w.actors s a) n)) (sym (same_number q s same)) (subst (λ (b : ActorState). May starts w.history s b.work) (sym (set_is w s seat (slice_set w.actors s a) a refl)) may)
-      by q false apart = subst (λ (b : ActorState). May starts w.history q b.work) (sym (others_are w s seat (slice_set w.actors s a) a refl q apart)) (is.may q)
+      by : (q : ℕ) (b : Bool) → (q == s) ≡ b → May starts (live w.history) q (work_in (slice_set w.actors s a) q)
+      by q true same = subst (λ (n : ℕ). May starts (live w.history) n (work_in (slice_set w.actors s a) n)) (sym (same_number q s same)) (subst (λ (b : ActorState). May starts (live w.history) s b.work) (sym (set_is w s seat (slice_set w.actors s a) a refl)) may)
+      by q false apart = subst (λ (b : ActorState). May starts (live w.history) q b.work) (sym (others_are w s seat (slice_set w.actors s a) a refl q apart)) (is.may q)
 
   -- the state, where the session does this
   set_state : (a : ActorState) → state_with w.history w.table w.memories (slice_set w.actors s a) ≡ record (state_of w) { running = with_session (state_of w).running s (running_of s a.work); reading = with_session (state_of w).reading s (reading_of a.work) }
@@ -269,22 +323,33 @@ module _ (starts : Starts) (says : Says) (proper : StartsProper starts) (last : 
     begun v = record (actor_in w.actors s) { work = v; began = length w.history.past }
 
     -- a task that reads nothing
-    quiet_keeps : (v : Work) → running_of s v ≡ None → reading_of v ≡ None → May starts w.history s v → IsWorld starts says (with_work w s v)
+    quiet_keeps : (v : Work) → running_of s v ≡ None → reading_of v ≡ None → May starts (live w.history) s v → IsWorld starts says (with_work w s v)
     quiet_keeps v running reading may = set_keeps (begun v) (subst (λ (t : State). IsKept starts says t) (sym (same_state (begun v) (ap (running_of s) idle ∙ sym running) (ap reading_of idle ∙ sym reading))) is.kept) may
 
-    reads_keeps : (r : Reader) → IsKept starts says (with_reader (state_of w) s (Some r)) → HasCome w.history s → IsWorld starts says (with_work w s (work.Read r))
+    reads_keeps : (r : Reader) → IsKept starts says (with_reader (state_of w) s (Some r)) → HasCome (live w.history) s → IsWorld starts says (with_work w s (work.Read r))
     reads_keeps r kept come = set_keeps (begun (work.Read r)) (subst (λ (t : State). IsKept starts says t) (sym (reader_state (begun (work.Read r)) (ap (running_of s) idle))) kept) come
 
-    pub start_keeps : (t : Task) (v : Work) → MayBegin starts w.history s t → Begins (pin_of (memory_of (state_of w) s) s) t v → IsWorld starts says (with_work w s v)
+    upkeep_keeps : (u : Upkeep) (v : Work) → v ≡ work.Upkeep u → HasCome (live w.history) s → MayKeepUp (live w.history) s u → IsWorld starts says (with_work w s v)
+    upkeep_keeps u v is come may = subst (λ (x : Work). IsWorld starts says (with_work w s x)) (sym is) (quiet_keeps (work.Upkeep u) refl refl (come, may))
+
+    -- a session reads at the pin of its node's memory
+    reads_at_pin : (pin : Pin) → pin_of (memory_of (state_of w) s) s ≡ Some pin → actor_pin (state_of w) s ≡ Some pin
+    reads_at_pin pin has = ap (λ b. cond b (reader_pin w.table s) (pin_of (memory_of (state_of w) s) s)) (is.detached s) ∙ has
+
+    pub start_keeps : (t : Task) (v : Work) → MayBegin starts (live w.history) s t → Begins (pin_of (memory_of (state_of w) s) s) t v → IsWorld starts says (with_work w s v)
     start_keeps task.Login v may h = subst (λ (x : Work). IsWorld starts says (with_work w s x)) (sym h) (quiet_keeps work.Login refl refl may)
     start_keeps task.End v may h = subst (λ (x : Work). IsWorld starts says (with_work w s x)) (sym h) (quiet_keeps work.End refl refl (record { login = may.0; stays = may.1 }))
     start_keeps task.Refresh v may h = subst (λ (x : Work). IsWorld starts says (with_work w s x)) (sym h) (quiet_keeps work.Refresh refl refl (record { login = may.0; stays = may.1 }))
-    start_keeps (task.Load p) v may h = subst (λ (x : Work). IsWorld starts says (with_work w s x)) (sym h.3) (reads_keeps (node_reader h.0 h.1 p) (load_keeps starts says proper (state_of w) is.kept s there h.0 h.1 p h.2) (record { login = may.0; stays = may.1 }))
-    start_keeps (task.List p) v may h = subst (λ (x : Work). IsWorld starts says (with_work w s x)) (sym h.3) (reads_keeps (children_reader h.0 h.1 p) (list_keeps starts says proper (state_of w) is.kept s there h.0 h.1 p h.2) (record { login = may.0; stays = may.1 }))
+    start_keeps (task.Load p) v may h = subst (λ (x : Work). IsWorld starts says (with_work w s x)) (sym h.3) (reads_keeps (node_reader h.0 h.1 p) (load_whole starts says proper (state_of w) is.kept s h.0 h.1 p may.0 may.1 (reads_at_pin h.1 h.2)) (record { login = may.0; stays = may.1 }))
+    start_keeps (task.List p) v may h = subst (λ (x : Work). IsWorld starts says (with_work w s x)) (sym h.3) (reads_keeps (children_reader h.0 h.1 p) (list_whole starts says proper (state_of w) is.kept s h.0 h.1 p may.0 may.1 (reads_at_pin h.1 h.2)) (record { login = may.0; stays = may.1 }))
     start_keeps (task.Commit edit marks) v may h = subst (λ (x : Work). IsWorld starts says (with_work w s x)) (sym h) (quiet_keeps (work.Plan edit marks) refl refl (record { login = may.0; stays = may.1 }, may.3))
+    start_keeps task.BackWrite v may h = upkeep_keeps upkeep.Write v h (record { login = may.0; stays = may.1 }) tt
+    start_keeps task.BackRead v may h = upkeep_keeps upkeep.Read v h (record { login = may.0; stays = may.1 }) tt
+    start_keeps (task.Checkpoint i) v may h = upkeep_keeps (upkeep.Checkpoint i) v h (record { login = may.0; stays = may.1 }) tt
+    start_keeps (task.Release i) v may h = upkeep_keeps (upkeep.Release i) v h (record { login = may.0; stays = may.1 }) tt
 
     -- a reply is said
-    module _ (i : ℕ) (text : Text) (next : i ≡ next_index w.history.past s) (lawful : says w.history s i text) where
+    module _ (i : ℕ) (text : Text) (next : i ≡ next_index w.history.past s) (lawful : says (live w.history) s i text) where
       abbrev said : Event
       said = event.Said s i text
 
@@ -296,7 +361,7 @@ module _ (starts : Starts) (says : Says) (proper : StartsProper starts) (last : 
           by false k = refl
 
       kept_said : IsKept starts says (after_said (state_of w) s i text)
-      kept_said = said_keeps starts says proper (state_of w) is.kept s i text next lawful
+      kept_said = said_whole starts says proper (state_of w) is.kept s i text next lawful
 
       said_state : state_of (said_in w s i text) ≡ after_said (state_of w) s i text
       said_state = ap (λ (t : State). record t { past = said ∷ w.history.past }) (same_state (record (actor_in w.actors s) { reply = None }) refl refl)
@@ -305,17 +370,20 @@ module _ (starts : Starts) (says : Says) (proper : StartsProper starts) (last : 
       said_keep = record {
         kept = subst (λ (t : State). IsKept starts says t) (sym said_state) kept_said;
         table = is.table;
+        few = is.few;
+        detached = is.detached;
+        unsplit = is.unsplit;
         seats = length-set w.actors s (record (actor_in w.actors s) { reply = None }) ∙ is.seats;
         may = λ q. by q (q == s) refl;
       }
         where
-          by : (q : ℕ) (b : Bool) → (q == s) ≡ b → May starts (after (said ∷ []) w.history) q (work_in (slice_set w.actors s (record (actor_in w.actors s) { reply = None })) q)
-          by q true same = subst (λ (n : ℕ). May starts (after (said ∷ []) w.history) n (work_in (slice_set w.actors s (record (actor_in w.actors s) { reply = None })) n)) (sym (same_number q s same))
-              (subst (λ (v : Work). May starts (after (said ∷ []) w.history) s v) (sym (ap (λ (a : ActorState). a.work) (set_is w s seat (slice_set w.actors s (record (actor_in w.actors s) { reply = None })) (record (actor_in w.actors s) { reply = None }) refl) ∙ idle)) tt)
-          by q false apart = subst (λ (a : ActorState). May starts (after (said ∷ []) w.history) q a.work) (sym (others_are w s seat (slice_set w.actors s (record (actor_in w.actors s) { reply = None })) (record (actor_in w.actors s) { reply = None }) refl q apart)) (others_may q (said ∷ []) (said_others q apart) kept_said.run)
+          by : (q : ℕ) (b : Bool) → (q == s) ≡ b → May starts (after (said ∷ []) (live w.history)) q (work_in (slice_set w.actors s (record (actor_in w.actors s) { reply = None })) q)
+          by q true same = subst (λ (n : ℕ). May starts (after (said ∷ []) (live w.history)) n (work_in (slice_set w.actors s (record (actor_in w.actors s) { reply = None })) n)) (sym (same_number q s same))
+              (subst (λ (v : Work). May starts (after (said ∷ []) (live w.history)) s v) (sym (ap (λ (a : ActorState). a.work) (set_is w s seat (slice_set w.actors s (record (actor_in w.actors s) { reply = None })) (record (actor_in w.actors s) { reply = None }) refl) ∙ idle)) tt)
+          by q false apart = subst (λ (a : ActorState). May starts (after (said ∷ []) (live w.history)) q a.work) (sym (others_are w s seat (slice_set w.actors s (record (actor_in w.actors s) { reply = None })) (record (actor_in w.actors s) { reply = None }) refl q apart)) (others_may q (said ∷ []) (said_others q apart) kept_said.sessions.run)
 
 -- what a port tells of a reply
-pub answers_shown : (starts : Starts) (says : Says) {L : Type 0} (w : WorldOf L) (s : ℕ) (seat : s < length w.actors) (idle : work_in w.actors s ≡ work.Rest) (name : GName) (i : ℕ) (text : Text) → IsRun starts says (said_in w s i text).history → Answers starts says (shown_at name w s) (shown_at name (said_in w s i text) s) i text
+pub answers_shown : (starts : Starts) (says : Says) {L : Type 0} (w : WorldOf L) (s : ℕ) (seat : s < length w.actors) (idle : work_in w.actors s ≡ work.Rest) (name : GName) (i : ℕ) (text : Text) → IsRun starts says (live (said_in w s i text).history) → Answers starts says (shown_at name w s) (shown_at name (said_in w s i text) s) i text
 answers_shown starts says w s seat idle name i text run = record {
   others = [];
   grows = record { grown = refl; theirs = refl; run = run };

@@ -1,4 +1,7 @@
 -- A step of a session on its parts is a step of the state.
+use Rattle.oak_doc.specs.declared.document.Document.{Document}
+use Rattle.core_world.specs.States.{moved_in}
+use Rattle.core_world.proofs.Unsplit.{whole_alone}
 use Rattle.std.proofs.Common.{◌≡◌, ◌⊎◌, inl, inr, ℕ, ◌<◌, Bool, true, false, cond, Option, Some, None, List, [], ◌∷◌, ◌++◌, length, drop, sym, ap, subst, ◌∙◌}
 use Rattle.std.proofs.lemmas.List.{reverse-append, reverse-reverse}
 use Rattle.std.specs.Prelude.{reverse}
@@ -70,6 +73,19 @@ module _ {L : Type 0} (w : WorldOf L) (s : ℕ) (there : s < length w.actors) wh
       moved_is w s there (parts w.table m (reverse w.history.past ++ e ∷ [])) a
       ∙ (ap (λ (past : Past). moved w s there past w.table m (running_of s a.work) (reading_of a.work)) (newest w.history.past e)
       ∙ quiet_is w s there (e ∷ w.history.past) w.table m (running_of s a.work) (reading_of a.work) running reading)
+
+  -- an event, the documents and the memory
+  pub keeps_is : (e : Event) (t : Table) (m : NodeState) (a : ActorState) → running_of s (work_in w.actors s) ≡ running_of s a.work → reading_of (work_in w.actors s) ≡ reading_of a.work
+      → state_of (with_parts w s (parts t m (reverse w.history.past ++ e ∷ [])) a) ≡ record (state_of w) { past = e ∷ w.history.past; table = t; memories = with_memory w.memories node m }
+  keeps_is e t m a running reading =
+      moved_is w s there (parts t m (reverse w.history.past ++ e ∷ [])) a
+      ∙ (ap (λ (past : Past). moved w s there past t m (running_of s a.work) (reading_of a.work)) (newest w.history.past e)
+      ∙ quiet_is w s there (e ∷ w.history.past) t m (running_of s a.work) (reading_of a.work) running reading)
+
+  -- an event and the documents
+  pub sets_is : (e : Event) (t : Table) (a : ActorState) → running_of s (work_in w.actors s) ≡ running_of s a.work → reading_of (work_in w.actors s) ≡ reading_of a.work
+      → state_of (with_parts w s (parts t memory (reverse w.history.past ++ e ∷ [])) a) ≡ record (state_of w) { past = e ∷ w.history.past; table = t }
+  sets_is e t a running reading = keeps_is e t memory a running reading ∙ ap (λ (ms : List NodeState). record (state_of w) { past = e ∷ w.history.past; table = t; memories = ms }) (memory_same w.memories node)
 
   -- ---- a commit
 
@@ -166,12 +182,24 @@ module _ {L : Type 0} (w : WorldOf L) (s : ℕ) (there : s < length w.actors) wh
       fed_is : fed_made w.table c ≡ stands
       fed_is = ap (λ (o : UpdateOp). fed c (reply.Updated (found_in w.table o.id))) op_written ∙ fed_write c at.going at.first at.rest at.unmet at.left (nodes_in w.table at.first)
 
-      pub makes_write : IsWritten s w.table q.table (reverse w.history.past) q.list c d → MakesUpdate s (state_of w) c now d kind.Write
-      makes_write m = (at.first, at.rest, at.going, at.unmet, at.left, by m.committer)
+      -- the document is all that the committer looks at, where no previous one is listed
+      seen_whole : Option Document → State
+      seen_whole o = record (state_of w) {
+        past = event.Went s kind.Write ∷ w.history.past;
+        table = after_update w.table (write_op c.revision c.edit.writes c.marks at.first);
+        running = with_session (state_of w).running s (Some (record { draw = (running_as s c).draw; writer = record (running_as s c).writer { left = at.rest; written = c.writer.written ++ at.first ∷ []; due = Rattle.oak_commit.specs.Clashing.found c.base c.revision at.first c.marks o }; committed = (running_as s c).committed }));
+      }
+
+      pub makes_write : moved_in w.table at.first ≡ [] → IsWritten s w.table q.table (reverse w.history.past) q.list c d → MakesUpdate s (state_of w) c now d kind.Write
+      unfolding seen_whole
+      makes_write alone m = (at.first, at.rest, at.going, at.unmet, at.left, by m.committer)
         where
+          seen_alone : seen_whole (nodes_in w.table at.first) ≡ after_write (state_of w) s (running_as s c) at.first at.rest
+          seen_alone = ap seen_whole (sym (whole_alone w.table at.first alone))
+
           by : (d ≡ fed_made w.table c) ⊎ (d ≡ wanting (fed_made w.table c))
               → ((now ≡ after_write (state_of w) s (running_as s c) at.first at.rest) × (d ≡ stands)) ⊎ ((now ≡ after_write_in_want (state_of w) s (running_as s c) at.first at.rest) × (d ≡ wanting stands))
-          by (inl e) = inl (update_is (event.Went s kind.Write) (after_update w.table (write_op c.revision c.edit.writes c.marks at.first)) stands m.list (table_written m.made) (e ∙ fed_is), e ∙ fed_is)
+          by (inl e) = inl (update_is (event.Went s kind.Write) (after_update w.table (write_op c.revision c.edit.writes c.marks at.first)) stands m.list (table_written m.made) (e ∙ fed_is) ∙ seen_alone, e ∙ fed_is)
           by (inr e) = inr (
             update_is (event.Went s kind.Write) (after_update w.table (write_op c.revision c.edit.writes c.marks at.first)) (wanting stands) m.list (table_written m.made) (e ∙ ap wanting fed_is)
                 ∙ ap (λ (b : Bool). record (state_of w) { past = event.Went s kind.Write ∷ w.history.past; table = after_update w.table (write_op c.revision c.edit.writes c.marks at.first); running = with_session (state_of w).running s (Some (record (running_as s (wanting stands)) { committed = b })) }) (sym (ap is_past at.going)),

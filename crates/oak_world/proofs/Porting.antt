@@ -16,7 +16,7 @@ use Rattle.oak_world.specs.declared.actor.Work.{Work}
 use Rattle.oak_world.specs.declared.actor.Work.TheVariants as work
 use Rattle.oak_world.specs.Seen.{shown_at, shown_work}
 use Rattle.oak_world.specs.Steps.{Begins, IsIdle}
-use Rattle.oak_world.specs.Worlds.{WorldOf, actor_in, said_in, with_reply, with_work, work_in}
+use Rattle.oak_world.specs.Worlds.{WorldOf, actor_in, live, said_in, with_reply, with_work, work_in}
 use Rattle.oak_world.proofs.Keeping.{answers_shown, begins_shown, idle_shown, still_waits, waits}
 
 -- a session that does nothing is shown to do nothing, and the other way round
@@ -46,7 +46,7 @@ module _ {L : Type 0} (w u : WorldOf L) (s : ℕ) (r : Result Unit AllocError) w
       by (Ok x) ok err = ap (λ (x : WorldOf L). x.law) ok
       by (Err x) ok err = ap (λ (x : WorldOf L). x.law) err
 
-module _ (starts : Starts) (says : Says) {L : Type 0} (w : WorldOf L) (s : ℕ) (there : is_some (slice_get w.history.sessions s) ≡ true) (run : IsRun starts says w.history) (seats : length w.actors ≡ length w.history.sessions) (name : GName) where
+module _ (starts : Starts) (says : Says) {L : Type 0} (w : WorldOf L) (s : ℕ) (there : is_some (slice_get w.history.sessions s) ≡ true) (run : IsRun starts says (live w.history)) (seats : length w.actors ≡ length w.history.sessions) (name : GName) where
   seat : s < length w.actors
   seat = subst (λ (n : ℕ). s < n) (sym seats) (within w.history.sessions s (slice_get w.history.sessions s) refl there)
 
@@ -74,8 +74,8 @@ module _ (starts : Starts) (says : Says) {L : Type 0} (w : WorldOf L) (s : ℕ) 
     none_waits u e = subst (λ x. Waits starts says (shown_at name w s) (shown_at name u s) x (actor_in w.actors s).reply) idle (same_waits u e)
 
     -- a reply is said
-    pub say_answers : (u : WorldOf L) (i : ℕ) (text : Text) → u ≡ said_in w s i text → IsRun starts says u.history → Answers starts says (shown_at name w s) (shown_at name u s) i text
-    say_answers u i text e now = subst (λ (x : WorldOf L). Answers starts says (shown_at name w s) (shown_at name x s) i text) (sym e) (answers_shown starts says w s seat rests name i text (subst (λ (x : WorldOf L). IsRun starts says x.history) e now))
+    pub say_answers : (u : WorldOf L) (i : ℕ) (text : Text) → u ≡ said_in w s i text → IsRun starts says (live u.history) → Answers starts says (shown_at name w s) (shown_at name u s) i text
+    say_answers u i text e now = subst (λ (x : WorldOf L). Answers starts says (shown_at name w s) (shown_at name x s) i text) (sym e) (answers_shown starts says w s seat rests name i text (subst (λ (x : WorldOf L). IsRun starts says (live x.history)) e now))
 
 -- the room of a reply
 pub room_by : (o : Option ℕ) (n : ℕ) → HasRoom o n → IsSomeAnd o (λ bytes. n ≤ bytes)

@@ -1,7 +1,7 @@
 -- The seat of a session, its cluster node and that node's memory, by the fields of a world.
-use Rattle.std.proofs.Common.{◌≡◌, ℕ, ◌-◌, ◌<◌, ◌≤◌, true, Option, Some, List, length, map, is_some, sym, ap, subst, ◌∙◌, arith}
+use Rattle.std.proofs.Common.{◌≡◌, ℕ, zero, suc, ◌-◌, ◌<◌, ◌≤◌, true, Option, Some, List, [], ◌∷◌, length, map, is_some, refl, sym, ap, subst, ◌∙◌, arith}
 use Rattle.std.proofs.Math.ListN.{get_or}
-use Rattle.std.specs.Prelude.{slice_get}
+use Rattle.std.specs.Prelude.{slice_get, slice_index_or}
 use Rattle.std.specs.Option.{unwrap_or}
 use Rattle.std.proofs.lemmas.List.{length-map}
 use Rattle.std.proofs.lemmas.Option.{slice_get-get_or, slice_get_within}
@@ -24,13 +24,19 @@ use Rattle.oak_world.proofs.Calls.{actor_shown}
 pub read_at : {X : Type 0} (xs : List X) (i : ℕ) (d x : X) → i < length xs → x ≡ get_or xs i d → slice_get xs i ≡ Some x
 read_at xs i d x within is = slice_get-get_or xs i d within ∙ ap Some (sym is)
 
+-- what is read at a number of a list that is there
+pub index_there : (xs : List ℕ) (i : ℕ) → is_some (slice_get xs i) ≡ true → slice_get xs i ≡ Some (slice_index_or xs i 0)
+index_there [] i h = cc
+index_there (x ∷ xs) zero h = refl
+index_there (x ∷ xs) (suc i) h = index_there xs i h
+
 module _ (starts : Starts) (says : Says) (proper : StartsProper starts) {L : Type 0} (law : L) (j : Journal) (t : Table) (ms : List NodeState) (actors : List Actor) (is : IsWorld starts says (shown_world law j t ms actors))
     (s : ℕ) (there : is_some (slice_get j.sessions s) ≡ true) where
   abbrev w : WorldOf L
   w = shown_world law j t ms actors
 
   pub session_on : slice_get j.sessions s ≡ Some (node_in w.history s)
-  session_on = on_node starts says proper (state_of w) is.kept s there
+  session_on = on_node starts says proper (state_of w) is.kept.sessions s there
 
   pub session_within : s < length j.sessions
   session_within = slice_get_within j.sessions s (node_in w.history s) session_on
@@ -39,7 +45,7 @@ module _ (starts : Starts) (says : Says) (proper : StartsProper starts) {L : Typ
   actor_within = subst (λ (n : ℕ). s < n) (sym is.seats ∙ length-map actors shown_actor) session_within
 
   node : IsNode j.clusters (node_in w.history s)
-  node = its_node starts says proper (state_of w) is.kept s there
+  node = its_node starts says proper (state_of w) is.kept.sessions s there
 
   module _ (k : ℕ) (read : slice_get j.sessions s ≡ Some k) where
     pub node_is : node_in w.history s ≡ k
@@ -52,7 +58,7 @@ module _ (starts : Starts) (says : Says) (proper : StartsProper starts) {L : Typ
     memory_within =
         let low : 1 ≤ k = node_low in
         let high : k ≤ j.clusters = subst (λ (n : ℕ). n ≤ j.clusters) node_is node.1 in
-        let counted : length ms ≡ j.clusters = is.kept.memories.counted in
+        let counted : length ms ≡ j.clusters = is.kept.sessions.memories.counted in
         omega arith
 
     -- the memory of its node

@@ -1,4 +1,6 @@
 -- The world before any step.
+use Rattle.jr_path.specs.declared.path.Path.{Path}
+use Rattle.core_world.proofs.Begun.{start_moved}
 use Rattle.std.proofs.Common.{◌≡◌, ℕ, zero, suc, ◌+◌, ◌-◌, ◌≤◌, List, [], ◌∷◌, ◌++◌, length, map, Option, Some, None, refl, sym, ap, subst, ◌∙◌, arith}
 use Rattle.std.specs.Prelude.{reverse, slice_get, sum_by}
 use Rattle.std.specs.List.{range_with_len}
@@ -19,7 +21,7 @@ use Rattle.core_nodes.proofs.Events.{start_entry}
 use Rattle.core_world.specs.Kept.{IsKept}
 use Rattle.core_world.specs.Start.{start_documents, start_state, start_table}
 use Rattle.core_world.specs.States.{State}
-use Rattle.core_world.proofs.Begun.{start_kept}
+use Rattle.core_world.proofs.Whole.{start_whole}
 use Rattle.core_world.proofs.Named.{start_in_order}
 use Rattle.oak_read.specs.declared.reader.Reader.{Reader}
 use Rattle.core_clash.specs.Sessions.{Running}
@@ -28,7 +30,7 @@ use Rattle.oak_world.specs.declared.actor.Actor.{Actor}
 use Rattle.oak_world.specs.declared.actor.Work.{Work}
 use Rattle.oak_world.specs.declared.actor.Work.TheVariants as work
 use Rattle.oak_world.specs.Kept.{ArePlaced, IsPlaced, IsWorld, May}
-use Rattle.oak_world.specs.Worlds.{ActorState, WorldOf, idle, reading_of, running_of, shown_actor, shown_world, start_world, state_of, work_in}
+use Rattle.oak_world.specs.Worlds.{ActorState, WorldOf, idle, live, reading_of, running_of, shown_actor, shown_world, start_world, state_of, work_in}
 
 -- the seat of a session that does nothing
 abbrev pub idle_actor : Actor
@@ -58,12 +60,15 @@ start_same law clusters sessions =
     ap (λ (f : ℕ → Option Running). record (start_state clusters sessions) { running = f; reading = λ s. reading_of (work_in (map (λ k. idle) sessions) s) }) (fun_ext (λ s. ap (running_of s) (idle_works sessions s)))
     ∙ ap (λ (f : ℕ → Option Reader). record (start_state clusters sessions) { reading = f }) (fun_ext (λ s. ap reading_of (idle_works sessions s)))
 
-pub start_is_world : (starts : Starts) (says : Says) {L : Type 0} (law : L) (clusters : ℕ) (sessions : List ℕ) → AreNodes clusters sessions → IsWorld starts says (start_world law clusters sessions)
-start_is_world starts says law clusters sessions nodes = record {
-  kept = subst (λ (t : State). IsKept starts says t) (sym (start_same law clusters sessions)) (start_kept starts says clusters sessions nodes);
+pub start_is_world : (starts : Starts) (says : Says) {L : Type 0} (law : L) (clusters : ℕ) (sessions : List ℕ) → length sessions ≤ 64 → AreNodes clusters sessions → IsWorld starts says (start_world law clusters sessions)
+start_is_world starts says law clusters sessions few nodes = record {
+  kept = subst (λ (t : State). IsKept starts says t) (sym (start_same law clusters sessions)) (start_whole starts says clusters sessions nodes);
   table = start_in_order clusters (length sessions);
+  few = few;
+  detached = λ s. refl;
+  unsplit = λ p. ap (λ (f : Path → List Document). f p) (start_moved clusters (length sessions));
   seats = length-map sessions (λ k. idle);
-  may = λ s. subst (λ (v : Work). May starts (start_world law clusters sessions).history s v) (sym (idle_works sessions s)) tt;
+  may = λ s. subst (λ (v : Work). May starts (live (start_world law clusters sessions).history) s v) (sym (idle_works sessions s)) tt;
 }
 
 -- ---- places
@@ -89,7 +94,7 @@ seen_idle (k ∷ ks) = ap (λ xs. idle ∷ xs) (seen_idle ks)
 module _ {L : Type 0} (law : L) (clusters : ℕ) (sessions numbers : List ℕ) (es : Recorded) (t : Table) (ms : List NodeState) (actors : List Actor) (same : numbers ≡ sessions) (none : es ≡ record { list = []; places = 0 })
     (table : t ≡ start_table clusters (length sessions)) (memories : ms ≡ map (λ k. begun k (start clusters)) (range_with_len 1 clusters)) (seats : actors ≡ map (λ k. idle_actor) sessions) where
   abbrev now : WorldOf L
-  now = shown_world law (record { clusters = clusters; sessions = numbers; events = es }) t ms actors
+  now = shown_world law (record { clusters = clusters; sessions = numbers; events = es; start = None }) t ms actors
 
   pub start_is : now ≡ start_world law clusters sessions
   start_is =
@@ -99,9 +104,9 @@ module _ {L : Type 0} (law : L) (clusters : ℕ) (sessions numbers : List ℕ) (
       ∙ (ap (λ (ns : List NodeState). record (start_world law clusters sessions) { memories = ns; actors = map shown_actor actors }) memories
       ∙ ap (λ (xs : List ActorState). record (start_world law clusters sessions) { actors = xs }) (ap (map shown_actor) seats ∙ seen_idle sessions))))
 
-  pub start_call : (starts : Starts) (says : Says) → AreNodes clusters sessions → IsWorld starts says now × ArePlaced actors es.places
-  start_call starts says nodes = (
-    subst (λ (w : WorldOf L). IsWorld starts says w) (sym start_is) (start_is_world starts says law clusters sessions nodes),
+  pub start_call : (starts : Starts) (says : Says) → length sessions ≤ 64 → AreNodes clusters sessions → IsWorld starts says now × ArePlaced actors es.places
+  start_call starts says few nodes = (
+    subst (λ (w : WorldOf L). IsWorld starts says w) (sym start_is) (start_is_world starts says law clusters sessions few nodes),
     subst (λ (n : ℕ). ArePlaced actors n) (sym (ap (λ (e : Recorded). e.places) none)) (subst (λ (xs : List Actor). ArePlaced xs 0) (sym seats) (start_placed sessions)),
   )
 

@@ -1,5 +1,5 @@
 -- What a session does, it may still do after events of others.
-use Rattle.std.proofs.Common.{◌≡◌, inl, inr, ℕ, Bool, true, false, ◌||◌, List, [], ◌∷◌, ◌++◌, map, refl, sym, ap, ◌∙◌}
+use Rattle.std.proofs.Common.{◌≡◌, inl, inr, ℕ, Bool, true, false, ◌||◌, List, [], ◌∷◌, ◌++◌, map, refl, sym, ap, ◌∙◌, None}
 use Rattle.std.specs.List.{list_any}
 use Rattle.jr_path.specs.declared.path.Path.{Path}
 use Rattle.jr_rev.specs.declared.revision.Revision.{Revision}
@@ -21,7 +21,9 @@ use Rattle.core_world.proofs.Truths.{root_stays}
 use Rattle.oak_world.specs.declared.actor.Work.{Work}
 use Rattle.oak_world.specs.declared.actor.Work.TheVariants as work
 use Rattle.oak_world.specs.Kept.{May}
+use Rattle.oak_world.proofs.Lasting.{upkeep_lasts}
 use Rattle.oak_world.specs.Steps.{HasCome}
+use Rattle.oak_world.specs.Worlds.{Story, live}
 
 neither : (a b : Bool) → (a || b) ≡ false → (a ≡ false) × (b ≡ false)
 neither true b h = cc
@@ -65,7 +67,7 @@ drawn_lasts r (event.Draw d ∷ own) before h = still_drawn _ d (own ++ before) 
 drawn_lasts r (_ ∷ own) before h = drawn_lasts r own before h
 
 -- the commit roots of drawn revisions
-roots_last : (starts : Starts) (says : Says) (clusters : ℕ) (sessions : List ℕ) → AreNodes clusters sessions → (own before : Past) (r : Revision) → IsRunOf starts says clusters sessions (own ++ before) → is_drawn before r ≡ true → root_of (own ++ before) r ≡ root_of before r
+roots_last : (starts : Starts) (says : Says) (clusters : ℕ) (sessions : List ℕ) → AreNodes clusters sessions → (own before : Past) (r : Revision) → IsRunOf starts says clusters sessions None (own ++ before) → is_drawn before r ≡ true → root_of (own ++ before) r ≡ root_of before r
 roots_last starts says clusters sessions nodes [] before r run drawn = refl
 roots_last starts says clusters sessions nodes (e ∷ own) before r run drawn =
     root_stays starts says clusters sessions nodes e (own ++ before) r run (drawn_lasts r own before drawn)
@@ -75,17 +77,18 @@ pub same_roots : (f g : Met → Path) (ms : List Met) → ((m : Met) → In m ms
 same_roots f g [] same = refl
 same_roots f g (m ∷ ms) same = ap (λ x. x ∷ map f ms) (same m (inl refl)) ∙ ap (λ xs. g m ∷ xs) (same_roots f g ms (λ k h. same k (inr h)))
 
-module _ (starts : Starts) (says : Says) (last : StartsLast starts says) (h : History) (nodes : AreNodes h.clusters h.sessions) (run : IsRun starts says h) (q : ℕ) (own : Past) (now : IsRun starts says (after own h)) (others : AreOthers q own h.past) where
-  pub may_last : (v : Work) → ((c : Committing) → v ≡ work.Commit c → (f : Met) → In f c.writer.due → is_drawn h.past f.other ≡ true) → May starts h q v → May starts (after own h) q v
+module _ (starts : Starts) (says : Says) (last : StartsLast starts says) (h : Story) (nodes : AreNodes h.clusters h.sessions) (run : IsRun starts says (live h)) (q : ℕ) (own : Past) (now : IsRun starts says (after own (live h))) (others : AreOthers q own h.past) where
+  pub may_last : (v : Work) → ((c : Committing) → v ≡ work.Commit c → (f : Met) → In f c.writer.due → is_drawn h.past f.other ≡ true) → May starts (live h) q v → May starts (after own (live h)) q v
   may_last work.Rest drawn may = tt
   may_last work.Login drawn may = login_left q own h.past others ∙ may
-  may_last work.End drawn may = come_left h q own others may
-  may_last work.Refresh drawn may = come_left h q own others may
-  may_last (work.Read r) drawn may = come_left h q own others may
-  may_last (work.Plan edit marks) drawn may = (come_left h q own others may.0, last h own q edit marks nodes run now others may.1)
+  may_last work.End drawn may = come_left (live h) q own others may
+  may_last work.Refresh drawn may = come_left (live h) q own others may
+  may_last (work.Read r) drawn may = come_left (live h) q own others may
+  may_last (work.Plan edit marks) drawn may = (come_left (live h) q own others may.0, last (live h) own q edit marks nodes run now others may.1)
   may_last (work.Commit c) drawn may = record {
-    come = come_left h q own others may.come;
+    come = come_left (live h) q own others may.come;
     unended = may.unended;
     roots = may.roots ∙ sym (same_roots (λ f. root_of (own ++ h.past) f.other) (λ f. root_of h.past f.other) c.writer.due (λ f i. roots_last starts says h.clusters h.sessions nodes own h.past f.other now (drawn c refl f i)));
   }
-  may_last (work.Move r) drawn may = (come_left h q own others may.0, ended_lasts r own h.past may.1, may.2)
+  may_last (work.Upkeep u) drawn may = (come_left (live h) q own others may.0, upkeep_lasts starts says h nodes q own now u may.1)
+  may_last (work.Move r) drawn may = (come_left (live h) q own others may.0, ended_lasts r own h.past may.1, may.2)

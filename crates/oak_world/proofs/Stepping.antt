@@ -1,4 +1,6 @@
 -- A step of a session on its parts is, by what it does, one of the steps of the state.
+use Rattle.jr_path.specs.declared.path.Path.{Path}
+use Rattle.core_world.specs.States.{moved_in}
 use Rattle.std.proofs.Common.{◌≡◌, inl, inr, ℕ, ◌<◌, Bool, Option, Some, None, List, [], ◌∷◌, ◌++◌, length, map, refl, sym, ap, ◌∙◌}
 use Rattle.std.proofs.lemmas.List.{reverse-reverse}
 use Rattle.std.specs.Prelude.{reverse}
@@ -13,31 +15,38 @@ use Rattle.oak_machine.specs.declared.event.Event.{Event}
 use Rattle.oak_machine.specs.declared.event.Event.TheVariants as event
 use Rattle.oak_machine.specs.declared.event.StepKind.{StepKind}
 use Rattle.oak_machine.specs.declared.event.StepKind.TheVariants as kind
-use Rattle.oak_node.specs.Heads.{next_draw, with_draw}
+use Rattle.jr_path.specs.Ids.{names_of}
+use Rattle.jr_path.specs.declared.path.DocId.{DocId}
+use Rattle.oak_doc.specs.declared.update.Change.TheVariants as change
+use Rattle.oak_node.specs.Heads.{learned, next_draw, with_draw}
 use Rattle.oak_node.specs.Memory.{NodeState}
-use Rattle.oak_node.specs.Notes.{with_notes}
-use Rattle.oak_node.specs.Pins.{pin_now, with_pin, without_pin}
+use Rattle.oak_node.specs.Notes.{with_notes, without_seen}
+use Rattle.oak_node.specs.Pins.{pin_now, with_pin}
+use Rattle.core_nodes.specs.Nodes.{without_session}
 use Rattle.oak_read.specs.declared.reader.Reader.{Reader}
 use Rattle.oak_store.specs.Tables.{Table}
 use Rattle.core_clash.specs.Core.{root_of}
 use Rattle.core_world.specs.States.{State, memory_at, with_memory, with_session}
-use Rattle.core_world.specs.Steps.{after_finish, after_want, with_reader}
+use Rattle.core_world.specs.Steps.{after_finish, after_update, after_want, back_op, settings_op, with_reader}
 use Rattle.oak_port.specs.declared.task.StepOut.{StepOut}
 use Rattle.oak_port.specs.declared.task.StepOut.TheVariants as answers
 use Rattle.oak_port.specs.declared.task.TaskEnd.TheVariants as ends
 use Rattle.oak_world.specs.declared.actor.Work.{Work}
 use Rattle.oak_world.specs.declared.actor.Work.TheVariants as work
-use Rattle.oak_world.specs.Parts.{CommitsOn, EndsSo, IsGivenUp, Parts, Steps, UpdatesOn, Updates, base_at, parts, parts_ended, read_on}
-use Rattle.oak_world.specs.Steps.{Makes, MakesCommit, MakesUpdate}
+use Rattle.oak_world.specs.declared.upkeep.Upkeep.{Upkeep}
+use Rattle.oak_world.specs.declared.upkeep.Upkeep.TheVariants as upkeep
+use Rattle.oak_world.specs.Upkeeps.{told_ids}
+use Rattle.oak_world.specs.Parts.{CommitsOn, EndsSo, IsGivenUp, KeepsUp, Parts, PublishesOn, Steps, UpdatesOn, Updates, base_at, parts, parts_ended, read_on}
+use Rattle.oak_world.specs.Steps.{Makes, MakesCommit, MakesUpdate, MakesUpkeep, Publishes}
 use Rattle.oak_world.specs.Worlds.{ActorState, WorldOf, node_in, parts_at, reading_of, running_as, running_of, state_of, with_parts, work_in}
-use Rattle.oak_world.proofs.Making.{begins_is, ended_is, makes_last, makes_mark, makes_undo, makes_write, reads_is, runs_is, same_is, told_is}
+use Rattle.oak_world.proofs.Making.{begins_is, ended_is, makes_last, makes_mark, makes_undo, makes_write, reads_is, runs_is, same_is, sets_is, told_is}
 use Rattle.oak_world.proofs.Stages.{IsMarkStage, last_stage, mark_stage, undo_stage, write_stage}
 
 -- parts with the same documents, memory and events
 same_parts : (p q : Parts) → p.table ≡ q.table → p.memory ≡ q.memory → p.list ≡ q.list → p ≡ q
 same_parts p q t m es = ap (λ (x : Table). parts x p.memory p.list) t ∙ (ap (λ (x : NodeState). parts q.table x p.list) m ∙ ap (λ (x : List Event). parts q.table q.memory x) es)
 
-module _ {L : Type 0} (w : WorldOf L) (s : ℕ) (there : s < length w.actors) (q : Parts) (v : Work) (a : ActorState) (does : a.work ≡ v) where
+module _ {L : Type 0} (w : WorldOf L) (s : ℕ) (there : s < length w.actors) (q : Parts) (v : Work) (a : ActorState) (does : a.work ≡ v) (unsplit : (p : Path) → moved_in w.table p ≡ []) where
   abbrev node : ℕ
   node = node_in w.history s
 
@@ -67,13 +76,16 @@ module _ {L : Type 0} (w : WorldOf L) (s : ℕ) (there : s < length w.actors) (q
     tells : (e : Event) (m : NodeState) → q ≡ parts w.table m (reverse w.history.past ++ e ∷ []) → now ≡ record (state_of w) { past = e ∷ w.history.past; memories = with_memory w.memories node m }
     tells e m same = ap (λ (p : Parts). state_of (with_parts w s p a)) same ∙ told_is w s there e m a runs reads
 
+    sets : (e : Event) (t : Table) → q ≡ parts t memory (reverse w.history.past ++ e ∷ []) → now ≡ record (state_of w) { past = e ∷ w.history.past; table = t }
+    sets e t same = ap (λ (p : Parts). state_of (with_parts w s p a)) same ∙ sets_is w s there e t a runs reads
+
   login_makes : work_in w.actors s ≡ work.Login → (o : StepOut) → Steps s node (parts_at w s) work.Login q v o → Makes s (state_of w) work.Login now v o
   login_makes here (answers.Ready (ends.Pinned pin)) h = (tells work.Login work.Rest here h.2 refl refl (event.Login s memory.head) (with_pin memory s (pin_now memory)) h.1, h.2, h.0)
   login_makes here answers.Memory h = (still work.Login work.Rest here h.1 refl refl h.0, h.1)
   login_makes here _ h = absurd h
 
   end_makes : work_in w.actors s ≡ work.End → (o : StepOut) → Steps s node (parts_at w s) work.End q v o → Makes s (state_of w) work.End now v o
-  end_makes here (answers.Ready ends.Ended) h = (tells work.End work.Rest here h.1 refl refl (event.Went s kind.End) (without_pin memory s) h.0, h.1)
+  end_makes here (answers.Ready ends.Ended) h = (tells work.End work.Rest here h.1 refl refl (event.Went s kind.End) (without_session memory s) h.0, h.1)
   end_makes here answers.Memory h = (still work.End work.Rest here h.1 refl refl h.0, h.1)
   end_makes here _ h = absurd h
 
@@ -121,7 +133,7 @@ module _ {L : Type 0} (w : WorldOf L) (s : ℕ) (there : s < length w.actors) (q
 
     updates : (x : StepKind) (d : Committing) → q.memory ≡ memory → v ≡ work.Commit d → Updates s w.table (reverse w.history.past) c q.table q.list d x → MakesUpdate s (state_of w) c now d x
     updates kind.Mark d same is h = let at : IsMarkStage c = mark_stage c h.0 in makes_mark w s there c q a d same (does ∙ is) (ap reading_of here) at (root_first at) h.1
-    updates kind.Write d same is h = makes_write w s there c q a d same (does ∙ is) (ap reading_of here) (write_stage c h.0) h.1
+    updates kind.Write d same is h = makes_write w s there c q a d same (does ∙ is) (ap reading_of here) (write_stage c h.0) (unsplit (write_stage c h.0).first) h.1
     updates kind.Last d same is h = makes_last w s there c q a d same (does ∙ is) (ap reading_of here) (last_stage c h.0) h.1
     updates kind.Undo d same is h = makes_undo w s there c q a d same (does ∙ is) (ap reading_of here) (undo_stage c h.0) h.1
     updates _ d same is h = absurd h
@@ -151,6 +163,35 @@ module _ {L : Type 0} (w : WorldOf L) (s : ℕ) (there : s < length w.actors) (q
         by (inl g) = inl (g.0, g.1, g.2, g.3, updates g.0 g.2 h.0 g.3 g.4)
         by (inr g) = inr (inr (g.answer, g.going, given_up o h.0 g, g.does))
 
+  -- ---- background work, and the settings
+
+  module _ (k : Upkeep) (here : work_in w.actors s ≡ work.Upkeep k) where
+    publishes : (ids : List DocId) (r : Revision) (o : StepOut) → PublishesOn s node (parts_at w s) ids r q v o → Publishes s (state_of w) ids r now v o
+    publishes ids r (answers.Went kind.Back) h = (h.0, h.1, h.2, sets (work.Upkeep k) (work.Upkeep (upkeep.Publish h.0 r)) here h.4 refl refl (event.Went s kind.Back) (after_update w.table (back_op (names_of h.1) r)) h.3, h.4)
+    publishes ids r (answers.Ready (ends.Published o)) h = (h.0, h.1, sets (work.Upkeep k) work.Rest here h.3 refl refl (event.Out node r) (after_update w.table (back_op [] r)) h.2, h.3)
+    publishes ids r answers.Memory h = (still (work.Upkeep k) work.Rest here h.1 refl refl h.0, h.1)
+    publishes ids r _ h = absurd h
+
+  upkeep_makes : (k : Upkeep) → work_in w.actors s ≡ work.Upkeep k → (o : StepOut) → KeepsUp s node (parts_at w s) k q v o → MakesUpkeep s (state_of w) k now v o
+  upkeep_makes upkeep.Write here (answers.Went kind.Back) h = (h.0, h.1, tells (work.Upkeep upkeep.Write) (work.Upkeep (upkeep.Noted h.0)) here h.3 refl refl (event.Went s kind.Back) (without_seen memory) h.2, h.3)
+  upkeep_makes upkeep.Write here answers.Memory h = (still (work.Upkeep upkeep.Write) work.Rest here h.1 refl refl h.0, h.1)
+  upkeep_makes upkeep.Write here _ h = absurd h
+  upkeep_makes (upkeep.Noted n) here o h = publishes (upkeep.Noted n) here (told_ids n.paths) n.upto o h
+  upkeep_makes (upkeep.Publish ids r) here o h = publishes (upkeep.Publish ids r) here ids r o h
+  upkeep_makes upkeep.Read here (answers.Went kind.Back) h = (h.0, h.1, sets (work.Upkeep upkeep.Read) (work.Upkeep (upkeep.Learn (h.0).last_rev (h.0).sweep_rev)) here h.3 refl refl (event.Went s kind.Back) w.table h.2, h.3)
+  upkeep_makes upkeep.Read here answers.Memory h = (still (work.Upkeep upkeep.Read) work.Rest here h.1 refl refl h.0, h.1)
+  upkeep_makes upkeep.Read here _ h = absurd h
+  upkeep_makes (upkeep.Learn last sweep) here (answers.Ready (ends.Learnt u)) h = (h.0, tells (work.Upkeep (upkeep.Learn last sweep)) work.Rest here h.2 refl refl (event.In node (learned memory last sweep).head) (learned memory last sweep) h.1, h.2)
+  upkeep_makes (upkeep.Learn last sweep) here answers.Memory h = (still (work.Upkeep (upkeep.Learn last sweep)) work.Rest here h.1 refl refl h.0, h.1)
+  upkeep_makes (upkeep.Learn last sweep) here _ h = absurd h
+  upkeep_makes (upkeep.Checkpoint i) here (answers.Ready (ends.Set None)) h = (h.0, h.1, sets (work.Upkeep (upkeep.Checkpoint i)) work.Rest here h.3 refl refl (event.Checkpoint i (h.0).base) (after_update w.table (settings_op (change.Checkpoint i h.0))) h.2, h.3)
+  upkeep_makes (upkeep.Checkpoint i) here answers.Memory h = (still (work.Upkeep (upkeep.Checkpoint i)) work.Rest here h.1 refl refl h.0, h.1)
+  upkeep_makes (upkeep.Checkpoint i) here _ h = absurd h
+  upkeep_makes (upkeep.Release i) here (answers.Ready (ends.Set None)) h = (h.0, sets (work.Upkeep (upkeep.Release i)) work.Rest here h.2 refl refl (event.Release i) (after_update w.table (settings_op (change.Release i))) h.1, h.2)
+  upkeep_makes (upkeep.Release i) here (answers.Ready ends.NoCheckpoint) h = (h.0, sets (work.Upkeep (upkeep.Release i)) work.Rest here h.2 refl refl (event.Went s kind.Settings) (after_update w.table (settings_op (change.Release i))) h.1, h.2)
+  upkeep_makes (upkeep.Release i) here answers.Memory h = (still (work.Upkeep (upkeep.Release i)) work.Rest here h.1 refl refl h.0, h.1)
+  upkeep_makes (upkeep.Release i) here _ h = absurd h
+
   -- ---- all
 
   pub makes : (u : Work) → work_in w.actors s ≡ u → (u ≡ work.Rest → ⊥) → ((c : Committing) → u ≡ work.Commit c → c.roots ≡ map (λ (f : Met). root_of w.history.past f.other) c.writer.due)
@@ -162,4 +203,5 @@ module _ {L : Type 0} (w : WorldOf L) (s : ℕ) (there : s < length w.actors) (q
   makes (work.Read r) here busy roots o h = read_makes r here o h
   makes (work.Plan edit marks) here busy roots o h = plan_makes edit marks here o h
   makes (work.Commit c) here busy roots o h = commit_makes c here (roots c refl) o h
+  makes (work.Upkeep k) here busy roots o h = upkeep_makes k here o h
   makes (work.Move r) here busy roots o h = move_makes r here o h

@@ -1,8 +1,10 @@
 -- What a step of a session keeps, and what the session is told by it.
-use Rattle.std.proofs.Common.{◌≡◌, ◌⊎◌, inl, inr, ℕ, Bool, true, false, cond, not, ◌&&◌, ◌||◌, Option, Some, None, List, [], ◌∷◌, ◌++◌, map, drop, is_some, refl, sym, ap, subst, ◌∙◌}
+use Rattle.core_world.specs.States.{moved_in}
+use Rattle.core_world.proofs.Unsplit.{last_moved, mark_moved, undoing_moved, want_moved, write_moved}
+use Rattle.std.proofs.Common.{◌≡◌, ◌⊎◌, inl, inr, ℕ, Bool, true, false, cond, not, ◌&&◌, Option, Some, None, List, [], ◌∷◌, ◌++◌, map, drop, is_some, refl, sym, ap, subst, ◌∙◌}
 use Rattle.std.specs.Prelude.{◌==◌, slice_get, reverse}
 use Rattle.std.specs.List.{list_any}
-use Rattle.std.specs.Option.{option_map, option_map_or, unwrap_or}
+use Rattle.std.specs.Option.{option_map_or, unwrap_or}
 use Rattle.jr_path.specs.declared.path.Path.{Path}
 use Rattle.jr_path.specs.declared.path.Item.{Item}
 use Rattle.jr_path.specs.declared.path.DocId.{DocId}
@@ -13,8 +15,7 @@ use Rattle.jr_rev.specs.declared.vector.RevVec.{RevVec}
 use Rattle.jr_rev.specs.Revisions.{is_before, is_same}
 use Rattle.jr_rev.specs.Vectors.{sees}
 use Rattle.jr_tree.specs.declared.edit.Edit.{Edit}
-use Rattle.jr_tree.specs.declared.tree.Node.{Node}
-use Rattle.jr_tree.specs.Trees.{Nodes, children_of, initial_tree, node_at}
+use Rattle.jr_tree.specs.Trees.{Nodes, dated_children_of, initial_tree, node_at}
 use Rattle.oak_clash.specs.declared.mark.MarkAt.{MarkAt}
 use Rattle.oak_clash.specs.Clashes.{commit_root, marked_paths}
 use Rattle.oak_commit.specs.Clashing.{Met, found, mark_op}
@@ -34,17 +35,16 @@ use Rattle.oak_doc.specs.declared.update.OpFault.TheVariants as fault
 use Rattle.oak_doc.specs.declared.update.Kept.TheVariants as keeps
 use Rattle.std.specs.Prelude.{Result, Ok, Err}
 use Rattle.oak_machine.specs.declared.event.Draw.{Draw}
-use Rattle.oak_machine.specs.declared.event.Event.{Event}
 use Rattle.oak_machine.specs.declared.event.Event.TheVariants as event
 use Rattle.oak_machine.specs.declared.event.StepKind.{StepKind}
 use Rattle.oak_machine.specs.declared.event.StepKind.TheVariants as kind
 use Rattle.oak_machine.specs.History.{History, Past}
 use Rattle.oak_machine.specs.Commits.{is_ended, tree_at}
 use Rattle.oak_machine.specs.Heads.{head_of, local}
-use Rattle.oak_machine.specs.Laws.{AreOthers, Says, Starts, StartsProper, after, is_event_of, is_revision_of}
+use Rattle.oak_machine.specs.Laws.{AreOthers, Says, Starts, StartsProper, after, is_revision_of}
 use Rattle.oak_machine.specs.Runs.{IsNode, IsRunOf}
-use Rattle.oak_machine.specs.Sessions.{has_login}
-use Rattle.oak_machine.specs.Steps.{is_appended_by, is_kind, is_moving, kind_number, where_test}
+use Rattle.oak_machine.specs.Sessions.{has_login, is_attached}
+use Rattle.oak_machine.specs.Steps.{is_appended_by, is_kind, is_moving, where_test}
 use Rattle.oak_node.specs.Heads.{AwaitsEarlier, finished, next_draw}
 use Rattle.oak_node.specs.Memory.{NodeState, own_entry}
 use Rattle.oak_node.specs.Pins.{pin_now}
@@ -64,7 +64,7 @@ use Rattle.core_clash.specs.Sound.{IsRooted}
 use Rattle.core_clash.specs.Views.{In}
 use Rattle.core_clash.proofs.Basics.{is_same_self, or_left, same_revision}
 use Rattle.core_clash.proofs.Pasts.{in_flight}
-use Rattle.core_nodes.specs.Nodes.{IsMemoryOf}
+use Rattle.core_nodes.specs.Nodes.{IsMemoryOf, cursor_owner}
 use Rattle.core_nodes.proofs.Events.{end_run}
 use Rattle.core_nodes.proofs.Memories.{own_is}
 use Rattle.core_nodes.proofs.Waits.{flying_is}
@@ -74,13 +74,13 @@ use Rattle.core_watch.proofs.Moments.{fed_keeps}
 use Rattle.core_world.specs.Kept.{IsKept}
 use Rattle.core_world.specs.States.{State, base_in, history_in, memory_at, memory_of, node_of, nodes_in, with_session}
 use Rattle.core_world.specs.Steps.{IsThrough, after_draw, after_finish, after_last, after_leave, after_login, after_mark, after_refresh, after_undoing, after_want, after_write, after_write_in_want, draw_in, lasted_by, marked_by, with_reader}
-use Rattle.core_world.proofs.Commits.{its, last_keeps, mark_keeps, on_its_node, undo_keeps, want_keeps, write_in_want_keeps, write_keeps}
-use Rattle.core_world.proofs.Draws.{draw_keeps, finish_keeps}
-use Rattle.core_world.proofs.Flights.{number_itself, other_number, same_number}
-use Rattle.core_world.proofs.Lives.{its_head, leave_keeps, login_keeps, refresh_keeps}
-use Rattle.core_world.proofs.Loads.{children_given, gone_keeps, node_given, read_keeps}
-use Rattle.core_world.proofs.Readers.{pinned_is}
-use Rattle.core_world.proofs.Truths.{met_rooted}
+use Rattle.core_world.proofs.Commits.{its, on_its_node}
+use Rattle.core_world.proofs.Flights.{number_itself}
+use Rattle.core_world.proofs.Lives.{chosen_false, its_head}
+use Rattle.core_world.proofs.Loads.{children_given, node_given}
+use Rattle.core_world.proofs.Readers.{live_is}
+use Rattle.core_world.proofs.Truths.{met_here}
+use Rattle.core_world.proofs.Whole.{draw_whole, finish_whole, gone_whole, last_whole, leave_whole, login_whole, mark_whole, read_whole, refresh_whole, undo_whole, want_whole, write_in_want_whole, write_whole}
 use Rattle.oak_port.specs.declared.task.StepOut.{StepOut}
 use Rattle.oak_port.specs.declared.task.StepOut.TheVariants as answers
 use Rattle.oak_port.specs.declared.task.Task.TheVariants as task
@@ -96,41 +96,9 @@ use Rattle.oak_world.specs.Steps.{HasCome, Makes, MakesCommit, MakesUpdate, kind
 use Rattle.oak_world.specs.Worlds.{reading_of, running_as, running_of}
 use Rattle.oak_world.proofs.Feeding.{stage_last, stage_mark, stage_write}
 use Rattle.oak_world.proofs.Stages.{finish_stage}
+use Rattle.oak_world.proofs.StepsOf.{IsStepOf, apart_one, flipped, kind_told, with_true}
+use Rattle.oak_world.proofs.Upkeeping.{upkeep_step}
 use Rattle.oak_world.proofs.Staying.{come_left, same_roots}
-
--- a step of session s, from one state to the next: the events that it adds, which are of no other session; the state is kept, the session may do what it does then, and it is told so
-pub record IsStepOf (starts : Starts) (says : Says) (s : ℕ) (w : State) (v : Work) (u : State) (x : Work) (o : StepOut) : Type 0 where
-  pub own : Past
-  pub grown : history_in u ≡ after own (history_in w)
-  pub kept : IsKept starts says u
-  pub may : May starts (after own (history_in w)) s x
-  pub apart : (q : ℕ) → (q == s) ≡ false → AreOthers q own w.past
-  pub tells : Tells (history_in w) s (shown_work v) o own (shown_work x)
-  pub of_step : AreOfStep (history_in w) s (shown_work v) o own
-  pub as_due : is_by_due (kind_due v) own ≡ true
-
--- ---- numbers and kinds
-
-flipped : (q s : ℕ) → (q == s) ≡ false → (s == q) ≡ false
-flipped q s h = by (s == q) refl
-  where
-    by : (b : Bool) → (s == q) ≡ b → b ≡ false
-    by true k = absurd (other_number q s h (sym (same_number s q k)))
-    by false k = refl
-
--- a kind is among the kinds of a test that holds
-kind_told : (k : StepKind) (b : Bool) → b ≡ true → list_any (is_kind k) (where_test b (k ∷ [])) ≡ true
-kind_told k b h = ap (λ t. list_any (is_kind k) (where_test t (k ∷ []))) h ∙ ap (λ t. t || false) (number_itself (kind_number k))
-
-with_true : (b : Bool) → b ≡ true → (b && true) ≡ true
-with_true b h = ap (λ t. t && true) h
-
--- ---- what one event leaves
-
-module _ (past : Past) (s : ℕ) where
-  -- an event that is no other session's
-  apart_one : (e : Event) → ((q : ℕ) → (q == s) ≡ false → is_event_of (e ∷ past) q e ≡ false) → (q : ℕ) → (q == s) ≡ false → AreOthers q (e ∷ []) past
-  apart_one e none q h = ap (λ t. t || false) (none q h)
 
 -- ---- the end of a revision
 
@@ -149,6 +117,10 @@ ends_grown false k v r past = refl
 ends_apart : (b : Bool) (k : ℕ) (v : RevVec) (r : Revision) (past : Past) (q : ℕ) → AreOthers q (ends_with b k v r) past
 ends_apart true k v r past q = refl
 ends_apart false k v r past q = refl
+
+ends_detached : (b : Bool) (k : ℕ) (v : RevVec) (r : Revision) (past : Past) (q : ℕ) → is_attached past q ≡ false → is_attached (ends_with b k v r ++ past) q ≡ false
+ends_detached true k v r past q h = h
+ends_detached false k v r past q h = h
 
 ends_by_due : (b : Bool) (k : ℕ) (v : RevVec) (r : Revision) (due : Option StepKind) → is_by_due due (ends_with b k v r) ≡ true
 ends_by_due true k v r due = refl
@@ -218,18 +190,12 @@ module _ (base : RevVec) (r : Revision) (p : Path) (marks : List MarkAt) (root :
 
 -- ---- what a reader gives
 
-props_same : (a b : Option Node) → option_map (λ n. n.props) a ≡ option_map (λ n. n.props) b → a ≡ b
-props_same None None h = refl
-props_same None (Some n) h = cc
-props_same (Some m) None h = cc
-props_same (Some m) (Some n) h = ap (λ o. option_map (λ ps. record { props = ps }) o) h
-
 same_end : (a b : TaskEnd) → Some a ≡ Some b → a ≡ b
 same_end a b h = cc
 
 -- ---- a step
 
-module _ (starts : Starts) (says : Says) (proper : StartsProper starts) (w : State) (kept : IsKept starts says w) (s : ℕ) (there : is_some (slice_get w.sessions s) ≡ true) where
+module _ (starts : Starts) (says : Says) (proper : StartsProper starts) (w : State) (kept : IsKept starts says w) (s : ℕ) (there : is_some (slice_get w.sessions s) ≡ true) (few : slice_get w.sessions (cursor_owner s) ≡ None) (apart_now : is_attached w.past s ≡ false) where
   abbrev h : History
   h = history_in w
 
@@ -242,9 +208,11 @@ module _ (starts : Starts) (says : Says) (proper : StartsProper starts) (w : Sta
   login_step pin is first = record {
     own = event.Login s (memory_of w s).head ∷ [];
     grown = refl;
-    kept = login_keeps starts says proper w kept s there first;
+    kept = login_whole starts says proper w kept s there first;
     may = tt;
     apart = apart_one w.past s (event.Login s (memory_of w s).head) (λ q k. flipped q s k);
+    detached = λ q k. chosen_false (s == q) (is_attached w.past q) k;
+    same = refl;
     tells = (ap (λ (p : Pin). event.Login s p.base ∷ []) (sym is), refl);
     of_step = kind_told kind.Login (s == s) (number_itself s);
     as_due = refl;
@@ -254,9 +222,11 @@ module _ (starts : Starts) (says : Says) (proper : StartsProper starts) (w : Sta
   leave_step come idle unread = record {
     own = event.Went s kind.End ∷ [];
     grown = refl;
-    kept = leave_keeps starts says proper w kept s come.login come.stays idle unread;
+    kept = leave_whole starts says proper w kept s few come.login come.stays idle unread;
     may = tt;
     apart = apart_one w.past s (event.Went s kind.End) (λ q k. flipped q s k);
+    detached = λ q k. k;
+    same = refl;
     tells = (refl, refl);
     of_step = kind_told kind.End (s == s && true) (with_true (s == s) (number_itself s));
     as_due = refl;
@@ -266,26 +236,28 @@ module _ (starts : Starts) (says : Says) (proper : StartsProper starts) (w : Sta
   refresh_step pin is come idle unread = record {
     own = event.Refresh s (memory_of w s).head ∷ [];
     grown = refl;
-    kept = refresh_keeps starts says proper w kept s come.login come.stays idle unread;
+    kept = refresh_whole starts says proper w kept s come.login come.stays idle unread;
     may = tt;
     apart = apart_one w.past s (event.Refresh s (memory_of w s).head) (λ q k. flipped q s k);
+    detached = λ q k. chosen_false (s == q) (is_attached w.past q) k;
+    same = refl;
     tells = (ap (λ (p : Pin). event.Refresh s p.base ∷ []) (sym is), refl);
     of_step = kind_told kind.Pin (s == s) (number_itself s);
     as_due = refl;
   }
 
   -- the head of the session's node, of which r is
-  head_is : (r : Revision) → slice_get w.sessions s ≡ Some r.cluster → (memory_of w s).head ≡ head_of w.clusters w.past r.cluster
-  head_is r on = its_head starts says proper w kept s there ∙ ap (head_of w.clusters w.past) (ap (λ o. unwrap_or o 0) on)
+  head_is : (r : Revision) → slice_get w.sessions s ≡ Some r.cluster → (memory_of w s).head ≡ head_of w.clusters None w.past r.cluster
+  head_is r on = its_head starts says proper w kept.sessions s there ∙ ap (head_of w.clusters None w.past) (ap (λ o. unwrap_or o 0) on)
 
   -- and its memory is that of the past
   memory_is : (r : Revision) → slice_get w.sessions s ≡ Some r.cluster → IsMemoryOf w.clusters w.past r.cluster (memory_of w s)
-  memory_is r on = subst (λ (j : ℕ). IsMemoryOf w.clusters w.past r.cluster (memory_at w.memories j)) (sym (ap (λ o. unwrap_or o 0) on)) (kept.memories.memory r.cluster (kept.nodes.node s r.cluster on))
+  memory_is r on = subst (λ (j : ℕ). IsMemoryOf w.clusters w.past r.cluster (memory_at w.memories j)) (sym (ap (λ o. unwrap_or o 0) on)) (kept.sessions.memories.memory r.cluster (kept.sessions.nodes.node s r.cluster on))
 
   -- what r awaits by the memory is in flight by the past
   held_back : (r q : Revision) → AwaitsEarlier (memory_of w s) r q → slice_get w.sessions s ≡ Some r.cluster → HoldsBack w.past q r
   held_back r q awaits on =
-      let flies = (flying_is w.clusters w.sessions kept.nodes w.past (sound_run w.clusters w.sessions kept.nodes starts says w.past kept.run) r.cluster (kept.nodes.node s r.cluster on) (memory_of w s) (memory_is r on) q).0 awaits.flying in
+      let flies = (flying_is w.clusters w.sessions kept.sessions.nodes w.past (sound_run w.clusters w.sessions kept.sessions.nodes starts says w.past kept.sessions.run) r.cluster (kept.sessions.nodes.node s r.cluster on) (memory_of w s) (memory_is r on) q).0 awaits.flying in
       record { node = flies.0; earlier = awaits.earlier; flying = flies.1 }
 
   waits_step : (r q : Revision) → AwaitsEarlier (memory_of w s) r q → HasCome h s → is_ended w.past r ≡ true → slice_get w.sessions s ≡ Some r.cluster → StepOf (work.Move r) w (work.Move r) (answers.Wait q)
@@ -295,6 +267,8 @@ module _ (starts : Starts) (says : Says) (proper : StartsProper starts) (w : Sta
     kept = kept;
     may = (come, ended, on);
     apart = λ q k. refl;
+    detached = λ q k. k;
+    same = refl;
     tells = (refl, refl, ap (λ (v : RevVec). sees v r) (sym (head_is r on)) ∙ awaits.unseen, held_back r q awaits on);
     of_step = refl;
     as_due = refl;
@@ -304,9 +278,11 @@ module _ (starts : Starts) (says : Says) (proper : StartsProper starts) (w : Sta
   moves_step r o is seen come on idle unread = record {
     own = event.Refresh s (memory_of w s).head ∷ [];
     grown = refl;
-    kept = refresh_keeps starts says proper w kept s come.login come.stays idle unread;
+    kept = refresh_whole starts says proper w kept s come.login come.stays idle unread;
     may = tt;
     apart = apart_one w.past s (event.Refresh s (memory_of w s).head) (λ q k. flipped q s k);
+    detached = λ q k. chosen_false (s == q) (is_attached w.past q) k;
+    same = refl;
     tells = (ap end.Committed is, ap (λ (v : RevVec). sees v r) (sym (head_is r on)) ∙ seen, (memory_of w s).head, seen, refl, refl);
     of_step = kind_told kind.Pin (s == s) (number_itself s);
     as_due = refl;
@@ -319,7 +295,7 @@ module _ (starts : Starts) (says : Says) (proper : StartsProper starts) (w : Sta
     next = read_on w.table r
 
     read_kept : IsKept starts says (with_reader w s (Some next))
-    read_kept = read_keeps starts says proper w kept s r here table
+    read_kept = read_whole starts says proper w kept s r here table
 
     for_same : IsFor r.pin r.parent (path_read r) next
     for_same = fed_keeps r (answer w.table.documents (due r))
@@ -338,6 +314,8 @@ module _ (starts : Starts) (says : Says) (proper : StartsProper starts) (w : Sta
       kept = read_kept;
       may = come;
       apart = λ q k. refl;
+      detached = λ q k. k;
+      same = refl;
       tells = goes_on r.parent (path_read r) (shown_work (work.Read next)) same_task;
       of_step = refl;
       as_due = refl;
@@ -351,9 +329,11 @@ module _ (starts : Starts) (says : Says) (proper : StartsProper starts) (w : Sta
     gone_step = record {
       own = [];
       grown = refl;
-      kept = gone_keeps starts says proper w kept s;
+      kept = gone_whole starts says proper w kept s;
       may = tt;
       apart = λ q k. refl;
+      detached = λ q k. k;
+      same = refl;
       tells = gone_tells r.parent (path_read r);
       of_step = refl;
       as_due = refl;
@@ -363,27 +343,26 @@ module _ (starts : Starts) (says : Says) (proper : StartsProper starts) (w : Sta
     next_here : with_session w.reading s (Some next) s ≡ Some next
     next_here = ap (λ b. cond b (Some next) (w.reading s)) (number_itself s)
 
-    tree_is : tree_at w.past next.pin.base ≡ tree_of w.past s
-    tree_is = sym (ap (λ (o : Option RevVec). option_map_or (tree_at w.past) o initial_tree) (pinned_is w.clusters w.past s next.pin (read_kept.readers.at_pin s next next_here)).base)
+    tree_is : tree_at None w.past next.pin.base ≡ tree_of None w.past s
+    tree_is = sym (ap (λ (o : Option RevVec). option_map_or (tree_at None w.past) o initial_tree) (live_is w.past s next.pin.base (read_kept.sessions.readers.at_base s next next_here)).base)
 
     module _ (e : TaskEnd) where
       given : (parent : Option Path) → next.parent ≡ parent → (st : Step) → next.step ≡ st → end_of_reading st ≡ Some e → Tells h s (Starting (task_of parent (path_read r))) (answers.Ready e) [] Idle
       given None is (step.Done (out.Node n)) done gives =
           subst (λ (x : TaskEnd). Tells h s (Starting (task.Load (path_read r))) (answers.Ready x) [] Idle) (same_end (ends.Node n) e gives) (
-            props_same n (node_at (tree_of w.past s) (path_read r))
-                (node_given starts says proper (with_reader w s (Some next)) read_kept s next next_here (out.Node n) is done
-                ∙ (ap (λ (t : Nodes). option_map (λ m. m.props) (node_at t (path_read next))) tree_is
-                ∙ ap (λ (p : Path). option_map (λ m. m.props) (node_at (tree_of w.past s) p)) for_same.same_path)),
+            node_given starts says proper (with_reader w s (Some next)) read_kept.sessions s next next_here (out.Node n) is done
+                ∙ (ap (λ (t : Nodes). node_at t (path_read next)) tree_is
+                ∙ ap (λ (p : Path). node_at (tree_of None w.past s) p) for_same.same_path),
             refl,
             refl,
           )
-      given None is (step.Done (out.Children ns)) done gives = absurd (node_given starts says proper (with_reader w s (Some next)) read_kept s next next_here (out.Children ns) is done)
-      given (Some p) is (step.Done (out.Node n)) done gives = absurd (children_given starts says proper (with_reader w s (Some next)) read_kept s next next_here p (out.Node n) is done)
+      given None is (step.Done (out.Children ns)) done gives = absurd (node_given starts says proper (with_reader w s (Some next)) read_kept.sessions s next next_here (out.Children ns) is done)
+      given (Some p) is (step.Done (out.Node n)) done gives = absurd (children_given starts says proper (with_reader w s (Some next)) read_kept.sessions s next next_here p (out.Node n) is done)
       given (Some p) is (step.Done (out.Children ns)) done gives =
           subst (λ (x : TaskEnd). Tells h s (Starting (task.List (path_read r))) (answers.Ready x) [] Idle) (same_end (ends.Children ns) e gives) (
-            children_given starts says proper (with_reader w s (Some next)) read_kept s next next_here p (out.Children ns) is done
-                ∙ (ap (λ (t : Nodes). children_of t p) tree_is
-                ∙ ap (λ (q : Path). children_of (tree_of w.past s) q) (sym (ap (λ (o : Option Path). unwrap_or o next.at) is) ∙ for_same.same_path)),
+            children_given starts says proper (with_reader w s (Some next)) read_kept.sessions s next next_here p (out.Children ns) is done
+                ∙ (ap (λ (t : Nodes). dated_children_of t p) tree_is
+                ∙ ap (λ (q : Path). dated_children_of (tree_of None w.past s) q) (sym (ap (λ (o : Option Path). unwrap_or o next.at) is) ∙ for_same.same_path)),
             refl,
             refl,
           )
@@ -397,9 +376,11 @@ module _ (starts : Starts) (says : Says) (proper : StartsProper starts) (w : Sta
       given_step gives = record {
         own = [];
         grown = refl;
-        kept = gone_keeps starts says proper w kept s;
+        kept = gone_whole starts says proper w kept s;
         may = tt;
         apart = λ q k. refl;
+        detached = λ q k. k;
+        same = refl;
         tells = given r.parent for_same.same_kind next.step refl gives;
         of_step = last_read r.parent (path_read r);
         as_due = refl;
@@ -412,9 +393,11 @@ module _ (starts : Starts) (says : Says) (proper : StartsProper starts) (w : Sta
   draw_step edit marks come lawful idle = record {
     own = event.Draw (draw_in w s edit marks) ∷ [];
     grown = refl;
-    kept = draw_keeps starts says proper w kept s come.login come.stays idle edit marks lawful (marked_paths marks);
+    kept = draw_whole starts says proper w kept s edit marks (marked_paths marks) come.login come.stays apart_now idle lawful;
     may = record { come = record { login = come.login; stays = come.stays }; unended = refl; roots = refl };
     apart = apart_one w.past s (event.Draw (draw_in w s edit marks)) (λ q k. flipped q s k);
+    detached = λ q k. k;
+    same = refl;
     tells = (draw_in w s edit marks, record { session = refl; edit_is = refl; marks_are = refl }, refl, refl, refl);
     of_step = kind_told kind.Draw (s == s) (number_itself s);
     as_due = refl;
@@ -426,8 +409,8 @@ module _ (starts : Starts) (says : Says) (proper : StartsProper starts) (w : Sta
     abbrev x : Running
     x = running_as s c
 
-    mine : IsTheirs w.past kept.committing.writers s (running_as s c)
-    mine = its starts says proper w kept s (running_as s c) here
+    mine : IsTheirs w.past kept.sessions.committing.writers s (running_as s c)
+    mine = its starts says proper w kept.sessions s (running_as s c) here
 
     its_session : (q : ℕ) (b : Bool) → (s == q) ≡ b → is_revision_of w.past q c.revision ≡ b
     its_session q b is = ap (λ (o : Option Draw). option_map_or (λ d. d.session == q) o false) mine.draw ∙ is
@@ -466,9 +449,11 @@ module _ (starts : Starts) (says : Says) (proper : StartsProper starts) (w : Sta
       want_step = record {
         own = [];
         grown = refl;
-        kept = want_keeps starts says proper w kept s x here uncommitted unundone;
+        kept = want_whole starts says proper w kept s x here uncommitted unundone;
         may = record { come = at.come; unended = at.unended; roots = refl };
         apart = λ q k. refl;
+        detached = λ q k. k;
+        same = refl;
         tells = writing answers.Memory [] (shown_work (work.Commit (wanting c))) (refl, refl);
         of_step = refl;
         as_due = refl;
@@ -477,7 +462,7 @@ module _ (starts : Starts) (says : Says) (proper : StartsProper starts) (w : Sta
       -- a mark
       module _ (f : Met) (rest : List Met) (due_is : c.writer.due ≡ f ∷ rest) where
         mark_kept : IsKept starts says (after_mark w s x f rest)
-        mark_kept = mark_keeps starts says proper w kept s x here uncommitted unundone f rest due_is
+        mark_kept = mark_whole starts says proper w kept s x f rest here uncommitted unundone due_is
 
         mark_grown : (own : Past) → (after_mark w s x f rest).past ≡ own ++ w.past → history_in (after_mark w s x f rest) ≡ after own h
         mark_grown own is = by (updated (nodes_in w.table (root_of w.past f.other)) (mark_op (root_of w.past f.other) f.other x.draw.revision f.theirs) (next_number w.table)) ∙ ap (λ (past : Past). record h { past = past }) is
@@ -493,6 +478,8 @@ module _ (starts : Starts) (says : Says) (proper : StartsProper starts) (w : Sta
           kept = mark_kept;
           may = record { come = record { login = at.come.login; stays = at.come.stays }; unended = at.unended; roots = ap (drop 1) at.roots ∙ ap (λ (fs : List Met). drop 1 (map (λ m. root_of w.past m.other) fs)) due_is };
           apart = apart_went kind.Mark;
+          detached = λ q k. k;
+          same = mark_moved w s x f rest;
           tells = writing (answers.Went kind.Mark) (event.Went s kind.Mark ∷ []) (shown_work (work.Commit (marked c rest))) (inr (inl (refl, refl, still_writing (marked c rest) refl refl)));
           of_step = kind_told kind.Mark (s == s && true) (with_true (s == s) (number_itself s));
           as_due = ap (λ (y : Stage). is_due kind.Mark (kind_of y)) (stage_mark c going f rest due_is);
@@ -505,6 +492,8 @@ module _ (starts : Starts) (says : Says) (proper : StartsProper starts) (w : Sta
           kept = mark_kept;
           may = record { come = record { login = at.come.login; stays = at.come.stays }; unended = at.unended; roots = refl };
           apart = apart_refusal f.mine f.other;
+          detached = λ q k. k;
+          same = mark_moved w s x f rest;
           tells = refusal_tells kind.Mark f.mine f.other (refused c f.mine f.other) refl;
           of_step = ap (λ t. list_any (is_kind kind.Mark) (where_test t (kind.Mark ∷ kind.Last ∷ []))) revision_mine;
           as_due = refl;
@@ -519,9 +508,11 @@ module _ (starts : Starts) (says : Says) (proper : StartsProper starts) (w : Sta
         wrote_step = record {
           own = event.Went s kind.Write ∷ [];
           grown = refl;
-          kept = write_keeps starts says proper w kept s x here uncommitted unundone p rest unmet left;
-          may = record { come = record { login = at.come.login; stays = at.come.stays }; unended = at.unended; roots = roots_met c.base c.revision p c.marks (root_of w.past) (nodes_in w.table p) (λ f i. met_rooted starts says proper w kept s x here p f i) };
+          kept = write_whole starts says proper w kept s x p rest here uncommitted unundone unmet left;
+          may = record { come = record { login = at.come.login; stays = at.come.stays }; unended = at.unended; roots = roots_met c.base c.revision p c.marks (root_of w.past) (nodes_in w.table p) (λ f i. met_here starts says proper w kept.sessions s x here p f i) };
           apart = apart_went kind.Write;
+          detached = λ q k. k;
+          same = write_moved w s x p rest;
           tells = writing (answers.Went kind.Write) (event.Went s kind.Write ∷ []) (shown_work (work.Commit (written c p rest (nodes_in w.table p)))) (inl (refl, refl, inl (still_writing (written c p rest (nodes_in w.table p)) refl refl)));
           of_step = kind_told kind.Write (s == s && true) (with_true (s == s) (number_itself s));
           as_due = ap (λ (y : Stage). is_due kind.Write (kind_of y)) (stage_write c going p rest unmet left);
@@ -531,9 +522,11 @@ module _ (starts : Starts) (says : Says) (proper : StartsProper starts) (w : Sta
         wrote_in_want_step = record {
           own = event.Went s kind.Write ∷ [];
           grown = refl;
-          kept = write_in_want_keeps starts says proper w kept s x here uncommitted unundone p rest unmet left;
+          kept = write_in_want_whole starts says proper w kept s x p rest here uncommitted unundone unmet left;
           may = record { come = record { login = at.come.login; stays = at.come.stays }; unended = at.unended; roots = refl };
           apart = apart_went kind.Write;
+          detached = λ q k. k;
+          same = want_moved w s x p rest;
           tells = writing (answers.Went kind.Write) (event.Went s kind.Write ∷ []) (shown_work (work.Commit (wanting (written c p rest (nodes_in w.table p))))) (inl (refl, refl, inr refl));
           of_step = kind_told kind.Write (s == s && true) (with_true (s == s) (number_itself s));
           as_due = ap (λ (y : Stage). is_due kind.Write (kind_of y)) (stage_write c going p rest unmet left);
@@ -542,7 +535,7 @@ module _ (starts : Starts) (says : Says) (proper : StartsProper starts) (w : Sta
       -- the last write
       module _ (unmet : c.writer.due ≡ []) (none_left : c.writer.left ≡ []) where
         last_kept : IsKept starts says (after_last w s x)
-        last_kept = last_keeps starts says proper w kept s x here uncommitted unundone unmet none_left
+        last_kept = last_whole starts says proper w kept s x here uncommitted unundone unmet none_left
 
         last_grown : (own : Past) → (after_last w s x).past ≡ own ++ w.past → history_in (after_last w s x) ≡ after own h
         last_grown own is = by (updated (nodes_in w.table (commit_root x.draw.marks)) (last_op x.draw.revision x.draw.marks) (next_number w.table)) ∙ ap (λ (past : Past). record h { past = past }) is
@@ -562,6 +555,8 @@ module _ (starts : Starts) (says : Says) (proper : StartsProper starts) (w : Sta
           kept = last_kept;
           may = record { come = record { login = at.come.login; stays = at.come.stays }; unended = at.unended; roots = at.roots };
           apart = apart_one w.past s (event.Commit c.revision) (λ q k. its_session q false (flipped q s k));
+          detached = λ q k. k;
+          same = last_moved w s x;
           tells = writing (answers.Went kind.Last) (event.Commit c.revision ∷ []) (shown_work (work.Commit (committed c))) (inr (inr (inl (refl, refl, refl))));
           of_step = kind_told kind.Last (is_revision_of w.past s c.revision) revision_mine;
           as_due = ap (λ (y : Stage). is_due kind.Last (kind_of y)) (stage_last c going unmet none_left);
@@ -574,6 +569,8 @@ module _ (starts : Starts) (says : Says) (proper : StartsProper starts) (w : Sta
           kept = last_kept;
           may = record { come = record { login = at.come.login; stays = at.come.stays }; unended = at.unended; roots = refl };
           apart = apart_refusal item o;
+          detached = λ q k. k;
+          same = last_moved w s x;
           tells = refusal_tells kind.Last item o (refused c item o) refl;
           of_step = ap (λ t. list_any (is_kind kind.Last) (where_test t (kind.Mark ∷ kind.Last ∷ []))) revision_mine;
           as_due = refl;
@@ -585,9 +582,11 @@ module _ (starts : Starts) (says : Says) (proper : StartsProper starts) (w : Sta
     undone_step p rest undoing next = record {
       own = event.Went s kind.Undo ∷ [];
       grown = refl;
-      kept = undo_keeps starts says proper w kept s x here p rest (not_past c.outcome undoing) undoing next;
+      kept = undo_whole starts says proper w kept s x p rest here (not_past c.outcome undoing) undoing next;
       may = record { come = record { login = at.come.login; stays = at.come.stays }; unended = at.unended; roots = at.roots };
       apart = apart_went kind.Undo;
+      detached = λ q k. k;
+      same = undoing_moved w s x p rest;
       tells = undoing_tells h s c.revision c.outcome undoing;
       of_step = kind_told kind.Undo (s == s && true) (with_true (s == s) (number_itself s));
       as_due = refl;
@@ -612,17 +611,17 @@ module _ (starts : Starts) (says : Says) (proper : StartsProper starts) (w : Sta
       own_ends = ends_with moved (node_of w s) done.head c.revision
 
       on : slice_get w.sessions s ≡ Some c.revision.cluster
-      on = on_its_node starts says proper w kept s x here
+      on = on_its_node starts says proper w kept.sessions s x here
 
       at_node : node_of w s ≡ c.revision.cluster
       at_node = ap (λ o. unwrap_or o 0) on
 
       node : IsNode w.clusters (node_of w s)
-      node = subst (IsNode w.clusters) (sym at_node) (kept.nodes.node s c.revision.cluster on)
+      node = subst (IsNode w.clusters) (sym at_node) (kept.sessions.nodes.node s c.revision.cluster on)
 
       -- the head moves where the memory's does
       moves : is_moving h c.revision ≡ moved
-      moves = sym (rises ∙ by (is_same (local later k) (local w.past k)) refl)
+      moves = sym (rises ∙ by (is_same (local None later k) (local None w.past k)) refl)
         where
           k : ℕ
           k = c.revision.cluster
@@ -630,35 +629,35 @@ module _ (starts : Starts) (says : Says) (proper : StartsProper starts) (w : Sta
           later : Past
           later = event.End c.revision ∷ w.past
 
-          run : IsRunOf starts says w.clusters w.sessions later
-          run = (in_flight w.past c.revision x.draw mine.draw mine.unended, kept.run)
+          run : IsRunOf starts says w.clusters w.sessions None later
+          run = (in_flight w.past c.revision x.draw mine.draw mine.unended, kept.sessions.run)
 
           is_node : IsNode w.clusters k
-          is_node = kept.nodes.node s k on
+          is_node = kept.sessions.nodes.node s k on
 
           sound : IsSound w.clusters w.sessions w.past
-          sound = sound_run w.clusters w.sessions kept.nodes starts says w.past kept.run
+          sound = sound_run w.clusters w.sessions kept.sessions.nodes starts says w.past kept.sessions.run
 
           its_memory : IsMemoryOf w.clusters w.past k memory
-          its_memory = subst (λ (j : ℕ). IsMemoryOf w.clusters w.past k (memory_at w.memories j)) (sym at_node) (kept.memories.memory k is_node)
+          its_memory = subst (λ (j : ℕ). IsMemoryOf w.clusters w.past k (memory_at w.memories j)) (sym at_node) (kept.sessions.memories.memory k is_node)
 
-          rises : moved ≡ is_before (local w.past k) (local later k)
+          rises : moved ≡ is_before (local None w.past k) (local None later k)
           rises =
-              ap (λ e. is_before e (own_entry done)) (own_is w.clusters w.sessions kept.nodes w.past sound k is_node memory its_memory)
-              ∙ ap (is_before (local w.past k)) (own_is w.clusters w.sessions kept.nodes later (sound_run w.clusters w.sessions kept.nodes starts says later run) k is_node done (end_run starts says w.clusters w.sessions kept.nodes c.revision w.past run memory its_memory))
+              ap (λ e. is_before e (own_entry done)) (own_is w.clusters w.sessions kept.sessions.nodes w.past sound k is_node memory its_memory)
+              ∙ ap (is_before (local None w.past k)) (own_is w.clusters w.sessions kept.sessions.nodes later (sound_run w.clusters w.sessions kept.sessions.nodes starts says later run) k is_node done (end_run starts says w.clusters w.sessions kept.sessions.nodes c.revision w.past run memory its_memory))
 
-          before : (b : Bool) → is_before (local w.past k) (local later k) ≡ b → is_same (local later k) (local w.past k) ≡ false → b ≡ true
+          before : (b : Bool) → is_before (local None w.past k) (local None later k) ≡ b → is_same (local None later k) (local None w.past k) ≡ false → b ≡ true
           before true e apart = refl
           before false e apart =
-              let same : local w.past k ≡ local later k = at_most_both (local w.past k) (local later k) ((later_end w.clusters w.sessions kept.nodes w.past sound c.revision).locals k) (not_before (local w.past k) (local later k) e) in
-              sym apart ∙ (ap (λ (r : Revision). is_same r (local w.past k)) (sym same) ∙ is_same_self (local w.past k))
+              let same : local None w.past k ≡ local None later k = at_most_both (local None w.past k) (local None later k) ((later_end w.clusters w.sessions kept.sessions.nodes w.past sound c.revision).locals k) (not_before (local None w.past k) (local None later k) e) in
+              sym apart ∙ (ap (λ (r : Revision). is_same r (local None w.past k)) (sym same) ∙ is_same_self (local None w.past k))
 
-          by : (b : Bool) → is_same (local later k) (local w.past k) ≡ b → is_before (local w.past k) (local later k) ≡ not b
-          by true same = ap (is_before (local w.past k)) (same_revision (local later k) (local w.past k) same) ∙ before_itself (local w.past k)
-          by false apart = before (is_before (local w.past k) (local later k)) refl apart
+          by : (b : Bool) → is_same (local None later k) (local None w.past k) ≡ b → is_before (local None w.past k) (local None later k) ≡ not b
+          by true same = ap (is_before (local None w.past k)) (same_revision (local None later k) (local None w.past k) same) ∙ before_itself (local None w.past k)
+          by false apart = before (is_before (local None w.past k) (local None later k)) refl apart
 
       finish_kept : IsKept starts says (after_finish w s x)
-      finish_kept = finish_keeps starts says proper w kept s x here through
+      finish_kept = finish_whole starts says proper w kept s x here through
 
       finish_grown : history_in (after_finish w s x) ≡ after own_ends h
       finish_grown = ap (λ (past : Past). record h { past = past }) (ends_grown moved (node_of w s) done.head c.revision w.past)
@@ -676,6 +675,8 @@ module _ (starts : Starts) (says : Says) (proper : StartsProper starts) (w : Sta
         kept = finish_kept;
         may = (come_on, ended_now moved (node_of w s) done.head c.revision w.past, on);
         apart = λ q k. ends_apart moved (node_of w s) done.head c.revision w.past q;
+        detached = ends_detached moved (node_of w s) done.head c.revision w.past;
+        same = refl;
         tells = deciding_tells h s c.revision c.outcome own_ends ends_so.0 (is_finish moved (node_of w s) done.head c.revision);
         of_step = finish_told;
         as_due = ends_by_due moved (node_of w s) done.head c.revision (kind_due (work.Commit c));
@@ -688,6 +689,8 @@ module _ (starts : Starts) (says : Says) (proper : StartsProper starts) (w : Sta
             kept = finish_kept;
             may = tt;
             apart = λ q k. ends_apart moved (node_of w s) done.head c.revision w.past q;
+            detached = ends_detached moved (node_of w s) done.head c.revision w.past;
+            same = refl;
             tells = subst (λ (y : Option CommitEnd). Tells h s (shown_by c.revision y) (answers.Ready (ends.Commit e)) own_ends Idle) (sym ends_so.0) (undone_tells h s c.revision e own_ends past (is_finish moved (node_of w s) done.head c.revision));
             of_step = subst (λ (y : Option CommitEnd). AreOfStep h s (shown_by c.revision y) (answers.Ready (ends.Commit e)) own_ends) (sym ends_so.0) (undone_of_step h s c.revision e own_ends past finish_told);
             as_due = ends_by_due moved (node_of w s) done.head c.revision (kind_due (work.Commit c));
@@ -742,7 +745,7 @@ module _ (starts : Starts) (says : Says) (proper : StartsProper starts) (w : Sta
 
   -- nothing is done
   still_step : (v : Work) → Tells h s (shown_work v) answers.Memory [] Idle → is_by_due (kind_due v) [] ≡ true → (u : State) (x : Work) → u ≡ w → x ≡ work.Rest → StepOf v u x answers.Memory
-  still_step v tells due u x same is = at_those v answers.Memory w work.Rest u x same is (record { own = []; grown = refl; kept = kept; may = tt; apart = λ q k. refl; tells = tells; of_step = refl; as_due = due })
+  still_step v tells due u x same is = at_those v answers.Memory w work.Rest u x same is (record { own = []; grown = refl; kept = kept; may = tt; apart = λ q k. refl; detached = λ q k. k; same = refl; tells = tells; of_step = refl; as_due = due })
 
   -- a step of a session that may do what it does
   pub any_step : IsTable w.table.documents → (v : Work) → w.running s ≡ running_of s v → w.reading s ≡ reading_of v → May starts h s v → (u : State) (x : Work) (o : StepOut) → Makes s w v u x o → StepOf v u x o
@@ -767,4 +770,5 @@ module _ (starts : Starts) (says : Says) (proper : StartsProper starts) (w : Sta
   any_step table (work.Move r) runs reads may u x (answers.Wait q) m = at_those (work.Move r) (answers.Wait q) w (work.Move r) u x m.0 m.1 (waits_step r q m.2 may.0 may.1 may.2)
   any_step table (work.Move r) runs reads may u x (answers.Ready (ends.Commit (end.Committed o))) m = at_those (work.Move r) (answers.Ready (ends.Commit (end.Committed o))) (after_refresh w s) work.Rest u x m.0 m.1 (moves_step r o m.2 m.3 may.0 may.2 runs reads)
   any_step table (work.Move r) runs reads may u x _ m = absurd m
+  any_step table (work.Upkeep k) runs reads may u x o m = upkeep_step starts says proper w kept s there apart_now may.0 k may.1 u x o m
   any_step table work.Rest runs reads may u x o m = absurd m

@@ -1,18 +1,29 @@
 -- What each world keeps.
-use Rattle.std.specs.Prelude.{◌≡◌, ◌≤◌, ◌+◌, ℕ, false, cond, List, length, map, sum_by, slice_get, Some, is_some, IsTrue, IsFalse}
+use Rattle.jr_path.specs.declared.path.Path.{Path}
+use Rattle.core_world.specs.States.{moved_in}
+use Rattle.std.specs.Prelude.{◌≡◌, ◌≤◌, ◌+◌, ℕ, false, cond, [], ◌∷◌, List, length, map, sum_by, slice_get, Some, is_some, IsTrue, IsFalse}
 use Rattle.oak_commit.specs.Committing.{Committing}
 use Rattle.oak_machine.specs.History.{History}
 use Rattle.oak_machine.specs.Commits.{is_ended}
 use Rattle.oak_machine.specs.Laws.{Says, Starts}
-use Rattle.oak_machine.specs.Sessions.{has_login}
+use Rattle.oak_machine.specs.Sessions.{has_login, is_attached}
 use Rattle.oak_read.specs.Reading.{IsTable}
 use Rattle.core_clash.specs.Core.{root_of}
-use Rattle.core_world.specs.Kept.{IsKept}
+use Rattle.core_world.specs.Kept.{IsKept, WereOnRoot}
+use Rattle.jr_path.specs.Ids.{names_of}
+use Rattle.jr_path.specs.Names.{path_cmp}
+use Rattle.jr_path.specs.declared.path.DocId.{DocId}
+use Rattle.jr_rev.specs.declared.revision.Revision.{Revision}
+use Rattle.jr_rev.specs.Revisions.{is_at_most}
+use Rattle.oak_machine.specs.Heads.{local}
+use Rattle.oak_world.specs.declared.upkeep.Upkeep.{Upkeep}
+use Rattle.oak_world.specs.declared.upkeep.Upkeep.TheVariants as upkeep
+use Rattle.std.specs.Ordering.{eq_by_cmp}
 use Rattle.oak_world.specs.declared.actor.Actor.{Actor}
 use Rattle.oak_world.specs.declared.actor.Work.{Work}
 use Rattle.oak_world.specs.declared.actor.Work.TheVariants as work
 use Rattle.oak_world.specs.Parts.{needed}
-use Rattle.oak_world.specs.Worlds.{WorldOf, state_of, work_in}
+use Rattle.oak_world.specs.Worlds.{WorldOf, live, state_of, work_in}
 use Rattle.oak_world.specs.Steps.{HasCome}
 
 -- the session has come, and the commit hasn't ended; it goes to the commit roots of those that it is to mark
@@ -20,6 +31,22 @@ pub record IsAtWork (h : History) (s : ℕ) (c : Committing) : Type 0 where
   pub come : HasCome h s
   pub unended : c.ended ≡ false
   pub roots : c.roots ≡ map (λ f. root_of h.past f.other) c.writer.due
+
+-- the revision is one of the session's cluster node, at most its local one
+abbrev pub IsOwn : History → ℕ → Revision → Type 0
+IsOwn h s r = (slice_get h.sessions s ≡ Some r.cluster) × IsTrue (is_at_most r (local h.begin h.past r.cluster))
+
+-- the documents are below the root
+abbrev pub AreBelow : List DocId → Type 0
+AreBelow [] = Unit {0}
+AreBelow (i ∷ ids) = IsFalse (eq_by_cmp path_cmp [] (names_of i)) × AreBelow ids
+
+-- what is published is the node's own, and what is learned the root told
+abbrev pub MayKeepUp : History → ℕ → Upkeep → Type 0
+MayKeepUp h s (upkeep.Noted n) = IsOwn h s n.upto
+MayKeepUp h s (upkeep.Publish ids r) = IsOwn h s r × AreBelow ids
+MayKeepUp h s (upkeep.Learn last sweep) = WereOnRoot h.clusters h.past last sweep
+MayKeepUp h s _ = Unit {0}
 
 -- what a session does, it may do
 abbrev pub May : Starts → History → ℕ → Work → Type 0
@@ -30,14 +57,18 @@ May starts h s work.Refresh = HasCome h s
 May starts h s (work.Read r) = HasCome h s
 May starts h s (work.Plan edit marks) = HasCome h s × starts h s edit marks
 May starts h s (work.Commit c) = IsAtWork h s c
+May starts h s (work.Upkeep u) = HasCome h s × MayKeepUp h s u
 May starts h s (work.Move r) = HasCome h s × IsTrue (is_ended h.past r) × (slice_get h.sessions s ≡ Some r.cluster)
 
--- the state is kept by its law, the documents are in store order, and each session may do what it does
+-- the state is kept by its law, the documents are in store order, there are at most 64 sessions, none is attached to a checkpoint, no document lists a previous one, and each may do what it does
 pub record IsWorld (starts : Starts) (says : Says) {L : Type 0} (w : WorldOf L) : Type 0 where
   pub kept : IsKept starts says (state_of w)
   pub table : IsTable w.table.documents
+  pub few : length w.history.sessions ≤ 64
+  pub detached : (s : ℕ) → IsFalse (is_attached w.history.past s)
+  pub unsplit : (p : Path) → moved_in w.table p ≡ []
   pub seats : length w.actors ≡ length w.history.sessions
-  pub may : (s : ℕ) → May starts w.history s (work_in w.actors s)
+  pub may : (s : ℕ) → May starts (live w.history) s (work_in w.actors s)
 
 -- the places that are kept for what a session does, and for its reply
 abbrev pub IsPlaced : Actor → Type 0

@@ -1,4 +1,5 @@
 pub mod Rooms
+pub mod Upkeeps
 pub mod Parts
 pub mod Worlds
 pub mod Steps

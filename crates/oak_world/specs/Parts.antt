@@ -1,5 +1,5 @@
 -- One step of a session: on the documents, on the memory of its cluster node, and on the events.
-use Rattle.std.specs.Prelude.{◌≡◌, ◌≢◌, ◌⊎◌, ◌<◌, ◌≤◌, ◌+◌, ◌-◌, ◌*◌, ◌^◌, ℕ, All, cond, drop, false, List, [], ◌∷◌, ◌++◌, length, Option, Some, None, Result, Ok, Err, IsSome, IsTrue}
+use Rattle.std.specs.Prelude.{◌≡◌, ◌≢◌, ◌⊎◌, ◌<◌, ◌≤◌, ◌+◌, ◌-◌, ◌*◌, ◌^◌, ℕ, All, cond, drop, false, List, [], ◌∷◌, ◌++◌, length, Option, Some, None, Result, Ok, Err, IsSome, IsTrue, is_some}
 use Rattle.std.specs.Option.{option_map_or}
 use Rattle.jr_path.specs.Grammar.{IsName}
 use Rattle.jr_path.specs.declared.path.DocId.{DocId}
@@ -33,10 +33,10 @@ use Rattle.oak_machine.specs.declared.event.Event.{Event}
 use Rattle.oak_machine.specs.declared.event.Event.TheVariants as event
 use Rattle.oak_machine.specs.declared.event.StepKind.{StepKind}
 use Rattle.oak_machine.specs.declared.event.StepKind.TheVariants as kind
-use Rattle.oak_node.specs.Heads.{AwaitsEarlier, HasEnded, IsInFlight, finished, known_time, next_draw, with_draw}
+use Rattle.oak_node.specs.Heads.{AwaitsEarlier, HasEnded, IsInFlight, finished, known_time, learned, next_draw, with_draw}
 use Rattle.oak_node.specs.Memory.{NodeState, own_entry}
-use Rattle.oak_node.specs.Notes.{with_notes}
-use Rattle.oak_node.specs.Pins.{pin_now, pin_of, with_pin, without_pin}
+use Rattle.oak_node.specs.Notes.{IsPending, with_notes, without_seen}
+use Rattle.oak_node.specs.Pins.{pin_now, pin_of, with_pin}
 use Rattle.oak_read.specs.declared.reader.Reader.{Reader}
 use Rattle.oak_read.specs.declared.reader.ReadOut.TheVariants as out
 use Rattle.oak_read.specs.declared.reader.Step.{Step}
@@ -44,6 +44,15 @@ use Rattle.oak_read.specs.declared.reader.Step.TheVariants as step
 use Rattle.oak_read.specs.Meaning.{path_of}
 use Rattle.oak_read.specs.Reading.{answer, due, fed as fed_reader}
 use Rattle.oak_store.specs.Tables.{Table, after_undo, found, next_number, with_document}
+use Rattle.core_nodes.specs.Nodes.{without_session}
+use Rattle.core_world.specs.Steps.{after_update, back_op, settings_op}
+use Rattle.oak_world.specs.declared.upkeep.Upkeep.{Upkeep}
+use Rattle.oak_world.specs.declared.upkeep.Upkeep.TheVariants as upkeep
+use Rattle.oak_world.specs.Upkeeps.{set_checkpoint, told_ids}
+use Rattle.oak_node.specs.declared.pending.Pending.{Pending}
+use Rattle.oak_doc.specs.declared.update.Change.TheVariants as change
+use Rattle.jr_path.specs.Ids.{names_of}
+use Rattle.jr_rev.specs.declared.vector.Pin.{Pin}
 use Rattle.oak_world.specs.declared.actor.Work.{Work}
 use Rattle.oak_world.specs.declared.actor.Work.TheVariants as work
 use Rattle.oak_port.specs.declared.task.StepOut.{StepOut}
@@ -264,13 +273,49 @@ Moves s m es r n fs v _ = ⊥
 abbrev pub Refused : Parts → Parts → Work → Type 0
 Refused p q v = (q ≡ p) × (v ≡ work.Rest)
 
+-- the last of the documents is told that r is published; where none is left, the root is, and the task ends
+abbrev pub PublishesOn : ℕ → ℕ → Parts → List DocId → Revision → Parts → Work → StepOut → Type 0
+PublishesOn s k p ids r q v (answers.Went kind.Back) =
+    (rest : List DocId) × (i : DocId) × (ids ≡ rest ++ i ∷ []) × (q ≡ parts (after_update p.table (back_op (names_of i) r)) p.memory (p.list ++ event.Went s kind.Back ∷ [])) × (v ≡ work.Upkeep (upkeep.Publish rest r))
+PublishesOn s k p ids r q v (answers.Ready (ends.Published o)) =
+    (ids ≡ []) × (o ≡ r) × (q ≡ parts (after_update p.table (back_op [] r)) p.memory (p.list ++ event.Out k r ∷ [])) × (v ≡ work.Rest)
+PublishesOn s k p ids r q v answers.Memory = Refused p q v
+PublishesOn s k p ids r q v _ = ⊥
+
+-- a step of background work, or on the settings
+abbrev pub KeepsUp : ℕ → ℕ → Parts → Upkeep → Parts → Work → StepOut → Type 0
+KeepsUp s k p upkeep.Write q v (answers.Went kind.Back) =
+    (n : Pending) × IsPending p.memory n × (q ≡ parts p.table (without_seen p.memory) (p.list ++ event.Went s kind.Back ∷ [])) × (v ≡ work.Upkeep (upkeep.Noted n))
+KeepsUp s k p upkeep.Write q v answers.Memory = Refused p q v
+KeepsUp s k p upkeep.Write q v _ = ⊥
+KeepsUp s k p (upkeep.Noted n) q v o = PublishesOn s k p (told_ids n.paths) n.upto q v o
+KeepsUp s k p (upkeep.Publish ids r) q v o = PublishesOn s k p ids r q v o
+KeepsUp s k p upkeep.Read q v (answers.Went kind.Back) =
+    (d : Document) × (found p.table (id.Node []) ≡ Some d) × (q ≡ parts p.table p.memory (p.list ++ event.Went s kind.Back ∷ [])) × (v ≡ work.Upkeep (upkeep.Learn d.last_rev d.sweep_rev))
+KeepsUp s k p upkeep.Read q v answers.Memory = Refused p q v
+KeepsUp s k p upkeep.Read q v _ = ⊥
+KeepsUp s k p (upkeep.Learn last sweep) q v (answers.Ready (ends.Learnt u)) =
+    (u ≡ (learned p.memory last sweep).head) × (q ≡ parts p.table (learned p.memory last sweep) (p.list ++ event.In k (learned p.memory last sweep).head ∷ [])) × (v ≡ work.Rest)
+KeepsUp s k p (upkeep.Learn last sweep) q v answers.Memory = Refused p q v
+KeepsUp s k p (upkeep.Learn last sweep) q v _ = ⊥
+KeepsUp s k p (upkeep.Checkpoint i) q v (answers.Ready (ends.Set None)) =
+    (pin : Pin) × (pin_of p.memory s ≡ Some pin) × (q ≡ parts (after_update p.table (settings_op (change.Checkpoint i pin))) p.memory (p.list ++ event.Checkpoint i pin.base ∷ [])) × (v ≡ work.Rest)
+KeepsUp s k p (upkeep.Checkpoint i) q v answers.Memory = Refused p q v
+KeepsUp s k p (upkeep.Checkpoint i) q v _ = ⊥
+KeepsUp s k p (upkeep.Release i) q v (answers.Ready (ends.Set None)) =
+    IsTrue (is_some (set_checkpoint p.table i)) × (q ≡ parts (after_update p.table (settings_op (change.Release i))) p.memory (p.list ++ event.Release i ∷ [])) × (v ≡ work.Rest)
+KeepsUp s k p (upkeep.Release i) q v (answers.Ready ends.NoCheckpoint) =
+    (set_checkpoint p.table i ≡ None) × (q ≡ parts (after_update p.table (settings_op (change.Release i))) p.memory (p.list ++ event.Went s kind.Settings ∷ [])) × (v ≡ work.Rest)
+KeepsUp s k p (upkeep.Release i) q v answers.Memory = Refused p q v
+KeepsUp s k p (upkeep.Release i) q v _ = ⊥
+
 -- how a step of session s of cluster node k goes, by what it does: the parts after it, what the session does then, and the answer
 abbrev pub Steps : ℕ → ℕ → Parts → Work → Parts → Work → StepOut → Type 0
 Steps s k p work.Login q v (answers.Ready (ends.Pinned pin)) =
     (pin ≡ pin_now p.memory) × (q ≡ parts p.table (with_pin p.memory s (pin_now p.memory)) (p.list ++ event.Login s p.memory.head ∷ [])) × (v ≡ work.Rest)
 Steps s k p work.Login q v answers.Memory = Refused p q v
 Steps s k p work.Login q v _ = ⊥
-Steps s k p work.End q v (answers.Ready ends.Ended) = (q ≡ parts p.table (without_pin p.memory s) (p.list ++ event.Went s kind.End ∷ [])) × (v ≡ work.Rest)
+Steps s k p work.End q v (answers.Ready ends.Ended) = (q ≡ parts p.table (without_session p.memory s) (p.list ++ event.Went s kind.End ∷ [])) × (v ≡ work.Rest)
 Steps s k p work.End q v answers.Memory = Refused p q v
 Steps s k p work.End q v _ = ⊥
 Steps s k p work.Refresh q v (answers.Ready (ends.Pinned pin)) =
@@ -286,6 +331,7 @@ Steps s k p (work.Plan edit marks) q v answers.Memory = Refused p q v
 Steps s k p (work.Plan edit marks) q v _ = ⊥
 Steps s k p (work.Commit c) q v o = CommitsOn s k p c q v o
 Steps s k p (work.Move r) q v o = (q.table ≡ p.table) × Moves s p.memory p.list r q.memory q.list v o
+Steps s k p (work.Upkeep u) q v o = KeepsUp s k p u q v o
 Steps s k p work.Rest q v answers.Memory = Refused p q v
 Steps s k p work.Rest q v _ = ⊥
 
@@ -321,6 +367,7 @@ pub record CanMove (s : ℕ) (m : NodeState) (places : ℕ) (r : Revision) : Typ
   pub place : 1 ≤ places
 
 abbrev pub CanStep : ℕ → NodeState → ℕ → Work → Type 0
+CanStep s m places work.End = s < 64
 CanStep s m places work.Refresh = IsSome (pin_of m s)
 CanStep s m places (work.Plan edit marks) = known_time m < 2 ^ 64 - 1
 CanStep s m places (work.Commit c) = CanCommit m places c

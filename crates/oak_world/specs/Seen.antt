@@ -8,11 +8,13 @@ use Rattle.oak_commit.specs.declared.outcome.CommitEnd.TheVariants as end
 use Rattle.core_watch.specs.Standing.{path_read}
 use Rattle.oak_port.specs.declared.task.Task.{Task}
 use Rattle.oak_port.specs.declared.task.Task.TheVariants as task
-use Rattle.oak_port.specs.Ports.{Awaiting, Deciding, Idle, Seat, Shown, Starting, Undoing, Work as Shows, Writing}
+use Rattle.oak_world.specs.declared.upkeep.Upkeep.{Upkeep}
+use Rattle.oak_world.specs.declared.upkeep.Upkeep.TheVariants as upkeep
+use Rattle.oak_port.specs.Ports.{Awaiting, Deciding, Idle, Learning, Publishing, Seat, Shown, Starting, Undoing, Work as Shows, Writing}
 use Rattle.oak_world.specs.declared.actor.Work.{Work}
 use Rattle.oak_world.specs.declared.actor.Work.TheVariants as work
 use Rattle.oak_world.specs.Steps.{kind_due}
-use Rattle.oak_world.specs.Worlds.{ActorState, WorldOf, actor_in, work_in}
+use Rattle.oak_world.specs.Worlds.{ActorState, WorldOf, actor_in, live, work_in}
 
 -- the task of a reader: a list where it has a parent, and else a load
 abbrev pub task_of : Option Path → Path → Task
@@ -25,6 +27,16 @@ shown_by r None = Writing r
 shown_by r (Some (end.Committed o)) = Deciding r
 shown_by r (Some e) = Undoing r e
 
+-- background work, or a change of the settings
+abbrev pub shown_upkeep : Upkeep → Shows
+shown_upkeep upkeep.Write = Starting task.BackWrite
+shown_upkeep (upkeep.Noted n) = Publishing n.upto
+shown_upkeep (upkeep.Publish ids r) = Publishing r
+shown_upkeep upkeep.Read = Starting task.BackRead
+shown_upkeep (upkeep.Learn last sweep) = Learning last
+shown_upkeep (upkeep.Checkpoint i) = Starting (task.Checkpoint i)
+shown_upkeep (upkeep.Release i) = Starting (task.Release i)
+
 -- what is shown of what a session does
 abbrev pub shown_work : Work → Shows
 shown_work work.Rest = Idle
@@ -35,6 +47,7 @@ shown_work (work.Read r) = Starting (task_of r.parent (path_read r))
 shown_work (work.Plan edit marks) = Starting (task.Commit edit marks)
 shown_work (work.Commit c) = shown_by c.revision c.outcome
 shown_work (work.Move r) = Awaiting r
+shown_work (work.Upkeep u) = shown_upkeep u
 
 -- the seat of a session
 abbrev pub seat_of : ActorState → Seat
@@ -46,7 +59,7 @@ no_seat = record { work = Idle; room = None; due = None }
 -- what session s is shown of a world to which a reference of this name leads
 abbrev pub shown_at : {L : Type 0} → GName → WorldOf L → ℕ → Shown
 shown_at name w s = record {
-  history = w.history;
+  history = live w.history;
   session = s;
   work = shown_work (work_in w.actors s);
   room = (actor_in w.actors s).reply;

@@ -1,5 +1,5 @@
 -- What sessions do, and what a step makes of a world.
-use Rattle.std.specs.Prelude.{◌≡◌, ◌≢◌, ◌⊎◌, ◌≤◌, ◌+◌, ◌-◌, ◌^◌, ℕ, min, List, [], ◌∷◌, length, slice_get, slice_set, Option, Some, None, is_some, IsTrue, IsFalse}
+use Rattle.std.specs.Prelude.{◌≡◌, ◌≢◌, ◌⊎◌, ◌≤◌, ◌+◌, ◌-◌, ◌^◌, ℕ, min, List, [], ◌∷◌, ◌++◌, length, slice_get, slice_set, Option, Some, None, is_some, IsTrue, IsFalse}
 use Rattle.std.specs.Option.{IsSomeAnd}
 use Rattle.std.specs.declared.alloc.Global.{Global}
 use Rattle.jr_path.specs.declared.path.Path.{Path}
@@ -23,16 +23,26 @@ use Rattle.oak_machine.specs.declared.event.StepKind.TheVariants as kind
 use Rattle.oak_machine.specs.History.{History}
 use Rattle.oak_machine.specs.Laws.{Says}
 use Rattle.oak_machine.specs.Sessions.{has_left, has_login, next_index}
-use Rattle.oak_node.specs.Heads.{AwaitsEarlier, next_draw}
+use Rattle.oak_node.specs.declared.pending.Pending.{Pending}
+use Rattle.oak_node.specs.Pins.{pin_of}
+use Rattle.jr_path.specs.Ids.{names_of}
+use Rattle.jr_path.specs.declared.path.DocId.{DocId}
+use Rattle.oak_doc.specs.declared.document.Document.{Document}
+use Rattle.oak_doc.specs.declared.update.Change.TheVariants as change
+use Rattle.oak_node.specs.Notes.{IsPending}
+use Rattle.oak_node.specs.Heads.{AwaitsEarlier, learned, next_draw}
 use Rattle.oak_node.specs.Pins.{pin_now}
 use Rattle.oak_read.specs.Reading.{children_reader, due, node_reader}
 use Rattle.core_world.specs.States.{State, base_in, memory_of, nodes_in}
-use Rattle.core_world.specs.Steps.{after_draw, after_finish, after_last, after_leave, after_login, after_mark, after_refresh, after_undoing, after_want, after_write, after_write_in_want, with_reader}
+use Rattle.core_world.specs.Steps.{after_back, after_checkpoint, after_learn, after_out, after_pending, after_release, after_unfound, after_went, after_draw, after_finish, after_last, after_leave, after_login, after_mark, after_refresh, after_undoing, after_want, after_write, after_write_in_want, with_reader}
 use Rattle.oak_port.specs.declared.task.StepOut.{StepOut}
 use Rattle.oak_port.specs.declared.task.StepOut.TheVariants as answers
 use Rattle.oak_port.specs.declared.task.Task.{Task}
 use Rattle.oak_port.specs.declared.task.Task.TheVariants as task
 use Rattle.oak_port.specs.declared.task.TaskEnd.TheVariants as ends
+use Rattle.oak_world.specs.declared.upkeep.Upkeep.{Upkeep}
+use Rattle.oak_world.specs.declared.upkeep.Upkeep.TheVariants as upkeep
+use Rattle.oak_world.specs.Upkeeps.{kind_kept, set_checkpoint, told_ids}
 use Rattle.oak_world.specs.declared.actor.Work.{Work}
 use Rattle.oak_world.specs.declared.actor.Work.TheVariants as work
 use Rattle.oak_world.specs.Parts.{EndsSo, committed, end_of_reading, marked, read_on}
@@ -48,6 +58,10 @@ Begins pin task.Refresh v = v ≡ work.Refresh
 Begins pin (task.Load p) v = (a : Global) × (at : Pin) × (pin ≡ Some at) × (v ≡ work.Read (node_reader a at p))
 Begins pin (task.List p) v = (a : Global) × (at : Pin) × (pin ≡ Some at) × (v ≡ work.Read (children_reader a at p))
 Begins pin (task.Commit edit marks) v = v ≡ work.Plan edit marks
+Begins pin task.BackWrite v = v ≡ work.Upkeep upkeep.Write
+Begins pin task.BackRead v = v ≡ work.Upkeep upkeep.Read
+Begins pin (task.Checkpoint i) v = v ≡ work.Upkeep (upkeep.Checkpoint i)
+Begins pin (task.Release i) v = v ≡ work.Upkeep (upkeep.Release i)
 
 -- the kind of the next step
 abbrev pub kind_of : Stage → Option StepKind
@@ -67,6 +81,7 @@ kind_due (work.Read r) = Some kind.Read
 kind_due (work.Plan edit marks) = Some kind.Draw
 kind_due (work.Commit c) = kind_of (stage_of c)
 kind_due (work.Move r) = Some kind.Pin
+kind_due (work.Upkeep u) = Some (kind_kept u)
 
 -- the session has come, and not left
 pub record HasCome (h : History) (s : ℕ) : Type 0 where
@@ -107,6 +122,34 @@ MakesCommit s w c u v o =
     ⊎ ((stage_of c ≡ stage.Finish) × (u ≡ after_finish w s (running_as s c)) × EndsSo c v o)
     ⊎ ((o ≡ answers.Memory) × (c.outcome ≡ None) × (u ≡ after_want w s (running_as s c)) × (v ≡ work.Commit (wanting c)))
 
+-- the last of the documents is told that r is published; where none is left, the root is, and the task ends
+abbrev pub Publishes : ℕ → State → List DocId → Revision → State → Work → StepOut → Type 0
+Publishes s w ids r u v (answers.Went kind.Back) = (rest : List DocId) × (i : DocId) × (ids ≡ rest ++ i ∷ []) × (u ≡ after_back w s (names_of i) r) × (v ≡ work.Upkeep (upkeep.Publish rest r))
+Publishes s w ids r u v (answers.Ready (ends.Published o)) = (ids ≡ []) × (o ≡ r) × (u ≡ after_out w s r) × (v ≡ work.Rest)
+Publishes s w ids r u v answers.Memory = (u ≡ w) × (v ≡ work.Rest)
+Publishes s w ids r u v _ = ⊥
+
+-- a step of background work, or on the settings
+abbrev pub MakesUpkeep : ℕ → State → Upkeep → State → Work → StepOut → Type 0
+MakesUpkeep s w upkeep.Write u v (answers.Went kind.Back) = (n : Pending) × IsPending (memory_of w s) n × (u ≡ after_pending w s) × (v ≡ work.Upkeep (upkeep.Noted n))
+MakesUpkeep s w upkeep.Write u v answers.Memory = (u ≡ w) × (v ≡ work.Rest)
+MakesUpkeep s w upkeep.Write u v _ = ⊥
+MakesUpkeep s w (upkeep.Noted n) u v o = Publishes s w (told_ids n.paths) n.upto u v o
+MakesUpkeep s w (upkeep.Publish ids r) u v o = Publishes s w ids r u v o
+MakesUpkeep s w upkeep.Read u v (answers.Went kind.Back) = (d : Document) × (nodes_in w.table [] ≡ Some d) × (u ≡ after_went w s kind.Back) × (v ≡ work.Upkeep (upkeep.Learn d.last_rev d.sweep_rev))
+MakesUpkeep s w upkeep.Read u v answers.Memory = (u ≡ w) × (v ≡ work.Rest)
+MakesUpkeep s w upkeep.Read u v _ = ⊥
+MakesUpkeep s w (upkeep.Learn last sweep) u v (answers.Ready (ends.Learnt x)) = (x ≡ (learned (memory_of w s) last sweep).head) × (u ≡ after_learn w s last sweep) × (v ≡ work.Rest)
+MakesUpkeep s w (upkeep.Learn last sweep) u v answers.Memory = (u ≡ w) × (v ≡ work.Rest)
+MakesUpkeep s w (upkeep.Learn last sweep) u v _ = ⊥
+MakesUpkeep s w (upkeep.Checkpoint i) u v (answers.Ready (ends.Set None)) = (pin : Pin) × (pin_of (memory_of w s) s ≡ Some pin) × (u ≡ after_checkpoint w s i pin) × (v ≡ work.Rest)
+MakesUpkeep s w (upkeep.Checkpoint i) u v answers.Memory = (u ≡ w) × (v ≡ work.Rest)
+MakesUpkeep s w (upkeep.Checkpoint i) u v _ = ⊥
+MakesUpkeep s w (upkeep.Release i) u v (answers.Ready (ends.Set None)) = IsTrue (is_some (set_checkpoint w.table i)) × (u ≡ after_release w i) × (v ≡ work.Rest)
+MakesUpkeep s w (upkeep.Release i) u v (answers.Ready ends.NoCheckpoint) = (set_checkpoint w.table i ≡ None) × (u ≡ after_unfound w s (change.Release i)) × (v ≡ work.Rest)
+MakesUpkeep s w (upkeep.Release i) u v answers.Memory = (u ≡ w) × (v ≡ work.Rest)
+MakesUpkeep s w (upkeep.Release i) u v _ = ⊥
+
 -- how a step of session s goes, by what it does: the state after it, what it does then, and the answer
 abbrev pub Makes : ℕ → State → Work → State → Work → StepOut → Type 0
 Makes s w work.Login u v (answers.Ready (ends.Pinned pin)) = (u ≡ after_login w s) × (v ≡ work.Rest) × (pin ≡ pin_now (memory_of w s))
@@ -129,6 +172,7 @@ Makes s w (work.Commit c) u v o = MakesCommit s w c u v o
 Makes s w (work.Move r) u v (answers.Wait o) = (u ≡ w) × (v ≡ work.Move r) × AwaitsEarlier (memory_of w s) r o
 Makes s w (work.Move r) u v (answers.Ready (ends.Commit (end.Committed o))) = (u ≡ after_refresh w s) × (v ≡ work.Rest) × (o ≡ r) × IsTrue (sees (memory_of w s).head r)
 Makes s w (work.Move r) u v _ = ⊥
+Makes s w (work.Upkeep k) u v o = MakesUpkeep s w k u v o
 Makes s w work.Rest u v _ = ⊥
 
 -- the documents that loads have read, after a step of a load; the count stays at its last value

@@ -9,7 +9,7 @@ use Rattle.oak_commit.specs.Kept.{undoes, wants}
 use Rattle.oak_machine.specs.declared.event.Event.{Event}
 use Rattle.oak_machine.specs.declared.event.Event.TheVariants as event
 use Rattle.oak_machine.specs.declared.event.Journal.{Journal}
-use Rattle.oak_machine.specs.History.{History, history_of}
+use Rattle.oak_machine.specs.History.{History, Past}
 use Rattle.oak_node.specs.Memory.{NodeState, begun as begun_memory}
 use Rattle.oak_read.specs.declared.reader.Reader.{Reader}
 use Rattle.oak_store.specs.Tables.{Table}
@@ -33,17 +33,29 @@ pub record ActorState : Type 0 where
 abbrev pub shown_actor : Actor → ActorState
 shown_actor a = record { work = a.work; began = a.began; reply = a.reply; reads = a.reads }
 
+-- the cluster nodes, the sessions and the events of a world that began at the initial tree
+pub record Story : Type 0 where
+  pub clusters : ℕ
+  pub sessions : List ℕ
+  pub past : Past
+
+abbrev pub live : Story → History
+live h = record { clusters = h.clusters; sessions = h.sessions; begin = None; past = h.past }
+
+abbrev pub story_of : Journal → Story
+story_of j = record { clusters = j.clusters; sessions = j.sessions; past = reverse j.events.list }
+
 -- a law, what the journal tells, the documents, the memories of the cluster nodes 1, 2 and so on, and what each session does
 pub record WorldOf (L : Type 0) : Type 0 where
   pub law : L
-  pub history : History
+  pub history : Story
   pub table : Table
   pub memories : List NodeState
   pub actors : List ActorState
 
 -- what is seen of a world's fields
 abbrev pub shown_world : {L : Type 0} → L → Journal → Table → List NodeState → List Actor → WorldOf L
-shown_world law j t ms actors = record { law = law; history = history_of j; table = t; memories = ms; actors = map shown_actor actors }
+shown_world law j t ms actors = record { law = law; history = story_of j; table = t; memories = ms; actors = map shown_actor actors }
 
 -- a session that does nothing
 abbrev pub idle : ActorState
@@ -84,7 +96,7 @@ abbrev pub reading_of : Work → Option Reader
 reading_of (work.Read r) = Some r
 reading_of _ = None
 
-abbrev pub state_with : History → Table → List NodeState → List ActorState → State
+abbrev pub state_with : Story → Table → List NodeState → List ActorState → State
 state_with h t ms actors = record {
   clusters = h.clusters;
   sessions = h.sessions;
@@ -102,7 +114,7 @@ state_of w = state_with w.history w.table w.memories w.actors
 -- ---- one session's part
 
 -- the cluster node of session s
-abbrev pub node_in : History → ℕ → ℕ
+abbrev pub node_in : Story → ℕ → ℕ
 node_in h s = unwrap_or (slice_get h.sessions s) 0
 
 -- the documents, the memory of the node of session s, and the events
@@ -129,8 +141,8 @@ with_work w s v = record w { actors = slice_set w.actors s (record (actor_in w.a
 abbrev pub with_reply : {L : Type 0} → WorldOf L → ℕ → Option ℕ → WorldOf L
 with_reply w s bytes = record w { actors = slice_set w.actors s (record (actor_in w.actors s) { reply = bytes }) }
 
--- the history with an event more
-abbrev pub with_event : History → Event → History
+-- the story with an event more
+abbrev pub with_event : Story → Event → Story
 with_event h e = record h { past = e ∷ h.past }
 
 -- the world after session s has said its reply of index i

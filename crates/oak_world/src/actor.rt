@@ -7,6 +7,7 @@ ghost use Rattle.oak_world.specs.Kept.{IsPlaced};
 ghost use Rattle.oak_world.specs.Steps.{Begins, kind_due, kind_of};
 ghost use Rattle.oak_world.specs.Worlds.{shown_actor};
 
+use crate::upkeep::Upkeep;
 use jr_path::{List, Text};
 use jr_rev::{Pin, Revision};
 use jr_tree::Edit;
@@ -34,6 +35,8 @@ pub(crate) enum Work {
     Commit(Committer),
     // An accepted commit that has ended: the base moves as soon as the head sees its revision.
     Move(Revision),
+    // Background work, or a change of the settings.
+    Upkeep(Upkeep),
 }
 
 impl Work {
@@ -54,6 +57,10 @@ impl Work {
                 None => Err(AllocError),
             },
             Task::Commit(edit, marks) => Ok(Work::Plan(edit, marks)),
+            Task::BackWrite => Ok(Work::Upkeep(Upkeep::Write)),
+            Task::BackRead => Ok(Work::Upkeep(Upkeep::Read)),
+            Task::Checkpoint(name) => Ok(Work::Upkeep(Upkeep::Checkpoint(name))),
+            Task::Release(name) => Ok(Work::Upkeep(Upkeep::Release(name))),
         }
     }
 
@@ -69,6 +76,7 @@ impl Work {
             Work::Read(_) => Some(StepKind::Read),
             Work::Plan(_, _) => Some(StepKind::Draw),
             Work::Commit(committer) => kind_of(committer.stage()),
+            Work::Upkeep(upkeep) => Some(upkeep.due()),
         }
     }
 }

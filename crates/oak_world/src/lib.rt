@@ -10,8 +10,7 @@ mod session;
 mod start;
 mod step;
 mod store;
-#[cfg(test)]
-mod tests;
+mod upkeep;
 mod world;
 
 pub use port::SoloPort;

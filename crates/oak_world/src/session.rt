@@ -2,7 +2,8 @@
 ghost use Rattle.std.specs.Prelude.{◌≡◌, ◌<◌, ◌+◌, ◌∷◌, ◌++◌, [], IfOk, OnErr, OnOk, IsSome};
 ghost use Rattle.oak_machine.specs.declared.event.Event.TheVariants as event;
 ghost use Rattle.oak_machine.specs.declared.event.StepKind.TheVariants as kind;
-ghost use Rattle.oak_node.specs.Pins.{pin_now, pin_of, with_pin, without_pin};
+ghost use Rattle.oak_node.specs.Pins.{pin_now, pin_of, with_pin};
+ghost use Rattle.core_nodes.specs.Nodes.{without_session};
 ghost use Rattle.oak_world.specs.Parts.{base_at};
 
 use jr_rev::{Pin, RevVec};
@@ -60,9 +61,10 @@ pub(crate) fn refresh_kept(memory: &mut NodeMem, events: &mut Events, s: u32) ->
     pin
 }
 
-// The session leaves: its pin goes.
+// The session leaves: its pin goes, and that of its cursor.
 pub(crate) fn leave(memory: &mut NodeMem, events: &mut Events, s: u32) -> Result<(), AllocError>
-    ensures memory { OnOk result (memory.new ≡ without_pin memory.old s) }
+    requires { s < 64 }
+    ensures memory { OnOk result (memory.new ≡ without_session memory.old s) }
     ensures list { OnOk result (events.new.list ≡ events.old.list ++ event.Went s kind.End ∷ []) }
     ensures kept { OnErr result (memory.new ≡ memory.old) }
     ensures err { OnErr result (events.new.list ≡ events.old.list) }
@@ -70,6 +72,7 @@ pub(crate) fn leave(memory: &mut NodeMem, events: &mut Events, s: u32) -> Result
 {
     events.push(Event::Went(s, StepKind::End))?;
     memory.unpin(s);
+    memory.unpin(64 + s);
     Ok(())
 }
 

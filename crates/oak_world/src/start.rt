@@ -68,12 +68,16 @@ fn start_document(
 ) -> Result<Document, AllocError>
     ensures { IfOk result (λ document. document ≡ start_document path kind.now number) }
 {
+    let deleted = at_start(alloc, false)?;
+    let kind = Property::Single(Value::Name(plain_name(alloc, kind)?));
+    let values = at_start(alloc, Some(kind))?;
+    let name = plain_name(alloc, "jcr:primaryType")?;
+    let mut props = Keyed::new(alloc);
+    props.put(name, values)?;
     let mut document = Document::empty(alloc, DocId::Node(path));
     document.mod_count = number;
-    document.deleted = at_start(alloc, false)?;
-    let kind = Property::Single(Value::Name(plain_name(alloc, kind)?));
-    let name = plain_name(alloc, "jcr:primaryType")?;
-    document.props.put(name, at_start(alloc, Some(kind))?)?;
+    document.deleted = deleted;
+    document.props = props;
     Ok(document)
 }
 

@@ -11,6 +11,7 @@ use crate::actor::{Actor, Work};
 use crate::commit;
 use crate::load::read;
 use crate::session::{leave, login, refresh, refresh_kept};
+use crate::upkeep::keep_up;
 use jr_path::List;
 use jr_rev::Revision;
 use jr_tree::Edit;
@@ -61,6 +62,7 @@ pub(crate) fn step(
         },
         Work::Commit(committer) => commit_on(table, memory, events, node, s, committer),
         Work::Move(r) => move_on(memory, events, s, r),
+        Work::Upkeep(upkeep) => keep_up(alloc, table, memory, events, node, s, upkeep),
     }
 }
 
@@ -248,7 +250,8 @@ fn is_read(work: &Work) -> bool
         | Work::Refresh
         | Work::Plan(_, _)
         | Work::Commit(_)
-        | Work::Move(_) => false,
+        | Work::Move(_)
+        | Work::Upkeep(_) => false,
     }
 }
 

@@ -1,5 +1,5 @@
 // A world under a law.
-ghost use Rattle.std.specs.Prelude.{IfOk, IsFalse, IsSome, IsTrue, OnErr, OnOk, Some, is_some, length, map, slice_get, ◌-◌, ◌<◌, ◌^◌, ◌↔◌, ◌≡◌, ◌≢◌, ◌≤◌, ◌⊎◌, ℕ, suc};
+ghost use Rattle.std.specs.Prelude.{IfOk, IsFalse, IsSome, IsTrue, None, OnErr, OnOk, Some, is_some, length, map, slice_get, ◌-◌, ◌<◌, ◌^◌, ◌↔◌, ◌≡◌, ◌≢◌, ◌≤◌, ◌⊎◌, ℕ, suc};
 ghost use Rattle.std.specs.Borrow.{GName};
 ghost use Rattle.std.specs.List.{range_with_len};
 ghost use Rattle.std.specs.Option.{option_map};
@@ -26,7 +26,7 @@ ghost use Rattle.oak_world.specs.Clashes.{MeetsNone, Wanted};
 ghost use Rattle.oak_world.specs.Ending.{EndsIn, IsWait};
 ghost use Rattle.oak_world.specs.Seen.{shown_at};
 ghost use Rattle.oak_world.specs.Steps.{Begins, IsIdle, MaySay, Plays, StepsIn, Turns, kind_due};
-ghost use Rattle.oak_world.specs.Worlds.{actor_in, said_in, start_world, state_of, with_reply, with_work, work_in};
+ghost use Rattle.oak_world.specs.Worlds.{actor_in, live, said_in, start_world, state_of, with_reply, with_work, work_in};
 
 use crate::actor::{Actor, Room, Work};
 use crate::start::start_documents;
@@ -54,6 +54,7 @@ pub struct World<L: Law> {
 }
 
 impl<L: Law> Model for World<L> {
+    ghost use Rattle.std.specs.Prelude.{None, ◌≡◌};
     ghost use Rattle.oak_world.specs.Worlds.{WorldOf, shown_world};
     ghost use Rattle.oak_world.specs.Kept.{ArePlaced, IsWorld};
 
@@ -61,7 +62,7 @@ impl<L: Law> Model for World<L> {
 
     ghost view = { λ w. shown_world w.law w.journal w.table w.memories.items w.actors.items };
 
-    ghost invariant = { λ w. IsWorld (L.may_start w.law) (L.may_say w.law) (shown_world w.law w.journal w.table w.memories.items w.actors.items) × ArePlaced w.actors.items w.journal.events.places };
+    ghost invariant = { λ w. (IsWorld (L.may_start w.law) (L.may_say w.law) (shown_world w.law w.journal w.table w.memories.items w.actors.items) × ArePlaced w.actors.items w.journal.events.places) × (w.journal.start ≡ None) };
 }
 
 impl<L: Law + Drop> World<L> {
@@ -92,6 +93,7 @@ impl<L: Law + Drop> World<L> {
             clusters,
             sessions: numbers,
             events,
+            start: None,
         };
         Ok(World {
             alloc,
@@ -114,8 +116,8 @@ impl<L: Law + Drop> World<L> {
     /// clash, the base of one sees the other. A refusal names its cause: another's commit, outside the base, made or under way.
     /// What has ended and clashes with no other draw outside its base is committed, or wanted memory before its commit point.
     pub fn journal(&self) -> &Journal
-        ensures journal { history_of result.now ≡ self.now.history }
-        ensures run { IsRun (L.may_start self.now.law) (L.may_say self.now.law) self.now.history }
+        ensures journal { history_of result.now ≡ live self.now.history }
+        ensures run { IsRun (L.may_start self.now.law) (L.may_say self.now.law) (live self.now.history) }
         ensures seats { length self.now.actors ≡ length self.now.history.sessions }
         ensures apart { (r o : Revision) → (r ≡ o → ⊥) → IsTrue (is_committed self.now.history.past r) → IsTrue (is_committed self.now.history.past o) → IsTrue (are_clashing self.now.history.past r o) → IsTrue (is_in_base self.now.history.past r o) ⊎ IsTrue (is_in_base self.now.history.past o r) }
         ensures causes { (r : Revision) (item : Item) (o : Revision) → refusal_of self.now.history.past r ≡ Some (item, o) → Cause self.now.history.past r item o }
@@ -144,7 +146,7 @@ impl<L: Law + Drop> World<L> {
         ensures below { (pin : Pin) → result ≡ Some pin → IsTrue (is_below pin.sweep pin.base) }
         ensures settled { (pin : Pin) → result ≡ Some pin → IsSettled self.now.history.past pin.base }
         ensures closed { (pin : Pin) → result ≡ Some pin → IsClosed self.now.history.past pin.base }
-        ensures shown { (pin : Pin) (p : Path) → result ≡ Some pin → found_node (documents_in self.now.table.documents) pin.sweep pin.base p ≡ option_map (λ node. node.props) (node_at (tree_at self.now.history.past pin.base) p) }
+        ensures shown { (pin : Pin) (p : Path) → result ≡ Some pin → found_node (documents_in self.now.table.documents) pin.sweep pin.base p ≡ node_at (tree_at None self.now.history.past pin.base) p }
     {
         let node = self.node(actor);
         let memory = &self.memories[node as usize - 1];
@@ -154,7 +156,7 @@ impl<L: Law + Drop> World<L> {
     /// Tells a session that does nothing what to do. Where memory is refused nothing changes.
     pub fn start(&mut self, actor: u32, task: Task) -> Result<(), AllocError>
         requires idle { IsIdle self.old actor }
-        requires may { MayBegin (L.may_start self.old.law) self.old.history actor task }
+        requires may { MayBegin (L.may_start self.old.law) (live self.old.history) actor task }
         ensures ok { OnOk result ((v : Work) × Begins (pin_of (memory_of (state_of self.old) actor) actor) task v × (self.new ≡ with_work self.old actor v)) }
         ensures err { OnErr result (self.new ≡ self.old) }
     {
@@ -226,7 +228,7 @@ impl<L: Law + Drop> World<L> {
     /// Says the session's next reply, which the law lets it say, and whose bytes are reserved. It can't be refused.
     pub fn say(&mut self, actor: u32, index: u32, text: &str)
         requires idle { IsIdle self.old actor }
-        requires may { MaySay (L.may_say self.old.law) self.old.history (actor_in self.old.actors actor).reply actor index text.now }
+        requires may { MaySay (L.may_say self.old.law) (live self.old.history) (actor_in self.old.actors actor).reply actor index text.now }
         ensures { self.new ≡ said_in self.old actor index text.now }
     {
         let seat = &mut self.actors[actor as usize];

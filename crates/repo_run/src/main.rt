@@ -1,13 +1,8 @@
 //! The program: reads a script, runs it, prints the replies.
 #![tactic(auto)]
 
-mod status;
-#[cfg(test)]
-mod tests;
-mod top;
-mod words;
-
 use jr_io::{StdSink, StdSource};
+use repo_top::repo_main;
 use std::alloc::AllocError;
 use std::env::Env;
 use std::process::ExitCode;
@@ -33,7 +28,7 @@ fn main(rt: HostRuntime) -> ExitCode {
     let mut source = StdSource::new(rt.reader());
     let mut sink = StdSink::new(io::writer(&rt));
     let mut left = None;
-    let status = top::repo_main(
+    let status = repo_main(
         &rt,
         rt.alloc(),
         words.as_slice(),

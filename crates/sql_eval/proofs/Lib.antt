@@ -4,3 +4,4 @@ pub mod Missing
 pub mod Places
 pub mod OneOrder
 pub mod OneRows
+pub mod PlainRows

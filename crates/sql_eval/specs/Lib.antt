@@ -7,3 +7,4 @@ pub mod Joins
 pub mod Shown
 pub mod Keys
 pub mod Rows
+pub mod RowTexts

@@ -58,11 +58,14 @@ that_pass (Some c) ts = filter (λ t. holds t c) ts
 abbrev pub filtered : Query → List (List Name) → Nodes → List Tuple
 filtered q sets tree = that_pass q.filter (tuples_of tree q.joins sets)
 
--- the rows of a query, where the names of the types of each selector are given: the tuples by their paths, then by
--- the orders of the query, each as a row
-pub record AreRows (q : Query) (sets : List (List Name)) (tree : Nodes) (rows : List Row) : Type 0 where
+-- the tuples by their paths, then by the orders of the query, each as a row
+pub record AreRowsOf (q : Query) (found : List Tuple) (rows : List Row) : Type 0 where
   pub by_path : List Tuple
   pub tuples : List Tuple
-  pub paths : IsStablySorted by_paths (filtered q sets tree) by_path
+  pub paths : IsStablySorted by_paths found by_path
   pub orders : IsStablySorted (by_orders q.orders) by_path tuples
   pub rows_are : rows ≡ map (row_of q.columns) tuples
+
+-- the rows of a query, where the names of the types of each selector are given
+abbrev pub AreRows : Query → List (List Name) → Nodes → List Row → Type 0
+AreRows q sets tree rows = AreRowsOf q (filtered q sets tree) rows

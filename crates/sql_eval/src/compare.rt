@@ -80,7 +80,7 @@ pub(crate) fn values_of(property: &Property) -> &[Value]
 }
 
 /// The values of a property; a missing one has none.
-pub(crate) fn values_in(property: Option<&Property>) -> &[Value]
+pub fn values_in(property: Option<&Property>) -> &[Value]
     ensures { result.now ≡ values_in (option_copied property.entry) }
 {
     match property {
@@ -154,8 +154,8 @@ fn kind_number(kind: Kind) -> u8
     }
 }
 
-// The order of two values: by the number of their kind, and within one kind by their order.
-fn kinds_first(value: &Value, other: &Value) -> Ordering
+/// The order of two values: by the number of their kind, and within one kind by their order.
+pub fn kinds_first(value: &Value, other: &Value) -> Ordering
     ensures { result ≡ kinds_first value.now other.now }
 {
     let kinds = kind_number(value.kind()).cmp(&kind_number(other.kind()));

@@ -2,29 +2,27 @@
 ghost use Rattle.std.specs.Prelude.{◌≡◌, IfOk};
 ghost use Rattle.std.specs.Map.Iter.{deref_pair};
 ghost use Rattle.std.specs.Option.{option_map, option_map_or};
-ghost use Rattle.sql_eval.specs.Conditions.{holds, is_child, is_descendant, is_same, path_passes};
+ghost use Rattle.sql_eval.specs.Conditions.{holds, is_child, is_descendant, is_same, operand_of, path_passes};
+ghost use Rattle.sql_eval.specs.Values.{some_compares};
 
 use crate::compare::some_compares;
 use crate::operand::operand_of;
 use crate::tuple::{Spot, Tuple};
 use jr_path::Path;
 use jr_tree::is_child;
-use sql_parse::Condition;
+use jr_value::Value;
+use sql_parse::{Condition, Operand, Operator};
 use std::alloc::{AllocError, Global};
 
 /// Whether a tuple is as a condition asks (JSR 283, 6.7.12 Constraint).
-pub(crate) fn holds(
-    alloc: Global,
-    tuple: &Tuple<'_>,
-    condition: &Condition,
-) -> Result<bool, AllocError>
+pub fn holds(alloc: Global, tuple: &Tuple<'_>, condition: &Condition) -> Result<bool, AllocError>
     ensures { IfOk result (λ so. so ≡ holds tuple.now condition.now) }
 {
     match condition {
         Condition::Not(inner) => Ok(!holds(alloc, tuple, inner)?),
         Condition::And(first, second) => {
             if holds(alloc, tuple, first)? {
-                Ok(holds(alloc, tuple, second)?)
+                holds(alloc, tuple, second)
             } else {
                 Ok(false)
             }
@@ -33,13 +31,12 @@ pub(crate) fn holds(
             if holds(alloc, tuple, first)? {
                 Ok(true)
             } else {
-                Ok(holds(alloc, tuple, second)?)
+                holds(alloc, tuple, second)
             }
         }
         Condition::Has(property) => Ok(tuple.property(property).is_some()),
         Condition::Compare(operand, operator, value) => {
-            let operated = operand_of(alloc, tuple, operand)?;
-            Ok(some_compares(alloc, *operator, operated.values(), value)?)
+            is_compared(alloc, tuple, operand, *operator, value)
         }
         Condition::Same(selector, path) => Ok(is_spot_same(tuple.spot(*selector), path)),
         Condition::Child(selector, path) => Ok(is_spot_child(tuple.spot(*selector), path)),
@@ -47,6 +44,20 @@ pub(crate) fn holds(
             Ok(is_spot_descendant(tuple.spot(*selector), path))
         }
     }
+}
+
+// Whether an operand compares so with a value in a tuple.
+fn is_compared(
+    alloc: Global,
+    tuple: &Tuple<'_>,
+    operand: &Operand,
+    operator: Operator,
+    value: &Value,
+) -> Result<bool, AllocError>
+    ensures { IfOk result (λ so. so ≡ some_compares operator (operand_of tuple.now operand.now) value.now) }
+{
+    let operated = operand_of(alloc, tuple, operand)?;
+    some_compares(alloc, operator, operated.values(), value)
 }
 
 /// Whether there is a node and it is the one at a path (JSR 283, 6.7.20 SameNode).

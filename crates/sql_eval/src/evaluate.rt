@@ -3,7 +3,7 @@ ghost use Rattle.std.specs.Prelude.{◌≡◌, true, IfOk, map};
 ghost use Rattle.std.specs.List.{filter};
 ghost use Rattle.std.specs.Option.{option_copied, option_map_or};
 ghost use Rattle.sql_eval.specs.Conditions.{holds};
-ghost use Rattle.sql_eval.specs.Rows.{AreRows, cell_of, filtered, row_of};
+ghost use Rattle.sql_eval.specs.Rows.{AreRows, AreRowsOf, cell_of, filtered, row_of, that_pass};
 
 use crate::condition::holds;
 use crate::join::tuples_of;
@@ -27,7 +27,20 @@ pub fn rows(
 ) -> Result<Vec<Row>, AllocError>
     ensures { IfOk result (λ rows. AreRows query.now (map (λ set. set.items) sets.now) tree.now rows.items) }
 {
-    let mut tuples = filtered(alloc, query, sets, tree)?;
+    let found = filtered(alloc, query, sets, tree)?;
+    rows_in_order(alloc, query, found)
+}
+
+/// The tuples that a query found as its rows: by the paths of their nodes, and then by the orders of the query, those
+/// that tie as they stood.
+pub fn rows_in_order(
+    alloc: Global,
+    query: &Query,
+    found: Vec<Tuple<'_>>,
+) -> Result<Vec<Row>, AllocError>
+    ensures { IfOk result (λ rows. AreRowsOf query.now found.entry.items rows.items) }
+{
+    let mut tuples = found;
     sort_by_paths(&mut tuples)?;
     let tuples = sorted_by_orders(alloc, query.orders.as_slice(), tuples)?;
     Ok(rows_of(alloc, query.columns.as_slice(), &tuples)?)
@@ -43,9 +56,20 @@ fn filtered<'a>(
     ensures { IfOk result (λ tuples. tuples.items ≡ filtered query.now (map (λ set. set.items) sets.now) tree.now) }
 {
     let all = tuples_of(alloc, tree, query.joins.as_slice(), sets)?;
+    that_pass(alloc, query, all)
+}
+
+/// The tuples of which a query's constraint holds, or all where it has none.
+pub fn that_pass<'a>(
+    alloc: Global,
+    query: &Query,
+    all: Vec<Tuple<'a>>,
+) -> Result<Vec<Tuple<'a>>, AllocError>
+    ensures { IfOk result (λ tuples. tuples.items ≡ that_pass query.now.filter all.entry.items) }
+{
     match &query.filter {
         None => Ok(all),
-        Some(condition) => Ok(that_hold(alloc, condition, all)?),
+        Some(condition) => that_hold(alloc, condition, all),
     }
 }
 

@@ -18,7 +18,7 @@ use sql_parse::{Join, JoinKind, On, PropertyOf};
 use std::alloc::{AllocError, Global};
 
 /// The names of the properties that have the types of a node: its primary type and its mixins.
-pub(crate) fn type_properties(alloc: Global) -> Result<Vec<Name>, AllocError>
+pub fn type_properties(alloc: Global) -> Result<Vec<Name>, AllocError>
     ensures { IfOk result (λ names. names.items ≡ type_properties) }
 {
     let mut names = Vec::new(alloc);
@@ -49,15 +49,15 @@ pub(crate) fn nodes_of_type<'a>(
 {
     let mut spots = Vec::new(alloc);
     for (path, node) in tree.iter() {
-        if is_of_type(properties, set, node) {
+        if has_type(properties, set, node) {
             spots.push((path, node))?;
         }
     }
     Ok(spots)
 }
 
-// Whether one of these properties has the name of one of these types.
-fn is_of_type(properties: &[Name], set: &[Name], node: &Node) -> bool
+/// Whether one of these properties of a node has the name of one of these types.
+pub fn has_type(properties: &[Name], set: &[Name], node: &Node) -> bool
     ensures { result ≡ list_any (is_typed set.now node.now) properties.now }
 {
     let mut left = properties;
@@ -130,8 +130,8 @@ fn spot_in<'a>(left: &Tuple<'a>, right: Spot<'a>, selector: u32) -> Option<Spot<
     }
 }
 
-// Whether a tuple and one more node are as a join condition asks (JSR 283, 6.7.7 JoinCondition).
-fn joins<'a>(on: &On, left: &Tuple<'a>, right: Spot<'a>) -> bool
+/// Whether a tuple and one more node are as a join condition asks (JSR 283, 6.7.7 JoinCondition).
+pub fn joins<'a>(on: &On, left: &Tuple<'a>, right: Spot<'a>) -> bool
     ensures { result ≡ joins on.now (with_spot left.now (deref_pair right.entry)) }
 {
     match on {
@@ -368,8 +368,8 @@ fn joined_with<'a>(
     Ok(joined(alloc, join, count, tuples, &spots)?)
 }
 
-// Each node as a tuple.
-fn singles<'a>(alloc: Global, spots: &[Spot<'a>]) -> Result<Vec<Tuple<'a>>, AllocError>
+/// Each node as a tuple.
+pub fn singles<'a>(alloc: Global, spots: &[Spot<'a>]) -> Result<Vec<Tuple<'a>>, AllocError>
     ensures { IfOk result (λ tuples. tuples.items ≡ map (λ e. Some e ∷ []) (map deref_pair spots.now)) }
 {
     let mut tuples = Vec::new(alloc);

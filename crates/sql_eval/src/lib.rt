@@ -13,11 +13,14 @@ mod like;
 mod operand;
 mod row;
 mod sorting;
+mod text;
 mod tuple;
 
-pub use evaluate::rows;
+pub use compare::{kinds_first, values_in};
+pub use condition::holds;
+pub use evaluate::{rows, rows_in_order, that_pass};
+pub use join::{has_type, joins, singles, type_properties};
 pub use laws::rows_are_one;
 pub use row::{Cell, Row};
-
-#[cfg(test)]
-mod tests;
+pub use text::rows_text;
+pub use tuple::{Spot, Tuple, property_in};

@@ -10,7 +10,7 @@ ghost use Rattle.sql_eval.specs.Values.{missing_first, values_in};
 
 use crate::characters::{Case, in_case, lengths_of, local_part};
 use crate::compare::{lists_cmp, values_in, values_of};
-use crate::tuple::Tuple;
+use crate::tuple::{Spot, Tuple};
 use jr_path::{Path, Text};
 use jr_value::{Property, Value};
 use sql_parse::Operand;
@@ -117,19 +117,31 @@ pub(crate) fn operand_of<'a>(
 {
     match operand {
         Operand::Property(property) => Ok(Operated::kept(tuple.property(property))),
-        Operand::Length(property) => {
-            Ok(Operated::kept(tuple.property(property)).lengths(alloc)?)
-        }
-        Operand::Name(selector) => match tuple.spot(*selector) {
-            Some((path, _)) => Ok(Operated::made(Some(text(alloc, name_of(path))?))),
-            None => Ok(Operated::made(None)),
-        },
-        Operand::LocalName(selector) => match tuple.spot(*selector) {
-            Some((path, _)) => Ok(Operated::made(Some(text(alloc, local_part(name_of(path)))?))),
-            None => Ok(Operated::made(None)),
-        },
-        Operand::Lower(inner) => Ok(operand_of(alloc, tuple, inner)?.in_case(alloc, Case::Lower)?),
-        Operand::Upper(inner) => Ok(operand_of(alloc, tuple, inner)?.in_case(alloc, Case::Upper)?),
+        Operand::Length(property) => Operated::kept(tuple.property(property)).lengths(alloc),
+        Operand::Name(selector) => named(alloc, tuple.spot(*selector)),
+        Operand::LocalName(selector) => locally_named(alloc, tuple.spot(*selector)),
+        Operand::Lower(inner) => operand_of(alloc, tuple, inner)?.in_case(alloc, Case::Lower),
+        Operand::Upper(inner) => operand_of(alloc, tuple, inner)?.in_case(alloc, Case::Upper),
+    }
+}
+
+// The name of a node, where there is one.
+fn named<'a>(alloc: Global, spot: Option<Spot<'_>>) -> Result<Operated<'a>, AllocError>
+    ensures { IfOk result (λ named. named ≡ option_map (λ e. Single (value.Str (name_of e.0))) (option_map deref_pair spot.entry)) }
+{
+    match spot {
+        Some((path, _)) => Ok(Operated::made(Some(text(alloc, name_of(path))?))),
+        None => Ok(Operated::made(None)),
+    }
+}
+
+// The local part of the name of a node, where there is one.
+fn locally_named<'a>(alloc: Global, spot: Option<Spot<'_>>) -> Result<Operated<'a>, AllocError>
+    ensures { IfOk result (λ named. named ≡ option_map (λ e. Single (value.Str (local_part (name_of e.0)))) (option_map deref_pair spot.entry)) }
+{
+    match spot {
+        Some((path, _)) => Ok(Operated::made(Some(text(alloc, local_part(name_of(path)))?))),
+        None => Ok(Operated::made(None)),
     }
 }
 

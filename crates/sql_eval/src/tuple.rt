@@ -17,12 +17,12 @@ use std::cmp::Ordering;
 use std::marker::Model;
 
 /// A node of a tree with its path.
-pub(crate) type Spot<'a> = (&'a Path, &'a Node);
+pub type Spot<'a> = (&'a Path, &'a Node);
 
 /// For each selector its node, or none where an outer join has none. Ordered by the paths of the nodes in the order
 /// of the selectors, a missing node first.
 #[derive(Drop)]
-pub(crate) struct Tuple<'a> {
+pub struct Tuple<'a> {
     spots: Vec<Option<Spot<'a>>>,
 }
 
@@ -97,7 +97,7 @@ impl<'a> Tuple<'a> {
 }
 
 /// The property of that name, where there is a node that has it.
-pub(crate) fn property_in<'a>(spot: Option<Spot<'a>>, name: &Name) -> Option<&'a Property>
+pub fn property_in<'a>(spot: Option<Spot<'a>>, name: &Name) -> Option<&'a Property>
     ensures { option_copied result ≡ property_in (option_map deref_pair spot.entry) name.now }
 {
     match spot {

@@ -4,8 +4,6 @@
 mod laws;
 mod lexer;
 mod scan;
-#[cfg(test)]
-mod tests;
 mod token;
 
 pub use laws::one_cut;

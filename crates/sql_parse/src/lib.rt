@@ -14,8 +14,6 @@ mod piece;
 mod pieces;
 mod query;
 mod sources;
-#[cfg(test)]
-mod tests;
 
 pub use fault::SqlFault;
 pub use parser::parse;

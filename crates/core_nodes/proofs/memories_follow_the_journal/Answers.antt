@@ -3,6 +3,7 @@ use Rattle.std.specs.Prelude.{filter, not}
 use Rattle.jr_rev.specs.Vectors.{sees}
 use Rattle.oak_node.proofs.Places.{insert_sorted, remove_sorted}
 use Rattle.core_nodes.proofs.memories_follow_the_journal.Goals as goal
+use Rattle.core_nodes.proofs.Learning.{learn_run}
 use Rattle.core_nodes.proofs.Events.{apart_run, begun_is, draw_run, end_flies, end_run, moved_run, next_is, notes_kept, pins_kept}
 
 pub returns-clause-begun : goal.returns-clause-begun
@@ -24,7 +25,10 @@ pub returns-clause-moved : goal.returns-clause-moved
 returns-clause-moved g c = λ clusters sessions past r s nodes run is. moved_run (g.L.Law.may_start c.args.law.now) (g.L.Law.may_say c.args.law.now) clusters sessions nodes r past run s is
 
 pub returns-clause-told : goal.returns-clause-told
-returns-clause-told g c = λ clusters sessions past k s run is. (is.head, run)
+returns-clause-told g c = λ clusters sessions past k s run goes is. ((goes, is.head), run)
+
+pub returns-clause-learned : goal.returns-clause-learned
+returns-clause-learned g c = λ clusters sessions past k n s last sweep nodes run node goes is root. learn_run (g.L.Law.may_start c.args.law.now) (g.L.Law.may_say c.args.law.now) clusters sessions nodes past run k n node goes s is last sweep root
 
 pub returns-clause-apart : goal.returns-clause-apart
 returns-clause-apart g c = λ clusters sessions past e k s nodes run leaves is. apart_run (g.L.Law.may_start c.args.law.now) (g.L.Law.may_say c.args.law.now) clusters sessions nodes e past k s run leaves is

@@ -19,7 +19,7 @@ returns-clause-inside g c =
 pub returns-clause-beside : goal.returns-clause-beside
 returns-clause-beside g c =
     beside_more (g.P.Port.law c.args.port.now) (g.P.Port.law c.fetch_node.new.port) (g.P.Port.shown c.args.port.now) (g.P.Port.shown c.fetch_node.new.port) (g.P.Port.shown c.read_on.new.port)
-    c.in_ok-walk.ensures.law c.requires.inside.nodes c.in_ok-walk.ensures.beside c.read_on.ensures.beside
+    c.in_ok-walk.ensures.law c.requires.inside.nodes c.requires.inside.begun c.in_ok-walk.ensures.beside c.read_on.ensures.beside
 
 pub fetch_node-requires-clause-inside : goal.fetch_node-requires-clause-inside
 fetch_node-requires-clause-inside g c =

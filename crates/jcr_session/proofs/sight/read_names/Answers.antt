@@ -57,7 +57,7 @@ returns-in_ok-push_children-in-Names-clause-inside g c =
 
 pub returns-in_ok-push_children-in-Names-clause-beside : goal.returns-in_ok-push_children-in-Names-clause-beside
 returns-in_ok-push_children-in-Names-clause-beside g c =
-    beside_more (g.P.Port.law c.args.port.now) (g.P.Port.law c.step.new.self) (g.P.Port.shown c.args.port.now) (g.P.Port.shown c.step.new.self) (g.P.Port.shown c.read_next.new.port) c.step.ensures.law c.requires.inside.nodes (has_listed (g.P.Port.law c.args.port.now) (g.P.Port.shown c.args.port.now) (g.P.Port.shown c.step.new.self) c.args.path c.args.tree c.args.left.items c.requires.inside c.requires.part c.step.result c.list_came.result c.requires.busy c.requires.there c.step.ensures.steps c.list_came.ensures).beside c.read_next.ensures.beside
+    beside_more (g.P.Port.law c.args.port.now) (g.P.Port.law c.step.new.self) (g.P.Port.shown c.args.port.now) (g.P.Port.shown c.step.new.self) (g.P.Port.shown c.read_next.new.port) c.step.ensures.law c.requires.inside.nodes c.requires.inside.begun (has_listed (g.P.Port.law c.args.port.now) (g.P.Port.shown c.args.port.now) (g.P.Port.shown c.step.new.self) c.args.path c.args.tree c.args.left.items c.requires.inside c.requires.part c.step.result c.list_came.result c.requires.busy c.requires.there c.step.ensures.steps c.list_came.ensures).beside c.read_next.ensures.beside
 
 pub returns-in_ok-push_children-in-Names-clause-ok : goal.returns-in_ok-push_children-in-Names-clause-ok
 returns-in_ok-push_children-in-Names-clause-ok g c =

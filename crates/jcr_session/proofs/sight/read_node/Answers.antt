@@ -40,7 +40,7 @@ returns-in_err-walk-in-Found-Some-clause-inside g c =
 
 pub returns-in_err-walk-in-Found-Some-clause-beside : goal.returns-in_err-walk-in-Found-Some-clause-beside
 returns-in_err-walk-in-Found-Some-clause-beside g c =
-    beside_more (g.P.Port.law c.args.port.now) (g.P.Port.law c.step.new.self) (g.P.Port.shown c.args.port.now) (g.P.Port.shown c.step.new.self) (g.P.Port.shown c.fetch_names.new.port) c.step.ensures.law c.requires.inside.nodes (has_loaded (g.P.Port.law c.args.port.now) (g.P.Port.shown c.args.port.now) (g.P.Port.shown c.step.new.self) c.args.path c.args.tree c.args.left.items c.requires.inside c.requires.part c.step.result c.load_came.result c.requires.busy c.step.ensures.steps c.load_came.ensures).beside c.in_err-walk-in-Found-Some.ensures.beside
+    beside_more (g.P.Port.law c.args.port.now) (g.P.Port.law c.step.new.self) (g.P.Port.shown c.args.port.now) (g.P.Port.shown c.step.new.self) (g.P.Port.shown c.fetch_names.new.port) c.step.ensures.law c.requires.inside.nodes c.requires.inside.begun (has_loaded (g.P.Port.law c.args.port.now) (g.P.Port.shown c.args.port.now) (g.P.Port.shown c.step.new.self) c.args.path c.args.tree c.args.left.items c.requires.inside c.requires.part c.step.result c.load_came.result c.requires.busy c.step.ensures.steps c.load_came.ensures).beside c.in_err-walk-in-Found-Some.ensures.beside
 
 pub returns-in_err-walk-in-Found-Some-clause-law : goal.returns-in_err-walk-in-Found-Some-clause-law
 returns-in_err-walk-in-Found-Some-clause-law g c =
@@ -52,7 +52,7 @@ returns-in_ok-walk-in-Found-Some-clause-inside g c =
 
 pub returns-in_ok-walk-in-Found-Some-clause-beside : goal.returns-in_ok-walk-in-Found-Some-clause-beside
 returns-in_ok-walk-in-Found-Some-clause-beside g c =
-    beside_more (g.P.Port.law c.args.port.now) (g.P.Port.law c.step.new.self) (g.P.Port.shown c.args.port.now) (g.P.Port.shown c.step.new.self) (g.P.Port.shown c.fetch_names.new.port) c.step.ensures.law c.requires.inside.nodes (has_loaded (g.P.Port.law c.args.port.now) (g.P.Port.shown c.args.port.now) (g.P.Port.shown c.step.new.self) c.args.path c.args.tree c.args.left.items c.requires.inside c.requires.part c.step.result c.load_came.result c.requires.busy c.step.ensures.steps c.load_came.ensures).beside c.in_ok-walk-in-Found-Some.ensures.beside
+    beside_more (g.P.Port.law c.args.port.now) (g.P.Port.law c.step.new.self) (g.P.Port.shown c.args.port.now) (g.P.Port.shown c.step.new.self) (g.P.Port.shown c.fetch_names.new.port) c.step.ensures.law c.requires.inside.nodes c.requires.inside.begun (has_loaded (g.P.Port.law c.args.port.now) (g.P.Port.shown c.args.port.now) (g.P.Port.shown c.step.new.self) c.args.path c.args.tree c.args.left.items c.requires.inside c.requires.part c.step.result c.load_came.result c.requires.busy c.step.ensures.steps c.load_came.ensures).beside c.in_ok-walk-in-Found-Some.ensures.beside
 
 pub returns-in_ok-walk-in-Found-Some-clause-law : goal.returns-in_ok-walk-in-Found-Some-clause-law
 returns-in_ok-walk-in-Found-Some-clause-law g c =
@@ -93,7 +93,7 @@ returns-in-Found-None-clause-inside g c =
 
 pub returns-in-Found-None-clause-beside : goal.returns-in-Found-None-clause-beside
 returns-in-Found-None-clause-beside g c =
-    beside_more (g.P.Port.law c.args.port.now) (g.P.Port.law c.step.new.self) (g.P.Port.shown c.args.port.now) (g.P.Port.shown c.step.new.self) (g.P.Port.shown c.read_next.new.port) c.step.ensures.law c.requires.inside.nodes (has_loaded (g.P.Port.law c.args.port.now) (g.P.Port.shown c.args.port.now) (g.P.Port.shown c.step.new.self) c.args.path c.args.tree c.args.left.items c.requires.inside c.requires.part c.step.result c.load_came.result c.requires.busy c.step.ensures.steps c.load_came.ensures).beside c.read_next.ensures.beside
+    beside_more (g.P.Port.law c.args.port.now) (g.P.Port.law c.step.new.self) (g.P.Port.shown c.args.port.now) (g.P.Port.shown c.step.new.self) (g.P.Port.shown c.read_next.new.port) c.step.ensures.law c.requires.inside.nodes c.requires.inside.begun (has_loaded (g.P.Port.law c.args.port.now) (g.P.Port.shown c.args.port.now) (g.P.Port.shown c.step.new.self) c.args.path c.args.tree c.args.left.items c.requires.inside c.requires.part c.step.result c.load_came.result c.requires.busy c.step.ensures.steps c.load_came.ensures).beside c.read_next.ensures.beside
 
 pub returns-in-Going-clause-law : goal.returns-in-Going-clause-law
 returns-in-Going-clause-law g c =

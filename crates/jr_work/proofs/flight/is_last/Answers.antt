@@ -24,6 +24,8 @@ other kind.Collect apart = refl
 other kind.Settings apart = refl
 other kind.Say apart = refl
 other kind.End apart = refl
+other kind.Stop apart = refl
+other kind.Recover apart = refl
 
 pub returns-in_default : goal.returns-in_default
 returns-in_default c = other c.in-Some.kind c.in_default.not-Last ∙ sym (ap is_last_due c.in-Some.is)

@@ -15,7 +15,7 @@ read-requires g c = record { stands = stands_law (g.P.Port.law c.args.port.now) 
 pub loop-preserved : goal.loop-preserved
 loop-preserved g c = record {
   law = c.read.ensures.law ∙ c.loop.invariant.law;
-  looked = looked_both (g.P.Port.law c.args.port.now) (g.P.Port.law c.loop.port) (g.P.Port.shown c.args.port.now) (g.P.Port.shown c.loop.port) (g.P.Port.shown c.read.new.port) c.args.self.now c.loop.self c.read.new.self c.loop.invariant.law c.requires.stands.nodes c.loop.invariant.looked c.read.ensures.looked;
+  looked = looked_both (g.P.Port.law c.args.port.now) (g.P.Port.law c.loop.port) (g.P.Port.shown c.args.port.now) (g.P.Port.shown c.loop.port) (g.P.Port.shown c.read.new.port) c.args.self.now c.loop.self c.read.new.self c.loop.invariant.law c.requires.stands.nodes c.requires.stands.begun c.loop.invariant.looked c.read.ensures.looked;
 }
 
 -- memory was refused for one
@@ -24,7 +24,7 @@ returns-in_err-read-clause-law g c = c.read.ensures.law ∙ c.loop.invariant.law
 
 pub returns-in_err-read-clause-looked : goal.returns-in_err-read-clause-looked
 returns-in_err-read-clause-looked g c =
-    looked_both (g.P.Port.law c.args.port.now) (g.P.Port.law c.loop.port) (g.P.Port.shown c.args.port.now) (g.P.Port.shown c.loop.port) (g.P.Port.shown c.read.new.port) c.args.self.now c.loop.self c.read.new.self c.loop.invariant.law c.requires.stands.nodes c.loop.invariant.looked c.read.ensures.looked
+    looked_both (g.P.Port.law c.args.port.now) (g.P.Port.law c.loop.port) (g.P.Port.shown c.args.port.now) (g.P.Port.shown c.loop.port) (g.P.Port.shown c.read.new.port) c.args.self.now c.loop.self c.read.new.self c.loop.invariant.law c.requires.stands.nodes c.requires.stands.begun c.loop.invariant.looked c.read.ensures.looked
 
 pub returns-in_err-read-clause-err : goal.returns-in_err-read-clause-err
 returns-in_err-read-clause-err g c =
@@ -37,7 +37,7 @@ returns-then-not-branch-clause-law g c = c.read.ensures.law ∙ c.loop.invariant
 
 pub returns-then-not-branch-clause-looked : goal.returns-then-not-branch-clause-looked
 returns-then-not-branch-clause-looked g c =
-    looked_both (g.P.Port.law c.args.port.now) (g.P.Port.law c.loop.port) (g.P.Port.shown c.args.port.now) (g.P.Port.shown c.loop.port) (g.P.Port.shown c.read.new.port) c.args.self.now c.loop.self c.read.new.self c.loop.invariant.law c.requires.stands.nodes c.loop.invariant.looked c.read.ensures.looked
+    looked_both (g.P.Port.law c.args.port.now) (g.P.Port.law c.loop.port) (g.P.Port.shown c.args.port.now) (g.P.Port.shown c.loop.port) (g.P.Port.shown c.read.new.port) c.args.self.now c.loop.self c.read.new.self c.loop.invariant.law c.requires.stands.nodes c.requires.stands.begun c.loop.invariant.looked c.read.ensures.looked
 
 pub returns-then-not-branch-clause-ok : goal.returns-then-not-branch-clause-ok
 returns-then-not-branch-clause-ok g c =

@@ -9,13 +9,13 @@ use Rattle.jr_tree.proofs.tree.Tree.apply.Goals as goal
 use Rattle.jr_tree.proofs.tree.Tree.apply.Goals.{After-drop-last-2}
 
 -- the nodes are those of the tree after the edit
-done : (c : After-drop-last-2) → c.merge.new.nodes ≡ applied c.self.inside.nodes c.args.edit.now.writes
+done : (c : After-drop-last-2) → c.merge.new.nodes ≡ applied c.args.born c.self.inside.nodes c.args.edit.now.writes
 done c =
-    applied_apart c.self.inside.nodes c.args.edit.now.writes _ _ _ _ c.self.invariant (ap (map deref) c.deref.ensures.value ∙ c.in_ok-last.ensures) (ap (map deref) (c.deref-2.ensures.value ∙ sym c.deref.ensures.value)) c.in_ok-part.ensures
+    applied_apart c.args.born c.self.inside.nodes c.args.edit.now.writes _ _ _ _ c.self.invariant (ap (map deref) c.deref.ensures.value ∙ c.in_ok-last.ensures) (ap (map deref) (c.deref-2.ensures.value ∙ sym c.deref.ensures.value)) c.in_ok-part.ensures
     c.in_ok-merge.ensures.ok
 
 pub invariant_of-self-2 : goal.invariant_of-self-2
-invariant_of-self-2 c = ap (is_sorted path_cmp) (done c) ∙ order-applied c.self.inside.nodes c.args.edit.now.writes c.self.invariant
+invariant_of-self-2 c = ap (is_sorted path_cmp) (done c) ∙ order-applied c.args.born c.self.inside.nodes c.args.edit.now.writes c.self.invariant
 
 pub returns-clause-ok : goal.returns-clause-ok
-returns-clause-ok c = done c ∙ ap (λ t. applied t c.args.edit.now.writes) c.self.view_is
+returns-clause-ok c = done c ∙ ap (λ t. applied c.args.born t c.args.edit.now.writes) c.self.view_is

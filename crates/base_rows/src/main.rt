@@ -1,0 +1,30 @@
+//! Rows of the lowest crates: each line of the input is a text to be read, and each line of the output says what it is read as, or
+//! what is wrong with it.
+#![tactic(auto)]
+
+mod ends;
+mod marks;
+mod rows;
+mod texts;
+mod trees;
+mod vectors;
+
+use jr_io::{StdSink, StdSource, read_all, write_all};
+use std::io;
+use std::process::ExitCode;
+
+fn main(rt: HostRuntime) -> ExitCode {
+    let alloc = rt.alloc();
+    let mut source = StdSource::new(rt.reader());
+    let mut sink = StdSink::new(io::writer(&rt));
+    let Ok(input) = read_all(alloc, &mut source, 1_000_000) else {
+        return ExitCode::from(3);
+    };
+    let Ok(text) = rows::answers(alloc, input.as_slice()) else {
+        return ExitCode::from(5);
+    };
+    match write_all(&mut sink, text.as_bytes()) {
+        Ok(()) => ExitCode::from(0),
+        Err(_) => ExitCode::from(4),
+    }
+}

@@ -1,0 +1,11 @@
+pub mod Standing
+pub mod Keeps
+pub mod Steps
+pub mod Journal
+pub mod Bounds
+pub mod Garbage
+pub mod Splits
+pub mod Dropping
+pub mod Holding
+pub mod Readers
+pub mod From

@@ -1,0 +1,46 @@
+-- Journals in which each commit keeps the references: identifiers stand once, and change only under a mark of their node.
+use Rattle.std.specs.Prelude.{None, ◌≡◌, ◌&&◌, ℕ, Bool, true, false, List, [], ◌∷◌, Some, IsTrue}
+use Rattle.std.specs.List.{list_any}
+use Rattle.std.specs.Ordering.{eq_by_cmp}
+use Rattle.jr_path.specs.Names.{path_cmp}
+use Rattle.jr_path.specs.declared.path.Path.{Path}
+use Rattle.jr_tree.specs.Trees.{Nodes, property_at}
+use Rattle.jr_tree.specs.Edits.{applied}
+use Rattle.jr_items.specs.Names.{uuid, frozen_type}
+use Rattle.jr_items.specs.Items.{one_text, is_of_type}
+use Rattle.oak_clash.specs.declared.mark.Mark.{Mark}
+use Rattle.oak_clash.specs.declared.mark.Mark.TheVariants.{Exists, Guard}
+use Rattle.oak_clash.specs.declared.mark.MarkAt.{MarkAt}
+use Rattle.oak_machine.specs.declared.event.Draw.{Draw}
+use Rattle.oak_machine.specs.declared.event.Event.TheVariants as event
+use Rattle.oak_machine.specs.History.{Past}
+use Rattle.oak_machine.specs.Commits.{tree_at}
+use Rattle.jcr_plan.specs.Marks.{stays}
+use Rattle.core_merge.specs.Independent.{writes_property}
+use Rattle.core_merge.specs.Orders.{tree_by_commits}
+
+-- no two nodes have the same `jcr:uuid`
+abbrev pub HasDistinctIds : Nodes → Type 0
+HasDistinctIds t = (p q : Path) (id : List ℕ) → one_text (property_at t p uuid) ≡ Some id → one_text (property_at t q uuid) ≡ Some id → p ≡ q
+
+abbrev pub is_of_node : Mark → Bool
+is_of_node Exists = true
+is_of_node Guard = true
+is_of_node _ = false
+
+-- the node at a path has an Exists or Guard mark
+abbrev pub is_node_marked : Path → List MarkAt → Bool
+is_node_marked p ms = list_any (λ m. eq_by_cmp path_cmp p m.path && is_of_node m.mark) ms
+
+-- an edit on the tree at its base: identifiers stand once there, and change under a mark of their node; no node that stays ceases to be an `nt:frozenNode`
+pub record IsTidyEdit (t : Nodes) (d : Draw) : Type 0 where
+  pub distinct : HasDistinctIds t
+  pub marked : (p : Path) → IsTrue (writes_property p uuid d.edit.writes) → IsTrue (is_node_marked p d.marks)
+  pub frozen : (p : Path) → IsTrue (stays t (applied None t d.edit.writes) p) → IsTrue (is_of_type t frozen_type p) → IsTrue (is_of_type (applied None t d.edit.writes) frozen_type p)
+
+-- each draw is such an edit, and in each tree of all commits identifiers stand once
+abbrev pub IsTidy : Past → Type 0
+IsTidy [] = Unit {0}
+IsTidy (event.Draw d ∷ past) = IsTidyEdit (tree_at None past d.base) d × IsTidy past
+IsTidy (event.Commit r ∷ past) = HasDistinctIds (tree_by_commits (event.Commit r ∷ past)) × IsTidy past
+IsTidy (_ ∷ past) = IsTidy past

@@ -1,0 +1,87 @@
+-- Whom a committer would meet in a previous document, there is a later one in the document itself whom it meets in the same property.
+use Rattle.std.proofs.Common.{◌≡◌, ◌⊎◌, inl, inr, ℕ, Bool, true, false, cond, ◌||◌, Some, None, Option, List, [], ◌∷◌, filter_map, is_some, refl, sym, ap, ◌∙◌, subst}
+use Rattle.std.specs.List.{list_any}
+use Rattle.std.specs.Option.{option_map_or, option_or, unwrap_or}
+use Rattle.std.specs.Ordering.{eq_by_cmp}
+use mathlib.Core.Bool.{false≢true}
+use Rattle.jr_path.specs.declared.name.Name.{Name}
+use Rattle.jr_path.specs.declared.path.DocId.TheVariants as id
+use Rattle.jr_path.specs.declared.path.Path.{Path}
+use Rattle.jr_rev.specs.declared.revision.Revision.{Revision}
+use Rattle.jr_rev.specs.Revisions.{is_before, revision_cmp}
+use Rattle.jr_rev.specs.Vectors.{sees, start_of}
+use Rattle.jr_tree.specs.declared.edit.Write.{Write}
+use Rattle.jr_tree.specs.Items.{put_of, written}
+use Rattle.jr_value.specs.declared.value.Property.{Property}
+use Rattle.oak_clash.specs.declared.mark.Mark.{Mark}
+use Rattle.oak_clash.specs.declared.mark.Mark.TheVariants.{Prop}
+use Rattle.oak_commit.specs.Clashing.{marked}
+use Rattle.oak_doc.specs.declared.document.Document.{Document}
+use Rattle.oak_doc.specs.declared.document.PrevEntry.{PrevEntry}
+use Rattle.oak_doc.specs.Updates.{of_revision, values_of_property}
+use Rattle.oak_machine.specs.History.{Past}
+use Rattle.oak_machine.specs.Commits.{is_committed}
+use Rattle.oak_machine.specs.Laws.{Says, Starts, StartsProper}
+use Rattle.oak_read.specs.Meaning.{documents_in}
+use Rattle.oak_read.specs.Shown.{with_previous}
+use Rattle.core_read.specs.Told.{IsIn, IsInUse}
+use Rattle.core_heads.proofs.Runs.{held_in_use}
+use Rattle.core_clash.specs.Sessions.{IsTheirs, Running}
+use Rattle.core_clash.specs.Sound.{has_moved}
+use Rattle.core_keep.specs.Journal.{course_of}
+use Rattle.core_keep.specs.Keeps.{edit_in, is_done, IsPrevious}
+use Rattle.core_keep.specs.Standing.{all_at, values_in}
+use Rattle.core_keep.proofs.AtPath.{listed, value_split}
+use Rattle.core_keep.proofs.Item.{some_of}
+use Rattle.core_keep.proofs.Journal.{downward, edit_is}
+use Rattle.core_world.specs.Kept.{AreSessionsKept}
+use Rattle.core_world.specs.States.{State, moved_in, nodes_in}
+use Rattle.core_world.proofs.Bounded.{flying_pinned}
+use Rattle.core_world.proofs.Collects.{in_listed}
+use Rattle.core_world.proofs.Readers.{pinned_held}
+use Rattle.core_world.proofs.Splitting.{any_in, edit_done, edit_there}
+
+module _ (starts : Starts) (says : Says) (proper : StartsProper starts) (w : State) (kept : AreSessionsKept starts says w) (s : ℕ) (x : Running) (here : w.running s ≡ Some x) where
+  its : IsTheirs w.past kept.committing.writers s x
+  its = kept.committing.theirs s x here
+
+  -- its base is in use still
+  pub base_used : IsInUse w.past x.draw.base
+  base_used = held_in_use w.past x.draw.base
+      (pinned_held starts says w.clusters w.sessions kept.nodes w.past kept.run x.draw.session x.draw.base (flying_pinned starts says w.clusters w.sessions w.past x.draw.revision x.draw kept.run its.draw its.unended))
+
+  pub shadowed : (p : Path) (o : Revision) (n : Name) → list_any (has_moved o (Prop n)) (moved_in w.table p) ≡ true → sees x.draw.base o ≡ false
+      → (q : Revision) × (is_before o q ≡ true) × (sees x.draw.base q ≡ false) × ((q ≡ start_of 1) ⊎ (is_committed w.past q ≡ true)) × (marked (nodes_in w.table p) q (Prop n) ≡ true)
+  shadowed p o n h outside = by (nodes_in w.table p) refl
+    where
+      old_case : (old : Document) → nodes_in w.table p ≡ Some old → (f : Document) × IsIn f (moved_in w.table p) × (has_moved o (Prop n) f ≡ true)
+          → (q : Revision) × (is_before o q ≡ true) × (sees x.draw.base q ≡ false) × ((q ≡ start_of 1) ⊎ (is_committed w.past q ≡ true)) × (marked (nodes_in w.table p) q (Prop n) ≡ true)
+      old_case old there f =
+          let world = kept.committing.kept in
+          let l = in_listed (λ (e : PrevEntry). documents_in w.table.documents (id.Prev e.number p)) old.prev f.0
+              (subst (λ (l : List Document). IsIn f.0 l) (ap (λ (o : Option Document). option_map_or (λ d. filter_map (λ (e : PrevEntry). documents_in w.table.documents (id.Prev e.number p)) d.prev) o []) there) f.1) in
+          let y = (world.keeps p).previous old there l.0 l.1 in
+          let same : f.0 ≡ y.0 = ap (λ o. unwrap_or o f.0) (sym l.2 ∙ y.1) in
+          let has : is_some (of_revision (values_of_property (y.0).props n) o) ≡ true = subst (λ (d : Document). has_moved o (Prop n) d ≡ true) same f.2 in
+          let b = (y.2).behind n o has in
+          let us = edit_there w.past o ((y.2).done n o has) in
+          let vs = edit_there w.past b.0 b.2 in
+          let mine = some_of (of_revision (values_of_property (y.0).props n) o) has in
+          let late = some_of (of_revision (values_of_property old.props n) b.0) b.3 in
+          let wrote : written (put_of p n) us.0 ≡ Some mine.0 = (y.2).genuine n o us.0 mine.0 us.1 mine.1 in
+          let stands : of_revision (values_in n (all_at (documents_in w.table.documents) p)) b.0 ≡ Some late.0 =
+              ap (λ (o : Option Document). of_revision (values_in n (option_map_or (with_previous (documents_in w.table.documents) p) o [])) b.0) there
+              ∙ (value_split (documents_in w.table.documents) p (Some old) n b.0 ∙ ap (λ (o : Option (Option Property)). option_or o (of_revision (values_in n (listed (documents_in w.table.documents) p (Some old))) b.0)) late.1) in
+          let wrote_late : written (put_of p n) vs.0 ≡ Some late.0 = ((world.keeps p).prop n).genuine b.0 vs.0 late.0 vs.1 stands in
+          (b.0, b.1,
+          unseen b.0 (sees x.draw.base b.0) refl ((downward w.past world.told world.separate (sees x.draw.base) base_used.closed).prop p n b.0 o vs.0 us.0 vs.1 us.1 (ap is_some wrote_late) (ap is_some wrote) b.1),
+          edit_done w.past b.0 (ap is_some (sym (edit_is w.past world.told b.0) ∙ vs.1)),
+          ap (λ (d : Option Document). marked d b.0 (Prop n)) there ∙ b.3)
+        where
+          unseen : (q : Revision) (b : Bool) → sees x.draw.base q ≡ b → (sees x.draw.base q ≡ true → sees x.draw.base o ≡ true) → sees x.draw.base q ≡ false
+          unseen q false e down = e
+          unseen q true e down = absurd (false≢true (sym outside ∙ down e))
+
+      by : (d : Option Document) → nodes_in w.table p ≡ d → (q : Revision) × (is_before o q ≡ true) × (sees x.draw.base q ≡ false) × ((q ≡ start_of 1) ⊎ (is_committed w.past q ≡ true)) × (marked (nodes_in w.table p) q (Prop n) ≡ true)
+      by None is = absurd (false≢true (subst (λ (l : List Document). list_any (has_moved o (Prop n)) l ≡ true) (ap (λ (d : Option Document). option_map_or (λ d. filter_map (λ (e : PrevEntry). documents_in w.table.documents (id.Prev e.number p)) d.prev) d []) is) h))
+      by (Some old) is = old_case old is (any_in (has_moved o (Prop n)) (moved_in w.table p) h)

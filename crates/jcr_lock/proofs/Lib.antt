@@ -1,0 +1,5 @@
+mod Rows
+mod Upward
+mod Frozen
+mod Refused
+mod LockEdits

@@ -1,0 +1,6 @@
+-- The names of a lock's two properties.
+use Rattle.jr_items.specs.Names.{lock_owner, lock_is_deep}
+use Rattle.jcr_lock.specs.declared.covers.LockNames.{LockNames}
+
+abbrev pub lock_names : LockNames
+lock_names = record { owner = lock_owner; is_deep = lock_is_deep }

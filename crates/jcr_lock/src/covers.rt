@@ -1,0 +1,177 @@
+// Which lock and which checked-in node cover a path.
+ghost use Rattle.std.specs.Prelude.{◌≡◌, false, cond, IfOk, Some, None, map};
+ghost use Rattle.std.specs.List.{find, list_any};
+ghost use Rattle.std.specs.String.{string_bytes};
+ghost use Rattle.jr_value.specs.Values.{same_bytes};
+ghost use Rattle.jr_items.specs.Items.{has_mixin, is_flag, upward};
+ghost use Rattle.jr_items.specs.Names.{is_checked_out, mixin_types};
+ghost use Rattle.jr_tree.specs.Trees.{property_at};
+ghost use Rattle.jcr_lock.specs.Locks.{bars, frozen_by, is_held, is_lock, lock_covers, locked_by};
+ghost use Rattle.jcr_lock.specs.Names.{lock_names};
+
+use crate::items::{has_mixin, is_flag, one_text, upward};
+use jr_items::OwnName;
+use jr_path::{DeepCopy, Name, Path};
+use jr_tree::Tree;
+use std::alloc::{AllocError, Global};
+
+/// The nearest node at or above a path with a lock that covers it and whose owner is not among the tokens (JSR 283,
+/// 17 Locking): a shallow lock covers its node, a deep one the subtree. The path needs no node. It looks only at the
+/// path and those above it.
+pub fn locked_by(
+    alloc: Global,
+    tree: &Tree,
+    path: &Path,
+    tokens: &[String],
+) -> Result<Option<Path>, AllocError>
+    ensures { IfOk result (λ found. found ≡ locked_by tree.now path.now (map string_bytes tokens.now)) }
+{
+    let names = LockNames::new(alloc)?;
+    for at in &upward(alloc, path)? {
+        if bars(tree, &names, tokens, at, path) {
+            return Ok(Some(at.copy()?));
+        }
+    }
+    Ok(None)
+}
+
+/// The nearest versionable node at or above a path, where it is checked in (JSR 283, 15.2 Check-In): what is below it
+/// is frozen with it, up to nodes that are versionable themselves. It looks only at the path and those above it.
+pub fn frozen_by(alloc: Global, tree: &Tree, path: &Path) -> Result<Option<Path>, AllocError>
+    ensures { IfOk result (λ found. found ≡ frozen_by tree.now path.now) }
+{
+    let types = OwnName::MixinTypes.name(alloc)?;
+    let versionable = OwnName::Versionable.name(alloc)?;
+    match nearest_with(alloc, tree, &types, &versionable, path)? {
+        Some(at) => checked_in(alloc, tree, at),
+        None => Ok(None),
+    }
+}
+
+// The node itself, where it is checked in.
+fn checked_in(alloc: Global, tree: &Tree, at: Path) -> Result<Option<Path>, AllocError>
+    ensures { IfOk result (λ found. found ≡ cond (is_flag false (property_at tree.now at is_checked_out)) (Some at) None) }
+{
+    let checked_out = OwnName::IsCheckedOut.name(alloc)?;
+    if is_flag(false, tree.property(&at, &checked_out)) {
+        Ok(Some(at))
+    } else {
+        Ok(None)
+    }
+}
+
+// The nearest node at or above a path that has the mixin.
+fn nearest_with(
+    alloc: Global,
+    tree: &Tree,
+    types: &Name,
+    mixin: &Name,
+    path: &Path,
+) -> Result<Option<Path>, AllocError>
+    requires { types.now ≡ mixin_types }
+    ensures { IfOk result (λ found. found ≡ find (has_mixin tree.now mixin.now) (upward path.now)) }
+{
+    for at in &upward(alloc, path)? {
+        if has_mixin(tree, types, mixin, at) {
+            return Ok(Some(at.copy()?));
+        }
+    }
+    Ok(None)
+}
+
+/// The nearest node at or above a path with a lock that covers it, whoever holds it.
+pub(crate) fn covering_lock(
+    alloc: Global,
+    tree: &Tree,
+    names: &LockNames,
+    path: &Path,
+) -> Result<Option<Path>, AllocError>
+    requires { names.now ≡ lock_names }
+    ensures { IfOk result (λ found. found ≡ find (λ q. lock_covers tree.now q path.now) (upward path.now)) }
+{
+    for at in &upward(alloc, path)? {
+        if covers(tree, names, at, path) {
+            return Ok(Some(at.copy()?));
+        }
+    }
+    Ok(None)
+}
+
+// The names of a lock's two properties.
+#[derive(Drop)]
+pub(crate) struct LockNames {
+    pub(crate) owner: Name,
+    pub(crate) is_deep: Name,
+}
+
+impl LockNames {
+    pub(crate) fn new(alloc: Global) -> Result<LockNames, AllocError>
+        ensures { IfOk result (λ names. names ≡ lock_names) }
+    {
+        Ok(LockNames {
+            owner: OwnName::LockOwner.name(alloc)?,
+            is_deep: OwnName::LockIsDeep.name(alloc)?,
+        })
+    }
+}
+
+// Whether the node holds a lock.
+pub(crate) fn is_lock(tree: &Tree, names: &LockNames, at: &Path) -> bool
+    requires { names.now ≡ lock_names }
+    ensures { result ≡ is_lock tree.now at.now }
+{
+    tree.property(at, &names.owner).is_some()
+}
+
+// Whether the lock of the one node covers the other.
+pub(crate) fn covers(tree: &Tree, names: &LockNames, at: &Path, path: &Path) -> bool
+    requires { names.now ≡ lock_names }
+    ensures { result ≡ lock_covers tree.now at.now path.now }
+{
+    if !is_lock(tree, names, at) {
+        return false;
+    }
+    if at == path {
+        return true;
+    }
+    if !is_flag(true, tree.property(at, &names.is_deep)) {
+        return false;
+    }
+    path.is_under(at)
+}
+
+// Whether one of the tokens is the lock's owner.
+pub(crate) fn is_held(tree: &Tree, names: &LockNames, tokens: &[String], at: &Path) -> bool
+    requires { names.now ≡ lock_names }
+    ensures { result ≡ is_held tree.now (map string_bytes tokens.now) at.now }
+{
+    match one_text(tree.property(at, &names.owner)) {
+        Some(owner) => is_among(owner, tokens),
+        None => false,
+    }
+}
+
+fn is_among(owner: &str, tokens: &[String]) -> bool
+    ensures { result ≡ list_any (same_bytes owner.now) (map string_bytes tokens.now) }
+{
+    for token in tokens {
+        if is_same(owner, token.as_str()) {
+            return true;
+        }
+    }
+    false
+}
+
+fn is_same(text: &str, other: &str) -> bool
+    ensures { result ≡ same_bytes text.now other.now }
+{
+    text.cmp(other).is_eq()
+}
+
+// Whether the lock of the one node covers the other, and no token is its owner.
+fn bars(tree: &Tree, names: &LockNames, tokens: &[String], at: &Path, path: &Path) -> bool
+    requires { names.now ≡ lock_names }
+    ensures { result ≡ bars tree.now path.now (map string_bytes tokens.now) at.now }
+{
+    covers(tree, names, at, path) && !is_held(tree, names, tokens, at)
+}

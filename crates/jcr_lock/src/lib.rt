@@ -1,0 +1,9 @@
+//! Locks and checked-in nodes: which of them covers a path, and the edits that lock and unlock a node.
+#![tactic(auto)]
+
+mod covers;
+mod edits;
+mod items;
+
+pub use covers::{frozen_by, locked_by};
+pub use edits::{lock_edit, unlock_edit};

@@ -1,0 +1,5 @@
+mod Rows
+mod UuidText
+mod PathNamed
+mod Index
+mod Pushed

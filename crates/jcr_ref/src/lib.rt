@@ -1,0 +1,12 @@
+//! Identifiers of nodes, the references that name them, and the histories of versions, which stand by identifier.
+#![tactic(auto)]
+
+mod histories;
+mod identifiers;
+mod laws;
+mod references;
+
+pub use histories::{HistoryWrites, history_writes, version_names};
+pub use identifiers::{by_id, identifier, identifier_number};
+pub use laws::identifiers_are_uuids;
+pub use references::{dangling, referrers};

@@ -1,0 +1,17 @@
+-- The definition of an item, and its attribute.
+use Rattle.std.specs.Prelude.{Bool, false, List, Option, option_and_then}
+use Rattle.std.specs.Option.{option_map_or}
+use Rattle.jr_path.specs.declared.name.Name.{Name}
+use Rattle.jr_value.specs.declared.value.Property.{Property}
+use Rattle.jr_types.specs.declared.OnParentVersion.{OnParentVersion}
+use Rattle.jr_types.specs.declared.TypeDef.{TypeDef}
+use Rattle.jr_types.specs.Types.{NodeTypes, types_of, prop_def, child_def}
+use Rattle.jr_types.specs.Rules.{Child}
+
+-- the attribute of a property of a node of these types passes the test; a property without a definition passes none
+abbrev pub property_passes : (OnParentVersion → Bool) → List TypeDef → NodeTypes → Name → Option Property → Bool
+property_passes test types its n o = option_map_or (λ d. test d.opv) (option_and_then (prop_def (types_of types its) n) o) false
+
+-- the attribute of a child of a node of these types passes the test; a child without a definition passes none
+abbrev pub child_passes : (OnParentVersion → Bool) → List TypeDef → NodeTypes → Name → Option Child → Bool
+child_passes test types its n o = option_map_or (λ d. test d.opv) (option_and_then (child_def types (types_of types its) n) o) false

@@ -1,5 +1,0 @@
-use Rattle.jr_work.proofs.tests.script.Goals as goal
-
--- what JSON means keeps the bounds
-pub returns-in-Ok : goal.returns-in-Ok
-returns-in-Ok c = c.scripts_are_within.ensures c.in-Ok.ensures.ok.0 c.in-Ok.script c.in-Ok.ensures.ok.2

@@ -1,0 +1,4 @@
+pub mod Keys
+pub mod Going
+pub mod Bounding
+pub mod Asking

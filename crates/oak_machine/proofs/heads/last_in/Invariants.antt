@@ -1,6 +1,0 @@
-use Rattle.std.proofs.Common.{◌≡◌, reverse, take}
-use Rattle.oak_machine.specs.Heads.{last_in}
-use Rattle.oak_machine.proofs.heads.last_in.Given as goal
-
-abbrev pub invariant-loop-event : goal.invariant-loop-event
-invariant-loop-event l = l.last ≡ last_in l.clusters (reverse (take l.event-index l.events)) l.cluster

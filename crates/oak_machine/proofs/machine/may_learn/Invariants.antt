@@ -1,6 +1,0 @@
-use Rattle.std.proofs.Common.{◌≡◌, ◌<◌, ℕ, reverse, take}
-use Rattle.oak_machine.specs.Runs.{learned}
-use Rattle.oak_machine.proofs.machine.may_learn.Given as goal
-
-abbrev pub invariant-loop-at : goal.invariant-loop-at
-invariant-loop-at l = (n : ℕ) → n < l.at → l.v ≡ learned l.journal.clusters (reverse l.journal.events.list) (reverse (take n l.journal.events.list)) l.cluster → ⊥

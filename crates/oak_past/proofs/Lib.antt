@@ -1,0 +1,5 @@
+pub mod Backward
+pub mod Equal
+pub mod Free
+pub mod Live
+pub mod LocalHead

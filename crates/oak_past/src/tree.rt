@@ -1,0 +1,69 @@
+// The tree that a vector sees.
+ghost use Rattle.std.specs.Prelude.{◌≡◌, IfOk, OnOk, OnErr, reverse};
+ghost use Rattle.oak_machine.specs.History.{begin_tree, history_of};
+ghost use Rattle.oak_machine.specs.Commits.{committed_edits, with_commit, tree_at};
+
+use crate::past::draw_of;
+use jr_path::{DeepCopy, Keyed, List};
+use jr_rev::{RevVec, Revision};
+use jr_tree::{Edit, Tree, Write};
+use oak_machine::{Event, Journal};
+use std::alloc::{AllocError, Global};
+
+/// The tree that a vector sees: that of the start, with the edits of the committed revisions that it sees
+/// applied in ascending order, each with its revision (Oak, DocumentNodeStore: Revisions). It goes over the
+/// whole journal.
+pub fn tree_at(journal: &Journal, v: &RevVec) -> Result<Tree, AllocError>
+    ensures { let h = history_of journal.now in IfOk result (λ tree. tree ≡ tree_at h.begin h.past v.now) }
+{
+    let alloc = journal.events.allocator();
+    let edits = committed_edits(alloc, journal.events.as_slice())?;
+    let mut tree = begin_tree(alloc, journal)?;
+    for (r, writes) in edits.into_inner() {
+        if v.sees(r) {
+            tree.apply(&Edit { writes }, Some(r))?;
+        }
+    }
+    Ok(tree)
+}
+
+// The tree at the start.
+fn begin_tree(alloc: Global, journal: &Journal) -> Result<Tree, AllocError>
+    ensures { IfOk result (λ tree. tree ≡ begin_tree journal.now.start) }
+{
+    match &journal.start {
+        Some(start) => start.tree.copy(),
+        None => Tree::initial(alloc),
+    }
+}
+
+// The writes of each committed revision.
+#[tactic(auto, using(oak_machine::proofs::Forward::past_more))]
+fn committed_edits(
+    alloc: Global,
+    events: &[Event],
+) -> Result<Keyed<Revision, List<Write>>, AllocError>
+    ensures { IfOk result (λ edits. edits ≡ committed_edits (reverse events.now)) }
+{
+    let mut edits = Keyed::new(alloc);
+    for at in 0..events.len() {
+        if let Event::Commit(r) = &events[at] {
+            put_commit(&mut edits, &events[..at], *r)?;
+        }
+    }
+    Ok(edits)
+}
+
+// Puts the writes of a revision, where it was drawn before.
+fn put_commit(
+    edits: &mut Keyed<Revision, List<Write>>,
+    before: &[Event],
+    r: Revision,
+) -> Result<(), AllocError>
+    ensures { OnOk result (edits.new ≡ with_commit (reverse before.now) edits.old r) }
+{
+    if let Some(draw) = draw_of(before, r) {
+        edits.put(r, draw.edit.writes.copy()?)?;
+    }
+    Ok(())
+}

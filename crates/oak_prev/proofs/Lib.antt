@@ -1,0 +1,4 @@
+pub mod Older
+pub mod Entries
+pub mod Restoring
+pub mod Resting

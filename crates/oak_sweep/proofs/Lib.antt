@@ -1,0 +1,4 @@
+pub mod Passing
+pub mod Missing
+pub mod Teaching
+pub mod Knowing

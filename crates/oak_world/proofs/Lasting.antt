@@ -1,0 +1,42 @@
+-- What background work has read, and what it publishes, stands after later events.
+use Rattle.std.proofs.Common.{◌≡◌, ℕ, suc, true, List, [], ◌∷◌, ◌++◌}
+use Rattle.std.specs.Prelude.{None}
+use Rattle.jr_rev.specs.declared.revision.Revision.{Revision}
+use Rattle.jr_rev.specs.declared.vector.RevVec.{RevVec}
+use Rattle.jr_rev.specs.Revisions.{is_at_most}
+use Rattle.oak_machine.specs.Heads.{local}
+use Rattle.oak_machine.specs.History.{Past}
+use Rattle.oak_machine.specs.Laws.{Says, Starts, after}
+use Rattle.oak_machine.specs.Runs.{AreNodes, IsRunOf}
+use Rattle.core_heads.proofs.Runs.{later_run}
+use Rattle.core_read.proofs.Latest.{at_most_trans}
+use Rattle.core_world.specs.Kept.{WereOnRoot}
+use Rattle.oak_world.specs.declared.upkeep.Upkeep.{Upkeep}
+use Rattle.oak_world.specs.declared.upkeep.Upkeep.TheVariants as upkeep
+use Rattle.oak_world.specs.Kept.{IsOwn, MayKeepUp}
+use Rattle.oak_world.specs.Worlds.{Story, live}
+
+-- local revisions rise
+pub local_lasts : (starts : Starts) (says : Says) (clusters : ℕ) (sessions : List ℕ) → AreNodes clusters sessions → (own before : Past) → IsRunOf starts says clusters sessions None (own ++ before) → (r : Revision) (k : ℕ) → is_at_most r (local None before k) ≡ true → is_at_most r (local None (own ++ before) k) ≡ true
+local_lasts starts says clusters sessions nodes [] before run r k h = h
+local_lasts starts says clusters sessions nodes (e ∷ own) before run r k h =
+    at_most_trans r (local None (own ++ before) k) (local None (e ∷ (own ++ before)) k) (local_lasts starts says clusters sessions nodes own before run.1 r k h)
+    ((later_run clusters sessions nodes starts says e (own ++ before) run).locals k)
+
+-- what the root told once, it has told
+pub were_lasts : (clusters : ℕ) (own before : Past) (last sweep : RevVec) → WereOnRoot clusters before last sweep → WereOnRoot clusters (own ++ before) last sweep
+were_lasts clusters [] before last sweep h = h
+were_lasts clusters (e ∷ own) before last sweep h = let w = were_lasts clusters own before last sweep h in (suc w.0, w.1)
+
+module _ (starts : Starts) (says : Says) (h : Story) (nodes : AreNodes h.clusters h.sessions) (q : ℕ) (own : Past) (run : IsRunOf starts says h.clusters h.sessions None (own ++ h.past)) where
+  pub own_lasts : (r : Revision) → IsOwn (live h) q r → IsOwn (after own (live h)) q r
+  own_lasts r m = (m.0, local_lasts starts says h.clusters h.sessions nodes own h.past run r r.cluster m.1)
+
+  pub upkeep_lasts : (u : Upkeep) → MayKeepUp (live h) q u → MayKeepUp (after own (live h)) q u
+  upkeep_lasts upkeep.Write m = tt
+  upkeep_lasts (upkeep.Noted n) m = own_lasts n.upto m
+  upkeep_lasts (upkeep.Publish ids r) m = (own_lasts r m.0, m.1)
+  upkeep_lasts upkeep.Read m = tt
+  upkeep_lasts (upkeep.Learn last sweep) m = were_lasts h.clusters own h.past last sweep m
+  upkeep_lasts (upkeep.Checkpoint i) m = tt
+  upkeep_lasts (upkeep.Release i) m = tt

@@ -1,0 +1,55 @@
+-- What a step of a session owes: the events that it adds, what is kept, and what is told of it.
+use Rattle.std.proofs.Common.{◌≡◌, ℕ, Bool, true, false, ◌&&◌, ◌||◌, [], ◌∷◌, ◌++◌, refl, sym, ap, ◌∙◌}
+use Rattle.std.specs.Prelude.{◌==◌}
+use Rattle.std.specs.List.{list_any}
+use Rattle.oak_machine.specs.declared.event.Event.{Event}
+use Rattle.oak_machine.specs.declared.event.StepKind.{StepKind}
+use Rattle.oak_machine.specs.History.{Past}
+use Rattle.oak_machine.specs.Laws.{AreOthers, Says, Starts, after, is_event_of}
+use Rattle.oak_machine.specs.Sessions.{is_attached}
+use Rattle.oak_machine.specs.Steps.{is_kind, kind_number, where_test}
+use Rattle.core_world.specs.Kept.{IsKept}
+use Rattle.core_world.specs.States.{State, history_in, moved_in}
+use Rattle.core_world.proofs.Flights.{number_itself, other_number, same_number}
+use Rattle.oak_port.specs.declared.task.StepOut.{StepOut}
+use Rattle.oak_port.specs.Ports.{AreOfStep, Makes as Tells, is_by_due}
+use Rattle.oak_world.specs.declared.actor.Work.{Work}
+use Rattle.oak_world.specs.Kept.{May}
+use Rattle.oak_world.specs.Seen.{shown_work}
+use Rattle.oak_world.specs.Steps.{kind_due}
+
+-- a step of session s, from one state to the next: the events that it adds, which are of no other session; the state is kept, the session may do what it does then, and it is told so
+pub record IsStepOf (starts : Starts) (says : Says) (s : ℕ) (w : State) (v : Work) (u : State) (x : Work) (o : StepOut) : Type 0 where
+  pub own : Past
+  pub grown : history_in u ≡ after own (history_in w)
+  pub kept : IsKept starts says u
+  pub may : May starts (after own (history_in w)) s x
+  pub apart : (q : ℕ) → (q == s) ≡ false → AreOthers q own w.past
+  pub detached : (q : ℕ) → is_attached w.past q ≡ false → is_attached (own ++ w.past) q ≡ false
+  pub same : moved_in u.table ≡ moved_in w.table
+  pub tells : Tells (history_in w) s (shown_work v) o own (shown_work x)
+  pub of_step : AreOfStep (history_in w) s (shown_work v) o own
+  pub as_due : is_by_due (kind_due v) own ≡ true
+
+-- ---- numbers and kinds
+
+pub flipped : (q s : ℕ) → (q == s) ≡ false → (s == q) ≡ false
+flipped q s h = by (s == q) refl
+  where
+    by : (b : Bool) → (s == q) ≡ b → b ≡ false
+    by true k = absurd (other_number q s h (sym (same_number s q k)))
+    by false k = refl
+
+-- a kind is among the kinds of a test that holds
+pub kind_told : (k : StepKind) (b : Bool) → b ≡ true → list_any (is_kind k) (where_test b (k ∷ [])) ≡ true
+kind_told k b h = ap (λ t. list_any (is_kind k) (where_test t (k ∷ []))) h ∙ ap (λ t. t || false) (number_itself (kind_number k))
+
+pub with_true : (b : Bool) → b ≡ true → (b && true) ≡ true
+with_true b h = ap (λ t. t && true) h
+
+-- ---- what one event leaves
+
+module _ (past : Past) (s : ℕ) where
+  -- an event that is no other session's
+  pub apart_one : (e : Event) → ((q : ℕ) → (q == s) ≡ false → is_event_of (e ∷ past) q e ≡ false) → (q : ℕ) → (q == s) ≡ false → AreOthers q (e ∷ []) past
+  apart_one e none q h = ap (λ t. t || false) (none q h)

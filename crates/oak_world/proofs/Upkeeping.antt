@@ -1,0 +1,273 @@
+-- The steps of background work and on the settings, from one state to the next.
+use Rattle.core_world.proofs.Unsplit.{back_moved, settings_moved}
+use Rattle.std.proofs.Common.{◌≡◌, ℕ, true, false, ◌&&◌, Option, Some, None, List, [], ◌∷◌, is_some, refl, sym, ap, subst, ◌∙◌}
+use Rattle.std.specs.Prelude.{◌==◌, IsSome, slice_get}
+use Rattle.std.specs.BTreeMap.{is_at}
+use Rattle.std.specs.Map.{lookup}
+use Rattle.std.specs.Option.{option_and_then, option_map_or}
+use Rattle.std.specs.Ordering.{eq_by_cmp}
+use mathlib.Core.Bool.{false≢true}
+use Rattle.jr_path.specs.Ids.{names_of}
+use Rattle.jr_path.specs.Names.{name_cmp, path_cmp}
+use Rattle.jr_path.specs.declared.path.DocId.{DocId}
+use Rattle.jr_path.specs.declared.text.Text.{Text}
+use Rattle.jr_rev.specs.declared.revision.Revision.{Revision}
+use Rattle.jr_rev.specs.declared.vector.Pin.{Pin}
+use Rattle.jr_rev.specs.declared.vector.RevVec.{RevVec}
+use Rattle.jr_rev.specs.Revisions.{is_at_most}
+use Rattle.oak_doc.specs.declared.document.Document.{Document}
+use Rattle.oak_doc.specs.declared.update.Change.TheVariants as change
+use Rattle.oak_machine.specs.declared.event.Event.TheVariants as event
+use Rattle.oak_machine.specs.declared.event.StepKind.TheVariants as kind
+use Rattle.oak_machine.specs.Heads.{local}
+use Rattle.oak_machine.specs.History.{History}
+use Rattle.oak_machine.specs.Laws.{Says, Starts, StartsProper}
+use Rattle.oak_machine.specs.Runs.{IsNode}
+use Rattle.oak_machine.specs.Sessions.{is_attached, kept_checkpoint}
+use Rattle.oak_machine.specs.Steps.{is_on}
+use Rattle.oak_node.specs.declared.pending.Pending.{Pending}
+use Rattle.oak_node.specs.Heads.{learned}
+use Rattle.oak_node.specs.Notes.{IsPending}
+use Rattle.oak_node.specs.Pins.{pin_of}
+use Rattle.core_heads.proofs.Orders.{at_most_itself}
+use Rattle.core_nodes.specs.Nodes.{IsMemoryOf, base_of_pin}
+use Rattle.core_world.specs.Kept.{IsKept, WereOnRoot}
+use Rattle.core_world.specs.States.{State, history_in, memory_of, node_of, nodes_in}
+use Rattle.core_world.specs.Steps.{after_back, after_checkpoint, after_learn, after_out, after_pending, after_release, after_unfound, after_went}
+use Rattle.core_world.proofs.Backs.{heard, own_entry_is, told_now}
+use Rattle.core_world.proofs.Draws.{base_is}
+use Rattle.core_world.proofs.Flights.{number_itself}
+use Rattle.core_world.proofs.Lives.{its_node, on_node}
+use Rattle.core_world.proofs.Whole.{back_keeps, checkpoint_keeps, layers_of, learn_keeps, out_keeps, pending_keeps, release_keeps, release_unfound_keeps, went_whole}
+use Rattle.oak_port.specs.declared.task.StepOut.{StepOut}
+use Rattle.oak_port.specs.declared.task.StepOut.TheVariants as answers
+use Rattle.oak_port.specs.declared.task.TaskEnd.TheVariants as ends
+use Rattle.oak_port.specs.Ports.{AreOfStep, Idle, Makes as Tells, Publishing, Work as Shows}
+use Rattle.oak_world.specs.declared.actor.Work.{Work}
+use Rattle.oak_world.specs.declared.actor.Work.TheVariants as work
+use Rattle.oak_world.specs.declared.upkeep.Upkeep.{Upkeep}
+use Rattle.oak_world.specs.declared.upkeep.Upkeep.TheVariants as upkeep
+use Rattle.oak_world.specs.Kept.{AreBelow, IsOwn, MayKeepUp}
+use Rattle.oak_world.specs.Seen.{shown_upkeep, shown_work}
+use Rattle.oak_world.specs.Steps.{HasCome, MakesUpkeep, Publishes}
+use Rattle.oak_world.specs.Upkeeps.{set_checkpoint, told_ids}
+use Rattle.oak_world.proofs.Below.{below_parts, told_below}
+use Rattle.oak_world.proofs.Lasting.{local_lasts}
+use Rattle.oak_world.proofs.StepsOf.{IsStepOf, apart_one, flipped, kind_told, with_true}
+
+module _ (starts : Starts) (says : Says) (proper : StartsProper starts) (w : State) (kept : IsKept starts says w) (s : ℕ) (there : is_some (slice_get w.sessions s) ≡ true) (detached : is_attached w.past s ≡ false) where
+  abbrev h : History
+  h = history_in w
+
+  abbrev StepOf : Work → State → Work → StepOut → Type 0
+  StepOf v u x o = IsStepOf starts says s w v u x o
+
+  on : slice_get w.sessions s ≡ Some (node_of w s)
+  on = on_node starts says proper w kept.sessions s there
+
+  node : IsNode w.clusters (node_of w s)
+  node = its_node starts says proper w kept.sessions s there
+
+  is_mine : is_on (history_in w) s (node_of w s) ≡ true
+  is_mine = ap (λ (o : Option ℕ). option_map_or (λ m. m == node_of w s) o false) on ∙ number_itself (node_of w s)
+
+  -- the same, at a state and a work that are equal to these
+  at_those : (v : Work) (o : StepOut) (t : State) (y : Work) (u : State) (x : Work) → u ≡ t → x ≡ y → StepOf v t y o → StepOf v u x o
+  at_those v o t y u x same is f = subst (λ (z : State). StepOf v z x o) (sym same) (subst (λ (z : Work). StepOf v t z o) (sym is) f)
+
+  -- memory was refused
+  refused_step : (k : Upkeep) → Tells (history_in w) s (shown_upkeep k) answers.Memory [] Idle → (u : State) (x : Work) → u ≡ w → x ≡ work.Rest → StepOf (work.Upkeep k) u x answers.Memory
+  refused_step k tells u x same is = at_those (work.Upkeep k) answers.Memory w work.Rest u x same is (record { own = []; grown = refl; kept = kept; may = tt; apart = λ q m. refl; detached = λ q m. m; same = refl; tells = tells; of_step = refl; as_due = refl })
+
+  module _ (come : HasCome (history_in w) s) where
+    -- ---- a background write
+
+    write_step : (n : Pending) → IsPending (memory_of w s) n → StepOf (work.Upkeep upkeep.Write) (after_pending w s) (work.Upkeep (upkeep.Noted n)) (answers.Went kind.Back)
+    write_step n pending = record {
+      own = event.Went s kind.Back ∷ [];
+      grown = refl;
+      kept = kept_then;
+      may = (record { login = come.login; stays = come.stays }, (on ∙ ap Some (sym cluster_is), local_lasts starts says w.clusters w.sessions kept.sessions.nodes (event.Went s kind.Back ∷ []) w.past kept_then.sessions.run n.upto n.upto.cluster low));
+      apart = apart_one w.past s (event.Went s kind.Back) (λ q m. flipped q s m);
+      detached = λ q m. m;
+      same = refl;
+      tells = (node_of w s, on, refl, refl, ap Publishing upto_is);
+      of_step = kind_told kind.Back (s == s && true) (with_true (s == s) (number_itself s));
+      as_due = refl;
+    }
+      where
+        kept_then : IsKept starts says (after_pending w s)
+        kept_then = pending_keeps starts says proper w kept s come.login come.stays
+
+        upto_is : n.upto ≡ local None w.past (node_of w s)
+        upto_is = pending.upto ∙ own_entry_is starts says proper w (layers_of starts says w kept) s come.login
+
+        is : IsMemoryOf w.clusters w.past (node_of w s) (memory_of w s)
+        is = kept.sessions.memories.memory (node_of w s) node
+
+        cluster_is : n.upto.cluster ≡ node_of w s
+        cluster_is = ap (λ (r : Revision). r.cluster) pending.upto ∙ (is.memory.own_node ∙ is.cluster)
+
+        low : is_at_most n.upto (local None w.past n.upto.cluster) ≡ true
+        low = subst (λ (r : Revision). is_at_most n.upto r ≡ true) (upto_is ∙ ap (local None w.past) (sym cluster_is)) (at_most_itself n.upto)
+
+    module _ (v : Work) (r : Revision) (shown : shown_work v ≡ Publishing r) (own : IsOwn (history_in w) s r) where
+      -- its revision is of the session's node
+      of_node : r.cluster ≡ node_of w s
+      of_node = let k : Some r.cluster ≡ Some (node_of w s) = sym own.0 ∙ on in ap (λ (o : Option ℕ). option_map_or (λ m. m) o r.cluster) k
+
+      tell_step : (rest : List DocId) (i : DocId) → AreBelow rest → eq_by_cmp path_cmp [] (names_of i) ≡ false → StepOf v (after_back w s (names_of i) r) (work.Upkeep (upkeep.Publish rest r)) (answers.Went kind.Back)
+      tell_step rest i below other = record {
+        own = event.Went s kind.Back ∷ [];
+        grown = refl;
+        kept = kept_then;
+        may = (record { login = come.login; stays = come.stays }, ((own.0, local_lasts starts says w.clusters w.sessions kept.sessions.nodes (event.Went s kind.Back ∷ []) w.past kept_then.sessions.run r r.cluster own.1), below));
+        apart = apart_one w.past s (event.Went s kind.Back) (λ q m. flipped q s m);
+        detached = λ q m. m;
+        same = back_moved w.table (names_of i) r;
+        tells = subst (λ (y : Shows). Tells (history_in w) s y (answers.Went kind.Back) (event.Went s kind.Back ∷ []) (Publishing r)) (sym shown) (refl, refl, refl);
+        of_step = kind_told kind.Back (s == s && true) (with_true (s == s) (number_itself s));
+        as_due = refl;
+      }
+        where
+          kept_then : IsKept starts says (after_back w s (names_of i) r)
+          kept_then = back_keeps starts says proper w kept s come.login come.stays (names_of i) r other
+
+      out_step : StepOf v (after_out w s r) work.Rest (answers.Ready (ends.Published r))
+      out_step = record {
+        own = event.Out (node_of w s) r ∷ [];
+        grown = refl;
+        kept = out_keeps starts says proper w kept s come.login r of_node (subst (λ (k : ℕ). is_at_most r (local None w.past k) ≡ true) of_node own.1);
+        may = tt;
+        apart = apart_one w.past s (event.Out (node_of w s) r) (λ q m. refl);
+        detached = λ q m. m;
+        same = back_moved w.table [] r;
+        tells = subst (λ (y : Shows). Tells (history_in w) s y (answers.Ready (ends.Published r)) (event.Out (node_of w s) r ∷ []) Idle) (sym shown) (node_of w s, on, refl, refl, refl);
+        of_step = subst (λ (y : Shows). AreOfStep (history_in w) s y (answers.Ready (ends.Published r)) (event.Out (node_of w s) r ∷ [])) (sym shown) (kind_told kind.Back (is_on (history_in w) s (node_of w s)) is_mine);
+        as_due = refl;
+      }
+
+      still_step : (u : State) (x : Work) → u ≡ w → x ≡ work.Rest → StepOf v u x answers.Memory
+      still_step u x same is = at_those v answers.Memory w work.Rest u x same is (record { own = []; grown = refl; kept = kept; may = tt; apart = λ q m. refl; detached = λ q m. m; same = refl; tells = subst (λ (y : Shows). Tells (history_in w) s y answers.Memory [] Idle) (sym shown) (refl, refl); of_step = refl; as_due = refl })
+
+      publish_step : (ids : List DocId) → AreBelow ids → (u : State) (x : Work) (o : StepOut) → Publishes s w ids r u x o → StepOf v u x o
+      publish_step ids below u x (answers.Went kind.Back) m =
+          let p = below_parts m.0 m.1 (subst AreBelow m.2 below) in
+          at_those v (answers.Went kind.Back) (after_back w s (names_of m.1) r) (work.Upkeep (upkeep.Publish m.0 r)) u x m.3 m.4 (tell_step m.0 m.1 p.0 p.1)
+      publish_step ids below u x (answers.Ready (ends.Published o)) m =
+          subst (λ (y : Revision). StepOf v u x (answers.Ready (ends.Published y))) (sym m.1) (at_those v (answers.Ready (ends.Published r)) (after_out w s r) work.Rest u x m.2 m.3 out_step)
+      publish_step ids below u x answers.Memory m = still_step u x m.0 m.1
+      publish_step ids below u x _ m = absurd m
+
+    -- ---- a background read
+
+    read_step : (d : Document) → nodes_in w.table [] ≡ Some d → StepOf (work.Upkeep upkeep.Read) (after_went w s kind.Back) (work.Upkeep (upkeep.Learn d.last_rev d.sweep_rev)) (answers.Went kind.Back)
+    read_step d there_d =
+        let told = told_now w.clusters w.past w.table kept.root d there_d in
+        record {
+          own = event.Went s kind.Back ∷ [];
+          grown = refl;
+          kept = went_whole starts says proper w kept s kind.Back refl refl come.login come.stays;
+          may = (record { login = come.login; stays = come.stays }, (1, told));
+          apart = apart_one w.past s (event.Went s kind.Back) (λ q m. flipped q s m);
+          detached = λ q m. m;
+          same = refl;
+          tells = (d.last_rev, told.public, refl, refl, refl);
+          of_step = kind_told kind.Back (s == s && true) (with_true (s == s) (number_itself s));
+          as_due = refl;
+        }
+
+    learn_step : (last sweep : RevVec) → WereOnRoot w.clusters w.past last sweep → StepOf (work.Upkeep (upkeep.Learn last sweep)) (after_learn w s last sweep) work.Rest (answers.Ready (ends.Learnt (learned (memory_of w s) last sweep).head))
+    learn_step last sweep were = record {
+      own = event.In (node_of w s) (learned (memory_of w s) last sweep).head ∷ [];
+      grown = refl;
+      kept = learn_keeps starts says proper w kept s come.login last sweep were;
+      may = tt;
+      apart = apart_one w.past s (event.In (node_of w s) (learned (memory_of w s) last sweep).head) (λ q m. refl);
+      detached = λ q m. m;
+      same = refl;
+      tells = (node_of w s, on, λ r seen. heard starts says proper w (layers_of starts says w kept) s come.login last sweep were r seen, refl, refl);
+      of_step = kind_told kind.Learn (is_on (history_in w) s (node_of w s)) is_mine;
+      as_due = refl;
+    }
+
+    -- ---- the settings
+
+    checkpoint_step : (i : Text) (pin : Pin) → pin_of (memory_of w s) s ≡ Some pin → StepOf (work.Upkeep (upkeep.Checkpoint i)) (after_checkpoint w s i pin) work.Rest (answers.Ready (ends.Set None))
+    checkpoint_step i pin has = record {
+      own = event.Checkpoint i pin.base ∷ [];
+      grown = refl;
+      kept = checkpoint_keeps starts says proper w kept s i pin come.login come.stays detached has;
+      may = tt;
+      apart = apart_one w.past s (event.Checkpoint i pin.base) (λ q m. refl);
+      detached = λ q m. m;
+      same = settings_moved w.table (change.Checkpoint i pin);
+      tells = (pin.base, base_is starts says proper w kept.sessions s come.login come.stays detached ∙ ap (λ (o : Option Pin). Some (option_map_or (λ (p : Pin). p.base) o (memory_of w s).head)) has, refl, refl);
+      of_step = refl;
+      as_due = refl;
+    }
+
+    -- the settings have just what the journal keeps
+    set_is : (i : Text) → base_of_pin (set_checkpoint w.table i) ≡ kept_checkpoint w.past i
+    set_is i = ap (λ (o : Option Document). base_of_pin (option_and_then (λ d. lookup (is_at (name_cmp i)) d.checkpoints) o)) kept.settings.there ∙ kept.settings.checkpoints i
+
+    some_kept : (i : Text) → is_some (set_checkpoint w.table i) ≡ true → IsSome (kept_checkpoint w.past i)
+    some_kept i h = by (set_checkpoint w.table i) h (set_is i)
+      where
+        by : (o : Option Pin) → is_some o ≡ true → base_of_pin o ≡ kept_checkpoint w.past i → IsSome (kept_checkpoint w.past i)
+        by None k is = absurd (false≢true k)
+        by (Some pin) k is = subst (λ (v : Option RevVec). IsSome v) is refl
+
+    release_step : (i : Text) → is_some (set_checkpoint w.table i) ≡ true → StepOf (work.Upkeep (upkeep.Release i)) (after_release w i) work.Rest (answers.Ready (ends.Set None))
+    release_step i has = record {
+      own = event.Release i ∷ [];
+      grown = refl;
+      kept = release_keeps starts says proper w kept i (some_kept i has);
+      may = tt;
+      apart = apart_one w.past s (event.Release i) (λ q m. refl);
+      detached = λ q m. m;
+      same = settings_moved w.table (change.Release i);
+      tells = (refl, refl);
+      of_step = refl;
+      as_due = refl;
+    }
+
+    unfound_step : (i : Text) → set_checkpoint w.table i ≡ None → StepOf (work.Upkeep (upkeep.Release i)) (after_unfound w s (change.Release i)) work.Rest (answers.Ready ends.NoCheckpoint)
+    unfound_step i none =
+        let gone : kept_checkpoint w.past i ≡ None = sym (set_is i) ∙ ap base_of_pin none in
+        record {
+          own = event.Went s kind.Settings ∷ [];
+          grown = refl;
+          kept = release_unfound_keeps starts says proper w kept s come.login come.stays i gone;
+          may = tt;
+          apart = apart_one w.past s (event.Went s kind.Settings) (λ q m. flipped q s m);
+          detached = λ q m. m;
+          same = settings_moved w.table (change.Release i);
+          tells = (gone, refl, refl);
+          of_step = kind_told kind.Settings (s == s && true) (with_true (s == s) (number_itself s));
+          as_due = refl;
+        }
+
+    -- ---- all
+
+    pub upkeep_step : (k : Upkeep) → MayKeepUp (history_in w) s k → (u : State) (x : Work) (o : StepOut) → MakesUpkeep s w k u x o → StepOf (work.Upkeep k) u x o
+    upkeep_step upkeep.Write may u x (answers.Went kind.Back) m = at_those (work.Upkeep upkeep.Write) (answers.Went kind.Back) (after_pending w s) (work.Upkeep (upkeep.Noted m.0)) u x m.2 m.3 (write_step m.0 m.1)
+    upkeep_step upkeep.Write may u x answers.Memory m = refused_step upkeep.Write (refl, refl) u x m.0 m.1
+    upkeep_step upkeep.Write may u x _ m = absurd m
+    upkeep_step (upkeep.Noted n) may u x o m = publish_step (work.Upkeep (upkeep.Noted n)) n.upto refl may (told_ids n.paths) (told_below n.paths) u x o m
+    upkeep_step (upkeep.Publish ids r) may u x o m = publish_step (work.Upkeep (upkeep.Publish ids r)) r refl may.0 ids may.1 u x o m
+    upkeep_step upkeep.Read may u x (answers.Went kind.Back) m = at_those (work.Upkeep upkeep.Read) (answers.Went kind.Back) (after_went w s kind.Back) (work.Upkeep (upkeep.Learn (m.0).last_rev (m.0).sweep_rev)) u x m.2 m.3 (read_step m.0 m.1)
+    upkeep_step upkeep.Read may u x answers.Memory m = refused_step upkeep.Read (refl, refl) u x m.0 m.1
+    upkeep_step upkeep.Read may u x _ m = absurd m
+    upkeep_step (upkeep.Learn last sweep) may u x (answers.Ready (ends.Learnt v)) m =
+        subst (λ (y : RevVec). StepOf (work.Upkeep (upkeep.Learn last sweep)) u x (answers.Ready (ends.Learnt y))) (sym m.0)
+        (at_those (work.Upkeep (upkeep.Learn last sweep)) (answers.Ready (ends.Learnt (learned (memory_of w s) last sweep).head)) (after_learn w s last sweep) work.Rest u x m.1 m.2 (learn_step last sweep may))
+    upkeep_step (upkeep.Learn last sweep) may u x answers.Memory m = refused_step (upkeep.Learn last sweep) (refl, refl) u x m.0 m.1
+    upkeep_step (upkeep.Learn last sweep) may u x _ m = absurd m
+    upkeep_step (upkeep.Checkpoint i) may u x (answers.Ready (ends.Set None)) m = at_those (work.Upkeep (upkeep.Checkpoint i)) (answers.Ready (ends.Set None)) (after_checkpoint w s i m.0) work.Rest u x m.2 m.3 (checkpoint_step i m.0 m.1)
+    upkeep_step (upkeep.Checkpoint i) may u x answers.Memory m = refused_step (upkeep.Checkpoint i) (refl, refl) u x m.0 m.1
+    upkeep_step (upkeep.Checkpoint i) may u x _ m = absurd m
+    upkeep_step (upkeep.Release i) may u x (answers.Ready (ends.Set None)) m = at_those (work.Upkeep (upkeep.Release i)) (answers.Ready (ends.Set None)) (after_release w i) work.Rest u x m.1 m.2 (release_step i m.0)
+    upkeep_step (upkeep.Release i) may u x (answers.Ready ends.NoCheckpoint) m = at_those (work.Upkeep (upkeep.Release i)) (answers.Ready ends.NoCheckpoint) (after_unfound w s (change.Release i)) work.Rest u x m.1 m.2 (unfound_step i m.0)
+    upkeep_step (upkeep.Release i) may u x answers.Memory m = refused_step (upkeep.Release i) (refl, refl) u x m.0 m.1
+    upkeep_step (upkeep.Release i) may u x _ m = absurd m

@@ -1,0 +1,30 @@
+//! Scripts, a line each, behind a word for what is to be shown of them: the replies, the documents and events, whether the replies are
+//! those that the law lets be said, how many documents a session read, the order of events, or what the plain calls of the machine say
+//! of them; and the top call over sources and sinks that fail, and the words of command lines.
+#![tactic(auto)]
+
+mod past;
+mod plays;
+mod runs;
+mod scripts;
+mod told;
+
+use jr_io::{StdSink, StdSource, read_all, write_all};
+use std::io;
+use std::process::ExitCode;
+
+fn main(rt: HostRuntime) -> ExitCode {
+    let alloc = rt.alloc();
+    let mut source = StdSource::new(rt.reader());
+    let mut sink = StdSink::new(io::writer(&rt));
+    let Ok(input) = read_all(alloc, &mut source, 1_000_000) else {
+        return ExitCode::from(3);
+    };
+    let Ok(text) = scripts::answers(alloc, input.as_slice()) else {
+        return ExitCode::from(5);
+    };
+    match write_all(&mut sink, text.as_bytes()) {
+        Ok(()) => ExitCode::from(0),
+        Err(_) => ExitCode::from(4),
+    }
+}

@@ -1,0 +1,174 @@
+// Scripts and what they lead to.
+ghost use Rattle.std.specs.Prelude.{IfOk};
+ghost use Rattle.jr_script.specs.Bounds.{IsWithin};
+
+use crate::past::{add_order, add_past};
+use crate::plays::add_play;
+use crate::runs::{add_meaning, add_option, add_status};
+use crate::told::told;
+use jcr_session::{JcrLaw, eval};
+use jr_path::{DeepCopy, List};
+use jr_print::lines;
+use jr_script::{Script, ScriptFault, read_script, scripts_are_within};
+use jr_work::run_steps;
+use oak_machine::{Event, Events, Journal};
+use oak_world::World;
+use std::alloc::{AllocError, Global};
+
+pub(crate) fn answers(alloc: Global, input: &[u8]) -> Result<String, AllocError> {
+    let mut out = String::new(alloc);
+    if let Ok(text) = str::from_utf8(input) {
+        add_answers(alloc, text, &mut out)?;
+    }
+    Ok(out)
+}
+
+fn add_answers(alloc: Global, text: &str, out: &mut String) -> Result<(), AllocError> {
+    for line in text.lines() {
+        let (word, text) = line.split_once(' ').unwrap_or((line, ""));
+        add_answer(alloc, word, text, out)?;
+        out.push('\n')?;
+    }
+    Ok(())
+}
+
+fn add_answer(alloc: Global, word: &str, text: &str, out: &mut String) -> Result<(), AllocError> {
+    match word {
+        "play" => add_play(alloc, text, out),
+        "status" => add_status(alloc, text, out),
+        "words" => add_meaning(alloc, text, out),
+        "option" => add_option(alloc, text, out),
+        _ => add_script(alloc, word, text, out),
+    }
+}
+
+fn add_script(alloc: Global, word: &str, text: &str, out: &mut String) -> Result<(), AllocError> {
+    match script(alloc, text) {
+        Ok(script) => add_run(alloc, word, script, out),
+        Err(fault) => add_fault(alloc, fault, out),
+    }
+}
+
+fn script(alloc: Global, text: &str) -> Result<Script, ScriptFault>
+    ensures { IfOk result IsWithin }
+{
+    match read_script(alloc, text.as_bytes()) {
+        Ok(script) => {
+            scripts_are_within();
+            Ok(script)
+        }
+        Err(fault) => Err(fault),
+    }
+}
+
+// The rule that is broken, and where.
+fn add_fault(alloc: Global, fault: ScriptFault, out: &mut String) -> Result<(), AllocError> {
+    match fault {
+        ScriptFault::Bad { rule, pointer } => {
+            out.push_str(rule.to_string(alloc)?.as_str())?;
+            out.push(' ')?;
+            out.push_str(pointer.as_str())
+        }
+        ScriptFault::Memory => out.push_str("memory"),
+    }
+}
+
+fn add_run(alloc: Global, word: &str, script: Script, out: &mut String) -> Result<(), AllocError>
+    requires { IsWithin script }
+{
+    let world = run_steps(alloc, script)?;
+    add_world(alloc, word, &world, out)
+}
+
+fn add_world(
+    alloc: Global,
+    word: &str,
+    world: &World<JcrLaw>,
+    out: &mut String,
+) -> Result<(), AllocError> {
+    match word {
+        "replies" => add_replies(alloc, world, out),
+        "told" => told(alloc, world, out),
+        "law" => add_law(alloc, world, out),
+        "past" => add_past(alloc, world, out),
+        "order" => add_order(alloc, world, out),
+        _ => add_reads(alloc, world, out),
+    }
+}
+
+fn add_replies(alloc: Global, world: &World<JcrLaw>, out: &mut String) -> Result<(), AllocError> {
+    let text = lines(alloc, world.journal())?;
+    match str::from_utf8(text.as_slice()) {
+        Ok(text) => out.push_str(text),
+        Err(_) => out.push('?'),
+    }
+}
+
+// How many documents session 1 read; none where there is no such session.
+fn add_reads(alloc: Global, world: &World<JcrLaw>, out: &mut String) -> Result<(), AllocError> {
+    if world.journal().sessions.inner().len() > 1 {
+        out.push_str(world.reads(1).to_string(alloc)?.as_str())
+    } else {
+        Ok(())
+    }
+}
+
+// The lines of the replies of the journal, each as the law lets its session say it by the journal before.
+fn add_law(alloc: Global, world: &World<JcrLaw>, out: &mut String) -> Result<(), AllocError> {
+    let journal = world.journal();
+    let mut before = Journal {
+        clusters: journal.clusters,
+        sessions: List::new(alloc),
+        events: Events::new(alloc),
+        start: None,
+    };
+    for event in journal.events.as_slice() {
+        add_said(alloc, world.law(), &before, event, out)?;
+        before.events.push(event.copy()?)?;
+    }
+    Ok(())
+}
+
+fn add_said(
+    alloc: Global,
+    law: &JcrLaw,
+    before: &Journal,
+    event: &Event,
+    out: &mut String,
+) -> Result<(), AllocError> {
+    let Event::Said(session, index, _) = event else {
+        return Ok(());
+    };
+    out.push_str(session.to_string(alloc)?.as_str())?;
+    out.push(' ')?;
+    out.push_str(index.to_string(alloc)?.as_str())?;
+    out.push(' ')?;
+    add_reply(alloc, law, before, *session, out)?;
+    out.push('\n')
+}
+
+fn add_reply(
+    alloc: Global,
+    law: &JcrLaw,
+    before: &Journal,
+    session: u32,
+    out: &mut String,
+) -> Result<(), AllocError> {
+    match replied(alloc, law, before, session)? {
+        Some(reply) => out.push_str(reply.as_str()),
+        None => Ok(()),
+    }
+}
+
+// The reply that the law lets a session say by a journal that begins before any commit.
+fn replied(
+    alloc: Global,
+    law: &JcrLaw,
+    journal: &Journal,
+    session: u32,
+) -> Result<Option<String>, AllocError> {
+    match &journal.start {
+        None => eval(alloc, law, journal, session),
+        Some(_) => Err(AllocError),
+    }
+}

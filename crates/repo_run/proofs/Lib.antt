@@ -1,3 +1,0 @@
-pub mod Faulty
-pub mod Given
-pub mod Told

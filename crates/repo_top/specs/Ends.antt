@@ -1,0 +1,195 @@
+-- How a call ends: what was read, what was written, and why.
+use Rattle.std.specs.Prelude.{◌≡◌, ◌⊎◌, ℕ, ◌≤◌, ◌<◌, ◌+◌, List, Option, None, Some, length, IfSome, ⊤}
+use Rattle.serde_json.specs.Data.{Data}
+use Rattle.jr_io.specs.Causes.{Rose, RoseBy, RoseExactly}
+use Rattle.jr_io.specs.Told.{Grows, IsDrained}
+use Rattle.jr_script.specs.declared.script.Script.{Script}
+use Rattle.jr_script.specs.Scripts.{IsFault as IsBadScript, IsJson, IsScript}
+use Rattle.jr_script.specs.declared.script.ScriptFault.TheVariants as bad
+use Rattle.repo_top.specs.declared.status.Status.{Status}
+use Rattle.repo_top.specs.declared.status.Status.TheVariants as status
+use Rattle.jcr_session.specs.declared.law.JcrLaw.{JcrLaw}
+use Rattle.oak_world.specs.Worlds.{WorldOf, live}
+use Rattle.jr_work.specs.Runs.{HasRun}
+use Rattle.repo_top.specs.Headline.{replies_of}
+use Rattle.repo_top.specs.Statuses.{fault_line, script_line, status_of}
+use Rattle.repo_top.specs.declared.status.Unrun.{Unrun}
+use Rattle.repo_top.specs.declared.status.Unrun.TheVariants as unrun
+use Rattle.repo_top.specs.Words.{Means}
+use Rattle.repo_top.specs.declared.words.Words.{Words}
+use Rattle.repo_top.specs.declared.words.Words.TheVariants.{Steps}
+
+-- the greatest number of bytes of an input: 16 MiB
+abbrev pub longest : ℕ
+longest = 16777216
+
+-- the bytes are the JSON of this script
+abbrev pub Spells : List ℕ → Script → Type 0
+Spells bytes script = (d : Data) × IsJson bytes d × IsScript d script
+
+-- the bytes break a rule of scripts, at the place of a pointer
+abbrev pub BreaksRule : List ℕ → ℕ → List ℕ → Type 0
+BreaksRule bytes rule pointer = IsBadScript bytes (bad.Bad rule pointer)
+
+-- ---- a call
+
+-- what a source tells: the bytes that are left, how many it gave, and how often it failed
+pub record Input : Type 0 where
+  pub left : Option (List ℕ)
+  pub given : ℕ
+  pub faults : ℕ
+
+abbrev pub input : Option (List ℕ) → ℕ → ℕ → Input
+input left given faults = record { left = left; given = given; faults = faults }
+
+-- what a sink tells: the bytes that were written, and how often it failed
+pub record Output : Type 0 where
+  pub written : Option (List ℕ)
+  pub faults : ℕ
+
+abbrev pub output : Option (List ℕ) → ℕ → Output
+output written faults = record { written = written; faults = faults }
+
+-- the words, the source and the sink before a call and after it, and the world that it leaves
+pub record Call : Type 0 where
+  pub words : List (List ℕ)
+  pub source : Input
+  pub source_now : Input
+  pub sink : Output
+  pub sink_now : Output
+  pub left : Option (WorldOf JcrLaw)
+
+abbrev pub call : List (List ℕ) → Input → Input → Output → Output → Option (WorldOf JcrLaw) → Call
+call words source source_now sink sink_now left = record { words = words; source = source; source_now = source_now; sink = sink; sink_now = sink_now; left = left }
+
+-- ---- reading
+
+-- a source was read to its end, and these are all of its bytes
+pub record IsReadWhole (before now : Input) (bytes : List ℕ) : Type 0 where
+  pub all : IfSome before.left (λ left. bytes ≡ left)
+  pub end : IsDrained before.left now.left
+  pub count : RoseExactly (length bytes) before.given now.given
+  pub short : length bytes ≤ longest
+
+-- why no script came of a source: its count of faults rose, it gave too many bytes, its bytes are no script, or memory was refused
+abbrev pub IsUnread : Input → Input → Unrun → Type 0
+IsUnread before now unrun.Words = ⊥
+IsUnread before now (unrun.Script rule pointer) = (bytes : List ℕ) × IsReadWhole before now bytes × BreaksRule bytes rule pointer
+IsUnread before now unrun.ReadFault = Rose before.faults now.faults
+IsUnread before now unrun.TooLong = RoseBy (longest + 1) before.given now.given × IfSome before.left (λ left. longest < length left)
+IsUnread before now unrun.Memory = ⊤
+
+-- ---- writing
+
+-- some first bytes of a text were written, or all
+abbrev pub GrowsUpTo : Output → Output → List ℕ → Type 0
+GrowsUpTo before now text = (n : ℕ) × (n ≤ length text) × Grows before.written now.written text n
+
+-- a text was written whole
+abbrev pub GrowsBy : Output → Output → List ℕ → Type 0
+GrowsBy before now text = Grows before.written now.written text (length text)
+
+-- the whole text was written and passed on, and this status is answered; or else the sink failed behind some first bytes
+abbrev pub Tells : Output → Output → List ℕ → Status → Status → Type 0
+Tells before now text answer result =
+    ((result ≡ answer) × GrowsBy before now text)
+    ⊎ ((result ≡ status.WriteFault) × Rose before.faults now.faults × GrowsUpTo before now text)
+
+-- memory was refused, and nothing is written
+abbrev pub IsRefused : Output → Output → Status → Type 0
+IsRefused before now result = (result ≡ status.Memory) × (now.written ≡ before.written)
+
+-- the line is written that says why no script is run; none where memory was refused, which the line of a broken script takes too
+abbrev pub Faults : Output → Output → Unrun → Status → Type 0
+Faults before now unrun.Memory result = IsRefused before now result
+Faults before now (unrun.Script rule pointer) result = Tells before now (script_line rule pointer) status.Script result ⊎ IsRefused before now result
+Faults before now why result = Tells before now (fault_line why) (status_of why) result
+
+-- the replies of the world with which a run ended are written; or memory was refused, and nothing is
+abbrev pub Prints : {L : Type 0} → Output → Output → Option (WorldOf L) → Status → Type 0
+Prints before now None result = IsRefused before now result
+Prints before now (Some world) result =
+    Tells before now (replies_of (live world.history)) status.Done result
+    ⊎ IsRefused before now result
+
+-- ---- how a call ends
+
+-- a script was run to its end: the words ask for it, the source was read whole, its bytes are the script, and this is the world that it left
+pub record HasRunAll (c : Call) (world : WorldOf JcrLaw) : Type 0 where
+  pub meant : Means c.words Steps
+  pub bytes : List ℕ
+  pub read : IsReadWhole c.source c.source_now bytes
+  pub script : Script
+  pub spells : Spells bytes script
+  pub ran : HasRun script world
+
+-- a line says so
+abbrev pub HasLine : Unrun → Type 0
+HasLine unrun.Memory = ⊥
+HasLine _ = ⊤
+
+-- why no script is run: the words have no meaning; or they have one, and no script came of the source
+abbrev pub IsCause : Call → Unrun → Type 0
+IsCause c unrun.Words = (meaning : Words) → ¬ Means c.words meaning
+IsCause c why = Means c.words Steps × IsUnread c.source c.source_now why
+
+-- a script was run to its end, its world is left, and the replies of its history are written
+pub record IsDone (c : Call) : Type 0 where
+  pub world : WorldOf JcrLaw
+  pub left : c.left ≡ Some world
+  pub ran : HasRunAll c world
+  pub replies : GrowsBy c.sink c.sink_now (replies_of (live world.history))
+
+-- no script was run, for a cause that has this status, and its line is written
+pub record IsFault (c : Call) (s : Status) : Type 0 where
+  pub why : Unrun
+  pub status : s ≡ status_of why
+  pub unrun : c.left ≡ None
+  pub cause : IsCause c why
+  pub line : GrowsBy c.sink c.sink_now (fault_line why)
+
+-- what was written before a sink failed: of the replies of the world that is left, or, where none is left, of the line that says why no
+-- script was run, which is so
+abbrev pub IsPart : Call → Option (WorldOf JcrLaw) → Type 0
+IsPart c (Some world) = HasRunAll c world × GrowsUpTo c.sink c.sink_now (replies_of (live world.history))
+IsPart c None = (why : Unrun) × HasLine why × IsCause c why × GrowsUpTo c.sink c.sink_now (fault_line why)
+
+-- the sink failed
+pub record IsCut (c : Call) : Type 0 where
+  pub fault : Rose c.sink.faults c.sink_now.faults
+  pub part : IsPart c c.left
+
+-- memory was refused, and nothing is written; a world that is left is one with which a script was run to its end
+pub record IsStopped (c : Call) : Type 0 where
+  pub meant : Means c.words Steps
+  pub ran : IfSome c.left (HasRunAll c)
+  pub nothing : c.sink_now.written ≡ c.sink.written
+
+-- what each status says of a call
+abbrev pub EndsWith : Call → Status → Type 0
+EndsWith c status.Done = IsDone c
+EndsWith c status.WriteFault = IsCut c
+EndsWith c status.Memory = IsStopped c
+EndsWith c s = IsFault c s
+
+-- ---- where nothing fails
+
+-- the status where nothing fails: done where the bytes are a script, and bad script where they break a rule; or memory was refused
+abbrev pub IsCalm : List ℕ → Status → Type 0
+IsCalm bytes status.Done = (script : Script) × Spells bytes script
+IsCalm bytes status.Script = (rule : ℕ) × (pointer : List ℕ) × BreaksRule bytes rule pointer
+IsCalm bytes status.Memory = ⊤
+IsCalm bytes _ = ⊥
+
+-- the words have a meaning, the source tells its bytes, which aren't too many, and neither end fails
+pub record FailsNowhere (c : Call) (bytes : List ℕ) : Type 0 where
+  pub meant : Means c.words Steps
+  pub tells : c.source.left ≡ Some bytes
+  pub short : length bytes ≤ longest
+  pub reads : Rose c.source.faults c.source_now.faults → ⊥
+  pub writes : Rose c.sink.faults c.sink_now.faults → ⊥
+
+-- how a call ends: what its status says of it, and which status comes where nothing fails
+pub record Ends (c : Call) (result : Status) : Type 0 where
+  pub says : EndsWith c result
+  pub calm : (bytes : List ℕ) → FailsNowhere c bytes → IsCalm bytes result

@@ -1,0 +1,54 @@
+-- The statuses: their numbers, their lines, and what each is the answer to.
+use Rattle.std.specs.Prelude.{ℕ, List, [], ◌++◌, codes}
+use Rattle.std.specs.Fmt.{decimal}
+use Rattle.serde_json.specs.Data.{string}
+use Rattle.serde_json.specs.Written.{compact_text}
+use Rattle.jr_io.specs.declared.whole.ReadAll.{ReadAll}
+use Rattle.jr_io.specs.declared.whole.ReadAll.TheVariants as read
+use Rattle.jr_script.specs.declared.script.ScriptFault.{ScriptFault}
+use Rattle.jr_script.specs.declared.script.ScriptFault.TheVariants as fault
+use Rattle.repo_top.specs.declared.status.Status.{Status}
+use Rattle.repo_top.specs.declared.status.Status.TheVariants as status
+use Rattle.repo_top.specs.declared.status.Unrun.{Unrun}
+use Rattle.repo_top.specs.declared.status.Unrun.TheVariants as unrun
+
+-- the exit status
+abbrev pub code_of : Status → ℕ
+code_of status.Done = 0
+code_of status.Words = 1
+code_of status.Script = 2
+code_of status.ReadFault = 3
+code_of status.WriteFault = 4
+code_of status.Memory = 5
+code_of status.TooLong = 6
+
+-- the line of a broken script: the rule, and the pointer as JSON text
+abbrev pub script_line : ℕ → List ℕ → List ℕ
+script_line rule pointer = codes "bad script " ++ decimal rule ++ codes " " ++ compact_text (string pointer) ++ codes "\n"
+
+-- the line that is written where no script is run; none where memory was refused
+abbrev pub fault_line : Unrun → List ℕ
+fault_line unrun.Words = codes "bad words\n"
+fault_line (unrun.Script rule pointer) = script_line rule pointer
+fault_line unrun.ReadFault = codes "read fault\n"
+fault_line unrun.TooLong = codes "too long\n"
+fault_line unrun.Memory = []
+
+-- the status where no script is run
+abbrev pub status_of : Unrun → Status
+status_of unrun.Words = status.Words
+status_of (unrun.Script rule pointer) = status.Script
+status_of unrun.ReadFault = status.ReadFault
+status_of unrun.TooLong = status.TooLong
+status_of unrun.Memory = status.Memory
+
+-- why no script is run where not all of the source was read
+abbrev pub unread : ReadAll → Unrun
+unread read.ReadFault = unrun.ReadFault
+unread read.TooLong = unrun.TooLong
+unread read.Memory = unrun.Memory
+
+-- why no script is run where the bytes aren't read as one
+abbrev pub unscripted : ScriptFault → Unrun
+unscripted (fault.Bad rule pointer) = unrun.Script rule pointer
+unscripted fault.Memory = unrun.Memory

@@ -1,0 +1,100 @@
+// How a run ends.
+ghost use Rattle.std.specs.Prelude.{◌≡◌, IfOk, string_bytes};
+ghost use Rattle.serde_json.specs.Data.{string};
+ghost use Rattle.serde_json.specs.Written.{compact_text};
+ghost use Rattle.repo_top.specs.Statuses.{code_of, script_line, unread, unscripted};
+
+use jr_io::ReadAll;
+use jr_path::Text;
+use jr_script::ScriptFault;
+use serde_json::Value as Json;
+use std::alloc::{AllocError, Global};
+
+/// How a run ends; the number is the program's exit status.
+#[derive(Clone, Copy, Debug, PartialEq, Eq)]
+pub enum Status {
+    /// All sessions ran to their end, and the sink was flushed.
+    Done,
+    /// The words have no meaning.
+    Words,
+    /// The input is no script.
+    Script,
+    /// The source failed.
+    ReadFault,
+    /// The sink failed.
+    WriteFault,
+    /// Memory was refused.
+    Memory,
+    /// The input is longer than 16,777,216 bytes.
+    TooLong,
+}
+
+impl Status {
+    /// 0 to 6, in the order of the variants.
+    pub fn code(self) -> u8
+        ensures { result ≡ code_of self }
+    {
+        match self {
+            Status::Done => 0,
+            Status::Words => 1,
+            Status::Script => 2,
+            Status::ReadFault => 3,
+            Status::WriteFault => 4,
+            Status::Memory => 5,
+            Status::TooLong => 6,
+        }
+    }
+}
+
+/// Why no script is run.
+#[derive(Debug, Drop)]
+pub enum Unrun {
+    /// The words have no meaning.
+    Words,
+    /// The input breaks a rule of scripts, at the place that a JSON Pointer (RFC 6901) names.
+    Script { rule: u8, pointer: Text },
+    /// The source failed.
+    ReadFault,
+    /// The input is longer than 16,777,216 bytes.
+    TooLong,
+    /// Memory was refused.
+    Memory,
+}
+
+// The line of a broken script: the rule, and the pointer as JSON text.
+pub(crate) fn script_line(alloc: Global, rule: u8, pointer: &Text) -> Result<String, AllocError>
+    ensures { IfOk result (λ line. string_bytes line ≡ script_line rule pointer.now) }
+{
+    let pointer = pointer_json(alloc, pointer)?;
+    Ok(format!(in alloc; "bad script {rule} {pointer}\n")?)
+}
+
+fn pointer_json(alloc: Global, pointer: &Text) -> Result<String, AllocError>
+    ensures { IfOk result (λ text. string_bytes text ≡ compact_text (string pointer.now)) }
+{
+    let json = Json::try_from_str(alloc, pointer.as_str())?;
+    Ok(json.to_string(alloc)?)
+}
+
+impl From<ReadAll> for Unrun {
+    ghost from_gives = { λ fault why. why ≡ unread fault };
+
+    fn from(fault: ReadAll) -> Unrun {
+        match fault {
+            ReadAll::ReadFault => Unrun::ReadFault,
+            ReadAll::TooLong => Unrun::TooLong,
+            ReadAll::Memory => Unrun::Memory,
+        }
+    }
+}
+
+impl From<ScriptFault> for Unrun {
+    ghost from_gives = { λ fault why. why ≡ unscripted fault };
+
+    fn from(fault: ScriptFault) -> Unrun {
+        match fault {
+            ScriptFault::Bad { rule, pointer } => Unrun::Script { rule, pointer },
+            ScriptFault::Memory => Unrun::Memory,
+        }
+    }
+}

@@ -1,0 +1,128 @@
+// The top calls.
+ghost use Rattle.std.specs.Prelude.{◌≡◌, ℕ, List, None, IfOk, IfErr, IfSome, IsNone, map, string_bytes};
+ghost use Rattle.repo_top.specs.Ends.{Ends, Faults, IsReadWhole, IsUnread, Prints, Spells, Tells, call, input, output};
+ghost use Rattle.jr_script.specs.Bounds.{IsWithin};
+ghost use Rattle.jr_work.specs.Runs.{HasRun};
+ghost use Rattle.repo_top.specs.declared.status.Unrun.TheVariants as unrun;
+
+use crate::status::{Status, Unrun, script_line};
+use crate::words::{Words, words_meant};
+use jcr_session::JcrLaw;
+use jr_io::{Failed, Sink, Source, read_all, write_all};
+use jr_path::Text;
+use jr_print::lines;
+use jr_script::{Script, read_script, scripts_are_within};
+use jr_work::run_steps;
+use oak_world::World;
+use std::alloc::{AllocError, Global};
+use std::sync::Wait;
+use std::thread::Threads;
+
+/// The greatest number of bytes of an input.
+pub const LONGEST_INPUT: usize = 16_777_216;
+
+/// All that the program does: takes the words of the command line, a source and a sink, and answers the status. `Ends` says what each
+/// status says of the words, of what was read and written, and of the world that is left.
+pub fn repo_main<R: Threads + Wait + Sync, S: Source, K: Sink>(
+    _rt: &R,
+    alloc: Global,
+    words: &[String],
+    source: &mut S,
+    sink: &mut K,
+    left: &mut Option<World<JcrLaw>>,
+) -> Status
+    ensures ends { Ends (call (map string_bytes words.now) (input (S.left source.old) (S.given source.old) (S.fault_count source.old)) (input (S.left source.new) (S.given source.new) (S.fault_count source.new)) (output (K.written sink.old) (K.fault_count sink.old)) (output (K.written sink.new) (K.fault_count sink.new)) left.new) result }
+{
+    steps_main(alloc, words, source, sink, left)
+}
+
+/// Every command but those that run threads: uses no lock, and returns.
+pub fn steps_main<S: Source, K: Sink>(
+    alloc: Global,
+    words: &[String],
+    source: &mut S,
+    sink: &mut K,
+    left: &mut Option<World<JcrLaw>>,
+) -> Status
+    ensures ends { Ends (call (map string_bytes words.now) (input (S.left source.old) (S.given source.old) (S.fault_count source.old)) (input (S.left source.new) (S.given source.new) (S.fault_count source.new)) (output (K.written sink.old) (K.fault_count sink.old)) (output (K.written sink.new) (K.fault_count sink.new)) left.new) result }
+{
+    *left = None;
+    let Some(Words::Steps) = words_meant(words) else {
+        return unrun(alloc, sink, &Unrun::Words);
+    };
+    match script_of(alloc, source) {
+        Ok(script) => {
+            scripts_are_within();
+            run_script(alloc, script, sink, left)
+        }
+        Err(why) => unrun(alloc, sink, &why),
+    }
+}
+
+// The script that a source gives.
+fn script_of<S: Source>(alloc: Global, source: &mut S) -> Result<Script, Unrun>
+    ensures read { IfOk result (λ script. (bytes : List ℕ) × IsReadWhole (input (S.left source.old) (S.given source.old) (S.fault_count source.old)) (input (S.left source.new) (S.given source.new) (S.fault_count source.new)) bytes × Spells bytes script) }
+    ensures unread { IfErr result (IsUnread (input (S.left source.old) (S.given source.old) (S.fault_count source.old)) (input (S.left source.new) (S.given source.new) (S.fault_count source.new))) }
+{
+    let bytes = read_all(alloc, source, LONGEST_INPUT)?;
+    Ok(read_script(alloc, bytes.as_slice())?)
+}
+
+// Runs a script, and writes its replies.
+fn run_script<K: Sink>(
+    alloc: Global,
+    script: Script,
+    sink: &mut K,
+    left: &mut Option<World<JcrLaw>>,
+) -> Status
+    requires within { IsWithin script }
+    requires none { IsNone left.old }
+    ensures ran { IfSome left.new (HasRun script) }
+    ensures replies { Prints (output (K.written sink.old) (K.fault_count sink.old)) (output (K.written sink.new) (K.fault_count sink.new)) left.new result }
+{
+    let Ok(world) = run_steps(alloc, script) else {
+        return Status::Memory;
+    };
+    let text = lines(alloc, world.journal());
+    *left = Some(world);
+    match text {
+        Ok(text) => written(sink, text.as_slice(), Status::Done),
+        Err(AllocError) => Status::Memory,
+    }
+}
+
+// Writes the line that says why no script is run; none where memory was refused.
+fn unrun<K: Sink>(alloc: Global, sink: &mut K, why: &Unrun) -> Status
+    ensures { Faults (output (K.written sink.old) (K.fault_count sink.old)) (output (K.written sink.new) (K.fault_count sink.new)) why.now result }
+{
+    match why {
+        Unrun::Words => written(sink, "bad words\n".as_bytes(), Status::Words),
+        Unrun::Script { rule, pointer } => broken(alloc, sink, *rule, pointer),
+        Unrun::ReadFault => written(sink, "read fault\n".as_bytes(), Status::ReadFault),
+        Unrun::TooLong => written(sink, "too long\n".as_bytes(), Status::TooLong),
+        Unrun::Memory => Status::Memory,
+    }
+}
+
+// Writes the line of a broken script.
+fn broken<K: Sink>(alloc: Global, sink: &mut K, rule: u8, pointer: &Text) -> Status
+    ensures { Faults (output (K.written sink.old) (K.fault_count sink.old)) (output (K.written sink.new) (K.fault_count sink.new)) (unrun.Script rule pointer.now) result }
+{
+    match script_line(alloc, rule, pointer) {
+        Ok(line) => written(sink, line.as_bytes(), Status::Script),
+        Err(AllocError) => Status::Memory,
+    }
+}
+
+// Writes the bytes and flushes, and answers the status, or that the sink failed.
+fn written<K: Sink>(sink: &mut K, bytes: &[u8], status: Status) -> Status
+    ensures { Tells (output (K.written sink.old) (K.fault_count sink.old)) (output (K.written sink.new) (K.fault_count sink.new)) bytes.now status result }
+{
+    match write_all(sink, bytes) {
+        Err(Failed) => Status::WriteFault,
+        Ok(()) => match sink.flush() {
+            Err(Failed) => Status::WriteFault,
+            Ok(()) => status,
+        },
+    }
+}
