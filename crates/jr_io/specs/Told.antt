@@ -1,6 +1,6 @@
 -- What the calls do to the bytes that a source has left and that a sink has taken, where the source or the
 -- sink tells them: Some list of bytes, and None where it doesn't tell, before a call and after it.
-use Rattle.std.specs.Prelude.{◌≡◌, ℕ, ◌<◌, ◌≤◌, List, [], ◌++◌, Option, Some, None, length, take, drop}
+use Rattle.std.specs.Prelude.{◌≡◌, ℕ, ◌<◌, ◌≤◌, List, [], ◌++◌, Option, Some, None, length, option_map, take, drop}
 
 -- the first n bytes left were moved into the buffer, and none into a buffer with room only where none is left
 abbrev pub Moves : Option (List ℕ) → Option (List ℕ) → List ℕ → ℕ → Type 0
@@ -27,3 +27,7 @@ Grows (Some written) after piece n = after ≡ Some (written ++ take n piece)
 -- some first bytes of the piece were taken, but not all
 abbrev pub GrowsByPart : Option (List ℕ) → Option (List ℕ) → List ℕ → Type 0
 GrowsByPart before after piece = (n : ℕ) × (n < length piece) × Grows before after piece n
+
+-- all of the bytes taken were passed on
+abbrev pub IsPassedOn : Option (List ℕ) → Option ℕ → Type 0
+IsPassedOn written passed = passed ≡ option_map length written

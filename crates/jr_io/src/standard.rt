@@ -68,8 +68,9 @@ impl<R: Read> Source for StdSource<R> {
     }
 }
 
-/// A writer of std, as the standard output, as a sink. It tells nothing of the bytes taken, and
-/// counts as a fault each error of the writer, and a write that takes no byte of some.
+/// A writer of std, as the standard output, as a sink. It tells nothing of the bytes taken, nor
+/// of those passed on, and counts as a fault each error of the writer, and a write that takes no
+/// byte of some.
 #[derive(Drop)]
 pub struct StdSink<W> {
     inner: W,
@@ -95,6 +96,8 @@ impl<W: Write> StdSink<W> {
 
 impl<W: Write> Sink for StdSink<W> {
     ghost written = { λ s. None };
+
+    ghost passed = { λ s. None };
 
     ghost fault_count = { λ s. s.faults };
 
