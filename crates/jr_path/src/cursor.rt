@@ -2,15 +2,15 @@
 ghost use Rattle.std.specs.Prelude.{◌≡◌, ◌∷◌, ◌++◌, [], MatchOption};
 ghost use Rattle.std.specs.Ordering.{nat_cmp};
 ghost use Rattle.std.specs.Cmp.Lexicographic.{slice_cmp};
-ghost use Rattle.jr_path.specs.Ids.{joined};
+ghost use Rattle.jr_path.specs.Ids.{joined, path_text};
 
-use crate::Name;
+use crate::{Name, Path};
 use std::cmp::Ordering;
 use std::marker::Model;
 
-// What is left of the text of some names, each after a slash.
+// What is left of a text: bytes, then names, each after a slash.
 #[derive(Drop)]
-struct Cursor<'a> {
+pub(crate) struct Cursor<'a> {
     bytes: &'a [u8],
     names: &'a [Name],
 }
@@ -25,10 +25,22 @@ impl<'a> Model for Cursor<'a> {
 }
 
 impl<'a> Cursor<'a> {
+    // The text of names, each after a slash.
     fn new(names: &'a [Name]) -> Cursor<'a>
         ensures { result ≡ joined names.now }
     {
         Cursor { bytes: &[], names }
+    }
+
+    // The text of a path.
+    pub(crate) fn of(path: &'a Path) -> Cursor<'a>
+        ensures { result ≡ path_text path.now }
+    {
+        let names = path.names();
+        match names {
+            [] => Cursor { bytes: b"/", names },
+            _ => Cursor { bytes: &[], names },
+        }
     }
 
     fn next(&mut self) -> Option<u8>
@@ -49,24 +61,29 @@ impl<'a> Cursor<'a> {
             },
         }
     }
+
+    // The order of what is left of two texts, by bytes.
+    pub(crate) fn cmp(mut self, mut other: Cursor<'a>) -> Ordering
+        ensures { result ≡ slice_cmp nat_cmp self.entry other.entry }
+    {
+        loop {
+            match (self.next(), other.next()) {
+                (None, None) => return Ordering::Equal,
+                (None, Some(_)) => return Ordering::Less,
+                (Some(_), None) => return Ordering::Greater,
+                (Some(x), Some(y)) => {
+                    if x != y {
+                        return x.cmp(&y);
+                    }
+                }
+            }
+        }
+    }
 }
 
 // The order of the texts of names, each after a slash, by bytes.
 pub(crate) fn text_cmp(a: &[Name], b: &[Name]) -> Ordering
     ensures { result ≡ slice_cmp nat_cmp (joined a.now) (joined b.now) }
 {
-    let mut left = Cursor::new(a);
-    let mut right = Cursor::new(b);
-    loop {
-        match (left.next(), right.next()) {
-            (None, None) => return Ordering::Equal,
-            (None, Some(_)) => return Ordering::Less,
-            (Some(_), None) => return Ordering::Greater,
-            (Some(x), Some(y)) => {
-                if x != y {
-                    return x.cmp(&y);
-                }
-            }
-        }
-    }
+    Cursor::new(a).cmp(Cursor::new(b))
 }

@@ -1,13 +1,15 @@
 // Paths, items, and the ids of documents in store order.
 ghost use Rattle.std.specs.Prelude.{◌≡◌, ◌≤◌, ◌++◌, ◌∷◌, [], All, IfErr, IfOk, OnErr, OnOk, length, take};
+ghost use Rattle.std.specs.Cmp.Lexicographic.{slice_cmp};
 ghost use Rattle.std.specs.Option.{option_copied};
+ghost use Rattle.std.specs.Ordering.{nat_cmp};
 ghost use Rattle.std.specs.String.{string_bytes};
 ghost use Rattle.jr_path.specs.Names.{parent_of, last_name, is_under};
 ghost use Rattle.jr_path.specs.Ids.{path_text, id_text, node_cmp as node_order};
 ghost use Rattle.jr_path.specs.Grammar.{IsName};
 ghost use Rattle.jr_path.specs.Paths.{IsPath, Measures, RefusesPath, RefusesText};
 
-use crate::cursor::text_cmp;
+use crate::cursor::{Cursor, text_cmp};
 use crate::path_text::read_unlimited;
 use crate::{DeepCopy, Name, PathFault, PathText};
 use std::alloc::{AllocError, Global};
@@ -159,6 +161,15 @@ impl Path {
             text.push_str(name.as_str())?;
         }
         Ok(text)
+    }
+
+    /// Which of the texts of two paths comes first, by bytes, as queries order paths (JSR 283, 3.6.5
+    /// Comparison of Values). Path order is another: `/a!/b` comes before `/a/b` here and behind it there.
+    /// It takes no memory.
+    pub fn cmp_text(&self, other: &Path) -> Ordering
+        ensures { result ≡ slice_cmp nat_cmp (path_text self.now) (path_text other.now) }
+    {
+        Cursor::of(self).cmp(Cursor::of(other))
     }
 }
 
