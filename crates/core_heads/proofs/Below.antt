@@ -8,8 +8,7 @@ use mathlib.Core.Bool.{false≢true}
 use Rattle.jr_rev.specs.declared.revision.Revision.{Revision}
 use Rattle.jr_rev.specs.declared.vector.RevVec.{RevVec}
 use Rattle.jr_rev.specs.Revisions.{is_at_most}
-use Rattle.jr_rev.specs.Vectors.{Entries, entry, sees, start, start_of, with_entry, stands_from, is_entry_below, is_below}
-use Rattle.oak_doc.specs.Updates.{raised}
+use Rattle.jr_rev.specs.Vectors.{Entries, entry, sees, start, start_of, with_entry, stands_from, is_entry_below, is_below, raised}
 use Rattle.core_read.proofs.Latest.{at_most_trans}
 use Rattle.core_heads.proofs.Orders.{and_both, and_true, at_most_itself, same_number, same_itself}
 use Rattle.core_heads.proofs.Entries.{entry_at}

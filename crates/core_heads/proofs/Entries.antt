@@ -10,8 +10,7 @@ use mathlib.Core.Bool.{false≢true}
 use Rattle.jr_rev.specs.declared.revision.Revision.{Revision}
 use Rattle.jr_rev.specs.declared.vector.RevVec.{RevVec}
 use Rattle.jr_rev.specs.Revisions.{is_at_most}
-use Rattle.jr_rev.specs.Vectors.{Entries, entry, sees, with_entry, start, start_of}
-use Rattle.oak_doc.specs.Updates.{raised}
+use Rattle.jr_rev.specs.Vectors.{Entries, entry, sees, with_entry, start, start_of, raised}
 use Rattle.oak_machine.specs.Heads.{greatest_time}
 use Rattle.core_read.proofs.Latest.{at_most_trans}
 use Rattle.core_heads.proofs.Orders.{not_both, at_most_time, not_at_most}

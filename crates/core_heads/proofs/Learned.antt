@@ -6,8 +6,7 @@ use Rattle.std.proofs.lemmas.Bool.Decides.{nat_tests}
 use Rattle.jr_rev.specs.declared.revision.Revision.{Revision}
 use Rattle.jr_rev.specs.declared.vector.RevVec.{RevVec}
 use Rattle.jr_rev.specs.Revisions.{is_at_most}
-use Rattle.jr_rev.specs.Vectors.{sees, stands_from}
-use Rattle.oak_doc.specs.Updates.{raised}
+use Rattle.jr_rev.specs.Vectors.{sees, stands_from, raised}
 use Rattle.core_heads.proofs.Orders.{not_both, same_number}
 use Rattle.core_heads.proofs.Below.{raised_stands}
 use Rattle.core_heads.proofs.Entries.{seen_raised, raised_sees, raised_own, raised_length}

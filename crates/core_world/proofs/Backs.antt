@@ -14,7 +14,7 @@ use Rattle.jr_rev.specs.Revisions.{is_at_most}
 use Rattle.oak_doc.specs.declared.document.Document.{Document}
 use Rattle.oak_doc.specs.declared.update.UpdateOp.{UpdateOp}
 use Rattle.oak_doc.specs.declared.update.OpFault.TheVariants as fault
-use Rattle.oak_doc.specs.Updates.{after_changes, is_met, raised, refusal, updated}
+use Rattle.oak_doc.specs.Updates.{after_changes, is_met, refusal, updated}
 use Rattle.oak_machine.specs.declared.event.Event.{Event}
 use Rattle.oak_machine.specs.declared.event.Event.TheVariants as event
 use Rattle.oak_machine.specs.declared.event.StepKind.TheVariants as kind
@@ -35,7 +35,7 @@ use Rattle.core_heads.proofs.Entries.{still_seen}
 use Rattle.core_heads.proofs.Later.{published_is}
 use Rattle.core_heads.proofs.Runs.{moments_run, sound_run}
 use Rattle.core_nodes.proofs.Vectors.{right_seen}
-use Rattle.jr_rev.specs.Vectors.{greatest, sees}
+use Rattle.jr_rev.specs.Vectors.{greatest, sees, raised}
 use Rattle.core_clash.specs.Core.{is_quiet}
 use Rattle.core_nodes.proofs.Memories.{own_is}
 use Rattle.core_nodes.specs.Nodes.{IsMemoryOf, IsOnRoot, is_of_node, leaves_memory, moved_pin}

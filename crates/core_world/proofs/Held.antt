@@ -16,12 +16,12 @@ use Rattle.jr_path.specs.Names.{name_cmp}
 use Rattle.jr_rev.specs.declared.revision.Revision.{Revision}
 use Rattle.jr_rev.specs.declared.vector.Pin.{Pin}
 use Rattle.jr_rev.specs.declared.vector.RevVec.{RevVec}
-use Rattle.jr_rev.specs.Vectors.{is_below}
+use Rattle.jr_rev.specs.Vectors.{is_below, raised}
 use Rattle.jr_rev.proofs.Bounds.{below_itself, greatest_left}
 use Rattle.oak_doc.specs.declared.document.Document.{Document}
 use Rattle.oak_doc.specs.declared.update.Change.{Change}
 use Rattle.oak_doc.specs.declared.update.Change.TheVariants as change
-use Rattle.oak_doc.specs.Updates.{after_changes, raised}
+use Rattle.oak_doc.specs.Updates.{after_changes}
 use Rattle.oak_machine.specs.declared.event.Event.TheVariants as event
 use Rattle.oak_machine.specs.Heads.{head_of}
 use Rattle.oak_machine.specs.History.{Past}

@@ -11,7 +11,7 @@ use Rattle.jr_path.specs.declared.path.DocId.TheVariants as id
 use Rattle.jr_rev.specs.declared.revision.Revision.{Revision}
 use Rattle.jr_rev.specs.declared.vector.RevVec.{RevVec}
 use Rattle.jr_rev.specs.Revisions.{is_at_most}
-use Rattle.jr_rev.specs.Vectors.{sees, start, start_of}
+use Rattle.jr_rev.specs.Vectors.{sees, start, start_of, raised}
 use Rattle.jr_tree.specs.declared.edit.Write.{Write}
 use Rattle.jr_tree.specs.declared.edit.Write.TheVariants.{Here, Gone, Put, Unset}
 use Rattle.oak_clash.specs.Clashes.{commit_root, marks_at}
@@ -28,7 +28,7 @@ use Rattle.oak_doc.specs.declared.update.Field.TheVariants as field
 use Rattle.oak_doc.specs.declared.update.OpFault.{OpFault}
 use Rattle.oak_doc.specs.declared.update.OpFault.TheVariants as fault
 use Rattle.oak_doc.specs.declared.update.UpdateOp.{UpdateOp}
-use Rattle.oak_doc.specs.Updates.{after_changes, changed, is_met, pruned, raised, refusal, undone}
+use Rattle.oak_doc.specs.Updates.{after_changes, changed, is_met, pruned, refusal, undone}
 use Rattle.oak_machine.specs.declared.event.Event.{Event}
 use Rattle.oak_machine.specs.declared.event.Event.TheVariants as event
 use Rattle.oak_machine.specs.History.{Past}

@@ -23,7 +23,8 @@ use Rattle.oak_doc.specs.declared.update.OpFault.TheVariants as fault
 use Rattle.oak_doc.specs.declared.update.Kept.TheVariants as kept
 use Rattle.oak_doc.specs.declared.update.Change.{Change}
 use Rattle.oak_doc.specs.declared.update.Change.TheVariants as change
-use Rattle.oak_doc.specs.Updates.{raised, updated}
+use Rattle.jr_rev.specs.Vectors.{raised}
+use Rattle.oak_doc.specs.Updates.{updated}
 use Rattle.oak_machine.specs.declared.event.Draw.{Draw}
 use Rattle.oak_machine.specs.declared.event.Event.TheVariants as event
 use Rattle.oak_machine.specs.declared.event.StepKind.{StepKind}

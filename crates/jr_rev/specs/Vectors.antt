@@ -1,5 +1,5 @@
 -- Revision vectors: for each cluster node at most one revision.
-use Rattle.std.specs.Prelude.{◌≡◌, ℕ, ◌+◌, ◌-◌, Bool, true, false, cond, ◌&&◌, ◌==◌, nat_le, List, [], ◌∷◌, map, length, slice_get, slice_set, Option, None, Some, IsTrue}
+use Rattle.std.specs.Prelude.{◌≡◌, ℕ, ◌+◌, ◌-◌, Bool, true, false, cond, not, ◌&&◌, ◌||◌, ◌==◌, nat_le, List, [], ◌∷◌, map, length, slice_get, slice_set, Option, None, Some, IsTrue}
 use Rattle.std.specs.List.{filter_map}
 use Rattle.std.specs.Option.{option_flatten, option_map_or}
 use Rattle.jr_rev.specs.declared.revision.Revision.{Revision}
@@ -20,6 +20,11 @@ with_entry v r = slice_set v (r.cluster - 1) (Some r)
 -- v sees r: it has an entry for the cluster node of r, and r is at most that entry
 abbrev pub sees : Entries → Revision → Bool
 sees v r = option_map_or (is_at_most r) (entry v r.cluster) false
+
+-- v, with the entry of the cluster node of r raised to r. An entry is never lowered, and of no other
+-- cluster node than 1 to 8 nothing changes
+abbrev pub raised : Entries → Revision → Entries
+raised v r = cond (r.cluster == 0 || not (nat_le r.cluster 8) || sees v r) v (with_entry v r)
 
 -- an entry of v is at most that of w; a missing one is least
 abbrev pub is_entry_below : Option Revision → Option Revision → Bool

@@ -12,7 +12,7 @@ use Rattle.jr_value.specs.declared.value.Property.{Property}
 use Rattle.jr_rev.specs.declared.revision.Revision.{Revision}
 use Rattle.jr_rev.specs.declared.vector.RevVec.{RevVec}
 use Rattle.jr_rev.specs.Revisions.{revision_cmp, is_same}
-use Rattle.jr_rev.specs.Vectors.{sees, with_entry, no_entries}
+use Rattle.jr_rev.specs.Vectors.{no_entries, raised}
 use Rattle.oak_doc.specs.declared.document.Document.{Document}
 use Rattle.oak_doc.specs.declared.update.UpdateOp.{UpdateOp}
 use Rattle.oak_doc.specs.declared.update.Cond.{Cond}
@@ -54,10 +54,6 @@ with_values ps n (e ∷ es) = insert_entry name_cmp ps n (e ∷ es)
 -- each property without a value for a revision; one that is left without a value is left out
 abbrev pub props_without_revision : Revision → Props → Props
 props_without_revision r ps = filter (λ p. not (nat_eq (length p.1) 0)) (map (λ p. (p.0, without_revision r p.1)) ps)
-
--- an entry of a vector is raised and never lowered; of no other cluster node than 1 to 8
-abbrev pub raised : RevVec → Revision → RevVec
-raised v r = cond (r.cluster == 0 || not (nat_le r.cluster 8) || sees v r) v (with_entry v r)
 
 -- without one entry
 abbrev pub pruned : Document → EntryKey → Document

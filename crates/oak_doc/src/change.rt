@@ -1,11 +1,11 @@
 // The changes of a document.
 ghost use Rattle.std.specs.Prelude.{◌≡◌, OnOk, not, nat_eq, ◌==◌, length, filter, fold};
-ghost use Rattle.oak_doc.specs.Updates.{changed, pruned, raised, undone, with_values, with_revision, without_revision, values_of_property, props_without_revision};
+ghost use Rattle.oak_doc.specs.Updates.{changed, pruned, undone, with_values, with_revision, without_revision, values_of_property, props_without_revision};
 ghost use Rattle.oak_doc.specs.declared.update.Change.TheVariants.{Undo};
 
 use crate::{Change, Document, EntryKey, Field, PrevEntry};
 use jr_path::{DeepCopy, Keyed, List, Name};
-use jr_rev::{RevVec, Revision};
+use jr_rev::Revision;
 use jr_value::Property;
 use std::alloc::{AllocError, Global};
 
@@ -60,8 +60,8 @@ pub(crate) fn apply_change(
             document.prev.inner_mut().insert(0, *entry)?;
         }
         Change::Unlist(number) => unlist(&mut document.prev, *number),
-        Change::LastRev(r) => raise(&mut document.last_rev, *r),
-        Change::SweepRev(r) => raise(&mut document.sweep_rev, *r),
+        Change::LastRev(r) => document.last_rev.raise(*r),
+        Change::SweepRev(r) => document.sweep_rev.raise(*r),
         Change::Checkpoint(id, pin) => {
             document.checkpoints.put(id.copy()?, *pin)?;
         }
@@ -81,19 +81,6 @@ fn unlist(prev: &mut List<PrevEntry>, number: u64)
     ensures { prev.new ≡ filter (λ e. not (e.number == number)) prev.old }
 {
     prev.inner_mut().retain(|entry| entry.number != number);
-}
-
-// Raises the entry of the revision's cluster node, 1 to 8, to the revision.
-fn raise(vector: &mut RevVec, r: Revision)
-    ensures { vector.new ≡ raised vector.old r }
-{
-    if r.cluster == 0 || r.cluster > 8 {
-        return;
-    }
-    if vector.sees(r) {
-        return;
-    }
-    vector.set(r);
 }
 
 // Drops every entry of a revision but those in `_collisions`.

@@ -5,7 +5,7 @@ use Rattle.jr_path.specs.declared.path.Item.{Item}
 use Rattle.jr_path.specs.declared.text.Text.{Text}
 use Rattle.jr_rev.specs.declared.revision.Revision.{Revision}
 use Rattle.jr_rev.specs.declared.vector.RevVec.{RevVec}
-use Rattle.jr_rev.specs.Vectors.{is_below}
+use Rattle.jr_rev.specs.Vectors.{is_below, raised}
 use Rattle.jr_rev.specs.Revisions.{is_at_most}
 use Rattle.jr_tree.specs.declared.edit.Edit.{Edit}
 use Rattle.oak_clash.specs.declared.mark.MarkAt.{MarkAt}
@@ -13,7 +13,6 @@ use Rattle.oak_clash.specs.Clashes.{Meets}
 use Rattle.oak_doc.specs.declared.asks.SplitEnd.{SplitEnd}
 use Rattle.oak_doc.specs.declared.asks.SplitEnd.TheVariants as split
 use Rattle.oak_doc.specs.declared.asks.Collected.{Collected}
-use Rattle.oak_doc.specs.Updates.{raised}
 use Rattle.oak_machine.specs.declared.event.Draw.{Draw}
 use Rattle.oak_machine.specs.declared.event.Event.{Event}
 use Rattle.oak_machine.specs.declared.event.Event.TheVariants as event

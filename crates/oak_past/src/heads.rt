@@ -2,7 +2,6 @@
 ghost use Rattle.std.specs.Prelude.{◌≡◌, ◌≤◌, ◌↔◌, IsTrue, is_some, reverse};
 ghost use Rattle.std.specs.Option.{option_map_or};
 ghost use Rattle.jr_rev.specs.Vectors.{entry};
-ghost use Rattle.oak_doc.specs.Updates.{raised};
 ghost use Rattle.oak_machine.specs.Runs.{IsNode, learned};
 ghost use Rattle.oak_machine.specs.History.{begin_at, begin_of, history_of};
 ghost use Rattle.oak_machine.specs.Heads.{below_flying, greater_of, greatest_time, head_of, is_below_flying, is_flying, last_draw_time, last_in, local, local_head, next_draw, published};
@@ -183,23 +182,10 @@ pub(crate) fn learned(journal: &Journal, now: &[Event], earlier: &[Event], clust
     let mut vector = head_of(journal, now, cluster);
     for other in 1..journal.clusters + 1 {
         if other != cluster {
-            raise(&mut vector, published(journal, earlier, other));
+            vector.raise(published(journal, earlier, other));
         }
     }
     vector
-}
-
-// Raises the entry of a revision's cluster node, 1 to 8, to the revision.
-fn raise(vector: &mut RevVec, r: Revision)
-    ensures { vector.new ≡ raised vector.old r }
-{
-    if r.cluster == 0 || r.cluster > 8 {
-        return;
-    }
-    if vector.sees(r) {
-        return;
-    }
-    vector.set(r);
 }
 
 // The time of the last draw of a cluster node.

@@ -10,14 +10,13 @@ use Rattle.jr_path.specs.declared.path.Path.{Path}
 use Rattle.jr_path.specs.declared.path.DocId.{DocId}
 use Rattle.jr_path.specs.declared.path.DocId.TheVariants as id
 use Rattle.jr_rev.specs.declared.revision.Revision.{Revision}
-use Rattle.jr_rev.specs.Vectors.{Entries, IsVector, greatest, no_entries}
+use Rattle.jr_rev.specs.Vectors.{Entries, IsVector, greatest, no_entries, raised}
 use Rattle.oak_doc.specs.declared.document.Document.{Document}
 use Rattle.oak_doc.specs.declared.asks.Ask.{Ask}
 use Rattle.oak_doc.specs.declared.asks.Ask.TheVariants as ask
 use Rattle.oak_doc.specs.declared.asks.MemoryAsk.TheVariants as memory
 use Rattle.oak_doc.specs.declared.asks.Reply.{Reply}
 use Rattle.oak_doc.specs.declared.asks.Reply.TheVariants as reply
-use Rattle.oak_doc.specs.Updates.{raised}
 use Rattle.oak_read.specs.Meaning.{documents_in}
 use Rattle.oak_read.specs.Reading as reading
 use Rattle.oak_sweep.specs.Sweeping.{begun, due, fed, node_path, sweep_op, target_in}

@@ -6,7 +6,7 @@ use Rattle.jr_path.specs.declared.path.Path.{Path}
 use Rattle.jr_path.specs.declared.path.DocId.{DocId}
 use Rattle.jr_path.specs.declared.path.DocId.TheVariants as id
 use Rattle.jr_rev.specs.declared.revision.Revision.{Revision}
-use Rattle.jr_rev.specs.Vectors.{entry, no_entries, start_of}
+use Rattle.jr_rev.specs.Vectors.{entry, no_entries, start_of, raised}
 use Rattle.oak_doc.specs.declared.document.Document.{Document}
 use Rattle.oak_doc.specs.declared.asks.Ask.{Ask}
 use Rattle.oak_doc.specs.declared.asks.Ask.TheVariants as ask
@@ -15,7 +15,6 @@ use Rattle.oak_doc.specs.declared.asks.Reply.{Reply}
 use Rattle.oak_doc.specs.declared.asks.Reply.TheVariants as reply
 use Rattle.oak_doc.specs.declared.update.UpdateOp.{UpdateOp}
 use Rattle.oak_doc.specs.declared.update.Change.TheVariants as change
-use Rattle.oak_doc.specs.Updates.{raised}
 use Rattle.oak_sweep.specs.declared.sweeper.Sweeper.{Sweeper}
 use Rattle.oak_sweep.specs.declared.sweeper.Step.{Step}
 use Rattle.oak_sweep.specs.declared.sweeper.Step.TheVariants as step

@@ -3,8 +3,7 @@ ghost use Rattle.std.specs.Prelude.{◌≡◌, ◌↔◌, IfOk, IsOk, IsTrue};
 ghost use Rattle.std.specs.Option.{option_copied};
 ghost use Rattle.oak_doc.specs.declared.asks.Ask.TheVariants as ask;
 ghost use Rattle.oak_doc.specs.declared.asks.Reply.TheVariants.{Found, Learnt};
-ghost use Rattle.oak_doc.specs.Updates.{raised};
-ghost use Rattle.jr_rev.specs.Vectors.{no_entries};
+ghost use Rattle.jr_rev.specs.Vectors.{no_entries, raised};
 ghost use Rattle.oak_sweep.specs.Sweeping.{begun, due, fed, node_of, passed, stage_of, sweep_op, target_in, told};
 
 use crate::Stage;
@@ -213,8 +212,6 @@ fn alone(r: Revision) -> RevVec
     ensures { result ≡ raised no_entries r }
 {
     let mut vector = RevVec::none();
-    if 1 <= r.cluster && r.cluster <= 8 {
-        vector.set(r);
-    }
+    vector.raise(r);
     vector
 }

@@ -15,7 +15,8 @@ use Rattle.oak_doc.specs.declared.asks.MemoryAsk.TheVariants as memory
 use Rattle.oak_doc.specs.declared.asks.Reply.{Reply}
 use Rattle.oak_doc.specs.declared.asks.Reply.TheVariants as reply
 use Rattle.oak_doc.specs.declared.update.OpFault.{OpFault}
-use Rattle.oak_doc.specs.Updates.{raised, updated}
+use Rattle.jr_rev.specs.Vectors.{raised}
+use Rattle.oak_doc.specs.Updates.{updated}
 use Rattle.oak_node.specs.declared.pending.Pending.{Pending}
 use Rattle.oak_sync.specs.Upward.{is_upward}
 use Rattle.oak_sync.specs.Publishing as publishing

@@ -1,5 +1,5 @@
 use Rattle.std.proofs.Common.{◌∙◌, ◌+◌, ◌==◌, ap, cond, reverse}
-use Rattle.oak_doc.specs.Updates.{raised}
+use Rattle.jr_rev.specs.Vectors.{raised}
 use Rattle.oak_machine.specs.Heads.{published}
 use Rattle.oak_machine.proofs.Ranges.{fold_further, unless_same, where_same}
 use Rattle.oak_past.proofs.heads.learned.Goals as goal

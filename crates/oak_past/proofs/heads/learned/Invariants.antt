@@ -1,6 +1,6 @@
 use Rattle.std.proofs.Common.{◌≡◌, ◌+◌, ◌-◌, ◌==◌, cond, reverse}
 use Rattle.std.specs.List.{fold, range_with_len}
-use Rattle.oak_doc.specs.Updates.{raised}
+use Rattle.jr_rev.specs.Vectors.{raised}
 use Rattle.oak_machine.specs.Runs.{learned}
 use Rattle.oak_machine.specs.Heads.{published}
 use Rattle.oak_past.proofs.heads.learned.Given as goal
