@@ -1,5 +1,4 @@
 mod Rows
-mod Upward
 mod Frozen
 mod Refused
 mod LockEdits

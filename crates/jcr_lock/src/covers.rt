@@ -9,8 +9,7 @@ ghost use Rattle.jr_tree.specs.Trees.{property_at};
 ghost use Rattle.jcr_lock.specs.Locks.{bars, frozen_by, is_held, is_lock, lock_covers, locked_by};
 ghost use Rattle.jcr_lock.specs.Names.{lock_names};
 
-use crate::items::{has_mixin, is_flag, one_text, upward};
-use jr_items::OwnName;
+use jr_items::{OwnName, has_mixin, is_flag, is_same_text, one_text, upward};
 use jr_path::{DeepCopy, Name, Path};
 use jr_tree::Tree;
 use std::alloc::{AllocError, Global};
@@ -155,17 +154,11 @@ fn is_among(owner: &str, tokens: &[String]) -> bool
     ensures { result ≡ list_any (same_bytes owner.now) (map string_bytes tokens.now) }
 {
     for token in tokens {
-        if is_same(owner, token.as_str()) {
+        if is_same_text(owner, token.as_str()) {
             return true;
         }
     }
     false
-}
-
-fn is_same(text: &str, other: &str) -> bool
-    ensures { result ≡ same_bytes text.now other.now }
-{
-    text.cmp(other).is_eq()
 }
 
 // Whether the lock of the one node covers the other, and no token is its owner.

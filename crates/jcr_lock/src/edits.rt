@@ -11,8 +11,7 @@ ghost use Rattle.jcr_lock.specs.Names.{lock_names};
 ghost use Rattle.jcr_lock.specs.Needed.{has_names_in_order, has_property, is_needed};
 
 use crate::covers::{LockNames, covering_lock, is_held, is_lock};
-use crate::items::has_mixin;
-use jr_items::{OwnName, check_place, locked, no_item, unsupported};
+use jr_items::{OwnName, check_place, has_mixin, locked, no_item, unsupported};
 use jr_path::{DeepCopy, List, Name, Path, Text};
 use jr_tree::{Edit, Refusal, Tree, Write};
 use jr_value::{Property, Value};
@@ -127,8 +126,7 @@ fn first_lock(tree: &Tree, names: &LockNames, path: &Path) -> Result<Option<Path
     requires { names.now ≡ lock_names }
     ensures { IfOk result (λ found. found ≡ first_lock tree.now path.now) }
 {
-    let part = tree.subtree(path)?;
-    for (at, _) in part.iter() {
+    for (at, _) in &tree.under(path)? {
         if is_lock(tree, names, at) {
             return Ok(Some(at.copy()?));
         }

@@ -3,7 +3,6 @@
 
 mod covers;
 mod edits;
-mod items;
 
 pub use covers::{frozen_by, locked_by};
 pub use edits::{lock_edit, unlock_edit};

@@ -10,8 +10,8 @@ ghost use Rattle.jr_items.specs.Own.{own_name};
 ghost use Rattle.jcr_ref.specs.References.{identifier_of, uuid_text};
 ghost use Rattle.jcr_ref.specs.Histories.{BeginsHistory, begun, history_drawn, history_of, history_references, history_writes, identified_writes, joined, new_history, number_at, number_by, typed_writes, version_names, with_version};
 
-use crate::identifiers::{identifier_named, identifier_number, one_text, uuid_text};
-use jr_items::OwnName;
+use crate::identifiers::{identifier_named, identifier_number, uuid_text};
+use jr_items::{OwnName, one_text};
 use jr_path::{DeepCopy, Keyed, List, Name, Path, PathFault, Text};
 use jr_tree::{Tree, Who, Write};
 use jr_value::{Kind, Property, Value};

@@ -8,7 +8,7 @@ ghost use Rattle.jr_items.specs.Items.{one_text, same_path};
 ghost use Rattle.jr_items.specs.Names.{uuid};
 ghost use Rattle.jcr_ref.specs.References.{IsPathNamed, by_id, identifier, identifier_number, identifier_of, uuid_text};
 
-use jr_items::OwnName;
+use jr_items::{OwnName, is_same_text, one_text};
 use jr_path::{DeepCopy, Name, Path, PathFault};
 use jr_tree::Tree;
 use jr_value::{Property, Value};
@@ -51,7 +51,7 @@ pub(crate) fn is_uuid_text(number: u128, id: &str) -> bool
     let text = Uuid::from_u128(number)
         .hyphenated()
         .encode_lower(&mut buffer);
-    is_same(text, id)
+    is_same_text(text, id)
 }
 
 // The number of an identifier's hyphenated text.
@@ -64,22 +64,6 @@ pub(crate) fn identifier_named(text: &str) -> Option<u128>
     match Uuid::parse_str(text) {
         Ok(uuid) => Some(uuid.as_u128()),
         Err(_) => None,
-    }
-}
-
-pub(crate) fn is_same(text: &str, other: &str) -> bool
-    ensures { result ≡ same_bytes text.now other.now }
-{
-    text.cmp(other).is_eq()
-}
-
-// The text, where the property is one STRING.
-pub(crate) fn one_text(property: Option<&Property>) -> Option<&str>
-    ensures { option_copied result ≡ one_text (option_copied property.entry) }
-{
-    match property {
-        Some(Property::Single(Value::Str(text))) => Some(text.as_str()),
-        _ => None,
     }
 }
 
@@ -129,7 +113,7 @@ fn has_identifier(tree: &Tree, key: &Name, at: &Path, id: &str, named: Option<&P
     ensures { result ≡ same_bytes (identifier_of tree.now at.now) id.now }
 {
     match one_text(tree.property(at, key)) {
-        Some(text) => is_same(text, id),
+        Some(text) => is_same_text(text, id),
         None => {
             at.in_grammar();
             is_at(at, named)

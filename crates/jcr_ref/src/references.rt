@@ -8,8 +8,8 @@ ghost use Rattle.jr_value.specs.Values.{same_bytes};
 ghost use Rattle.jcr_ref.specs.References.{IsIndex, dangling, is_dangling, items_at, named_in, referrers, refers, target_of, uuid_text, with_identifier};
 ghost use Rattle.jcr_ref.specs.Targets.{IsReady};
 
-use crate::identifiers::{is_uuid_text, one_text, uuid_text};
-use jr_items::OwnName;
+use crate::identifiers::{is_uuid_text, uuid_text};
+use jr_items::{OwnName, one_text};
 use jr_path::{DeepCopy, Item, Keyed, Name, Path, Text};
 use jr_tree::{Node, Tree};
 use jr_value::{Property, Value};

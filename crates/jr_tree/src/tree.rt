@@ -190,8 +190,8 @@ impl Tree {
         self.nodes.iter()
     }
 
-    // The nodes at or below a path, which stand one after another in path order.
-    fn under<'a>(&'a self, path: &Path) -> Result<Vec<(&'a Path, &'a Node)>, AllocError>
+    /// The nodes at or below a path, lent, with their paths from the root, in path order. It looks only at these.
+    pub fn under<'a>(&'a self, path: &Path) -> Result<Vec<(&'a Path, &'a Node)>, AllocError>
         ensures { IfOk result (λ found. map deref_pair found.items ≡ subtree_of self.now path.now) }
     {
         let mut found = Vec::new(self.alloc);

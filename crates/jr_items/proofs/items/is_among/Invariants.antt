@@ -1,7 +1,7 @@
 use Rattle.std.proofs.Common.{◌≡◌, drop}
 use Rattle.std.specs.List.{filter_map, list_any}
 use Rattle.jr_items.specs.Items.{name_in, same_name}
-use Rattle.jcr_lock.proofs.items.is_among.Given as goal
+use Rattle.jr_items.proofs.items.is_among.Given as goal
 
 -- what is left decides
 abbrev pub invariant-loop-value : goal.invariant-loop-value

@@ -1,7 +1,7 @@
 use Rattle.std.proofs.Common.{◌+◌, ◌-◌, take, arith, ap, ◌∙◌}
-use Rattle.jcr_lock.proofs.Upward.{upward_more, upward_all}
-use Rattle.jcr_lock.proofs.items.upward.Goals as goal
-use Rattle.jcr_lock.proofs.items.upward.Goals.{else-loop-above-test, then-loop-above-test+in_ok-prefix+in_ok-push+else-above-depth}
+use Rattle.jr_items.proofs.Upward.{upward_more, upward_all}
+use Rattle.jr_items.proofs.items.upward.Goals as goal
+use Rattle.jr_items.proofs.items.upward.Goals.{else-loop-above-test, then-loop-above-test+in_ok-prefix+in_ok-push+else-above-depth}
 
 pub loop-above-preserved : goal.loop-above-preserved
 loop-above-preserved c =
