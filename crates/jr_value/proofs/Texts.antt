@@ -8,9 +8,11 @@ use Rattle.jr_path.specs.declared.fault.PathFault.TheVariants.{BadName, BadPath,
 use Rattle.jr_path.specs.Grammar.{IsFirstFault, IsName, RefusesName}
 use Rattle.jr_path.specs.Paths.{IsPath, IsPathText, RefusesPath}
 use Rattle.jr_path.proofs.Pieces.{one_path, names_from_all}
+use Rattle.jr_value.specs.declared.value.Kind.{Kind}
 use Rattle.jr_value.specs.declared.value.Kind.TheVariants as kind
 use Rattle.jr_value.specs.declared.value.Value.{Value}
 use Rattle.jr_value.specs.Reading.{IsFound, IsTagged, IsPathWithin}
+use Rattle.jr_value.specs.Texts.{IsText}
 
 -- a text with a first fault is not in the grammar
 pub fault_refuses : (Grammar : List ℕ → Type 0) (text : List ℕ) (offset : ℕ) → IsFirstFault Grammar text offset → Grammar text → ⊥
@@ -50,3 +52,16 @@ no_path text (BadName offset) path h other is = h
 
 pub path_refused : (text : List ℕ) (e : PathFault) (o : Option Value) → RefusesPath text e → (o ≡ None) × (e ≢ Memory) → IsFound (IsTagged kind.Path (string text)) o
 path_refused text e o refused h = rw h.0 (λ x g. no_path text e g.0 refused h.1 g.1)
+
+-- a text behind the word of a kind is read as the text by itself is
+pub tagged_found : (k : Kind) (text : List ℕ) (o : Option Value) → k ≢ kind.Str → k ≢ kind.Long → k ≢ kind.Date → k ≢ kind.Boolean → IsFound (IsText k text) o → IsFound (IsTagged k (string text)) o
+tagged_found kind.Str text o a b c d h = absurd (a refl)
+tagged_found kind.Long text o a b c d h = absurd (b refl)
+tagged_found kind.Date text o a b c d h = absurd (c refl)
+tagged_found kind.Boolean text o a b c d h = absurd (d refl)
+tagged_found kind.Binary text o a b c d h = h
+tagged_found kind.Name text o a b c d h = h
+tagged_found kind.Path text o a b c d h = h
+tagged_found kind.Reference text o a b c d h = h
+tagged_found kind.WeakReference text o a b c d h = h
+tagged_found kind.Uri text o a b c d h = h

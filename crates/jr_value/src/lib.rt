@@ -1,10 +1,11 @@
-//! Values and properties (JSR 283, 3.6 Value and 3.5 Property): their kinds, equality, order and copies, and
-//! their JSON both ways.
+//! Values and properties (JSR 283, 3.6 Value and 3.5 Property): their kinds, equality, order and copies,
+//! their JSON both ways, and values from their texts.
 #![tactic(auto)]
 
 mod copies;
 mod equality;
 mod fault;
+mod from_text;
 mod laws;
 mod order;
 mod reading;
@@ -13,6 +14,7 @@ mod writing;
 
 pub use equality::{same_properties_are_equal, same_values_are_equal};
 pub use fault::ValueFault;
+pub use from_text::{identifier_named, name_of, path_of, whole_number};
 pub use laws::{
     identifiers_order_as_their_texts, json_is_at_most_one_property,
     printed_properties_are_read_back,

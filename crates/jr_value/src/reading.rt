@@ -1,22 +1,19 @@
 // Values and properties from their JSON.
-ghost use Rattle.std.specs.Prelude.{◌≡◌, ◌≢◌, ◌==◌, IfOk, IfErr, IsSome, List as Seq, None, MatchOption, option_map, string_bytes};
+ghost use Rattle.std.specs.Prelude.{◌≡◌, ◌==◌, IfOk, IfErr, IsSome, List as Seq, None, MatchOption, option_map, string_bytes};
 ghost use Rattle.serde_json.specs.Data.{array, object, string};
 ghost use Rattle.serde_json.specs.Find.{as_array, as_number};
 ghost use Rattle.serde_json.specs.View.{view, members_view, items_view};
 ghost use Rattle.jr_value.specs.Json.{no_values};
-ghost use Rattle.jr_value.specs.Reading.{all_kinds, first_other, form_begun, identifier_named, kind_named, only_member, tagged_kinds, AreValuesJson, IsFound, IsMember, IsTagged, IsValueJson, IsPropertyJson, IsValueFault};
+ghost use Rattle.jr_value.specs.Reading.{all_kinds, first_other, form_begun, kind_named, only_member, tagged_kinds, AreValuesJson, IsFound, IsMember, IsTagged, IsValueJson, IsPropertyJson, IsValueFault};
 ghost use Rattle.jr_value.specs.Values.{kind_number, kind_of};
 ghost use Rattle.jr_value.specs.declared.value.Kind.{Kind};
 ghost use Rattle.jr_value.specs.declared.value.Value.{Value};
 
 use crate::fault::ValueFault;
 use crate::value::{Kind, Property, Value};
-use base64::DecodeAllocError;
-use base64::engine::general_purpose::STANDARD;
-use jr_path::{List, Name, Path, PathFault, Text};
+use jr_path::{List, Text};
 use serde_json::{Map, Value as Json};
 use std::alloc::{AllocError, Global};
-use uuid::Uuid;
 
 const ALL_KINDS: [Kind; 10] = [
     Kind::Str,
@@ -108,19 +105,6 @@ fn form_begun(json: &Json) -> Kind
     }
 }
 
-// The identifier of a hyphenated text.
-fn identifier_named(text: &str) -> Option<u128>
-    ensures { result ≡ identifier_named text.now }
-{
-    if text.len() != 36 {
-        return None;
-    }
-    match Uuid::parse_str(text) {
-        Ok(id) => Some(id.as_u128()),
-        Err(_) => None,
-    }
-}
-
 // The value that stands behind the word of a kind, if it is one.
 fn tagged(alloc: Global, kind: Kind, content: &Json) -> Result<Option<Value>, AllocError>
     ensures { IfOk result (IsFound (IsTagged kind (view content.now))) }
@@ -146,51 +130,8 @@ fn tagged_text(alloc: Global, kind: Kind, text: &str) -> Result<Option<Value>, A
     ensures { IfOk result (IsFound (IsTagged kind (string text.now))) }
 {
     match kind {
-        Kind::Binary => Ok(binary(alloc, text)?),
-        Kind::Name => Ok(name(alloc, text)?),
-        Kind::Path => Ok(path(alloc, text)?),
-        Kind::Reference => Ok(identifier_named(text).map(Value::Reference)),
-        Kind::WeakReference => Ok(identifier_named(text).map(Value::WeakReference)),
-        Kind::Uri => Ok(Some(Value::Uri(Text::of(String::from_str(alloc, text)?)))),
-        _ => Ok(None),
-    }
-}
-
-fn binary(alloc: Global, text: &str) -> Result<Option<Value>, AllocError>
-    ensures { IfOk result (IsFound (IsTagged Kind.Binary (string text.now))) }
-{
-    match STANDARD.decode(alloc, text.as_bytes()) {
-        Ok(bytes) => Ok(Some(Value::Binary(List::of(bytes)))),
-        Err(DecodeAllocError::OutOfMemory) => Err(AllocError),
-        Err(DecodeAllocError::DecodeError(_)) => Ok(None),
-    }
-}
-
-fn name(alloc: Global, text: &str) -> Result<Option<Value>, AllocError>
-    ensures { IfOk result (IsFound (IsTagged Kind.Name (string text.now))) }
-{
-    match Name::parse(alloc, text) {
-        Ok(name) => Ok(Some(Value::Name(name))),
-        Err(fault) => Ok(refused(fault)?),
-    }
-}
-
-fn path(alloc: Global, text: &str) -> Result<Option<Value>, AllocError>
-    ensures { IfOk result (IsFound (IsTagged Kind.Path (string text.now))) }
-{
-    match Path::parse(alloc, text) {
-        Ok(path) => Ok(Some(Value::Path(path))),
-        Err(fault) => Ok(refused(fault)?),
-    }
-}
-
-// No value, unless memory was refused.
-fn refused(fault: PathFault) -> Result<Option<Value>, AllocError>
-    ensures { IfOk result (λ found. (found ≡ None) × (fault ≢ PathFault.Memory)) }
-{
-    match fault {
-        PathFault::Memory => Err(AllocError),
-        _ => Ok(None),
+        Kind::Str | Kind::Long | Kind::Date | Kind::Boolean => Ok(None),
+        _ => Value::from_text(alloc, kind, text),
     }
 }
 

@@ -4,9 +4,11 @@ ghost use Rattle.serde_json.specs.Data.{array, string};
 ghost use Rattle.serde_json.specs.View.{view};
 ghost use Rattle.serde_json.specs.Written.{compact_text};
 ghost use Rattle.jr_value.specs.Json.{identifier_text, kind_text, property_data, tagged, value_data, value_items};
+ghost use Rattle.jr_value.specs.declared.value.Value.TheVariants as value;
 
 use crate::value::{Kind, Property, Value};
 use base64::engine::general_purpose::STANDARD;
+use jr_path::Path;
 use serde_json::{Map, Value as Json};
 use std::alloc::{AllocError, Global};
 use uuid::Uuid;
@@ -40,19 +42,16 @@ impl Value {
         ensures { IfOk result (λ json. view json ≡ value_data self.now) }
     {
         match self {
-            Value::Str(text) => Ok(Json::try_from_str(alloc, text.as_str())?),
-            Value::Binary(bytes) => {
-                let text = STANDARD.encode(alloc, bytes.inner())?;
-                Ok(tagged(alloc, "binary", Json::String(text))?)
-            }
+            Value::Str(text) => string_json(alloc, text.as_str()),
+            Value::Binary(bytes) => binary_json(alloc, bytes.inner()),
             Value::Long(number) => Ok(Json::from(*number)),
-            Value::Date(time) => Ok(tagged(alloc, "date", Json::from(*time))?),
+            Value::Date(time) => tagged(alloc, "date", Json::from(*time)),
             Value::Boolean(truth) => Ok(Json::Bool(*truth)),
-            Value::Name(name) => Ok(tagged_text(alloc, "name", name.as_str())?),
-            Value::Path(path) => Ok(tagged(alloc, "path", Json::String(path.text()?))?),
-            Value::Reference(id) => Ok(tagged_identifier(alloc, "reference", *id)?),
-            Value::WeakReference(id) => Ok(tagged_identifier(alloc, "weakreference", *id)?),
-            Value::Uri(text) => Ok(tagged_text(alloc, "uri", text.as_str())?),
+            Value::Name(name) => tagged_text(alloc, "name", name.as_str()),
+            Value::Path(path) => path_json(alloc, path),
+            Value::Reference(id) => tagged_identifier(alloc, "reference", *id),
+            Value::WeakReference(id) => tagged_identifier(alloc, "weakreference", *id),
+            Value::Uri(text) => tagged_text(alloc, "uri", text.as_str()),
         }
     }
 }
@@ -64,10 +63,10 @@ impl Property {
         ensures { IfOk result (λ json. view json ≡ property_data self.now) }
     {
         match self {
-            Property::Single(value) => Ok(value.to_json(alloc)?),
+            Property::Single(value) => value.to_json(alloc),
             Property::Many(kind, values) => match values.inner().as_slice() {
-                [] => Ok(tagged_text(alloc, "empty", kind.as_str())?),
-                values => Ok(list_json(alloc, values)?),
+                [] => tagged_text(alloc, "empty", kind.as_str()),
+                values => list_json(alloc, values),
             },
         }
     }
@@ -92,6 +91,26 @@ fn list_json(alloc: Global, values: &[Value]) -> Result<Json, AllocError>
     Ok(Json::Array(items))
 }
 
+fn string_json(alloc: Global, text: &str) -> Result<Json, AllocError>
+    ensures { IfOk result (λ json. view json ≡ string text.now) }
+{
+    Ok(Json::try_from_str(alloc, text)?)
+}
+
+fn binary_json(alloc: Global, bytes: &[u8]) -> Result<Json, AllocError>
+    ensures { IfOk result (λ json. view json ≡ value_data (value.Binary bytes.now)) }
+{
+    let text = STANDARD.encode(alloc, bytes)?;
+    tagged(alloc, "binary", Json::String(text))
+}
+
+fn path_json(alloc: Global, path: &Path) -> Result<Json, AllocError>
+    ensures { IfOk result (λ json. view json ≡ value_data (value.Path path.now)) }
+{
+    let text = path.text()?;
+    tagged(alloc, "path", Json::String(text))
+}
+
 // An object with one member.
 fn tagged(alloc: Global, tag: &str, content: Json) -> Result<Json, AllocError>
     ensures { IfOk result (λ json. view json ≡ tagged tag.now (view content)) }
@@ -104,13 +123,14 @@ fn tagged(alloc: Global, tag: &str, content: Json) -> Result<Json, AllocError>
 fn tagged_text(alloc: Global, tag: &str, text: &str) -> Result<Json, AllocError>
     ensures { IfOk result (λ json. view json ≡ tagged tag.now (string text.now)) }
 {
-    Ok(tagged(alloc, tag, Json::try_from_str(alloc, text)?)?)
+    tagged(alloc, tag, string_json(alloc, text)?)
 }
 
 fn tagged_identifier(alloc: Global, tag: &str, id: u128) -> Result<Json, AllocError>
     ensures { IfOk result (λ json. view json ≡ tagged tag.now (string (identifier_text id))) }
 {
-    Ok(tagged(alloc, tag, Json::String(identifier_of(alloc, id)?))?)
+    let text = identifier_of(alloc, id)?;
+    tagged(alloc, tag, Json::String(text))
 }
 
 // The hyphenated text of an identifier, in lower case.

@@ -1,6 +1,6 @@
 use Rattle.std.proofs.Common.{true≢false, ◌≡◌, ℕ, List, Option, None, Some, option_map, length, refl, sym, ◌∙◌, arith}
 use Rattle.uuid.specs.Text.{parsed, parsed_hyphenated}
-use Rattle.jr_value.proofs.reading.identifier_named.Goals as goal
+use Rattle.jr_value.proofs.from_text.identifier_named.Goals as goal
 
 no_text : {X Y : Type 0} (f : X → Y) (o : Option X) → ((x : X) → o ≡ Some x → ⊥) → None ≡ option_map f o
 no_text f None h = refl

@@ -1,5 +1,0 @@
-use Rattle.jr_value.proofs.Texts.{path_refused}
-use Rattle.jr_value.proofs.reading.path.Goals as goal
-
-pub returns-in_ok-refused-in-Err : goal.returns-in_ok-refused-in-Err
-returns-in_ok-refused-in-Err c = path_refused c.args.text.now c.in-Err.fault c.in_ok-refused-in-Err.field-0 c.in-Err.ensures.fault c.in_ok-refused-in-Err.ensures
