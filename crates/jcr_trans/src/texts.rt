@@ -65,64 +65,16 @@ pub fn revision_reply(revision: &Revision) -> ArrayString<40>
 {
     let mut text = ArrayString::new();
     text.push_str("ok \"");
-    put_revision(&mut text, revision);
+    let shown = revision.text();
+    text.push_str(shown.as_str());
     text.push_str("\"");
     text
-}
-
-// Appends the text of a revision, which has at most 35 bytes that JSON shows as they are.
-fn put_revision(text: &mut ArrayString<40>, revision: &Revision)
-    requires room { array_string_len text.old ≤ 5 }
-    ensures bytes { text.new.bytes ≡ text.old.bytes ++ revision_text revision.now }
-    ensures len { array_string_len text.new ≤ array_string_len text.old + 35 }
-    ensures fields { FitsFields revision.now }
-{
-    let Revision {
-        time,
-        counter,
-        cluster,
-    } = *revision;
-    text.push_str("r");
-    put_number(text, time, 16);
-    text.push_str("-");
-    put_number(text, u64::from(counter), 8);
-    text.push_str("-");
-    put_number(text, u64::from(cluster), 8);
-}
-
-// Appends a number in lower-case hexadecimal digits, of which there are at most so many.
-fn put_number(text: &mut ArrayString<40>, number: u64, most: usize)
-    requires some { 1 ≤ most }
-    requires few { most ≤ 16 }
-    requires small { number < 16 ^ most }
-    requires room { array_string_len text.old + most ≤ 40 }
-    ensures bytes { text.new.bytes ≡ text.old.bytes ++ hexadecimal number }
-    ensures len { array_string_len text.new ≤ array_string_len text.old + most }
-{
-    if number >= 16 {
-        put_number(text, number / 16, most - 1);
-    }
-    text.push(hex_digit((number % 16) as u8));
-}
-
-fn hex_digit(value: u8) -> char
-    requires { value < 16 }
-    ensures digit { IsHexDigit result }
-    ensures value { digit_value result ≡ value }
-    ensures ascii { result < 128 }
-{
-    char::from(if value < 10 {
-        value + b'0'
-    } else {
-        value - 10 + b'a'
-    })
 }
 
 fn text_of_revision(alloc: Global, revision: &Revision) -> Result<String, AllocError>
     ensures { IfOk result (λ text. string_bytes text ≡ revision_text revision.now) }
 {
-    let mut text = ArrayString::new();
-    put_revision(&mut text, revision);
+    let text = revision.text();
     Ok(String::from_str(alloc, text.as_str())?)
 }
 

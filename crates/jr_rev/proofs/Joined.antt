@@ -1,5 +1,5 @@
 -- The texts of revisions with commas between them.
-use Rattle.std.proofs.Common.{◌≡◌, ℕ, ◌+◌, ◌<◌, ◌≤◌, Bool, true, false, cond, List, Some, None, [], ◌∷◌, ◌++◌, length, drop, take, get_or, All, refl, sym, ap, ◌∙◌, append_assoc}
+use Rattle.std.proofs.Common.{◌≡◌, ℕ, ◌+◌, ◌<◌, ◌≤◌, Bool, true, false, cond, List, Some, None, [], ◌∷◌, ◌++◌, length, drop, take, get_or, All, Result, Ok, Err, OnOk, OnErr, refl, sym, ap, ◌∙◌, append_assoc}
 use Rattle.std.proofs.lemmas.List.{append-nil, drop_more, take_more, take_all}
 use Rattle.std.proofs.lemmas.List.Elements.{All-push}
 use Rattle.std.specs.List.{filter_map, join_with_byte}
@@ -66,3 +66,8 @@ fits_some es i r within is fit fits =
 
 pub fits_all : (es : Entries) (i : ℕ) → length es ≤ i → All FitsFields (revisions_of (take i es)) → All FitsFields (revisions_of es)
 fits_all es i past fits = rw (take_all i es past) at fits
+
+-- where the end is as it was after a refusal, it is all of what was there, and some more
+pub some_front : {X : Type 0} {E : Type 0} (result : Result X E) (old new text : List ℕ) → OnOk result (new ≡ old ++ text) → OnErr result (new ≡ old) → (more : List ℕ) × (new ≡ old ++ more)
+some_front (Ok x) old new text ok err = (text, ok)
+some_front (Err e) old new text ok err = ([], err ∙ sym (append-nil old))

@@ -1,13 +1,14 @@
 // Numbers in lower-case hexadecimal digits, without leading zeros.
-ghost use Rattle.std.specs.Prelude.{◌≡◌, ℕ, ◌+◌, ◌^◌, ◌<◌, ◌≤◌, ◌↔◌, List, ◌∷◌, ◌++◌, length, All, IsTrue, IfOk, IfErr, OnOk};
+ghost use Rattle.std.specs.Prelude.{◌≡◌, ◌+◌, ◌^◌, ◌<◌, ◌≤◌, ◌↔◌, ◌++◌, length, All, IsTrue, IfOk, IfErr};
 ghost use Rattle.std.specs.Char.{digit_value};
 ghost use Rattle.std.specs.Str.Parse.{digits_value};
+ghost use Rattle.arrayvec.specs.ArrayString.{array_string_len};
 ghost use Rattle.jr_rev.specs.Digits.{IsHexDigit};
 ghost use Rattle.jr_rev.specs.Scan.{IsLongest, TakesNumber, MissesNumber};
 ghost use Rattle.jr_rev.specs.Texts.{hexadecimal};
 
 use crate::BadRevision;
-use std::alloc::AllocError;
+use arrayvec::ArrayString;
 
 fn is_hex_digit(byte: u8) -> bool
     ensures { IsTrue result ↔ IsHexDigit byte }
@@ -24,18 +25,6 @@ fn hex_value(byte: u8) -> u8
         byte - b'0'
     } else {
         byte - b'a' + 10
-    }
-}
-
-fn hex_digit(value: u8) -> u8
-    requires { value < 16 }
-    ensures digit { IsHexDigit result }
-    ensures value { digit_value result ≡ value }
-{
-    if value < 10 {
-        value + b'0'
-    } else {
-        value - 10 + b'a'
     }
 }
 
@@ -94,24 +83,30 @@ pub fn number_after(
     Ok((number_of(&text[at + 1..end]), end))
 }
 
-// Appends the mark, and behind it the number's digits.
-pub fn put_marked(mark: u8, number: u64, out: &mut Vec<u8>) -> Result<(), AllocError>
-    ensures ok { OnOk result (out.new.items ≡ out.old.items ++ mark ∷ hexadecimal number) }
-    ensures front { (more : List ℕ) × (out.new.items ≡ out.old.items ++ more) }
-{
-    out.push(mark)?;
-    put_number(number, out)?;
-    Ok(())
-}
-
-// Appends the number's digits.
-fn put_number(number: u64, out: &mut Vec<u8>) -> Result<(), AllocError>
-    ensures ok { OnOk result (out.new.items ≡ out.old.items ++ hexadecimal number) }
-    ensures front { (more : List ℕ) × (out.new.items ≡ out.old.items ++ more) }
+// Appends a number in lower-case hexadecimal digits, of which there are at most so many.
+pub fn put_number(text: &mut ArrayString<35>, number: u64, most: usize)
+    requires some { 1 ≤ most }
+    requires few { most ≤ 16 }
+    requires small { number < 16 ^ most }
+    requires room { array_string_len text.old + most ≤ 35 }
+    ensures bytes { text.new.bytes ≡ text.old.bytes ++ hexadecimal number }
+    ensures len { array_string_len text.new ≤ array_string_len text.old + most }
 {
     if number >= 16 {
-        put_number(number / 16, out)?;
+        put_number(text, number / 16, most - 1);
     }
-    out.push(hex_digit((number % 16) as u8))?;
-    Ok(())
+    text.push(hex_digit((number % 16) as u8));
+}
+
+fn hex_digit(value: u8) -> char
+    requires { value < 16 }
+    ensures digit { IsHexDigit result }
+    ensures value { digit_value result ≡ value }
+    ensures ascii { result < 128 }
+{
+    char::from(if value < 10 {
+        value + b'0'
+    } else {
+        value - 10 + b'a'
+    })
 }

@@ -4,4 +4,4 @@ use Rattle.jcr_trans.proofs.texts.revision_reply.Goals as goal
 
 pub returns : goal.returns
 returns c =
-    rw (c.push_str-2.ensures.bytes, c.put_revision.ensures.bytes, c.push_str.ensures.bytes, c.new-text.ensures) (sym (revision_answer c.args.revision.now c.put_revision.ensures.fields))
+    rw (c.push_str-2.ensures.bytes, c.push_str-1.ensures.bytes, c.text-shown.ensures.bytes, c.push_str.ensures.bytes, c.new-text.ensures) (sym (revision_answer c.args.revision.now c.text-shown.ensures.fields))
