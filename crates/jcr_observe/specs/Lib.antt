@@ -1,3 +1,0 @@
-pub mod Observed
-pub mod Differences
-pub mod Texts
