@@ -91,3 +91,12 @@ pub struct Collected {
     pub documents: u64,
     pub skipped: List<(DocId, u64, u64)>,
 }
+
+/// What the recovery of a stopped cluster node did (Oak, DocumentNodeStore: "Background operations", recovery).
+#[derive(Clone, Copy, Debug, PartialEq, Eq)]
+pub struct Recovered {
+    /// The revision up to which the commits of the cluster node are published.
+    pub upto: Revision,
+    /// How many times a revision that never was committed was undone in a document.
+    pub undone: u64,
+}

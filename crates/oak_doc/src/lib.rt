@@ -12,7 +12,7 @@ mod document;
 mod step;
 mod update;
 
-pub use asks::{Ask, Collected, MemoryAsk, RemoveOut, Reply, SplitEnd};
+pub use asks::{Ask, Collected, MemoryAsk, Recovered, RemoveOut, Reply, SplitEnd};
 pub use document::{Document, PrevEntry};
 pub use step::apply_op;
 pub use update::{Change, Cond, EntryKey, Field, Kept, OpFault, UpdateOp};

@@ -6,4 +6,4 @@ mod port;
 mod task;
 
 pub use port::Port;
-pub use task::{Recovered, StepOut, Task, TaskEnd};
+pub use task::{StepOut, Task, TaskEnd};

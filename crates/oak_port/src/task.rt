@@ -4,7 +4,7 @@ use jr_rev::{Pin, RevVec, Revision};
 use jr_tree::{CommitChanges, Edit, Node};
 use oak_clash::MarkAt;
 use oak_commit::CommitEnd;
-use oak_doc::{Collected, SplitEnd};
+use oak_doc::{Collected, Recovered, SplitEnd};
 use oak_machine::StepKind;
 
 /// What a world is asked to do for a session, one step after another.
@@ -92,15 +92,6 @@ pub enum TaskEnd {
     AlreadyStopped(u64),
     /// The session has left.
     Ended,
-}
-
-/// What a recovery of a cluster node did.
-#[derive(Clone, Copy, Debug, PartialEq, Eq)]
-pub struct Recovered {
-    /// The revision up to which the commits of the cluster node are published.
-    pub upto: Revision,
-    /// How many times a revision that never was committed was undone in a document.
-    pub undone: u64,
 }
 
 /// What a step answers.
