@@ -11,6 +11,7 @@ ghost use Rattle.core_law.specs.Law.{SaysBy};
 ghost use Rattle.core_law.specs.State.{command_at};
 
 use crate::law::JcrLaw;
+use crate::limits::MOST_NODES;
 use crate::past::{drawn_since, refreshed_since, refusal_of};
 use crate::pending::{pending_of, view_of};
 use jcr_trans::{
@@ -189,7 +190,7 @@ fn unsaved_reply(
     match pending.as_slice() {
         [] => Ok(Some(null_reply(alloc)?)),
         _ => {
-            if view.len() <= 100_000 {
+            if view.len() <= MOST_NODES {
                 return Ok(None);
             }
             Ok(Some(too_many_reply(alloc)?))
