@@ -1,5 +1,7 @@
--- What a session is told of a world: the history so far and what is being done for the session, and what a step makes of these.
-use Rattle.std.specs.Prelude.{◌≡◌, ◌↔◌, ◌⊎◌, ◌≤◌, ◌<◌, ℕ, Bool, true, false, ⊤, List, [], ◌∷◌, ◌++◌, length, reverse, slice_get, Option, None, Some, IfSome, IsTrue, IsFalse}
+-- What a session is told of a world: the history so far and what is being done for the session, and
+-- what a step makes of these.
+use Rattle.std.specs.Prelude.{◌≡◌, ◌↔◌, ◌⊎◌, ◌≤◌, ◌<◌, ℕ, suc, Bool, true, false, ⊤, List, [], ◌∷◌, ◌++◌}
+use Rattle.std.specs.Prelude.{length, reverse, slice_get, Option, None, Some, IfSome, IsTrue, IsFalse}
 use Rattle.std.specs.Borrow.{GName}
 use Rattle.std.specs.Option.{option_map_or}
 use Rattle.jr_path.specs.declared.path.Item.{Item}
@@ -34,8 +36,10 @@ use Rattle.oak_port.specs.declared.task.TaskEnd.TheVariants as end
 
 -- ---- what is being done for a session
 
--- nothing; a task; a commit that has drawn its revision: it writes, or it undoes and will end so, or it is committed, or it has ended and its base doesn't see it yet;
--- a background write that has taken its notes, and will publish this revision; or a background read that has read this of the root
+-- nothing; a task; a commit that has drawn its revision: it writes, or it undoes and will end so,
+-- or it is committed, or it has ended and its base doesn't see it yet; a background write that has
+-- taken its notes, and will publish this revision; or a background read that has read this of the
+-- root
 pub data Work : Type 0 where
   Idle : Work
   Starting : Task → Work
@@ -46,13 +50,15 @@ pub data Work : Type 0 where
   Publishing : Revision → Work
   Learning : RevVec → Work
 
--- what is being done for a session, how many bytes of its next reply have a place, where that has one, and the kind of its next step
+-- what is being done for a session, how many bytes of its next reply have a place, where that has
+-- one, and the kind of its next step
 pub record Seat : Type 0 where
   pub work : Work
   pub room : Option ℕ
   pub due : Option StepKind
 
--- which reference leads to the world, and the seats of the other sessions, where nobody else steps it
+-- which reference leads to the world, and the seats of the other sessions, where nobody else steps
+-- the world
 pub record Beside : Type 0 where
   pub name : GName
   pub seats : Option (List Seat)
@@ -68,14 +74,17 @@ pub record Shown : Type 0 where
 
 -- ---- what is added
 
--- to a history events of others were added, and then these, the newest first; it is a run
-pub record Grows (starts : Starts) (says : Says) (s : ℕ) (old new : History) (others own : Past) : Type 0 where
+-- to a history events of others were added, and then these, the newest first; the new one is a run
+pub record Grows (starts : Starts) (says : Says) (s : ℕ) (old new : History) (others own : Past)
+    : Type 0 where
   pub grown : new ≡ after own (after others old)
   pub theirs : AreOthers s others old.past
   pub run : IsRun starts says new
 
--- nothing but events of others was added, none where nobody else steps the world, and all but the history is this; what is due stays with what is being done
-pub record Waits (starts : Starts) (says : Says) (old new : Shown) (work : Work) (room : Option ℕ) : Type 0 where
+-- others alone may have acted, nobody where nobody else steps the world; the session now does this,
+-- and its reply has this place; what is due stays with what is being done
+pub record OthersAlone (starts : Starts) (says : Says) (old new : Shown) (work : Work)
+    (room : Option ℕ) : Type 0 where
   pub others : Past
   pub grows : Grows starts says old.session old.history new.history others []
   pub session : new.session ≡ old.session
@@ -85,6 +94,10 @@ pub record Waits (starts : Starts) (says : Says) (old new : Shown) (work : Work)
   pub beside : new.beside ≡ old.beside
   pub alone : IfSome old.beside.seats (λ seats. others ≡ [])
 
+-- others alone may have acted; the session does what it did, and its reply has the place it had
+abbrev pub StaysSo : Starts → Says → Shown → Shown → Type 0
+StaysSo starts says old new = OthersAlone starts says old new old.work old.room
+
 -- ---- what a step makes
 
 -- the tree at the base of a session
@@ -93,7 +106,9 @@ tree_of begin past s = option_map_or (tree_at begin past) (base_of past s) (begi
 
 -- the events of the end of a revision: that it ended, and that the head moved, where it did
 abbrev pub IsFinish : Revision → Past → Type 0
-IsFinish r own = (own ≡ event.End r ∷ []) ⊎ ((k : ℕ) × (v : RevVec) × (own ≡ event.Head k v ∷ event.End r ∷ []))
+IsFinish r own =
+    (own ≡ event.End r ∷ [])
+    ⊎ ((k : ℕ) × (v : RevVec) × (own ≡ event.Head k v ∷ event.End r ∷ []))
 
 -- a draw of a session's edit with its marks
 pub record IsDrawFor (s : ℕ) (edit : Edit) (marks : List MarkAt) (d : Draw) : Type 0 where
@@ -101,13 +116,17 @@ pub record IsDrawFor (s : ℕ) (edit : Edit) (marks : List MarkAt) (d : Draw) : 
   pub edit_is : d.edit ≡ edit
   pub marks_are : d.marks ≡ marks
 
--- a commit that writes makes one write, behind which it undoes where memory is refused for what it met there; or one mark; or it is decided by a mark or by its last write: committed, or refused for a clash
+-- a commit that writes makes one write, behind which it undoes where memory is refused for what it
+-- met there; or one mark; or it is decided by a mark or by its last write: committed, or refused
+-- for a clash
 abbrev pub WritesOn : ℕ → Revision → StepKind → Past → Work → Type 0
 WritesOn s r k own now =
-    ((k ≡ kind.Write) × (own ≡ event.Went s kind.Write ∷ []) × ((now ≡ Writing r) ⊎ (now ≡ Undoing r commit.Memory)))
+    ((k ≡ kind.Write) × (own ≡ event.Went s kind.Write ∷ [])
+    × ((now ≡ Writing r) ⊎ (now ≡ Undoing r commit.Memory)))
     ⊎ ((k ≡ kind.Mark) × (own ≡ event.Went s kind.Mark ∷ []) × (now ≡ Writing r))
     ⊎ ((k ≡ kind.Last) × (own ≡ event.Commit r ∷ []) × (now ≡ Deciding r))
-    ⊎ ((item : Item) × (o : Revision) × (own ≡ event.Refuse r item o ∷ []) × (now ≡ Undoing r (commit.Clash item o)))
+    ⊎ ((item : Item) × (o : Revision) × (own ≡ event.Refuse r item o ∷ [])
+    × (now ≡ Undoing r (commit.Clash item o)))
 
 -- q holds the head of its cluster node back from r: it was drawn there before r, and is in flight
 pub record HoldsBack (past : Past) (q r : Revision) : Type 0 where
@@ -117,40 +136,76 @@ pub record HoldsBack (past : Past) (q r : Revision) : Type 0 where
 
 -- the vector sees exactly what the cluster nodes have published
 abbrev pub IsPublic : History → RevVec → Type 0
-IsPublic h v = (r : Revision) → IsTrue (sees v r) ↔ (IsNode h.clusters r.cluster × IsTrue (is_at_most r (published h.begin h.past r.cluster)))
+IsPublic h v = (r : Revision) → IsTrue (sees v r)
+    ↔ (IsNode h.clusters r.cluster × IsTrue (is_at_most r (published h.begin h.past r.cluster)))
+
+-- a vector sees all that another sees
+abbrev pub SeesAllOf : RevVec → RevVec → Type 0
+SeesAllOf v u = (r : Revision) → IsTrue (sees u r) → IsTrue (sees v r)
 
 -- the session is of cluster node k
 abbrev pub IsOn : History → ℕ → ℕ → Type 0
 IsOn h s k = slice_get h.sessions s ≡ Some k
 
--- a step of a session at a history, by what is being done and what it answers: the events that it adds, the newest first, and what is being done then. Memory is refused without effect
+-- the head of the cluster node of r sees r
+abbrev pub is_in_head : History → Revision → Bool
+is_in_head h r = sees (head_of h.clusters h.begin h.past r.cluster) r
+
+-- a step of a session at a history, by what is being done and what it answers: the events that it
+-- adds, the newest first, and what is being done then. Memory is refused without effect. Nothing
+-- answers yet that the cluster node is stopped
 abbrev pub Makes : History → ℕ → Work → StepOut → Past → Work → Type 0
-Makes h s (Starting task.Login) (out.Ready (end.Pinned pin)) own now = (own ≡ event.Login s pin.base ∷ []) × (now ≡ Idle)
-Makes h s (Starting task.Refresh) (out.Ready (end.Pinned pin)) own now = (own ≡ event.Refresh s pin.base ∷ []) × (now ≡ Idle)
-Makes h s (Starting task.End) (out.Ready end.Ended) own now = (own ≡ event.Went s kind.End ∷ []) × (now ≡ Idle)
-Makes h s (Starting (task.Load p)) (out.Went k) own now = (k ≡ kind.Read) × (own ≡ []) × (now ≡ Starting (task.Load p))
-Makes h s (Starting (task.Load p)) (out.Ready (end.Node found)) own now = (found ≡ node_at (tree_of h.begin h.past s) p) × (own ≡ []) × (now ≡ Idle)
-Makes h s (Starting (task.List p)) (out.Went k) own now = (k ≡ kind.Read) × (own ≡ []) × (now ≡ Starting (task.List p))
-Makes h s (Starting (task.List p)) (out.Ready (end.Children names)) own now = (names ≡ dated_children_of (tree_of h.begin h.past s) p) × (own ≡ []) × (now ≡ Idle)
-Makes h s (Starting (task.Commit edit marks)) (out.Went k) own now = (d : Draw) × IsDrawFor s edit marks d × (k ≡ kind.Draw) × (own ≡ event.Draw d ∷ []) × (now ≡ Writing d.revision)
-Makes h s (Starting task.BackWrite) (out.Went k) own now = (m : ℕ) × IsOn h s m × (k ≡ kind.Back) × (own ≡ event.Went s kind.Back ∷ []) × (now ≡ Publishing (local h.begin h.past m))
-Makes h s (Starting task.BackRead) (out.Went k) own now = (v : RevVec) × IsPublic h v × (k ≡ kind.Back) × (own ≡ event.Went s kind.Back ∷ []) × (now ≡ Learning v)
-Makes h s (Starting (task.Checkpoint i)) (out.Ready (end.Set None)) own now = (v : RevVec) × (base_of h.past s ≡ Some v) × (own ≡ event.Checkpoint i v ∷ []) × (now ≡ Idle)
-Makes h s (Starting (task.Release i)) (out.Ready (end.Set None)) own now = (own ≡ event.Release i ∷ []) × (now ≡ Idle)
-Makes h s (Starting (task.Release i)) (out.Ready end.NoCheckpoint) own now = (kept_checkpoint h.past i ≡ None) × (own ≡ event.Went s kind.Settings ∷ []) × (now ≡ Idle)
+Makes h s (Starting task.Login) (out.Ready (end.Pinned pin)) own now =
+    (own ≡ event.Login s pin.base ∷ []) × (now ≡ Idle)
+Makes h s (Starting task.Refresh) (out.Ready (end.Pinned pin)) own now =
+    (own ≡ event.Refresh s pin.base ∷ []) × (now ≡ Idle)
+Makes h s (Starting task.End) (out.Ready end.Ended) own now =
+    (own ≡ event.Went s kind.End ∷ []) × (now ≡ Idle)
+Makes h s (Starting (task.Load p)) (out.Went k) own now =
+    (k ≡ kind.Read) × (own ≡ []) × (now ≡ Starting (task.Load p))
+Makes h s (Starting (task.Load p)) (out.Ready (end.Node found)) own now =
+    (found ≡ node_at (tree_of h.begin h.past s) p) × (own ≡ []) × (now ≡ Idle)
+Makes h s (Starting (task.List p)) (out.Went k) own now =
+    (k ≡ kind.Read) × (own ≡ []) × (now ≡ Starting (task.List p))
+Makes h s (Starting (task.List p)) (out.Ready (end.Children names)) own now =
+    (names ≡ dated_children_of (tree_of h.begin h.past s) p) × (own ≡ []) × (now ≡ Idle)
+Makes h s (Starting (task.Commit edit marks)) (out.Went k) own now =
+    (d : Draw) × IsDrawFor s edit marks d × (k ≡ kind.Draw) × (own ≡ event.Draw d ∷ [])
+    × (now ≡ Writing d.revision)
+Makes h s (Starting task.BackWrite) (out.Went k) own now =
+    (m : ℕ) × IsOn h s m × (k ≡ kind.Back) × (own ≡ event.Went s kind.Back ∷ [])
+    × (now ≡ Publishing (local h.begin h.past m))
+Makes h s (Starting task.BackRead) (out.Went k) own now =
+    (v : RevVec) × IsPublic h v × (k ≡ kind.Back) × (own ≡ event.Went s kind.Back ∷ [])
+    × (now ≡ Learning v)
+Makes h s (Starting (task.Checkpoint i)) (out.Ready (end.Set None)) own now =
+    (v : RevVec) × (base_of h.past s ≡ Some v) × (own ≡ event.Checkpoint i v ∷ []) × (now ≡ Idle)
+Makes h s (Starting (task.Release i)) (out.Ready (end.Set None)) own now =
+    (own ≡ event.Release i ∷ []) × (now ≡ Idle)
+Makes h s (Starting (task.Release i)) (out.Ready end.NoCheckpoint) own now =
+    (kept_checkpoint h.past i ≡ None) × (own ≡ event.Went s kind.Settings ∷ []) × (now ≡ Idle)
 Makes h s (Starting t) out.Memory own now = (own ≡ []) × (now ≡ Idle)
-Makes h s (Publishing r) (out.Went k) own now = (k ≡ kind.Back) × (own ≡ event.Went s kind.Back ∷ []) × (now ≡ Publishing r)
-Makes h s (Publishing r) (out.Ready (end.Published o)) own now = (m : ℕ) × IsOn h s m × (o ≡ r) × (own ≡ event.Out m r ∷ []) × (now ≡ Idle)
+Makes h s (Publishing r) (out.Went k) own now =
+    (k ≡ kind.Back) × (own ≡ event.Went s kind.Back ∷ []) × (now ≡ Publishing r)
+Makes h s (Publishing r) (out.Ready (end.Published o)) own now =
+    (m : ℕ) × IsOn h s m × (o ≡ r) × (own ≡ event.Out m r ∷ []) × (now ≡ Idle)
 Makes h s (Publishing r) out.Memory own now = (own ≡ []) × (now ≡ Idle)
-Makes h s (Learning u) (out.Ready (end.Learnt v)) own now = (m : ℕ) × IsOn h s m × ((r : Revision) → IsTrue (sees u r) → IsTrue (sees v r)) × (own ≡ event.In m v ∷ []) × (now ≡ Idle)
+Makes h s (Learning u) (out.Ready (end.Learnt v)) own now =
+    (m : ℕ) × IsOn h s m × SeesAllOf v u × (own ≡ event.In m v ∷ []) × (now ≡ Idle)
 Makes h s (Learning u) out.Memory own now = (own ≡ []) × (now ≡ Idle)
 Makes h s (Writing r) (out.Went k) own now = WritesOn s r k own now
 Makes h s (Writing r) out.Memory own now = (own ≡ []) × (now ≡ Undoing r commit.Memory)
-Makes h s (Undoing r e) (out.Went k) own now = (k ≡ kind.Undo) × (own ≡ event.Went s kind.Undo ∷ []) × (now ≡ Undoing r e)
-Makes h s (Undoing r e) (out.Ready (end.Commit f)) own now = (f ≡ e) × IsFinish r own × (now ≡ Idle)
-Makes h s (Deciding r) (out.Went k) own now = (k ≡ kind.Finish) × IsFinish r own × (now ≡ Awaiting r)
-Makes h s (Awaiting r) (out.Wait q) own now = (own ≡ []) × (now ≡ Awaiting r) × IsFalse (sees (head_of h.clusters h.begin h.past r.cluster) r) × HoldsBack h.past q r
-Makes h s (Awaiting r) (out.Ready (end.Commit f)) own now = (f ≡ commit.Committed r) × IsTrue (sees (head_of h.clusters h.begin h.past r.cluster) r) × (v : RevVec) × IsTrue (sees v r) × (own ≡ event.Refresh s v ∷ []) × (now ≡ Idle)
+Makes h s (Undoing r e) (out.Went k) own now =
+    (k ≡ kind.Undo) × (own ≡ event.Went s kind.Undo ∷ []) × (now ≡ Undoing r e)
+Makes h s (Undoing r e) (out.Ready (end.Commit f)) own now =
+    (f ≡ e) × IsFinish r own × (now ≡ Idle)
+Makes h s (Deciding r) (out.Went k) own now =
+    (k ≡ kind.Finish) × IsFinish r own × (now ≡ Awaiting r)
+Makes h s (Awaiting r) (out.Wait q) own now =
+    (own ≡ []) × (now ≡ Awaiting r) × IsFalse (is_in_head h r) × HoldsBack h.past q r
+Makes h s (Awaiting r) (out.Ready (end.Commit f)) own now =
+    (f ≡ commit.Committed r) × IsTrue (is_in_head h r)
+    × (v : RevVec) × IsTrue (sees v r) × (own ≡ event.Refresh s v ∷ []) × (now ≡ Idle)
 Makes h s _ _ own now = ⊥
 
 -- the kind of the step that ended a task
@@ -197,23 +252,63 @@ pub record Steps (starts : Starts) (says : Says) (old new : Shown) (answer : Ste
   pub alone : IfSome old.beside.seats (λ seats. others ≡ [])
 
 -- events of others were added, and then the reply; its place is taken
-pub record Answers (starts : Starts) (says : Says) (old new : Shown) (index : ℕ) (text : Text) : Type 0 where
+pub record Answers (starts : Starts) (says : Says) (old new : Shown) (index : ℕ) (text : Text)
+    : Type 0 where
   pub others : Past
-  pub grows : Grows starts says old.session old.history new.history others (event.Said old.session index text ∷ [])
+  pub grows : Grows starts says old.session old.history new.history others
+      (event.Said old.session index text ∷ [])
   pub session : new.session ≡ old.session
   pub work : new.work ≡ Idle
   pub room : new.room ≡ None
   pub beside : new.beside ≡ old.beside
   pub alone : IfSome old.beside.seats (λ seats. others ≡ [])
 
+-- ---- how long it lasts
+
+-- the step waits for an earlier revision
+abbrev pub IsWait : StepOut → Type 0
+IsWait (out.Wait q) = ⊤
+IsWait _ = ⊥
+
+-- to the history nothing was added but what one step of the session made
+pub record ActedAlone (old new : Shown) (answer : StepOut) : Type 0 where
+  pub own : Past
+  pub grown : new.history ≡ after own old.history
+  pub makes : Makes old.history old.session old.work answer own new.work
+
+-- a step of the session, which acted alone, waits, or what would have ended within some steps, as
+-- `before` tells, will end within one fewer, as `now` tells
+abbrev pub LastsLess : (before now : ℕ → Type 0) → Shown → Shown → StepOut → Type 0
+LastsLess before now old new answer =
+    ActedAlone old new answer → (n : ℕ) → before (suc n) → IsWait answer ⊎ now n
+
+-- where nobody acted, what would have ended within some steps will still end within as many
+abbrev pub LastsOn : (before now : ℕ → Type 0) → Shown → Shown → Type 0
+LastsOn before now old new = (new.history ≡ old.history) → (n : ℕ) → before n → now n
+
 -- ---- what a task asks
 
--- a task may start: a login first, the others of a session that has logged in and not left; an edit that the law lets start
+-- a task may start: a login first, the others of a session that has logged in and not left; an edit
+-- that the law lets start. No world does these yet: splits, sweeps, collections, attached sessions,
+-- observing and what changed, stops and recoveries
 abbrev pub MayBegin : Starts → History → ℕ → Task → Type 0
 MayBegin starts h s task.Login = IsFalse (has_login h.past s)
-MayBegin starts h s (task.Commit edit marks) = IsTrue (has_login h.past s) × IsFalse (has_left h.past s) × IsFalse (is_attached h.past s) × starts h s edit marks
-MayBegin starts h s (task.Checkpoint i) = IsTrue (has_login h.past s) × IsFalse (has_left h.past s) × IsFalse (is_attached h.past s)
-MayBegin starts h s task.Refresh = IsTrue (has_login h.past s) × IsFalse (has_left h.past s) × IsFalse (is_attached h.past s)
+MayBegin starts h s (task.Commit edit marks) =
+    IsTrue (has_login h.past s) × IsFalse (has_left h.past s) × IsFalse (is_attached h.past s)
+    × starts h s edit marks
+MayBegin starts h s (task.Checkpoint i) =
+    IsTrue (has_login h.past s) × IsFalse (has_left h.past s) × IsFalse (is_attached h.past s)
+MayBegin starts h s task.Refresh =
+    IsTrue (has_login h.past s) × IsFalse (has_left h.past s) × IsFalse (is_attached h.past s)
+MayBegin starts h s (task.Split p) = ⊥
+MayBegin starts h s task.Sweep = ⊥
+MayBegin starts h s task.Collect = ⊥
+MayBegin starts h s (task.Attach i) = ⊥
+MayBegin starts h s task.Detach = ⊥
+MayBegin starts h s task.Observe = ⊥
+MayBegin starts h s (task.Changes pin) = ⊥
+MayBegin starts h s (task.Stop k) = ⊥
+MayBegin starts h s (task.Recover k) = ⊥
 MayBegin starts h s _ = IsTrue (has_login h.past s) × IsFalse (has_left h.past s)
 
 -- the place of the reply has this many bytes

@@ -1,64 +1,106 @@
 // The calls of a world for one session.
-ghost use Rattle.std.specs.Prelude.{◌≡◌, ◌↔◌, ◌≢◌, ℕ, OnErr, OnOk, Some, IsSome, IsFalse, length};
+ghost use Rattle.std.specs.Prelude.{◌≡◌, ◌↔◌, ◌≢◌, ℕ, OnErr, OnOk, None, Some, IsSome, IsFalse, length};
 ghost use Rattle.std.specs.Option.{option_map};
 ghost use Rattle.oak_machine.specs.Sessions.{base_of, has_left, next_index};
-ghost use Rattle.oak_port.specs.Ports.{Answers, HasRoom, Idle, MayBegin, Shown, Starting, Steps, Waits};
+ghost use Rattle.oak_port.specs.Ports.{Answers, HasRoom, Idle, LastsLess, LastsOn, MayBegin, OthersAlone, Shown, Starting, StaysSo, Steps};
 
 use crate::task::{StepOut, Task};
 use jr_rev::Pin;
 use oak_machine::{Law, StepKind};
 use std::alloc::AllocError;
 
-/// The calls of a world for one session. Between two calls, and during them, others may add events of their own; a call of a world
-/// that nobody else steps adds none but its own.
+/// The calls of a world for one session. Between two calls, and during them, others may add events
+/// of their own; a call of a world that nobody else steps adds none but its own.
 pub trait Port {
     type L: Law;
 
     /// The law of the world.
     ghost law: { Self → Self.L };
 
-    /// The history so far, the session, what is being done for it, the place of its next reply, the kind of its next step, and what stands beside it.
+    /// The history so far, the session, what is being done for it, the place of its next reply, the
+    /// kind of its next step, and what stands beside it.
     ghost shown: { Self → Shown };
+
+    /// Within so many steps what is being done ends, or one of them waits, where nobody else acts.
+    ghost lasts: { Self → ℕ → Type 0 };
 
     /// Begins a task. Memory may be refused, and then nothing is begun.
     fn start(&mut self, task: Task) -> Result<(), AllocError>
         requires idle { (shown self.old).work ≡ Idle }
-        requires may { MayBegin (Self.L.may_start (law self.old)) (shown self.old).history (shown self.old).session task }
+        requires may { MayBegin (Self.L.may_start (law self.old)) (shown self.old).history
+            (shown self.old).session task }
         ensures law { law self.new ≡ law self.old }
-        ensures ok { OnOk result (Waits (Self.L.may_start (law self.old)) (Self.L.may_say (law self.old)) (shown self.old) (shown self.new) (Starting task) (shown self.old).room) }
-        ensures err { OnErr result (Waits (Self.L.may_start (law self.old)) (Self.L.may_say (law self.old)) (shown self.old) (shown self.new) Idle (shown self.old).room) };
+        ensures ok { OnOk result (OthersAlone (Self.L.may_start (law self.old))
+            (Self.L.may_say (law self.old)) (shown self.old) (shown self.new)
+            (Starting task) (shown self.old).room) }
+        ensures err { OnErr result (OthersAlone (Self.L.may_start (law self.old))
+            (Self.L.may_say (law self.old)) (shown self.old) (shown self.new)
+            Idle (shown self.old).room) };
 
     /// Makes one step of what is being done: one operation on one document or on one node's memory.
+    /// Where nobody else acts meanwhile it lowers the number of steps that are left, or it waits.
     fn step(&mut self) -> StepOut
         requires busy { (shown self.old).work ≢ Idle }
         ensures law { law self.new ≡ law self.old }
-        ensures steps { Steps (Self.L.may_start (law self.old)) (Self.L.may_say (law self.old)) (shown self.old) (shown self.new) result };
+        ensures steps { Steps (Self.L.may_start (law self.old)) (Self.L.may_say (law self.old))
+            (shown self.old) (shown self.new) result }
+        ensures lowers { LastsLess (lasts self.old) (lasts self.new)
+            (shown self.old) (shown self.new) result };
 
-    /// The kind of the next step; None where nothing is being done.
+    /// The kind of the next step; None where nothing is being done. What is being done ends: there
+    /// is a number of steps that are left, and at 0 nothing is being done.
     fn due(&mut self) -> Option<StepKind>
         ensures law { law self.new ≡ law self.old }
-        ensures same { Waits (Self.L.may_start (law self.old)) (Self.L.may_say (law self.old)) (shown self.old) (shown self.new) (shown self.old).work (shown self.old).room }
+        ensures same { StaysSo (Self.L.may_start (law self.old)) (Self.L.may_say (law self.old))
+            (shown self.old) (shown self.new) }
         ensures due { result ≡ (shown self.new).due }
-        ensures busy { IsSome result ↔ ((shown self.old).work ≢ Idle) };
+        ensures busy { IsSome result ↔ ((shown self.old).work ≢ Idle) }
+        ensures lasts { LastsOn (lasts self.old) (lasts self.new)
+            (shown self.old) (shown self.new) }
+        ensures ends { (n : ℕ) × lasts self.new n }
+        ensures over { lasts self.old 0 → (shown self.old).work ≡ Idle };
 
     /// The session's pin; None before its login and once it has left.
     fn pin(&mut self) -> Option<Pin>
         ensures law { law self.new ≡ law self.old }
-        ensures same { Waits (Self.L.may_start (law self.old)) (Self.L.may_say (law self.old)) (shown self.old) (shown self.new) (shown self.old).work (shown self.old).room }
-        ensures base { IsFalse (has_left (shown self.old).history.past (shown self.old).session) → option_map (λ pin. pin.base) result ≡ base_of (shown self.old).history.past (shown self.old).session };
+        ensures same { StaysSo (Self.L.may_start (law self.old)) (Self.L.may_say (law self.old))
+            (shown self.old) (shown self.new) }
+        ensures base { IsFalse (has_left (shown self.old).history.past (shown self.old).session)
+            → option_map (λ pin. pin.base) result
+            ≡ base_of (shown self.old).history.past (shown self.old).session }
+        ensures lasts { LastsOn (lasts self.old) (lasts self.new)
+            (shown self.old) (shown self.new) };
 
-    /// Keeps a place for the session's next reply, of this many bytes. Where memory is refused, the place that it had stays.
+    /// The position in the journal, from 0, of the stop of the cluster node of that number; None
+    /// where it isn't stopped. No world stops a cluster node yet.
+    fn stopped(&mut self, cluster: u32) -> Option<u64>
+        ensures law { law self.new ≡ law self.old }
+        ensures same { StaysSo (Self.L.may_start (law self.old)) (Self.L.may_say (law self.old))
+            (shown self.old) (shown self.new) }
+        ensures none { result ≡ None }
+        ensures lasts { LastsOn (lasts self.old) (lasts self.new)
+            (shown self.old) (shown self.new) };
+
+    /// Keeps a place for the session's next reply, of this many bytes. Where memory is refused, the
+    /// place that it had stays.
     fn reserve_say(&mut self, bytes: usize) -> Result<(), AllocError>
         ensures law { law self.new ≡ law self.old }
-        ensures ok { OnOk result (Waits (Self.L.may_start (law self.old)) (Self.L.may_say (law self.old)) (shown self.old) (shown self.new) (shown self.old).work (Some bytes)) }
-        ensures err { OnErr result (Waits (Self.L.may_start (law self.old)) (Self.L.may_say (law self.old)) (shown self.old) (shown self.new) (shown self.old).work (shown self.old).room) };
+        ensures ok { OnOk result (OthersAlone (Self.L.may_start (law self.old))
+            (Self.L.may_say (law self.old)) (shown self.old) (shown self.new)
+            (shown self.old).work (Some bytes)) }
+        ensures err { OnErr result (StaysSo (Self.L.may_start (law self.old))
+            (Self.L.may_say (law self.old)) (shown self.old) (shown self.new)) }
+        ensures lasts { LastsOn (lasts self.old) (lasts self.new)
+            (shown self.old) (shown self.new) };
 
     /// Says the session's next reply. It has a place, so this takes no memory.
     fn say(&mut self, index: u32, text: &str)
         requires idle { (shown self.old).work ≡ Idle }
         requires place { HasRoom (shown self.old).room (length text.now) }
         requires next { index ≡ next_index (shown self.old).history.past (shown self.old).session }
-        requires lawful { Self.L.may_say (law self.old) (shown self.old).history (shown self.old).session index text.now }
+        requires lawful { Self.L.may_say (law self.old) (shown self.old).history
+            (shown self.old).session index text.now }
         ensures law { law self.new ≡ law self.old }
-        ensures said { Answers (Self.L.may_start (law self.old)) (Self.L.may_say (law self.old)) (shown self.old) (shown self.new) index text.now };
+        ensures said { Answers (Self.L.may_start (law self.old)) (Self.L.may_say (law self.old))
+            (shown self.old) (shown self.new) index text.now };
 }
