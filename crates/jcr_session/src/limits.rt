@@ -1,7 +1,7 @@
 // The limits of a session.
 
-// The greatest number of commands of a session.
-pub(crate) const MOST_COMMANDS: usize = 10_000;
+/// The greatest number of commands of a session.
+pub const MOST_COMMANDS: usize = 10_000;
 
 // The greatest number of nodes that a tree may have after a save.
 pub(crate) const MOST_NODES: usize = 100_000;

@@ -80,7 +80,7 @@ enum Due {
 }
 
 impl SessionRun {
-    /// A session that has not logged in, with its number and at most 10,000 commands.
+    /// A session that has not logged in, with its number and at most `MOST_COMMANDS` commands.
     pub fn new(
         alloc: Global,
         session: u32,

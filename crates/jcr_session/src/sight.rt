@@ -19,7 +19,7 @@ use std::alloc::{AllocError, Global};
 pub(crate) enum Sight {
     // The tree at its base, which isn't read yet; nothing is pending.
     Unread,
-    // The same, read in part.
+    // The tree at its base is read in part; nothing is pending.
     Reading(Walk),
     // The tree at its base, and its view, which is that tree with its pending edits.
     Seen(Seen),
@@ -54,7 +54,8 @@ pub(crate) enum Loaded {
     Refused,
 }
 
-// The same of a step of reading the names of the children of a node, each with the revision that added the child.
+// What a step of reading the names of the children of a node came to: its task goes on, they are these, each with the revision
+// that added the child, or memory was refused.
 #[derive(Drop)]
 pub(crate) enum Listed {
     Going,
