@@ -1,5 +1,5 @@
 -- Paths noted one behind another.
-use Rattle.std.proofs.Common.{◌≡◌, ℕ, ◌<◌, false, List, [], ◌∷◌, ◌++◌, refl, sym, ap, ◌∙◌, arith}
+use Rattle.std.proofs.Common.{◌≡◌, ℕ, List, [], ◌∷◌, ◌++◌, sym, ap, ◌∙◌}
 use Rattle.std.proofs.lemmas.List.{append_assoc, append-nil}
 use Rattle.jr_rev.specs.declared.revision.Revision.{Revision}
 use Rattle.oak_node.specs.declared.pending.Note.{Note}
