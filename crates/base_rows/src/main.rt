@@ -7,6 +7,7 @@ mod marks;
 mod rows;
 mod texts;
 mod trees;
+mod values;
 mod vectors;
 
 use jr_io::{StdSink, StdSource, read_all, write_all};

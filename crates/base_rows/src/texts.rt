@@ -1,8 +1,9 @@
-// Texts of names, paths, ids, revisions, vectors and values.
+// Texts of names, paths, ids, revisions and vectors, and JSON of properties.
 use crate::rows::{cut, put_number};
+use crate::values;
 use jr_path::{DeepCopy, DocId, Name, Path, PathFault};
 use jr_rev::{RevVec, Revision};
-use jr_value::{Kind, Property, ValueFault};
+use jr_value::{Property, ValueFault};
 use serde_json::Value as Json;
 use std::alloc::{AllocError, Global};
 
@@ -21,6 +22,7 @@ pub(crate) fn add(
         "revision" => add_revision(alloc, rest, out)?,
         "vector" => add_vector(alloc, rest, out)?,
         "value" => add_value(alloc, rest, out)?,
+        "text" => values::add(alloc, rest, out)?,
         _ => return Ok(false),
     }
     Ok(true)
@@ -154,21 +156,6 @@ fn add_bytes(bytes: &[u8], out: &mut String) -> Result<(), AllocError> {
     }
 }
 
-fn word(kind: Kind) -> &'static str {
-    match kind {
-        Kind::Str => "string",
-        Kind::Binary => "binary",
-        Kind::Long => "long",
-        Kind::Date => "date",
-        Kind::Boolean => "boolean",
-        Kind::Name => "name",
-        Kind::Path => "path",
-        Kind::Reference => "reference",
-        Kind::WeakReference => "weakreference",
-        Kind::Uri => "uri",
-    }
-}
-
 fn add_value(alloc: Global, text: &str, out: &mut String) -> Result<(), AllocError> {
     let Ok(json) = Json::from_str(alloc, text) else {
         return out.push_str("no JSON");
@@ -177,9 +164,9 @@ fn add_value(alloc: Global, text: &str, out: &mut String) -> Result<(), AllocErr
         Ok(property) => add_property(alloc, &property, out),
         Err(ValueFault::ValueFormat(required, found)) => {
             out.push_str("no ")?;
-            out.push_str(word(required))?;
+            out.push_str(required.as_str())?;
             out.push(' ')?;
-            out.push_str(word(found))
+            out.push_str(found.as_str())
         }
         Err(_) => out.push_str("memory"),
     }
@@ -187,7 +174,7 @@ fn add_value(alloc: Global, text: &str, out: &mut String) -> Result<(), AllocErr
 
 // The property's kind, its text and whether its copy equals it.
 fn add_property(alloc: Global, property: &Property, out: &mut String) -> Result<(), AllocError> {
-    out.push_str(word(property.kind()))?;
+    out.push_str(property.kind().as_str())?;
     out.push(' ')?;
     out.push_str(property.json_text(alloc)?.as_str())?;
     if property.copy()? == *property {

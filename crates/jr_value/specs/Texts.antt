@@ -1,6 +1,6 @@
 -- Which text is a value of a kind.
-use Rattle.std.specs.Prelude.{◌≡◌, ◌≢◌, ℕ, ℤ, Bool, true, false, List, Option, None, Some, option_map}
-use Rattle.std.specs.Prelude.{if◌then◌else◌, FitsSigned, bytes_eq, codes, slice_index}
+use Rattle.std.specs.Prelude.{◌≡◌, ◌≢◌, ℕ, ℤ, Bool, true, false, List, Option, None, Some}
+use Rattle.std.specs.Prelude.{option_map, if◌then◌else◌, FitsSigned, bytes_eq, codes, slice_index}
 use Rattle.std.specs.Int.{w64}
 use Rattle.std.specs.Str.Parse.{IsNumeral, signed_digits_value, without_leading_sign}
 use Rattle.serde_json.specs.Data.{string}
@@ -11,7 +11,7 @@ use Rattle.jr_value.specs.declared.value.Value.{Value}
 use Rattle.jr_value.specs.declared.value.Value.TheVariants as value
 
 -- decimal digits with `-` before them or not, and no `+` (43), that write a number of 64 bits
-pub record IsWhole (text : List ℕ) (n : ℤ) : Type 0 where
+pub record IsWholeNumber (text : List ℕ) (n : ℤ) : Type 0 where
   pub no_plus : slice_index text 0 ≢ 43
   pub digits : IsNumeral 10 (without_leading_sign text)
   pub fits : FitsSigned w64 (signed_digits_value 10 text)
@@ -27,8 +27,8 @@ boolean_named text =
 -- `true` and `false` of BOOLEAN; Base64 with padding of BINARY; a name; a path; a hyphenated identifier.
 abbrev pub IsText : Kind → List ℕ → Value → Type 0
 IsText kind.Str text x = x ≡ value.Str text
-IsText kind.Long text x = (n : ℤ) × IsWhole text n × (x ≡ value.Long n)
-IsText kind.Date text x = (n : ℤ) × IsWhole text n × (x ≡ value.Date n)
+IsText kind.Long text x = (n : ℤ) × IsWholeNumber text n × (x ≡ value.Long n)
+IsText kind.Date text x = (n : ℤ) × IsWholeNumber text n × (x ≡ value.Date n)
 IsText kind.Boolean text x = Some x ≡ option_map value.Boolean (boolean_named text)
 IsText kind.Binary text x = IsTagged kind.Binary (string text) x
 IsText kind.Name text x = IsTagged kind.Name (string text) x

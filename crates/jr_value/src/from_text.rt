@@ -2,7 +2,7 @@
 ghost use Rattle.std.specs.Prelude.{◌≡◌, ◌≢◌, IfOk, OnOk, List as Seq, ℕ, ℤ, MatchOption};
 ghost use Rattle.jr_path.specs.Grammar.{IsName};
 ghost use Rattle.jr_value.specs.Reading.{identifier_named, IsFound, IsPathWithin};
-ghost use Rattle.jr_value.specs.Texts.{boolean_named, IsText, IsWhole};
+ghost use Rattle.jr_value.specs.Texts.{boolean_named, IsText, IsWholeNumber};
 
 use crate::value::{Kind, Value};
 use base64::DecodeAllocError;
@@ -38,7 +38,7 @@ impl Value {
 /// The whole number that a text is: decimal digits, any zeros first, with `-` before them or not, of a number from
 /// -2^63 to 2^63 - 1. A `+` before them is refused.
 pub fn whole_number(text: &str) -> Option<i64>
-    ensures { MatchOption result ((n : ℤ) → ¬ IsWhole text.now n) (IsWhole text.now) }
+    ensures { MatchOption result ((n : ℤ) → ¬ IsWholeNumber text.now n) (IsWholeNumber text.now) }
 {
     match text.as_bytes() {
         [b'+', ..] => None,

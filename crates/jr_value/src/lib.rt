@@ -20,4 +20,4 @@ pub use laws::{
     printed_properties_are_read_back,
 };
 pub use order::values_of_one_kind_have_an_order;
-pub use value::{Kind, Property, Value};
+pub use value::{ALL_KINDS, Kind, Property, Value};

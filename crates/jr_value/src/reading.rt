@@ -10,23 +10,10 @@ ghost use Rattle.jr_value.specs.declared.value.Kind.{Kind};
 ghost use Rattle.jr_value.specs.declared.value.Value.{Value};
 
 use crate::fault::ValueFault;
-use crate::value::{Kind, Property, Value};
+use crate::value::{ALL_KINDS, Kind, Property, Value};
 use jr_path::{List, Text};
 use serde_json::{Map, Value as Json};
 use std::alloc::{AllocError, Global};
-
-const ALL_KINDS: [Kind; 10] = [
-    Kind::Str,
-    Kind::Binary,
-    Kind::Long,
-    Kind::Date,
-    Kind::Boolean,
-    Kind::Name,
-    Kind::Path,
-    Kind::Reference,
-    Kind::WeakReference,
-    Kind::Uri,
-];
 
 // The kinds whose values stand in an object behind the kind's word.
 const TAGGED_KINDS: [Kind; 7] = [
@@ -38,6 +25,15 @@ const TAGGED_KINDS: [Kind; 7] = [
     Kind::WeakReference,
     Kind::Uri,
 ];
+
+impl Kind {
+    /// The kind that has this lower-case word, as `as_str` gives it.
+    pub fn from_word(word: &str) -> Option<Kind>
+        ensures { result ≡ kind_named all_kinds word.now }
+    {
+        ALL_KINDS.iter().copied().find(|kind| kind.as_str() == word)
+    }
+}
 
 impl Property {
     /// The property that a JSON value is. A text is a STRING, a whole number from -2^63 to 2^63 - 1 a LONG (as
@@ -60,13 +56,6 @@ impl Property {
             _ => single(alloc, json),
         }
     }
-}
-
-// The kind of all that has this word.
-fn kind_of_word(word: &str) -> Option<Kind>
-    ensures { result ≡ kind_named all_kinds word.now }
-{
-    ALL_KINDS.iter().copied().find(|kind| kind.as_str() == word)
 }
 
 // The kind that a member of this name begins.
@@ -250,7 +239,7 @@ fn kind_of_none(members: &Map<String, Json>) -> Option<Kind>
         return None;
     }
     match content {
-        Json::String(word) => kind_of_word(word.as_str()),
+        Json::String(word) => Kind::from_word(word.as_str()),
         _ => None,
     }
 }

@@ -20,6 +20,20 @@ pub enum Kind {
     Uri,
 }
 
+/// The ten kinds, in their order.
+pub const ALL_KINDS: [Kind; 10] = [
+    Kind::Str,
+    Kind::Binary,
+    Kind::Long,
+    Kind::Date,
+    Kind::Boolean,
+    Kind::Name,
+    Kind::Path,
+    Kind::Reference,
+    Kind::WeakReference,
+    Kind::Uri,
+];
+
 /// A value of one of the ten kinds. A DATE is in whole milliseconds, a REFERENCE or WEAKREFERENCE the
 /// 128-bit number of an identifier.
 #[derive(Debug, Drop)]
