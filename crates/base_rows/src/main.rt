@@ -4,6 +4,7 @@
 
 mod ends;
 mod marks;
+mod parts;
 mod rows;
 mod texts;
 mod trees;

@@ -1,14 +1,16 @@
 // What comes of each line.
-use crate::{ends, marks, texts, trees, vectors};
+use crate::{ends, marks, parts, texts, trees, vectors};
+use jr_part::Part;
 use jr_path::List;
 use jr_tree::{Edit, Tree};
 use std::alloc::{AllocError, Global};
 
-// What lines before have left: a tree, and the writes that are not applied yet.
+// What lines before have left: a tree, the writes that are not applied yet, and a part of a tree.
 #[derive(Drop)]
 pub(crate) struct Kept {
     pub(crate) tree: Tree,
     pub(crate) edit: Edit,
+    pub(crate) part: Part,
 }
 
 pub(crate) fn answers(alloc: Global, input: &[u8]) -> Result<String, AllocError> {
@@ -18,6 +20,7 @@ pub(crate) fn answers(alloc: Global, input: &[u8]) -> Result<String, AllocError>
         edit: Edit {
             writes: List::new(alloc),
         },
+        part: Part::new(alloc),
     };
     if let Ok(text) = str::from_utf8(input) {
         add_answers(alloc, text, &mut kept, &mut out)?;
@@ -38,6 +41,7 @@ fn add_answers(
             && !marks::add(alloc, word, rest, out)?
             && !ends::add(alloc, word, rest, out)?
             && !trees::add(alloc, word, rest, kept, out)?
+            && !parts::add(alloc, word, rest, kept, out)?
         {
             out.push_str("no row")?;
         }
