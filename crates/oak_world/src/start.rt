@@ -1,15 +1,17 @@
 // The documents before any step.
 ghost use Rattle.std.specs.Prelude.{◌≡◌, ◌≤◌, [], ◌∷◌, IfOk};
+ghost use Rattle.jr_path.specs.Grammar.{IsName};
 ghost use Rattle.jr_rev.specs.Vectors.{start_of};
 ghost use Rattle.core_world.specs.Start.{start_document, start_documents, start_root, start_settings, system_path, versions_path};
 
-use jr_path::{DocId, Keyed, Name, Path};
+use jr_path::{DocId, Keyed, Name, Path, PathFault};
 use jr_rev::{RevVec, Revision};
 use jr_value::{Property, Value};
 use oak_doc::Document;
 use std::alloc::{AllocError, Global};
 
 // The four documents of the start, in store order.
+#[tactic(auto, using(crate::proofs::Names::system_type, crate::proofs::Names::versions_type))]
 pub(crate) fn start_documents(
     alloc: Global,
     clusters: u32,
@@ -28,18 +30,21 @@ pub(crate) fn start_documents(
     Ok(documents)
 }
 
+#[tactic(auto, using(crate::proofs::Names::system_name))]
 fn system_path(alloc: Global) -> Result<Path, AllocError>
     ensures { IfOk result (λ path. path ≡ system_path) }
 {
     Path::root(alloc).child(&plain_name(alloc, "jcr:system")?)
 }
 
+#[tactic(auto, using(crate::proofs::Names::versions_name))]
 fn versions_path(alloc: Global) -> Result<Path, AllocError>
     ensures { IfOk result (λ path. path ≡ versions_path) }
 {
     system_path(alloc)?.child(&plain_name(alloc, "jcr:versionStorage")?)
 }
 
+#[tactic(auto, using(crate::proofs::Names::unstructured_name))]
 fn start_root(alloc: Global, clusters: u32) -> Result<Document, AllocError>
     requires { 1 ≤ clusters × clusters ≤ 8 }
     ensures { IfOk result (λ document. document ≡ start_root clusters) }
@@ -60,12 +65,14 @@ fn start_settings(alloc: Global, sessions: u32) -> Document
 }
 
 // The document of a node with its primary type alone, at the revision of the start.
+#[tactic(auto, using(crate::proofs::Names::type_name))]
 fn start_document(
     alloc: Global,
     path: Path,
     kind: &str,
     number: u64,
 ) -> Result<Document, AllocError>
+    requires { IsName kind.now }
     ensures { IfOk result (λ document. document ≡ start_document path kind.now number) }
 {
     let deleted = at_start(alloc, false)?;
@@ -96,11 +103,14 @@ fn at_start<T: Drop>(alloc: Global, value: T) -> Result<Keyed<Revision, T>, Allo
 }
 
 // A name of the repository's own, which is in the grammar of names.
+#[tactic(auto, using(crate::proofs::Names::only_memory))]
 fn plain_name(alloc: Global, text: &str) -> Result<Name, AllocError>
+    requires { IsName text.now }
     ensures { IfOk result (λ name. name ≡ text.now) }
 {
     match Name::parse(alloc, text) {
         Ok(name) => Ok(name),
-        Err(_) => Err(AllocError),
+        Err(PathFault::Memory) => Err(AllocError),
+        Err(_) => unreachable!(),
     }
 }
