@@ -1,34 +1,39 @@
 -- An operation of a commit on a document, from the calls that make it.
-use Rattle.std.proofs.Common.{◌≡◌, ◌⊎◌, inl, inr, ℕ, true, List, [], ◌∷◌, ◌++◌, Option, Some, None, Result, Ok, Err, refl, sym, ap, subst, ◌∙◌}
-use Rattle.std.specs.Prelude.{OnErr, OnOk, IsTrue, slice_get}
-use Rattle.std.specs.Option.{option_map}
+use Rattle.std.proofs.Common.{◌≡◌, ◌⊎◌, inl, inr, ℕ, Bool, true, false, cond, List, [], ◌∷◌, ◌++◌, Option, Some, None, Result, Ok, Err, is_some, refl, sym, ap, subst, ◌∙◌}
+use Rattle.std.specs.Prelude.{OnErr, OnOk, IsTrue, is_none, slice_get}
+use Rattle.std.specs.Option.{option_map, option_map_or}
 use Rattle.std.specs.declared.alloc.AllocError.{AllocError}
 use Rattle.jr_path.specs.declared.path.Path.{Path}
 use Rattle.jr_path.specs.declared.path.Item.{Item}
 use Rattle.jr_path.specs.declared.path.DocId.{DocId}
 use Rattle.jr_path.specs.declared.path.DocId.TheVariants as id
 use Rattle.jr_rev.specs.declared.revision.Revision.{Revision}
+use Rattle.oak_clash.specs.declared.mark.MarkAt.{MarkAt}
 use Rattle.oak_commit.specs.Clashing.{Met}
 use Rattle.oak_commit.specs.Committing.{Committing, asks_undo, due_by, due_of, fed, mark_due, tells_written, undo_due, undo_id, wanting, write_due}
 use Rattle.oak_commit.specs.Kept.{undoes}
 use Rattle.oak_commit.specs.Stages.{stage_of}
+use Rattle.oak_commit.specs.Writing.{last_op, write_op}
 use Rattle.oak_commit.specs.declared.outcome.CommitEnd.{CommitEnd}
 use Rattle.oak_commit.specs.declared.outcome.CommitEnd.TheVariants as end
 use Rattle.oak_commit.specs.declared.stage.Stage.TheVariants as stage
 use Rattle.oak_doc.specs.declared.asks.Ask.TheVariants as ask
 use Rattle.oak_doc.specs.declared.asks.Reply.TheVariants as reply
 use Rattle.oak_doc.specs.declared.document.Document.{Document}
+use Rattle.oak_doc.specs.declared.update.Change.{Change}
 use Rattle.oak_doc.specs.declared.update.Cond.{Cond}
+use Rattle.oak_doc.specs.declared.update.Cond.TheVariants.{NoCollision}
 use Rattle.oak_doc.specs.declared.update.Kept.{Kept}
 use Rattle.oak_doc.specs.declared.update.Kept.TheVariants as kept
 use Rattle.oak_doc.specs.declared.update.OpFault.{OpFault}
 use Rattle.oak_doc.specs.declared.update.OpFault.TheVariants as fault
 use Rattle.oak_doc.specs.declared.update.UpdateOp.{UpdateOp}
+use Rattle.oak_doc.specs.Updates.{after_changes, holds, of_revision, updated}
 use Rattle.oak_machine.specs.declared.event.Event.{Event}
 use Rattle.oak_machine.specs.declared.event.Event.TheVariants as event
 use Rattle.oak_machine.specs.declared.event.StepKind.TheVariants as kind
-use Rattle.oak_store.specs.Tables.{Table, Updates, after_undo, found}
-use Rattle.oak_world.specs.Parts.{IsLast, IsMade, IsMarked, IsRefusedBy, IsUndone, IsWritten, fed_made, op_due, refusal_at, result_of}
+use Rattle.oak_store.specs.Tables.{Table, Updates, after_undo, found, next_number}
+use Rattle.oak_world.specs.Parts.{IsLast, IsLastFault, IsMade, IsMarked, IsRefusedBy, IsUndone, IsWritten, fed_made, op_due, refusal_at, result_of}
 use Rattle.oak_world.proofs.Feeding.{op_last, op_mark, op_write}
 use Rattle.oak_world.proofs.Replies.{fed_lasted, fed_marked, fed_undone, fed_unmet, fed_written}
 use Rattle.oak_world.proofs.Stages.{IsLastStage, IsMarkStage, IsUndoStage, IsWriteStage, last_stage, mark_stage, undo_stage, write_stage}
@@ -68,6 +73,77 @@ write_asks c h = due_write c (write_stage c h)
 
 pub last_asks : (c : Committing) → stage_of c ≡ stage.Last → due_of c ≡ ask.Update (op_due c)
 last_asks c h = due_last c (last_stage c h)
+
+-- a mark is due
+pub mark_there : (c : Committing) → stage_of c ≡ stage.Mark → is_some (slice_get c.writer.due 0) ≡ true
+mark_there c h = let at : IsMarkStage c = mark_stage c h in ap (λ (fs : List Met). is_some (slice_get fs 0)) at.due
+
+-- ---- what an update meets
+
+ok_not : (d : Document) (f : OpFault) → Ok d ≡ Err f → ⊥
+ok_not d f h = cc
+
+unmet_not : (b : Bool) (d : Document) (k : Cond) (x : Kept) → cond b (Ok d) (Err (fault.Unmet k x)) ≡ Err fault.Absent → ⊥
+unmet_not true d k x h = cc
+unmet_not false d k x h = cc
+
+-- one that makes the document finds it
+found_by : (d : Option Document) (i : DocId) (k : Option Cond) (cs : List Change) (n : ℕ) → updated d (record { id = i; create = true; cond = k; changes = cs }) n ≡ Err fault.Absent → ⊥
+found_by None i None cs n h = ok_not _ fault.Absent h
+found_by (Some d) i None cs n h = ok_not _ fault.Absent h
+found_by None i (Some k) cs n h = unmet_not (holds None k) _ k _ h
+found_by (Some d) i (Some k) cs n h = unmet_not (holds (Some d) k) _ k _ h
+
+found_op : (d : Option Document) (op : UpdateOp) (n : ℕ) → op.create ≡ true → updated d op n ≡ Err fault.Absent → ⊥
+found_op d op n create h = found_by d op.id op.cond op.changes n (subst (λ (x : UpdateOp). updated d x n ≡ Err fault.Absent) (ap (λ (b : Bool). record op { create = b }) create) h)
+
+-- and one that has no condition is made
+made_by : (d : Option Document) (i : DocId) (cs : List Change) (n : ℕ) (f : OpFault) → updated d (record { id = i; create = true; cond = None; changes = cs }) n ≡ Err f → ⊥
+made_by None i cs n f h = ok_not _ f h
+made_by (Some d) i cs n f h = ok_not _ f h
+
+made_op : (d : Option Document) (op : UpdateOp) (n : ℕ) (f : OpFault) → op.create ≡ true → op.cond ≡ None → updated d op n ≡ Err f → ⊥
+made_op d op n f create free h =
+    made_by d op.id op.changes n f (subst (λ (x : UpdateOp). updated d x n ≡ Err f) (ap (λ (b : Bool). record op { create = b }) create ∙ ap (λ (k : Option Cond). record op { create = true; cond = k }) free) h)
+
+-- a last write
+last_by : (d : Option Document) (r : Revision) (ms : List MarkAt) (n : ℕ) (f : OpFault) → updated d (last_op r ms) n ≡ Err f → IsLastFault f
+last_by None r ms n f h = absurd (ok_not _ f h)
+last_by (Some d) r ms n f h = by (of_revision d.collisions r) h
+  where
+    by : (o : Option (Revision × Item)) → cond (is_none o) (Ok (after_changes (Some d) (last_op r ms) n)) (Err (fault.Unmet (NoCollision r) (option_map_or (λ e. kept.Entry e.0 e.1) o kept.Nothing))) ≡ Err f → IsLastFault f
+    by None k = absurd (ok_not _ f k)
+    by (Some e) k = let same : fault.Unmet (NoCollision r) (kept.Entry e.0 e.1) ≡ f = cc in subst (λ (x : OpFault). IsLastFault x) same tt
+
+module _ (t u : Table) (c : Committing) (op : UpdateOp) (asked : ask.Update op ≡ due_of c) where
+  pub mark_makes : stage_of c ≡ stage.Mark → Updates t u op (Err fault.Absent) → ⊥
+  mark_makes h up = let at : IsMarkStage c = mark_stage c h in found_op (found t op.id) op (next_number t) (ap (λ (x : UpdateOp). x.create) (op_is c op asked (due_mark c at) ∙ op_mark c at.going at.first at.rest at.due)) up.1
+
+  module _ (h : stage_of c ≡ stage.Write) where
+    write_fails : (f : OpFault) → updated (found t op.id) op (next_number t) ≡ Err f → ⊥
+    write_fails f told =
+        let at : IsWriteStage c = write_stage c h in
+        let same : op ≡ write_op c.revision c.edit.writes c.marks at.first = op_is c op asked (due_write c at) ∙ op_write c at.going at.first at.rest at.unmet at.left in
+        made_op (found t op.id) op (next_number t) f (ap (λ (x : UpdateOp). x.create) same) (ap (λ (x : UpdateOp). x.cond) same) told
+
+    pub write_makes : Updates t u op (Err fault.Absent) → ⊥
+    write_makes up = write_fails fault.Absent up.1
+
+    pub write_free : (k : Cond) (x : Kept) → Updates t u op (Err (fault.Unmet k x)) → ⊥
+    write_free k x up = write_fails (fault.Unmet k x) up.1
+
+  module _ (h : stage_of c ≡ stage.Last) where
+    last_told : (f : OpFault) → updated (found t op.id) op (next_number t) ≡ Err f → IsLastFault f
+    last_told f told =
+        let at : IsLastStage c = last_stage c h in
+        let same : op ≡ last_op c.revision c.marks = op_is c op asked (due_last c at) ∙ op_last c at.going at.unmet at.none in
+        last_by (found t op.id) c.revision c.marks (next_number t) f (subst (λ (x : UpdateOp). updated (found t op.id) x (next_number t) ≡ Err f) same told)
+
+    -- a last write fails for want of memory, or for a collision
+    pub last_fails : (f : OpFault) → Updates t u op (Err f) → IsLastFault f
+    last_fails fault.Memory up = tt
+    last_fails fault.Absent up = last_told fault.Absent up.1
+    last_fails (fault.Unmet k x) up = last_told (fault.Unmet k x) up.1
 
 -- ---- the event of a refusal
 

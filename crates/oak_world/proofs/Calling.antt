@@ -46,6 +46,7 @@ begins_free pin task.BackWrite v h = ap needed h
 begins_free pin task.BackRead v h = ap needed h
 begins_free pin (task.Checkpoint i) v h = ap needed h
 begins_free pin (task.Release i) v h = ap needed h
+begins_free pin _ v h = absurd h
 
 module _ (starts : Starts) (says : Says) (proper : StartsProper starts) (last : StartsLast starts says) {L : Type 0} (law : L) (j : Journal) (t : Table) (ms : List NodeState) (actors : List Actor) (is : IsWorld starts says (shown_world law j t ms actors)) (placed : ArePlaced actors j.events.places)
     (s k : ℕ) (on : slice_get j.sessions s ≡ Some k) (a : Actor) (at : a ≡ get_or actors s a) where
@@ -133,8 +134,8 @@ module _ (starts : Starts) (says : Says) (proper : StartsProper starts) (last : 
     remembered : memory_at ms k ≡ m
     remembered = memory_is starts says proper law j t ms actors is s there k on m m read
 
-    pub step_can : length j.events.list < 2 ^ 63 → CanStep s m j.events.places a.work
-    step_can short = can starts says proper last law j t ms actors is placed s k on a here m remembered short
+    pub step_can : work_in w.actors s ≢ work.Rest → length j.events.list < 2 ^ 63 → CanStep s m j.events.places a.work
+    step_can busy short = can starts says proper last law j t ms actors is placed s k on a here m remembered busy short
 
     module _ (u : Table) (n : NodeState) (es : Recorded) (b : Actor) (o : StepOut) (busy : work_in w.actors s ≢ work.Rest) (made : Steps s k (parts t m j.events.list) a.work (parts u n es.list) b.work o)
         (began : b.began ≡ a.began) (reply : b.reply ≡ a.reply) (reads : b.reads ≡ reads_after a.work o a.reads) where

@@ -87,8 +87,8 @@ module _ (starts : Starts) (says : Says) (proper : StartsProper starts) (last : 
     memory_is = ap (memory_at ms) node_is ∙ at
 
     -- what its step takes
-    pub can : length j.events.list < 2 ^ 63 → CanStep s m j.events.places a.work
-    can short =
+    pub can : work_in w.actors s ≢ work.Rest → length j.events.list < 2 ^ 63 → CanStep s m j.events.places a.work
+    can busy short =
         let n : needed a.work + cond (is_some a.reply) 1 0 ≤ a.places = its_placed in
         let o = own_are in
         let need : needed a.work ≤ j.events.places = omega (arith, n, o) in
@@ -96,7 +96,7 @@ module _ (starts : Starts) (says : Says) (proper : StartsProper starts) (last : 
         let few : length (reverse j.events.list) < 2 ^ 63 = subst (λ (n : ℕ). n < 2 ^ 63) (sym l) short in
         subst (λ (x : NodeState). CanStep s x j.events.places a.work) memory_is
         (subst (λ (v : Work). CanStep s (memory_at ms (node_in w.history s)) j.events.places v) work_is
-        (can_step starts says proper last w is s there j.events.places (subst (λ (v : Work). needed v ≤ j.events.places) (sym work_is) need) few))
+        (can_step starts says proper last w is s there busy j.events.places (subst (λ (v : Work). needed v ≤ j.events.places) (sym work_is) need) few))
 
     -- its step
     module _ (u : Table) (n : NodeState) (es : Recorded) (b : Actor) (o : StepOut) where

@@ -40,12 +40,13 @@ use Rattle.core_watch.specs.Moments.{IsDone, Moment, after_moments, first_of}
 use Rattle.core_watch.proofs.Finite.{ends as readers_end}
 use Rattle.core_world.specs.States.{State, base_in, memory_of, nodes_in}
 use Rattle.core_world.specs.Steps.{after_draw, after_mark, after_write}
+use Rattle.oak_port.specs.Ports.{IsWait}
 use Rattle.oak_port.specs.declared.task.StepOut.{StepOut}
 use Rattle.oak_port.specs.declared.task.StepOut.TheVariants as answers
 use Rattle.oak_port.specs.declared.task.TaskEnd.TheVariants as ends
 use Rattle.oak_world.specs.declared.actor.Work.{Work}
 use Rattle.oak_world.specs.declared.actor.Work.TheVariants as work
-use Rattle.oak_world.specs.Ending.{EndsIn, IsWait}
+use Rattle.oak_world.specs.Ending.{RestsIn, TaskEndsIn}
 use Rattle.oak_world.specs.Parts.{EndsSo, committed, marked, read_on}
 use Rattle.oak_node.specs.Seen.{seen_paths}
 use Rattle.oak_world.specs.declared.upkeep.Upkeep.{Upkeep}
@@ -96,26 +97,30 @@ does_now w s u o m = by (slice_get w.actors s) refl
     by None none = absurd (rests_on w s u o m (seatless w.actors s none))
     by (Some a) there = set_work w.actors u.actors s _ m.actors (slice_get_within w.actors s a there)
 
-resting : {L : Type 0} (w : WorldOf L) (s : ℕ) → work_in w.actors s ≡ work.Rest → (n : ℕ) → EndsIn n w s
-resting w s h zero = h
-resting w s h (suc n) = inl h
-
--- what ends in so many steps ends in more
-more : {L : Type 0} (w : WorldOf L) (s n m : ℕ) → n ≤ m → EndsIn n w s → EndsIn m w s
-more w s zero m le h = resting w s h m
-more w s (suc n) zero le h = let none : ⊥ = omega (arith, le) in absurd none
-more w s (suc n) (suc m) le (inl h) = inl h
-more w s (suc n) (suc m) le (inr f) = inr (λ u o st. elim (f u o st) [ inl k ↦ inl k | inr k ↦ inr (more u s n m (omega (arith, le)) k) ])
-
--- it ends in one step more than after each first one
-stepped : {L : Type 0} (w : WorldOf L) (s n : ℕ) (v : Work) → work_in w.actors s ≡ v
-    → ((u : WorldOf L) (o : StepOut) (x : Work) → Makes s (state_of w) v (state_of u) x o → work_in u.actors s ≡ x → IsWait o ⊎ EndsIn n u s) → EndsIn (suc n) w s
-stepped w s n v is f = inr (λ u o m. f u o m.does (subst (λ (y : Work). Makes s (state_of w) y (state_of u) m.does o) is m.makes) (does_now w s u o m))
-
 -- a step lowers the number, or it waits
-pub lowers : {L : Type 0} (w u : WorldOf L) (s n : ℕ) (o : StepOut) → StepsIn w s u o → EndsIn (suc n) w s → IsWait o ⊎ EndsIn n u s
+pub lowers : {L : Type 0} (w u : WorldOf L) (s n : ℕ) (o : StepOut) → StepsIn w s u o → TaskEndsIn (suc n) w s → IsWait o ⊎ TaskEndsIn n u s
 lowers w u s n o m (inl rest) = absurd (rests_on w s u o m rest)
-lowers w u s n o m (inr f) = f u o m
+lowers w u s n o m (inr f) = subst (λ (v : Work). IsWait o ⊎ RestsIn s n (state_of u) v) (sym (does_now w s u o m)) (f (state_of u) m.does o m.makes)
+
+-- in worlds of one state a session that does one thing comes to rest in as many steps
+pub same_ends : {L : Type 0} (w u : WorldOf L) (s n : ℕ) → state_of u ≡ state_of w → work_in u.actors s ≡ work_in w.actors s → TaskEndsIn n w s → TaskEndsIn n u s
+same_ends w u s n state does h = subst (λ (t : State). RestsIn s n t (work_in u.actors s)) (sym state) (subst (λ (v : Work). RestsIn s n (state_of w) v) (sym does) h)
+
+module _ (s : ℕ) where
+  resting : (w : State) (v : Work) → v ≡ work.Rest → (n : ℕ) → RestsIn s n w v
+  resting w v h zero = h
+  resting w v h (suc n) = inl h
+
+  -- what comes to rest in so many steps does in more
+  more : (w : State) (v : Work) (n m : ℕ) → n ≤ m → RestsIn s n w v → RestsIn s m w v
+  more w v zero m le h = resting w v h m
+  more w v (suc n) zero le h = let none : ⊥ = omega (arith, le) in absurd none
+  more w v (suc n) (suc m) le (inl h) = inl h
+  more w v (suc n) (suc m) le (inr f) = inr (λ u x o st. elim (f u x o st) [ inl k ↦ inl k | inr k ↦ inr (more u x n m (omega (arith, le)) k) ])
+
+  -- of what is done, and is this
+  now_rests : (w : State) (v x : Work) (n : ℕ) → x ≡ v → RestsIn s n w v → RestsIn s n w x
+  now_rests w v x n is h = subst (λ (y : Work). RestsIn s n w y) (sym is) h
 
 -- ---- tasks of one step
 
@@ -169,8 +174,8 @@ at_once s t u (work.Read r) x o short m = absurd short
 at_once s t u (work.Plan edit marks) x o short m = absurd short
 at_once s t u (work.Commit c) x o short m = absurd short
 
-short_ends : {L : Type 0} (w : WorldOf L) (s n : ℕ) (v : Work) → IsShort v → work_in w.actors s ≡ v → EndsIn (suc n) w s
-short_ends w s n v short is = stepped w s n v is (λ u o x m now. elim (at_once s (state_of w) (state_of u) v x o short m) [ inl k ↦ inl k | inr k ↦ inr (resting u s (now ∙ k) n) ])
+short_ends : (s : ℕ) (w : State) (n : ℕ) (v : Work) → IsShort v → RestsIn s (suc n) w v
+short_ends s w n v short = inr (λ u x o m. elim (at_once s w u v x o short m) [ inl k ↦ inl k | inr k ↦ inr (resting s u x k n) ])
 
 -- ---- a commit that is settled
 
@@ -195,18 +200,18 @@ settled_step s t u c e x o is (inl m) = by m.0 m.4
 settled_step s t u c e x o is (inr (inl m)) = ends_so c x o m.2
 settled_step s t u c e x o is (inr (inr m)) = absurd (none_some c.outcome e m.1 is)
 
-goes_down : {L : Type 0} (s n : ℕ) (u : WorldOf L) (c : Committing) (x : Work) → work_in u.actors s ≡ x → GoesDown c x
-    → ((p : Path) (rest : List Path) → c.writer.written ≡ p ∷ rest → work_in u.actors s ≡ work.Commit (with_undone c) → EndsIn (suc n) u s) → EndsIn (suc n) u s
-goes_down s n u c x now (inl k) f = resting u s (now ∙ k) (suc n)
-goes_down s n u c x now (inr (inl k)) f = short_ends u s n (work.Move c.revision) tt (now ∙ k)
-goes_down s n u c x now (inr (inr k)) f = f k.1 k.2 k.3 (now ∙ k.0)
+goes_down : (s n : ℕ) (u : State) (c : Committing) (x : Work) → GoesDown c x
+    → ((p : Path) (rest : List Path) → c.writer.written ≡ p ∷ rest → RestsIn s (suc n) u (work.Commit (with_undone c))) → RestsIn s (suc n) u x
+goes_down s n u c x (inl k) f = resting s u x k (suc n)
+goes_down s n u c x (inr (inl k)) f = now_rests s u (work.Move c.revision) x (suc n) k (short_ends s u n (work.Move c.revision) tt)
+goes_down s n u c x (inr (inr k)) f = now_rests s u (work.Commit (with_undone c)) x (suc n) k.0 (f k.1 k.2 k.3)
 
 -- what is written is undone, the revision ends, and the base moves
-settled_ends : {L : Type 0} (s : ℕ) (ps : List Path) (w : WorldOf L) (c : Committing) (e : CommitEnd) → work_in w.actors s ≡ work.Commit c → c.outcome ≡ Some e → c.writer.written ≡ ps → EndsIn (suc (suc (length ps))) w s
-settled_ends s [] w c e at is written =
-    stepped w s (suc zero) (work.Commit c) at (λ u o x m now. inr (goes_down s zero u c x now (settled_step s (state_of w) (state_of u) c e x o is m) (λ p rest first there. absurd (none_cons c.writer.written p rest written first))))
-settled_ends s (q ∷ qs) w c e at is written =
-    stepped w s (suc (suc (length qs))) (work.Commit c) at (λ u o x m now. inr (goes_down s (suc (length qs)) u c x now (settled_step s (state_of w) (state_of u) c e x o is m) (λ p rest first there. settled_ends s qs u (with_undone c) e there is (ap (drop 1) written))))
+settled_ends : (s : ℕ) (ps : List Path) (w : State) (c : Committing) (e : CommitEnd) → c.outcome ≡ Some e → c.writer.written ≡ ps → RestsIn s (suc (suc (length ps))) w (work.Commit c)
+settled_ends s [] w c e is written =
+    inr (λ u x o m. inr (goes_down s zero u c x (settled_step s w u c e x o is m) (λ p rest first. absurd (none_cons c.writer.written p rest written first))))
+settled_ends s (q ∷ qs) w c e is written =
+    inr (λ u x o m. inr (goes_down s (suc (length qs)) u c x (settled_step s w u c e x o is m) (λ p rest first. settled_ends s qs u (with_undone c) e is (ap (drop 1) written))))
 
 -- ---- a commit that is going on
 
@@ -217,26 +222,28 @@ Turns c x = (d : Committing) × (e : CommitEnd) × (x ≡ work.Commit d) × (d.o
 abbrev steps_after : Committing → ℕ
 steps_after c = suc (suc (suc (length c.writer.written)))
 
-turned_ends : {L : Type 0} (s n : ℕ) (u : WorldOf L) (c : Committing) (x : Work) → work_in u.actors s ≡ x → Turns c x → steps_after c ≤ n → EndsIn n u s
-turned_ends s n u c x now k le = let few = k.4 in more u s (suc (suc (length k.0.writer.written))) n (omega (arith, le, few)) (settled_ends s k.0.writer.written u k.0 k.1 (now ∙ k.2) k.3 refl)
+turned_ends : (s n : ℕ) (u : State) (c : Committing) (x : Work) → Turns c x → steps_after c ≤ n → RestsIn s n u x
+turned_ends s n u c x k le =
+    let few = k.4 in
+    now_rests s u (work.Commit k.0) x n k.2 (more s u (work.Commit k.0) (suc (suc (length k.0.writer.written))) n (omega (arith, le, few)) (settled_ends s k.0.writer.written u k.0 k.1 k.3 refl))
 
--- in each world of this state where session s has this committer, it ends in the same number of steps
-abbrev Bounded : (L : Type 0) → ℕ → State → Committing → Type 0
-Bounded L s t c = (n : ℕ) × ((w : WorldOf L) → state_of w ≡ t → work_in w.actors s ≡ work.Commit c → EndsIn n w s)
+-- there is a number of steps in which a session with this committer comes to rest
+abbrev Bounded : ℕ → State → Committing → Type 0
+Bounded s t c = (n : ℕ) × RestsIn s n t (work.Commit c)
 
 -- it goes on so, or turns
 abbrev GoesOnTo : ℕ → State → Committing → State → Committing → Type 0
 GoesOnTo s t c t' d = (u : State) (x : Work) (o : StepOut) → MakesCommit s t c u x o → ((u ≡ t') × (x ≡ work.Commit d)) ⊎ Turns c x
 
-goes_on : (L : Type 0) (s : ℕ) (t : State) (c : Committing) (t' : State) (d : Committing) → GoesOnTo s t c t' d → Bounded L s t' d → Bounded L s t c
-goes_on L s t c t' d steps next = (suc (next.0 + steps_after c), λ w is at. stepped w s (next.0 + steps_after c) (work.Commit c) at (λ u o x m now. inr (by u x now (steps (state_of u) x o (subst (λ (y : State). MakesCommit s y c (state_of u) x o) is m)))))
+goes_on : (s : ℕ) (t : State) (c : Committing) (t' : State) (d : Committing) → GoesOnTo s t c t' d → Bounded s t' d → Bounded s t c
+goes_on s t c t' d steps next = (suc (next.0 + steps_after c), inr (λ u x o m. inr (by u x (steps u x o m))))
   where
-    by : (u : WorldOf L) (x : Work) → work_in u.actors s ≡ x → ((state_of u ≡ t') × (x ≡ work.Commit d)) ⊎ Turns c x → EndsIn (next.0 + steps_after c) u s
-    by u x now (inl k) = more u s next.0 (next.0 + steps_after c) (omega arith) (next.1 u k.0 (now ∙ k.1))
-    by u x now (inr k) = turned_ends s (next.0 + steps_after c) u c x now k (omega arith)
+    by : (u : State) (x : Work) → ((u ≡ t') × (x ≡ work.Commit d)) ⊎ Turns c x → RestsIn s (next.0 + steps_after c) u x
+    by u x (inl k) = subst (λ (y : State). RestsIn s (next.0 + steps_after c) y x) (sym k.0) (now_rests s t' (work.Commit d) x (next.0 + steps_after c) k.1 (more s t' (work.Commit d) next.0 (next.0 + steps_after c) (omega arith) next.1))
+    by u x (inr k) = turned_ends s (next.0 + steps_after c) u c x k (omega arith)
 
-turns_at_once : (L : Type 0) (s : ℕ) (t : State) (c : Committing) → ((u : State) (x : Work) (o : StepOut) → MakesCommit s t c u x o → Turns c x) → Bounded L s t c
-turns_at_once L s t c steps = (suc (steps_after c), λ w is at. stepped w s (steps_after c) (work.Commit c) at (λ u o x m now. inr (turned_ends s (steps_after c) u c x now (steps (state_of u) x o (subst (λ (y : State). MakesCommit s y c (state_of u) x o) is m)) (omega arith))))
+turns_at_once : (s : ℕ) (t : State) (c : Committing) → ((u : State) (x : Work) (o : StepOut) → MakesCommit s t c u x o → Turns c x) → Bounded s t c
+turns_at_once s t c steps = (suc (steps_after c), inr (λ u x o m. inr (turned_ends s (steps_after c) u c x (steps u x o m) (omega arith))))
 
 -- what is said of the parts of a list is said of those of an equal one
 of_cons : {A : Type 0} (P : A → List A → Type 0) (x y : A) (xs ys : List A) → x ∷ xs ≡ y ∷ ys → P x xs → P y ys
@@ -311,37 +318,42 @@ module _ (s : ℕ) (t u : State) (c : Committing) (x : Work) (going : c.outcome 
   lasts_next o due left (inr (inr m)) = turns_wanting m.3
 
 -- a commit ends with these documents left, where it does with no marks due
-marks_end : (L : Type 0) (s : ℕ) (ps : List Path) → ((t : State) (c : Committing) → c.outcome ≡ None → c.writer.due ≡ [] → c.writer.left ≡ ps → Bounded L s t c)
-    → (fs : List Met) (t : State) (c : Committing) → c.outcome ≡ None → c.writer.due ≡ fs → c.writer.left ≡ ps → Bounded L s t c
-marks_end L s ps unmet [] t c going due left = unmet t c going due left
-marks_end L s ps unmet (f ∷ fs) t c going due left =
-    goes_on L s t c (after_mark t s (running_as s c) f fs) (marked c fs) (λ u x o m. marks_next s t u c x going o f fs due m) (marks_end L s ps unmet fs (after_mark t s (running_as s c) f fs) (marked c fs) going refl left)
+marks_end : (s : ℕ) (ps : List Path) → ((t : State) (c : Committing) → c.outcome ≡ None → c.writer.due ≡ [] → c.writer.left ≡ ps → Bounded s t c)
+    → (fs : List Met) (t : State) (c : Committing) → c.outcome ≡ None → c.writer.due ≡ fs → c.writer.left ≡ ps → Bounded s t c
+marks_end s ps unmet [] t c going due left = unmet t c going due left
+marks_end s ps unmet (f ∷ fs) t c going due left =
+    goes_on s t c (after_mark t s (running_as s c) f fs) (marked c fs) (λ u x o m. marks_next s t u c x going o f fs due m) (marks_end s ps unmet fs (after_mark t s (running_as s c) f fs) (marked c fs) going refl left)
 
-writes_end : (L : Type 0) (s : ℕ) (ps : List Path) (t : State) (c : Committing) → c.outcome ≡ None → c.writer.due ≡ [] → c.writer.left ≡ ps → Bounded L s t c
-writes_end L s [] t c going due left = turns_at_once L s t c (λ u x o m. lasts_next s t u c x going o due left m)
-writes_end L s (p ∷ ps) t c going due left =
-    goes_on L s t c (after_write t s (running_as s c) p ps) (written c p ps (nodes_in t.table p)) (λ u x o m. writes_next s t u c x going o p ps due left m)
-    (marks_end L s ps (λ t' d a b e. writes_end L s ps t' d a b e) (found c.base c.revision p c.marks (nodes_in t.table p)) (after_write t s (running_as s c) p ps) (written c p ps (nodes_in t.table p)) going refl refl)
+writes_end : (s : ℕ) (ps : List Path) (t : State) (c : Committing) → c.outcome ≡ None → c.writer.due ≡ [] → c.writer.left ≡ ps → Bounded s t c
+writes_end s [] t c going due left = turns_at_once s t c (λ u x o m. lasts_next s t u c x going o due left m)
+writes_end s (p ∷ ps) t c going due left =
+    goes_on s t c (after_write t s (running_as s c) p ps) (written c p ps (nodes_in t.table p)) (λ u x o m. writes_next s t u c x going o p ps due left m)
+    (marks_end s ps (λ t' d a b e. writes_end s ps t' d a b e) (found c.base c.revision p c.marks (nodes_in t.table p)) (after_write t s (running_as s c) p ps) (written c p ps (nodes_in t.table p)) going refl refl)
 
-commit_ends : {L : Type 0} (w : WorldOf L) (s : ℕ) (c : Committing) → work_in w.actors s ≡ work.Commit c → (n : ℕ) × EndsIn n w s
-commit_ends {L} w s c at = by c.outcome refl
+commit_ends : (w : State) (s : ℕ) (c : Committing) → (n : ℕ) × RestsIn s n w (work.Commit c)
+commit_ends w s c = by c.outcome refl
   where
-    by : (e : Option CommitEnd) → c.outcome ≡ e → (n : ℕ) × EndsIn n w s
-    by (Some e) is = (suc (suc (length c.writer.written)), settled_ends s c.writer.written w c e at is refl)
-    by None is =
-        let b = marks_end L s c.writer.left (λ t' d a b e. writes_end L s c.writer.left t' d a b e) c.writer.due (state_of w) c is refl refl in
-        (b.0, b.1 w refl at)
+    by : (e : Option CommitEnd) → c.outcome ≡ e → (n : ℕ) × RestsIn s n w (work.Commit c)
+    by (Some e) is = (suc (suc (length c.writer.written)), settled_ends s c.writer.written w c e is refl)
+    by None is = marks_end s c.writer.left (λ t' d a b e. writes_end s c.writer.left t' d a b e) c.writer.due w c is refl refl
 
-plan_ends : {L : Type 0} (w : WorldOf L) (s : ℕ) (edit : Edit) (marks : List MarkAt) → work_in w.actors s ≡ work.Plan edit marks → (n : ℕ) × EndsIn n w s
-plan_ends {L} w s edit marks at = (suc drawn.0, stepped w s drawn.0 (work.Plan edit marks) at (λ u o x m now. inr (by u o x m now)))
-  where
-    drawn : Bounded L s (after_draw (state_of w) s edit marks (marked_paths marks)) (begun (next_draw (memory_of (state_of w) s)) (base_in (state_of w) s) edit marks)
-    drawn = writes_end L s (written_paths marks) (after_draw (state_of w) s edit marks (marked_paths marks)) (begun (next_draw (memory_of (state_of w) s)) (base_in (state_of w) s) edit marks) refl refl refl
+module _ (w : State) (s : ℕ) (edit : Edit) (marks : List MarkAt) where
+  abbrev drawing : State
+  drawing = after_draw w s edit marks (marked_paths marks)
 
-    by : (u : WorldOf L) (o : StepOut) (x : Work) → Makes s (state_of w) (work.Plan edit marks) (state_of u) x o → work_in u.actors s ≡ x → EndsIn drawn.0 u s
-    by u (answers.Went kind.Draw) x m now = drawn.1 u m.0 (now ∙ m.1)
-    by u answers.Memory x m now = resting u s (now ∙ m.1) drawn.0
-    by u _ x m now = absurd m
+  abbrev begins : Committing
+  begins = begun (next_draw (memory_of w s)) (base_in w s) edit marks
+
+  drawn : Bounded s drawing begins
+  drawn = writes_end s (written_paths marks) drawing begins refl refl refl
+
+  plan_ends : (n : ℕ) × RestsIn s n w (work.Plan edit marks)
+  plan_ends = (suc drawn.0, inr (λ u x o m. inr (by u o x m)))
+    where
+      by : (u : State) (o : StepOut) (x : Work) → Makes s w (work.Plan edit marks) u x o → RestsIn s drawn.0 u x
+      by u (answers.Went kind.Draw) x m = subst (λ (y : State). RestsIn s drawn.0 y x) (sym m.0) (now_rests s drawing (work.Commit begins) x drawn.0 m.1 drawn.1)
+      by u answers.Memory x m = resting s u x m.1 drawn.0
+      by u _ x m = absurd m
 
 -- ---- a load or a list
 
@@ -367,17 +379,17 @@ read_step s t u r x (answers.Ready e) m = inl m.1
 read_step s t u r x answers.Memory m = inl m.1
 read_step s t u r x _ m = absurd m
 
-reads_on : {L : Type 0} (s n : ℕ) (t : Table) (w : WorldOf L) (r : Reader) → work_in w.actors s ≡ work.Read r → w.table ≡ t
-    → ((u : WorldOf L) → u.table ≡ t → work_in u.actors s ≡ work.Read (read_on t r) → due (read_on t r) ≢ ask.Done → EndsIn n u s) → EndsIn (suc n) w s
-reads_on {L} s n t w r at same f = stepped w s n (work.Read r) at (λ u o x m now. inr (by u x now (read_step s (state_of w) (state_of u) r x o m)))
+reads_on : (s n : ℕ) (t : Table) (w : State) (r : Reader) → w.table ≡ t
+    → ((u : State) → u.table ≡ t → due (read_on t r) ≢ ask.Done → RestsIn s n u (work.Read (read_on t r))) → RestsIn s (suc n) w (work.Read r)
+reads_on s n t w r same f = inr (λ u x o m. inr (by u x (read_step s w u r x o m)))
   where
-    by : (u : WorldOf L) (x : Work) → work_in u.actors s ≡ x → (x ≡ work.Rest) ⊎ ((u.table ≡ w.table) × (x ≡ work.Read (read_on w.table r)) × (due (read_on w.table r) ≢ ask.Done)) → EndsIn n u s
-    by u x now (inl k) = resting u s (now ∙ k) n
-    by u x now (inr k) = f u (k.0 ∙ same) (now ∙ (k.1 ∙ ap (λ (y : Table). work.Read (read_on y r)) same)) (subst (λ (y : Table). due (read_on y r) ≢ ask.Done) same k.2)
+    by : (u : State) (x : Work) → (x ≡ work.Rest) ⊎ ((u.table ≡ w.table) × (x ≡ work.Read (read_on w.table r)) × (due (read_on w.table r) ≢ ask.Done)) → RestsIn s n u x
+    by u x (inl k) = resting s u x k n
+    by u x (inr k) = now_rests s u (work.Read (read_on t r)) x n (k.1 ∙ ap (λ (y : Table). work.Read (read_on y r)) same) (f u (k.0 ∙ same) (subst (λ (y : Table). due (read_on y r) ≢ ask.Done) same k.2))
 
-read_ends : {L : Type 0} (s n : ℕ) (t : Table) (w : WorldOf L) (r : Reader) → work_in w.actors s ≡ work.Read r → w.table ≡ t → IsDone (after_moments (first_of n (λ i. at_rest t)) r).step → EndsIn (suc n) w s
-read_ends s zero t w r at same done = reads_on s zero t w r at same (λ u still now more. absurd (more (done_due t r done)))
-read_ends s (suc n) t w r at same done = reads_on s (suc n) t w r at same (λ u still now more. read_ends s n t u (read_on t r) now still done)
+read_ends : (s n : ℕ) (t : Table) (w : State) (r : Reader) → w.table ≡ t → IsDone (after_moments (first_of n (λ i. at_rest t)) r).step → RestsIn s (suc n) w (work.Read r)
+read_ends s zero t w r same done = reads_on s zero t w r same (λ u still more. absurd (more (done_due t r done)))
+read_ends s (suc n) t w r same done = reads_on s (suc n) t w r same (λ u still more. read_ends s n t u (read_on t r) still done)
 
 -- a document that is found is under one of the ids
 ids_known : {X : Type 0} (es : List (DocId × X)) (x : DocId) → is_some (lookup (is_at (id_cmp x)) es) ≡ true → list_any (eq_by_cmp id_cmp x) (keys_of es) ≡ true
@@ -388,75 +400,75 @@ ids_known (e ∷ es) x h = by (eq_by_cmp id_cmp x e.0) h (ids_known es x)
     by true h rest = refl
     by false h rest = rest h
 
-load_ends : {L : Type 0} (w : WorldOf L) (s : ℕ) (r : Reader) → IsTable w.table.documents → work_in w.actors s ≡ work.Read r → (n : ℕ) × EndsIn n w s
-load_ends w s r table at =
+load_ends : (w : State) (s : ℕ) (r : Reader) → IsTable w.table.documents → (n : ℕ) × RestsIn s n w (work.Read r)
+load_ends w s r table =
     let e = readers_end (keys_of w.table.documents) (λ i. at_rest w.table) r (λ i. record { ordered = table; among = ids_known w.table.documents }) in
-    (suc e.0, read_ends s e.0 w.table w r at refl e.1)
+    (suc e.0, read_ends s e.0 w.table w r refl e.1)
 
 -- ---- background work
 
 -- one document after another is told, and then the root
-publishes_end : {L : Type 0} (s n : ℕ) (ids : List DocId) (r : Revision) → length ids ≤ n → (w : WorldOf L) (k : Upkeep) → work_in w.actors s ≡ work.Upkeep k
-    → ((u : State) (x : Work) (o : StepOut) → MakesUpkeep s (state_of w) k u x o → Publishes s (state_of w) ids r u x o) → EndsIn (suc n) w s
-publishes_end {L} s zero ids r few w k at is = stepped w s zero (work.Upkeep k) at (λ u o x m now. inr (by u o x (is (state_of u) x o m) now))
+publishes_end : (s n : ℕ) (ids : List DocId) (r : Revision) → length ids ≤ n → (w : State) (k : Upkeep)
+    → ((u : State) (x : Work) (o : StepOut) → MakesUpkeep s w k u x o → Publishes s w ids r u x o) → RestsIn s (suc n) w (work.Upkeep k)
+publishes_end s zero ids r few w k is = inr (λ u x o m. inr (by u o x (is u x o m)))
   where
-    by : (u : WorldOf L) (o : StepOut) (x : Work) → Publishes s (state_of w) ids r (state_of u) x o → work_in u.actors s ≡ x → EndsIn zero u s
-    by u (answers.Went kind.Back) x m now = let l : length ids ≡ length m.0 + 1 = ap length m.2 ∙ length-append m.0 (m.1 ∷ []) in absurd (omega (arith, l, few))
-    by u (answers.Ready (ends.Published o)) x m now = now ∙ m.3
-    by u answers.Memory x m now = now ∙ m.1
-    by u _ x m now = absurd m
-publishes_end {L} s (suc n) ids r few w k at is = stepped w s (suc n) (work.Upkeep k) at (λ u o x m now. inr (by u o x (is (state_of u) x o m) now (λ rest v l there. publishes_end s n rest r l v (upkeep.Publish rest r) there (λ t y p z. z))))
+    by : (u : State) (o : StepOut) (x : Work) → Publishes s w ids r u x o → RestsIn s zero u x
+    by u (answers.Went kind.Back) x m = let l : length ids ≡ length m.0 + 1 = ap length m.2 ∙ length-append m.0 (m.1 ∷ []) in absurd (omega (arith, l, few))
+    by u (answers.Ready (ends.Published o)) x m = m.3
+    by u answers.Memory x m = m.1
+    by u _ x m = absurd m
+publishes_end s (suc n) ids r few w k is = inr (λ u x o m. inr (by u o x (is u x o m) (λ rest v l. publishes_end s n rest r l v (upkeep.Publish rest r) (λ t y p z. z))))
   where
-    by : (u : WorldOf L) (o : StepOut) (x : Work) → Publishes s (state_of w) ids r (state_of u) x o → work_in u.actors s ≡ x
-        → ((rest : List DocId) (v : WorldOf L) → length rest ≤ n → work_in v.actors s ≡ work.Upkeep (upkeep.Publish rest r) → EndsIn (suc n) v s) → EndsIn (suc n) u s
-    by u (answers.Went kind.Back) x m now next = let l : length ids ≡ length m.0 + 1 = ap length m.2 ∙ length-append m.0 (m.1 ∷ []) in next m.0 u (omega (arith, l, few)) (now ∙ m.4)
-    by u (answers.Ready (ends.Published o)) x m now next = resting u s (now ∙ m.3) (suc n)
-    by u answers.Memory x m now next = resting u s (now ∙ m.1) (suc n)
-    by u _ x m now next = absurd m
+    by : (u : State) (o : StepOut) (x : Work) → Publishes s w ids r u x o
+        → ((rest : List DocId) (v : State) → length rest ≤ n → RestsIn s (suc n) v (work.Upkeep (upkeep.Publish rest r))) → RestsIn s (suc n) u x
+    by u (answers.Went kind.Back) x m next = let l : length ids ≡ length m.0 + 1 = ap length m.2 ∙ length-append m.0 (m.1 ∷ []) in now_rests s u (work.Upkeep (upkeep.Publish m.0 r)) x (suc n) m.4 (next m.0 u (omega (arith, l, few)))
+    by u (answers.Ready (ends.Published o)) x m next = resting s u x m.3 (suc n)
+    by u answers.Memory x m next = resting s u x m.1 (suc n)
+    by u _ x m next = absurd m
 
 -- a background write
-writes_out : {L : Type 0} (w : WorldOf L) (s : ℕ) → work_in w.actors s ≡ work.Upkeep upkeep.Write → (n : ℕ) × EndsIn n w s
-writes_out {L} w s at = (suc (suc many), stepped w s (suc many) (work.Upkeep upkeep.Write) at (λ u o x m now. inr (by u o x m now)))
+writes_out : (w : State) (s : ℕ) → (n : ℕ) × RestsIn s n w (work.Upkeep upkeep.Write)
+writes_out w s = (suc (suc many), inr (λ u x o m. inr (by u o x m)))
   where
     many : ℕ
-    many = total (seen_paths (memory_of (state_of w) s).head (memory_of (state_of w) s).notes)
+    many = total (seen_paths (memory_of w s).head (memory_of w s).notes)
 
-    by : (u : WorldOf L) (o : StepOut) (x : Work) → Makes s (state_of w) (work.Upkeep upkeep.Write) (state_of u) x o → work_in u.actors s ≡ x → EndsIn (suc many) u s
-    by u (answers.Went kind.Back) x m now = publishes_end s many (told_ids (m.0).paths) (m.0).upto (told_few (memory_of (state_of w) s) m.0 m.1) u (upkeep.Noted m.0) (now ∙ m.3) (λ t y p z. z)
-    by u answers.Memory x m now = resting u s (now ∙ m.1) (suc many)
-    by u _ x m now = absurd m
+    by : (u : State) (o : StepOut) (x : Work) → Makes s w (work.Upkeep upkeep.Write) u x o → RestsIn s (suc many) u x
+    by u (answers.Went kind.Back) x m = now_rests s u (work.Upkeep (upkeep.Noted m.0)) x (suc many) m.3 (publishes_end s many (told_ids (m.0).paths) (m.0).upto (told_few (memory_of w s) m.0 m.1) u (upkeep.Noted m.0) (λ t y p z. z))
+    by u answers.Memory x m = resting s u x m.1 (suc many)
+    by u _ x m = absurd m
 
 -- a background read
-reads_in : {L : Type 0} (w : WorldOf L) (s : ℕ) → work_in w.actors s ≡ work.Upkeep upkeep.Read → EndsIn (suc (suc zero)) w s
-reads_in {L} w s at = stepped w s (suc zero) (work.Upkeep upkeep.Read) at (λ u o x m now. inr (by u o x m now))
+reads_in : (w : State) (s : ℕ) → RestsIn s (suc (suc zero)) w (work.Upkeep upkeep.Read)
+reads_in w s = inr (λ u x o m. inr (by u o x m))
   where
-    by : (u : WorldOf L) (o : StepOut) (x : Work) → Makes s (state_of w) (work.Upkeep upkeep.Read) (state_of u) x o → work_in u.actors s ≡ x → EndsIn (suc zero) u s
-    by u (answers.Went kind.Back) x m now = short_ends u s zero (work.Upkeep (upkeep.Learn (m.0).last_rev (m.0).sweep_rev)) tt (now ∙ m.3)
-    by u answers.Memory x m now = resting u s (now ∙ m.1) (suc zero)
-    by u _ x m now = absurd m
+    by : (u : State) (o : StepOut) (x : Work) → Makes s w (work.Upkeep upkeep.Read) u x o → RestsIn s (suc zero) u x
+    by u (answers.Went kind.Back) x m = now_rests s u (work.Upkeep (upkeep.Learn (m.0).last_rev (m.0).sweep_rev)) x (suc zero) m.3 (short_ends s u zero (work.Upkeep (upkeep.Learn (m.0).last_rev (m.0).sweep_rev)) tt)
+    by u answers.Memory x m = resting s u x m.1 (suc zero)
+    by u _ x m = absurd m
 
-upkeep_ends : {L : Type 0} (w : WorldOf L) (s : ℕ) (k : Upkeep) → work_in w.actors s ≡ work.Upkeep k → (n : ℕ) × EndsIn n w s
-upkeep_ends w s upkeep.Write at = writes_out w s at
-upkeep_ends w s (upkeep.Noted n) at = (suc (length (told_ids n.paths)), publishes_end s (length (told_ids n.paths)) (told_ids n.paths) n.upto (omega arith) w (upkeep.Noted n) at (λ t y p z. z))
-upkeep_ends w s (upkeep.Publish ids r) at = (suc (length ids), publishes_end s (length ids) ids r (omega arith) w (upkeep.Publish ids r) at (λ t y p z. z))
-upkeep_ends w s upkeep.Read at = (suc (suc zero), reads_in w s at)
-upkeep_ends w s (upkeep.Learn last sweep) at = (suc zero, short_ends w s zero (work.Upkeep (upkeep.Learn last sweep)) tt at)
-upkeep_ends w s (upkeep.Checkpoint i) at = (suc zero, short_ends w s zero (work.Upkeep (upkeep.Checkpoint i)) tt at)
-upkeep_ends w s (upkeep.Release i) at = (suc zero, short_ends w s zero (work.Upkeep (upkeep.Release i)) tt at)
+upkeep_ends : (w : State) (s : ℕ) (k : Upkeep) → (n : ℕ) × RestsIn s n w (work.Upkeep k)
+upkeep_ends w s upkeep.Write = writes_out w s
+upkeep_ends w s (upkeep.Noted n) = (suc (length (told_ids n.paths)), publishes_end s (length (told_ids n.paths)) (told_ids n.paths) n.upto (omega arith) w (upkeep.Noted n) (λ t y p z. z))
+upkeep_ends w s (upkeep.Publish ids r) = (suc (length ids), publishes_end s (length ids) ids r (omega arith) w (upkeep.Publish ids r) (λ t y p z. z))
+upkeep_ends w s upkeep.Read = (suc (suc zero), reads_in w s)
+upkeep_ends w s (upkeep.Learn last sweep) = (suc zero, short_ends s w zero (work.Upkeep (upkeep.Learn last sweep)) tt)
+upkeep_ends w s (upkeep.Checkpoint i) = (suc zero, short_ends s w zero (work.Upkeep (upkeep.Checkpoint i)) tt)
+upkeep_ends w s (upkeep.Release i) = (suc zero, short_ends s w zero (work.Upkeep (upkeep.Release i)) tt)
 
 -- ---- all
 
-ends_by : {L : Type 0} (w : WorldOf L) (s : ℕ) → IsTable w.table.documents → (v : Work) → work_in w.actors s ≡ v → (n : ℕ) × EndsIn n w s
-ends_by w s table work.Rest at = (zero, at)
-ends_by w s table work.Login at = (suc zero, short_ends w s zero work.Login tt at)
-ends_by w s table work.End at = (suc zero, short_ends w s zero work.End tt at)
-ends_by w s table work.Refresh at = (suc zero, short_ends w s zero work.Refresh tt at)
-ends_by w s table (work.Read r) at = load_ends w s r table at
-ends_by w s table (work.Plan edit marks) at = plan_ends w s edit marks at
-ends_by w s table (work.Commit c) at = commit_ends w s c at
-ends_by w s table (work.Upkeep k) at = upkeep_ends w s k at
-ends_by w s table (work.Move r) at = (suc zero, short_ends w s zero (work.Move r) tt at)
+ends_by : (w : State) (s : ℕ) → IsTable w.table.documents → (v : Work) → (n : ℕ) × RestsIn s n w v
+ends_by w s table work.Rest = (zero, refl)
+ends_by w s table work.Login = (suc zero, short_ends s w zero work.Login tt)
+ends_by w s table work.End = (suc zero, short_ends s w zero work.End tt)
+ends_by w s table work.Refresh = (suc zero, short_ends s w zero work.Refresh tt)
+ends_by w s table (work.Read r) = load_ends w s r table
+ends_by w s table (work.Plan edit marks) = plan_ends w s edit marks
+ends_by w s table (work.Commit c) = commit_ends w s c
+ends_by w s table (work.Upkeep k) = upkeep_ends w s k
+ends_by w s table (work.Move r) = (suc zero, short_ends s w zero (work.Move r) tt)
 
 -- each task of a session that alone takes steps ends, unless it is told to wait
-pub task_ends : {L : Type 0} (w : WorldOf L) (s : ℕ) → IsTable w.table.documents → (n : ℕ) × EndsIn n w s
-task_ends w s table = ends_by w s table (work_in w.actors s) refl
+pub task_ends : {L : Type 0} (w : WorldOf L) (s : ℕ) → IsTable w.table.documents → (n : ℕ) × TaskEndsIn n w s
+task_ends w s table = ends_by (state_of w) s table (work_in w.actors s)

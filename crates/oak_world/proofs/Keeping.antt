@@ -41,15 +41,15 @@ use Rattle.core_world.proofs.Whole.{list_whole, load_whole, said_whole}
 use Rattle.oak_port.specs.declared.task.StepOut.{StepOut}
 use Rattle.oak_port.specs.declared.task.Task.{Task}
 use Rattle.oak_port.specs.declared.task.Task.TheVariants as task
-use Rattle.oak_port.specs.Ports.{Answers, Beside, Idle, Makes as Tells, MayBegin, Seat, Starting, Steps as StepSeen, Waits, Work as Shows}
+use Rattle.oak_port.specs.Ports.{Answers, Beside, Idle, Makes as Tells, MayBegin, Seat, Starting, OthersAlone, Steps as StepSeen, Work as Shows}
 use Rattle.oak_world.specs.declared.actor.Work.{Work}
 use Rattle.oak_world.specs.declared.actor.Work.TheVariants as work
 use Rattle.oak_world.specs.declared.upkeep.Upkeep.{Upkeep}
 use Rattle.oak_world.specs.declared.upkeep.Upkeep.TheVariants as upkeep
 use Rattle.oak_world.specs.Kept.{IsWorld, May, MayKeepUp}
-use Rattle.oak_world.specs.Parts.{CanStep, needed}
+use Rattle.oak_world.specs.Parts.{CanKeepUp, CanStep, HasRoot, needed}
 use Rattle.oak_world.specs.Seen.{no_seat, seat_of, shown_at, shown_by, shown_upkeep, shown_work}
-use Rattle.oak_world.specs.Steps.{Begins, HasCome, StepsIn, kind_due, kind_of}
+use Rattle.oak_world.specs.Steps.{Begins, CanBegin, HasCome, StepsIn, kind_due, kind_of}
 use Rattle.oak_world.specs.Worlds.{ActorState, Story, WorldOf, actor_in, live, node_in, reading_of, running_as, running_of, said_in, state_of, state_with, with_reply, with_work, work_in}
 use Rattle.oak_world.proofs.States.{actor_other, actor_set, session_same, session_set}
 use Rattle.oak_world.proofs.Stages.{done_stage}
@@ -98,7 +98,7 @@ module _ {L : Type 0} (w : WorldOf L) (s : ℕ) (seat : s < length w.actors) whe
 
   -- what a port tells of a call that adds no event
   pub waits : (starts : Starts) (says : Says) → IsRun starts says (live w.history) → (name : GName) (v : WorldOf L) (a : ActorState) → v.history ≡ w.history → v.actors ≡ slice_set w.actors s a
-      → (x : Shows) → shown_work a.work ≡ x → (room : Option ℕ) → a.reply ≡ room → (x ≡ shown_work (work_in w.actors s) → kind_due a.work ≡ kind_due (work_in w.actors s)) → Waits starts says (shown_at name w s) (shown_at name v s) x room
+      → (x : Shows) → shown_work a.work ≡ x → (room : Option ℕ) → a.reply ≡ room → (x ≡ shown_work (work_in w.actors s) → kind_due a.work ≡ kind_due (work_in w.actors s)) → OthersAlone starts says (shown_at name w s) (shown_at name v s) x room
   waits starts says run name v a same actors x shown room reply due = record {
     others = [];
     grows = record { grown = ap live same; theirs = refl; run = subst (λ (h : Story). IsRun starts says (live h)) (sym same) run };
@@ -111,7 +111,7 @@ module _ {L : Type 0} (w : WorldOf L) (s : ℕ) (seat : s < length w.actors) whe
   }
 
 -- what is told where nothing changes
-pub still_waits : (starts : Starts) (says : Says) {L : Type 0} (w : WorldOf L) (s : ℕ) (name : GName) → IsRun starts says (live w.history) → Waits starts says (shown_at name w s) (shown_at name w s) (shown_work (work_in w.actors s)) (actor_in w.actors s).reply
+pub still_waits : (starts : Starts) (says : Says) {L : Type 0} (w : WorldOf L) (s : ℕ) (name : GName) → IsRun starts says (live w.history) → OthersAlone starts says (shown_at name w s) (shown_at name w s) (shown_work (work_in w.actors s)) (actor_in w.actors s).reply
 still_waits starts says w s name run = record {
   others = [];
   grows = record { grown = refl; theirs = refl; run = run };
@@ -184,6 +184,7 @@ begins_shown pin task.BackWrite v h = ap shown_work h
 begins_shown pin task.BackRead v h = ap shown_work h
 begins_shown pin (task.Checkpoint i) v h = ap shown_work h
 begins_shown pin (task.Release i) v h = ap shown_work h
+begins_shown pin _ v h = absurd h
 
 module _ (starts : Starts) (says : Says) (proper : StartsProper starts) (last : StartsLast starts says) {L : Type 0} (w : WorldOf L) (is : IsWorld starts says w) (s : ℕ) (there : is_some (slice_get w.history.sessions s) ≡ true) where
   abbrev does : Work
@@ -215,22 +216,45 @@ module _ (starts : Starts) (says : Says) (proper : StartsProper starts) (last : 
       (let k : Some r.cluster ≡ Some (node_in w.history s) = sym may.2 ∙ on in cc)
       (ended_was_drawn starts says w.history.clusters w.history.sessions w.history.past is.kept.sessions.run r may.1) may.1
 
-  can_by : (v : Work) → work_in w.actors s ≡ v → May starts (live w.history) s v → (places : ℕ) → needed v ≤ places → length w.history.past < 2 ^ 63 → CanStep s (memory_of (state_of w) s) places v
-  can_by work.Rest at may places kept short = tt
-  can_by work.Login at may places kept short = tt
-  can_by work.End at may places kept short =
+  can_keep_up : (u : Upkeep) → HasCome (live w.history) s → CanKeepUp s (memory_of (state_of w) s) u
+  can_keep_up (upkeep.Checkpoint i) come = come_pinned come
+  can_keep_up _ come = tt
+
+  can_by : (v : Work) → (v ≡ work.Rest → ⊥) → work_in w.actors s ≡ v → May starts (live w.history) s v → (places : ℕ) → needed v ≤ places → length w.history.past < 2 ^ 63 → CanStep s (memory_of (state_of w) s) places v
+  can_by work.Rest busy at may places kept short = absurd (busy refl)
+  can_by work.Login busy at may places kept short = tt
+  can_by work.End busy at may places kept short =
       let k : s < length w.history.sessions = slice_get_within w.history.sessions s (node_in w.history s) on in
       let few : length w.history.sessions ≤ 64 = is.few in
       omega arith
-  can_by work.Refresh at may places kept short = come_pinned may
-  can_by (work.Read r) at may places kept short = tt
-  can_by (work.Plan edit marks) at may places kept short = let t : known_time (memory_of (state_of w) s) ≤ length w.history.past = time_known starts says proper (state_of w) is.kept.sessions (node_in w.history s) node in omega arith
-  can_by (work.Commit c) at may places kept short = record { flying = flies_there starts says proper (state_of w) is.kept.sessions s (running_as s c) (ap (running_of s) at); unended = may.unended; kept = kept }
-  can_by (work.Upkeep u) at may places kept short = tt
-  can_by (work.Move r) at may places kept short = record { ended = moved_ended r may; pinned = come_pinned may.0; place = kept }
+  can_by work.Refresh busy at may places kept short = come_pinned may
+  can_by (work.Read r) busy at may places kept short = tt
+  can_by (work.Plan edit marks) busy at may places kept short = let t : known_time (memory_of (state_of w) s) ≤ length w.history.past = time_known starts says proper (state_of w) is.kept.sessions (node_in w.history s) node in omega arith
+  can_by (work.Commit c) busy at may places kept short = record { flying = flies_there starts says proper (state_of w) is.kept.sessions s (running_as s c) (ap (running_of s) at); unended = may.unended; kept = kept }
+  can_by (work.Upkeep u) busy at may places kept short = can_keep_up u may.0
+  can_by (work.Move r) busy at may places kept short = record { ended = moved_ended r may; pinned = come_pinned may.0; place = kept }
 
-  pub can_step : (places : ℕ) → needed (work_in w.actors s) ≤ places → length w.history.past < 2 ^ 63 → CanStep s (memory_of (state_of w) s) places (work_in w.actors s)
-  can_step = can_by (work_in w.actors s) refl (is.may s)
+  pub can_step : work_in w.actors s ≢ work.Rest → (places : ℕ) → needed (work_in w.actors s) ≤ places → length w.history.past < 2 ^ 63 → CanStep s (memory_of (state_of w) s) places (work_in w.actors s)
+  can_step busy = can_by (work_in w.actors s) busy refl (is.may s)
+
+  -- the root's document is there
+  pub has_root : HasRoot w.table
+  has_root = ap is_some is.kept.root.there
+
+  -- the session may be told to do the task
+  pub can_begin : (t : Task) → MayBegin starts (live w.history) s t → CanBegin (pin_of (memory_of (state_of w) s) s) t
+  can_begin (task.Load p) may = come_pinned (record { login = may.0; stays = may.1 })
+  can_begin (task.List p) may = come_pinned (record { login = may.0; stays = may.1 })
+  can_begin (task.Split p) may = may
+  can_begin task.Sweep may = may
+  can_begin task.Collect may = may
+  can_begin (task.Attach i) may = may
+  can_begin task.Detach may = may
+  can_begin task.Observe may = may
+  can_begin (task.Changes since) may = may
+  can_begin (task.Stop k) may = may
+  can_begin (task.Recover k) may = may
+  can_begin _ may = tt
 
   -- ---- a step
 
@@ -347,6 +371,7 @@ module _ (starts : Starts) (says : Says) (proper : StartsProper starts) (last : 
     start_keeps task.BackRead v may h = upkeep_keeps upkeep.Read v h (record { login = may.0; stays = may.1 }) tt
     start_keeps (task.Checkpoint i) v may h = upkeep_keeps (upkeep.Checkpoint i) v h (record { login = may.0; stays = may.1 }) tt
     start_keeps (task.Release i) v may h = upkeep_keeps (upkeep.Release i) v h (record { login = may.0; stays = may.1 }) tt
+    start_keeps _ v may h = absurd h
 
     -- a reply is said
     module _ (i : ℕ) (text : Text) (next : i ≡ next_index w.history.past s) (lawful : says (live w.history) s i text) where

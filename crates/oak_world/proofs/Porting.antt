@@ -11,12 +11,15 @@ use Rattle.jr_rev.specs.declared.vector.Pin.{Pin}
 use Rattle.oak_machine.specs.Laws.{Says, Starts}
 use Rattle.oak_machine.specs.Runs.{IsRun}
 use Rattle.oak_port.specs.declared.task.Task.{Task}
-use Rattle.oak_port.specs.Ports.{Answers, HasRoom, Idle, Starting, Waits}
+use Rattle.oak_port.specs.Ports.{Answers, HasRoom, Idle, OthersAlone, Starting}
 use Rattle.oak_world.specs.declared.actor.Work.{Work}
 use Rattle.oak_world.specs.declared.actor.Work.TheVariants as work
+use Rattle.oak_world.specs.Ending.{TaskEndsIn}
 use Rattle.oak_world.specs.Seen.{shown_at, shown_work}
 use Rattle.oak_world.specs.Steps.{Begins, IsIdle}
 use Rattle.oak_world.specs.Worlds.{WorldOf, actor_in, live, said_in, with_reply, with_work, work_in}
+use Rattle.oak_world.proofs.Ending.{same_ends}
+use Rattle.oak_world.proofs.States.{replied_state, replied_work}
 use Rattle.oak_world.proofs.Keeping.{answers_shown, begins_shown, idle_shown, still_waits, waits}
 
 -- a session that does nothing is shown to do nothing, and the other way round
@@ -46,16 +49,21 @@ module _ {L : Type 0} (w u : WorldOf L) (s : ℕ) (r : Result Unit AllocError) w
       by (Ok x) ok err = ap (λ (x : WorldOf L). x.law) ok
       by (Err x) ok err = ap (λ (x : WorldOf L). x.law) err
 
+-- room for a reply leaves how long the task lasts
+pub reserve_lasts : {L : Type 0} (w u : WorldOf L) (s : ℕ) → s < length w.actors → (room : Option ℕ) (r : Result Unit AllocError) → OnOk r (u ≡ with_reply w s room) → OnErr r (u ≡ w) → (n : ℕ) → TaskEndsIn n w s → TaskEndsIn n u s
+reserve_lasts {L} w u s seat room (Ok x) ok err n h = subst (λ (v : WorldOf L). TaskEndsIn n v s) (sym ok) (same_ends w (with_reply w s room) s n (replied_state w s seat room) (replied_work w s seat room) h)
+reserve_lasts {L} w u s seat room (Err x) ok err n h = subst (λ (v : WorldOf L). TaskEndsIn n v s) (sym err) h
+
 module _ (starts : Starts) (says : Says) {L : Type 0} (w : WorldOf L) (s : ℕ) (there : is_some (slice_get w.history.sessions s) ≡ true) (run : IsRun starts says (live w.history)) (seats : length w.actors ≡ length w.history.sessions) (name : GName) where
-  seat : s < length w.actors
+  pub seat : s < length w.actors
   seat = subst (λ (n : ℕ). s < n) (sym seats) (within w.history.sessions s (slice_get w.history.sessions s) refl there)
 
   -- nothing changes
-  pub same_waits : (u : WorldOf L) → u ≡ w → Waits starts says (shown_at name w s) (shown_at name u s) (shown_work (work_in w.actors s)) (actor_in w.actors s).reply
-  same_waits u e = subst (λ (x : WorldOf L). Waits starts says (shown_at name w s) (shown_at name x s) (shown_work (work_in w.actors s)) (actor_in w.actors s).reply) (sym e) (still_waits starts says w s name run)
+  pub same_waits : (u : WorldOf L) → u ≡ w → OthersAlone starts says (shown_at name w s) (shown_at name u s) (shown_work (work_in w.actors s)) (actor_in w.actors s).reply
+  same_waits u e = subst (λ (x : WorldOf L). OthersAlone starts says (shown_at name w s) (shown_at name x s) (shown_work (work_in w.actors s)) (actor_in w.actors s).reply) (sym e) (still_waits starts says w s name run)
 
   -- room for a reply is kept
-  pub reserve_waits : (u : WorldOf L) (room : Option ℕ) → u ≡ with_reply w s room → Waits starts says (shown_at name w s) (shown_at name u s) (shown_work (work_in w.actors s)) room
+  pub reserve_waits : (u : WorldOf L) (room : Option ℕ) → u ≡ with_reply w s room → OthersAlone starts says (shown_at name w s) (shown_at name u s) (shown_work (work_in w.actors s)) room
   reserve_waits u room e = waits w s seat starts says run name u (record (actor_in w.actors s) { reply = room }) (ap (λ (x : WorldOf L). x.history) e) (ap (λ (x : WorldOf L). x.actors) e) (shown_work (work_in w.actors s)) refl room refl (λ k. refl)
 
   module _ (idle : shown_work (work_in w.actors s) ≡ Idle) where
@@ -66,12 +74,12 @@ module _ (starts : Starts) (says : Says) {L : Type 0} (w : WorldOf L) (s : ℕ) 
     is_idle = record { there = there; idle = rests }
 
     -- a task begins, or none does
-    pub start_waits : (u : WorldOf L) (pin : Option Pin) (t : Task) → (v : Work) × Begins pin t v × (u ≡ with_work w s v) → Waits starts says (shown_at name w s) (shown_at name u s) (Starting t) (actor_in w.actors s).reply
+    pub start_waits : (u : WorldOf L) (pin : Option Pin) (t : Task) → (v : Work) × Begins pin t v × (u ≡ with_work w s v) → OthersAlone starts says (shown_at name w s) (shown_at name u s) (Starting t) (actor_in w.actors s).reply
     start_waits u pin t b = waits w s seat starts says run name u (record (actor_in w.actors s) { work = b.0; began = length w.history.past }) (ap (λ (x : WorldOf L). x.history) b.2) (ap (λ (x : WorldOf L). x.actors) b.2) (Starting t) (begins_shown pin t b.0 b.1) (actor_in w.actors s).reply refl
         (λ k. let e : Starting t ≡ Idle = k ∙ idle in cc)
 
-    pub none_waits : (u : WorldOf L) → u ≡ w → Waits starts says (shown_at name w s) (shown_at name u s) Idle (actor_in w.actors s).reply
-    none_waits u e = subst (λ x. Waits starts says (shown_at name w s) (shown_at name u s) x (actor_in w.actors s).reply) idle (same_waits u e)
+    pub none_waits : (u : WorldOf L) → u ≡ w → OthersAlone starts says (shown_at name w s) (shown_at name u s) Idle (actor_in w.actors s).reply
+    none_waits u e = subst (λ x. OthersAlone starts says (shown_at name w s) (shown_at name u s) x (actor_in w.actors s).reply) idle (same_waits u e)
 
     -- a reply is said
     pub say_answers : (u : WorldOf L) (i : ℕ) (text : Text) → u ≡ said_in w s i text → IsRun starts says (live u.history) → Answers starts says (shown_at name w s) (shown_at name u s) i text

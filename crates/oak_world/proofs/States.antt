@@ -15,7 +15,7 @@ use Rattle.core_world.specs.States.{State, memory_at, with_memory, with_session}
 use Rattle.core_world.proofs.Flights.{other_number, same_number}
 use Rattle.oak_world.specs.declared.actor.Work.{Work}
 use Rattle.oak_world.specs.Parts.{Parts}
-use Rattle.oak_world.specs.Worlds.{ActorState, WorldOf, actor_in, idle, node_in, parts_at, reading_of, running_of, state_of, with_parts, work_in}
+use Rattle.oak_world.specs.Worlds.{ActorState, WorldOf, actor_in, idle, node_in, parts_at, reading_of, running_of, state_of, with_parts, with_reply, work_in}
 
 -- ---- the journal
 
@@ -81,6 +81,15 @@ module _ {L : Type 0} (w : WorldOf L) (s : ℕ) (there : s < length w.actors) wh
   moved_is p a =
       ap (λ (f : ℕ → Option Running). record (state_of (with_parts w s p a)) { running = f }) (session_set running_of w.actors s a there)
       ∙ ap (λ (f : ℕ → Option Reader). record (moved (reverse p.list) p.table p.memory (running_of s a.work) (reading_of a.work)) { reading = f }) (session_set (λ q v. reading_of v) w.actors s a there)
+
+  -- room for a reply changes neither the state nor what the session does
+  pub replied_state : (room : Option ℕ) → state_of (with_reply w s room) ≡ state_of w
+  replied_state room =
+      ap (λ (f : ℕ → Option Running). record (state_of (with_reply w s room)) { running = f }) (session_set running_of w.actors s (record (actor_in w.actors s) { reply = room }) there ∙ session_same (state_of w).running s (running_of s (work_in w.actors s)) refl)
+      ∙ ap (λ (f : ℕ → Option Reader). record (state_of w) { reading = f }) (session_set (λ q v. reading_of v) w.actors s (record (actor_in w.actors s) { reply = room }) there ∙ session_same (state_of w).reading s (reading_of (work_in w.actors s)) refl)
+
+  pub replied_work : (room : Option ℕ) → work_in (with_reply w s room).actors s ≡ work_in w.actors s
+  replied_work room = ap (λ (a : ActorState). a.work) (actor_set w.actors s (record (actor_in w.actors s) { reply = room }) there)
 
   -- what the session did not have, it has not
   pub quiet_is : (past : Past) (table : Table) (m : NodeState) (x : Option Running) (r : Option Reader) → running_of s (work_in w.actors s) ≡ x → reading_of (work_in w.actors s) ≡ r

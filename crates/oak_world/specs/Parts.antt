@@ -12,7 +12,7 @@ use Rattle.jr_rev.specs.Revisions.{is_before}
 use Rattle.jr_rev.specs.Vectors.{sees}
 use Rattle.oak_clash.specs.Clashes.{marked_paths}
 use Rattle.oak_commit.specs.Clashing.{Met, Writer, mark_op}
-use Rattle.oak_commit.specs.Committing.{Committing, begun, fed, first_path, is_past, wanting}
+use Rattle.oak_commit.specs.Committing.{Committing, begun, due_of, fed, first_path, is_past, wanting}
 use Rattle.oak_commit.specs.Stages.{stage_of}
 use Rattle.oak_commit.specs.Writing.{last_op, write_op}
 use Rattle.oak_commit.specs.declared.outcome.CommitEnd.{CommitEnd}
@@ -133,6 +133,14 @@ op_due c = by c.writer.due c.writer.left
     by [] (p ∷ ps) = write_op c.revision c.edit.writes c.marks p
     by [] [] = last_op c.revision c.marks
 
+-- an update is due
+abbrev pub IsDue : Committing → Type 0
+IsDue c = due_of c ≡ ask.Update (op_due c)
+
+-- the store has the root's document
+abbrev pub HasRoot : Table → Type 0
+HasRoot t = IsSome (found t (id.Node []))
+
 -- the event of a refusal by the mark that is due
 abbrev pub refusal_at : Committing → Event → Type 0
 refusal_at c e = by c.writer.due
@@ -169,6 +177,12 @@ pub record IsWritten (s : ℕ) (t u : Table) (es fs : List Event) (c d : Committ
   pub made : IsMade t u (op_due c)
   pub list : fs ≡ es ++ event.Went s kind.Write ∷ []
   pub committer : (d ≡ fed_made t c) ⊎ (d ≡ wanting (fed_made t c))
+
+-- a last write fails for want of memory, or for the collision that is noted on the commit root
+abbrev pub IsLastFault : OpFault → Type 0
+IsLastFault fault.Memory = Unit {0}
+IsLastFault (fault.Unmet cause (kept.Entry other item)) = Unit {0}
+IsLastFault _ = ⊥
 
 -- it is committed; or it is refused for the collision that is noted there
 pub record IsLastMade (t u : Table) (es fs : List Event) (c d : Committing) : Type 0 where
@@ -332,8 +346,7 @@ Steps s k p (work.Plan edit marks) q v _ = ⊥
 Steps s k p (work.Commit c) q v o = CommitsOn s k p c q v o
 Steps s k p (work.Move r) q v o = (q.table ≡ p.table) × Moves s p.memory p.list r q.memory q.list v o
 Steps s k p (work.Upkeep u) q v o = KeepsUp s k p u q v o
-Steps s k p work.Rest q v answers.Memory = Refused p q v
-Steps s k p work.Rest q v _ = ⊥
+Steps s k p work.Rest q v o = ⊥
 
 -- ---- places
 
@@ -366,10 +379,18 @@ pub record CanMove (s : ℕ) (m : NodeState) (places : ℕ) (r : Revision) : Typ
   pub pinned : IsSome (pin_of m s)
   pub place : 1 ≤ places
 
+-- a checkpoint is made where the session is pinned
+abbrev pub CanKeepUp : ℕ → NodeState → Upkeep → Type 0
+CanKeepUp s m (upkeep.Checkpoint i) = IsSome (pin_of m s)
+CanKeepUp s m _ = Unit {0}
+
+-- the session does something, and what that takes is there
 abbrev pub CanStep : ℕ → NodeState → ℕ → Work → Type 0
+CanStep s m places work.Rest = ⊥
 CanStep s m places work.End = s < 64
 CanStep s m places work.Refresh = IsSome (pin_of m s)
 CanStep s m places (work.Plan edit marks) = known_time m < 2 ^ 64 - 1
 CanStep s m places (work.Commit c) = CanCommit m places c
 CanStep s m places (work.Move r) = CanMove s m places r
+CanStep s m places (work.Upkeep u) = CanKeepUp s m u
 CanStep s m places _ = Unit {0}

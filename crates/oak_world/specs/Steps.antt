@@ -1,5 +1,5 @@
 -- What sessions do, and what a step makes of a world.
-use Rattle.std.specs.Prelude.{◌≡◌, ◌≢◌, ◌⊎◌, ◌≤◌, ◌+◌, ◌-◌, ◌^◌, ℕ, min, List, [], ◌∷◌, ◌++◌, length, slice_get, slice_set, Option, Some, None, is_some, IsTrue, IsFalse}
+use Rattle.std.specs.Prelude.{◌≡◌, ◌≢◌, ◌⊎◌, ◌≤◌, ◌+◌, ◌-◌, ◌^◌, ℕ, min, List, [], ◌∷◌, ◌++◌, length, slice_get, slice_set, Option, Some, None, is_some, IsTrue, IsFalse, IsSome}
 use Rattle.std.specs.Option.{IsSomeAnd}
 use Rattle.std.specs.declared.alloc.Global.{Global}
 use Rattle.jr_path.specs.declared.path.Path.{Path}
@@ -62,6 +62,22 @@ Begins pin task.BackWrite v = v ≡ work.Upkeep upkeep.Write
 Begins pin task.BackRead v = v ≡ work.Upkeep upkeep.Read
 Begins pin (task.Checkpoint i) v = v ≡ work.Upkeep (upkeep.Checkpoint i)
 Begins pin (task.Release i) v = v ≡ work.Upkeep (upkeep.Release i)
+Begins pin _ v = ⊥
+
+-- a session may be told to do a task, at its pin: one that a world does; it reads where it has a pin
+abbrev pub CanBegin : Option Pin → Task → Type 0
+CanBegin pin (task.Load p) = IsSome pin
+CanBegin pin (task.List p) = IsSome pin
+CanBegin pin (task.Split p) = ⊥
+CanBegin pin task.Sweep = ⊥
+CanBegin pin task.Collect = ⊥
+CanBegin pin (task.Attach i) = ⊥
+CanBegin pin task.Detach = ⊥
+CanBegin pin task.Observe = ⊥
+CanBegin pin (task.Changes since) = ⊥
+CanBegin pin (task.Stop k) = ⊥
+CanBegin pin (task.Recover k) = ⊥
+CanBegin pin _ = Unit {0}
 
 -- the kind of the next step
 abbrev pub kind_of : Stage → Option StepKind

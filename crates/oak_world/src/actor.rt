@@ -4,7 +4,7 @@ ghost use Rattle.std.specs.Option.{IsSomeAnd};
 ghost use Rattle.oak_machine.specs.declared.event.Event.TheVariants as event;
 ghost use Rattle.oak_world.specs.declared.actor.Work.TheVariants as work;
 ghost use Rattle.oak_world.specs.Kept.{IsPlaced};
-ghost use Rattle.oak_world.specs.Steps.{Begins, kind_due, kind_of};
+ghost use Rattle.oak_world.specs.Steps.{Begins, CanBegin, kind_due, kind_of};
 ghost use Rattle.oak_world.specs.Worlds.{shown_actor};
 
 use crate::upkeep::Upkeep;
@@ -42,6 +42,7 @@ pub(crate) enum Work {
 impl Work {
     // What a session does that is told to do a task, at its pin.
     pub(crate) fn of(alloc: Global, pin: Option<Pin>, task: Task) -> Result<Work, AllocError>
+        requires { CanBegin pin task }
         ensures { IfOk result (Begins pin task) }
     {
         match task {
@@ -50,17 +51,27 @@ impl Work {
             Task::Refresh => Ok(Work::Refresh),
             Task::Load(path) => match pin {
                 Some(pin) => Ok(Work::Read(Reader::node(alloc, &path, &pin)?)),
-                None => Err(AllocError),
+                None => unreachable!(),
             },
             Task::List(path) => match pin {
                 Some(pin) => Ok(Work::Read(Reader::children(alloc, &path, &pin)?)),
-                None => Err(AllocError),
+                None => unreachable!(),
             },
             Task::Commit(edit, marks) => Ok(Work::Plan(edit, marks)),
             Task::BackWrite => Ok(Work::Upkeep(Upkeep::Write)),
             Task::BackRead => Ok(Work::Upkeep(Upkeep::Read)),
             Task::Checkpoint(name) => Ok(Work::Upkeep(Upkeep::Checkpoint(name))),
             Task::Release(name) => Ok(Work::Upkeep(Upkeep::Release(name))),
+            // No world does these yet.
+            Task::Split(_)
+            | Task::Sweep
+            | Task::Collect
+            | Task::Attach(_)
+            | Task::Detach
+            | Task::Observe
+            | Task::Changes(_)
+            | Task::Stop(_)
+            | Task::Recover(_) => unreachable!(),
         }
     }
 

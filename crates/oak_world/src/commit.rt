@@ -1,5 +1,5 @@
 // The steps of a commit.
-ghost use Rattle.std.specs.Prelude.{◌≡◌, ◌<◌, ◌≤◌, ◌+◌, ◌*◌, ◌-◌, ◌^◌, ◌∷◌, ◌++◌, [], IfOk, OnErr, OnOk, length};
+ghost use Rattle.std.specs.Prelude.{◌≡◌, ◌<◌, ◌≤◌, ◌+◌, ◌*◌, ◌-◌, ◌^◌, ◌∷◌, ◌++◌, [], IfOk, IsSome, OnErr, OnOk, length, slice_get};
 ghost use Rattle.oak_clash.specs.Clashes.{marked_paths};
 ghost use Rattle.oak_commit.specs.Committing.{begun, due_of, written_paths};
 ghost use Rattle.oak_commit.specs.Stages.{stage_of};
@@ -9,7 +9,7 @@ ghost use Rattle.oak_machine.specs.declared.event.Event.TheVariants as event;
 ghost use Rattle.oak_node.specs.Heads.{IsInFlight, finished, known_time, next_draw, with_draw};
 ghost use Rattle.oak_node.specs.Notes.{with_notes};
 ghost use Rattle.oak_read.specs.Reading.{IsTable};
-ghost use Rattle.oak_world.specs.Parts.{IsLast, IsMarked, IsRefusedBy, IsUndone, IsWritten, base_at, end_events, needed_by, refusal_at};
+ghost use Rattle.oak_world.specs.Parts.{IsDue, IsLast, IsLastFault, IsMarked, IsRefusedBy, IsUndone, IsWritten, base_at, end_events, needed_by, refusal_at};
 
 use crate::session::base_of;
 use crate::store;
@@ -106,16 +106,18 @@ fn draw(
 
 // The update that is due.
 fn next_update(committer: &Committer) -> Result<UpdateOp, AllocError>
+    requires { IsDue committer.now }
     ensures { IfOk result (λ op. ask.Update op ≡ due_of committer.now) }
 {
     match committer.next()? {
         Ask::Update(op) => Ok(op),
-        _ => Err(AllocError),
+        _ => unreachable!(),
     }
 }
 
 // The mark that is due: it is made, or the commit is refused since the other is committed. Where memory is refused nothing
 // changes.
+#[tactic(auto, using(crate::proofs::Acting::mark_asks, crate::proofs::Acting::mark_there))]
 pub(crate) fn mark(
     table: &mut DocTable,
     events: &mut Events,
@@ -138,7 +140,8 @@ pub(crate) fn mark(
     mark_by(table, events, committer, s, &op, item, other)
 }
 
-// The same, with its update, its own item and the other revision, and with a place that is kept for it.
+// The mark that is due, by its update, with its own item and the other revision, and with a place that
+// is kept for it.
 fn mark_by(
     table: &mut DocTable,
     events: &mut Events,
@@ -164,33 +167,39 @@ fn mark_by(
     match store::update(table, op) {
         Ok(before) => {
             events.push_kept(Event::Went(s, StepKind::Mark));
+            // It takes memory for what is found in a document that is written, and this is a mark.
             let _ = committer.feed(Reply::Updated(before));
             Ok(())
         }
         Err(OpFault::Unmet(cond, kept)) => {
             events.push_kept(Event::Refuse(committer.revision(), item, other));
+            // A refusal takes no memory.
             let _ = committer.feed(Reply::Unmet(cond, kept));
             Ok(())
         }
-        Err(_) => {
+        Err(OpFault::Memory) => {
             events.give_back(1);
             Err(AllocError)
         }
+        // A mark makes the document where there is none.
+        Err(OpFault::Absent) => unreachable!(),
     }
 }
 
 // Its own item and the other revision of the mark that is due.
 fn met(committer: &Committer) -> Result<(Item, Revision), AllocError>
+    requires { IsSome (slice_get committer.now.writer.due 0) }
     ensures { IfOk result (λ met. refusal_at committer.now (event.Refuse committer.now.revision met.0 met.1)) }
 {
     match (committer.due_item(), committer.due_other()) {
         (Some(item), Some(other)) => Ok((item.copy()?, other)),
-        _ => Err(AllocError),
+        _ => unreachable!(),
     }
 }
 
 // The write of the document that is next, with a place that is kept for it. Where memory is refused for the write nothing
 // changes.
+#[tactic(auto, using(crate::proofs::Acting::write_asks))]
 pub(crate) fn write(
     table: &mut DocTable,
     events: &mut Events,
@@ -213,15 +222,21 @@ pub(crate) fn write(
     match store::update(table, &op) {
         Ok(before) => {
             events.push_kept(Event::Went(s, StepKind::Write));
+            // Where memory is refused for what is found in the document, the committer turns to undoing
+            // itself, and the write is made.
             let _ = committer.feed(Reply::Updated(before));
             Ok(())
         }
-        Err(_) => Err(AllocError),
+        Err(OpFault::Memory) => Err(AllocError),
+        // A write makes the document where there is none, and has no condition.
+        Err(OpFault::Absent) => unreachable!(),
+        Err(OpFault::Unmet(_, _)) => unreachable!(),
     }
 }
 
 // The last write, with a place that is kept for it: the revision is committed, or it is refused since another has marked it.
 // Where memory is refused nothing changes.
+#[tactic(auto, using(crate::proofs::Acting::last_asks))]
 pub(crate) fn last(
     table: &mut DocTable,
     events: &mut Events,
@@ -244,6 +259,7 @@ pub(crate) fn last(
     match store::update(table, &op) {
         Ok(before) => {
             events.push_kept(Event::Commit(r));
+            // It takes memory for what is found in a document that is written, and all are.
             let _ = committer.feed(Reply::Updated(before));
             Ok(())
         }
@@ -259,6 +275,7 @@ fn refused_last(
 ) -> Result<(), AllocError>
     requires place { 0 < events.old.places }
     requires stage { stage_of committer.old ≡ stage.Last }
+    requires fault { IsLastFault fault }
     ensures made { OnOk result (IsRefusedBy fault events.old.list events.new.list committer.old committer.new) }
     ensures place { OnOk result (events.new.places + 1 ≡ events.old.places) }
     ensures list { OnErr result (events.new.list ≡ events.old.list) }
@@ -268,10 +285,14 @@ fn refused_last(
     match fault {
         OpFault::Unmet(cond, Kept::Entry(other, item)) => {
             events.push_kept(Event::Refuse(committer.revision(), item.copy()?, other));
+            // A refusal takes no memory.
             let _ = committer.feed(Reply::Unmet(cond, Kept::Entry(other, item)));
             Ok(())
         }
-        _ => Err(AllocError),
+        OpFault::Memory => Err(AllocError),
+        OpFault::Absent => unreachable!(),
+        OpFault::Unmet(_, Kept::Number(_)) => unreachable!(),
+        OpFault::Unmet(_, Kept::Nothing) => unreachable!(),
     }
 }
 
@@ -287,6 +308,7 @@ pub(crate) fn undo(table: &mut DocTable, events: &mut Events, committer: &mut Co
 {
     store::undo(table, committer.undo_id(), committer.revision());
     events.push_kept(Event::Went(s, StepKind::Undo));
+    // Undoing takes no memory.
     let _ = committer.feed(Reply::Undone);
 }
 

@@ -1,5 +1,6 @@
 // A world as one session sees it.
 ghost use Rattle.std.specs.Prelude.{◌≡◌, IsTrue, is_some, slice_get};
+ghost use Rattle.oak_world.specs.Ending.{TaskEndsIn};
 ghost use Rattle.oak_world.specs.Seen.{shown_at};
 
 use crate::World;
@@ -35,8 +36,10 @@ impl<'a, L: Law + Drop> Port for SoloPort<'a, L> {
 
     ghost shown = { λ p. shown_at p.world.ghost_name p.world.now p.actor };
 
+    ghost lasts = { λ p n. TaskEndsIn n p.world.now p.actor };
+
     fn start(&mut self, task: Task) -> Result<(), AllocError> {
-        self.world.journal();
+        self.world.is_kept();
         self.world.start(self.actor, task)
     }
 
@@ -45,23 +48,29 @@ impl<'a, L: Law + Drop> Port for SoloPort<'a, L> {
     }
 
     fn due(&mut self) -> Option<StepKind> {
-        self.world.journal();
+        self.world.is_kept();
         self.world.due(self.actor)
     }
 
     fn pin(&mut self) -> Option<Pin> {
-        self.world.journal();
+        self.world.is_kept();
         self.world.pin(self.actor)
     }
 
+    // No task stops a cluster node yet.
+    fn stopped(&mut self, _cluster: u32) -> Option<u64> {
+        self.world.is_kept();
+        None
+    }
+
     fn reserve_say(&mut self, bytes: usize) -> Result<(), AllocError> {
-        self.world.journal();
+        self.world.is_kept();
         self.world.reserve_say(self.actor, bytes)
     }
 
     fn say(&mut self, index: u32, text: &str) {
-        self.world.journal();
+        self.world.is_kept();
         self.world.say(self.actor, index, text);
-        self.world.journal();
+        self.world.is_kept();
     }
 }

@@ -5,7 +5,7 @@ ghost use Rattle.oak_node.specs.Heads.{finished};
 ghost use Rattle.oak_read.specs.Reading.{IsTable};
 ghost use Rattle.oak_world.specs.Kept.{IsPlaced};
 ghost use Rattle.oak_world.specs.Steps.{reads_after, reads_of_load};
-ghost use Rattle.oak_world.specs.Parts.{CanCommit, CanMove, CanStep, CommitsOn, EndsSo, IsOver, IsUpdating, Moves, Steps, Updates, UpdatesOn, end_events, needed, needed_by, parts};
+ghost use Rattle.oak_world.specs.Parts.{CanCommit, CanMove, CanStep, CommitsOn, EndsSo, HasRoot, IsOver, IsUpdating, Moves, Steps, Updates, UpdatesOn, end_events, needed, needed_by, parts};
 
 use crate::actor::{Actor, Work};
 use crate::commit;
@@ -37,12 +37,13 @@ pub(crate) fn step(
 ) -> (Work, StepOut)
     requires can { CanStep s memory.old events.old.places work }
     requires table { IsTable table.old.documents }
+    requires root { HasRoot table.old }
     ensures made { Steps s node (parts table.old memory.old events.old.list) work (parts table.new memory.new events.new.list) result.0 result.1 }
     ensures places { events.old.places + needed result.0 ≤ events.new.places + needed work }
     ensures order { IsTable table.new.documents }
 {
     match work {
-        Work::Rest => (Work::Rest, StepOut::Memory),
+        Work::Rest => unreachable!(),
         Work::Login => match login(memory, events, s) {
             Ok(pin) => (Work::Rest, StepOut::Ready(TaskEnd::Pinned(pin))),
             Err(AllocError) => (Work::Rest, StepOut::Memory),
@@ -150,7 +151,7 @@ fn update(
             commit::undo(table, events, committer, s);
             Ok(StepKind::Undo)
         }
-        Stage::Finish | Stage::Done => Err(AllocError),
+        Stage::Finish | Stage::Done => unreachable!(),
     }
 }
 
@@ -181,6 +182,7 @@ fn ended(committer: Committer) -> (Work, StepOut)
 {
     let mut committer = committer;
     let r = committer.revision();
+    // The end takes no memory.
     let _ = committer.feed(Reply::Finished);
     match committer.end() {
         CommitEnd::Committed(_) => (Work::Move(r), StepOut::Went(StepKind::Finish)),
@@ -216,6 +218,7 @@ pub(crate) fn step_actor(
 ) -> StepOut
     requires can { CanStep s memory.old events.old.places actor.old.work }
     requires table { IsTable table.old.documents }
+    requires root { HasRoot table.old }
     requires placed { IsPlaced actor.old }
     requires places { actor.old.places ≤ events.old.places }
     ensures made { Steps s node (parts table.old memory.old events.old.list) actor.old.work (parts table.new memory.new events.new.list) actor.new.work result }

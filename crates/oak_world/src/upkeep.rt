@@ -1,5 +1,5 @@
 // Background work of a cluster node, and the settings.
-ghost use Rattle.std.specs.Prelude.{◌≡◌, ◌∷◌, ◌++◌, [], ℕ, false, IfOk, None, OnErr, OnOk, cond, is_some};
+ghost use Rattle.std.specs.Prelude.{◌≡◌, ◌∷◌, ◌++◌, [], ℕ, false, IfOk, IsSome, None, OnErr, OnOk, cond, is_some};
 ghost use Rattle.jr_path.specs.Ids.{names_of};
 ghost use Rattle.oak_doc.specs.declared.update.Change.TheVariants as change;
 ghost use Rattle.oak_machine.specs.declared.event.Event.TheVariants as event;
@@ -12,7 +12,7 @@ ghost use Rattle.oak_read.specs.Reading.{IsTable};
 ghost use Rattle.oak_store.specs.Tables.{Table};
 ghost use Rattle.core_world.specs.Steps.{after_update, back_op, settings_op};
 ghost use Rattle.oak_port.specs.declared.task.TaskEnd.TheVariants as ends;
-ghost use Rattle.oak_world.specs.Parts.{KeepsUp, PublishesOn, parts};
+ghost use Rattle.oak_world.specs.Parts.{CanKeepUp, HasRoot, KeepsUp, PublishesOn, parts};
 ghost use Rattle.oak_world.specs.declared.upkeep.Upkeep.TheVariants as upkeep;
 ghost use Rattle.oak_world.specs.Upkeeps.{kind_kept, set_checkpoint, told_above, told_ids};
 
@@ -69,7 +69,9 @@ pub(crate) fn keep_up(
     s: u32,
     upkeep: Upkeep,
 ) -> (Work, StepOut)
+    requires can { CanKeepUp s memory.old upkeep }
     requires table { IsTable table.old.documents }
+    requires root { HasRoot table.old }
     ensures made { KeepsUp s node (parts table.old memory.old events.old.list) upkeep (parts table.new memory.new events.new.list) result.0 result.1 }
     ensures places { events.new.places ≡ events.old.places }
     ensures order { IsTable table.new.documents }
@@ -290,11 +292,12 @@ fn put_above(told: &mut Keyed<DocId, bool>, path: &Path) -> Result<(), AllocErro
 
 // What the root's document tells is read.
 fn read_root(alloc: Global, table: &DocTable, events: &mut Events, s: u32) -> (Work, StepOut)
+    requires { HasRoot table.now }
     ensures made { (k : ℕ) (m : NodeState) → KeepsUp s k (parts table.now m events.old.list) upkeep.Read (parts table.now m events.new.list) result.0 result.1 }
     ensures places { events.new.places ≡ events.old.places }
 {
     let Some(root) = table.find(&DocId::Node(Path::root(alloc))) else {
-        return (Work::Rest, StepOut::Memory);
+        unreachable!()
     };
     if events.push(Event::Went(s, StepKind::Back)).is_err() {
         return (Work::Rest, StepOut::Memory);
@@ -332,6 +335,7 @@ fn checkpoint_on(
     s: u32,
     name: &Text,
 ) -> (Work, StepOut)
+    requires pinned { IsSome (pin_of memory.now s) }
     requires table { IsTable table.old.documents }
     ensures made { (k : ℕ) → KeepsUp s k (parts table.old memory.now events.old.list) (upkeep.Checkpoint name.now) (parts table.new memory.now events.new.list) result.0 result.1 }
     ensures places { events.new.places ≡ events.old.places }
@@ -342,7 +346,7 @@ fn checkpoint_on(
             Ok(()) => (Work::Rest, StepOut::Ready(TaskEnd::Set(None))),
             Err(AllocError) => (Work::Rest, StepOut::Memory),
         },
-        None => (Work::Rest, StepOut::Memory),
+        None => unreachable!(),
     }
 }
 

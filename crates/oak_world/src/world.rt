@@ -15,7 +15,7 @@ ghost use Rattle.oak_machine.specs.Runs.{AreNodes, IsRun};
 ghost use Rattle.oak_machine.specs.Sessions.{base_of, has_left};
 ghost use Rattle.oak_node.specs.Memory.{begun};
 ghost use Rattle.oak_node.specs.Pins.{pin_of};
-ghost use Rattle.oak_port.specs.Ports.{MayBegin, Steps};
+ghost use Rattle.oak_port.specs.Ports.{IsWait, MayBegin, Steps};
 ghost use Rattle.oak_read.specs.Meaning.{documents_in, found_node};
 ghost use Rattle.core_clash.specs.Sound.{Cause};
 ghost use Rattle.core_world.specs.Kept.{IsFreeOf, IsKept};
@@ -23,7 +23,7 @@ ghost use Rattle.core_world.specs.States.{memory_of, nodes_in};
 ghost use Rattle.oak_world.specs.declared.actor.Work.{Work};
 ghost use Rattle.oak_world.specs.declared.actor.Work.TheVariants as work;
 ghost use Rattle.oak_world.specs.Clashes.{MeetsNone, Wanted};
-ghost use Rattle.oak_world.specs.Ending.{EndsIn, IsWait};
+ghost use Rattle.oak_world.specs.Ending.{TaskEndsIn};
 ghost use Rattle.oak_world.specs.Seen.{shown_at};
 ghost use Rattle.oak_world.specs.Steps.{Begins, IsIdle, MaySay, Plays, StepsIn, Turns, kind_due};
 ghost use Rattle.oak_world.specs.Worlds.{actor_in, live, said_in, start_world, state_of, with_reply, with_work, work_in};
@@ -126,6 +126,17 @@ impl<L: Law + Drop> World<L> {
         &self.journal
     }
 
+    /// All that `journal` tells of the world is so. It does nothing: callers learn the facts.
+    pub fn is_kept(&self)
+        ensures run { IsRun (L.may_start self.now.law) (L.may_say self.now.law) (live self.now.history) }
+        ensures seats { length self.now.actors ≡ length self.now.history.sessions }
+        ensures apart { (r o : Revision) → (r ≡ o → ⊥) → IsTrue (is_committed self.now.history.past r) → IsTrue (is_committed self.now.history.past o) → IsTrue (are_clashing self.now.history.past r o) → IsTrue (is_in_base self.now.history.past r o) ⊎ IsTrue (is_in_base self.now.history.past o r) }
+        ensures causes { (r : Revision) (item : Item) (o : Revision) → refusal_of self.now.history.past r ≡ Some (item, o) → Cause self.now.history.past r item o }
+        ensures through { (r : Revision) → IsTrue (is_ended self.now.history.past r) → MeetsNone self.now.history.past r → IsTrue (is_committed self.now.history.past r) ⊎ Wanted self.now.history.past r }
+    {
+        let _ = &self.journal;
+    }
+
     /// The documents. With the journal, the memories and the sessions they keep what each world keeps: the documents hold what
     /// the journal tells, the committers are sound, the memories are those of the journal, and the readers read the tree at their pins.
     /// Of what has ended without a commit no document of a node has an entry but collisions.
@@ -176,10 +187,11 @@ impl<L: Law + Drop> World<L> {
         requires busy { work_in self.old.actors actor ≢ work.Rest }
         ensures made { StepsIn self.old actor self.new result }
         ensures seen { (name : GName) → Steps (L.may_start self.old.law) (L.may_say self.old.law) (shown_at name self.old actor) (shown_at name self.new actor) result }
-        ensures lowers { (n : ℕ) → EndsIn (suc n) self.old actor → IsWait result ⊎ EndsIn n self.new actor }
+        ensures lowers { (n : ℕ) → TaskEndsIn (suc n) self.old actor
+            → IsWait result ⊎ TaskEndsIn n self.new actor }
     {
         let node = self.node(actor);
-        count(self.journal.events.as_slice());
+        are_few(self.journal.events.as_slice());
         let memory = &mut self.memories[node as usize - 1];
         let seat = &mut self.actors[actor as usize];
         step_actor(
@@ -199,7 +211,7 @@ impl<L: Law + Drop> World<L> {
         requires { IsTrue (is_some (slice_get self.now.history.sessions actor)) }
         ensures due { result ≡ kind_due (work_in self.now.actors actor) }
         ensures busy { IsSome result ↔ (work_in self.now.actors actor ≢ work.Rest) }
-        ensures ends { (n : ℕ) × EndsIn n self.now actor }
+        ensures ends { (n : ℕ) × TaskEndsIn n self.now actor }
     {
         let seat = &self.actors[actor as usize];
         seat.work.due()
@@ -269,12 +281,11 @@ impl<L: Law + Drop> World<L> {
     }
 }
 
-// How many events there are: fewer than 2^63, since memory holds no more.
-fn count(events: &[Event]) -> usize
-    ensures count { result ≡ length events.now }
-    ensures few { length events.now < 2 ^ 63 }
+// Events are fewer than 2^63, since memory holds no more. It does nothing: callers learn the fact.
+fn are_few(events: &[Event])
+    ensures { length events.now < 2 ^ 63 }
 {
-    events.len()
+    let _ = events.len();
 }
 
 // The memories of so many cluster nodes before any step.

@@ -1,7 +1,7 @@
 use Rattle.std.proofs.Common.{◌++◌, ◌∷◌, [], ap, ◌∙◌}
 use Rattle.std.proofs.lemmas.Result.{on_ok_weaker}
 use Rattle.oak_machine.specs.declared.event.Event.TheVariants as event
-use Rattle.oak_world.proofs.Acting.{last_made, last_refused_by}
+use Rattle.oak_world.proofs.Acting.{last_fails, last_made, last_refused_by}
 use Rattle.oak_world.proofs.Needs.{last_needs}
 use Rattle.oak_world.proofs.commit.last.Goals as goal
 
@@ -21,3 +21,6 @@ returns-clause-made c =
 
 pub returns-clause-needs : goal.returns-clause-needs
 returns-clause-needs c = on_ok_weaker c.refused_last.result (last_needs 0 c.args.table.now c.update.new.table c.args.events.now.list c.refused_last.new.events.list c.args.committer.now c.refused_last.new.committer c.requires.stage) (returns-clause-made c)
+
+pub refused_last-requires-clause-fault : goal.refused_last-requires-clause-fault
+refused_last-requires-clause-fault c = last_fails c.args.table.now c.update.new.table c.args.committer.now c.in_ok-op.op c.in_ok-op.ensures c.requires.stage c.in-Err.fault c.in-Err.ensures.made

@@ -9,8 +9,11 @@ use Rattle.oak_world.proofs.world.World.turn.Goals as goal
 pub returns-then-actor-len : goal.returns-then-actor-len
 returns-then-actor-len g c =
     let items : vec_len c.self.inside.actors ≡ length c.self.inside.actors.items = search rules in
-    inr (refl, inl (subst (λ (w : WorldOf _). slice_get w.history.sessions c.args.actor ≡ None) c.self.view_is
-    (none_behind c.args.actor c.self.inside.journal.sessions (subst (λ (n : ℕ). n ≤ c.args.actor) (c.len.ensures ∙ (items ∙ sym (sym (c.self.invariant.0.0).seats ∙ length-map c.self.inside.actors.items shown_actor))) c.if-actor-len.true))))
+    inr (
+      refl,
+      inl (subst (λ (w : WorldOf _). slice_get w.history.sessions c.args.actor ≡ None) c.self.view_is
+          (none_behind c.args.actor c.self.inside.journal.sessions (subst (λ (n : ℕ). n ≤ c.args.actor) (c.len.ensures ∙ (items ∙ sym (sym (c.self.invariant.0.0).seats ∙ length-map c.self.inside.actors.items shown_actor))) c.if-actor-len.true))),
+    )
 
 pub due-requires : goal.due-requires
 due-requires g c =
