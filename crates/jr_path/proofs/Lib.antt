@@ -1,3 +1,4 @@
+pub mod Cases
 pub mod Entries
 pub mod Follows
 pub mod Maps
