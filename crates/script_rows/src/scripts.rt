@@ -7,15 +7,21 @@ use std::alloc::{AllocError, Global};
 pub(crate) fn add(alloc: Global, text: &str, out: &mut String) -> Result<(), AllocError> {
     match read_script(alloc, text.as_bytes()) {
         Ok(script) => add_script(alloc, &script, out),
-        Err(ScriptFault::Bad {
+        Err(fault) => add_script_fault(alloc, fault, out),
+    }
+}
+
+fn add_script_fault(alloc: Global, fault: ScriptFault, out: &mut String) -> Result<(), AllocError> {
+    match fault {
+        ScriptFault::Bad {
             rule,
             pointer,
             offset,
-        }) => {
+        } => {
             add_fault(alloc, rule, pointer.as_str(), out)?;
             add_offset(alloc, offset, out)
         }
-        Err(ScriptFault::Memory) => out.push_str("memory"),
+        ScriptFault::Memory => out.push_str("memory"),
     }
 }
 
@@ -31,11 +37,7 @@ pub(crate) fn add_fault(
 }
 
 // The place within the text at which a rule is broken, where it is on what stands in a text.
-fn add_offset(
-    alloc: Global,
-    offset: Option<usize>,
-    out: &mut String,
-) -> Result<(), AllocError> {
+fn add_offset(alloc: Global, offset: Option<usize>, out: &mut String) -> Result<(), AllocError> {
     match offset {
         None => Ok(()),
         Some(offset) => {
