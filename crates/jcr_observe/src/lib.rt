@@ -2,6 +2,7 @@
 #![tactic(auto)]
 
 mod event;
+mod laws;
 mod passing;
 mod text;
 
@@ -9,5 +10,6 @@ pub use event::{
     Filter, JcrEvent, NODE_ADDED, NODE_REMOVED, PERSIST, PROPERTY_ADDED, PROPERTY_CHANGED,
     PROPERTY_REMOVED,
 };
+pub use laws::changes_are_differences;
 pub use passing::events;
 pub use text::events_text;
