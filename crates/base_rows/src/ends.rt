@@ -79,14 +79,15 @@ impl Write for Unflushed {
     }
 }
 
-// Flushes of a sink whose first call fails, and of a writer that fails at each.
+// Flushes of a sink whose first call fails, of bytes that a sink holds back, and of a writer that fails at each.
 fn add_flushed(alloc: Global, out: &mut String) -> Result<(), AllocError> {
     let mut sink = MemSink::new(alloc, 9, 9, Vec::from_slice(alloc, &[0])?)?;
     let is_refused = sink.flush().is_err();
-    let is_flushed = sink.flush().is_ok();
+    let is_held = write_all(&mut sink, "ab".as_bytes()).is_ok() && sink.passed() == 0;
+    let is_flushed = sink.flush().is_ok() && sink.passed() == 2;
     let mut broken = StdSink::new(Unflushed);
     let is_broken = broken.flush().is_err() && broken.faults() == 1;
-    out.push_str(if is_refused && is_flushed && is_broken {
+    out.push_str(if is_refused && is_held && is_flushed && is_broken {
         "counted"
     } else {
         "passed over"

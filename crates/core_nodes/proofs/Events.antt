@@ -1,5 +1,5 @@
 -- The memories of a run, event by event.
-use Rattle.std.proofs.Common.{◌≡◌, ◌≢◌, ◌↔◌, ℕ, zero, suc, ◌+◌, ◌-◌, ◌≤◌, ◌&&◌, Bool, true, false, cond, Option, Some, None, List, [], ◌∷◌, is_some, refl, sym, ap, subst, ◌∙◌, arith}
+use Rattle.std.proofs.Common.{◌≡◌, ◌≢◌, ◌↔◌, ℕ, zero, suc, ◌+◌, ◌-◌, ◌≤◌, ◌&&◌, ◌||◌, Bool, true, false, cond, Option, Some, None, List, [], ◌∷◌, is_some, refl, sym, ap, subst, ◌∙◌, arith}
 use Rattle.std.specs.Prelude.{◌==◌, max, nat_le, slice_get, unwrap_or}
 use Rattle.std.specs.List.Sorted.{IsStrictlySortedBy}
 use Rattle.std.specs.Map.{keys_of}
@@ -20,7 +20,7 @@ use Rattle.oak_machine.specs.Commits.{draw_of, is_drawn, is_ended}
 use Rattle.oak_machine.specs.Heads.{head_of, last_draw_time, last_in, local}
 use Rattle.oak_machine.specs.Laws.{Says, Starts}
 use Rattle.oak_machine.specs.Runs.{AreNodes, IsNode, IsRunOf}
-use Rattle.oak_machine.specs.Sessions.{has_left, has_login}
+use Rattle.oak_machine.specs.Sessions.{has_left, has_login, is_recovered, is_stopped}
 use Rattle.oak_node.specs.declared.pending.Note.{Note}
 use Rattle.oak_node.specs.Heads.{IsInFlight, finished, greatest_time, next_draw, with_draw}
 use Rattle.oak_node.specs.Memory.{NodeState, begun, own_entry}
@@ -74,7 +74,9 @@ begun_is clusters sessions nodes k node =
       sweep = record { vector = record { eight = refl; stands = start_stands clusters }; begun = start_begun clusters nodes.some; below = λ x h. h };
       last = refl;
       above = refl;
-      memory = start_memory (begun k (start clusters)) node.0 (omega arith) (subst (λ (o : Option Revision). IsSomeAnd o (λ e. e.cluster ≡ k)) (sym there) refl) refl refl;
+      stopped = refl;
+      recovered = refl;
+      memory = start_memory (begun k (start clusters)) node.0 (omega arith) (subst (λ (o : Option Revision). IsSomeAnd o (λ e. e.cluster ≡ k)) (sym there) refl) refl refl (λ h. h);
     }
 
 pub begun_pins : (clusters : ℕ) (sessions : List ℕ) (k : ℕ) → ArePinsOf sessions [] k (begun k (start clusters))
@@ -102,6 +104,8 @@ pins_kept clusters past k s pins is sorted = record {
   sweep = is.sweep;
   last = is.last;
   above = is.above;
+  stopped = is.stopped;
+  recovered = is.recovered;
   memory = pins_memory s pins pins is.memory refl sorted;
 }
 
@@ -112,6 +116,8 @@ notes_kept clusters past k s notes is = record {
   sweep = is.sweep;
   last = is.last;
   above = is.above;
+  stopped = is.stopped;
+  recovered = is.recovered;
   memory = record {
     low = is.memory.low;
     high = is.memory.high;
@@ -122,6 +128,7 @@ notes_kept clusters past k s notes is = record {
     of_node = is.memory.of_node;
     times = is.memory.times;
     owners = is.memory.owners;
+    stop = is.memory.stop;
   };
 }
 
@@ -204,7 +211,27 @@ module _ (starts : Starts) (says : Says) (clusters : ℕ) (sessions : List ℕ) 
   apart_run (event.Draw d) past k s run h is = draw_apart clusters sessions nodes past (sound_run clusters sessions nodes starts says past run.1) d (drawn_node d past run) (drawn_later d past run) (drawn_open d past run) k s (not_true (d.revision.cluster == k) h) is
   apart_run (event.End r) past k s run h is = end_apart clusters sessions nodes past (sound_run clusters sessions nodes starts says past run.1) r k s (λ same. not_both (k == k) (same_itself k) (subst (λ (j : ℕ). (j == k) ≡ false) same (not_true (r.cluster == k) h))) is
   apart_run (event.In m v) past k s run h is = in_apart clusters sessions nodes past (sound_run clusters sessions nodes starts says past run.1) m v k s (not_true (m == k) h) is
-  apart_run e past k s run h is = record { cluster = is.cluster; head = is.head; sweep = is.sweep; last = is.last; above = is.above; memory = is.memory }
+  apart_run (event.Stop m) past k s run h is = record {
+    cluster = is.cluster;
+    head = is.head;
+    sweep = is.sweep;
+    last = is.last;
+    above = is.above;
+    stopped = is.stopped ∙ sym (ap (λ b. b || is_stopped past k) (not_true (m == k) h));
+    recovered = is.recovered;
+    memory = is.memory;
+  }
+  apart_run (event.Recover m) past k s run h is = record {
+    cluster = is.cluster;
+    head = is.head;
+    sweep = is.sweep;
+    last = is.last;
+    above = is.above;
+    stopped = is.stopped;
+    recovered = is.recovered ∙ sym (ap (λ b. b || is_recovered past k) (not_true (m == k) h));
+    memory = is.memory;
+  }
+  apart_run e past k s run h is = record { cluster = is.cluster; head = is.head; sweep = is.sweep; last = is.last; above = is.above; stopped = is.stopped; recovered = is.recovered; memory = is.memory }
 
   -- ---- pins
 

@@ -121,6 +121,8 @@ module _ (clusters : ℕ) (sessions : List ℕ) (nodes : AreNodes clusters sessi
     sweep = pair;
     last = is.last;
     above = is.above;
+    stopped = is.stopped;
+    recovered = is.recovered;
     memory = record {
       low = is.memory.low;
       high = is.memory.high;
@@ -131,6 +133,7 @@ module _ (clusters : ℕ) (sessions : List ℕ) (nodes : AreNodes clusters sessi
       of_node = is.memory.of_node;
       times = is.memory.times;
       owners = is.memory.owners;
+      stop = is.memory.stop;
     };
   }
 

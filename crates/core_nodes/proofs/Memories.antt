@@ -141,6 +141,8 @@ module _ (clusters : ℕ) (sessions : List ℕ) (nodes : AreNodes clusters sessi
         sweep = pair_grows s.head (with_entry s.head moved) s.sweep (λ x h. subst (λ (v : RevVec). sees v x ≡ true) (sym head_is) (grown.heads k node x (subst (λ (v : RevVec). sees v x ≡ true) is.head h))) is.sweep;
         last = is.last;
         above = above_is;
+        stopped = is.stopped;
+        recovered = is.recovered;
         memory = finish_memory s r moved (with_entry s.head moved) (filter (λ d. is_before moved d.revision) (with_end s.above r)) is.memory refl refl refl;
       }
 
@@ -179,6 +181,8 @@ module _ (clusters : ℕ) (sessions : List ℕ) (nodes : AreNodes clusters sessi
         sweep = is.sweep;
         last = sym (ap (λ b. cond b d.revision.time (last_draw_time past n)) (same_itself n));
         above = ap (λ (ds : List Drawn). ds ++ record { revision = d.revision; ended = false } ∷ []) is.above ∙ sym pushed_is;
+        stopped = is.stopped;
+        recovered = is.recovered;
         memory = draw_memory s d.revision (with_draw s d.revision).above is.memory late (sym is.cluster) refl;
       }
 
@@ -192,6 +196,8 @@ module _ (clusters : ℕ) (sessions : List ℕ) (nodes : AreNodes clusters sessi
       above = is.above ∙ sym
           (ap (λ b. map (as_drawn past) (filter (is_before (local None (event.Draw d ∷ past) k)) (reverse (cond b (d.revision ∷ draws_by past k) (draws_by past k))))) other
           ∙ ap (λ x. map (as_drawn past) (filter (is_before x) (reverse (draws_by past k)))) (drawn_local clusters past d grown unended k));
+      stopped = is.stopped;
+      recovered = is.recovered;
       memory = is.memory;
     }
 
@@ -208,6 +214,8 @@ module _ (clusters : ℕ) (sessions : List ℕ) (nodes : AreNodes clusters sessi
         above = is.above ∙ sym
             (ap (λ x. map (as_drawn (event.End r ∷ past)) (filter (is_before x) (reverse (draws_by past k)))) same
             ∙ same_drawn past (event.End r ∷ past) (revisions_above past k) (λ q i. by q (above_in past k q i).1 (is_same q r) refl));
+        stopped = is.stopped;
+        recovered = is.recovered;
         memory = is.memory;
       }
     where
@@ -222,5 +230,7 @@ module _ (clusters : ℕ) (sessions : List ℕ) (nodes : AreNodes clusters sessi
     sweep = is.sweep;
     last = is.last;
     above = is.above;
+    stopped = is.stopped;
+    recovered = is.recovered;
     memory = is.memory;
   }

@@ -13,7 +13,7 @@ use Rattle.oak_machine.specs.declared.event.StepKind.TheVariants as kind
 use Rattle.oak_machine.specs.History.{Past}
 use Rattle.oak_machine.specs.Commits.{is_drawn, is_ended, is_in_flight}
 use Rattle.oak_machine.specs.Heads.{draws_by, head_of, last_draw_time, local}
-use Rattle.oak_machine.specs.Sessions.{has_left, has_login}
+use Rattle.oak_machine.specs.Sessions.{has_left, has_login, is_recovered, is_stopped}
 use Rattle.oak_node.specs.declared.drawn.Drawn.{Drawn}
 use Rattle.oak_node.specs.declared.memory.Awaits.{Awaits}
 use Rattle.oak_node.specs.declared.memory.Awaits.TheVariants.{Ready, Pending}
@@ -54,20 +54,26 @@ pub record IsOnRoot (clusters : ℕ) (moment : Past) (last sweep : RevVec) : Typ
   pub public : (x : Revision) → IsTrue (sees last x) ↔ Public clusters moment x
   pub pair : IsPair last sweep
 
--- the memory of cluster node k is that of the past: its head, with a sweep vector that goes with it, its last draw, and what it drew above its local revision
+-- the memory of cluster node k is that of the past: its head, with a sweep vector that goes with it, its last draw, what it
+-- drew above its local revision, and whether it was stopped and recovered
 pub record IsMemoryOf (clusters : ℕ) (past : Past) (k : ℕ) (s : NodeState) : Type 0 where
   pub cluster : s.cluster ≡ k
   pub head : s.head ≡ head_of clusters None past k
   pub sweep : IsPair s.head s.sweep
   pub last : s.last_time ≡ last_draw_time past k
   pub above : s.above ≡ drawn_above past k
+  pub stopped : s.stopped ≡ is_stopped past k
+  pub recovered : s.recovered ≡ is_recovered past k
   pub memory : IsMemory s
 
--- the event leaves the memory of cluster node k: k neither draws, nor ends a revision, nor learns
+-- the event leaves the memory of cluster node k: k neither draws, nor ends a revision, nor learns, and is neither stopped
+-- nor recovered
 abbrev pub leaves_memory : ℕ → Event → Bool
 leaves_memory k (event.Draw d) = not (d.revision.cluster == k)
 leaves_memory k (event.End r) = not (r.cluster == k)
 leaves_memory k (event.In m v) = not (m == k)
+leaves_memory k (event.Stop m) = not (m == k)
+leaves_memory k (event.Recover m) = not (m == k)
 leaves_memory k _ = true
 
 -- the event is a draw

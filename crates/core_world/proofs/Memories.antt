@@ -219,6 +219,8 @@ module _ (starts : Starts) (says : Says) (clusters : ℕ) (sessions : List ℕ) 
         };
         last = is.last;
         above = is.above;
+        stopped = is.stopped;
+        recovered = is.recovered;
         memory = record {
           low = is.memory.low;
           high = is.memory.high;
@@ -229,6 +231,7 @@ module _ (starts : Starts) (says : Says) (clusters : ℕ) (sessions : List ℕ) 
           of_node = is.memory.of_node;
           times = is.memory.times;
           owners = is.memory.owners;
+          stop = is.memory.stop;
         };
       })
       (same_pins (e ∷ past) k m (swept_to m r) refl (pins_kept sessions past k m (are.pins k node) e refl))

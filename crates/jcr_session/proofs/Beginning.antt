@@ -7,7 +7,7 @@ use Rattle.oak_machine.specs.declared.event.StepKind.{StepKind}
 use Rattle.oak_machine.specs.declared.event.StepKind.TheVariants as kind
 use Rattle.oak_machine.specs.History.{History, Past}
 use Rattle.oak_machine.specs.Laws.{after}
-use Rattle.oak_port.specs.Ports.{HasRoom, Idle, Makes, MayBegin, Shown, Starting, Steps, Waits, Work}
+use Rattle.oak_port.specs.Ports.{HasRoom, Idle, Makes, MayBegin, Shown, Starting, Steps, OthersAlone, Work}
 use Rattle.oak_port.specs.declared.task.StepOut.{StepOut}
 use Rattle.oak_port.specs.declared.task.StepOut.TheVariants as out
 use Rattle.oak_port.specs.declared.task.Task.{Task}
@@ -21,7 +21,7 @@ use Rattle.jcr_session.specs.declared.run.Plan.TheVariants as plan
 use Rattle.jcr_session.specs.declared.run.SessionRun.{SessionRun}
 use Rattle.jcr_session.specs.declared.turn.Turn.{Turn}
 use Rattle.jcr_session.specs.declared.turn.Turn.TheVariants as turn
-use Rattle.jcr_session.specs.Drawn.{has_went}
+use Rattle.jcr_session.specs.Answered.{has_went}
 use Rattle.jcr_session.specs.Sights.{says_of, starts_of}
 use Rattle.jcr_session.specs.Standing.{HasTurned, IsPlanOf, MayAnswer, Stands, due_for, is_unread}
 use Rattle.jcr_session.proofs.Calling.{may_behind, may_law, may_unbegun, steps_law, turned_behind_place, turned_law, turned_unbegun}
@@ -29,8 +29,8 @@ use Rattle.jcr_session.proofs.Drawing.{commit_begins, commit_draws, commit_stopp
 use Rattle.jcr_session.proofs.Lengths.{memory_room}
 use Rattle.jcr_session.proofs.Replying.{forgo_save, idle_between}
 
-waits_law : (law later : JcrLaw) → later ≡ law → (a b : Shown) (work : Work) (room : Option ℕ) → Waits (starts_of later) (says_of later) a b work room → Waits (starts_of law) (says_of law) a b work room
-waits_law law later same a b work room waits = subst (λ (l : JcrLaw). Waits (starts_of l) (says_of l) a b work room) same waits
+waits_law : (law later : JcrLaw) → later ≡ law → (a b : Shown) (work : Work) (room : Option ℕ) → OthersAlone (starts_of later) (says_of later) a b work room → OthersAlone (starts_of law) (says_of law) a b work room
+waits_law law later same a b work room waits = subst (λ (l : JcrLaw). OthersAlone (starts_of l) (says_of l) a b work room) same waits
 
 begin_law : (law later : JcrLaw) → later ≡ law → (p : Shown) (t : Task) → MayBegin (starts_of law) p.history p.session t → MayBegin (starts_of later) p.history p.session t
 begin_law law later same p t may = subst (λ (l : JcrLaw). MayBegin (starts_of l) p.history p.session t) (sym same) may
@@ -40,31 +40,20 @@ place o room is h = subst (λ (x : Option ℕ). HasRoom x 40) (sym is) h
 
 went_is : (answer : StepOut) → has_went answer ≡ true → (k : StepKind) × (answer ≡ out.Went k)
 went_is (out.Went k) h = (k, refl)
-went_is (out.Ready e) h = absurd (false≢true h)
-went_is (out.Wait r) h = absurd (false≢true h)
-went_is out.Memory h = absurd (false≢true h)
+went_is a h = absurd (false≢true h)
 
 -- a commit that doesn't draw was refused memory
 memory_is : (h : History) (s : ℕ) (edit : Edit) (marks : List MarkAt) (answer : StepOut) (own : Past) (now : Work) → has_went answer ≡ false → Makes h s (Starting (task.Commit edit marks)) answer own now → answer ≡ out.Memory
 memory_is h s edit marks (out.Went k) own now stood makes = absurd (false≢true (sym stood))
-memory_is h s edit marks (out.Ready (end.Node f)) own now stood makes = absurd makes
-memory_is h s edit marks (out.Ready (end.Children f)) own now stood makes = absurd makes
-memory_is h s edit marks (out.Ready (end.Pinned f)) own now stood makes = absurd makes
-memory_is h s edit marks (out.Ready (end.Commit f)) own now stood makes = absurd makes
-memory_is h s edit marks (out.Ready end.Ended) own now stood makes = absurd makes
-memory_is h s edit marks (out.Ready (end.Published o)) own now stood makes = absurd makes
-memory_is h s edit marks (out.Ready (end.Learnt u)) own now stood makes = absurd makes
-memory_is h s edit marks (out.Ready (end.Set p)) own now stood makes = absurd makes
-memory_is h s edit marks (out.Ready end.NoCheckpoint) own now stood makes = absurd makes
-memory_is h s edit marks (out.Wait r) own now stood makes = absurd makes
 memory_is h s edit marks out.Memory own now stood makes = refl
+memory_is h s edit marks a own now stood makes = absurd makes
 
 module _ (law first : JcrLaw) (firsts : first ≡ law) (old mid : Shown) (run : SessionRun) (stands : Stands law old run) (between : run.phase ≡ phase.Between) (read : is_unread run ≡ false) (next : due_for run ≡ due.Save) where
   forgo : MayAnswer law old run memory_text
   forgo = forgo_save law old run stands between read next
 
   -- no place was kept
-  module _ (waits : Waits (starts_of law) (says_of law) old mid old.work old.room) where
+  module _ (waits : OthersAlone (starts_of law) (says_of law) old mid old.work old.room) where
     pub save_unplaced : MayAnswer first mid run memory_text
     save_unplaced = may_behind law first firsts old mid run memory_text forgo old.room waits
 
@@ -72,7 +61,7 @@ module _ (law first : JcrLaw) (firsts : first ≡ law) (old mid : Shown) (run : 
     turned_unplaced new now t turned = turned_behind_place law first firsts old mid run memory_text forgo old.room waits new now t turned
 
   -- a place was kept
-  module _ (waits : Waits (starts_of law) (says_of law) old mid old.work (Some 40)) where
+  module _ (waits : OthersAlone (starts_of law) (says_of law) old mid old.work (Some 40)) where
     fits : HasRoom mid.room 40
     fits = place mid.room (Some 40) waits.room_is (let h : 40 ≤ 40 = omega arith in h)
 
@@ -91,7 +80,7 @@ module _ (law first : JcrLaw) (firsts : first ≡ law) (old mid : Shown) (run : 
 
     module _ (second : JcrLaw) (seconds : second ≡ first) (begun : Shown) where
       -- the commit wasn't begun
-      module _ (still : Waits (starts_of first) (says_of first) mid begun Idle mid.room) where
+      module _ (still : OthersAlone (starts_of first) (says_of first) mid begun Idle mid.room) where
         pub save_unbegun : MayAnswer second begun run memory_text
         save_unbegun = may_unbegun first second seconds mid begun run memory_text may_mid mid.room still
 
@@ -102,8 +91,8 @@ module _ (law first : JcrLaw) (firsts : first ≡ law) (old mid : Shown) (run : 
         turned_unbegun_save new now t turned = later_mid new now t (turned_unbegun first second seconds mid begun run memory_text may_mid mid.room still new now t turned)
 
       -- it was
-      module _ (edit : Edit) (marks : List MarkAt) (planned : IsPlanOf run.sight (plan.Commit edit marks)) (begins : Waits (starts_of first) (says_of first) mid begun (Starting (task.Commit edit marks)) mid.room) (new : Shown) (answer : StepOut) (steps : Steps (starts_of second) (says_of second) begun new answer) where
-        begins_old : Waits (starts_of law) (says_of law) mid begun (Starting (task.Commit edit marks)) mid.room
+      module _ (edit : Edit) (marks : List MarkAt) (planned : IsPlanOf run.sight (plan.Commit edit marks)) (begins : OthersAlone (starts_of first) (says_of first) mid begun (Starting (task.Commit edit marks)) mid.room) (new : Shown) (answer : StepOut) (steps : Steps (starts_of second) (says_of second) begun new answer) where
+        begins_old : OthersAlone (starts_of law) (says_of law) mid begun (Starting (task.Commit edit marks)) mid.room
         begins_old = waits_law law first firsts mid begun (Starting (task.Commit edit marks)) mid.room begins
 
         steps_old : (a : StepOut) → answer ≡ a → Steps (starts_of law) (says_of law) begun new a

@@ -4,7 +4,7 @@ use mathlib.Core.Bool.{false≢true}
 use Rattle.jr_path.specs.declared.text.Text.{Text}
 use Rattle.jr_rev.specs.declared.vector.Pin.{Pin}
 use Rattle.oak_machine.specs.declared.event.StepKind.TheVariants as kind
-use Rattle.oak_port.specs.Ports.{Idle, Shown, Starting, Steps, Waits, Work}
+use Rattle.oak_port.specs.Ports.{Idle, Shown, Starting, Steps, OthersAlone, Work}
 use Rattle.oak_port.specs.declared.task.StepOut.{StepOut}
 use Rattle.oak_port.specs.declared.task.StepOut.TheVariants as out
 use Rattle.oak_port.specs.declared.task.Task.{Task}
@@ -18,8 +18,9 @@ use Rattle.jcr_session.specs.declared.run.SessionRun.{SessionRun}
 use Rattle.jcr_session.specs.declared.sight.Sight.TheVariants as sight
 use Rattle.jcr_session.specs.declared.turn.Turn.{Turn}
 use Rattle.jcr_session.specs.declared.turn.Turn.TheVariants as turn
+use Rattle.jcr_session.specs.Answered.{pinned_by}
 use Rattle.jcr_session.specs.Sights.{says_of, starts_of}
-use Rattle.jcr_session.specs.Standing.{HasTurned, MayAnswer, Stands, due_for, is_unread, pinned_by}
+use Rattle.jcr_session.specs.Standing.{HasTurned, MayAnswer, Stands, due_for, is_unread}
 use Rattle.jcr_session.proofs.Living.{logged_in}
 use Rattle.jcr_session.proofs.Saying.{is_idle}
 use Rattle.jcr_session.proofs.Starting.{left, pinned_is, refresh_moves, refresh_stopped, refresh_stops}
@@ -44,7 +45,7 @@ module _ (law later : JcrLaw) (laws : later ≡ law) where
 
 -- ---- behind a place that was kept, or wasn't
 
-module _ (law later : JcrLaw) (laws : later ≡ law) (old mid : Shown) (run : SessionRun) (text : Text) (may : MayAnswer law old run text) (room : Option ℕ) (waits : Waits (starts_of law) (says_of law) old mid old.work room) where
+module _ (law later : JcrLaw) (laws : later ≡ law) (old mid : Shown) (run : SessionRun) (text : Text) (may : MayAnswer law old run text) (room : Option ℕ) (waits : OthersAlone (starts_of law) (says_of law) old mid old.work room) where
   pub may_behind : MayAnswer later mid run text
   may_behind = may_law law later laws mid run text (answer_later law old run text may mid room waits)
 
@@ -53,7 +54,7 @@ module _ (law later : JcrLaw) (laws : later ≡ law) (old mid : Shown) (run : Se
 
 -- ---- behind a task that wasn't begun
 
-module _ (law later : JcrLaw) (laws : later ≡ law) (old mid : Shown) (run : SessionRun) (text : Text) (may : MayAnswer law old run text) (room : Option ℕ) (waits : Waits (starts_of law) (says_of law) old mid Idle room) where
+module _ (law later : JcrLaw) (laws : later ≡ law) (old mid : Shown) (run : SessionRun) (text : Text) (may : MayAnswer law old run text) (room : Option ℕ) (waits : OthersAlone (starts_of law) (says_of law) old mid Idle room) where
   pub may_unbegun : MayAnswer later mid run text
   may_unbegun = may_law law later laws mid run text (answer_idle law old mid room waits run text may)
 
@@ -63,19 +64,19 @@ module _ (law later : JcrLaw) (laws : later ≡ law) (old mid : Shown) (run : Se
 -- ---- the step of a task that was begun
 
 module _ (law later : JcrLaw) (laws : later ≡ law) (old mid new : Shown) (room : Option ℕ) (run : SessionRun) (answer : StepOut) (stands : Stands law old run) (steps : Steps (starts_of later) (says_of later) mid new answer) where
-  pub login_by : run.phase ≡ phase.Outside → Waits (starts_of law) (says_of law) old mid (Starting task.Login) room → (pin : Pin) → pinned_by answer ≡ Some pin
+  pub login_by : run.phase ≡ phase.Outside → OthersAlone (starts_of law) (says_of law) old mid (Starting task.Login) room → (pin : Pin) → pinned_by answer ≡ Some pin
       → (now : SessionRun) (t : Turn) → now ≡ record run { phase = phase.Between } → t ≡ turn.Stepped kind.Login → HasTurned law old new run now t
   login_by outside waits pin pinned now t is told =
       logged_in law old mid new run stands outside room waits pin
       (subst (λ (a : StepOut). Steps (starts_of law) (says_of law) mid new a) (pinned_is answer pin pinned) (steps_law law later laws mid new answer steps)) now t is told
 
-  pub leave_by : run.phase ≡ phase.Between → is_unread run ≡ false → due_for run ≡ due.Leave → Waits (starts_of law) (says_of law) old mid (Starting task.End) room → answer ≡ out.Ready end.Ended
+  pub leave_by : run.phase ≡ phase.Between → is_unread run ≡ false → due_for run ≡ due.Leave → OthersAlone (starts_of law) (says_of law) old mid (Starting task.End) room → answer ≡ out.Ready end.Ended
       → (now : SessionRun) (t : Turn) → now ≡ record run { phase = phase.Over } → t ≡ turn.Stepped kind.End → HasTurned law old new run now t
   leave_by between read next waits ended now t is told =
       left law old mid new room run now t stands between read next waits
       (subst (λ (a : StepOut). Steps (starts_of law) (says_of law) mid new a) ended (steps_law law later laws mid new answer steps)) is told
 
-  module _ (between : run.phase ≡ phase.Between) (read : is_unread run ≡ false) (next : due_for run ≡ due.Refresh) (waits : Waits (starts_of law) (says_of law) old mid (Starting task.Refresh) room) where
+  module _ (between : run.phase ≡ phase.Between) (read : is_unread run ≡ false) (next : due_for run ≡ due.Refresh) (waits : OthersAlone (starts_of law) (says_of law) old mid (Starting task.Refresh) room) where
     pub refresh_by_pin : (pin : Pin) → pinned_by answer ≡ Some pin → (now : SessionRun) (t : Turn) → now ≡ record run { phase = phase.Refreshed pin.base; sight = sight.Unread } → t ≡ turn.Stepped kind.Pin → HasTurned law old new run now t
     refresh_by_pin pin pinned now t is told = refresh_moves law old mid new room run pin answer stands between read next waits (steps_law law later laws mid new answer steps) pinned now t is told
 

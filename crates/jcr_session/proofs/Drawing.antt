@@ -20,7 +20,7 @@ use Rattle.oak_machine.specs.Sessions.{has_left, has_login, is_attached, next_in
 use Rattle.oak_machine.specs.Steps.{is_appended_by}
 use Rattle.oak_machine.proofs.Induction.{committed_is_drawn}
 use Rattle.core_heads.proofs.Runs.{fresh_run}
-use Rattle.oak_port.specs.Ports.{Grows, HasRoom, Idle, IsDrawFor, Makes, MayBegin, Shown, Starting, Steps, Waits, Work, Writing}
+use Rattle.oak_port.specs.Ports.{Grows, HasRoom, Idle, IsDrawFor, Makes, MayBegin, Shown, Starting, Steps, OthersAlone, Work, Writing}
 use Rattle.oak_port.specs.declared.task.StepOut.TheVariants as out
 use Rattle.oak_port.specs.declared.task.Task.TheVariants as task
 use Rattle.jcr_trans.specs.declared.command.Command.{Command}
@@ -80,7 +80,7 @@ module _ (law : JcrLaw) (old : Shown) (run : SessionRun) (stands : Stands law ol
     turn_old = (subst (λ (x : Sight). Sees law old run x) at at_between.1).1
 
     -- behind events of others, with a place for the reply
-    module _ (mid : Shown) (room : Option ℕ) (waits : Waits (starts_of law) (says_of law) old mid old.work room) where
+    module _ (mid : Shown) (room : Option ℕ) (waits : OthersAlone (starts_of law) (says_of law) old mid old.work room) where
       in_mid : IsIn law mid
       in_mid = in_then law old mid old.work room waits in_old.nodes in_old.begun in_old.run in_old
 
@@ -107,7 +107,7 @@ module _ (law : JcrLaw) (old : Shown) (run : SessionRun) (stands : Stands law ol
       commit_may : MayBegin (starts_of law) mid.history mid.session (task.Commit edit marks)
       commit_may = (in_mid.login, in_mid.stays, in_mid.detached, starts_mid)
 
-      module _ (begun new : Shown) (more : Option ℕ) (begins : Waits (starts_of law) (says_of law) mid begun (Starting (task.Commit edit marks)) more) where
+      module _ (begun new : Shown) (more : Option ℕ) (begins : OthersAlone (starts_of law) (says_of law) mid begun (Starting (task.Commit edit marks)) more) where
         -- it draws
         module _ (k : StepKind) (steps : Steps (starts_of law) (says_of law) begun new (out.Went k)) (place : HasRoom more 40) where
           abbrev s : ℕ
@@ -247,12 +247,12 @@ module _ (law : JcrLaw) (old : Shown) (run : SessionRun) (stands : Stands law ol
 
   -- ---- by the plan
 
-  module _ (edit : Edit) (marks : List MarkAt) (planned : IsPlanOf run.sight (plan.Commit edit marks)) (mid : Shown) (room : Option ℕ) (waits : Waits (starts_of law) (says_of law) old mid old.work room) where
+  module _ (edit : Edit) (marks : List MarkAt) (planned : IsPlanOf run.sight (plan.Commit edit marks)) (mid : Shown) (room : Option ℕ) (waits : OthersAlone (starts_of law) (says_of law) old mid old.work room) where
     -- it may begin
     pub commit_begins : MayBegin (starts_of law) mid.history mid.session (task.Commit edit marks)
     commit_begins = let x = plan_seen run.sight edit marks planned in commit_may edit marks x.0 x.1 x.2 mid room waits
 
-    module _ (begun new : Shown) (more : Option ℕ) (begins : Waits (starts_of law) (says_of law) mid begun (Starting (task.Commit edit marks)) more) where
+    module _ (begun new : Shown) (more : Option ℕ) (begins : OthersAlone (starts_of law) (says_of law) mid begun (Starting (task.Commit edit marks)) more) where
       -- it draws, and the session is in its save
       pub commit_draws : (now : SessionRun) (t : Turn) (k : StepKind) → Steps (starts_of law) (says_of law) begun new (out.Went k) → HasRoom more 40 → now ≡ record run { phase = phase.Saving } → t ≡ turn.Stepped kind.Draw → HasTurned law old new run now t
       commit_draws now t k steps place is told =

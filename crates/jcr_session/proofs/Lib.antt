@@ -21,3 +21,4 @@ mod Seeing
 mod Calling
 mod Beginning
 mod Leaving
+mod Coming

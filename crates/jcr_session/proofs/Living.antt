@@ -16,7 +16,7 @@ use Rattle.oak_machine.specs.Laws.{Says, Starts, after}
 use Rattle.oak_machine.specs.Runs.{AreNodes, IsRun, IsRunOf}
 use Rattle.oak_machine.specs.Sessions.{drawn_since, has_left, has_login, is_attached, is_drawing, next_index, refreshed_since}
 use Rattle.oak_machine.proofs.Induction.{neither}
-use Rattle.oak_port.specs.Ports.{AreOfStep, Idle, Makes, MayBegin, Shown, Starting, Steps, Waits, Work}
+use Rattle.oak_port.specs.Ports.{AreOfStep, Idle, Makes, MayBegin, Shown, Starting, Steps, OthersAlone, Work}
 use Rattle.oak_port.specs.declared.task.StepOut.TheVariants as out
 use Rattle.oak_port.specs.declared.task.Task.TheVariants as task
 use Rattle.oak_port.specs.declared.task.TaskEnd.TheVariants as end
@@ -67,7 +67,7 @@ outside_begins law p run stands outside = (outside_at law p run stands outside).
 -- ---- a login
 
 -- its start, and its step
-module _ (law : JcrLaw) (old mid new : Shown) (run : SessionRun) (stands : Stands law old run) (outside : run.phase ≡ phase.Outside) (room : Option ℕ) (waits : Waits (starts_of law) (says_of law) old mid (Starting task.Login) room) (pin : Pin) (steps : Steps (starts_of law) (says_of law) mid new (out.Ready (end.Pinned pin))) where
+module _ (law : JcrLaw) (old mid new : Shown) (run : SessionRun) (stands : Stands law old run) (outside : run.phase ≡ phase.Outside) (room : Option ℕ) (waits : OthersAlone (starts_of law) (says_of law) old mid (Starting task.Login) room) (pin : Pin) (steps : Steps (starts_of law) (says_of law) mid new (out.Ready (end.Pinned pin))) where
   abbrev is_out : IsOutside law old run
   is_out = outside_at law old run stands outside
 

@@ -12,7 +12,7 @@ use Rattle.oak_machine.specs.declared.event.StepKind.{StepKind}
 use Rattle.oak_machine.specs.History.{Begin, History, Past}
 use Rattle.oak_machine.specs.Laws.{AreOthers, after}
 use Rattle.oak_machine.specs.Runs.{AreNodes, IsRun}
-use Rattle.oak_port.specs.Ports.{Beside, Grows, Idle, Makes, Seat, Shown, Starting, Steps, Waits, Work, tree_of}
+use Rattle.oak_port.specs.Ports.{Beside, Grows, Idle, Makes, Seat, Shown, Starting, Steps, OthersAlone, Work, tree_of}
 use Rattle.oak_port.specs.declared.task.StepOut.{StepOut}
 use Rattle.oak_port.specs.declared.task.StepOut.TheVariants as out
 use Rattle.oak_port.specs.declared.task.Task.{Task}
@@ -26,7 +26,8 @@ use Rattle.jcr_session.specs.declared.sight.Listed.{Listed}
 use Rattle.jcr_session.specs.declared.sight.Listed.TheVariants as listed
 use Rattle.jcr_session.specs.declared.sight.Loaded.{Loaded}
 use Rattle.jcr_session.specs.declared.sight.Loaded.TheVariants as loaded
-use Rattle.jcr_session.specs.Sights.{IsBeside, IsFetching, IsIn, IsPart, listed_by, loaded_by, says_of, starts_of}
+use Rattle.jcr_session.specs.Answered.{listed_by, loaded_by}
+use Rattle.jcr_session.specs.Sights.{IsBeside, IsFetching, IsIn, IsPart, says_of, starts_of}
 use Rattle.jcr_session.proofs.Others.{append_assoc, others_both}
 use Rattle.jcr_session.proofs.Waiting.{in_beside, in_then, tree_beside, tree_then}
 use Rattle.jcr_session.proofs.Walking.{part_node, part_none, part_children, node_there}
@@ -101,22 +102,22 @@ module _ (law : JcrLaw) (old new : Shown) (t : Task) (answer : StepOut) (inside 
 -- ---- beginning to read
 
 module _ (law : JcrLaw) (old new : Shown) (inside : IsIn law old) where
-  module _ (t : Task) (waits : Waits (starts_of law) (says_of law) old new (Starting t) old.room) where
+  module _ (t : Task) (waits : OthersAlone (starts_of law) (says_of law) old new (Starting t) old.room) where
     pub in_started : IsIn law new
     in_started = in_then law old new (Starting t) old.room waits inside.nodes inside.begun inside.run inside
 
     tree_started : base_at new ≡ base_at old
     tree_started = tree_then law old new (Starting t) old.room waits inside.nodes inside.begun inside.run
 
-  pub in_refused : Waits (starts_of law) (says_of law) old new Idle old.room → IsIn law new
+  pub in_refused : OthersAlone (starts_of law) (says_of law) old new Idle old.room → IsIn law new
   in_refused waits = in_then law old new Idle old.room waits inside.nodes inside.begun inside.run inside
 
-  pub node_started : (tree : Nodes) (left : List Path) (path copy : Path) → copy ≡ path → Waits (starts_of law) (says_of law) old new (Starting (task.Load copy)) old.room → IsPart (base_at old) tree (path ∷ left)
+  pub node_started : (tree : Nodes) (left : List Path) (path copy : Path) → copy ≡ path → OthersAlone (starts_of law) (says_of law) old new (Starting (task.Load copy)) old.room → IsPart (base_at old) tree (path ∷ left)
       → (new.work ≡ Starting (task.Load path)) × IsPart (base_at new) tree (path ∷ left)
   node_started tree left path copy same waits part =
       (waits.work_is ∙ ap (λ (p : Path). Starting (task.Load p)) same, subst (λ (t : Nodes). IsPart t tree (path ∷ left)) (sym (tree_started (task.Load copy) waits)) part)
 
-  pub names_started : (tree now : Nodes) (left : List Path) (path key copy : Path) (node : Node) → now ≡ insert_entry path_cmp tree key node → key ≡ path → copy ≡ path → Waits (starts_of law) (says_of law) old new (Starting (task.List copy)) old.room → IsPart (base_at old) tree (path ∷ left)
+  pub names_started : (tree now : Nodes) (left : List Path) (path key copy : Path) (node : Node) → now ≡ insert_entry path_cmp tree key node → key ≡ path → copy ≡ path → OthersAlone (starts_of law) (says_of law) old new (Starting (task.List copy)) old.room → IsPart (base_at old) tree (path ∷ left)
       → node_at (base_at old) path ≡ Some node → (new.work ≡ Starting (task.List path)) × IsPart (base_at new) now (path ∷ left) × (is_some (node_at now path) ≡ true)
   names_started tree now left path key copy node put put_at same waits part there =
       let is : now ≡ insert_entry path_cmp tree path node = put ∙ ap (λ (p : Path). insert_entry path_cmp tree p node) put_at in (
@@ -193,15 +194,7 @@ module _ (law : JcrLaw) (old new : Shown) (path : Path) (inside : IsIn law old) 
 
       by : (t : Task) → Makes (after steps.others old.history) old.session (Starting t) out.Memory steps.own new.work → HasStepped law old new Idle
       by task.Login m = done m.0 m.1
-      by task.End m = done m.0 m.1
-      by task.Refresh m = done m.0 m.1
-      by (task.Load p) m = done m.0 m.1
-      by (task.List p) m = done m.0 m.1
-      by (task.Commit e ms) m = done m.0 m.1
-      by task.BackWrite m = done m.0 m.1
-      by task.BackRead m = done m.0 m.1
-      by (task.Checkpoint i) m = done m.0 m.1
-      by (task.Release i) m = done m.0 m.1
+      by t m = done m.0 m.1
 
 -- ---- what is read of a tree stays
 
@@ -244,15 +237,7 @@ module _ (law : JcrLaw) (old new : Shown) (path : Path) (tree : Nodes) (left : L
         after = (h.0.work_is, part_none (base_at new) h.0.inside.tree tree path left (part_kept law old new Idle tree (path ∷ left) h.0 part) h.1);
       }
   loaded_with out.Memory busy steps = let h = task_refused law old new path inside (task.Load path) busy steps in record { inside = h.inside; beside = h.beside; after = h.work_is }
-  loaded_with (out.Ready (end.Children names)) busy steps = absurd (makes law old new (task.Load path) (out.Ready (end.Children names)) inside busy steps)
-  loaded_with (out.Ready (end.Pinned pin)) busy steps = absurd (makes law old new (task.Load path) (out.Ready (end.Pinned pin)) inside busy steps)
-  loaded_with (out.Ready (end.Commit e)) busy steps = absurd (makes law old new (task.Load path) (out.Ready (end.Commit e)) inside busy steps)
-  loaded_with (out.Ready end.Ended) busy steps = absurd (makes law old new (task.Load path) (out.Ready end.Ended) inside busy steps)
-  loaded_with (out.Ready (end.Published o)) busy steps = absurd (makes law old new (task.Load path) (out.Ready (end.Published o)) inside busy steps)
-  loaded_with (out.Ready (end.Learnt u)) busy steps = absurd (makes law old new (task.Load path) (out.Ready (end.Learnt u)) inside busy steps)
-  loaded_with (out.Ready (end.Set p)) busy steps = absurd (makes law old new (task.Load path) (out.Ready (end.Set p)) inside busy steps)
-  loaded_with (out.Ready end.NoCheckpoint) busy steps = absurd (makes law old new (task.Load path) (out.Ready end.NoCheckpoint) inside busy steps)
-  loaded_with (out.Wait r) busy steps = absurd (makes law old new (task.Load path) (out.Wait r) inside busy steps)
+  loaded_with a busy steps = absurd (makes law old new (task.Load path) a inside busy steps)
 
   pub has_loaded : (answer : StepOut) (came : Loaded) → old.work ≡ Starting (task.Load path) → Steps (starts_of law) (says_of law) old new answer → came ≡ loaded_by answer → HasLoaded law old new path tree left came
   has_loaded answer came busy steps is = subst (λ (c : Loaded). HasLoaded law old new path tree left c) (sym is) (loaded_with answer busy steps)
@@ -266,15 +251,7 @@ module _ (law : JcrLaw) (old new : Shown) (path : Path) (tree : Nodes) (left : L
         after = (h.0.work_is, part_children (base_at new) h.0.inside.tree tree path left names (part_kept law old new Idle tree (path ∷ left) h.0 part) there h.1);
       }
   listed_with out.Memory busy there steps = let h = task_refused law old new path inside (task.List path) busy steps in record { inside = h.inside; beside = h.beside; after = h.work_is }
-  listed_with (out.Ready (end.Node found)) busy there steps = absurd (makes law old new (task.List path) (out.Ready (end.Node found)) inside busy steps)
-  listed_with (out.Ready (end.Pinned pin)) busy there steps = absurd (makes law old new (task.List path) (out.Ready (end.Pinned pin)) inside busy steps)
-  listed_with (out.Ready (end.Commit e)) busy there steps = absurd (makes law old new (task.List path) (out.Ready (end.Commit e)) inside busy steps)
-  listed_with (out.Ready end.Ended) busy there steps = absurd (makes law old new (task.List path) (out.Ready end.Ended) inside busy steps)
-  listed_with (out.Ready (end.Published o)) busy there steps = absurd (makes law old new (task.List path) (out.Ready (end.Published o)) inside busy steps)
-  listed_with (out.Ready (end.Learnt u)) busy there steps = absurd (makes law old new (task.List path) (out.Ready (end.Learnt u)) inside busy steps)
-  listed_with (out.Ready (end.Set p)) busy there steps = absurd (makes law old new (task.List path) (out.Ready (end.Set p)) inside busy steps)
-  listed_with (out.Ready end.NoCheckpoint) busy there steps = absurd (makes law old new (task.List path) (out.Ready end.NoCheckpoint) inside busy steps)
-  listed_with (out.Wait r) busy there steps = absurd (makes law old new (task.List path) (out.Wait r) inside busy steps)
+  listed_with a busy there steps = absurd (makes law old new (task.List path) a inside busy steps)
 
   pub has_listed : (answer : StepOut) (came : Listed) → old.work ≡ Starting (task.List path) → is_some (node_at tree path) ≡ true → Steps (starts_of law) (says_of law) old new answer → came ≡ listed_by answer → HasListed law old new path tree left came
   has_listed answer came busy there steps is = subst (λ (c : Listed). HasListed law old new path tree left c) (sym is) (listed_with answer busy there steps)

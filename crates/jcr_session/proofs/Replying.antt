@@ -1,5 +1,5 @@
 -- What a session may answer to its next command, as its functions find it.
-use Rattle.std.proofs.Common.{◌≡◌, ℕ, true, false, cond, not, ◌||◌, ◌&&◌, Some, None, Option, List, [], refl, sym, ap, ◌∙◌, subst, arith}
+use Rattle.std.proofs.Common.{◌≡◌, ℕ, Bool, true, false, cond, not, ◌||◌, ◌&&◌, Some, None, Option, List, [], refl, sym, ap, ◌∙◌, subst, arith}
 use Rattle.std.specs.Prelude.{slice_get}
 use Rattle.std.specs.Option.{option_map_or, unwrap_or}
 use Rattle.std.proofs.lemmas.Bool.Decides.{nat_tests}
@@ -120,6 +120,16 @@ module _ (law : JcrLaw) (p : Shown) (run : SessionRun) (stands : Stands law p ru
       by (sight.Reading w) is h = absurd (false≢true (sym read
           ∙ (ap (λ (x : Sight). cond (is_seen x) false (is_between run.phase && needs_tree (due_for run))) is
           ∙ (ap (λ (f : Phase). is_between f && needs_tree (due_for run)) between ∙ h.1))))
+
+  -- what needs the tree finds the tree read
+  pub seen_between : (d : Due) → due_for run ≡ d → needs_tree d ≡ true → is_seen run.sight ≡ true
+  seen_between d h needs = seen_by (is_seen run.sight)
+      (sym (ap (λ (f : Phase). cond (is_seen run.sight) false (is_between f && needs_tree (due_for run))) between
+      ∙ ap (λ b. cond (is_seen run.sight) false b) (ap needs_tree h ∙ needs)) ∙ read)
+    where
+      seen_by : (b : Bool) → cond b false true ≡ false → b ≡ true
+      seen_by true is = refl
+      seen_by false is = absurd (false≢true (sym is))
 
   pub between_at : (d : Due) → due_for run ≡ d → (due.Leave ≡ d → ⊥) → (c : Command) × IsBetween law p run c × (due_by (built c) ≡ d)
   between_at d h some = let c = next_is run.commands run.index d h some in (c.0, record { stands = stands; between = between; idle = idle_between; command = c.1 }, c.2)

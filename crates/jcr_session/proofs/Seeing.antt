@@ -22,8 +22,9 @@ use Rattle.jcr_session.specs.declared.sight.Sight.{Sight}
 use Rattle.jcr_session.specs.declared.sight.Sight.TheVariants as sight
 use Rattle.jcr_session.specs.declared.sight.Walk.{Walk}
 use Rattle.jcr_session.specs.declared.turn.Turn.{Turn}
+use Rattle.jcr_session.specs.Answered.{phase_by, turn_by}
 use Rattle.jcr_session.specs.Sights.{IsPart, IsWhole, Looks, Reads, says_of, starts_of}
-use Rattle.jcr_session.specs.Standing.{HasTurned, IsReply, RepliesBy, Stands, phase_by, turn_by}
+use Rattle.jcr_session.specs.Standing.{HasTurned, IsReply, RepliesBy, Stands}
 use Rattle.jcr_session.proofs.Answering.{made_if, made_or}
 use Rattle.jcr_session.proofs.Calling.{steps_law}
 use Rattle.jcr_session.proofs.Reading.{base_at}
@@ -38,10 +39,6 @@ module _ (p : Shown) (x : Sight) (looks : Looks p x) where
 
   pub looks_reading : (walk : Walk) → x ≡ sight.Reading walk → Reads p walk
   looks_reading walk is = subst (λ (y : Sight). Looks p y) is looks
-
-  -- nothing is due where the whole tree is seen
-  pub looks_seen : {A : Type 0} (seen : Seen) → x ≡ sight.Seen seen → A
-  looks_seen seen is = absurd (subst (λ (y : Sight). Looks p y) is looks)
 
 -- no path is left: the whole tree is seen
 pub whole_seen : (p : Shown) → IsTree (base_at p) → (tree view : Nodes) (left : List Path) → p.work ≡ Idle → length left ≡ 0 → view ≡ tree → IsPart (base_at p) tree left → IsWhole p (record { base = tree; view = view })

@@ -11,7 +11,7 @@ use Rattle.oak_machine.specs.History.{History, Past}
 use Rattle.oak_machine.specs.Laws.{after}
 use Rattle.oak_machine.specs.Runs.{AreNodes, IsRun}
 use Rattle.oak_machine.specs.Sessions.{has_left, has_login, is_attached, is_drawing, next_index, refreshed_since}
-use Rattle.oak_port.specs.Ports.{AreOfStep, Grows, Idle, Makes, MayBegin, Shown, Starting, Steps, Waits, Work}
+use Rattle.oak_port.specs.Ports.{AreOfStep, Grows, Idle, Makes, MayBegin, Shown, Starting, Steps, OthersAlone, Work}
 use Rattle.oak_port.specs.declared.task.StepOut.{StepOut}
 use Rattle.oak_port.specs.declared.task.StepOut.TheVariants as out
 use Rattle.oak_port.specs.declared.task.Task.{Task}
@@ -33,8 +33,9 @@ use Rattle.jcr_session.specs.declared.sight.Sight.{Sight}
 use Rattle.jcr_session.specs.declared.sight.Sight.TheVariants as sight
 use Rattle.jcr_session.specs.declared.turn.Turn.{Turn}
 use Rattle.jcr_session.specs.declared.turn.Turn.TheVariants as turn
+use Rattle.jcr_session.specs.Answered.{pinned_by}
 use Rattle.jcr_session.specs.Sights.{IsBeside, IsIn, says_of, starts_of}
-use Rattle.jcr_session.specs.Standing.{HasTurned, MayAnswer, Sees, Stands, StandsAt, due_for, due_of, is_unread, is_writing, pinned_by}
+use Rattle.jcr_session.specs.Standing.{HasTurned, MayAnswer, Sees, Stands, StandsAt, due_for, due_of, is_unread, is_writing}
 use Rattle.jcr_session.proofs.Reading.{beside_both}
 use Rattle.jcr_session.proofs.Replying.{between_at, forgo_refresh, idle_between, never_leaves, refresh_by, sees}
 use Rattle.jcr_session.proofs.Lawful.{some_is}
@@ -48,7 +49,7 @@ own s = grind (arith, nat_tests)
 
 -- ---- a task that was begun, and a step of it
 
-module _ (law : JcrLaw) (old mid new : Shown) (t : Task) (answer : StepOut) (room : Option ℕ) (inside : IsIn law old) (waits : Waits (starts_of law) (says_of law) old mid (Starting t) room) (steps : Steps (starts_of law) (says_of law) mid new answer) where
+module _ (law : JcrLaw) (old mid new : Shown) (t : Task) (answer : StepOut) (room : Option ℕ) (inside : IsIn law old) (waits : OthersAlone (starts_of law) (says_of law) old mid (Starting t) room) (steps : Steps (starts_of law) (says_of law) mid new answer) where
   abbrev s : ℕ
   s = mid.session
 
@@ -132,7 +133,7 @@ all_answered (c ∷ commands) (suc i) within h = let r : i ≡ length commands =
 
 -- it leaves
 pub left : (law : JcrLaw) (old mid new : Shown) (room : Option ℕ) (run now : SessionRun) (t : Turn) → Stands law old run → run.phase ≡ phase.Between → is_unread run ≡ false → due_for run ≡ due.Leave
-    → Waits (starts_of law) (says_of law) old mid (Starting task.End) room → Steps (starts_of law) (says_of law) mid new (out.Ready end.Ended)
+    → OthersAlone (starts_of law) (says_of law) old mid (Starting task.End) room → Steps (starts_of law) (says_of law) mid new (out.Ready end.Ended)
     → now ≡ record run { phase = phase.Over } → t ≡ turn.Stepped kind.End → HasTurned law old new run now t
 left law old mid new room run now t stands between read next waits steps is told =
     let inside = inside_of law old run stands between in
@@ -162,7 +163,7 @@ left law old mid new room run now t stands between read next waits steps is told
 -- ---- its base moves
 
 module _ (law : JcrLaw) (old mid new : Shown) (room : Option ℕ) (run : SessionRun) (pin : Pin) (stands : Stands law old run) (between : run.phase ≡ phase.Between) (read : is_unread run ≡ false) (next : due_for run ≡ due.Refresh)
-    (waits : Waits (starts_of law) (says_of law) old mid (Starting task.Refresh) room) (steps : Steps (starts_of law) (says_of law) mid new (out.Ready (end.Pinned pin))) where
+    (waits : OthersAlone (starts_of law) (says_of law) old mid (Starting task.Refresh) room) (steps : Steps (starts_of law) (says_of law) mid new (out.Ready (end.Pinned pin))) where
   inside_old : IsIn law old
   inside_old = inside_of law old run stands between
 
@@ -247,43 +248,24 @@ module _ (law : JcrLaw) (old mid new : Shown) (room : Option ℕ) (run : Session
 
 pub pinned_is : (answer : StepOut) (pin : Pin) → pinned_by answer ≡ Some pin → answer ≡ out.Ready (end.Pinned pin)
 pinned_is (out.Ready (end.Pinned p)) pin h = ap (λ (x : Pin). out.Ready (end.Pinned x)) (some_is h)
-pinned_is (out.Ready (end.Node f)) pin h = absurd (false≢true (ap is_some h))
-pinned_is (out.Ready (end.Children f)) pin h = absurd (false≢true (ap is_some h))
-pinned_is (out.Ready (end.Commit f)) pin h = absurd (false≢true (ap is_some h))
-pinned_is (out.Ready end.Ended) pin h = absurd (false≢true (ap is_some h))
-pinned_is (out.Ready (end.Published o)) pin h = absurd (false≢true (ap is_some h))
-pinned_is (out.Ready (end.Learnt u)) pin h = absurd (false≢true (ap is_some h))
-pinned_is (out.Ready (end.Set p)) pin h = absurd (false≢true (ap is_some h))
-pinned_is (out.Ready end.NoCheckpoint) pin h = absurd (false≢true (ap is_some h))
-pinned_is (out.Went k) pin h = absurd (false≢true (ap is_some h))
-pinned_is (out.Wait q) pin h = absurd (false≢true (ap is_some h))
-pinned_is out.Memory pin h = absurd (false≢true (ap is_some h))
+pinned_is a pin h = absurd (false≢true (ap is_some h))
 
 -- the step by its answer's pin
 pub refresh_moves : (law : JcrLaw) (old mid new : Shown) (room : Option ℕ) (run : SessionRun) (pin : Pin) (answer : StepOut) → Stands law old run → run.phase ≡ phase.Between → is_unread run ≡ false → due_for run ≡ due.Refresh
-    → Waits (starts_of law) (says_of law) old mid (Starting task.Refresh) room → Steps (starts_of law) (says_of law) mid new answer → pinned_by answer ≡ Some pin
+    → OthersAlone (starts_of law) (says_of law) old mid (Starting task.Refresh) room → Steps (starts_of law) (says_of law) mid new answer → pinned_by answer ≡ Some pin
     → (now : SessionRun) (t : Turn) → now ≡ record run { phase = phase.Refreshed pin.base; sight = sight.Unread } → t ≡ turn.Stepped kind.Pin → HasTurned law old new run now t
 refresh_moves law old mid new room run pin answer stands between read next waits steps is =
     moves_base law old mid new room run pin stands between read next waits (subst (λ (a : StepOut). Steps (starts_of law) (says_of law) mid new a) (pinned_is answer pin is) steps)
 
 module _ (law : JcrLaw) (old mid new : Shown) (room : Option ℕ) (run : SessionRun) (answer : StepOut) (stands : Stands law old run) (between : run.phase ≡ phase.Between) (read : is_unread run ≡ false) (next : due_for run ≡ due.Refresh)
-    (waits : Waits (starts_of law) (says_of law) old mid (Starting task.Refresh) room) (steps : Steps (starts_of law) (says_of law) mid new answer) (none : pinned_by answer ≡ None) where
+    (waits : OthersAlone (starts_of law) (says_of law) old mid (Starting task.Refresh) room) (steps : Steps (starts_of law) (says_of law) mid new answer) (none : pinned_by answer ≡ None) where
   refused_step : (steps.own ≡ []) × (new.work ≡ Idle)
   refused_step = by answer none (made law old mid new task.Refresh answer room (inside_of law old run stands between) waits steps)
     where
       by : (a : StepOut) → pinned_by a ≡ None → Makes (after steps.others mid.history) mid.session (Starting task.Refresh) a steps.own new.work → (steps.own ≡ []) × (new.work ≡ Idle)
       by out.Memory never m = m
       by (out.Ready (end.Pinned p)) never m = absurd (false≢true (ap is_some (sym never)))
-      by (out.Ready (end.Node f)) never m = absurd m
-      by (out.Ready (end.Children f)) never m = absurd m
-      by (out.Ready (end.Commit f)) never m = absurd m
-      by (out.Ready end.Ended) never m = absurd m
-      by (out.Ready (end.Published o)) never m = absurd m
-      by (out.Ready (end.Learnt u)) never m = absurd m
-      by (out.Ready (end.Set p)) never m = absurd m
-      by (out.Ready end.NoCheckpoint) never m = absurd m
-      by (out.Went k) never m = absurd m
-      by (out.Wait q) never m = absurd m
+      by a never m = absurd m
 
   refused_beside : IsBeside law old new
   refused_beside = let inside = inside_of law old run stands between in

@@ -8,7 +8,7 @@ use Rattle.oak_machine.specs.Laws.{is_event_of}
 use Rattle.oak_machine.specs.Runs.{AreNodes, IsRun}
 use Rattle.oak_machine.specs.Sessions.{has_left, has_login, is_drawing, is_end_of_session, next_index, refreshed_since}
 use Rattle.oak_machine.proofs.Stays.{any_later}
-use Rattle.oak_port.specs.Ports.{HasRoom, Idle, Shown, Waits, Work}
+use Rattle.oak_port.specs.Ports.{HasRoom, Idle, Shown, OthersAlone, Work}
 use Rattle.oak_commit.specs.declared.outcome.CommitEnd.{CommitEnd}
 use Rattle.jcr_trans.specs.declared.command.Command.{Command}
 use Rattle.core_law.specs.State.{base_tree, command_at, pending_of}
@@ -108,7 +108,7 @@ module _ (law : JcrLaw) (p q : Shown) (run : SessionRun) (stands : Stands law p 
     at = at_now run.phase stands.at;
   }
 
-pub stands_waits : (law : JcrLaw) (p q : Shown) (run : SessionRun) → Stands law p run → Waits (starts_of law) (says_of law) p q p.work p.room → Stands law q run
+pub stands_waits : (law : JcrLaw) (p q : Shown) (run : SessionRun) → Stands law p run → OthersAlone (starts_of law) (says_of law) p q p.work p.room → Stands law q run
 stands_waits law p q run stands waits = stands_beside law p q run stands (by_waits law p q p.work p.room waits) waits.work_is waits.room_is
 
 -- ---- a new session

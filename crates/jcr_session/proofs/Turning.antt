@@ -18,7 +18,7 @@ use Rattle.oak_machine.specs.Runs.{AreNodes, IsRun}
 use Rattle.oak_machine.specs.Sessions.{has_left, has_login, is_attached, is_login_of, next_index}
 use Rattle.oak_machine.specs.Steps.{is_appended_by}
 use Rattle.oak_machine.proofs.Stays.{any_later}
-use Rattle.oak_port.specs.Ports.{Answers, AreOfStep, Awaiting, Beside, Deciding, Grows, HasRoom, Idle, IsFinish, Makes, Seat, Shown, Starting, Steps, Undoing, Waits, Work, Writing, WritesOn, is_by_due, Publishing, Learning}
+use Rattle.oak_port.specs.Ports.{Answers, AreOfStep, Awaiting, Beside, Deciding, Grows, HasRoom, Idle, IsFinish, Makes, Seat, Shown, Starting, Steps, Undoing, OthersAlone, Work, Writing, WritesOn, is_by_due, Publishing, Learning}
 use Rattle.oak_commit.specs.declared.outcome.CommitEnd.{CommitEnd}
 use Rattle.oak_commit.specs.declared.outcome.CommitEnd.TheVariants as commit
 use Rattle.oak_port.specs.declared.task.StepOut.{StepOut}
@@ -36,8 +36,9 @@ use Rattle.jcr_session.specs.declared.sight.Sight.{Sight}
 use Rattle.jcr_session.specs.declared.sight.Sight.TheVariants as sight
 use Rattle.jcr_session.specs.declared.turn.Turn.{Turn}
 use Rattle.jcr_session.specs.declared.turn.Turn.TheVariants as turn
+use Rattle.jcr_session.specs.Answered.{kind_of_end, phase_by, turn_by}
 use Rattle.jcr_session.specs.Sights.{IsBeside, IsIn, says_of, starts_of}
-use Rattle.jcr_session.specs.Standing.{HasAwaited, HasCommitted, HasSaved, HasTurned, IsCommitting, IsInSave, IsMade, IsOneStep, IsSaving, IsSeenFor, IsStep, IsTurned, IsUnseen, MayAnswer, Stands, StandsAt, Tells, is_writing, kind_of_end, phase_by, turn_by}
+use Rattle.jcr_session.specs.Standing.{HasAwaited, HasCommitted, HasSaved, HasTurned, IsCommitting, IsInSave, IsMade, IsOneStep, IsSaving, IsSeenFor, IsStep, IsTurned, IsUnseen, MayAnswer, Stands, StandsAt, Tells, is_writing}
 use Rattle.jcr_session.proofs.Committing.{committed_moved, committed_undone, committing_finish, committing_undo, committing_write}
 use Rattle.jcr_session.proofs.Others.{others_both}
 use Rattle.jcr_session.proofs.Reading.{after_both, alone_both}
@@ -315,9 +316,8 @@ module _ (law : JcrLaw) (old new : Shown) (answer : StepOut) (run : SessionRun) 
         turned_quiet phase.Saving (turn.Stepped k) (told, one_write old.session r k steps.own new.work m)
         (made_by (Writing r) at tt (λ still. absurd (false≢true (sym still))) (awaited_write old.session r k steps.own new.work moment.past m))
         (quiet.next moment.past) (goes_on seen same is quiet (committing_write law.sessions moment.past old.session r k steps.own new.work seen.base seen.view (still seen.base seen.view (Writing r) committing) m))
-    step_by (Writing r) (out.Ready e) seen at same is committing m told = absurd m
-    step_by (Writing r) (out.Wait q) seen at same is committing m told = absurd m
     step_by (Writing r) out.Memory seen at same is committing m told = tt
+    step_by (Writing r) a seen at same is committing m told = absurd m
     step_by (Undoing r e) (out.Went k) seen at same is committing (a, own, work) told =
         let quiet = quiet_by old.session steps.own (event.Went old.session kind.Undo ∷ []) own record { left = λ q. refl; next = λ q. refl; attached = λ q. refl } in
         turned_quiet phase.Saving (turn.Stepped k) (told, inl (event.Went old.session kind.Undo, own, refl))
@@ -333,24 +333,13 @@ module _ (law : JcrLaw) (old new : Shown) (answer : StepOut) (run : SessionRun) 
         (has_ended seen f same is idle (inside_quiet quiet)
         (subst (λ (x : CommitEnd). HasCommitted law.sessions (steps.own ++ moment.past) old.session seen.base seen.view x) (sym end_is)
         (committed_undone law.sessions moment.past old.session r e steps.own seen.base seen.view now finish)))
-    step_by (Undoing r e) (out.Ready (end.Node n)) seen at same is committing m told = absurd m
-    step_by (Undoing r e) (out.Ready (end.Children n)) seen at same is committing m told = absurd m
-    step_by (Undoing r e) (out.Ready (end.Pinned n)) seen at same is committing m told = absurd m
-    step_by (Undoing r e) (out.Ready end.Ended) seen at same is committing m told = absurd m
-    step_by (Undoing r e) (out.Ready (end.Published o)) seen at same is committing m told = absurd m
-    step_by (Undoing r e) (out.Ready (end.Learnt u)) seen at same is committing m told = absurd m
-    step_by (Undoing r e) (out.Ready (end.Set p)) seen at same is committing m told = absurd m
-    step_by (Undoing r e) (out.Ready end.NoCheckpoint) seen at same is committing m told = absurd m
-    step_by (Undoing r e) (out.Wait q) seen at same is committing m told = absurd m
-    step_by (Undoing r e) out.Memory seen at same is committing m told = tt
+    step_by (Undoing r e) a seen at same is committing m told = absurd m
     step_by (Deciding r) (out.Went k) seen at same is committing (a, finish, work) told =
         let quiet = quiet_finish old.session r steps.own finish in
         turned_quiet phase.Saving (turn.Stepped k) (told, one_finish r steps.own finish)
         (made_by (Deciding r) at tt (λ still. due_finish r steps.own finish) (awaited_finish r steps.own new.work moment.past finish (λ made. work)))
         (quiet.next moment.past) (goes_on seen same is quiet (committing_finish law.sessions moment.past old.session r steps.own new.work seen.base seen.view (still seen.base seen.view (Deciding r) committing) finish work))
-    step_by (Deciding r) (out.Ready e) seen at same is committing m told = absurd m
-    step_by (Deciding r) (out.Wait q) seen at same is committing m told = absurd m
-    step_by (Deciding r) out.Memory seen at same is committing m told = tt
+    step_by (Deciding r) a seen at same is committing m told = absurd m
     step_by (Awaiting r) (out.Wait q) seen at same is committing (own, work, unseen, held) told =
         let quiet = quiet_by old.session steps.own [] own record { left = λ q. refl; next = λ q. refl; attached = λ q. refl } in
         let now = still seen.base seen.view (Awaiting r) committing in
@@ -365,16 +354,7 @@ module _ (law : JcrLaw) (old new : Shown) (answer : StepOut) (run : SessionRun) 
         (has_ended seen f same is idle (inside_moved v own)
         (subst (λ (x : CommitEnd). HasCommitted law.sessions (steps.own ++ moment.past) old.session seen.base seen.view x) (sym end_is)
         (committed_moved law.sessions moment.past old.session r v steps.own seen.base seen.view (still seen.base seen.view (Awaiting r) committing) sees_it own)))
-    step_by (Awaiting r) (out.Ready (end.Node n)) seen at same is committing m told = absurd m
-    step_by (Awaiting r) (out.Ready (end.Children n)) seen at same is committing m told = absurd m
-    step_by (Awaiting r) (out.Ready (end.Pinned n)) seen at same is committing m told = absurd m
-    step_by (Awaiting r) (out.Ready end.Ended) seen at same is committing m told = absurd m
-    step_by (Awaiting r) (out.Ready (end.Published o)) seen at same is committing m told = absurd m
-    step_by (Awaiting r) (out.Ready (end.Learnt u)) seen at same is committing m told = absurd m
-    step_by (Awaiting r) (out.Ready (end.Set p)) seen at same is committing m told = absurd m
-    step_by (Awaiting r) (out.Ready end.NoCheckpoint) seen at same is committing m told = absurd m
-    step_by (Awaiting r) (out.Went k) seen at same is committing m told = absurd m
-    step_by (Awaiting r) out.Memory seen at same is committing m told = tt
+    step_by (Awaiting r) a seen at same is committing m told = absurd m
     step_by Idle a seen at same is committing m told = absurd committing
     step_by (Starting t) a seen at same is committing m told = absurd committing
     step_by (Publishing r) a seen at same is committing m told = absurd committing
@@ -477,9 +457,13 @@ commit_busy law p run stands saving idle = by run.sight (subst (λ (f : Phase). 
     by (sight.Reading w) h = h
     by (sight.Seen seen) (is, committing) = subst (λ (w : Work). IsCommitting law.sessions p.history.past p.session seen.base seen.view w) idle committing
 
+-- a commit that was refused memory goes on
+pub refused_stands : (law : JcrLaw) (old mid : Shown) (run : SessionRun) → Stands law old run → run.phase ≡ phase.Saving → Steps (starts_of law) (says_of law) old mid out.Memory → Stands law mid run
+refused_stands law old mid run stands saving first = (commit_refused law old mid out.Memory run stands (inside_saving law old run stands saving) first saving refl).0
+
 pub refused_busy : (law : JcrLaw) (old mid : Shown) (run : SessionRun) → Stands law old run → run.phase ≡ phase.Saving → Steps (starts_of law) (says_of law) old mid out.Memory → mid.work ≡ Idle → ⊥
 refused_busy law old mid run stands saving first idle =
-    commit_busy law mid run (commit_refused law old mid out.Memory run stands (inside_saving law old run stands saving) first saving refl).0 saving idle
+    commit_busy law mid run (refused_stands law old mid run stands saving first) saving idle
 
 -- ---- a reply
 
@@ -508,14 +492,14 @@ module _ (law : JcrLaw) (old : Shown) (run : SessionRun) (text : Text) (may : Ma
       (subst (λ (x : SessionRun). HasTurned law old new run x (turn.Said run.index)) (sym is) (answered_turns law old new run text may done))
 
   -- with a place kept, and events of others before
-  pub answer_later : (new : Shown) (room : Option ℕ) → Waits (starts_of law) (says_of law) old new old.work room → MayAnswer law new run text
+  pub answer_later : (new : Shown) (room : Option ℕ) → OthersAlone (starts_of law) (says_of law) old new old.work room → MayAnswer law new run text
   answer_later new room waits = answer_waits law old new run text may (by_waits law old new old.work room waits) (waits.work_is ∙ may.idle)
 
-  pub said_later : (mid new : Shown) (room : Option ℕ) (now : SessionRun) (t : Turn) → Waits (starts_of law) (says_of law) old mid old.work room → HasTurned law mid new run now t → HasTurned law old new run now t
+  pub said_later : (mid new : Shown) (room : Option ℕ) (now : SessionRun) (t : Turn) → OthersAlone (starts_of law) (says_of law) old mid old.work room → HasTurned law mid new run now t → HasTurned law old new run now t
   said_later mid new room now t waits turned = has_turned_later law old mid new run now t may.inside.nodes may.inside.begun (kept waits.work_is (waits.same_due refl)) (by_waits law old mid old.work room waits) (never_ends law mid new run now (in_beside law old mid (by_waits law old mid old.work room waits) may.inside.nodes may.inside.begun may.inside.run may.inside)) turned
 
 -- where nothing was being done, and is not now
-module _ (law : JcrLaw) (old new : Shown) (room : Option ℕ) (waits : Waits (starts_of law) (says_of law) old new Idle room) (run : SessionRun) where
+module _ (law : JcrLaw) (old new : Shown) (room : Option ℕ) (waits : OthersAlone (starts_of law) (says_of law) old new Idle room) (run : SessionRun) where
   pub answer_idle : (text : Text) → MayAnswer law old run text → MayAnswer law new run text
   answer_idle text may = answer_waits law old new run text may (by_waits law old new Idle room waits) waits.work_is
 
@@ -524,10 +508,10 @@ module _ (law : JcrLaw) (old new : Shown) (room : Option ℕ) (waits : Waits (st
       has_turned_later law old new last run now t may.inside.nodes may.inside.begun (free (ap is_writing waits.work_is) (ap is_awaiting waits.work_is) (ap is_awaiting may.idle)) (by_waits law old new Idle room waits)
       (never_ends law new last run now (in_beside law old new (by_waits law old new Idle room waits) may.inside.nodes may.inside.begun may.inside.run may.inside)) turned
 
-pub room_kept : (starts : _) (says : _) (old new : Shown) (work : Work) (n : ℕ) → Waits starts says old new work (Some n) → HasRoom new.room n
+pub room_kept : (starts : _) (says : _) (old new : Shown) (work : Work) (n : ℕ) → OthersAlone starts says old new work (Some n) → HasRoom new.room n
 room_kept starts says old new work n waits = subst (λ (x : Option ℕ). HasRoom x n) (sym waits.room_is) (let h : n ≤ n = omega arith in h)
 
-pub room_stays : (starts : _) (says : _) (old new : Shown) (work : Work) (n : ℕ) → Waits starts says old new work old.room → HasRoom old.room n → HasRoom new.room n
+pub room_stays : (starts : _) (says : _) (old new : Shown) (work : Work) (n : ℕ) → OthersAlone starts says old new work old.room → HasRoom old.room n → HasRoom new.room n
 room_stays starts says old new work n waits h = subst (λ (x : Option ℕ). HasRoom x n) (sym waits.room_is) h
 
 pub room_less : (o : Option ℕ) (n m : ℕ) → m ≤ n → HasRoom o n → HasRoom o m

@@ -1,7 +1,10 @@
 -- While others add events, a session stands where it stood.
-use Rattle.std.proofs.Common.{◌≡◌, ℕ, true, false, ◌||◌, Option, List, [], ◌∷◌, ◌++◌, sym, ap, ◌∙◌, subst, None}
+use Rattle.std.proofs.Common.{◌≡◌, ℕ, true, false, ◌||◌, cond, is_some, Some, refl, Option, List, [], ◌∷◌, ◌++◌, sym, ap, ◌∙◌, subst, None}
 use Rattle.std.specs.Prelude.{◌==◌}
 use Rattle.std.specs.List.{list_any}
+use Rattle.std.specs.Option.{option_map}
+use mathlib.Core.Bool.{false≢true}
+use Rattle.jr_rev.specs.declared.vector.Pin.{Pin}
 use Rattle.jr_rev.specs.declared.revision.Revision.{Revision}
 use Rattle.jr_tree.specs.Trees.{IsTree, Nodes}
 use Rattle.oak_machine.specs.declared.event.Event.TheVariants as event
@@ -10,10 +13,10 @@ use Rattle.oak_machine.specs.History.{Begin, History, Past}
 use Rattle.oak_machine.specs.Commits.{is_commit_of, is_committed, is_ended, is_end_of, refusal_of}
 use Rattle.oak_machine.specs.Laws.{after, is_event_of}
 use Rattle.oak_machine.specs.Runs.{AreNodes, IsRun, IsRunOf}
-use Rattle.oak_machine.specs.Sessions.{has_left, has_login, is_attached, is_login_of, next_index}
+use Rattle.oak_machine.specs.Sessions.{base_of, has_left, has_login, is_attached, is_login_of, last_checkpoint, next_index}
 use Rattle.oak_machine.proofs.Induction.{neither, other}
 use Rattle.oak_machine.proofs.Stays.{any_later}
-use Rattle.oak_port.specs.Ports.{Awaiting, Deciding, Idle, Shown, Starting, Undoing, Waits, Work, Writing, Publishing, Learning}
+use Rattle.oak_port.specs.Ports.{Awaiting, Deciding, Idle, Shown, Starting, Undoing, OthersAlone, Work, Writing, Publishing, Learning}
 use Rattle.oak_commit.specs.declared.outcome.CommitEnd.{CommitEnd}
 use Rattle.oak_commit.specs.declared.outcome.CommitEnd.TheVariants as commit
 use Rattle.core_law.specs.State.{base_tree}
@@ -44,6 +47,32 @@ attached_stays whole (event.Login t v ∷ added) past s others h = let n = neith
 attached_stays whole (event.Refresh t v ∷ added) past s others h = let n = neither _ _ others in other (t == s) _ _ _ n.0 (attached_stays whole added past s n.1 h)
 attached_stays whole (event.Attach t id ∷ added) past s others h = let n = neither _ _ others in other (t == s) _ _ _ n.0 (attached_stays whole added past s n.1 h)
 attached_stays whole (e ∷ added) past s others h = attached_stays whole added past s (neither (is_event_of whole s e) _ others).1 h
+
+-- a session that has logged in and isn't attached has a base
+pub has_base : (past : Past) (s : ℕ) → has_login past s ≡ true → is_attached past s ≡ false → is_some (base_of past s) ≡ true
+has_base [] s login detached = absurd (false≢true login)
+has_base (event.Login t v ∷ past) s login detached =
+    elim (t == s) as (λ b. (b || has_login past s) ≡ true → cond b false (is_attached past s) ≡ false → is_some (cond b (Some v) (base_of past s)) ≡ true) [
+      | true ↦ λ l d. refl
+      | false ↦ λ l d. has_base past s l d
+    ] login detached
+has_base (event.Refresh t v ∷ past) s login detached =
+    elim (t == s) as (λ b. cond b false (is_attached past s) ≡ false → is_some (cond b (Some v) (base_of past s)) ≡ true) [
+      | true ↦ λ d. refl
+      | false ↦ λ d. has_base past s login d
+    ] detached
+has_base (event.Attach t id ∷ past) s login detached =
+    elim (t == s) as (λ b. cond b true (is_attached past s) ≡ false → is_some (cond b (last_checkpoint past id) (base_of past s)) ≡ true) [
+      | true ↦ λ d. absurd (false≢true (sym d))
+      | false ↦ λ d. has_base past s login d
+    ] detached
+has_base (e ∷ past) s login detached = has_base past s login detached
+
+-- the port has the pin of a session that is in
+pub pin_is_there : {A : Type 0} (law : JcrLaw) (p : Shown) → IsIn law p → (o : Option Pin) → o ≡ None → (has_left p.history.past p.session ≡ false → option_map (λ (pin : Pin). pin.base) o ≡ base_of p.history.past p.session) → A
+pin_is_there law p inside o none told =
+    absurd (false≢true (ap (λ (x : Option Pin). is_some (option_map (λ (pin : Pin). pin.base) x)) (sym none)
+    ∙ (ap is_some (told inside.stays) ∙ has_base p.history.past p.session inside.login inside.detached)))
 
 -- ---- by pasts
 
@@ -159,10 +188,10 @@ module _ (law : JcrLaw) (old new : Shown) (beside : IsBeside law old new) where
     pub committed_beside : (base view : Nodes) (e : CommitEnd) → HasCommitted law.sessions old.history.past old.session base view e → HasCommitted law.sessions new.history.past new.session base view e
     committed_beside base view e is = shown_beside (λ h n. HasCommitted law.sessions h.past n base view e) (committed_still law old.history.clusters old.history.sessions nodes old.session added old.history.past begun run later beside.grows.theirs base view e is)
 
-pub by_waits : (law : JcrLaw) (old new : Shown) (work : Work) (room : Option ℕ) → Waits (starts_of law) (says_of law) old new work room → IsBeside law old new
+pub by_waits : (law : JcrLaw) (old new : Shown) (work : Work) (room : Option ℕ) → OthersAlone (starts_of law) (says_of law) old new work room → IsBeside law old new
 by_waits law old new work room waits = record { others = waits.others; grows = waits.grows; session = waits.session; beside = waits.beside; alone = waits.alone }
 
-module _ (law : JcrLaw) (old new : Shown) (work : Work) (room : Option ℕ) (waits : Waits (starts_of law) (says_of law) old new work room) where
+module _ (law : JcrLaw) (old new : Shown) (work : Work) (room : Option ℕ) (waits : OthersAlone (starts_of law) (says_of law) old new work room) where
   module _ (nodes : AreNodes old.history.clusters old.history.sessions) (begun : old.history.begin ≡ None) (run : IsRun (starts_of law) (says_of law) old.history) where
     pub tree_then : base_tree new.history.past new.session ≡ base_tree old.history.past old.session
     tree_then = tree_beside law old new (by_waits law old new work room waits) nodes begun run

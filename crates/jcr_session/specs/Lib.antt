@@ -1,5 +1,4 @@
-pub mod Drawn
+pub mod Answered
 pub mod Eval
 pub mod Sights
 pub mod Standing
-pub mod Leaving

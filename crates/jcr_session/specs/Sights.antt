@@ -11,19 +11,12 @@ use Rattle.oak_machine.specs.Laws.{Says, Starts}
 use Rattle.oak_machine.specs.Runs.{AreNodes, IsRun}
 use Rattle.oak_machine.specs.Sessions.{has_left, has_login, is_attached}
 use Rattle.oak_port.specs.Ports.{Grows, Idle, Shown, Starting, Work}
-use Rattle.oak_port.specs.declared.task.StepOut.{StepOut}
-use Rattle.oak_port.specs.declared.task.StepOut.TheVariants as out
 use Rattle.oak_port.specs.declared.task.Task.TheVariants as task
-use Rattle.oak_port.specs.declared.task.TaskEnd.TheVariants as end
 use Rattle.core_law.specs.Law.{MayStart, SaysBy}
 use Rattle.core_law.specs.State.{base_tree}
 use Rattle.jcr_session.specs.declared.law.JcrLaw.{JcrLaw}
 use Rattle.jcr_session.specs.declared.sight.Fetch.{Fetch}
 use Rattle.jcr_session.specs.declared.sight.Fetch.TheVariants as fetch
-use Rattle.jcr_session.specs.declared.sight.Listed.{Listed}
-use Rattle.jcr_session.specs.declared.sight.Listed.TheVariants as listed
-use Rattle.jcr_session.specs.declared.sight.Loaded.{Loaded}
-use Rattle.jcr_session.specs.declared.sight.Loaded.TheVariants as loaded
 use Rattle.jcr_session.specs.declared.sight.Seen.{Seen}
 use Rattle.jcr_session.specs.declared.sight.Sight.{Sight}
 use Rattle.jcr_session.specs.declared.sight.Sight.TheVariants as sight
@@ -85,14 +78,3 @@ abbrev pub Looks : Shown → Sight → Type 0
 Looks p sight.Unread = p.work ≡ Idle
 Looks p (sight.Reading walk) = Reads p walk
 Looks p (sight.Seen seen) = ⊥
-
--- what a step's answer tells of the node that was being read, and of the names
-abbrev pub loaded_by : StepOut → Loaded
-loaded_by (out.Went k) = loaded.Going
-loaded_by (out.Ready (end.Node found)) = loaded.Found found
-loaded_by _ = loaded.Refused
-
-abbrev pub listed_by : StepOut → Listed
-listed_by (out.Went k) = listed.Going
-listed_by (out.Ready (end.Children names)) = listed.Names names
-listed_by _ = listed.Refused

@@ -3,7 +3,6 @@ use Rattle.std.specs.Prelude.{◌≡◌, ◌≢◌, ◌⊎◌, ◌≤◌, ℕ, �
 use Rattle.std.specs.Option.{option_map_or}
 use Rattle.jr_path.specs.declared.text.Text.{Text}
 use Rattle.jr_rev.specs.declared.revision.Revision.{Revision}
-use Rattle.jr_rev.specs.declared.vector.Pin.{Pin}
 use Rattle.jr_rev.specs.declared.vector.RevVec.{RevVec}
 use Rattle.jr_rev.specs.Vectors.{sees}
 use Rattle.jr_path.specs.declared.path.Path.{Path}
@@ -11,8 +10,6 @@ use Rattle.jr_tree.specs.Trees.{IsTree, Nodes, born_at}
 use Rattle.jr_tree.specs.Edits.{changes}
 use Rattle.oak_machine.specs.declared.event.Event.{Event}
 use Rattle.oak_machine.specs.declared.event.Event.TheVariants as event
-use Rattle.oak_machine.specs.declared.event.StepKind.{StepKind}
-use Rattle.oak_machine.specs.declared.event.StepKind.TheVariants as kind
 use Rattle.oak_machine.specs.History.{History, Past}
 use Rattle.oak_machine.specs.Marks.{marks_for}
 use Rattle.oak_machine.specs.Commits.{is_committed, is_ended, refusal_of}
@@ -24,9 +21,6 @@ use Rattle.oak_machine.specs.Steps.{is_appended_by}
 use Rattle.oak_port.specs.Ports.{Awaiting, Deciding, Grows, HasRoom, HoldsBack, Idle, Shown, Undoing, Work, Writing, is_by_due}
 use Rattle.oak_commit.specs.declared.outcome.CommitEnd.{CommitEnd}
 use Rattle.oak_commit.specs.declared.outcome.CommitEnd.TheVariants as commit
-use Rattle.oak_port.specs.declared.task.StepOut.{StepOut}
-use Rattle.oak_port.specs.declared.task.StepOut.TheVariants as out
-use Rattle.oak_port.specs.declared.task.TaskEnd.TheVariants as end
 use Rattle.jcr_trans.specs.declared.command.Command.{Command}
 use Rattle.jcr_trans.specs.declared.command.Command.TheVariants as command
 use Rattle.jcr_trans.specs.Texts.{answer_text, memory_text}
@@ -36,6 +30,7 @@ use Rattle.core_law.specs.Law.{SaysBy, has_few_nodes}
 use Rattle.core_law.specs.State.{Orders, base_tree, command_at, pending_of}
 use Rattle.core_law.specs.Turns.{IsOver, IsTurn}
 use Rattle.jcr_session.specs.declared.law.JcrLaw.{JcrLaw}
+use Rattle.jcr_session.specs.declared.limits.TheConstants.{COMMIT_REPLY_BYTES, MOST_COMMANDS}
 use Rattle.jcr_session.specs.declared.run.Due.{Due}
 use Rattle.jcr_session.specs.declared.run.Due.TheVariants as due
 use Rattle.jcr_session.specs.declared.run.Phase.{Phase}
@@ -61,7 +56,7 @@ due_by _ = due.See
 abbrev pub due_of : List Command → ℕ → Due
 due_of commands i = option_map_or (λ c. due_by (built c)) (slice_get commands i) due.Leave
 
--- it needs the tree at the base
+-- what is to be done needs the tree at the base
 abbrev pub needs_tree : Due → Bool
 needs_tree due.Save = true
 needs_tree due.See = true
@@ -125,7 +120,7 @@ HasCommitted law past s base view commit.Memory = IsOver law past s base view
 -- the next command is a save, and its reply has a place for the longest text that tells of a commit
 pub record IsSaving (law : JcrLaw) (p : Shown) (run : SessionRun) : Type 0 where
   pub saving : command_at law.sessions run.session run.index ≡ Some command.Save
-  pub room : HasRoom p.room 40
+  pub room : HasRoom p.room COMMIT_REPLY_BYTES
 
 -- between two commands: the tree isn't read yet, and nothing is pending; or it is read in part, for the next command; or it is seen, with the view
 abbrev pub Sees : JcrLaw → Shown → SessionRun → Sight → Type 0
@@ -142,7 +137,7 @@ abbrev pub HasSaved : JcrLaw → Shown → SessionRun → CommitEnd → Sight �
 HasSaved law p run e (sight.Seen seen) = IsSaving law p run × (p.work ≡ Idle) × HasCommitted law.sessions p.history.past p.session seen.base seen.view e
 HasSaved law p run e _ = ⊥
 
--- it has not logged in, and nothing is pending
+-- the session has not logged in, and nothing is pending
 pub record IsOutside (law : JcrLaw) (p : Shown) (run : SessionRun) : Type 0 where
   pub idle : p.work ≡ Idle
   pub out : IsFalse (has_login p.history.past p.session)
@@ -150,7 +145,7 @@ pub record IsOutside (law : JcrLaw) (p : Shown) (run : SessionRun) : Type 0 wher
   pub none : pending_of law.sessions p.history.past p.session ≡ []
   pub still : IsFalse (is_drawing p.history.past p.session)
 
--- its base moved to v for a refresh
+-- the session's base moved to v for a refresh
 pub record IsRefreshed (law : JcrLaw) (p : Shown) (run : SessionRun) (v : RevVec) : Type 0 where
   pub idle : p.work ≡ Idle
   pub moved : refreshed_since p.history.past p.session ≡ Some v
@@ -158,7 +153,7 @@ pub record IsRefreshed (law : JcrLaw) (p : Shown) (run : SessionRun) (v : RevVec
   pub refreshing : command_at law.sessions run.session run.index ≡ Some (command.Refresh false)
   pub still : IsFalse (is_drawing p.history.past p.session)
 
--- it has answered all its commands, and has left
+-- the session has answered all its commands, and has left
 pub record IsGone (p : Shown) (run : SessionRun) : Type 0 where
   pub idle : p.work ≡ Idle
   pub left : IsTrue (has_left p.history.past p.session)
@@ -178,7 +173,7 @@ pub record Stands (law : JcrLaw) (p : Shown) (run : SessionRun) : Type 0 where
   pub begun : p.history.begin ≡ None
   pub run_is : IsRun (starts_of law) (says_of law) p.history
   pub session : p.session ≡ run.session
-  pub few : length run.commands ≤ 10000
+  pub few : length run.commands ≤ MOST_COMMANDS
   pub commands : (i : ℕ) → command_at law.sessions run.session i ≡ slice_get run.commands i
   pub index : run.index ≡ next_index p.history.past run.session
   pub within : run.index ≤ length run.commands
@@ -197,7 +192,7 @@ is_step_event (event.End r) = true
 is_step_event (event.Went t k) = true
 is_step_event _ = false
 
--- one such event, or the end of a revision with the head that it moves
+-- one event of a step, or the end of a revision with the head that moves then
 abbrev pub IsOneStep : Past → Type 0
 IsOneStep own = ((e : Event) × (own ≡ e ∷ []) × IsTrue (is_step_event e)) ⊎ ((k : ℕ) × (v : RevVec) × (r : Revision) × (own ≡ event.Head k v ∷ event.End r ∷ []))
 
@@ -283,7 +278,7 @@ pub record IsNew (session : ℕ) (commands : List Command) (run : SessionRun) : 
   pub outside : run.phase ≡ phase.Outside
   pub unread : run.sight ≡ sight.Unread
 
--- the same commands, replies and phase
+-- commands, replies and phase stay
 pub record IsSame (old new : SessionRun) : Type 0 where
   pub session : new.session ≡ old.session
   pub commands : new.commands ≡ old.commands
@@ -315,7 +310,7 @@ SeesThen law past s i text (sight.Reading walk) = ⊥
 pub record MayAnswer (law : JcrLaw) (p : Shown) (run : SessionRun) (text : Text) : Type 0 where
   pub inside : IsIn law p
   pub session : p.session ≡ run.session
-  pub few : length run.commands ≤ 10000
+  pub few : length run.commands ≤ MOST_COMMANDS
   pub commands : (i : ℕ) → command_at law.sessions run.session i ≡ slice_get run.commands i
   pub index : run.index ≡ next_index p.history.past run.session
   pub idle : p.work ≡ Idle
@@ -346,28 +341,7 @@ abbrev pub IsPlanOf : Sight → Plan → Type 0
 IsPlanOf (sight.Seen seen) plan = IsPlanFor seen.base seen.view plan
 IsPlanOf _ plan = ⊥
 
--- its commit has ended
+-- the session's commit has ended
 abbrev pub HasEnded : Phase → Type 0
 HasEnded (phase.Saved e) = ⊤
 HasEnded _ = ⊥
-
--- the kind of the step with which a commit ended
-abbrev pub kind_of_end : CommitEnd → StepKind
-kind_of_end (commit.Committed r) = kind.Pin
-kind_of_end _ = kind.Finish
-
--- the turn of a commit, and where the session stands, by what a step answered
-abbrev pub turn_by : StepOut → Turn
-turn_by (out.Went k) = turn.Stepped k
-turn_by (out.Wait q) = turn.Waiting q
-turn_by (out.Ready (end.Commit e)) = turn.Stepped (kind_of_end e)
-turn_by _ = turn.Memory
-
-abbrev pub phase_by : StepOut → Phase → Phase
-phase_by (out.Ready (end.Commit e)) now = phase.Saved e
-phase_by _ now = now
-
--- the pin with which a step's answer ends a task
-abbrev pub pinned_by : StepOut → Option Pin
-pinned_by (out.Ready (end.Pinned pin)) = Some pin
-pinned_by _ = None

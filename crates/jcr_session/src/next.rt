@@ -11,6 +11,7 @@ ghost use Rattle.core_law.specs.Law.{SaysBy};
 ghost use Rattle.core_law.specs.State.{command_at};
 
 use crate::law::JcrLaw;
+use crate::limits::MOST_NODES;
 use crate::past::{drawn_since, refreshed_since, refusal_of};
 use crate::pending::{pending_of, view_of};
 use jcr_trans::{
@@ -47,7 +48,6 @@ fn answer(
     journal: &Journal,
     session: u32,
 ) -> Result<Option<String>, AllocError>
-    requires begun { journal.now.start ≡ None }
     ensures { IfOk result (λ found. option_map string_bytes found ≡ option_map answer_text (answer_next law.now.sessions (history_of journal.now).past session)) }
 {
     let index = next_index(journal.events.as_slice(), session);
@@ -65,7 +65,6 @@ fn reply(
     session: u32,
     command: &Command,
 ) -> Result<Option<String>, AllocError>
-    requires begun { journal.now.start ≡ None }
     ensures { IfOk result (λ found. option_map string_bytes found ≡ option_map answer_text (answer_of law.now.sessions (history_of journal.now).past session command.now)) }
 {
     let events = journal.events.as_slice();
@@ -74,7 +73,7 @@ fn reply(
         Command::Refresh(false) => shown_vector(alloc, refreshed_since(events, session)),
         Command::Head => shown_vector(alloc, base_of(events, session)),
         _ => {
-            let view = view_of(alloc, law, journal, session)?;
+            let view = view_of(alloc, law, events, session)?;
             Ok(Some(view_reply(alloc, command, view)?))
         }
     }
@@ -122,7 +121,6 @@ fn save_reply(
     journal: &Journal,
     session: u32,
 ) -> Result<Option<String>, AllocError>
-    requires begun { journal.now.start ≡ None }
     ensures { IfOk result (λ found. option_map string_bytes found ≡ option_map answer_text (save_answer law.now.sessions (history_of journal.now).past session (drawn_since (history_of journal.now).past session))) }
 {
     match drawn_since(journal.events.as_slice(), session) {
@@ -181,15 +179,15 @@ fn unsaved_reply(
     journal: &Journal,
     session: u32,
 ) -> Result<Option<String>, AllocError>
-    requires begun { journal.now.start ≡ None }
     ensures { IfOk result (λ found. option_map string_bytes found ≡ option_map answer_text (save_answer law.now.sessions (history_of journal.now).past session None)) }
 {
-    let pending = pending_of(alloc, law, journal, session)?;
-    let view = view_of(alloc, law, journal, session)?;
+    let events = journal.events.as_slice();
+    let pending = pending_of(alloc, law, events, session)?;
+    let view = view_of(alloc, law, events, session)?;
     match pending.as_slice() {
         [] => Ok(Some(null_reply(alloc)?)),
         _ => {
-            if view.len() <= 100_000 {
+            if view.len() <= MOST_NODES {
                 return Ok(None);
             }
             Ok(Some(too_many_reply(alloc)?))

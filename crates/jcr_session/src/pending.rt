@@ -1,11 +1,10 @@
 // The pending edits of a session, by the law and a journal.
-ghost use Rattle.std.specs.Prelude.{◌≡◌, ◌∷◌, None, not, IfOk, OnOk};
+ghost use Rattle.std.specs.Prelude.{◌≡◌, ◌∷◌, None, not, reverse, IfOk, OnOk};
 ghost use Rattle.std.specs.List.{filter, fold};
 ghost use Rattle.jr_path.specs.Names.{is_under};
 ghost use Rattle.jr_tree.specs.Edits.{applied};
 ghost use Rattle.jr_tree.specs.declared.edit.Write.TheVariants as write;
 ghost use Rattle.jcr_trans.specs.Views.{view_after};
-ghost use Rattle.oak_machine.specs.History.{history_of};
 ghost use Rattle.core_law.specs.State.{base_tree, pending_after, pending_kept, pending_of, pending_said, reapplied, view_of};
 
 use crate::law::JcrLaw;
@@ -13,22 +12,21 @@ use crate::next::command_at;
 use jcr_trans::{Command, run};
 use jr_path::{DeepCopy, List, Path, Text};
 use jr_tree::{Edit, Node, Tree, Write, changes};
-use oak_machine::{Event, Events, Journal};
-use oak_past::{base_of, last_checkpoint, tree_at};
+use oak_machine::Event;
+use oak_past::{base_of, last_checkpoint, tree_among};
 use std::alloc::{AllocError, Global};
 
 // The view of a session: the tree at its base with its pending edits.
 pub(crate) fn view_of(
     alloc: Global,
     law: &JcrLaw,
-    journal: &Journal,
+    events: &[Event],
     session: u32,
 ) -> Result<Tree, AllocError>
-    requires begun { journal.now.start ≡ None }
-    ensures { IfOk result (λ view. view ≡ view_of law.now.sessions (history_of journal.now).past session) }
+    ensures { IfOk result (λ view. view ≡ view_of law.now.sessions (reverse events.now) session) }
 {
-    let base = base_tree(alloc, journal, session)?;
-    let pending = pending_of(alloc, law, journal, session)?;
+    let base = base_tree(alloc, events, session)?;
+    let pending = pending_of(alloc, law, events, session)?;
     with_edits(base, pending)
 }
 
@@ -37,21 +35,14 @@ pub(crate) fn view_of(
 pub(crate) fn pending_of(
     alloc: Global,
     law: &JcrLaw,
-    journal: &Journal,
+    events: &[Event],
     session: u32,
 ) -> Result<List<Write>, AllocError>
-    ensures { IfOk result (λ writes. writes ≡ pending_of law.now.sessions (history_of journal.now).past session) }
+    ensures { IfOk result (λ writes. writes ≡ pending_of law.now.sessions (reverse events.now) session) }
 {
     let mut pending = List::new(alloc);
-    let mut before = Journal {
-        clusters: journal.clusters,
-        sessions: List::new(alloc),
-        events: Events::new(alloc),
-        start: None,
-    };
-    for event in journal.events.as_slice() {
-        pending = pending_next(alloc, law, &before, session, event, pending)?;
-        before.events.push(event.copy()?)?;
+    for at in 0..events.len() {
+        pending = pending_next(alloc, law, &events[..at], session, &events[at], pending)?;
     }
     Ok(pending)
 }
@@ -60,14 +51,13 @@ pub(crate) fn pending_of(
 fn pending_next(
     alloc: Global,
     law: &JcrLaw,
-    before: &Journal,
+    before: &[Event],
     session: u32,
     event: &Event,
     pending: List<Write>,
 ) -> Result<List<Write>, AllocError>
-    requires begun { before.now.start ≡ None }
-    requires pending { pending ≡ pending_of law.now.sessions (history_of before.now).past session }
-    ensures { IfOk result (λ writes. writes ≡ pending_of law.now.sessions (event.now ∷ (history_of before.now).past) session) }
+    requires { pending ≡ pending_of law.now.sessions (reverse before.now) session }
+    ensures { IfOk result (λ writes. writes ≡ pending_of law.now.sessions (event.now ∷ reverse before.now) session) }
 {
     match event {
         Event::Said(s, index, text) => {
@@ -78,14 +68,14 @@ fn pending_next(
         }
         Event::Refresh(s, v) => {
             if *s == session {
-                return pending_kept(alloc, &tree_at(before, v)?, pending.as_slice());
+                return pending_kept(alloc, &tree_among(alloc, before, v)?, pending.as_slice());
             }
             Ok(pending)
         }
         Event::Attach(s, id) => {
             if *s == session {
-                let base = match last_checkpoint(before.events.as_slice(), id) {
-                    Some(v) => tree_at(before, &v)?,
+                let base = match last_checkpoint(before, id) {
+                    Some(v) => tree_among(alloc, before, &v)?,
                     None => Tree::initial(alloc)?,
                 };
                 return pending_kept(alloc, &base, pending.as_slice());
@@ -100,14 +90,13 @@ fn pending_next(
 fn pending_said(
     alloc: Global,
     law: &JcrLaw,
-    before: &Journal,
+    before: &[Event],
     session: u32,
     index: u32,
     text: &Text,
     pending: List<Write>,
 ) -> Result<List<Write>, AllocError>
-    requires begun { before.now.start ≡ None }
-    ensures { IfOk result (λ writes. writes ≡ pending_said law.now.sessions (history_of before.now).past session index text.now pending) }
+    ensures { IfOk result (λ writes. writes ≡ pending_said law.now.sessions (reverse before.now) session index text.now pending) }
 {
     if !text.as_str().starts_with("ok") {
         return Ok(pending);
@@ -217,12 +206,11 @@ fn put_node(alloc: Global, tree: &mut Tree, path: &Path) -> Result<(), AllocErro
 }
 
 // The tree at the base of a session.
-pub(crate) fn base_tree(alloc: Global, journal: &Journal, session: u32) -> Result<Tree, AllocError>
-    requires begun { journal.now.start ≡ None }
-    ensures { IfOk result (λ tree. tree ≡ base_tree (history_of journal.now).past session) }
+pub(crate) fn base_tree(alloc: Global, events: &[Event], session: u32) -> Result<Tree, AllocError>
+    ensures { IfOk result (λ tree. tree ≡ base_tree (reverse events.now) session) }
 {
-    match base_of(journal.events.as_slice(), session) {
-        Some(v) => tree_at(journal, &v),
+    match base_of(events, session) {
+        Some(v) => tree_among(alloc, events, &v),
         None => Tree::initial(alloc),
     }
 }

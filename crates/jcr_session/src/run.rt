@@ -7,14 +7,15 @@ ghost use Rattle.oak_port.specs.declared.task.StepOut.TheVariants as out;
 ghost use Rattle.oak_port.specs.declared.task.TaskEnd.TheVariants as end;
 ghost use Rattle.jcr_trans.specs.Answers.{Refused};
 ghost use Rattle.jcr_trans.specs.Texts.{answer_text, memory_text};
-ghost use Rattle.jcr_session.specs.Drawn.{has_went};
-ghost use Rattle.jcr_session.specs.Standing.{HasEnded, HasLooked, HasSeen, HasTurned, IsGranted, IsNew, IsPlanFor, IsPlanOf, IsRefused, IsReply, IsSame, MayAnswer, Stands, due_for, is_saving, is_unread, kind_of_end, phase_by, pinned_by, turn_by};
-ghost use Rattle.jcr_session.specs.Leaving.{ended_by};
+ghost use Rattle.jcr_session.specs.Answered.{IsCommitAnswer, IsDrawAnswer, IsLeaveAnswer, IsPinAnswer};
+ghost use Rattle.jcr_session.specs.Answered.{ended_by, has_went, kind_of_end, phase_by, pinned_by, turn_by};
+ghost use Rattle.jcr_session.specs.Standing.{HasEnded, HasLooked, HasSeen, HasTurned, IsGranted, IsNew, IsPlanFor, IsPlanOf, IsRefused, IsReply, IsSame, MayAnswer, Stands, due_for, is_saving, is_seen, is_unread};
 ghost use Rattle.jcr_session.specs.declared.run.Due.TheVariants as due;
 ghost use Rattle.jcr_session.specs.declared.run.Phase.TheVariants as phase;
 ghost use Rattle.jcr_session.specs.declared.run.Plan.TheVariants as plan;
 
 use crate::law::JcrLaw;
+use crate::limits::{COMMIT_REPLY_BYTES, MOST_COMMANDS, MOST_NODES};
 use crate::sight::{Seen, Sight, look};
 use crate::turn::Turn;
 use jcr_plan::marks_of;
@@ -33,12 +34,6 @@ use std::mem;
 
 // The reply where memory was refused.
 const MEMORY_REPLY: &str = "no 16 []";
-
-// At least the bytes of each reply that tells that a commit was made, as `ok "r1-0-1"`, with a revision of 16, 8 and 8 digits.
-const COMMIT_REPLY_BYTES: usize = 40;
-
-// The greatest number of nodes that a tree may have after a save.
-const MOST_NODES: usize = 100_000;
 
 /// A session of a script: its commands, of which it makes one after another, by steps of a world that others step too.
 #[derive(Drop)]
@@ -85,13 +80,13 @@ enum Due {
 }
 
 impl SessionRun {
-    /// A session that has not logged in, with its number and at most 10,000 commands.
+    /// A session that has not logged in, with its number and at most `MOST_COMMANDS` commands.
     pub fn new(
         alloc: Global,
         session: u32,
         commands: List<Command>,
     ) -> Result<SessionRun, AllocError>
-        requires few { length commands ≤ 10000 }
+        requires few { length commands ≤ MOST_COMMANDS }
         ensures { IfOk result (IsNew session commands) }
     {
         Ok(SessionRun {
@@ -161,7 +156,8 @@ impl SessionRun {
         }
     }
 
-    // Makes all reading steps that are due, and tells whether it did.
+    // Makes all reading steps that are due, and tells whether it did. A walk over a tree ends, but no clause says yet within how many
+    // steps a port answers what it reads: until one does, 2^64 - 1 steps may leave some due.
     fn read_all<P: Port<L = JcrLaw>>(&mut self, port: &mut P) -> Result<bool, AllocError>
         requires stands { Stands (P.law port.old) (P.shown port.old) self.old }
         ensures law { P.law port.new ≡ P.law port.old }
@@ -266,7 +262,7 @@ impl SessionRun {
         ensures turned { HasTurned (P.law port.old) (P.shown port.old) (P.shown port.new) self.old self.new result }
     {
         let Some(pin) = port.pin() else {
-            return Turn::Memory;
+            unreachable!()
         };
         let text = vector_reply(self.alloc, &pin.base);
         self.say_made(port, text)
@@ -322,6 +318,8 @@ impl SessionRun {
 
     // The reply by the view.
     fn seen_reply(&mut self) -> Result<String, AllocError>
+        requires seen { IsTrue (is_seen self.old.sight) }
+        requires next { due_for self.old ≡ due.See }
         ensures same { IsSame self.old self.new }
         ensures text { IfOk result (λ text. HasSeen self.old self.new (string_bytes text)) }
         ensures err { OnErr result (self.new.sight ≡ self.old.sight) }
@@ -335,7 +333,7 @@ impl SessionRun {
         } = self;
         match (commands.as_slice().get(*index as usize), sight) {
             (Some(command), Sight::Seen(seen)) => reply_of(*alloc, command, seen),
-            _ => Err(AllocError),
+            _ => unreachable!(),
         }
     }
 
@@ -379,11 +377,12 @@ impl SessionRun {
 
     // What a save comes to.
     fn plan(&self) -> Result<Plan, AllocError>
+        requires { IsTrue (is_seen self.now.sight) }
         ensures { IfOk result (IsPlanOf self.now.sight) }
     {
         match &self.sight {
             Sight::Seen(seen) => plan_of(self.alloc, seen),
-            _ => Err(AllocError),
+            _ => unreachable!(),
         }
     }
 
@@ -429,6 +428,7 @@ impl SessionRun {
 
     // What a step of a commit answered.
     fn committed_on(&mut self, answer: StepOut) -> Turn
+        requires { IsCommitAnswer answer }
         ensures turn { result ≡ turn_by answer }
         ensures run { self.new ≡ record self.old { phase = phase_by answer self.old.phase } }
     {
@@ -440,7 +440,7 @@ impl SessionRun {
                 self.phase = Phase::Saved(end);
                 Turn::Stepped(kind)
             }
-            _ => Turn::Memory,
+            _ => unreachable!(),
         }
     }
 
@@ -454,7 +454,7 @@ impl SessionRun {
     {
         match mem::replace(&mut self.phase, Phase::Between) {
             Phase::Saved(end) => self.say_saved(port, end),
-            _ => Turn::Memory,
+            _ => unreachable!(),
         }
     }
 
@@ -539,7 +539,7 @@ impl SessionRun {
     fn say_or_memory<P: Port<L = JcrLaw>>(&mut self, port: &mut P, text: &str) -> Turn
         requires answer { MayAnswer (P.law port.old) (P.shown port.old) self.old text.now }
         requires memory { MayAnswer (P.law port.old) (P.shown port.old) self.old memory_text }
-        requires room { HasRoom (P.shown port.old).room 40 }
+        requires room { HasRoom (P.shown port.old).room COMMIT_REPLY_BYTES }
         ensures law { P.law port.new ≡ P.law port.old }
         ensures turned { HasTurned (P.law port.old) (P.shown port.old) (P.shown port.new) self.old self.new result }
         ensures granted { IsGranted result }
@@ -566,33 +566,39 @@ impl SessionRun {
     }
 }
 
-// The pin with which a task ended.
+// The pin with which a login or a refresh ended; None where memory was refused.
 fn pinned(answer: StepOut) -> Option<Pin>
+    requires { IsPinAnswer answer }
     ensures { result ≡ pinned_by answer }
 {
     match &answer {
         StepOut::Ready(TaskEnd::Pinned(pin)) => Some(*pin),
-        _ => None,
+        StepOut::Memory => None,
+        _ => unreachable!(),
     }
 }
 
-// Whether a step was made and its task goes on.
+// Whether a commit was drawn; else memory was refused.
 fn has_went(answer: StepOut) -> bool
+    requires { IsDrawAnswer answer }
     ensures { result ≡ has_went answer }
 {
-    match answer {
+    match &answer {
         StepOut::Went(_) => true,
-        _ => false,
+        StepOut::Memory => false,
+        _ => unreachable!(),
     }
 }
 
-// Whether a leave has ended.
+// Whether a leave has ended; else memory was refused.
 fn has_ended(answer: StepOut) -> bool
+    requires { IsLeaveAnswer answer }
     ensures { result ≡ ended_by answer }
 {
     match &answer {
         StepOut::Ready(TaskEnd::Ended) => true,
-        _ => false,
+        StepOut::Memory => false,
+        _ => unreachable!(),
     }
 }
 

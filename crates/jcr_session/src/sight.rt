@@ -4,7 +4,8 @@ ghost use Rattle.jr_tree.specs.Trees.{children_of, node_at};
 ghost use Rattle.oak_port.specs.Ports.{Idle, Starting};
 ghost use Rattle.oak_port.specs.declared.task.Task.TheVariants as task;
 ghost use Rattle.core_law.specs.State.{base_tree};
-ghost use Rattle.jcr_session.specs.Sights.{HasRead, IsBeside, IsIn, IsPart, Looks, Reads, listed_by, loaded_by};
+ghost use Rattle.jcr_session.specs.Answered.{IsListAnswer, IsLoadAnswer, listed_by, loaded_by};
+ghost use Rattle.jcr_session.specs.Sights.{HasRead, IsBeside, IsIn, IsPart, Looks, Reads};
 
 use crate::law::JcrLaw;
 use jr_path::{DeepCopy, List, Name, Path};
@@ -18,7 +19,7 @@ use std::alloc::{AllocError, Global};
 pub(crate) enum Sight {
     // The tree at its base, which isn't read yet; nothing is pending.
     Unread,
-    // The same, read in part.
+    // The tree at its base is read in part; nothing is pending.
     Reading(Walk),
     // The tree at its base, and its view, which is that tree with its pending edits.
     Seen(Seen),
@@ -53,7 +54,8 @@ pub(crate) enum Loaded {
     Refused,
 }
 
-// The same of a step of reading the names of the children of a node, each with the revision that added the child.
+// What a step of reading the names of the children of a node came to: its task goes on, they are these, each with the revision
+// that added the child, or memory was refused.
 #[derive(Drop)]
 pub(crate) enum Listed {
     Going,
@@ -61,23 +63,29 @@ pub(crate) enum Listed {
     Refused,
 }
 
+// What a step of reading a node came to.
 fn load_came(answer: StepOut) -> Loaded
+    requires { IsLoadAnswer answer }
     ensures { result ≡ loaded_by answer }
 {
     match answer {
         StepOut::Went(_) => Loaded::Going,
         StepOut::Ready(TaskEnd::Node(found)) => Loaded::Found(found),
-        _ => Loaded::Refused,
+        StepOut::Memory => Loaded::Refused,
+        _ => unreachable!(),
     }
 }
 
+// What a step of reading the names of the children of a node came to.
 fn list_came(answer: StepOut) -> Listed
+    requires { IsListAnswer answer }
     ensures { result ≡ listed_by answer }
 {
     match answer {
         StepOut::Went(_) => Listed::Going,
         StepOut::Ready(TaskEnd::Children(names)) => Listed::Names(names),
-        _ => Listed::Refused,
+        StepOut::Memory => Listed::Refused,
+        _ => unreachable!(),
     }
 }
 
@@ -98,7 +106,7 @@ pub(crate) fn look<P: Port<L = JcrLaw>>(
     match sight {
         Sight::Unread => read_first(alloc, port),
         Sight::Reading(walk) => read_on(port, walk),
-        Sight::Seen(seen) => Ok(Sight::Seen(seen)),
+        Sight::Seen(_) => unreachable!(),
     }
 }
 

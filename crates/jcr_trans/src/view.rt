@@ -11,7 +11,7 @@ ghost use Rattle.jcr_trans.specs.Views.{answered, view_after, passes, checks, ch
 use crate::Command;
 use crate::checks::{check, property_at};
 use crate::texts::{done_text, names_text, property_text};
-use jr_path::{DeepCopy, Path};
+use jr_path::{DeepCopy, Name, Path};
 use jr_tree::{Node, Refusal, Tree};
 use std::alloc::{AllocError, Global};
 
@@ -66,7 +66,8 @@ fn add_node(alloc: Global, view: &mut Tree, path: &Path) -> Result<(), AllocErro
     ensures ok { OnOk result (view.new ≡ insert_entry path_cmp view.old path.now (node_of_type (codes "nt:unstructured"))) }
     ensures err { OnErr result (view.new ≡ view.old) }
 {
-    let node = Node::of_type(alloc, "nt:unstructured")?;
+    let kind = Name::of(alloc, "nt:unstructured")?;
+    let node = Node::of_type(alloc, kind)?;
     let at = path.copy()?;
     view.insert(at, node)?;
     Ok(())

@@ -1,2 +1,3 @@
 pub mod FirstRefusal
-mod Upward
+mod UpwardPaths
+pub mod Own

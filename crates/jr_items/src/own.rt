@@ -90,10 +90,7 @@ impl OwnName {
     pub fn name(self, alloc: Global) -> Result<Name, AllocError>
         ensures { IfOk result (λ name. name ≡ own_name self) }
     {
-        match Name::parse(alloc, self.as_str()) {
-            Ok(name) => Ok(name),
-            Err(_) => Err(AllocError),
-        }
+        Name::of(alloc, self.as_str())
     }
 
     /// Whether this is the name.

@@ -2,6 +2,7 @@ pub mod Entries
 pub mod Follows
 pub mod Maps
 pub mod Orders
+pub mod OwnNames
 pub mod Parts
 pub mod Pieces
 mod Rows

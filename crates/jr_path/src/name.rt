@@ -45,8 +45,8 @@ impl Name {
         }
     }
 
-    // The name of a text in the grammar.
-    pub(crate) fn of(alloc: Global, text: &str) -> Result<Name, AllocError>
+    /// The name of a text in the grammar of names, as `jcr:system`.
+    pub fn of(alloc: Global, text: &str) -> Result<Name, AllocError>
         requires { IsName text.now }
         ensures { IfOk result (λ name. name ≡ text.now) }
     {

@@ -1,33 +1,19 @@
 -- The entries of vectors, one at a time.
-use Rattle.std.proofs.Common.{◌≡◌, ℕ, ◌+◌, ◌-◌, ◌<◌, ◌≤◌, zero, suc, Bool, true, false, cond, ◌&&◌, Option, Some, None, [], ◌∷◌, length, get_or, refl, sym, ap, ◌∙◌, arith}
+use Rattle.std.proofs.Common.{◌≡◌, ℕ, ◌+◌, ◌-◌, ◌<◌, ◌≤◌, zero, suc, Bool, true, false, cond, Option, Some, None, [], ◌∷◌, length, get_or, refl, sym, ap, ◌∙◌, arith}
 use Rattle.std.specs.Prelude.{◌==◌, slice_set}
-use Rattle.std.proofs.lemmas.Bool.Decides.{nat_tests}
 use Rattle.std.proofs.lemmas.List.{length-set, ext_get_or}
-use mathlib.Core.Bool.{false≢true}
 use Rattle.jr_rev.specs.declared.revision.Revision.{Revision}
 use Rattle.jr_rev.specs.Revisions.{is_at_most}
 use Rattle.jr_rev.specs.Vectors.{Entries, with_entry, stands_from, lesser_entry, least, greater_entry, greatest, IsVector}
-
-pub both : (a b : Bool) → (a && b) ≡ true → (a ≡ true) × (b ≡ true)
-both true b h = (refl, h)
-both false b h = absurd (false≢true h)
-
-pub and_true : (a b : Bool) → a ≡ true → b ≡ true → (a && b) ≡ true
-and_true true b h k = k
-and_true false b h k = absurd (false≢true h)
-
-same_number : (a b : ℕ) → a ≡ b → (a == b) ≡ true
-same_number a b e = grind (arith, nat_tests)
-
-pub number_same : (a b : ℕ) → (a == b) ≡ true → a ≡ b
-number_same a b e = grind (arith, nat_tests)
+use Rattle.std.proofs.lemmas.Bool.{eq-eqb}
+pub use Rattle.std.proofs.lemmas.Bool.{and_parts as both, and_from as and_true, eqb-true as number_same}
 
 -- ---- an entry that is set
 
 set_stands : (v : Entries) (j i : ℕ) (r : Revision) → r.cluster ≡ j + i → stands_from j v ≡ true → stands_from j (slice_set v i (Some r)) ≡ true
 set_stands [] j i r e h = refl
-set_stands (None ∷ v) j zero r e h = and_true (r.cluster == j) _ (same_number r.cluster j (omega arith)) h
-set_stands (Some q ∷ v) j zero r e h = and_true (r.cluster == j) _ (same_number r.cluster j (omega arith)) (both (q.cluster == j) _ h).1
+set_stands (None ∷ v) j zero r e h = and_true (r.cluster == j) _ (eq-eqb r.cluster j (omega arith)) h
+set_stands (Some q ∷ v) j zero r e h = and_true (r.cluster == j) _ (eq-eqb r.cluster j (omega arith)) (both (q.cluster == j) _ h).1
 set_stands (None ∷ v) j (suc i) r e h = set_stands v (j + 1) i r (omega arith) h
 set_stands (Some q ∷ v) j (suc i) r e h = and_true (q.cluster == j) _ (both (q.cluster == j) _ h).0 (set_stands v (j + 1) i r (omega arith) (both (q.cluster == j) _ h).1)
 

@@ -111,7 +111,9 @@ IsNoJson bytes rule pointer = (rule ≡ 1) × (pointer ≡ []) × ((d : Data) �
 abbrev pub IsBroken : List ℕ → ℕ → List ℕ → Type 0
 IsBroken bytes rule pointer = (d : Data) × (steps : _) × IsJson bytes d × script_of d (Breaks rule steps) × (pointer ≡ pointer_text steps)
 
--- why the bytes are no script; or memory was refused
+-- why the bytes are no script, where no rule so far looks into a text that stands at its place; or memory was
+-- refused
 abbrev pub IsFault : List ℕ → ScriptFault → Type 0
-IsFault bytes (fault.Bad rule pointer) = IsNoJson bytes rule pointer ⊎ IsBroken bytes rule pointer
+IsFault bytes (fault.Bad rule pointer offset) =
+    (offset ≡ None) × (IsNoJson bytes rule pointer ⊎ IsBroken bytes rule pointer)
 IsFault bytes fault.Memory = Unit {0}

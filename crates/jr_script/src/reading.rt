@@ -40,7 +40,7 @@ const SESSIONS: u8 = 4;
 
 /// Reads a script from JSON (RFC 8259). `Bad` has the first rule that is broken, in the order of the rules below and of the
 /// sessions, their commands, the arguments of each and the entries, and the JSON Pointer (RFC 6901) of the value that breaks
-/// it, or of its container where it is missing. Of a list that is too long it is the list's.
+/// it, or of its container where it is missing. Of a list that is too long it is the list's. The offset is `None`.
 ///
 /// 1. The bytes are JSON that serde_json reads; else the pointer is empty. Where a key comes twice the last one counts.
 /// 2. The top is an object with the key `sessions`, and with no other keys than `clusters`, `types` and `schedule`.
@@ -66,6 +66,7 @@ pub fn read_script(alloc: Global, bytes: &[u8]) -> Result<Script, ScriptFault>
                 ScriptFault::Bad {
                     rule: JSON,
                     pointer: Text::new(alloc),
+                    offset: None,
                 }
             });
         }
@@ -75,6 +76,7 @@ pub fn read_script(alloc: Global, bytes: &[u8]) -> Result<Script, ScriptFault>
         Err(Fault::Bad { rule, steps }) => Err(ScriptFault::Bad {
             rule,
             pointer: pointer(alloc, &steps)?,
+            offset: None,
         }),
         Err(Fault::Memory) => Err(ScriptFault::Memory),
     }

@@ -43,8 +43,14 @@ pub enum Entry {
 /// Why an input isn't read as a script.
 #[derive(Debug, Drop)]
 pub enum ScriptFault {
-    /// The input breaks a rule, and no earlier one, at the place that a JSON Pointer (RFC 6901) names.
-    Bad { rule: u8, pointer: Text },
+    /// The input breaks a rule, and no earlier one, at the place that a JSON Pointer (RFC 6901)
+    /// names, and where a text stands there that breaks it, at the offset of that byte of the text.
+    /// So far no rule looks into a text: the offset is `None`.
+    Bad {
+        rule: u8,
+        pointer: Text,
+        offset: Option<usize>,
+    },
     /// Memory was refused.
     Memory,
 }

@@ -35,6 +35,7 @@ use Rattle.jr_tree.proofs.Written.{Reads, here_reads, put_reads, or_none, none_f
 use Rattle.jr_tree.proofs.AtPath.{InOrder, prop_of, order-applied}
 use Rattle.jr_tree.proofs.EditLaw.{born_applied, IsOrderly, Orderly-all, Orderly-applied, has_applied, property_applied}
 use Rattle.jr_tree.proofs.Undated.{undate, has-undated, node_at-undated, property-undated, sorted-undated}
+pub use Rattle.basics.proofs.Options.{some_if as given}
 
 pub item_ties : IsEquivalence (eq_by_cmp item_cmp)
 item_ties = eq_by_cmp_equiv item_total
@@ -93,10 +94,6 @@ either_found (Some x) b (Some y) q g h = refl
 either_found (Some x) b None q g h = absurd (false≢true (sym g))
 either_found None b (Some y) q g h = absurd (false≢true g)
 either_found None b None q g h = h
-
-pub given : {X : Type 0} (b : Bool) (x : X) → is_some (cond b (Some x) None) ≡ b
-given true x = refl
-given false x = refl
 
 both_found : {X : Type 0} (i : Item) (f : Write → Option X) → Reads i f → (ws : List Write) → is_some (written f ws) ≡ is_some (last_of i ws)
 both_found i f reads [] = refl

@@ -1,5 +1,5 @@
 -- Entries in the order of their keys: what stays in order, what is found, and when two lists are the same.
-use Rattle.std.proofs.Common.{◌≡◌, Bool, true, false, cond, ◌&&◌, Some, None, Option, List, [], ◌∷◌, refl, sym, ap, ◌∙◌}
+use Rattle.std.proofs.Common.{◌≡◌, Bool, true, false, cond, Some, None, Option, List, [], ◌∷◌, refl, sym, ap, ◌∙◌}
 use Rattle.std.proofs.Math.Dec.{T}
 use Rattle.std.specs.declared.cmp.Ordering.{Ordering}
 use Rattle.std.specs.declared.cmp.Ordering.TheVariants.{Less, Equal, Greater}
@@ -12,28 +12,10 @@ use Rattle.std.specs.BTreeMap.{is_at, insert_entry}
 use Rattle.std.specs.FinMap.{is_sorted}
 use Rattle.std.specs.FinMap.Entries.{find, put, by_order, below_all, is_sorted-put, same_entries}
 use mathlib.Core.Bool.{false≢true}
-
-pub exactly : (o : Ordering) → is_eq o ≡ true → o ≡ Equal
-exactly Less h = absurd (false≢true h)
-exactly Equal h = refl
-exactly Greater h = absurd (false≢true h)
-
-pub is_less : (o : Ordering) → is_lt o ≡ true → o ≡ Less
-is_less Less h = refl
-is_less Equal h = absurd (false≢true h)
-is_less Greater h = absurd (false≢true h)
-
-pub first : (a b : Bool) → (a && b) ≡ true → a ≡ true
-first true b h = refl
-first false b h = absurd (false≢true h)
-
-pub second : (a b : Bool) → (a && b) ≡ true → b ≡ true
-second true b h = h
-second false b h = absurd (false≢true h)
-
-pub both : (a b : Bool) → a ≡ true → b ≡ true → (a && b) ≡ true
-both true b p q = q
-both false b p q = absurd (false≢true p)
+use Rattle.basics.proofs.Orders.{less_of}
+pub use Rattle.basics.proofs.Orders.{equal_of as exactly}
+pub use Rattle.basics.proofs.Bools.{first_of_both as first, second_of_both as second}
+pub use Rattle.std.proofs.lemmas.Bool.{and_from as both}
 
 to_T : (b : Bool) → b ≡ true → T b
 to_T true h = tt
@@ -88,7 +70,7 @@ module _ {K X : Type 0} (R : K → K → Ordering) where
 
   less_all : (x : K) (es : List (K × X)) → below_all R x es ≡ true → AllByRecursion (λ k. R x k ≡ Less) (keys_of es)
   less_all x [] h = tt
-  less_all x (e ∷ es) h = (is_less _ (first _ _ h), less_all x es (second _ _ h))
+  less_all x (e ∷ es) h = (less_of _ (first _ _ h), less_all x es (second _ _ h))
 
   -- the test that keys rise, as std has it
   pub rising : (es : List (K × X)) → is_sorted R es ≡ true → IsStrictlySortedBy R (keys_of es)
@@ -124,7 +106,7 @@ module _ {K X : Type 0} (R : K → K → Ordering) where
 
     pub none_below : (q x : K) → R q x ≡ Equal → (es : List (K × X)) → below_all R x es ≡ true → lookup (is_at (R q)) es ≡ None
     none_below q x t [] h = refl
-    none_below q x t (e ∷ es) h = ap (λ r. cond (is_eq r) (Some e.1) (lookup (is_at (R q)) es)) (o.congr q x e.0 t ∙ is_less _ (first _ _ h)) ∙ none_below q x t es (second _ _ h)
+    none_below q x t (e ∷ es) h = ap (λ r. cond (is_eq r) (Some e.1) (lookup (is_at (R q)) es)) (o.congr q x e.0 t ∙ less_of _ (first _ _ h)) ∙ none_below q x t es (second _ _ h)
 
     -- what is found at a key after a removal
     pub lookup-remove : (q k : K) (es : List (K × X)) → is_sorted R es ≡ true → lookup (is_at (R q)) (remove_entry (is_at (R k)) es) ≡ cond (eq_by_cmp R q k) None (lookup (is_at (R q)) es)

@@ -21,6 +21,7 @@ use Rattle.jr_tree.specs.Merging.{is_touched, with_node_of, written_nodes, missi
 use Rattle.jr_tree.proofs.Pointwise.{same_path}
 use Rattle.jr_tree.proofs.Entries.{exactly, first, second, none_below, sorted_insert, sorted_remove, sorted_set, lookup-remove, same_lists}
 use Rattle.jr_tree.proofs.AtPath.{InOrder, come, filled, props_of, node_at-comes, node_at-fills, node_at-applied, order-comes, order-fills, order-applied, changed_there}
+use Rattle.std.proofs.lemmas.Bool.{or_parts}
 
 path_ties : IsEquivalence (eq_by_cmp path_cmp)
 path_ties = eq_by_cmp_equiv path_total
@@ -96,20 +97,16 @@ filled_other p o (Gone q) e = refl
 filled_other p o (Put q m x) e = ap (λ b. cond b (option_map {T = Node} (λ node. record node { props = insert_entry name_cmp node.props m x }) o) o) e
 filled_other p o (Unset q m) e = ap (λ b. cond b (option_map {T = Node} (λ node. record node { props = remove_entry (is_at (name_cmp m)) node.props }) o) o) e
 
-neither : (a b : Bool) → (a || b) ≡ false → (a ≡ false) × (b ≡ false)
-neither true b h = absurd (false≢true (sym h))
-neither false b h = (refl, h)
-
 comes_other : (born : Option Revision) (p : Path) (o : Option Node) (ws : List Write) → is_touched ws p ≡ false → fold (come born p) o ws ≡ o
 comes_other born p o [] h = refl
 comes_other born p o (w ∷ ws) h =
-    let parts = neither _ _ h in
+    let parts = or_parts _ _ h in
     ap (λ (x : Option Node). fold (come born p) x ws) (come_other born p o w parts.0) ∙ comes_other born p o ws parts.1
 
 fills_other : (p : Path) (o : Option Node) (ws : List Write) → is_touched ws p ≡ false → fold (filled p) o ws ≡ o
 fills_other p o [] h = refl
 fills_other p o (w ∷ ws) h =
-    let parts = neither _ _ h in
+    let parts = or_parts _ _ h in
     ap (λ (x : Option Node). fold (filled p) x ws) (filled_other p o w parts.0) ∙ fills_other p o ws parts.1
 
 part_at : (born : Option Revision) (t : Nodes) (us : List Write) (p : Path) → node_at (changed_part born t us) p ≡ fold (filled p) (fold (come born p) (cond (is_touched us p) (node_at t p) None) us) us
@@ -193,7 +190,7 @@ missing_at t (e ∷ es) p = by (is_none (node_at t e.0)) refl (eq_by_cmp path_cm
 fewer : {X : Type 0} (test : X → Bool) (n : ℕ) (xs : List X) → list_any test xs ≡ false → list_any test (take n xs) ≡ false
 fewer test zero xs h = refl
 fewer test (suc n) [] h = refl
-fewer test (suc n) (x ∷ xs) h = let parts = neither _ _ h in ap (λ b. b || list_any test (take n xs)) parts.0 ∙ fewer test n xs parts.1
+fewer test (suc n) (x ∷ xs) h = let parts = or_parts _ _ h in ap (λ b. b || list_any test (take n xs)) parts.0 ∙ fewer test n xs parts.1
 
 -- taking the room away again leaves the tree as it was
 pub room_undone : (t part : Nodes) (n : ℕ) → InOrder t → without_paths (with_room t (take n (missing t part))) (missing t part) ≡ t

@@ -1,14 +1,11 @@
 -- What a tree has at an item after one write of a property.
 use Rattle.std.proofs.Common.{◌≡◌, Bool, true, false, cond, ◌&&◌, Some, None, refl, sym, ap, ◌∙◌, subst, Option, is_some, IsSome}
 use Rattle.std.specs.Option.{option_and_then, option_map_or}
-use Rattle.std.specs.declared.cmp.Ordering.{Ordering}
-use Rattle.std.specs.declared.cmp.Ordering.TheVariants.{Less, Equal, Greater}
-use Rattle.std.specs.Ordering.{is_eq, eq_by_cmp}
+use Rattle.std.specs.Ordering.{eq_by_cmp}
 use Rattle.std.specs.Map.{lookup, set_value}
 use Rattle.std.specs.BTreeMap.{is_at, insert_entry}
 use Rattle.std.proofs.lemmas.Cmp.{eq_by_cmp_equiv, nat_list_cmp_total}
 use Rattle.std.proofs.lemmas.Map.{lookup-set_value}
-use mathlib.Core.Bool.{false≢true}
 use Rattle.jr_path.specs.Names.{name_cmp, path_cmp}
 use Rattle.jr_path.specs.declared.name.Name.{Name}
 use Rattle.jr_path.specs.declared.path.Path.{Path}
@@ -18,6 +15,7 @@ use Rattle.jr_tree.specs.declared.tree.Node.{Node}
 use Rattle.jr_tree.specs.declared.edit.Write.TheVariants.{Put}
 use Rattle.jr_tree.specs.Trees.{Nodes, node_at, property_at}
 use Rattle.jr_tree.specs.Edits.{with_property_write}
+use Rattle.basics.proofs.Orders.{equal_of}
 
 dead : {X : Type 0} (a b : Bool) (x y : X) → y ≡ cond (a && (b && false)) x y
 dead true true x y = refl
@@ -28,13 +26,8 @@ live : {X : Type 0} (b : Bool) (x y : X) → cond b x y ≡ cond (b && true) x y
 live true x y = refl
 live false x y = refl
 
-exactly : (o : Ordering) → is_eq o ≡ true → o ≡ Equal
-exactly Less h = absurd (false≢true h)
-exactly Equal h = refl
-exactly Greater h = absurd (false≢true h)
-
 pub same_path : (p q : Path) → eq_by_cmp path_cmp p q ≡ true → p ≡ q
-same_path p q h = path_exact p q (exactly (path_cmp p q) h)
+same_path p q h = path_exact p q (equal_of (path_cmp p q) h)
 
 -- the property at an item after a Put: the one put, where it is that item and the node stands, and else the one before
 pub property_at-put : (t : Nodes) (p : Path) (n : Name) (x : Property) (q : Path) (m : Name)

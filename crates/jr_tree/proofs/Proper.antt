@@ -22,6 +22,7 @@ use Rattle.jr_tree.specs.Items.{here_of, put_of, is_gone_of, written, Fits}
 use Rattle.jr_tree.proofs.Entries.{exactly, first, second}
 use Rattle.jr_tree.proofs.AtPath.{InOrder}
 use Rattle.jr_tree.proofs.EditLaw.{has_applied}
+use Rattle.basics.proofs.Options.{some_where}
 
 pub same_name : (m n : Name) → eq_by_cmp name_cmp m n ≡ true → m ≡ n
 same_name m n h = name_exact m n (exactly (name_cmp m n) h)
@@ -88,15 +89,11 @@ one_writes : {X : Type 0} (a b : Option X) (c d : Bool) → (c ≡ true → is_s
 one_writes a b true d f g h = or_some a b (f refl)
 one_writes a b false d f g h = some_or a b (g h)
 
-passed : {X : Type 0} (b : Bool) (x : X) → b ≡ true → is_some (cond b (Some x) None) ≡ true
-passed true x h = refl
-passed false x h = absurd (false≢true h)
-
 unset_puts : (p : Path) (n : Name) (w : Write) → is_unset_of p n w ≡ true → is_some (put_of p n w) ≡ true
 unset_puts p n (Here q) h = absurd (false≢true h)
 unset_puts p n (Gone q) h = absurd (false≢true h)
 unset_puts p n (Put q m x) h = absurd (false≢true h)
-unset_puts p n (Unset q m) h = passed _ None h
+unset_puts p n (Unset q m) h = some_where _ None h
 
 -- what is unset is written
 unset_writes : (p : Path) (n : Name) (us : List Write) → list_any (is_unset_of p n) us ≡ true → is_some (written (put_of p n) us) ≡ true
@@ -105,7 +102,7 @@ unset_writes p n (w ∷ us) h = one_writes (written (put_of p n) us) (put_of p n
 
 gone_here : (p : Path) (w : Write) → is_gone_of p w ≡ true → is_some (here_of p w) ≡ true
 gone_here p (Here q) h = absurd (false≢true h)
-gone_here p (Gone q) h = passed _ false h
+gone_here p (Gone q) h = some_where _ false h
 gone_here p (Put q m x) h = absurd (false≢true h)
 gone_here p (Unset q m) h = absurd (false≢true h)
 

@@ -31,6 +31,7 @@ use Rattle.jr_tree.proofs.LastWrites.{item_total}
 use Rattle.jr_tree.proofs.Written.{written_among}
 use Rattle.jr_tree.proofs.Undated.{Tree-alike, changes-undated}
 use Rattle.jr_tree.proofs.ChangesLaw.{changes_applied, given, is_keyed, item_ties, keyed_with, put_changed_of, sorted_with, values_read, written_of}
+use Rattle.basics.proofs.Options.{none_tested}
 
 -- ---- what holds of each of a list
 
@@ -89,10 +90,6 @@ names_found ps s = each_found name_cmp nat_list_cmp_total ps s
 
 -- ---- single nodes
 
-nothing : {X : Type 0} (o : Option X) → is_none o ≡ true → o ≡ None
-nothing None h = refl
-nothing (Some x) h = absurd (false≢true h)
-
 none_is : {X : Type 0} (o : Option X) → is_some o ≡ false → is_none o ≡ true
 none_is None h = refl
 none_is (Some x) h = absurd (false≢true (sym h))
@@ -119,7 +116,7 @@ module _ (t u : Nodes) (e : Path × Node) where
   taken_changes there names gone =
       both _ _ (both _ _ (ap is_some there) gone)
       (all_map (is_change t u) (λ n. Unset e.0 n.0) e.1.props
-      (each_more _ _ (λ n h. both _ _ (ap (λ o. is_some (prop_in n.0 o)) there ∙ ap is_some h) (ap (λ o. is_none (prop_in n.0 o)) (nothing (node_at u e.0) gone))) e.1.props (names_found e.1.props names)))
+      (each_more _ _ (λ n h. both _ _ (ap (λ o. is_some (prop_in n.0 o)) there ∙ ap is_some h) (ap (λ o. is_none (prop_in n.0 o)) (none_tested (node_at u e.0) gone))) e.1.props (names_found e.1.props names)))
 
   abbrev old : List (Name × Property)
   old = properties_at t e.0
@@ -230,7 +227,7 @@ module _ (t u : Nodes) (from : IsTree t) (to : IsTree u) where
   unset : (e : Path × Node) → node_at t e.0 ≡ Some e.1 → is_none (node_at u e.0) ≡ true → (n : Name × Property) → lookup (is_at (name_cmp n.0)) e.1.props ≡ Some n.1 → list_any (is_unset_of e.0 n.0) (changes t u) ≡ true
   unset e there away n h = unset_among e.0 n.0 (changes t u)
       (put_changed_of t u from.paths to.paths to.names e.0 n.0
-      ∙ (ap (λ b. option_or (option_and_then (written_of (properties_at t e.0) n.0) b) (option_and_then (gone n.0) (cond (is_none b) (node_at t e.0) None))) (nothing (node_at u e.0) away)
+      ∙ (ap (λ b. option_or (option_and_then (written_of (properties_at t e.0) n.0) b) (option_and_then (gone n.0) (cond (is_none b) (node_at t e.0) None))) (none_tested (node_at u e.0) away)
       ∙ (ap (option_and_then (gone n.0)) there ∙ ap (λ o. cond (is_some o) (Some None) None) h)))
 
   emptied : list_all (is_emptied t (changes t u)) (changes t u) ≡ true

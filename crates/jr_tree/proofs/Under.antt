@@ -24,22 +24,15 @@ use Rattle.std.specs.FinMap.{is_sorted}
 use Rattle.jr_tree.specs.declared.tree.Node.{Node}
 use Rattle.jr_tree.proofs.Entries.{rising, sorted_filter}
 use Rattle.jr_tree.specs.Trees.{Nodes, is_child_of, children_of, subtree_of}
-
-exactly : (o : Ordering) → is_eq o ≡ true → o ≡ Equal
-exactly Less h = absurd (false≢true h)
-exactly Equal h = refl
-exactly Greater h = absurd (false≢true h)
+use Rattle.basics.proofs.Orders.{equal_of}
+use Rattle.basics.proofs.Bools.{and_never}
 
 and-true : (b : Bool) → (b && true) ≡ b
 and-true true = refl
 and-true false = refl
 
-and-false : (b : Bool) → (b && false) ≡ false
-and-false true = refl
-and-false false = refl
-
 path_at : (p q : Path) → eq_by_cmp path_cmp p q ≡ true → p ≡ q
-path_at p q h = path_exact p q (exactly _ h)
+path_at p q h = path_exact p q (equal_of _ h)
 
 -- what stands between a path and something under it is under it
 pub under_between : (p q r : Path) → is_le (path_cmp p q) ≡ true → is_le (path_cmp q r) ≡ true → is_under r p ≡ true → is_under q p ≡ true
@@ -48,7 +41,7 @@ under_between (x ∷ p) [] r above below h = absurd (false≢true above)
 under_between (x ∷ p) (y ∷ q) [] above below h = absurd (false≢true h)
 under_between (x ∷ p) (y ∷ q) (z ∷ r) above below h =
     let parts : (eq_by_cmp name_cmp x z ≡ true) × (is_under r p ≡ true) = and_parts _ _ h in
-    let same : x ≡ z = name_exact x z (exactly _ parts.0) in
+    let same : x ≡ z = name_exact x z (equal_of _ parts.0) in
     let back : name_cmp y z ≡ ordering_reverse (name_cmp x y) = ap (name_cmp y) (sym same) ∙ nat_list_cmp_total.antisymm y x in
     by (name_cmp x y) above (ap (λ o. is_le (ordering_then o (path_cmp q r))) (sym back) ∙ below) (λ a b. under_between p q r a b parts.1)
   where
@@ -80,7 +73,7 @@ above_is p q n fits = by (nat_eq n (length p)) refl
         sym (lists_ties name_cmp (λ x y. refl) p (take n q)) ∙ (ap (λ k. pointwise (eq_by_cmp name_cmp) p (take k q)) same ∙ sym (and-true (is_under q p)))
     by false e =
         let apart : n ≡ length p → ⊥ = eqb-false n (length p) e in
-        false_from_ne_true _ (λ h. apart (sym (length-take-le n q fits) ∙ ap length (sym (path_at p (take n q) h)))) ∙ sym (and-false (is_under q p))
+        false_from_ne_true _ (λ h. apart (sym (length-take-le n q fits) ∙ ap length (sym (path_at p (take n q) h)))) ∙ sym (and_never (is_under q p))
 
 -- a child is under its parent and one name longer
 pub child_is : (p q : Path) → (length q ≡ 0 → ⊥) → is_child_of p q ≡ (is_under q p && nat_eq (length q - 1) (length p))

@@ -14,26 +14,24 @@ use Rattle.jr_tree.specs.declared.edit.Write.TheVariants.{Here, Gone, Put, Unset
 use Rattle.jr_tree.specs.Edits.{is_same_item, item_of, item_cmp, last_writes}
 use Rattle.jr_tree.specs.Items.{here_of, put_of, written}
 use Rattle.jr_tree.proofs.LastWrites.{item_total, same_is, none_tied, both_tied, apart_less, apart_greater}
+use Rattle.basics.proofs.Options.{some_if}
+pub use Rattle.basics.proofs.Options.{none_of as none_from}
 
 -- a reading gives something exactly at the writes of an item
 abbrev pub Reads : {X : Type 0} → Item → (Write → Option X) → Type 0
 Reads i f = (w : Write) → is_some (f w) ≡ eq_by_cmp item_cmp i (item_of w)
 
-given : {X : Type 0} (b : Bool) (x : X) → is_some (cond b (Some x) None) ≡ b
-given true x = refl
-given false x = refl
-
 pub here_reads : (p : Path) → Reads (record { path = p; name = None }) (here_of p)
-here_reads p (Here q) = given (eq_by_cmp path_cmp p q) true ∙ none_tied (path_cmp p q)
-here_reads p (Gone q) = given (eq_by_cmp path_cmp p q) false ∙ none_tied (path_cmp p q)
+here_reads p (Here q) = some_if (eq_by_cmp path_cmp p q) true ∙ none_tied (path_cmp p q)
+here_reads p (Gone q) = some_if (eq_by_cmp path_cmp p q) false ∙ none_tied (path_cmp p q)
 here_reads p (Put q m x) = apart_less (path_cmp p q)
 here_reads p (Unset q m) = apart_less (path_cmp p q)
 
 pub put_reads : (p : Path) (n : Name) → Reads (record { path = p; name = Some n }) (put_of p n)
 put_reads p n (Here q) = apart_greater (path_cmp p q)
 put_reads p n (Gone q) = apart_greater (path_cmp p q)
-put_reads p n (Put q m x) = given (eq_by_cmp path_cmp p q && eq_by_cmp name_cmp n m) (Some x) ∙ both_tied (path_cmp p q) (name_cmp n m)
-put_reads p n (Unset q m) = given (eq_by_cmp path_cmp p q && eq_by_cmp name_cmp n m) None ∙ both_tied (path_cmp p q) (name_cmp n m)
+put_reads p n (Put q m x) = some_if (eq_by_cmp path_cmp p q && eq_by_cmp name_cmp n m) (Some x) ∙ both_tied (path_cmp p q) (name_cmp n m)
+put_reads p n (Unset q m) = some_if (eq_by_cmp path_cmp p q && eq_by_cmp name_cmp n m) None ∙ both_tied (path_cmp p q) (name_cmp n m)
 
 -- where a reading gives something, a write of the same item is one where it does
 one_item : {X : Type 0} (i : Item) (f : Write → Option X) → Reads i f → (w v : Write) → is_some (f w) ≡ true → is_same_item w v ≡ is_some (f v)
@@ -52,10 +50,6 @@ written_among i f reads w (v ∷ ws) h = (λ k. one_item i f reads w v h k || wr
 pub or_none : {X : Type 0} (o : Option X) → option_or o None ≡ o
 or_none None = refl
 or_none (Some x) = refl
-
-pub none_from : {X : Type 0} (o : Option X) → is_some o ≡ false → o ≡ None
-none_from None h = refl
-none_from (Some x) h = absurd (false≢true (sym h))
 
 -- a write of an item that is written again doesn't count
 overwritten : {X : Type 0} (o r : Option X) → (is_some r ≡ true → is_some o ≡ true) → option_or o r ≡ o

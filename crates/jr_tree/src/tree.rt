@@ -1,8 +1,9 @@
 // Trees: a node for each path, and a property for each name of a node.
-ghost use Rattle.std.specs.Prelude.{◌≡◌, [], IfOk, IsTrue, None, cond, is_some, length, map};
+ghost use Rattle.std.specs.Prelude.{◌≡◌, [], IfOk, IsTrue, None, Some, cond, is_some, length, map};
 ghost use Rattle.std.specs.Option.{option_copied};
 ghost use Rattle.std.specs.FinMap.{is_sorted};
 ghost use Rattle.std.specs.Map.Iter.{deref_pair};
+ghost use Rattle.jr_path.specs.Grammar.{IsName};
 ghost use Rattle.jr_path.specs.Names.{last_name, path_cmp};
 ghost use Rattle.jr_tree.specs.Trees.{node_at, property_at, node_of_type, typed_node, first_revision, initial_tree, is_child_of, children_of, subtree_of};
 
@@ -37,7 +38,8 @@ impl Model for Tree {
 
     ghost use Rattle.std.specs.Prelude.{IsTrue};
     ghost use Rattle.std.specs.FinMap.{is_sorted};
-    ghost use Rattle.jr_path.specs.Names.{path_cmp};
+    ghost use Rattle.jr_path.specs.Grammar.{IsName};
+ghost use Rattle.jr_path.specs.Names.{path_cmp};
 
     ghost invariant = { λ a. IsTrue (is_sorted path_cmp a.nodes) };
 }
@@ -55,22 +57,30 @@ impl Node {
     }
 
     /// A pending node with its primary type (JSR 283, 3.7 Node Types), and no other property.
-    pub fn of_type(alloc: Global, name: &str) -> Result<Node, AllocError>
-        ensures { IfOk result (λ node. node ≡ node_of_type name.now) }
+    pub fn of_type(alloc: Global, kind: Name) -> Result<Node, AllocError>
+        ensures { IfOk result (λ node. node ≡ node_of_type kind) }
     {
-        typed_node(alloc, name, None)
+        typed_node(alloc, kind, None)
     }
 }
 
 // A node with its primary type, and no other property, that a revision added.
-fn typed_node(alloc: Global, name: &str, born: Option<Revision>) -> Result<Node, AllocError>
-    ensures { IfOk result (λ node. node ≡ typed_node born name.now) }
+fn typed_node(alloc: Global, kind: Name, born: Option<Revision>) -> Result<Node, AllocError>
+    ensures { IfOk result (λ node. node ≡ typed_node born kind) }
 {
+    let key = Name::of(alloc, "jcr:primaryType")?;
     let mut props = Keyed::new(alloc);
-    let key = plain_name(alloc, "jcr:primaryType")?;
-    let value = Value::Name(plain_name(alloc, name)?);
-    props.put(key, Property::Single(value))?;
+    props.put(key, Property::Single(Value::Name(kind)))?;
     Ok(Node { props, born })
+}
+
+// A node that is there before any commit, with its primary type.
+fn first_node(alloc: Global, kind: &str) -> Result<Node, AllocError>
+    requires { IsName kind.now }
+    ensures { IfOk result (λ node. node ≡ typed_node (Some first_revision) kind.now) }
+{
+    let kind = Name::of(alloc, kind)?;
+    typed_node(alloc, kind, Some(first_revision()))
 }
 
 // The revision that added what is there before any commit.
@@ -81,16 +91,6 @@ fn first_revision() -> Revision
         time: 0,
         counter: 0,
         cluster: 1,
-    }
-}
-
-// A name of the repository's own, which is in the grammar of names.
-pub(crate) fn plain_name(alloc: Global, text: &str) -> Result<Name, AllocError>
-    ensures { IfOk result (λ name. name ≡ text.now) }
-{
-    match Name::parse(alloc, text) {
-        Ok(name) => Ok(name),
-        Err(_) => Err(AllocError),
     }
 }
 
@@ -121,13 +121,12 @@ impl Tree {
         ensures { IfOk result (λ tree. tree ≡ initial_tree) }
     {
         let root = Path::root(alloc);
-        let system = root.child(&plain_name(alloc, "jcr:system")?)?;
-        let versions = system.child(&plain_name(alloc, "jcr:versionStorage")?)?;
-        let born = Some(first_revision());
+        let system = root.child(&Name::of(alloc, "jcr:system")?)?;
+        let versions = system.child(&Name::of(alloc, "jcr:versionStorage")?)?;
         let mut nodes = Keyed::new(alloc);
-        nodes.put(root, typed_node(alloc, "nt:unstructured", born)?)?;
-        nodes.put(system, typed_node(alloc, "rep:system", born)?)?;
-        nodes.put(versions, typed_node(alloc, "rep:versionStorage", born)?)?;
+        nodes.put(root, first_node(alloc, "nt:unstructured")?)?;
+        nodes.put(system, first_node(alloc, "rep:system")?)?;
+        nodes.put(versions, first_node(alloc, "rep:versionStorage")?)?;
         Ok(Tree { alloc, nodes })
     }
 

@@ -1,11 +1,11 @@
 // The changes of a document.
 ghost use Rattle.std.specs.Prelude.{◌≡◌, OnOk, not, nat_eq, ◌==◌, length, filter, fold};
 ghost use Rattle.oak_doc.specs.Updates.{changed, pruned, undone, with_values, with_revision, without_revision, values_of_property, props_without_revision};
-ghost use Rattle.oak_doc.specs.declared.update.Change.TheVariants.{Undo};
+ghost use Rattle.oak_doc.specs.declared.update.Change.TheVariants.{Collision, Prop, Undo, List as Listed, Checkpoint, Attach};
 
 use crate::{Change, Document, EntryKey, Field, PrevEntry};
-use jr_path::{DeepCopy, Keyed, List, Name};
-use jr_rev::Revision;
+use jr_path::{DeepCopy, Item, Keyed, List, Name, Text};
+use jr_rev::{Pin, Revision};
 use jr_value::Property;
 use std::alloc::{AllocError, Global};
 
@@ -31,49 +31,101 @@ pub(crate) fn apply_change(
     ensures { OnOk result (document.new ≡ changed document.old change.now) }
 {
     match change {
-        Change::Deleted(r, gone) => {
-            document.deleted.put(*r, *gone)?;
+        Change::Deleted(r, gone) => document.deleted.put(*r, *gone),
+        Change::CommitRoot(r, depth) => document.commit_root.put(*r, *depth),
+        Change::Revisions(r) => document.revisions.put(*r, ()),
+        Change::Collision(other, r, item) => note_collision(document, *other, *r, item),
+        Change::Touched(r) => document.touched.put(*r, ()),
+        Change::Guard(r) => document.guard.put(*r, ()),
+        Change::Prop(name, r, value) => put_copy(alloc, document, name, *r, value),
+        Change::Undo(r) => {
+            drop_revision(document, r);
+            Ok(())
         }
-        Change::CommitRoot(r, depth) => {
-            document.commit_root.put(*r, *depth)?;
+        Change::Prune(keys) => {
+            drop_entries(document, keys);
+            Ok(())
         }
-        Change::Revisions(r) => {
-            document.revisions.put(*r, ())?;
+        Change::List(entry) => list_first(document, *entry),
+        Change::Unlist(number) => {
+            unlist(&mut document.prev, *number);
+            Ok(())
         }
-        Change::Collision(other, r, item) => {
-            if !document.collisions.contains(other) {
-                document.collisions.put(*other, (*r, item.copy()?))?;
-            }
+        Change::LastRev(r) => {
+            document.last_rev.raise(*r);
+            Ok(())
         }
-        Change::Touched(r) => {
-            document.touched.put(*r, ())?;
+        Change::SweepRev(r) => {
+            document.sweep_rev.raise(*r);
+            Ok(())
         }
-        Change::Guard(r) => {
-            document.guard.put(*r, ())?;
+        Change::Checkpoint(id, pin) => keep_checkpoint(document, id, *pin),
+        Change::Release(id) => {
+            document.checkpoints.remove(id);
+            Ok(())
         }
-        Change::Prop(name, r, value) => {
-            put_value(alloc, &mut document.props, name, *r, value.copy()?)?;
+        Change::Attach(session, id) => attach(document, *session, id),
+        Change::Detach(session) => {
+            document.readers.remove(session);
+            Ok(())
         }
-        Change::Undo(r) => drop_revision(document, r),
-        Change::Prune(keys) => drop_entries(document, keys),
-        Change::List(entry) => {
-            document.prev.inner_mut().insert(0, *entry)?;
-        }
-        Change::Unlist(number) => unlist(&mut document.prev, *number),
-        Change::LastRev(r) => document.last_rev.raise(*r),
-        Change::SweepRev(r) => document.sweep_rev.raise(*r),
-        Change::Checkpoint(id, pin) => {
-            document.checkpoints.put(id.copy()?, *pin)?;
-        }
-        Change::Release(id) => document.checkpoints.remove(id),
-        Change::Attach(session, id) => {
-            if let Some(pin) = document.checkpoints.get(id) {
-                document.readers.put(*session, *pin)?;
-            }
-        }
-        Change::Detach(session) => document.readers.remove(session),
     }
+}
+
+// Notes that the revision clashes with the other one in the item, unless the other has a note.
+fn note_collision(
+    document: &mut Document,
+    other: Revision,
+    r: Revision,
+    item: &Item,
+) -> Result<(), AllocError>
+    ensures { OnOk result (document.new ≡ changed document.old (Collision other r item.now)) }
+{
+    if document.collisions.contains(&other) {
+        return Ok(());
+    }
+    let item = item.copy()?;
+    document.collisions.put(other, (r, item))
+}
+
+// Puts a copy of a property's value at a revision.
+fn put_copy(
+    alloc: Global,
+    document: &mut Document,
+    name: &Name,
+    r: Revision,
+    value: &Option<Property>,
+) -> Result<(), AllocError>
+    ensures { OnOk result (document.new ≡ changed document.old (Prop name.now r value.now)) }
+{
+    let value = value.copy()?;
+    put_value(alloc, &mut document.props, name, r, value)
+}
+
+// Lists a previous document before those that are listed.
+fn list_first(document: &mut Document, entry: PrevEntry) -> Result<(), AllocError>
+    ensures { OnOk result (document.new ≡ changed document.old (Listed entry)) }
+{
+    document.prev.inner_mut().insert(0, entry)?;
     Ok(())
+}
+
+// Keeps a checkpoint under a copy of its id.
+fn keep_checkpoint(document: &mut Document, id: &Text, pin: Pin) -> Result<(), AllocError>
+    ensures { OnOk result (document.new ≡ changed document.old (Checkpoint id.now pin)) }
+{
+    let id = id.copy()?;
+    document.checkpoints.put(id, pin)
+}
+
+// Copies the checkpoint of an id, where there is one, under the session's number.
+fn attach(document: &mut Document, session: u32, id: &Text) -> Result<(), AllocError>
+    ensures { OnOk result (document.new ≡ changed document.old (Attach session id.now)) }
+{
+    match document.checkpoints.get(id) {
+        Some(pin) => document.readers.put(session, *pin),
+        None => Ok(()),
+    }
 }
 
 // Takes the previous document of a number from the list.

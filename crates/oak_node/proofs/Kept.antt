@@ -27,9 +27,9 @@ start_own : (o : Option Revision) (k : ℕ) → IsSomeAnd o (λ e. e.cluster ≡
 start_own None k h = absurd h
 start_own (Some e) k h = (refl, h)
 
-pub start_memory : (s : NodeState) → 1 ≤ s.cluster → s.cluster ≤ 8 → IsSomeAnd (entry s.head s.cluster) (λ e. e.cluster ≡ s.cluster) → s.above ≡ [] → s.pins ≡ [] → IsMemory s
+pub start_memory : (s : NodeState) → 1 ≤ s.cluster → s.cluster ≤ 8 → IsSomeAnd (entry s.head s.cluster) (λ e. e.cluster ≡ s.cluster) → s.above ≡ [] → s.pins ≡ [] → (s.recovered ≡ true → s.stopped ≡ true) → IsMemory s
 unfolding IsStrictlySortedBy
-start_memory s low high has above pins =
+start_memory s low high has above pins stop =
     let own = start_own (entry s.head s.cluster) s.cluster has in
     record {
       low = low;
@@ -41,6 +41,7 @@ start_memory s low high has above pins =
       of_node = subst (λ (ds : List Drawn). All (λ d. d.revision.cluster ≡ s.cluster) ds) (sym above) (All-nil (λ d. d.revision.cluster ≡ s.cluster));
       times = subst (λ (ds : List Drawn). All (λ d. d.revision.time ≤ s.last_time) ds) (sym above) (All-nil (λ d. d.revision.time ≤ s.last_time));
       owners = subst (λ (ps : List (ℕ × Pin)). IsStrictlySortedBy nat_cmp (keys_of ps)) (sym pins) tt;
+      stop = stop;
     }
 
 -- ---- a draw
@@ -81,6 +82,7 @@ draw_memory s q above is later node grown =
       of_node = subst (λ (ds : List Drawn). All (λ d. d.revision.cluster ≡ s.cluster) ds) (sym grown) (All-push (λ d. d.revision.cluster ≡ s.cluster) s.above drawn is.of_node node);
       times = subst (λ (ds : List Drawn). All (λ d. d.revision.time ≤ q.time) ds) (sym grown) (All-push (λ d. d.revision.time ≤ q.time) s.above drawn (All-weaker (λ d. d.revision.time ≤ s.last_time) (λ d. d.revision.time ≤ q.time) (λ d h. omega arith) s.above is.times) (omega arith));
       owners = is.owners;
+      stop = is.stop;
     }
 
 -- ---- an end
@@ -118,6 +120,7 @@ finish_memory s r l head above is local_is head_is above_is =
       of_node = subst (λ (xs : List Drawn). All (λ d. d.revision.cluster ≡ s.cluster) xs) (sym above_is) (All-filter (λ d. is_before l d.revision) (λ d. d.revision.cluster ≡ s.cluster) ds (All-with_end (λ q. q.cluster ≡ s.cluster) s.above r is.of_node));
       times = subst (λ (xs : List Drawn). All (λ d. d.revision.time ≤ s.last_time) xs) (sym above_is) (All-filter (λ d. is_before l d.revision) (λ d. d.revision.time ≤ s.last_time) ds (All-with_end (λ q. q.time ≤ s.last_time) s.above r is.times));
       owners = is.owners;
+      stop = is.stop;
     }
 
 -- where the own entry did not rise, the head is as it was
@@ -140,4 +143,5 @@ pins_memory s pins after is same sorted = record {
   of_node = is.of_node;
   times = is.times;
   owners = subst (λ (ps : List (ℕ × Pin)). IsStrictlySortedBy nat_cmp (keys_of ps)) (sym same) sorted;
+  stop = is.stop;
 }

@@ -35,7 +35,7 @@ drawn_at ds o there =
     let within : there.0 < length ds = omega (arith, there.1, length-map ds (λ (d : Drawn). d.revision)) in
     (get_or ds there.0 none, (there.0, within, get_or_default ds there.0 (get_or ds there.0 none) none within), sym (get_or-map (λ (d : Drawn). d.revision) ds there.0 none o within) ∙ there.2)
 
-revision_at : (ds : List Drawn) (d : Drawn) → Contains ds d → Contains (revisions_in ds) d.revision
+pub revision_at : (ds : List Drawn) (d : Drawn) → Contains ds d → Contains (revisions_in ds) d.revision
 revision_at ds d there =
     (there.0, omega (arith, there.1, length-map ds (λ (x : Drawn). x.revision)), get_or-map (λ (x : Drawn). x.revision) ds there.0 d d.revision there.1 ∙ ap (λ (x : Drawn). x.revision) there.2)
 
@@ -194,7 +194,7 @@ learned_own s v w is =
     let there : entry (greatest s.head v) s.cluster ≡ Some some.0 = entry-greatest s.head v s.cluster ∙ (ap (λ o. greater_entry o (entry v s.cluster)) is.own ∙ some.1) in
     entry-with_entry (greatest s.head v) s.cluster some.0 (own_entry s) there is.own_node ∙ sym is.own
 
-entry-with_other : (v : Entries) (r : Revision) (k : ℕ) → 1 ≤ r.cluster → k ≢ r.cluster → entry (with_entry v r) k ≡ entry v k
+pub entry-with_other : (v : Entries) (r : Revision) (k : ℕ) → 1 ≤ r.cluster → k ≢ r.cluster → entry (with_entry v r) k ≡ entry v k
 entry-with_other v r zero low other = refl
 entry-with_other v r (suc k) low other =
     let apart : k ≢ r.cluster - 1 = omega arith in

@@ -11,4 +11,6 @@ state_of m = record {
   above = m.above.items;
   pins = m.pins.items;
   notes = m.notes.items;
+  stopped = m.stopped;
+  recovered = m.recovered;
 }

@@ -38,6 +38,10 @@ HasEnded s r = (r.cluster ≡ s.cluster) × (IsTrue (is_at_most r (own_entry s))
 
 -- ---- the head's own entry
 
+-- the last of the drawn revisions, or else e
+abbrev pub last_drawn : Revision → List Drawn → Revision
+last_drawn e drawn = fold (λ last d. d.revision) e drawn
+
 abbrev pub greater_of : Revision → Revision → Revision
 greater_of a b = cond (is_before a b) b a
 

@@ -1,7 +1,7 @@
-pub mod Examples
 pub mod Fields
 pub mod Heads
 pub mod Memory
 pub mod Notes
 pub mod Pins
 pub mod Seen
+pub mod Stops

@@ -1,5 +1,5 @@
 -- What a cluster node keeps in its memory.
-use Rattle.std.specs.Prelude.{◌≡◌, ℕ, ◌≤◌, Bool, true, not, List, [], ◌∷◌, map, All, Some, unwrap_or, IsTrue}
+use Rattle.std.specs.Prelude.{◌≡◌, ℕ, ◌≤◌, Bool, true, false, not, List, [], ◌∷◌, map, All, Some, unwrap_or, IsTrue}
 use Rattle.std.specs.List.Sorted.{IsStrictlySortedBy}
 use Rattle.std.specs.Map.{keys_of}
 use Rattle.std.specs.Ordering.{nat_cmp}
@@ -12,7 +12,8 @@ use Rattle.oak_node.specs.declared.pending.Note.{Note}
 
 -- a cluster node's number; its head; the sweep vector; the time of its last draw, 0 before the
 -- first; the revisions that it drew above its head's own entry, ascending; the pins by their
--- owners, ascending; the noted paths, the first first
+-- owners, ascending; the noted paths, the first first; whether the node was stopped, and whether its
+-- memory was recovered
 pub record NodeState : Type 0 where
   pub cluster : ℕ
   pub head : Entries
@@ -21,8 +22,11 @@ pub record NodeState : Type 0 where
   pub above : List Drawn
   pub pins : List (ℕ × Pin)
   pub notes : List Note
+  pub stopped : Bool
+  pub recovered : Bool
 
--- a memory that has drawn, pinned and noted nothing, with this vector as its head and sweep vector
+-- the memory of a running node that has drawn, pinned and noted nothing, with this vector as its head
+-- and sweep vector
 abbrev pub begun : ℕ → Entries → NodeState
 begun cluster start = record {
   cluster = cluster;
@@ -32,6 +36,8 @@ begun cluster start = record {
   above = [];
   pins = [];
   notes = [];
+  stopped = false;
+  recovered = false;
 }
 
 -- the head's entry of the node itself
@@ -48,7 +54,7 @@ begins_in_flight (d ∷ ds) = not d.ended
 
 -- what is true of each memory: the node has a number from 1 to 8, and an entry in its head; what it
 -- drew above that entry is of this node, rises from there and begins with one in flight, and no
--- draw is later than the last; no owner has two pins
+-- draw is later than the last; no owner has two pins; a node that was recovered was stopped
 pub record IsMemory (s : NodeState) : Type 0 where
   pub low : 1 ≤ s.cluster
   pub high : s.cluster ≤ 8
@@ -59,3 +65,4 @@ pub record IsMemory (s : NodeState) : Type 0 where
   pub of_node : All (λ d. d.revision.cluster ≡ s.cluster) s.above
   pub times : All (λ d. d.revision.time ≤ s.last_time) s.above
   pub owners : IsStrictlySortedBy nat_cmp (keys_of s.pins)
+  pub stop : IsTrue s.recovered → IsTrue s.stopped

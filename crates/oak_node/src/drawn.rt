@@ -3,7 +3,7 @@ ghost use Rattle.std.specs.Prelude.{◌≡◌, ◌∷◌, filter};
 ghost use Rattle.std.specs.List.Sorted.{IsStrictlySortedBy};
 ghost use Rattle.jr_rev.specs.Revisions.{revision_cmp, is_before};
 ghost use Rattle.oak_node.specs.Memory.{revisions_in};
-ghost use Rattle.oak_node.specs.Heads.{with_end, local_from};
+ghost use Rattle.oak_node.specs.Heads.{with_end, local_from, last_drawn};
 
 use jr_rev::Revision;
 
@@ -52,4 +52,14 @@ fn local(own: Revision, drawn: &[Drawn]) -> Revision
         local = d.revision;
     }
     local
+}
+
+// The last of the drawn revisions, or else `own`.
+pub(crate) fn last(own: Revision, drawn: &[Drawn]) -> Revision
+    ensures { result ≡ last_drawn own drawn.now }
+{
+    match drawn.last() {
+        Some(last) => last.revision,
+        None => own,
+    }
 }

@@ -1,9 +1,11 @@
 // What the definitions of the calls mean, in the words of the protocol.
-ghost use Rattle.std.specs.Prelude.{◌≡◌, ◌≢◌, ℕ, ◌≤◌, ◌↔◌, ◌∷◌, Contains, IsTrue};
+ghost use Rattle.std.specs.Prelude.{◌≡◌, ◌≢◌, ℕ, ◌≤◌, ◌↔◌, ◌∷◌, None, Contains, IsTrue};
 ghost use Rattle.jr_rev.specs.Revisions.{is_before};
 ghost use Rattle.jr_rev.specs.Vectors.{Entries, entry, sees, is_below, greater_entry};
 ghost use Rattle.oak_node.specs.Memory.{NodeState, IsMemory, own_entry, revisions_in};
 ghost use Rattle.oak_node.specs.Heads.{next_draw, IsInFlight, finished, IsLocal, learned};
+ghost use Rattle.oak_node.specs.Pins.{pin_of};
+ghost use Rattle.oak_node.specs.Stops.{with_recovery, IsGreatestDrawn};
 
 /// The rule of heads: once a revision has ended, the head's own entry is the greatest revision that
 /// the node drew (of its entry before and those above) below every one in flight. In flight are
@@ -36,4 +38,18 @@ pub fn others_are_learned()
         entry (learned s v w).sweep k ≡ greater_entry (entry s.sweep k) (entry w k) }
     ensures rising { (s : NodeState) (v w : Entries) →
         IsMemory s → IsTrue (is_below s.head (learned s v w).head) }
+{}
+
+/// A recovered node has no pin and no draw in flight. Its head's own entry is the greatest revision
+/// that it drew (of its entry before and those above); the other entries are as they were, and the
+/// node stays stopped.
+pub fn recovery_ends_all()
+    ensures pins { (s : NodeState) (owner : ℕ) → pin_of (with_recovery s) owner ≡ None }
+    ensures flying { (s : NodeState) (q : _) →
+        IsMemory s → ¬ IsInFlight (with_recovery s) q }
+    ensures own { (s : NodeState) → IsMemory s →
+        IsGreatestDrawn (own_entry s ∷ revisions_in s.above) (own_entry (with_recovery s)) }
+    ensures others { (s : NodeState) (k : ℕ) → IsMemory s → k ≢ s.cluster →
+        entry (with_recovery s).head k ≡ entry s.head k }
+    ensures stays { (s : NodeState) → IsMemory s → (with_recovery s).stopped ≡ s.stopped }
 {}

@@ -1,5 +1,5 @@
 //! The memory of one cluster node: its head, the revisions that it drew, its pins, and the paths
-//! that it has still to publish.
+//! that it has still to publish. A node that is stopped is recovered by another.
 //!
 //! Oak, DocumentNodeStore: "Revisions", "Background operations". A cluster node draws the revisions
 //! of its commits, and publishes the changed paths (`_lastRev`) in the background.
@@ -11,6 +11,6 @@ mod memory;
 mod pending;
 mod pins;
 
-pub use laws::{draws_rise, others_are_learned, rule_of_heads};
+pub use laws::{draws_rise, others_are_learned, recovery_ends_all, rule_of_heads};
 pub use memory::{Awaits, NodeMem};
 pub use pending::Pending;

@@ -1,5 +1,5 @@
 // The memory of one cluster node.
-ghost use Rattle.std.specs.Prelude.{◌≡◌, ◌-◌, ◌^◌, ◌<◌, ◌≤◌, IfOk, OnOk, OnErr, IsOk, IsSome, IsSomeAnd};
+ghost use Rattle.std.specs.Prelude.{◌≡◌, ◌-◌, ◌^◌, ◌<◌, ◌≤◌, IfOk, OnOk, OnErr, IsOk, IsSome, IsSomeAnd, IsTrue};
 ghost use Rattle.std.specs.Bool.{OnFalse};
 ghost use Rattle.jr_rev.specs.Revisions.{is_before};
 ghost use Rattle.jr_rev.specs.Vectors.{entry, start_of};
@@ -8,11 +8,12 @@ ghost use Rattle.oak_node.specs.Heads.{greatest_time, known_time, next_draw, wit
 ghost use Rattle.oak_node.specs.Heads.{IsInFlight, HasEnded, IsAwaited};
 ghost use Rattle.oak_node.specs.Pins.{pin_of, pin_now, with_pin, without_pin};
 ghost use Rattle.oak_node.specs.Notes.{with_note, with_notes, without_seen, IsPending};
+ghost use Rattle.oak_node.specs.Stops.{with_stop, with_recovery};
 
-use crate::drawn::{Drawn, settle};
-use crate::pending::{Note, Pending, due_paths, put_notes};
+use crate::drawn::{Drawn, last, settle};
+use crate::pending::{Note, Pending, due_paths, put_note, put_notes};
 use crate::pins;
-use jr_path::{DeepCopy, List, Path};
+use jr_path::{List, Path};
 use jr_rev::{Pin, RevVec, Revision};
 use std::alloc::{AllocError, Global};
 use std::marker::Model;
@@ -30,8 +31,8 @@ pub enum Awaits {
 /// operations").
 ///
 /// Its number, 1 to 8; its head, a revision vector; the sweep vector; the time of its last draw;
-/// the revisions that it drew above its head's own entry; the pins, one for an owner; and the paths
-/// that it noted to be published.
+/// the revisions that it drew above its head's own entry; the pins, one for an owner; the paths
+/// that it noted to be published; whether the node was stopped, and its memory recovered.
 #[derive(Drop)]
 pub struct NodeMem {
     cluster: u32,
@@ -41,6 +42,8 @@ pub struct NodeMem {
     above: Vec<Drawn>,
     pins: Vec<(u32, Pin)>,
     notes: Vec<Note>,
+    stopped: bool,
+    recovered: bool,
 }
 
 impl Model for NodeMem {
@@ -57,8 +60,8 @@ impl Model for NodeMem {
 
 impl NodeMem {
     /// A cluster node's memory at its start: the vector is its head and its sweep vector, and it
-    /// has drawn, noted and pinned nothing. The node's number is 1 to 8, and the vector has an
-    /// entry for it. It takes no memory.
+    /// has drawn, noted and pinned nothing, and runs. The node's number is 1 to 8, and the vector
+    /// has an entry for it. It takes no memory.
     pub fn new(alloc: Global, cluster: u32, start: RevVec) -> NodeMem
         requires node { 1 ≤ cluster × cluster ≤ 8 }
         requires entry { IsSomeAnd (entry start cluster) (λ own. own.cluster ≡ cluster) }
@@ -72,6 +75,8 @@ impl NodeMem {
             above: Vec::new(alloc),
             pins: Vec::new(alloc),
             notes: Vec::new(alloc),
+            stopped: false,
+            recovered: false,
         }
     }
 
@@ -88,28 +93,6 @@ impl NodeMem {
         }
     }
 
-    /// Draws a revision, as `draw` does, and notes the paths with it. Where memory is refused nothing changes.
-    pub fn draw_noting(&mut self, paths: &[Path]) -> Result<Revision, AllocError>
-        requires { known_time self.old < 2 ^ 64 - 1 }
-        ensures drawn { IfOk result (λ r. r ≡ next_draw self.old) }
-        ensures ok { OnOk result (self.new ≡ with_notes (next_draw self.old) (with_draw self.old (next_draw self.old)) paths.now) }
-        ensures err { OnErr result (self.new ≡ self.old) }
-    {
-        let revision = self.next_draw();
-        let noted = self.notes.len();
-        put_notes(&mut self.notes, paths, revision)?;
-        let drawn = Drawn {
-            revision,
-            ended: false,
-        };
-        if self.above.push(drawn).is_err() {
-            self.notes.truncate(noted);
-            return Err(AllocError);
-        }
-        self.last_time = revision.time;
-        Ok(revision)
-    }
-
     /// Draws a revision of this node, which is in flight from then on. Its time is one more than
     /// the greatest that the node knows, of its head and of its last draw, and its counter is 0.
     pub fn draw(&mut self) -> Result<Revision, AllocError>
@@ -118,17 +101,31 @@ impl NodeMem {
         ensures ok { OnOk result (self.new ≡ with_draw self.old (next_draw self.old)) }
         ensures err { OnErr result (self.new ≡ self.old) }
     {
-        let time = greatest_time(&self.head).max(self.last_time) + 1;
-        let revision = Revision {
-            time,
-            counter: 0,
-            cluster: self.cluster,
-        };
+        let revision = self.next_draw();
         self.above.push(Drawn {
             revision,
             ended: false,
         })?;
-        self.last_time = time;
+        self.last_time = revision.time;
+        Ok(revision)
+    }
+
+    /// Draws a revision, as `draw` does, and notes the paths with it. Where memory is refused
+    /// nothing changes.
+    pub fn draw_noting(&mut self, paths: &[Path]) -> Result<Revision, AllocError>
+        requires { known_time self.old < 2 ^ 64 - 1 }
+        ensures drawn { IfOk result (λ r. r ≡ next_draw self.old) }
+        ensures ok { OnOk result (self.new
+            ≡ with_notes (next_draw self.old) (with_draw self.old (next_draw self.old)) paths.now) }
+        ensures err { OnErr result (self.new ≡ self.old) }
+    {
+        let noted = self.notes.len();
+        let revision = self.next_draw();
+        put_notes(&mut self.notes, paths, revision)?;
+        if self.draw().is_err() {
+            self.notes.truncate(noted);
+            return Err(AllocError);
+        }
         Ok(revision)
     }
 
@@ -170,12 +167,21 @@ impl NodeMem {
         ensures err { OnErr result (self.new ≡ self.old) }
         ensures kept { IsSome (pin_of self.old owner) → IsOk result }
     {
-        let pin = Pin {
-            base: self.head,
-            sweep: self.sweep,
-        };
+        let pin = self.pin_now();
         pins::put(&mut self.pins, owner, &pin)?;
         Ok(pin)
+    }
+
+    /// Moves the pin of an owner that has one to the head with the sweep vector. It takes no
+    /// memory.
+    pub fn repin(&mut self, owner: u32) -> Pin
+        requires { IsSome (pin_of self.old owner) }
+        ensures pin { result ≡ pin_now self.old }
+        ensures memory { self.new ≡ with_pin self.old owner (pin_now self.old) }
+    {
+        let pin = self.pin_now();
+        pins::replace(&mut self.pins, owner, &pin);
+        pin
     }
 
     /// Sets the owner's pin to that of the other, which has one. It takes no memory where the owner
@@ -233,11 +239,7 @@ impl NodeMem {
         ensures ok { OnOk result (self.new ≡ with_note self.old path.now r) }
         ensures err { OnErr result (self.new ≡ self.old) }
     {
-        self.notes.push(Note {
-            path: path.copy()?,
-            revision: r,
-        })?;
-        Ok(())
+        put_note(&mut self.notes, path, r)
     }
 
     /// Takes the noted paths whose revision the head sees, those of refused commits among them,
@@ -266,6 +268,51 @@ impl NodeMem {
         self.head = self.head.max_with(last_revisions);
         self.head.set(own);
         self.sweep = self.sweep.max_with(sweep);
+    }
+
+    /// Stops the node: it takes no further part, and stays stopped. It takes no memory.
+    pub fn stop(&mut self)
+        ensures { self.new ≡ with_stop self.old }
+    {
+        self.stopped = true;
+    }
+
+    /// Whether the node was stopped.
+    pub fn is_stopped(&self) -> bool
+        ensures { result ≡ self.now.stopped }
+    {
+        self.stopped
+    }
+
+    /// What a recovery by another node does in the memory of a stopped one: it ends all that is in
+    /// flight, in ascending order, and drops all pins (those of sessions and of cursors). It takes
+    /// no memory.
+    pub fn recover(&mut self)
+        requires { IsTrue self.old.stopped }
+        ensures { self.new ≡ with_recovery self.old }
+    {
+        let last = last(self.own(), &self.above);
+        self.head.set(last);
+        self.above.clear();
+        self.pins.clear();
+        self.recovered = true;
+    }
+
+    /// Whether the memory was recovered.
+    pub fn is_recovered(&self) -> bool
+        ensures { result ≡ self.now.recovered }
+    {
+        self.recovered
+    }
+
+    // The head with the sweep vector.
+    fn pin_now(&self) -> Pin
+        ensures { result ≡ pin_now self.now }
+    {
+        Pin {
+            base: self.head,
+            sweep: self.sweep,
+        }
     }
 
     // The head's entry of this node.
@@ -302,6 +349,3 @@ fn greatest_time(vector: &RevVec) -> u64
     }
     time
 }
-
-#[cfg(test)]
-mod tests;

@@ -52,7 +52,8 @@ pub(crate) fn put_notes(
     Ok(())
 }
 
-fn put_note(notes: &mut Vec<Note>, path: &Path, r: Revision) -> Result<(), AllocError>
+// Notes a path with a revision.
+pub(crate) fn put_note(notes: &mut Vec<Note>, path: &Path, r: Revision) -> Result<(), AllocError>
     ensures ok { OnOk result (notes.new.items ≡ notes.old.items ++ notes_of r (path.now ∷ [])) }
     ensures err { OnErr result (notes.new.items ≡ notes.old.items) }
 {

@@ -34,6 +34,18 @@ pub(crate) fn put(pins: &mut Vec<(u32, Pin)>, owner: u32, pin: &Pin) -> Result<(
     Ok(())
 }
 
+// Puts the owner's pin in the place of the one that it has.
+pub(crate) fn replace(pins: &mut Vec<(u32, Pin)>, owner: u32, pin: &Pin)
+    requires ordered { IsStrictlySortedBy nat_cmp (keys_of pins.old.items) }
+    requires there { IsSome (lookup (is_at (nat_cmp owner)) pins.old.items) }
+    ensures { pins.new.items ≡ insert_entry nat_cmp pins.old.items owner pin.now }
+{
+    let Ok(at) = place(pins, owner) else {
+        unreachable!();
+    };
+    pins[at] = (owner, *pin);
+}
+
 // Drops the owner's pin, where it has one.
 pub(crate) fn remove(pins: &mut Vec<(u32, Pin)>, owner: u32)
     requires { IsStrictlySortedBy nat_cmp (keys_of pins.old.items) }

@@ -1,7 +1,9 @@
 // The tree that a vector sees.
-ghost use Rattle.std.specs.Prelude.{◌≡◌, IfOk, OnOk, OnErr, reverse};
+ghost use Rattle.std.specs.Prelude.{◌≡◌, IfOk, None, OnOk, reverse};
+ghost use Rattle.std.specs.List.{filter};
+ghost use Rattle.jr_rev.specs.Vectors.{sees};
 ghost use Rattle.oak_machine.specs.History.{begin_tree, history_of};
-ghost use Rattle.oak_machine.specs.Commits.{committed_edits, with_commit, tree_at};
+ghost use Rattle.oak_machine.specs.Commits.{applied_all, committed_edits, with_commit, tree_at};
 
 use crate::past::draw_of;
 use jr_path::{DeepCopy, Keyed, List};
@@ -17,14 +19,34 @@ pub fn tree_at(journal: &Journal, v: &RevVec) -> Result<Tree, AllocError>
     ensures { let h = history_of journal.now in IfOk result (λ tree. tree ≡ tree_at h.begin h.past v.now) }
 {
     let alloc = journal.events.allocator();
-    let edits = committed_edits(alloc, journal.events.as_slice())?;
     let mut tree = begin_tree(alloc, journal)?;
+    put_seen(alloc, &mut tree, journal.events.as_slice(), v)?;
+    Ok(tree)
+}
+
+/// The tree that a vector sees of events that begin before any commit: the initial tree, with the edits of the
+/// committed revisions that the vector sees applied in ascending order, each with its revision (Oak,
+/// DocumentNodeStore: Revisions). It goes over all the events.
+pub fn tree_among(alloc: Global, events: &[Event], v: &RevVec) -> Result<Tree, AllocError>
+    ensures { IfOk result (λ tree. tree ≡ tree_at None (reverse events.now) v.now) }
+{
+    let mut tree = Tree::initial(alloc)?;
+    put_seen(alloc, &mut tree, events, v)?;
+    Ok(tree)
+}
+
+// Puts the edits of the committed revisions that a vector sees.
+fn put_seen(alloc: Global, tree: &mut Tree, events: &[Event], v: &RevVec) -> Result<(), AllocError>
+    ensures { OnOk result (tree.new
+        ≡ applied_all tree.old (filter (λ e. sees v.now e.0) (committed_edits (reverse events.now)))) }
+{
+    let edits = committed_edits(alloc, events)?;
     for (r, writes) in edits.into_inner() {
         if v.sees(r) {
             tree.apply(&Edit { writes }, Some(r))?;
         }
     }
-    Ok(tree)
+    Ok(())
 }
 
 // The tree at the start.

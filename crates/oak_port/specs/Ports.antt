@@ -1,11 +1,10 @@
 -- What a session is told of a world: the history so far and what is being done for the session, and
 -- what a step makes of these.
-use Rattle.std.specs.Prelude.{◌≡◌, ◌↔◌, ◌⊎◌, ◌≤◌, ◌<◌, ℕ, suc, Bool, true, false, ⊤, List, [], ◌∷◌, ◌++◌}
-use Rattle.std.specs.Prelude.{length, reverse, slice_get, Option, None, Some, IfSome, IsTrue, IsFalse}
+use Rattle.std.specs.Prelude.{◌≡◌, ◌↔◌, ◌⊎◌, ◌≤◌, ℕ, suc, Bool, true, false, ⊤, List, [], ◌∷◌}
+use Rattle.std.specs.Prelude.{reverse, slice_get, Option, None, Some, IfSome, IsTrue, IsFalse}
 use Rattle.std.specs.Borrow.{GName}
 use Rattle.std.specs.Option.{option_map_or}
 use Rattle.jr_path.specs.declared.path.Item.{Item}
-use Rattle.jr_path.specs.declared.path.Path.{Path}
 use Rattle.jr_path.specs.declared.text.Text.{Text}
 use Rattle.jr_rev.specs.declared.revision.Revision.{Revision}
 use Rattle.jr_rev.specs.declared.vector.RevVec.{RevVec}
@@ -15,7 +14,6 @@ use Rattle.jr_tree.specs.declared.edit.Edit.{Edit}
 use Rattle.jr_tree.specs.Trees.{Nodes, dated_children_of, node_at}
 use Rattle.oak_clash.specs.declared.mark.MarkAt.{MarkAt}
 use Rattle.oak_machine.specs.declared.event.Draw.{Draw}
-use Rattle.oak_machine.specs.declared.event.Event.{Event}
 use Rattle.oak_machine.specs.declared.event.Event.TheVariants as event
 use Rattle.oak_machine.specs.declared.event.StepKind.{StepKind}
 use Rattle.oak_machine.specs.declared.event.StepKind.TheVariants as kind
@@ -23,8 +21,8 @@ use Rattle.oak_machine.specs.History.{Begin, History, Past, begin_tree}
 use Rattle.oak_machine.specs.Commits.{is_in_flight, tree_at}
 use Rattle.oak_machine.specs.Heads.{head_of, local, published}
 use Rattle.oak_machine.specs.Laws.{AreOthers, Says, Starts, after}
-use Rattle.oak_machine.specs.Runs.{AreNodes, IsNode, IsRun}
-use Rattle.oak_machine.specs.Sessions.{base_of, has_left, has_login, is_attached, kept_checkpoint, next_index}
+use Rattle.oak_machine.specs.Runs.{IsNode, IsRun}
+use Rattle.oak_machine.specs.Sessions.{base_of, has_left, has_login, is_attached, kept_checkpoint}
 use Rattle.oak_machine.specs.Steps.{is_appended_by, is_kind}
 use Rattle.oak_commit.specs.declared.outcome.CommitEnd.{CommitEnd}
 use Rattle.oak_commit.specs.declared.outcome.CommitEnd.TheVariants as commit

@@ -329,10 +329,7 @@ impl Reader {
 fn least_name(alloc: Global) -> Result<Name, AllocError>
     ensures { IfOk result (λ name. name ≡ codes "!") }
 {
-    match Name::parse(alloc, "!") {
-        Ok(name) => Ok(name),
-        Err(_) => Err(AllocError),
-    }
+    Name::of(alloc, "!")
 }
 
 /// Over documents at rest, entries that are not committed among them, a reader ends, and gives the node or

@@ -52,11 +52,7 @@ pub(crate) fn refresh_kept(memory: &mut NodeMem, events: &mut Events, s: u32) ->
     ensures list { events.new.list ≡ events.old.list ++ event.Refresh s memory.old.head ∷ [] }
     ensures places { events.new.places + 1 ≡ events.old.places }
 {
-    let pin = Pin {
-        base: memory.head(),
-        sweep: memory.sweep(),
-    };
-    let _ = memory.pin(s);
+    let pin = memory.repin(s);
     events.push_kept(Event::Refresh(s, pin.base));
     pin
 }

@@ -1,5 +1,6 @@
 // The documents before any step.
 ghost use Rattle.std.specs.Prelude.{◌≡◌, ◌≤◌, [], ◌∷◌, IfOk};
+ghost use Rattle.jr_path.specs.Grammar.{IsName};
 ghost use Rattle.jr_rev.specs.Vectors.{start_of};
 ghost use Rattle.core_world.specs.Start.{start_document, start_documents, start_root, start_settings, system_path, versions_path};
 
@@ -31,13 +32,13 @@ pub(crate) fn start_documents(
 fn system_path(alloc: Global) -> Result<Path, AllocError>
     ensures { IfOk result (λ path. path ≡ system_path) }
 {
-    Path::root(alloc).child(&plain_name(alloc, "jcr:system")?)
+    Path::root(alloc).child(&Name::of(alloc, "jcr:system")?)
 }
 
 fn versions_path(alloc: Global) -> Result<Path, AllocError>
     ensures { IfOk result (λ path. path ≡ versions_path) }
 {
-    system_path(alloc)?.child(&plain_name(alloc, "jcr:versionStorage")?)
+    system_path(alloc)?.child(&Name::of(alloc, "jcr:versionStorage")?)
 }
 
 fn start_root(alloc: Global, clusters: u32) -> Result<Document, AllocError>
@@ -66,12 +67,13 @@ fn start_document(
     kind: &str,
     number: u64,
 ) -> Result<Document, AllocError>
+    requires { IsName kind.now }
     ensures { IfOk result (λ document. document ≡ start_document path kind.now number) }
 {
     let deleted = at_start(alloc, false)?;
-    let kind = Property::Single(Value::Name(plain_name(alloc, kind)?));
+    let kind = Property::Single(Value::Name(Name::of(alloc, kind)?));
     let values = at_start(alloc, Some(kind))?;
-    let name = plain_name(alloc, "jcr:primaryType")?;
+    let name = Name::of(alloc, "jcr:primaryType")?;
     let mut props = Keyed::new(alloc);
     props.put(name, values)?;
     let mut document = Document::empty(alloc, DocId::Node(path));
@@ -93,14 +95,4 @@ fn at_start<T: Drop>(alloc: Global, value: T) -> Result<Keyed<Revision, T>, Allo
     let mut entries = Keyed::new(alloc);
     entries.put(start, value)?;
     Ok(entries)
-}
-
-// A name of the repository's own, which is in the grammar of names.
-fn plain_name(alloc: Global, text: &str) -> Result<Name, AllocError>
-    ensures { IfOk result (λ name. name ≡ text.now) }
-{
-    match Name::parse(alloc, text) {
-        Ok(name) => Ok(name),
-        Err(_) => Err(AllocError),
-    }
 }

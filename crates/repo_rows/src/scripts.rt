@@ -64,7 +64,11 @@ fn script(alloc: Global, text: &str) -> Result<Script, ScriptFault>
 // The rule that is broken, and where.
 fn add_fault(alloc: Global, fault: ScriptFault, out: &mut String) -> Result<(), AllocError> {
     match fault {
-        ScriptFault::Bad { rule, pointer } => {
+        ScriptFault::Bad {
+            rule,
+            pointer,
+            offset: _,
+        } => {
             out.push_str(rule.to_string(alloc)?.as_str())?;
             out.push(' ')?;
             out.push_str(pointer.as_str())

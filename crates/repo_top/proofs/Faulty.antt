@@ -34,8 +34,8 @@ module _ (c : Call) (none : c.left ≡ None) where
 
   pub unrun_ends : (why : Unrun) (result : Status) → IsCause c why → Faults c.sink c.sink_now why result → EndsWith c result
   unrun_ends unrun.Words result cause told = lined unrun.Words result tt cause (λ f. f) told
-  unrun_ends (unrun.Script rule pointer) result cause (inl told) = lined (unrun.Script rule pointer) result tt cause (λ f. f) told
-  unrun_ends (unrun.Script rule pointer) result cause (inr told) = refused result cause.0 told
+  unrun_ends (unrun.Script rule pointer offset) result cause (inl told) = lined (unrun.Script rule pointer offset) result tt cause (λ f. f) told
+  unrun_ends (unrun.Script rule pointer offset) result cause (inr told) = refused result cause.0 told
   unrun_ends unrun.ReadFault result cause told = lined unrun.ReadFault result tt cause (λ f. f) told
   unrun_ends unrun.TooLong result cause told = lined unrun.TooLong result tt cause (λ f. f) told
   unrun_ends unrun.Memory result cause told = refused result cause.0 told
@@ -47,7 +47,7 @@ means_steps words Steps means = means
 -- no script came of a source, where the words have a meaning
 pub unread_cause : (c : Call) (why : Unrun) → Means c.words Steps → IsUnread c.source c.source_now why → IsCause c why
 unread_cause c unrun.Words meant unread = absurd unread
-unread_cause c (unrun.Script rule pointer) meant unread = (meant, unread)
+unread_cause c (unrun.Script rule pointer offset) meant unread = (meant, unread)
 unread_cause c unrun.ReadFault meant unread = (meant, unread)
 unread_cause c unrun.TooLong meant unread = (meant, unread)
 unread_cause c unrun.Memory meant unread = (meant, unread)
@@ -85,8 +85,8 @@ all_bytes c bytes all is read = subst (λ (o : Option (List ℕ)). IfSome o (λ 
 -- a fault with a line comes of the words, of the bytes, or of a source that failed or gave too many
 calm_fault : (c : Call) (s : Status) (why : Unrun) → s ≡ status_of why → IsCause c why → (bytes : List ℕ) → FailsNowhere c bytes → IsCalm bytes s
 calm_fault c s unrun.Words is cause bytes calm = absurd (cause Steps calm.meant)
-calm_fault c s (unrun.Script rule pointer) is cause bytes calm =
-    let unread = cause.1 in subst (λ (r : Status). IsCalm bytes r) (sym is) (rule, pointer, subst (λ (b : List ℕ). BreaksRule b rule pointer) (all_bytes c bytes unread.0 calm.tells unread.1) unread.2)
+calm_fault c s (unrun.Script rule pointer offset) is cause bytes calm =
+    let unread = cause.1 in subst (λ (r : Status). IsCalm bytes r) (sym is) (rule, pointer, offset, subst (λ (b : List ℕ). BreaksRule b rule pointer offset) (all_bytes c bytes unread.0 calm.tells unread.1) unread.2)
 calm_fault c s unrun.ReadFault is cause bytes calm = absurd (calm.reads cause.1)
 calm_fault c s unrun.TooLong is cause bytes calm = absurd (never (length bytes) calm.short (subst (λ (o : Option (List ℕ)). IfSome o (λ left. longest < length left)) calm.tells cause.1.1))
   where

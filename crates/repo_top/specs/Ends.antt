@@ -2,7 +2,9 @@
 use Rattle.std.specs.Prelude.{◌≡◌, ◌⊎◌, ℕ, ◌≤◌, ◌<◌, ◌+◌, List, Option, None, Some, length, IfSome, ⊤}
 use Rattle.serde_json.specs.Data.{Data}
 use Rattle.jr_io.specs.Causes.{Rose, RoseBy, RoseExactly}
-use Rattle.jr_io.specs.Told.{Grows, IsDrained}
+use Rattle.jr_io.specs.Told.{Grows, IsDrained, IsPassedOn}
+use Rattle.jr_io.specs.declared.ends.Sink.{Ghosts as SinkMembers}
+use Rattle.jr_io.specs.declared.ends.Source.{Ghosts as SourceMembers}
 use Rattle.jr_script.specs.declared.script.Script.{Script}
 use Rattle.jr_script.specs.Scripts.{IsFault as IsBadScript, IsJson, IsScript}
 use Rattle.jr_script.specs.declared.script.ScriptFault.TheVariants as bad
@@ -27,9 +29,9 @@ longest = 16777216
 abbrev pub Spells : List ℕ → Script → Type 0
 Spells bytes script = (d : Data) × IsJson bytes d × IsScript d script
 
--- the bytes break a rule of scripts, at the place of a pointer
-abbrev pub BreaksRule : List ℕ → ℕ → List ℕ → Type 0
-BreaksRule bytes rule pointer = IsBadScript bytes (bad.Bad rule pointer)
+-- the bytes break a rule of scripts, at the place of a pointer, and at an offset of a text there
+abbrev pub BreaksRule : List ℕ → ℕ → List ℕ → Option ℕ → Type 0
+BreaksRule bytes rule pointer offset = IsBadScript bytes (bad.Bad rule pointer offset)
 
 -- ---- a call
 
@@ -39,16 +41,27 @@ pub record Input : Type 0 where
   pub given : ℕ
   pub faults : ℕ
 
-abbrev pub input : Option (List ℕ) → ℕ → ℕ → Input
-input left given faults = record { left = left; given = given; faults = faults }
+-- what a source of this type tells, by the members of its trait
+abbrev pub input_of : {S : Type 0} → SourceMembers S → S → Input
+input_of S source = record {
+  left = S.left source;
+  given = S.given source;
+  faults = S.fault_count source;
+}
 
--- what a sink tells: the bytes that were written, and how often it failed
+-- what a sink tells: the bytes that were written, how many of them were passed on, and how often it failed
 pub record Output : Type 0 where
   pub written : Option (List ℕ)
+  pub passed : Option ℕ
   pub faults : ℕ
 
-abbrev pub output : Option (List ℕ) → ℕ → Output
-output written faults = record { written = written; faults = faults }
+-- what a sink of this type tells, by the members of its trait
+abbrev pub output_of : {K : Type 0} → SinkMembers K → K → Output
+output_of K sink = record {
+  written = K.written sink;
+  passed = K.passed sink;
+  faults = K.fault_count sink;
+}
 
 -- the words, the source and the sink before a call and after it, and the world that it leaves
 pub record Call : Type 0 where
@@ -60,7 +73,14 @@ pub record Call : Type 0 where
   pub left : Option (WorldOf JcrLaw)
 
 abbrev pub call : List (List ℕ) → Input → Input → Output → Output → Option (WorldOf JcrLaw) → Call
-call words source source_now sink sink_now left = record { words = words; source = source; source_now = source_now; sink = sink; sink_now = sink_now; left = left }
+call words source source_now sink sink_now left = record {
+  words = words;
+  source = source;
+  source_now = source_now;
+  sink = sink;
+  sink_now = sink_now;
+  left = left;
+}
 
 -- ---- reading
 
@@ -74,38 +94,46 @@ pub record IsReadWhole (before now : Input) (bytes : List ℕ) : Type 0 where
 -- why no script came of a source: its count of faults rose, it gave too many bytes, its bytes are no script, or memory was refused
 abbrev pub IsUnread : Input → Input → Unrun → Type 0
 IsUnread before now unrun.Words = ⊥
-IsUnread before now (unrun.Script rule pointer) = (bytes : List ℕ) × IsReadWhole before now bytes × BreaksRule bytes rule pointer
+IsUnread before now (unrun.Script rule pointer offset) =
+    (bytes : List ℕ) × IsReadWhole before now bytes × BreaksRule bytes rule pointer offset
 IsUnread before now unrun.ReadFault = Rose before.faults now.faults
 IsUnread before now unrun.TooLong = RoseBy (longest + 1) before.given now.given × IfSome before.left (λ left. longest < length left)
 IsUnread before now unrun.Memory = ⊤
 
 -- ---- writing
 
--- some first bytes of a text were written, or all
-abbrev pub GrowsUpTo : Output → Output → List ℕ → Type 0
-GrowsUpTo before now text = (n : ℕ) × (n ≤ length text) × Grows before.written now.written text n
+-- some first bytes of a text were written, or all, and none of them was passed on by a flush that succeeded
+pub record GrowsUpTo (before now : Output) (text : List ℕ) : Type 0 where
+  pub size : ℕ
+  pub within : size ≤ length text
+  pub part : Grows before.written now.written text size
+  pub held : now.passed ≡ before.passed
 
--- a text was written whole
-abbrev pub GrowsBy : Output → Output → List ℕ → Type 0
-GrowsBy before now text = Grows before.written now.written text (length text)
+-- a text was written whole, and all that was written, before or now, was passed on
+pub record IsDelivered (before now : Output) (text : List ℕ) : Type 0 where
+  pub whole : Grows before.written now.written text (length text)
+  pub passed : IsPassedOn now.written now.passed
 
--- the whole text was written and passed on, and this status is answered; or else the sink failed behind some first bytes
+-- the whole text was written, all was passed on, and this status is answered; or else the sink failed behind
+-- some first bytes
 abbrev pub Tells : Output → Output → List ℕ → Status → Status → Type 0
 Tells before now text answer result =
-    ((result ≡ answer) × GrowsBy before now text)
+    ((result ≡ answer) × IsDelivered before now text)
     ⊎ ((result ≡ status.WriteFault) × Rose before.faults now.faults × GrowsUpTo before now text)
 
--- memory was refused, and nothing is written
+-- memory was refused, and the sink is as it was: nothing was written or passed on, and it didn't fail
 abbrev pub IsRefused : Output → Output → Status → Type 0
-IsRefused before now result = (result ≡ status.Memory) × (now.written ≡ before.written)
+IsRefused before now result = (result ≡ status.Memory) × (now ≡ before)
 
 -- the line is written that says why no script is run; none where memory was refused, which the line of a broken script takes too
 abbrev pub Faults : Output → Output → Unrun → Status → Type 0
 Faults before now unrun.Memory result = IsRefused before now result
-Faults before now (unrun.Script rule pointer) result = Tells before now (script_line rule pointer) status.Script result ⊎ IsRefused before now result
+Faults before now (unrun.Script rule pointer offset) result =
+    Tells before now (script_line rule pointer offset) status.Script result
+    ⊎ IsRefused before now result
 Faults before now why result = Tells before now (fault_line why) (status_of why) result
 
--- the replies of the world with which a run ended are written; or memory was refused, and nothing is
+-- the replies of the world with which a run ended are written; or memory was refused, and the sink is as it was
 abbrev pub Prints : {L : Type 0} → Output → Output → Option (WorldOf L) → Status → Type 0
 Prints before now None result = IsRefused before now result
 Prints before now (Some world) result =
@@ -133,20 +161,20 @@ abbrev pub IsCause : Call → Unrun → Type 0
 IsCause c unrun.Words = (meaning : Words) → ¬ Means c.words meaning
 IsCause c why = Means c.words Steps × IsUnread c.source c.source_now why
 
--- a script was run to its end, its world is left, and the replies of its history are written
+-- a script was run to its end, its world is left, and the replies of its history are written and passed on
 pub record IsDone (c : Call) : Type 0 where
   pub world : WorldOf JcrLaw
   pub left : c.left ≡ Some world
   pub ran : HasRunAll c world
-  pub replies : GrowsBy c.sink c.sink_now (replies_of (live world.history))
+  pub replies : IsDelivered c.sink c.sink_now (replies_of (live world.history))
 
--- no script was run, for a cause that has this status, and its line is written
+-- no script was run, for a cause that has this status, and its line is written and passed on
 pub record IsFault (c : Call) (s : Status) : Type 0 where
   pub why : Unrun
   pub status : s ≡ status_of why
   pub unrun : c.left ≡ None
   pub cause : IsCause c why
-  pub line : GrowsBy c.sink c.sink_now (fault_line why)
+  pub line : IsDelivered c.sink c.sink_now (fault_line why)
 
 -- what was written before a sink failed: of the replies of the world that is left, or, where none is left, of the line that says why no
 -- script was run, which is so
@@ -159,11 +187,12 @@ pub record IsCut (c : Call) : Type 0 where
   pub fault : Rose c.sink.faults c.sink_now.faults
   pub part : IsPart c c.left
 
--- memory was refused, and nothing is written; a world that is left is one with which a script was run to its end
+-- memory was refused, and the sink is as it was; a world that is left is one with which a script was run to
+-- its end
 pub record IsStopped (c : Call) : Type 0 where
   pub meant : Means c.words Steps
   pub ran : IfSome c.left (HasRunAll c)
-  pub nothing : c.sink_now.written ≡ c.sink.written
+  pub nothing : c.sink_now ≡ c.sink
 
 -- what each status says of a call
 abbrev pub EndsWith : Call → Status → Type 0
@@ -177,7 +206,8 @@ EndsWith c s = IsFault c s
 -- the status where nothing fails: done where the bytes are a script, and bad script where they break a rule; or memory was refused
 abbrev pub IsCalm : List ℕ → Status → Type 0
 IsCalm bytes status.Done = (script : Script) × Spells bytes script
-IsCalm bytes status.Script = (rule : ℕ) × (pointer : List ℕ) × BreaksRule bytes rule pointer
+IsCalm bytes status.Script =
+    (rule : ℕ) × (pointer : List ℕ) × (offset : Option ℕ) × BreaksRule bytes rule pointer offset
 IsCalm bytes status.Memory = ⊤
 IsCalm bytes _ = ⊥
 

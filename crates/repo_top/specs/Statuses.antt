@@ -1,5 +1,5 @@
 -- The statuses: their numbers, their lines, and what each is the answer to.
-use Rattle.std.specs.Prelude.{ℕ, List, [], ◌++◌, codes}
+use Rattle.std.specs.Prelude.{ℕ, List, [], ◌++◌, Option, Some, None, codes}
 use Rattle.std.specs.Fmt.{decimal}
 use Rattle.serde_json.specs.Data.{string}
 use Rattle.serde_json.specs.Written.{compact_text}
@@ -22,14 +22,21 @@ code_of status.WriteFault = 4
 code_of status.Memory = 5
 code_of status.TooLong = 6
 
--- the line of a broken script: the rule, and the pointer as JSON text
-abbrev pub script_line : ℕ → List ℕ → List ℕ
-script_line rule pointer = codes "bad script " ++ decimal rule ++ codes " " ++ compact_text (string pointer) ++ codes "\n"
+-- a space and the offset, where there is one
+abbrev pub offset_text : Option ℕ → List ℕ
+offset_text None = []
+offset_text (Some offset) = codes " " ++ decimal offset
+
+-- the line of a broken script: the rule, the pointer as JSON text, and the offset where there is one
+abbrev pub script_line : ℕ → List ℕ → Option ℕ → List ℕ
+script_line rule pointer offset =
+    codes "bad script " ++ decimal rule ++ codes " " ++ compact_text (string pointer)
+    ++ offset_text offset ++ codes "\n"
 
 -- the line that is written where no script is run; none where memory was refused
 abbrev pub fault_line : Unrun → List ℕ
 fault_line unrun.Words = codes "bad words\n"
-fault_line (unrun.Script rule pointer) = script_line rule pointer
+fault_line (unrun.Script rule pointer offset) = script_line rule pointer offset
 fault_line unrun.ReadFault = codes "read fault\n"
 fault_line unrun.TooLong = codes "too long\n"
 fault_line unrun.Memory = []
@@ -37,7 +44,7 @@ fault_line unrun.Memory = []
 -- the status where no script is run
 abbrev pub status_of : Unrun → Status
 status_of unrun.Words = status.Words
-status_of (unrun.Script rule pointer) = status.Script
+status_of (unrun.Script rule pointer offset) = status.Script
 status_of unrun.ReadFault = status.ReadFault
 status_of unrun.TooLong = status.TooLong
 status_of unrun.Memory = status.Memory
@@ -50,5 +57,5 @@ unread read.Memory = unrun.Memory
 
 -- why no script is run where the bytes aren't read as one
 abbrev pub unscripted : ScriptFault → Unrun
-unscripted (fault.Bad rule pointer) = unrun.Script rule pointer
+unscripted (fault.Bad rule pointer offset) = unrun.Script rule pointer offset
 unscripted fault.Memory = unrun.Memory

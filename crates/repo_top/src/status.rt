@@ -2,7 +2,7 @@
 ghost use Rattle.std.specs.Prelude.{◌≡◌, IfOk, string_bytes};
 ghost use Rattle.serde_json.specs.Data.{string};
 ghost use Rattle.serde_json.specs.Written.{compact_text};
-ghost use Rattle.repo_top.specs.Statuses.{code_of, script_line, unread, unscripted};
+ghost use Rattle.repo_top.specs.Statuses.{code_of, offset_text, script_line, unread, unscripted};
 
 use jr_io::ReadAll;
 use jr_path::Text;
@@ -13,7 +13,7 @@ use std::alloc::{AllocError, Global};
 /// How a run ends; the number is the program's exit status.
 #[derive(Clone, Copy, Debug, PartialEq, Eq)]
 pub enum Status {
-    /// All sessions ran to their end, and the sink was flushed.
+    /// All sessions ran to their end, and all that was written is passed on.
     Done,
     /// The words have no meaning.
     Words,
@@ -51,8 +51,13 @@ impl Status {
 pub enum Unrun {
     /// The words have no meaning.
     Words,
-    /// The input breaks a rule of scripts, at the place that a JSON Pointer (RFC 6901) names.
-    Script { rule: u8, pointer: Text },
+    /// The input breaks a rule of scripts, at the place that a JSON Pointer (RFC 6901) names, and
+    /// within a text that stands there at this offset.
+    Script {
+        rule: u8,
+        pointer: Text,
+        offset: Option<usize>,
+    },
     /// The source failed.
     ReadFault,
     /// The input is longer than 16,777,216 bytes.
@@ -61,12 +66,28 @@ pub enum Unrun {
     Memory,
 }
 
-// The line of a broken script: the rule, and the pointer as JSON text.
-pub(crate) fn script_line(alloc: Global, rule: u8, pointer: &Text) -> Result<String, AllocError>
-    ensures { IfOk result (λ line. string_bytes line ≡ script_line rule pointer.now) }
+// The line of a broken script: the rule, the pointer as JSON text, and the offset, if any.
+pub(crate) fn script_line(
+    alloc: Global,
+    rule: u8,
+    pointer: &Text,
+    offset: Option<usize>,
+) -> Result<String, AllocError>
+    ensures { IfOk result (λ line. string_bytes line ≡ script_line rule pointer.now offset) }
 {
     let pointer = pointer_json(alloc, pointer)?;
-    Ok(format!(in alloc; "bad script {rule} {pointer}\n")?)
+    let offset = offset_text(alloc, offset)?;
+    Ok(format!(in alloc; "bad script {rule} {pointer}{offset}\n")?)
+}
+
+// A space and the offset, where there is one.
+fn offset_text(alloc: Global, offset: Option<usize>) -> Result<String, AllocError>
+    ensures { IfOk result (λ text. string_bytes text ≡ offset_text offset) }
+{
+    match offset {
+        None => Ok(String::new(alloc)),
+        Some(offset) => Ok(format!(in alloc; " {offset}")?),
+    }
 }
 
 fn pointer_json(alloc: Global, pointer: &Text) -> Result<String, AllocError>
@@ -93,7 +114,15 @@ impl From<ScriptFault> for Unrun {
 
     fn from(fault: ScriptFault) -> Unrun {
         match fault {
-            ScriptFault::Bad { rule, pointer } => Unrun::Script { rule, pointer },
+            ScriptFault::Bad {
+                rule,
+                pointer,
+                offset,
+            } => Unrun::Script {
+                rule,
+                pointer,
+                offset,
+            },
             ScriptFault::Memory => Unrun::Memory,
         }
     }

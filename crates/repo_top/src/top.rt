@@ -1,6 +1,6 @@
 // The top calls.
 ghost use Rattle.std.specs.Prelude.{◌≡◌, ℕ, List, None, IfOk, IfErr, IfSome, IsNone, map, string_bytes};
-ghost use Rattle.repo_top.specs.Ends.{Ends, Faults, IsReadWhole, IsUnread, Prints, Spells, Tells, call, input, output};
+ghost use Rattle.repo_top.specs.Ends.{Ends, Faults, IsReadWhole, IsUnread, Prints, Spells, Tells, call, input_of, output_of};
 ghost use Rattle.jr_script.specs.Bounds.{IsWithin};
 ghost use Rattle.jr_work.specs.Runs.{HasRun};
 ghost use Rattle.repo_top.specs.declared.status.Unrun.TheVariants as unrun;
@@ -21,8 +21,9 @@ use std::thread::Threads;
 /// The greatest number of bytes of an input.
 pub const LONGEST_INPUT: usize = 16_777_216;
 
-/// All that the program does: takes the words of the command line, a source and a sink, and answers the status. `Ends` says what each
-/// status says of the words, of what was read and written, and of the world that is left.
+/// All that the program does: takes the words of the command line, a source and a sink, and answers
+/// the status. `Ends` says what each status says of the words, of what was read, written and passed
+/// on, and of the world that is left.
 pub fn repo_main<R: Threads + Wait + Sync, S: Source, K: Sink>(
     _rt: &R,
     alloc: Global,
@@ -31,7 +32,9 @@ pub fn repo_main<R: Threads + Wait + Sync, S: Source, K: Sink>(
     sink: &mut K,
     left: &mut Option<World<JcrLaw>>,
 ) -> Status
-    ensures ends { Ends (call (map string_bytes words.now) (input (S.left source.old) (S.given source.old) (S.fault_count source.old)) (input (S.left source.new) (S.given source.new) (S.fault_count source.new)) (output (K.written sink.old) (K.fault_count sink.old)) (output (K.written sink.new) (K.fault_count sink.new)) left.new) result }
+    ensures ends { Ends (call (map string_bytes words.now)
+        (input_of S.Source source.old) (input_of S.Source source.new)
+        (output_of K.Sink sink.old) (output_of K.Sink sink.new) left.new) result }
 {
     steps_main(alloc, words, source, sink, left)
 }
@@ -44,7 +47,9 @@ pub fn steps_main<S: Source, K: Sink>(
     sink: &mut K,
     left: &mut Option<World<JcrLaw>>,
 ) -> Status
-    ensures ends { Ends (call (map string_bytes words.now) (input (S.left source.old) (S.given source.old) (S.fault_count source.old)) (input (S.left source.new) (S.given source.new) (S.fault_count source.new)) (output (K.written sink.old) (K.fault_count sink.old)) (output (K.written sink.new) (K.fault_count sink.new)) left.new) result }
+    ensures ends { Ends (call (map string_bytes words.now)
+        (input_of S.Source source.old) (input_of S.Source source.new)
+        (output_of K.Sink sink.old) (output_of K.Sink sink.new) left.new) result }
 {
     *left = None;
     let Some(Words::Steps) = words_meant(words) else {
@@ -61,8 +66,11 @@ pub fn steps_main<S: Source, K: Sink>(
 
 // The script that a source gives.
 fn script_of<S: Source>(alloc: Global, source: &mut S) -> Result<Script, Unrun>
-    ensures read { IfOk result (λ script. (bytes : List ℕ) × IsReadWhole (input (S.left source.old) (S.given source.old) (S.fault_count source.old)) (input (S.left source.new) (S.given source.new) (S.fault_count source.new)) bytes × Spells bytes script) }
-    ensures unread { IfErr result (IsUnread (input (S.left source.old) (S.given source.old) (S.fault_count source.old)) (input (S.left source.new) (S.given source.new) (S.fault_count source.new))) }
+    ensures read { IfOk result (λ script. (bytes : List ℕ)
+        × IsReadWhole (input_of S.Source source.old) (input_of S.Source source.new) bytes
+        × Spells bytes script) }
+    ensures unread { IfErr result
+        (IsUnread (input_of S.Source source.old) (input_of S.Source source.new)) }
 {
     let bytes = read_all(alloc, source, LONGEST_INPUT)?;
     Ok(read_script(alloc, bytes.as_slice())?)
@@ -78,7 +86,8 @@ fn run_script<K: Sink>(
     requires within { IsWithin script }
     requires none { IsNone left.old }
     ensures ran { IfSome left.new (HasRun script) }
-    ensures replies { Prints (output (K.written sink.old) (K.fault_count sink.old)) (output (K.written sink.new) (K.fault_count sink.new)) left.new result }
+    ensures replies { Prints (output_of K.Sink sink.old) (output_of K.Sink sink.new) left.new
+        result }
 {
     let Ok(world) = run_steps(alloc, script) else {
         return Status::Memory;
@@ -93,11 +102,15 @@ fn run_script<K: Sink>(
 
 // Writes the line that says why no script is run; none where memory was refused.
 fn unrun<K: Sink>(alloc: Global, sink: &mut K, why: &Unrun) -> Status
-    ensures { Faults (output (K.written sink.old) (K.fault_count sink.old)) (output (K.written sink.new) (K.fault_count sink.new)) why.now result }
+    ensures { Faults (output_of K.Sink sink.old) (output_of K.Sink sink.new) why.now result }
 {
     match why {
         Unrun::Words => written(sink, "bad words\n".as_bytes(), Status::Words),
-        Unrun::Script { rule, pointer } => broken(alloc, sink, *rule, pointer),
+        Unrun::Script {
+            rule,
+            pointer,
+            offset,
+        } => broken(alloc, sink, *rule, pointer, *offset),
         Unrun::ReadFault => written(sink, "read fault\n".as_bytes(), Status::ReadFault),
         Unrun::TooLong => written(sink, "too long\n".as_bytes(), Status::TooLong),
         Unrun::Memory => Status::Memory,
@@ -105,18 +118,26 @@ fn unrun<K: Sink>(alloc: Global, sink: &mut K, why: &Unrun) -> Status
 }
 
 // Writes the line of a broken script.
-fn broken<K: Sink>(alloc: Global, sink: &mut K, rule: u8, pointer: &Text) -> Status
-    ensures { Faults (output (K.written sink.old) (K.fault_count sink.old)) (output (K.written sink.new) (K.fault_count sink.new)) (unrun.Script rule pointer.now) result }
+fn broken<K: Sink>(
+    alloc: Global,
+    sink: &mut K,
+    rule: u8,
+    pointer: &Text,
+    offset: Option<usize>,
+) -> Status
+    ensures { Faults (output_of K.Sink sink.old) (output_of K.Sink sink.new)
+        (unrun.Script rule pointer.now offset) result }
 {
-    match script_line(alloc, rule, pointer) {
+    match script_line(alloc, rule, pointer, offset) {
         Ok(line) => written(sink, line.as_bytes(), Status::Script),
         Err(AllocError) => Status::Memory,
     }
 }
 
-// Writes the bytes and flushes, and answers the status, or that the sink failed.
+// Writes the bytes, passes on all that was written, and answers the status, or that the sink failed.
 fn written<K: Sink>(sink: &mut K, bytes: &[u8], status: Status) -> Status
-    ensures { Tells (output (K.written sink.old) (K.fault_count sink.old)) (output (K.written sink.new) (K.fault_count sink.new)) bytes.now status result }
+    ensures { Tells (output_of K.Sink sink.old) (output_of K.Sink sink.new) bytes.now status
+        result }
 {
     match write_all(sink, bytes) {
         Err(Failed) => Status::WriteFault,

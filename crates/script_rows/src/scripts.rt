@@ -7,7 +7,14 @@ use std::alloc::{AllocError, Global};
 pub(crate) fn add(alloc: Global, text: &str, out: &mut String) -> Result<(), AllocError> {
     match read_script(alloc, text.as_bytes()) {
         Ok(script) => add_script(alloc, &script, out),
-        Err(ScriptFault::Bad { rule, pointer }) => { add_fault(alloc, rule, pointer.as_str(), out) }
+        Err(ScriptFault::Bad {
+            rule,
+            pointer,
+            offset,
+        }) => {
+            add_fault(alloc, rule, pointer.as_str(), out)?;
+            add_offset(alloc, offset, out)
+        }
         Err(ScriptFault::Memory) => out.push_str("memory"),
     }
 }
@@ -21,6 +28,21 @@ pub(crate) fn add_fault(
     put_number(alloc, rule as usize, out)?;
     out.push(' ')?;
     out.push_str(pointer)
+}
+
+// The place within the text at which a rule is broken, where it is on what stands in a text.
+fn add_offset(
+    alloc: Global,
+    offset: Option<usize>,
+    out: &mut String,
+) -> Result<(), AllocError> {
+    match offset {
+        None => Ok(()),
+        Some(offset) => {
+            out.push(' ')?;
+            put_number(alloc, offset, out)
+        }
+    }
 }
 
 // The number of cluster nodes; of each session its node and the names of its commands; and the entries.

@@ -22,19 +22,9 @@ pub fn type_properties(alloc: Global) -> Result<Vec<Name>, AllocError>
     ensures { IfOk result (λ names. names.items ≡ type_properties) }
 {
     let mut names = Vec::new(alloc);
-    names.push(plain_name(alloc, "jcr:primaryType")?)?;
-    names.push(plain_name(alloc, "jcr:mixinTypes")?)?;
+    names.push(Name::of(alloc, "jcr:primaryType")?)?;
+    names.push(Name::of(alloc, "jcr:mixinTypes")?)?;
     Ok(names)
-}
-
-// A name of the repository's own, which is in the grammar of names.
-fn plain_name(alloc: Global, text: &str) -> Result<Name, AllocError>
-    ensures { IfOk result (λ name. name ≡ text.now) }
-{
-    match Name::parse(alloc, text) {
-        Ok(name) => Ok(name),
-        Err(_) => Err(AllocError),
-    }
 }
 
 /// The nodes of a tree whose primary type, or one of whose mixins, is among these (JSR 283, 6.7.3 Selector).

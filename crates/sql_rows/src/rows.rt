@@ -53,7 +53,10 @@ fn add_node(
     let Ok(path) = Path::parse(alloc, path) else {
         return out.push_str("no path");
     };
-    let node = Node::of_type(alloc, "nt:unstructured")?;
+    let Ok(kind) = Name::parse(alloc, "nt:unstructured") else {
+        return out.push_str("no name");
+    };
+    let node = Node::of_type(alloc, kind)?;
     tree.insert(path, node)
 }
 

@@ -1,9 +1,10 @@
 //! Rows of documents: each line of the input changes a document of a table, undoes or removes one, or reads a node or its
-//! children; each line of the output says what came of it.
+//! children, or is of the memory of a cluster node; each line of the output says what came of it.
 #![tactic(auto)]
 
 mod changes;
 mod commits;
+mod nodes;
 mod reading;
 mod rows;
 

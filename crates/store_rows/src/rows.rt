@@ -1,7 +1,7 @@
 // What comes of each line.
 ghost use Rattle.std.specs.Prelude.{◌≡◌};
 
-use crate::{changes, commits, reading};
+use crate::{changes, commits, nodes, reading};
 use jr_path::{DeepCopy, DocId, List, Path, PathFault};
 use jr_rev::Revision;
 use oak_doc::{Ask, Collected, Document, RemoveOut, Reply};
@@ -46,6 +46,7 @@ fn add_answer(
         "walk" => walk(alloc, table, out),
         "commit" => commits::add(alloc, rest, out),
         "copies" => add_copies(alloc, out),
+        "memory" => nodes::add(alloc, out),
         "node" => reading::add_node(alloc, rest, table, out),
         "children" => reading::add_children(alloc, rest, table, out),
         _ => out.push_str("no row"),

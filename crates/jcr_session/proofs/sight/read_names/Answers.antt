@@ -1,5 +1,7 @@
 use Rattle.std.proofs.Common.{◌≡◌, ◌∙◌}
 use Rattle.oak_port.specs.Ports.{Idle}
+use Rattle.jcr_session.specs.Sights.{says_of, starts_of}
+use Rattle.jcr_session.proofs.Coming.{list_comes}
 use Rattle.jcr_session.proofs.Answering.{made_err}
 use Rattle.jcr_session.proofs.Reading.{base_at, beside_more, has_listed, in_less, in_more, listed_going, listed_names, listed_refused}
 use Rattle.jcr_session.proofs.Walking.{part_pushed}
@@ -87,3 +89,8 @@ returns-in-Refused-clause-beside g c =
 pub returns-in-Refused-clause-err : goal.returns-in-Refused-clause-err
 returns-in-Refused-clause-err g c =
     listed_refused (g.P.Port.law c.args.port.now) (g.P.Port.shown c.args.port.now) (g.P.Port.shown c.step.new.self) c.args.path c.args.tree c.args.left.items c.list_came.result c.in-Refused.is (has_listed (g.P.Port.law c.args.port.now) (g.P.Port.shown c.args.port.now) (g.P.Port.shown c.step.new.self) c.args.path c.args.tree c.args.left.items c.requires.inside c.requires.part c.step.result c.list_came.result c.requires.busy c.requires.there c.step.ensures.steps c.list_came.ensures)
+
+pub list_came-requires : goal.list_came-requires
+list_came-requires g c =
+    let law = g.P.Port.law c.args.port.now in
+    list_comes (starts_of law) (says_of law) (g.P.Port.shown c.args.port.now) (g.P.Port.shown c.step.new.self) c.step.result c.step.ensures.steps c.args.path c.requires.busy

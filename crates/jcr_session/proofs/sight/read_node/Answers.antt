@@ -1,6 +1,8 @@
 use Rattle.std.proofs.Common.{◌∙◌, Option, ap}
 use Rattle.jr_tree.specs.declared.tree.Node.{Node}
 use Rattle.jcr_session.specs.declared.sight.Loaded.TheVariants as loaded
+use Rattle.jcr_session.specs.Sights.{says_of, starts_of}
+use Rattle.jcr_session.proofs.Coming.{load_comes}
 use Rattle.jcr_session.proofs.Reading.{beside_more, has_loaded, in_less, in_more, loaded_found, loaded_going, loaded_none, loaded_refused}
 use Rattle.jcr_session.proofs.sight.read_node.Goals as goal
 
@@ -115,3 +117,8 @@ returns-in-Refused-clause-beside g c =
 pub returns-in-Refused-clause-err : goal.returns-in-Refused-clause-err
 returns-in-Refused-clause-err g c =
     loaded_refused (g.P.Port.law c.args.port.now) (g.P.Port.shown c.args.port.now) (g.P.Port.shown c.step.new.self) c.args.path c.args.tree c.args.left.items c.load_came.result c.in-Refused.is (has_loaded (g.P.Port.law c.args.port.now) (g.P.Port.shown c.args.port.now) (g.P.Port.shown c.step.new.self) c.args.path c.args.tree c.args.left.items c.requires.inside c.requires.part c.step.result c.load_came.result c.requires.busy c.step.ensures.steps c.load_came.ensures)
+
+pub load_came-requires : goal.load_came-requires
+load_came-requires g c =
+    let law = g.P.Port.law c.args.port.now in
+    load_comes (starts_of law) (says_of law) (g.P.Port.shown c.args.port.now) (g.P.Port.shown c.step.new.self) c.step.result c.step.ensures.steps c.args.path c.requires.busy

@@ -1,5 +1,5 @@
 use Rattle.std.proofs.Common.{◌+◌, ◌-◌, take, arith, ap, ◌∙◌}
-use Rattle.jr_items.proofs.Upward.{upward_more, upward_all}
+use Rattle.jr_items.proofs.UpwardPaths.{upward_more, upward_all}
 use Rattle.jr_items.proofs.items.upward.Goals as goal
 use Rattle.jr_items.proofs.items.upward.Goals.{else-loop-above-test, then-loop-above-test+in_ok-prefix+in_ok-push+else-above-depth}
 

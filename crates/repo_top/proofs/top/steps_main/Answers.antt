@@ -2,32 +2,32 @@
 use Rattle.std.proofs.Common.{None, refl, map}
 use Rattle.std.specs.String.{string_bytes}
 use Rattle.repo_top.proofs.Faulty.{ends, means_steps, ran_ends, unread_cause, unrun_ends}
-use Rattle.repo_top.specs.Ends.{call, input, output}
+use Rattle.repo_top.specs.Ends.{call, input_of, output_of}
 use Rattle.repo_top.specs.declared.status.Unrun.TheVariants as unrun
 use Rattle.repo_top.proofs.top.steps_main.Goals as goal
 
 pub returns-in_default : goal.returns-in_default
 returns-in_default g c = record {
   ends = ends _ _ (unrun_ends
-      (call (map string_bytes c.args.words.now) (input (g.S.Source.left c.args.source.now) (g.S.Source.given c.args.source.now) (g.S.Source.fault_count c.args.source.now))
-      (input (g.S.Source.left c.args.source.now) (g.S.Source.given c.args.source.now) (g.S.Source.fault_count c.args.source.now))
-      (output (g.K.Sink.written c.args.sink.now) (g.K.Sink.fault_count c.args.sink.now)) (output (g.K.Sink.written c.unrun.new.sink) (g.K.Sink.fault_count c.unrun.new.sink)) None)
+      (call (map string_bytes c.args.words.now) (input_of g.S.Source c.args.source.now)
+      (input_of g.S.Source c.args.source.now)
+      (output_of g.K.Sink c.args.sink.now) (output_of g.K.Sink c.unrun.new.sink) None)
       refl unrun.Words c.unrun.result c.in_default.ensures c.unrun.ensures);
 }
 
 pub returns-in-Err : goal.returns-in-Err
 returns-in-Err g c =
-    let k = (call (map string_bytes c.args.words.now) (input (g.S.Source.left c.args.source.now) (g.S.Source.given c.args.source.now) (g.S.Source.fault_count c.args.source.now))
-    (input (g.S.Source.left c.script_of.new.source) (g.S.Source.given c.script_of.new.source) (g.S.Source.fault_count c.script_of.new.source))
-    (output (g.K.Sink.written c.args.sink.now) (g.K.Sink.fault_count c.args.sink.now)) (output (g.K.Sink.written c.unrun-in-Err.new.sink) (g.K.Sink.fault_count c.unrun-in-Err.new.sink)) None) in
-    record { ends = ends _ _ (unrun_ends k refl c.in-Err.why c.unrun-in-Err.result (unread_cause k c.in-Err.why (means_steps (map string_bytes c.args.words.now) _ c.in-Some-Steps.ensures) c.in-Err.ensures.unread) c.unrun-in-Err.ensures) }
+    let k = (call (map string_bytes c.args.words.now) (input_of g.S.Source c.args.source.now)
+    (input_of g.S.Source c.script_of.new.source)
+    (output_of g.K.Sink c.args.sink.now) (output_of g.K.Sink c.unrun-in-Err.new.sink) None) in
+    record { ends = ends k c.unrun-in-Err.result (unrun_ends k refl c.in-Err.why c.unrun-in-Err.result (unread_cause k c.in-Err.why (means_steps (map string_bytes c.args.words.now) _ c.in-Some-Steps.ensures) c.in-Err.ensures.unread) c.unrun-in-Err.ensures) }
 
 pub returns-in-Ok : goal.returns-in-Ok
 returns-in-Ok g c = record {
   ends = ends _ _ (ran_ends
-      (call (map string_bytes c.args.words.now) (input (g.S.Source.left c.args.source.now) (g.S.Source.given c.args.source.now) (g.S.Source.fault_count c.args.source.now))
-      (input (g.S.Source.left c.script_of.new.source) (g.S.Source.given c.script_of.new.source) (g.S.Source.fault_count c.script_of.new.source))
-      (output (g.K.Sink.written c.args.sink.now) (g.K.Sink.fault_count c.args.sink.now)) (output (g.K.Sink.written c.run_script.new.sink) (g.K.Sink.fault_count c.run_script.new.sink)) c.run_script.new.left)
+      (call (map string_bytes c.args.words.now) (input_of g.S.Source c.args.source.now)
+      (input_of g.S.Source c.script_of.new.source)
+      (output_of g.K.Sink c.args.sink.now) (output_of g.K.Sink c.run_script.new.sink) c.run_script.new.left)
       c.in-Ok.script (means_steps (map string_bytes c.args.words.now) _ c.in-Some-Steps.ensures) c.in-Ok.ensures.read c.run_script.result c.run_script.ensures.ran c.run_script.ensures.replies);
 }
 

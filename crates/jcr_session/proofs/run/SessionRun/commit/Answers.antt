@@ -3,6 +3,8 @@ use Rattle.jr_path.specs.declared.text.Text.{Text}
 use Rattle.oak_port.specs.Ports.{HasRoom}
 use Rattle.oak_port.specs.declared.task.Task.TheVariants as task
 use Rattle.jcr_session.specs.Standing.{MayAnswer}
+use Rattle.jcr_session.specs.Sights.{says_of, starts_of}
+use Rattle.jcr_session.proofs.Coming.{draw_comes}
 use Rattle.jcr_session.proofs.Beginning.{room_stops, room_unbegun, save_begins, save_draws, save_idle, save_stopped, save_stops, save_unbegun, save_unplaced, turned_unbegun_save, turned_unplaced}
 use Rattle.jcr_session.proofs.Calling.{busy_by}
 use Rattle.jcr_session.proofs.Lengths.{memory_reply_is}
@@ -60,3 +62,8 @@ say_kept-requires-then-not-has_went-clause-room g c =
 pub returns-then-not-has_went-clause-turned : goal.returns-then-not-has_went-clause-turned
 returns-then-not-has_went-clause-turned g c =
     save_stopped (g.P.Port.law c.args.port.now) (g.P.Port.law c.reserve_say.new.self) c.in-Ok.ensures.law (g.P.Port.shown c.args.port.now) (g.P.Port.shown c.reserve_say.new.self) c.args.self.now c.requires.stands c.requires.between c.requires.read c.requires.next c.in-Ok.ensures.ok (g.P.Port.law c.start.new.self) c.in-Ok-start.ensures.law (g.P.Port.shown c.start.new.self) c.args.edit c.args.marks c.requires.plan c.in-Ok-start.ensures.ok (g.P.Port.shown c.step.new.self) c.step.result c.step.ensures.steps (sym c.has_went.ensures ∙ c.if-not-has_went.true) (g.P.Port.law c.step.new.self) c.step.ensures.law (g.P.Port.shown c.say_kept-then-not-has_went.new.port) c.say_kept-then-not-has_went.new.self c.say_kept-then-not-has_went.result c.say_kept-then-not-has_went.ensures.turned
+
+pub has_went-requires : goal.has_went-requires
+has_went-requires g c =
+    let law = g.P.Port.law c.start.new.self in
+    draw_comes (starts_of law) (says_of law) (g.P.Port.shown c.start.new.self) (g.P.Port.shown c.step.new.self) c.step.result c.step.ensures.steps c.args.edit c.args.marks c.in-Ok-start.ensures.ok.work_is

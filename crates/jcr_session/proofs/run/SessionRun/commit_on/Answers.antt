@@ -1,5 +1,7 @@
 use Rattle.std.proofs.Common.{◌∙◌}
-use Rattle.jcr_session.proofs.Turning.{commit_busy, commit_once, refused_busy}
+use Rattle.jcr_session.specs.Sights.{says_of, starts_of}
+use Rattle.jcr_session.proofs.Coming.{commit_comes, memory_once}
+use Rattle.jcr_session.proofs.Turning.{commit_busy, commit_once, refused_busy, refused_stands}
 use Rattle.jcr_session.proofs.Seeing.{commit_again, memory_first}
 use Rattle.jcr_session.proofs.run.SessionRun.commit_on.Goals as goal
 
@@ -26,3 +28,20 @@ returns-in_default-clause-law g c =
 pub returns-in-Memory-clause-law : goal.returns-in-Memory-clause-law
 returns-in-Memory-clause-law g c =
     c.step-answer.ensures.law ∙ c.step.ensures.law
+
+-- only the first step may be refused memory
+pub committed_on-requires : goal.committed_on-requires
+committed_on-requires g c =
+    let law = g.P.Port.law c.args.port.now in
+    let old = g.P.Port.shown c.args.port.now in
+    let mid = g.P.Port.shown c.step.new.self in
+    let new = g.P.Port.shown c.step-answer.new.self in
+    let later = g.P.Port.law c.step.new.self in
+    let once = memory_first law old mid c.step.result c.in-Memory.is c.step.ensures.steps in
+    commit_comes law mid new c.args.self.now (starts_of later) (says_of later) c.step-answer.result (refused_stands law old mid c.args.self.now c.requires.stands c.requires.saving once) c.requires.saving c.step-answer.ensures.steps
+    (λ is. memory_once law old mid new c.args.self.now (starts_of law) (starts_of later) (says_of law) (says_of later) c.requires.stands c.requires.saving once (memory_first later mid new c.step-answer.result is c.step-answer.ensures.steps))
+
+pub committed_on-requires-in_default : goal.committed_on-requires-in_default
+committed_on-requires-in_default g c =
+    let law = g.P.Port.law c.args.port.now in
+    commit_comes law (g.P.Port.shown c.args.port.now) (g.P.Port.shown c.step.new.self) c.args.self.now (starts_of law) (says_of law) c.step.result c.requires.stands c.requires.saving c.step.ensures.steps c.in_default.not-Memory

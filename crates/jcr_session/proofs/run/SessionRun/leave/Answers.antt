@@ -1,5 +1,7 @@
 use Rattle.std.proofs.Common.{refl, sym, ◌∙◌}
 use Rattle.oak_port.specs.declared.task.Task.TheVariants as task
+use Rattle.jcr_session.specs.Sights.{says_of, starts_of}
+use Rattle.jcr_session.proofs.Coming.{leave_comes}
 use Rattle.jcr_session.proofs.Calling.{busy_by, leave_by}
 use Rattle.jcr_session.proofs.Leaving.{ended_is}
 use Rattle.jcr_session.proofs.Replying.{idle_between}
@@ -28,3 +30,9 @@ returns-clause-law g c = c.step.ensures.law ∙ c.in-Ok.ensures.law
 
 pub returns-then-not-has_ended-clause-law : goal.returns-then-not-has_ended-clause-law
 returns-then-not-has_ended-clause-law g c = c.step.ensures.law ∙ c.in-Ok.ensures.law
+
+-- memory was refused else
+pub has_ended-requires : goal.has_ended-requires
+has_ended-requires g c =
+    let law = g.P.Port.law c.start.new.self in
+    leave_comes (starts_of law) (says_of law) (g.P.Port.shown c.start.new.self) (g.P.Port.shown c.step.new.self) c.step.result c.step.ensures.steps c.in-Ok.ensures.ok.work_is

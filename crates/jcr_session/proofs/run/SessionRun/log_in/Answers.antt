@@ -1,5 +1,7 @@
 use Rattle.std.proofs.Common.{refl, sym, ◌∙◌}
 use Rattle.oak_port.specs.declared.task.Task.TheVariants as task
+use Rattle.jcr_session.specs.Sights.{says_of, starts_of}
+use Rattle.jcr_session.proofs.Coming.{login_comes}
 use Rattle.jcr_session.proofs.Calling.{busy_by, login_by}
 use Rattle.jcr_session.proofs.Living.{outside_begins, outside_idle}
 use Rattle.jcr_session.proofs.run.SessionRun.log_in.Goals as goal
@@ -26,3 +28,9 @@ returns-in-Some-clause-law g c = c.step.ensures.law ∙ c.in-Ok.ensures.law
 
 pub returns-in-None-clause-law : goal.returns-in-None-clause-law
 returns-in-None-clause-law g c = c.step.ensures.law ∙ c.in-Ok.ensures.law
+
+-- memory was refused else
+pub pinned-requires : goal.pinned-requires
+pinned-requires g c =
+    let law = g.P.Port.law c.start.new.self in
+    login_comes (starts_of law) (says_of law) (g.P.Port.shown c.start.new.self) (g.P.Port.shown c.step.new.self) c.step.result c.step.ensures.steps c.in-Ok.ensures.ok.work_is

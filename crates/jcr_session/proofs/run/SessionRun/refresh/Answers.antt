@@ -1,6 +1,8 @@
 use Rattle.std.proofs.Common.{refl, sym, ◌∙◌}
 use Rattle.oak_port.specs.declared.task.Task.TheVariants as task
 use Rattle.jcr_trans.specs.Texts.{memory_text}
+use Rattle.jcr_session.specs.Sights.{says_of, starts_of}
+use Rattle.jcr_session.proofs.Coming.{refresh_comes}
 use Rattle.jcr_session.proofs.Calling.{busy_by, may_unbegun, may_unpinned, refresh_by_pin, turned_unbegun, turned_unpinned}
 use Rattle.jcr_session.proofs.Replying.{forgo_refresh, idle_between}
 use Rattle.jcr_session.proofs.Starting.{refresh_begins}
@@ -64,3 +66,9 @@ returns-in-Some-clause-law g c = c.step.ensures.law ∙ c.in-Ok.ensures.law
 
 pub returns-in-None-clause-law : goal.returns-in-None-clause-law
 returns-in-None-clause-law g c = c.say_memory-in-None.ensures.law ∙ (c.step.ensures.law ∙ c.in-Ok.ensures.law)
+
+-- the step ends with a pin, or memory was refused
+pub pinned-requires : goal.pinned-requires
+pinned-requires g c =
+    let law = g.P.Port.law c.start.new.self in
+    refresh_comes (starts_of law) (says_of law) (g.P.Port.shown c.start.new.self) (g.P.Port.shown c.step.new.self) c.step.result c.step.ensures.steps c.in-Ok.ensures.ok.work_is

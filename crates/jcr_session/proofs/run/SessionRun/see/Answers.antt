@@ -1,9 +1,10 @@
-use Rattle.std.proofs.Common.{◌≡◌}
+use Rattle.std.proofs.Common.{◌≡◌, refl}
 use Rattle.std.specs.String.{string_bytes}
 use Rattle.jcr_trans.specs.Texts.{memory_text}
 use Rattle.jcr_session.specs.Standing.{HasSeen, MayAnswer}
+use Rattle.jcr_session.specs.declared.run.Due.TheVariants as due
 use Rattle.jcr_session.proofs.Answering.{made_if, made_or, sees_memory, sees_reply}
-use Rattle.jcr_session.proofs.Replying.{turned_like}
+use Rattle.jcr_session.proofs.Replying.{seen_between, turned_like}
 use Rattle.jcr_session.proofs.run.SessionRun.see.Goals as goal
 
 -- the reply by the view
@@ -20,3 +21,8 @@ say_made-requires-clause-memory g c =
 pub returns-clause-turned : goal.returns-clause-turned
 returns-clause-turned g c =
     turned_like (g.P.Port.law c.args.port.now) (g.P.Port.shown c.args.port.now) (g.P.Port.shown c.say_made.new.port) c.args.self.now c.seen_reply-text.new.self c.say_made.new.self c.say_made.result c.seen_reply-text.ensures.same.session c.seen_reply-text.ensures.same.commands c.seen_reply-text.ensures.same.index c.say_made.ensures.turned
+
+-- the tree was read
+pub seen_reply-text-requires-clause-seen : goal.seen_reply-text-requires-clause-seen
+seen_reply-text-requires-clause-seen g c =
+    seen_between (g.P.Port.law c.args.port.now) (g.P.Port.shown c.args.port.now) c.args.self.now c.requires.stands c.requires.between c.requires.read due.See c.requires.next refl

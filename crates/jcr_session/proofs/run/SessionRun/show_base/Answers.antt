@@ -4,6 +4,7 @@ use Rattle.jr_path.specs.declared.text.Text.{Text}
 use Rattle.jcr_trans.specs.Answers.{ShowsVector}
 use Rattle.jcr_trans.specs.Texts.{answer_text, memory_text}
 use Rattle.jcr_session.specs.Standing.{MayAnswer}
+use Rattle.jcr_session.proofs.Waiting.{pin_is_there}
 use Rattle.jcr_session.proofs.Answering.{made_err, made_ok}
 use Rattle.jcr_session.proofs.Calling.{may_behind, turned_behind_place}
 use Rattle.jcr_session.proofs.Replying.{forgo_head, show_base}
@@ -42,3 +43,10 @@ returns-clause-turned g c =
 
 pub returns-clause-law : goal.returns-clause-law
 returns-clause-law g c = c.say_made.ensures.law ∙ c.in-Some.ensures.law
+
+-- a session that is in has a pin
+pub unreachable-requires : goal.unreachable-requires
+unreachable-requires g c =
+    let law = g.P.Port.law c.args.port.now in
+    let p = g.P.Port.shown c.args.port.now in
+    pin_is_there law p (inside_of law p c.args.self.now c.requires.stands c.requires.between) c.pin.result c.in_default.is c.in_default.ensures.base

@@ -1,8 +1,11 @@
-use Rattle.std.proofs.Common.{max, ◌∙◌, ap, refl, arith}
+use Rattle.std.proofs.Common.{◌≡◌, ◌+◌, ap, sym, ◌∙◌, arith}
+use Rattle.oak_node.specs.Fields.{state_of}
+use Rattle.oak_node.specs.Heads.{known_time, next_draw}
 use Rattle.oak_node.proofs.Kept.{draw_memory}
 use Rattle.oak_node.proofs.memory.NodeMem.draw.Goals as goal
 
 pub invariant_of-self-2 : goal.invariant_of-self-2
 invariant_of-self-2 c =
-    let time = c.max-time.ensures ∙ ap (λ t. max t c.self.inside.last_time) c.greatest_time.ensures in
-    draw_memory _ _ _ c.self.invariant (omega (arith, time)) refl c.in_ok-push.ensures.items
+    let next = c.next_draw-revision.ensures ∙ ap next_draw (sym c.self.view_is) in
+    let time : c.next_draw-revision.result.time ≡ known_time (state_of c.self.inside) + 1 = ap (λ q. q.time) next in
+    draw_memory (state_of c.self.inside) _ _ c.self.invariant (omega (arith, time)) (ap (λ q. q.cluster) next) c.in_ok-push.ensures.items

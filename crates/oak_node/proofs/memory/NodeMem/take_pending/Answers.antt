@@ -24,4 +24,4 @@ returns-clause-pending c =
 pub returns-clause-ok : goal.returns-clause-ok
 returns-clause-ok c =
     let kept = filter_same _ (λ (note : Note). not (sees c.self.inside.head note.revision)) _ (λ x b f' k. search rules) _ _ c.retain.ensures.filtered in
-    ap (λ (ns : List Note). record { cluster = c.self.inside.cluster; head = c.self.inside.head; sweep = c.self.inside.sweep; last_time = c.self.inside.last_time; above = c.self.inside.above.items; pins = c.self.inside.pins.items; notes = ns }) kept ∙ ap without_seen c.self.view_is
+    ap (λ (ns : List Note). record { cluster = c.self.inside.cluster; head = c.self.inside.head; sweep = c.self.inside.sweep; last_time = c.self.inside.last_time; above = c.self.inside.above.items; pins = c.self.inside.pins.items; notes = ns; stopped = c.self.inside.stopped; recovered = c.self.inside.recovered }) kept ∙ ap without_seen c.self.view_is

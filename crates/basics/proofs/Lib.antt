@@ -1,0 +1,4 @@
+pub mod Bools
+pub mod Options
+pub mod Orders
+pub mod Lists

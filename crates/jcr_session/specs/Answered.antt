@@ -1,0 +1,109 @@
+-- What a step of each of a session's tasks may answer, and what the session makes of the answer.
+use Rattle.std.specs.Prelude.{Bool, true, false, ⊤, Option, None, Some}
+use Rattle.jr_rev.specs.declared.vector.Pin.{Pin}
+use Rattle.oak_machine.specs.declared.event.StepKind.{StepKind}
+use Rattle.oak_machine.specs.declared.event.StepKind.TheVariants as kind
+use Rattle.oak_commit.specs.declared.outcome.CommitEnd.{CommitEnd}
+use Rattle.oak_commit.specs.declared.outcome.CommitEnd.TheVariants as commit
+use Rattle.oak_port.specs.declared.task.StepOut.{StepOut}
+use Rattle.oak_port.specs.declared.task.StepOut.TheVariants as out
+use Rattle.oak_port.specs.declared.task.TaskEnd.TheVariants as end
+use Rattle.jcr_session.specs.declared.run.Phase.{Phase}
+use Rattle.jcr_session.specs.declared.run.Phase.TheVariants as phase
+use Rattle.jcr_session.specs.declared.sight.Listed.{Listed}
+use Rattle.jcr_session.specs.declared.sight.Listed.TheVariants as listed
+use Rattle.jcr_session.specs.declared.sight.Loaded.{Loaded}
+use Rattle.jcr_session.specs.declared.sight.Loaded.TheVariants as loaded
+use Rattle.jcr_session.specs.declared.turn.Turn.{Turn}
+use Rattle.jcr_session.specs.declared.turn.Turn.TheVariants as turn
+
+-- ---- a login or a refresh
+
+-- a login or a refresh ends with a pin, or memory is refused
+abbrev pub IsPinAnswer : StepOut → Type 0
+IsPinAnswer (out.Ready (end.Pinned pin)) = ⊤
+IsPinAnswer out.Memory = ⊤
+IsPinAnswer _ = ⊥
+
+-- the pin with which a task ended
+abbrev pub pinned_by : StepOut → Option Pin
+pinned_by (out.Ready (end.Pinned pin)) = Some pin
+pinned_by _ = None
+
+-- ---- a leave
+
+-- a leave ends, or memory is refused
+abbrev pub IsLeaveAnswer : StepOut → Type 0
+IsLeaveAnswer (out.Ready end.Ended) = ⊤
+IsLeaveAnswer out.Memory = ⊤
+IsLeaveAnswer _ = ⊥
+
+-- the answer ends a leave
+abbrev pub ended_by : StepOut → Bool
+ended_by (out.Ready end.Ended) = true
+ended_by _ = false
+
+-- ---- a step of reading
+
+-- a node is still being read, is there, or is not, or memory is refused
+abbrev pub IsLoadAnswer : StepOut → Type 0
+IsLoadAnswer (out.Went k) = ⊤
+IsLoadAnswer (out.Ready (end.Node found)) = ⊤
+IsLoadAnswer out.Memory = ⊤
+IsLoadAnswer _ = ⊥
+
+-- what the answer tells of the node that was being read
+abbrev pub loaded_by : StepOut → Loaded
+loaded_by (out.Went k) = loaded.Going
+loaded_by (out.Ready (end.Node found)) = loaded.Found found
+loaded_by _ = loaded.Refused
+
+-- the names of children are still being read, or they are these, or memory is refused
+abbrev pub IsListAnswer : StepOut → Type 0
+IsListAnswer (out.Went k) = ⊤
+IsListAnswer (out.Ready (end.Children names)) = ⊤
+IsListAnswer out.Memory = ⊤
+IsListAnswer _ = ⊥
+
+-- what the answer tells of the names that were being read
+abbrev pub listed_by : StepOut → Listed
+listed_by (out.Went k) = listed.Going
+listed_by (out.Ready (end.Children names)) = listed.Names names
+listed_by _ = listed.Refused
+
+-- ---- a commit
+
+-- the first step of a commit draws its revision, or memory is refused
+abbrev pub IsDrawAnswer : StepOut → Type 0
+IsDrawAnswer (out.Went k) = ⊤
+IsDrawAnswer out.Memory = ⊤
+IsDrawAnswer _ = ⊥
+
+-- the step was made, and its task goes on
+abbrev pub has_went : StepOut → Bool
+has_went (out.Went k) = true
+has_went _ = false
+
+-- a step of a commit that has drawn goes on, waits, or ends the commit
+abbrev pub IsCommitAnswer : StepOut → Type 0
+IsCommitAnswer (out.Went k) = ⊤
+IsCommitAnswer (out.Wait q) = ⊤
+IsCommitAnswer (out.Ready (end.Commit e)) = ⊤
+IsCommitAnswer _ = ⊥
+
+-- the kind of the step with which a commit ended
+abbrev pub kind_of_end : CommitEnd → StepKind
+kind_of_end (commit.Committed r) = kind.Pin
+kind_of_end _ = kind.Finish
+
+-- the turn of a commit, by what its step answered
+abbrev pub turn_by : StepOut → Turn
+turn_by (out.Went k) = turn.Stepped k
+turn_by (out.Wait q) = turn.Waiting q
+turn_by (out.Ready (end.Commit e)) = turn.Stepped (kind_of_end e)
+turn_by _ = turn.Memory
+
+-- where the session stands in its save, by what the step answered
+abbrev pub phase_by : StepOut → Phase → Phase
+phase_by (out.Ready (end.Commit e)) now = phase.Saved e
+phase_by _ now = now

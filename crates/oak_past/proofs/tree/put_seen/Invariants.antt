@@ -1,0 +1,8 @@
+use Rattle.std.proofs.Common.{◌≡◌, filter, reverse}
+use Rattle.jr_rev.specs.Vectors.{sees}
+use Rattle.oak_machine.specs.Commits.{applied_all, committed_edits}
+use Rattle.oak_past.proofs.tree.put_seen.Given as goal
+
+-- what the edits that are left make of the tree so far stays
+abbrev pub invariant-loop-r : goal.invariant-loop-r
+invariant-loop-r l = applied_all l.tree (filter (λ e. sees l.v e.0) l.r-iterator) ≡ applied_all l.initial.tree (filter (λ e. sees l.v e.0) (committed_edits (reverse l.events)))
