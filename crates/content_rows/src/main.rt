@@ -1,7 +1,8 @@
-//! Rows of the content: each line of the input is a question about a tree, and the tree as JSON behind ` | `; each line of the
-//! output is the answer.
+//! Rows of the content: each line of the input is a question about a tree or commits, and these as JSON behind ` | `; each line of
+//! the output is the answer.
 #![tactic(auto)]
 
+mod events;
 mod locks;
 mod references;
 mod rows;

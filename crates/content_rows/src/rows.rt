@@ -1,5 +1,5 @@
 // What comes of each line.
-use crate::{locks, references, trees};
+use crate::{events, locks, references, trees};
 use jr_path::{Path, PathFault};
 use jr_tree::Tree;
 use std::alloc::{AllocError, Global};
@@ -14,15 +14,23 @@ pub(crate) fn answers(alloc: Global, input: &[u8]) -> Result<String, AllocError>
 
 fn add_answers(alloc: Global, text: &str, out: &mut String) -> Result<(), AllocError> {
     for line in text.lines() {
-        let (question, tree) = line.split_once(" | ").unwrap_or((line, "{}"));
-        add_line(alloc, question, tree, out)?;
+        let (question, given) = line.split_once(" | ").unwrap_or((line, "{}"));
+        add_line(alloc, question, given, out)?;
         out.push('\n')?;
     }
     Ok(())
 }
 
-fn add_line(alloc: Global, question: &str, tree: &str, out: &mut String) -> Result<(), AllocError> {
-    match trees::tree_of(alloc, tree)? {
+fn add_line(
+    alloc: Global,
+    question: &str,
+    given: &str,
+    out: &mut String,
+) -> Result<(), AllocError> {
+    if let ("events", asked) = cut(question) {
+        return events::add(alloc, asked, given, out);
+    }
+    match trees::tree_of(alloc, given)? {
         Some(tree) => add_answer(alloc, &tree, question, out),
         None => out.push_str("no tree"),
     }

@@ -55,7 +55,7 @@ fn add_properties(
     Ok(true)
 }
 
-fn path_of(alloc: Global, text: &str) -> Result<Option<Path>, AllocError> {
+pub(crate) fn path_of(alloc: Global, text: &str) -> Result<Option<Path>, AllocError> {
     match Path::parse(alloc, text) {
         Ok(path) => Ok(Some(path)),
         Err(PathFault::Memory) => Err(AllocError),
@@ -63,7 +63,7 @@ fn path_of(alloc: Global, text: &str) -> Result<Option<Path>, AllocError> {
     }
 }
 
-fn name_of(alloc: Global, text: &str) -> Result<Option<Name>, AllocError> {
+pub(crate) fn name_of(alloc: Global, text: &str) -> Result<Option<Name>, AllocError> {
     match Name::parse(alloc, text) {
         Ok(name) => Ok(Some(name)),
         Err(PathFault::Memory) => Err(AllocError),
