@@ -3,7 +3,7 @@ use Rattle.std.proofs.Common.{◌≡◌, ℕ, ◌<◌, ◌≤◌, Bool, true, fa
 use Rattle.std.specs.Prelude.{◌==◌, ◌&&◌, not, nat_le, nat_lt}
 use Rattle.std.specs.List.{list_all}
 use Rattle.std.specs.Str.{all_scalars, encode_utf8_all}
-use Rattle.std.proofs.lemmas.Bool.{false≢true}
+use Rattle.std.proofs.lemmas.Bool.{and_right, false≢true, and_parts}
 use Rattle.std.proofs.lemmas.Bool.Decides.{nat_tests}
 use Rattle.std.proofs.lemmas.Str.{encode_ascii}
 use Rattle.jr_path.specs.Grammar.{IsName, IsPrefixed, OneOrMore, is_plain, is_prefix_character}
@@ -30,14 +30,6 @@ is_plain_name text = are_visible text && all_pass is_plain text
 abbrev pub is_prefixed_name : List ℕ → List ℕ → Bool
 is_prefixed_name prefix local = are_visible (prefix ++ 58 ∷ local) && (all_pass is_prefix_character prefix && all_pass is_plain local)
 
-both : (a b : Bool) → (a && b) ≡ true → (a ≡ true) × (b ≡ true)
-both true b h = (refl, h)
-both false b h = absurd (false≢true h)
-
-and_false : (b : Bool) → (b && false) ≡ false
-and_false true = refl
-and_false false = refl
-
 passed : (passes : ℕ → Bool) (cs : List ℕ) → all_pass passes cs ≡ true → OneOrMore passes cs
 passed passes [] h = absurd (false≢true h)
 passed passes (c ∷ cs) h = (λ e. absurd (false≢true (sym (ap (all_pass passes) e) ∙ h)), h)
@@ -51,20 +43,20 @@ short n h = grind (arith, nat_tests)
 spelled : (cs : List ℕ) → list_all is_visible cs ≡ true → encode_utf8_all cs ≡ cs
 spelled [] h = refl
 spelled (c ∷ cs) h =
-    let p = both (is_visible c) (list_all is_visible cs) h in
-    let low = ascii c (both (nat_lt c 128) (not (c == 32)) p.0).0 in
+    let p = and_parts (is_visible c) (list_all is_visible cs) h in
+    let low = ascii c (and_parts (nat_lt c 128) (not (c == 32)) p.0).0 in
     ap (λ (bytes : List ℕ). bytes ++ encode_utf8_all cs) (encode_ascii c low) ∙ ap (λ (bytes : List ℕ). c ∷ bytes) (spelled cs p.1)
 
 space_last : (front : List ℕ) → list_all is_visible (front ++ 32 ∷ []) ≡ false
 space_last [] = refl
-space_last (c ∷ front) = ap (λ b. is_visible c && b) (space_last front) ∙ and_false (is_visible c)
+space_last (c ∷ front) = ap (λ b. is_visible c && b) (space_last front) ∙ and_right (is_visible c) false refl
 
 name : (text : List ℕ) → are_visible text ≡ true → OneOrMore is_plain text ⊎ IsPrefixed text → IsName text
 name [] h form = absurd (false≢true h)
 name (c ∷ cs) h form =
-    let all = (both _ _ h).1 in
-    let visible : list_all is_visible (c ∷ cs) ≡ true = (both _ _ all).0 in
-    let rest = both (all_scalars (c ∷ cs)) (nat_le (length (c ∷ cs)) 255) (both _ _ all).1 in
+    let all = (and_parts _ _ h).1 in
+    let visible : list_all is_visible (c ∷ cs) ≡ true = (and_parts _ _ all).0 in
+    let rest = and_parts (all_scalars (c ∷ cs)) (nat_le (length (c ∷ cs)) 255) (and_parts _ _ all).1 in
     record {
       characters = c ∷ cs;
       scalar = rest.0;
@@ -79,11 +71,11 @@ name (c ∷ cs) h form =
 
 -- a visible text that is plain throughout is a name: `plain_name (codes "node") refl`
 pub plain_name : (text : List ℕ) → is_plain_name text ≡ true → IsName text
-plain_name text h = let p = both (are_visible text) (all_pass is_plain text) h in name text p.0 (inl (passed is_plain text p.1))
+plain_name text h = let p = and_parts (are_visible text) (all_pass is_plain text) h in name text p.0 (inl (passed is_plain text p.1))
 
 -- a visible text with a prefix is a name: `prefixed_name (codes "jcr") (codes "system") refl`
 pub prefixed_name : (prefix local : List ℕ) → is_prefixed_name prefix local ≡ true → IsName (prefix ++ 58 ∷ local)
 prefixed_name prefix local h =
-    let p = both (are_visible (prefix ++ 58 ∷ local)) (all_pass is_prefix_character prefix && all_pass is_plain local) h in
-    let parts = both (all_pass is_prefix_character prefix) (all_pass is_plain local) p.1 in
+    let p = and_parts (are_visible (prefix ++ 58 ∷ local)) (all_pass is_prefix_character prefix && all_pass is_plain local) h in
+    let parts = and_parts (all_pass is_prefix_character prefix) (all_pass is_plain local) p.1 in
     name (prefix ++ 58 ∷ local) p.0 (inr (record { prefix = prefix; local = local; split = refl; is_prefix = passed is_prefix_character prefix parts.0; is_local = passed is_plain local parts.1 }))

@@ -1,9 +1,9 @@
 -- The parts of a path: the node above, the last name, and what it is at or below.
-use Rattle.std.proofs.Common.{◌≡◌, ℕ, ◌-◌, Bool, true, false, List, Some, [], ◌∷◌, ◌++◌, drop, length, take, refl, sym, ap, ◌∙◌, arith}
-use Rattle.std.specs.Prelude.{◌↔◌, ◌&&◌, IsTrue, slice_get}
+use Rattle.std.proofs.Common.{◌≡◌, ℕ, ◌-◌, true, false, List, Some, [], ◌∷◌, ◌++◌, drop, length, take, refl, sym, ap, ◌∙◌, arith}
+use Rattle.std.specs.Prelude.{◌↔◌, IsTrue, slice_get}
 use Rattle.std.specs.Cmp.Lexicographic.{pointwise}
 use Rattle.std.specs.Ordering.{eq_by_cmp}
-use Rattle.std.proofs.lemmas.Bool.{false≢true, ne_eqb}
+use Rattle.std.proofs.lemmas.Bool.{false≢true, ne_eqb, and_parts}
 use Rattle.std.proofs.lemmas.Cmp.{nat_list_cmp_total}
 use Rattle.std.proofs.lemmas.List.{length_push, take-append-drop}
 use Rattle.jr_path.specs.Names.{is_under, last_name, name_cmp, parent_of}
@@ -30,16 +30,12 @@ last_name-child path name =
     let front : length (path ++ name ∷ []) - 1 ≡ length path = omega arith in
     rw front (get_last path name)
 
-both : (a b : Bool) → a && b ≡ true → (a ≡ true) × (b ≡ true)
-both true b h = (refl, h)
-both false b h = absurd (false≢true h)
-
 same_names : (xs ys : List (List ℕ)) → pointwise (eq_by_cmp name_cmp) xs ys ≡ true → ys ≡ xs
 same_names [] [] h = refl
 same_names [] (y ∷ ys) h = absurd (false≢true h)
 same_names (x ∷ xs) [] h = absurd (false≢true h)
 same_names (x ∷ xs) (y ∷ ys) h =
-    let p = both (eq_by_cmp name_cmp x y) (pointwise (eq_by_cmp name_cmp) xs ys) h in
+    let p = and_parts (eq_by_cmp name_cmp x y) (pointwise (eq_by_cmp name_cmp) xs ys) h in
     let first : x ≡ y = (tested nat_list_cmp_total name_exact x y).0 p.0 in
     let rest = same_names xs ys p.1 in
     cc

@@ -1,9 +1,9 @@
 -- Names each after a slash: one list of names for each text, and where a text stops being such.
 use Rattle.std.proofs.Common.{◌≡◌, ◌≢◌, ℕ, ◌+◌, ◌<◌, ◌≤◌, Bool, true, false, cond, List, [], ◌∷◌, ◌++◌, length, take, get_or, suc, zero, refl, sym, ap, ◌∙◌, append_assoc, inl, inr, ◌⊎◌, arith, length-append}
-use Rattle.std.specs.Prelude.{IsTrue, All, ◌==◌, ◌&&◌}
+use Rattle.std.specs.Prelude.{IsTrue, All, ◌==◌}
 use Rattle.std.specs.List.{AllByRecursion, list_all, onto_first, slice_split}
-use Rattle.std.proofs.lemmas.Bool.{cases_lt, eqb-true, eqb-false, false≢true}
-use Rattle.std.proofs.lemmas.List.{length-take-le, nil_from_length, take-append-le, take_more}
+use Rattle.std.proofs.lemmas.Bool.{cases_lt, eqb-true, eqb-false, false≢true, and_parts}
+use Rattle.std.proofs.lemmas.List.{length-take-le, nil_from_length, take-append-le, take_more, append-nil}
 use Rattle.std.proofs.lemmas.List.Elements.{All-head, All-tail, All-cons, All-nil}
 use Rattle.std.proofs.lemmas.Str.{length-le-encodes}
 use Rattle.std.proofs.str.Laws as laws
@@ -17,10 +17,6 @@ use Rattle.jr_path.proofs.Follows.{plain_from_prefix}
 
 abbrev pub NoSlash : List ℕ → Type 0
 NoSlash = AllByRecursion (λ b. b ≢ 47)
-
-both : (a b : Bool) → a && b ≡ true → (a ≡ true) × (b ≡ true)
-both true b h = (refl, h)
-both false b h = absurd (false≢true h)
 
 no_slash-append : (xs ys : List ℕ) → NoSlash xs → NoSlash ys → NoSlash (xs ++ ys)
 no_slash-append [] ys h k = k
@@ -47,11 +43,11 @@ plain_no_slash c h e = let h' : IsTrue (is_plain 47) = rw e at h in false≢true
 
 no_slash_plain : (cs : List ℕ) → IsTrue (list_all is_plain cs) → NoSlash cs
 no_slash_plain [] h = tt
-no_slash_plain (c ∷ cs) h = let p = both (is_plain c) (list_all is_plain cs) h in (plain_no_slash c p.0, no_slash_plain cs p.1)
+no_slash_plain (c ∷ cs) h = let p = and_parts (is_plain c) (list_all is_plain cs) h in (plain_no_slash c p.0, no_slash_plain cs p.1)
 
 no_slash_prefix : (cs : List ℕ) → IsTrue (list_all is_prefix_character cs) → NoSlash cs
 no_slash_prefix [] h = tt
-no_slash_prefix (c ∷ cs) h = let p = both (is_prefix_character c) (list_all is_prefix_character cs) h in (plain_no_slash c (plain_from_prefix c p.0), no_slash_prefix cs p.1)
+no_slash_prefix (c ∷ cs) h = let p = and_parts (is_prefix_character c) (list_all is_prefix_character cs) h in (plain_no_slash c (plain_from_prefix c p.0), no_slash_prefix cs p.1)
 
 pub name_no_slash : (text : List ℕ) → IsName text → NoSlash text
 name_no_slash text name = rw name.spelled (no_slash_encodes name.characters (elim name.form [
@@ -109,17 +105,13 @@ no_slash_behind : (q m : List ℕ) → NoSlash (q ++ m) → NoSlash m
 no_slash_behind [] m h = h
 no_slash_behind (x ∷ q) m h = no_slash_behind q m h.1
 
-append_nil : (xs : List ℕ) → xs ++ [] ≡ xs
-append_nil [] = refl
-append_nil (x ∷ xs) = ap (λ ys. x ∷ ys) (append_nil xs)
-
 -- a name that ends where a slash stands, or where the text ends, is what was read
 cut_whole : (n a q b : List ℕ) → NoSlash n → NoSlash q → Slashed a → Slashed b → n ++ a ≡ q ++ b → (n ≡ q) × (a ≡ b)
 cut_whole n a q b n_apart q_apart a_slashed b_slashed e =
     let p = cut n a q b q_apart a_slashed e in
     let m_apart : NoSlash p.0 = no_slash_behind q p.0 (rw p.1 at n_apart) in
     let none : p.0 ≡ [] = by p.0 m_apart p.2 b_slashed in
-    (p.1 ∙ ap (λ xs. q ++ xs) none ∙ append_nil q, sym (ap (λ xs. xs ++ a) none) ∙ p.2)
+    (p.1 ∙ ap (λ xs. q ++ xs) none ∙ append-nil q, sym (ap (λ xs. xs ++ a) none) ∙ p.2)
   where
     nothing : (m : List ℕ) → m ++ a ≡ [] → m ≡ []
     nothing [] e = refl
@@ -230,7 +222,7 @@ first_stops p tail o apart slashed fault =
           others = [];
           is_first = fault.before.1;
           are_names = tt;
-          spelled = (let cut_here : take o (p ++ tail) ≡ take o p = take-append-le o p tail within in rw cut_here (ap (λ xs. 47 ∷ xs) (sym (append_nil (take o p ++ fault.before.0)))));
+          spelled = (let cut_here : take o (p ++ tail) ≡ take o p = take-append-le o p tail within in rw cut_here (ap (λ xs. 47 ∷ xs) (sym (append-nil (take o p ++ fault.before.0)))));
         },
       );
       there = λ lt b. elim (cases_lt o (length p)) [
@@ -355,7 +347,7 @@ letter_name : IsName (97 ∷ [])
 letter_name = record {
   characters = 97 ∷ [];
   scalar = refl;
-  spelled = sym (append_nil (encode 97) ∙ laws.one 97 (omega arith));
+  spelled = sym (append-nil (encode 97) ∙ laws.one 97 (omega arith));
   form = inl ((λ e. cc), refl);
   size = omega arith;
   first = λ more e. apart_numbers 32 97 (omega arith) (sym (head_of 97 32 [] more e).0);

@@ -1,11 +1,11 @@
 -- A text of which some characters are read as a name's, and where it stops being one.
 use Rattle.std.proofs.Common.{◌≡◌, ◌≢◌, ℕ, ◌+◌, ◌/◌, ◌^◌, ◌<◌, ◌≤◌, Bool, true, false, cond, List, None, Option, [], ◌∷◌, ◌++◌, length, take, get_or, refl, sym, ap, ◌∙◌, append_assoc, inl, inr, ◌⊎◌, arith, length-append}
-use Rattle.std.specs.Prelude.{MatchOption, Result, Ok, Err, Some, codes, nat_le, nat_lt, ◌==◌, ◌&&◌}
+use Rattle.std.specs.Prelude.{MatchOption, Result, Ok, Err, Some, codes, nat_le, nat_lt, ◌==◌}
 use Rattle.std.specs.Char.{IsScalar, len_utf8}
 use Rattle.std.specs.Str.{IsUtf8}
-use Rattle.std.proofs.lemmas.Bool.{cases_lt, eqb-true, false≢true, ltb-true, ltb-false, leb-true, leb-false}
+use Rattle.std.proofs.lemmas.Bool.{cases_lt, eqb-true, ltb-true, ltb-false, leb-true, leb-false, and_parts}
 use Rattle.std.proofs.lemmas.Bool.Decides.{nat_tests}
-use Rattle.std.proofs.lemmas.List.{nil_from_length}
+use Rattle.std.proofs.lemmas.List.{nil_from_length, append-nil as append_nil}
 use Rattle.std.proofs.lemmas.Str.{IsUtf8-past_char, cons_from_encodes, char_from_byte, encodes-append, length-encode, length-le-encodes, len_utf8_bounds, encode_ascii}
 use Rattle.std.proofs.str.Laws as laws
 use lib.Utf8.{encode, encodes, next, scalar, scalars}
@@ -29,20 +29,16 @@ pub record Scanned (text : List ℕ) (s : Stage) (rest : List ℕ) (offset : ℕ
 pub scan_starts : (text : List ℕ) → IsUtf8 text → Scanned text Start text 0
 scan_starts text utf8 = record { front = []; are_scalars = refl; split = refl; size = refl; utf8 = utf8; into = λ cs f. f; out = λ cs f. f; fits = omega arith }
 
-both : (a b : Bool) → a && b ≡ true → (a ≡ true) × (b ≡ true)
-both true b h = (refl, h)
-both false b h = absurd (false≢true h)
-
 scalars-append : (cs ds : List ℕ) → scalars cs ≡ true → scalars ds ≡ true → scalars (cs ++ ds) ≡ true
 scalars-append [] ds h k = k
-scalars-append (c ∷ cs) ds h k = let p = both (scalar c) (scalars cs) h in rw p.0 (scalars-append cs ds p.1 k)
+scalars-append (c ∷ cs) ds h k = let p = and_parts (scalar c) (scalars cs) h in rw p.0 (scalars-append cs ds p.1 k)
 
 -- a text's first character is a scalar value
 first_scalar : (c : ℕ) (rest : List ℕ) → IsUtf8 (encode c ++ rest) → IsScalar c
 first_scalar c rest u =
     let p = cons_from_encodes u.0 rest c u.1.1 in
     let all : scalars (c ∷ p.0) ≡ true = ap scalars (sym p.1) ∙ u.1.0 in
-    (both (scalar c) (scalars p.0) all).0
+    (and_parts (scalar c) (scalars p.0) all).0
 
 encodes_one : (c : ℕ) → encodes (c ∷ []) ≡ encode c
 encodes_one c = append_nil (encode c)
@@ -68,10 +64,6 @@ scan_moves text s t rest rest' offset c scan first is fits =
       fits = rw len (omega arith);
     }
 
-append_nil : (xs : List ℕ) → xs ++ [] ≡ xs
-append_nil [] = refl
-append_nil (x ∷ xs) = ap (λ ys. x ∷ ys) (append_nil xs)
-
 -- ---- names that begin with the characters read
 
 name_of : (cs text : List ℕ) → scalars cs ≡ true → text ≡ encodes cs → length text ≤ 255 → Follows Start cs → text ≢ codes "." → text ≢ codes ".." → IsName text
@@ -88,7 +80,7 @@ cut_front (f ∷ fs) cs t e =
 
 later_scalars : (cs ds : List ℕ) → scalars (cs ++ ds) ≡ true → scalars ds ≡ true
 later_scalars [] ds h = h
-later_scalars (c ∷ cs) ds h = later_scalars cs ds (both (scalar c) (scalars (cs ++ ds)) h).1
+later_scalars (c ∷ cs) ds h = later_scalars cs ds (and_parts (scalar c) (scalars (cs ++ ds)) h).1
 
 -- what a name has behind the characters read
 pub record Behind (s : Stage) (offset : ℕ) (t : List ℕ) : Type 0 where
@@ -242,7 +234,7 @@ stops_here text s rest rest' offset c scan first dead = record {
     by_characters b more bs c_is e (d ∷ ds) all f g size =
         let lengths : length (encode d) + length (encodes ds) ≡ length (b ∷ more) = sym (length-append (encode d) (encodes ds)) ∙ ap length g in
         let len = length-encode d in
-        dead d ds f (omega arith) (alike c d b rest' (encodes ds) bs more c_is (both (scalar d) (scalars ds) all).0 e g)
+        dead d ds f (omega arith) (alike c d b rest' (encodes ds) bs more c_is (and_parts (scalar d) (scalars ds) all).0 e g)
 
     by : (rest : List ℕ) → rest ≡ encode c ++ rest' → Scanned text s rest offset → Begins IsName (take (offset + 1) text) → ⊥
     by [] e scan b = (let r = some_rest c [] rest' e in let w = len_utf8_bounds c in omega arith)

@@ -32,17 +32,10 @@ use Rattle.jr_rev.specs.declared.revision.Revision.{Revision}
 use Rattle.jr_tree.specs.Trees.{born_of, is_child_of}
 use Rattle.oak_doc.specs.declared.document.Document.{Document}
 use Rattle.oak_read.specs.Meaning.{Documents, documents_in, found_node, child_found, found_children}
+use Rattle.basics.proofs.Orders.{equal_of}
+use Rattle.std.proofs.lemmas.Bool.{and_parts}
 
 -- ---- a child's path
-
-pub is_equal : (o : Ordering) → is_eq o ≡ true → o ≡ Equal
-is_equal Less h = cc
-is_equal Equal h = refl
-is_equal Greater h = cc
-
-pub both_true : (a b : Bool) → (a && b) ≡ true → (a ≡ true) × (b ≡ true)
-both_true true b h = (refl, h)
-both_true false b h = cc
 
 -- the last name behind the others
 last_behind : (q : Path) (n : Name) → last_name q ≡ Some n → q ≡ take (length q - 1) q ++ n ∷ []
@@ -57,7 +50,7 @@ pub child_path : (p q : Path) (n : Name) → is_child_of p q ≡ true → last_n
 child_path p q n h last =
     let within : length q - 1 < length q = slice_get_within q (length q - 1) n last in
     let some : (length q == 0) ≡ false = grind (arith, nat_tests) in
-    let parent : p ≡ take (length q - 1) q = path_exact p (take (length q - 1) q) (is_equal (path_cmp p (take (length q - 1) q)) (rw some at h)) in
+    let parent : p ≡ take (length q - 1) q = path_exact p (take (length q - 1) q) (equal_of (path_cmp p (take (length q - 1) q)) (rw some at h)) in
     rw parent (last_behind q n last)
 
 pub long_child : (p q : Path) (k : ℕ) → length q ≡ k + 1 → take k q ≡ p → is_child_of p q ≡ true
@@ -106,7 +99,7 @@ module _ (table : List (DocId × Document)) (t v : RevVec) (p : Path) where
       by : (b : Bool) → (is_child_of p q && is_some (found_node ds t v q)) ≡ b → cond b (option_map (λ n. (n, born_of (found_node ds t v q))) (last_name q)) None ≡ Some c
           → (id.Node q ≡ id.Node (p ++ c.0 ∷ [])) × (is_some (found_node ds t v (p ++ c.0 ∷ [])) ≡ true) × (born_of (found_node ds t v (p ++ c.0 ∷ [])) ≡ c.1)
       by true both last =
-          let parts = both_true _ _ both in
+          let parts = and_parts _ _ both in
           let named = named_from (last_name q) (born_of (found_node ds t v q)) c last in
           let path : q ≡ p ++ c.0 ∷ [] = child_path p q c.0 parts.0 named.0 in
           (ap (λ x. id.Node x) path, ap (λ x. is_some (found_node ds t v x)) (sym path) ∙ parts.1, ap (λ x. born_of (found_node ds t v x)) (sym path) ∙ named.1)
@@ -145,7 +138,7 @@ module _ (table : List (DocId × Document)) (t v : RevVec) (p : Path) where
       by None is = let none : is_some (found_node (documents_in table) t v (p ++ n ∷ [])) ≡ false = rw is refl in cc
       by (Some d) is =
           let place = place_from_lookup (is_at (id_cmp (id.Node (p ++ n ∷ [])))) table d is in
-          let same : id.Node (p ++ n ∷ []) ≡ place.1 = id_exact (id.Node (p ++ n ∷ [])) place.1 (is_equal _ place.3) in
+          let same : id.Node (p ++ n ∷ []) ≡ place.1 = id_exact (id.Node (p ++ n ∷ [])) place.1 (equal_of _ place.3) in
           in_filter_map (child_found (documents_in table) t v p) (keys_of table) place.0 (id.Node (p ++ n ∷ [])) (n, born)
           (slice_get-map (λ e. e.0) table place.0 ∙ ap (option_map (λ e. e.0)) place.2 ∙ ap (λ x. Some x) (sym same)) gives
 

@@ -14,6 +14,7 @@ use Rattle.jr_rev.specs.Revisions.{revision_cmp, is_before}
 use Rattle.jr_rev.proofs.Order.{revision_total}
 use Rattle.oak_doc.specs.declared.document.Document.{Document}
 use Rattle.oak_read.specs.Meaning.{later_of, latest}
+use Rattle.basics.proofs.Orders.{less_of}
 
 above : (o : Ordering) → is_gt (ordering_reverse o) ≡ is_lt o
 above Less = refl
@@ -27,13 +28,8 @@ before_is a b = ap is_gt (revision_total.antisymm b a) ∙ above (revision_cmp a
 not_before : (a b c : Revision) → is_before a b ≡ false → is_before b c ≡ false → is_before a c ≡ false
 not_before a b c h k = sym (before_is a c) ∙ upto revision_total c b a (before_is b c ∙ k) (before_is a b ∙ h)
 
-is_less : (o : Ordering) → is_lt o ≡ true → o ≡ Less
-is_less Less h = refl
-is_less Equal h = cc
-is_less Greater h = cc
-
 before_trans : (a b c : Revision) → is_before a b ≡ true → is_before b c ≡ true → is_before a c ≡ true
-before_trans a b c h k = ap is_lt (revision_total.trans a b c (is_less (revision_cmp a b) h) (is_less (revision_cmp b c) k))
+before_trans a b c h k = ap is_lt (revision_total.trans a b c (less_of (revision_cmp a b) h) (less_of (revision_cmp b c) k))
 
 module _ {X : Type 0} where
   two_by : (b e f : Revision × X) (s t : Bool) → is_before b.0 e.0 ≡ s → is_before e.0 f.0 ≡ t → later_of b (Some (later_of e (Some f))) ≡ later_of (cond s e b) (Some f)

@@ -1,6 +1,6 @@
 -- The documents of a node's children stand together in store order, the least possible name first.
-use Rattle.std.proofs.Common.{◌≡◌, ◌≢◌, ℕ, ◌+◌, ◌≤◌, Bool, true, false, ◌⊎◌, inl, inr, List, [], ◌∷◌, ◌++◌, length, take, refl, sym, ap, ◌∙◌, subst, arith, append_assoc}
-use Rattle.std.specs.Prelude.{◌&&◌, codes}
+use Rattle.std.proofs.Common.{◌≡◌, ◌≢◌, ℕ, ◌+◌, ◌≤◌, true, ◌⊎◌, inl, inr, List, [], ◌∷◌, ◌++◌, length, take, refl, sym, ap, ◌∙◌, subst, arith, append_assoc}
+use Rattle.std.specs.Prelude.{codes}
 use Rattle.std.specs.List.{list_all}
 use Rattle.std.specs.declared.cmp.Ordering.{Ordering}
 use Rattle.std.specs.declared.cmp.Ordering.TheVariants.{Less, Equal, Greater}
@@ -8,7 +8,7 @@ use Rattle.std.specs.Ordering.{nat_cmp, ordering_then, ordering_reverse}
 use Rattle.std.specs.Cmp.Lexicographic.{slice_cmp}
 use Rattle.std.specs.FinMap.{nat_cmp-IsAntisymmetric}
 use Rattle.std.proofs.Math.Seq.{take-append_seam}
-use Rattle.std.proofs.lemmas.Bool.{cases_lt, false≢true}
+use Rattle.std.proofs.lemmas.Bool.{cases_lt, and_parts}
 use Rattle.std.proofs.lemmas.Cmp.{nat_cmp_total, tied_itself}
 use Rattle.std.proofs.lemmas.List.Concat.{flat_map-append}
 use Rattle.std.proofs.str.Laws as laws
@@ -27,10 +27,6 @@ use Rattle.oak_read.specs.Meaning.{path_of}
 use Rattle.oak_read.proofs.Below.{joined-child, long_child, longer}
 
 -- ---- no name is before `!`
-
-both : (a b : Bool) → (a && b) ≡ true → (a ≡ true) × (b ≡ true)
-both true b h = (refl, h)
-both false b h = absurd (false≢true h)
 
 -- the first byte is above those of the space and the control characters
 abbrev BeginsHigh : List ℕ → Type 0
@@ -55,12 +51,12 @@ high_front : (xs ys : List ℕ) → BeginsHigh xs → BeginsHigh (xs ++ ys)
 high_front xs ys h = (h.0, h.1 ++ ys, ap (λ zs. zs ++ ys) h.2, h.3)
 
 plain_first : (c : ℕ) (cs : List ℕ) → OneOrMore is_plain (c ∷ cs) ⊎ IsPrefixed (c ∷ cs) → is_plain c ≡ true
-plain_first c cs (inl plain) = (both (is_plain c) (list_all is_plain cs) plain.1).0
+plain_first c cs (inl plain) = (and_parts (is_plain c) (list_all is_plain cs) plain.1).0
 plain_first c cs (inr p) = by p.prefix p.local p.split p.is_prefix
   where
     by : (prefix local : List ℕ) → c ∷ cs ≡ prefix ++ 58 ∷ local → OneOrMore is_prefix_character prefix → is_plain c ≡ true
     by [] local e some = absurd (some.0 refl)
-    by (d ∷ prefix) local e some = let same : c ≡ d = cc in rw same (plain_from_prefix d (both (is_prefix_character d) (list_all is_prefix_character prefix) some.1).0)
+    by (d ∷ prefix) local e some = let same : c ≡ d = cc in rw same (plain_from_prefix d (and_parts (is_prefix_character d) (list_all is_prefix_character prefix) some.1).0)
 
 name_is_high : (n : Name) → IsName n → BeginsHigh n
 name_is_high n name = by name.characters name.spelled name.form name.first
