@@ -17,8 +17,8 @@ use Rattle.jr_rev.specs.declared.revision.Revision.{Revision}
 use Rattle.jr_tree.proofs.Entries.{exactly, first, is_less, second}
 use Rattle.jr_part.specs.declared.need.Need.{Need}
 use Rattle.jr_part.specs.declared.need.Need.TheVariants as need
-use Rattle.jr_part.specs.Parts.{AsksBelow, IsFirstLacking, Knowledge, Lacks, LacksNothing, Names, knows, list_at, need_cmp}
-use Rattle.jr_part.proofs.Ways.{AsksChild, There, asks_below, below_asks, has_name, lists_from, nothing_among, there_known}
+use Rattle.jr_part.specs.Parts.{AsksBelow, IsFirstLacking, Knowledge, Lacks, LacksNothing, ChildNames, knows, list_at, need_cmp, has_name}
+use Rattle.jr_part.proofs.Ways.{AsksChild, There, asks_below, below_asks, lists_from, nothing_among, there_known}
 use Rattle.jr_part.proofs.Order.{apart}
 
 -- ---- names in lists
@@ -35,7 +35,7 @@ or_right : (a b : Bool) → b ≡ true → (a || b) ≡ true
 or_right true b h = refl
 or_right false b h = h
 
-has_append : (n : Name) (xs ys : Names) → has_name (xs ++ ys) n ≡ (has_name xs n || has_name ys n)
+has_append : (n : Name) (xs ys : ChildNames) → has_name (xs ++ ys) n ≡ (has_name xs n || has_name ys n)
 has_append n [] ys = refl
 has_append n (x ∷ xs) ys = by (eq_by_cmp name_cmp n x.0) (has_append n xs ys)
   where
@@ -54,7 +54,7 @@ has_one n x h = name_exact n x.0 (exactly _ (by (eq_by_cmp name_cmp n x.0) h))
 one_has : (x : Name × Option Revision) → has_name (x ∷ []) x.0 ≡ true
 one_has x = ap (λ b. is_some (cond b (Some x.1) None)) ((eq_by_cmp_equiv nat_list_cmp_total).refl x.0)
 
-has_above : (n x : Name) (ys : Names) → below_all name_cmp x ys ≡ true → has_name ys n ≡ true → name_cmp x n ≡ Less
+has_above : (n x : Name) (ys : ChildNames) → below_all name_cmp x ys ≡ true → has_name ys n ≡ true → name_cmp x n ≡ Less
 has_above n x [] above h = absurd (false≢true h)
 has_above n x (y ∷ ys) above h = by (eq_by_cmp name_cmp n y.0) refl h (has_above n x ys (second _ _ above))
   where
@@ -62,17 +62,17 @@ has_above n x (y ∷ ys) above h = by (eq_by_cmp name_cmp n y.0) refl h (has_abo
     by true same k rest = ap (name_cmp x) (name_exact n y.0 (exactly _ same)) ∙ is_less _ (first _ _ above)
     by false same k rest = rest k
 
-sorted_behind : (xs : Names) (x : Name × Option Revision) (ys : Names) → is_sorted name_cmp (xs ++ x ∷ ys) ≡ true → below_all name_cmp x.0 ys ≡ true
+sorted_behind : (xs : ChildNames) (x : Name × Option Revision) (ys : ChildNames) → is_sorted name_cmp (xs ++ x ∷ ys) ≡ true → below_all name_cmp x.0 ys ≡ true
 sorted_behind [] x ys h = first _ _ h
 sorted_behind (z ∷ xs) x ys h = sorted_behind xs x ys (second _ _ h)
 
 -- ---- the first names of a list
 
 -- nothing lacks below the children of the first names
-abbrev pub Fine : Knowledge → Path → Names → ℕ → Type 0
+abbrev pub Fine : Knowledge → Path → ChildNames → ℕ → Type 0
 Fine k p xs i = (n : Name) → has_name (take i xs) n ≡ true → LacksNothing k (need.Subtree (p ++ n ∷ []))
 
-module _ (k : Knowledge) (p : Path) (xs : Names) where
+module _ (k : Knowledge) (p : Path) (xs : ChildNames) where
   pub fine_begins : (i : ℕ) → i ≡ 0 → Fine k p xs i
   fine_begins i none = λ n h. absurd (false≢true (ap (λ j. has_name (take j xs) n) (sym none) ∙ h))
 
@@ -91,7 +91,7 @@ module _ (k : Knowledge) (p : Path) (xs : Names) where
         by n (inr h) = subst (λ (q : Path). LacksNothing k (need.Subtree q)) (is ∙ ap (λ m. p ++ m ∷ []) (sym (has_one n x h))) nothing
 
     whole : take i xs ++ x ∷ drop (i + 1) xs ≡ xs
-    whole = sym (append_assoc (take i xs) (x ∷ []) (drop (i + 1) xs)) ∙ (ap (λ (f : Names). f ++ drop (i + 1) xs) (sym more) ∙ take-append-drop (i + 1) xs)
+    whole = sym (append_assoc (take i xs) (x ∷ []) (drop (i + 1) xs)) ∙ (ap (λ (f : ChildNames). f ++ drop (i + 1) xs) (sym more) ∙ take-append-drop (i + 1) xs)
 
     module _ (sorted : is_sorted name_cmp xs ≡ true) (there : There k p) (is : list_at k p ≡ Some xs) where
       place : (n : Name) → has_name xs n ≡ true → (has_name (take i xs) n ≡ true) ⊎ ((n ≡ x.0) ⊎ (name_cmp x.0 n ≡ Less))

@@ -23,8 +23,8 @@ use Rattle.jr_rev.specs.declared.revision.Revision.{Revision}
 use Rattle.jr_tree.specs.Trees.{Nodes, dated_children_of, is_child_of, node_at, subtree_of}
 use Rattle.jr_tree.proofs.Entries.{both, exactly, first, second}
 use Rattle.jr_tree.proofs.Pointwise.{same_path}
+use Rattle.jr_part.specs.Parts.{has_name}
 use Rattle.jr_part.proofs.Order.{front}
-use Rattle.jr_part.proofs.Ways.{has_name}
 
 -- the name of a child at q, with the revision that added the child
 abbrev child_at : Path → Path → Option Revision → Option (Name × Option Revision)

@@ -11,8 +11,8 @@ use Rattle.jr_path.specs.declared.path.Path.{Path}
 use Rattle.jr_path.proofs.Maps.{path_total}
 use Rattle.jr_part.specs.declared.need.Need.{Need}
 use Rattle.jr_part.specs.declared.need.Need.TheVariants as need
-use Rattle.jr_part.specs.Parts.{AsksBelow, IsFirstLacking, Knowledge, known_at, knows, list_at, need_cmp, path_of, rank_of}
-use Rattle.jr_part.proofs.Ways.{AsksChild, There, below_asks, has_name, path_below, reached_itself, there_known}
+use Rattle.jr_part.specs.Parts.{AsksBelow, IsFirstLacking, Knowledge, known_at, knows, list_at, need_cmp, need_path, need_rank, has_name}
+use Rattle.jr_part.proofs.Ways.{AsksChild, There, below_asks, path_below, reached_itself, there_known}
 
 pub front : (p xs ys : Path) → path_cmp (p ++ xs) (p ++ ys) ≡ path_cmp xs ys
 front [] xs ys = refl
@@ -24,15 +24,15 @@ module _ (k : Knowledge) where
   apart p n m a b of_a of_b less =
       let x = path_below k (p ++ n ∷ []) a of_a in
       let y = path_below k (p ++ m ∷ []) b of_b in
-      let at_a : path_of a ≡ p ++ n ∷ x.0 = x.1 ∙ append_assoc p (n ∷ []) x.0 in
-      let at_b : path_of b ≡ p ++ m ∷ y.0 = y.1 ∙ append_assoc p (m ∷ []) y.0 in
-      let before : path_cmp (path_of a) (path_of b) ≡ Less =
-      ap (λ (q : Path). path_cmp q (path_of b)) at_a
+      let at_a : need_path a ≡ p ++ n ∷ x.0 = x.1 ∙ append_assoc p (n ∷ []) x.0 in
+      let at_b : need_path b ≡ p ++ m ∷ y.0 = y.1 ∙ append_assoc p (m ∷ []) y.0 in
+      let before : path_cmp (need_path a) (need_path b) ≡ Less =
+      ap (λ (q : Path). path_cmp q (need_path b)) at_a
       ∙ (ap (λ (q : Path). path_cmp (p ++ n ∷ x.0) q) at_b
       ∙ (front p (n ∷ x.0) (m ∷ y.0) ∙ ap (λ o. ordering_then o (path_cmp x.0 y.0)) less)) in
-      ap (λ o. is_le (ordering_then o (nat_cmp (rank_of a) (rank_of b)))) before
+      ap (λ o. is_le (ordering_then o (nat_cmp (need_rank a) (need_rank b)))) before
 
-  least_rank : (m : Need) → is_le (nat_cmp 0 (rank_of m)) ≡ true
+  least_rank : (m : Need) → is_le (nat_cmp 0 (need_rank m)) ≡ true
   least_rank (need.Node q) = refl
   least_rank (need.Children q) = refl
   least_rank (need.Subtree q) = refl
@@ -41,18 +41,18 @@ module _ (k : Knowledge) where
   node_first : (p : Path) (m : Need) → AsksBelow k p m → is_le (need_cmp (need.Node p) m) ≡ true
   node_first p m a =
       let x = path_below k p m a in
-      let order : path_cmp p (path_of m) ≡ path_cmp [] x.0 =
+      let order : path_cmp p (need_path m) ≡ path_cmp [] x.0 =
       ap (λ (q : Path). path_cmp p q) x.1 ∙ (ap (λ (q : Path). path_cmp q (p ++ x.0)) (sym (append-nil p)) ∙ front p [] x.0) in
-      ap (λ o. is_le (ordering_then o (nat_cmp 0 (rank_of m)))) order ∙ by x.0
+      ap (λ o. is_le (ordering_then o (nat_cmp 0 (need_rank m)))) order ∙ by x.0
     where
-      by : (ns : List Name) → is_le (ordering_then (path_cmp [] ns) (nat_cmp 0 (rank_of m))) ≡ true
+      by : (ns : List Name) → is_le (ordering_then (path_cmp [] ns) (nat_cmp 0 (need_rank m))) ≡ true
       by [] = least_rank m
       by (n ∷ ns) = refl
 
   pub itself : (m : Need) → is_le (need_cmp m m) ≡ true
   itself m =
-      ap (λ o. is_le (ordering_then o (nat_cmp (rank_of m) (rank_of m)))) (tied_itself path_total (path_of m))
-      ∙ ap is_le (tied_itself nat_cmp_total (rank_of m))
+      ap (λ o. is_le (ordering_then o (nat_cmp (need_rank m) (need_rank m)))) (tied_itself path_total (need_path m))
+      ∙ ap is_le (tied_itself nat_cmp_total (need_rank m))
 
   -- ---- what lacks first at a path
 

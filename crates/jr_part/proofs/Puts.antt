@@ -13,7 +13,7 @@ use Rattle.jr_path.proofs.Maps.{lookup-insert_entry, path_total}
 use Rattle.jr_tree.specs.declared.tree.Node.{Node}
 use Rattle.jr_tree.specs.Trees.{Nodes, dated_children_of, node_at}
 use Rattle.jr_tree.proofs.Pointwise.{same_path}
-use Rattle.jr_part.specs.Parts.{AgreesWith, HasRisingLists, Knowledge, Names, is_absent, known_at, list_at, nothing_known, with_children, with_node}
+use Rattle.jr_part.specs.Parts.{AgreesWith, HaveRisingNames, Knowledge, ChildNames, is_absent, known_at, list_at, nothing_known, with_children, with_node}
 use Rattle.jr_part.proofs.Ways.{there_known}
 
 -- nothing stands at a key: its removal changes nothing
@@ -95,32 +95,32 @@ module _ (t : Nodes) (k : Knowledge) (p : Path) (agrees : AgreesWith t k) where
   node_agrees None is = absent is
 
 -- what is listed at q once names are put at p
-listed : (k : Knowledge) (p q : Path) (names : Names) → list_at (with_children k p names) q ≡ cond (eq_by_cmp path_cmp q p) (Some names) (list_at k q)
+listed : (k : Knowledge) (p q : Path) (names : ChildNames) → list_at (with_children k p names) q ≡ cond (eq_by_cmp path_cmp q p) (Some names) (list_at k q)
 listed k p q names = lookup-insert_entry path_cmp path_total q p names k.lists
 
-of_list : (x names : Names) → Some x ≡ Some names → names ≡ x
+of_list : (x names : ChildNames) → Some x ≡ Some names → names ≡ x
 of_list x names h = sym (ap (λ o. unwrap_or o x) h)
 
 pub children_agree : (t : Nodes) (k : Knowledge) (p : Path) → AgreesWith t k → AgreesWith t (with_children k p (dated_children_of t p))
 children_agree t k p agrees = record { nodes = agrees.nodes; lists = λ q names h. by q names (eq_by_cmp path_cmp q p) refl (sym (listed k p q (dated_children_of t p)) ∙ h) }
   where
-    by : (q : Path) (names : Names) (b : Bool) → eq_by_cmp path_cmp q p ≡ b → cond b (Some (dated_children_of t p)) (list_at k q) ≡ Some names → names ≡ dated_children_of t q
+    by : (q : Path) (names : ChildNames) (b : Bool) → eq_by_cmp path_cmp q p ≡ b → cond b (Some (dated_children_of t p)) (list_at k q) ≡ Some names → names ≡ dated_children_of t q
     by q names true same h = of_list (dated_children_of t p) names h ∙ ap (dated_children_of t) (sym (same_path q p same))
     by q names false same h = agrees.lists q names h
 
-pub rising_put : (k : Knowledge) (p : Path) (names : Names) → is_sorted name_cmp names ≡ true → HasRisingLists k → HasRisingLists (with_children k p names)
-rising_put k p names sorted rising = λ q ns h. by q ns (eq_by_cmp path_cmp q p) (sym (listed k p q names) ∙ h)
+pub rising_put : (lists : List (Path × ChildNames)) (p : Path) (names : ChildNames) → is_sorted name_cmp names ≡ true → HaveRisingNames lists → HaveRisingNames (insert_entry path_cmp lists p names)
+rising_put lists p names sorted rising = λ q ns h. by q ns (eq_by_cmp path_cmp q p) (sym (lookup-insert_entry path_cmp path_total q p names lists) ∙ h)
   where
-    by : (q : Path) (ns : Names) (b : Bool) → cond b (Some names) (list_at k q) ≡ Some ns → is_sorted name_cmp ns ≡ true
+    by : (q : Path) (ns : ChildNames) (b : Bool) → cond b (Some names) (lookup (is_at (path_cmp q)) lists) ≡ Some ns → is_sorted name_cmp ns ≡ true
     by q ns true h = ap (is_sorted name_cmp) (of_list names ns h) ∙ sorted
     by q ns false h = rising q ns h
 
 -- ---- what a call that may be refused leaves
 
-pub rising_either : {A E : Type 0} (k : Knowledge) (key : Path) (names : Names) (new : List (Path × Names)) (r : Result A E) → OnOk r (new ≡ insert_entry path_cmp k.lists key names) → OnErr r (new ≡ k.lists)
-    → is_sorted name_cmp names ≡ true → HasRisingLists k → HasRisingLists (record k { lists = new })
-rising_either k key names new (Ok x) ok err sorted rising = subst (λ (ls : List (Path × Names)). HasRisingLists (record k { lists = ls })) (sym ok) (rising_put k key names sorted rising)
-rising_either k key names new (Err e) ok err sorted rising = subst (λ (ls : List (Path × Names)). HasRisingLists (record k { lists = ls })) (sym err) rising
+pub rising_either : {A E : Type 0} (lists : List (Path × ChildNames)) (key : Path) (names : ChildNames) (new : List (Path × ChildNames)) (r : Result A E) → OnOk r (new ≡ insert_entry path_cmp lists key names) → OnErr r (new ≡ lists)
+    → is_sorted name_cmp names ≡ true → HaveRisingNames lists → HaveRisingNames new
+rising_either lists key names new (Ok x) ok err sorted rising = subst (λ (ls : List (Path × ChildNames)). HaveRisingNames ls) (sym ok) (rising_put lists key names sorted rising)
+rising_either lists key names new (Err e) ok err sorted rising = subst (λ (ls : List (Path × ChildNames)). HaveRisingNames ls) (sym err) rising
 
 none_from : {X : Type 0} (o : Option X) → is_some o ≡ false → o ≡ None
 none_from None h = refl

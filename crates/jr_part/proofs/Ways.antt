@@ -1,10 +1,7 @@
 -- What a subtree asks for: the node, its children, and what the subtree of each child asks for.
 use Rattle.std.proofs.Common.{◌≡◌, ◌⊎◌, inl, inr, Bool, true, false, cond, Some, None, Option, List, [], ◌∷◌, ◌++◌, is_some, refl, sym, ap, ◌∙◌, subst, append_assoc, append-nil}
 use Rattle.std.specs.Option.{option_map_or, unwrap_or}
-use Rattle.std.specs.Map.{lookup}
-use Rattle.std.specs.BTreeMap.{is_at}
 use mathlib.Core.Bool.{false≢true}
-use Rattle.jr_path.specs.Names.{name_cmp}
 use Rattle.jr_path.specs.declared.name.Name.{Name}
 use Rattle.jr_path.specs.declared.path.Path.{Path}
 use Rattle.jr_tree.specs.declared.tree.Node.{Node}
@@ -12,11 +9,7 @@ use Rattle.jr_tree.specs.Trees.{node_at}
 use Rattle.jr_tree.proofs.Entries.{both, first, second}
 use Rattle.jr_part.specs.declared.need.Need.{Need}
 use Rattle.jr_part.specs.declared.need.Need.TheVariants as need
-use Rattle.jr_part.specs.Parts.{AsksBelow, IsReached, Knowledge, LacksNothing, Names, is_absent, known_at, knows, leads_down, list_at, lists_child, path_of}
-
--- the list has the name
-abbrev pub has_name : Names → Name → Bool
-has_name names n = is_some (lookup (is_at (name_cmp n)) names)
+use Rattle.jr_part.specs.Parts.{AsksBelow, ChildNames, IsReached, Knowledge, LacksNothing, is_absent, known_at, knows, leads_down, list_at, lists_child, need_path, has_name}
 
 module _ (k : Knowledge) where
   abbrev pub There : Path → Type 0
@@ -44,7 +37,7 @@ module _ (k : Knowledge) where
   none_there : (p : Path) → known_at k p ≡ Some None → There p → ⊥
   none_there p none there = false≢true (sym (ap (λ o. is_some (unwrap_or o None)) (sym (there_known p there) ∙ none)) ∙ there)
 
-  pub lists_from : (p : Path) (names : Names) (n : Name) → list_at k p ≡ Some names → lists_child k p n ≡ has_name names n
+  pub lists_from : (p : Path) (names : ChildNames) (n : Name) → list_at k p ≡ Some names → lists_child k p n ≡ has_name names n
   lists_from p names n is = ap (λ o. option_map_or (λ ns. has_name ns n) o false) is
 
   -- ---- names lead down through a child
@@ -91,7 +84,7 @@ module _ (k : Knowledge) where
   below_asks p (need.Subtree q) a = absurd a
   below_asks p need.All a = absurd a
 
-  pub path_below : (p : Path) (m : Need) → AsksBelow k p m → (ns : List Name) × (path_of m ≡ p ++ ns)
+  pub path_below : (p : Path) (m : Need) → AsksBelow k p m → (ns : List Name) × (need_path m ≡ p ++ ns)
   path_below p (need.Node q) a = (a.names, a.path)
   path_below p (need.Children q) a = (a.0.names, a.0.path)
   path_below p (need.Subtree q) a = absurd a
@@ -110,7 +103,7 @@ module _ (k : Knowledge) where
       by m (inr (inl e)) = absurd (none_there p none e.1)
       by m (inr (inr r)) = absurd (none_there p none r.1)
 
-  pub nothing_among : (p : Path) (names : Names) → There p → list_at k p ≡ Some names → ((n : Name) → has_name names n ≡ true → LacksNothing k (need.Subtree (p ++ n ∷ []))) → LacksNothing k (need.Subtree p)
+  pub nothing_among : (p : Path) (names : ChildNames) → There p → list_at k p ≡ Some names → ((n : Name) → has_name names n ≡ true → LacksNothing k (need.Subtree (p ++ n ∷ []))) → LacksNothing k (need.Subtree p)
   nothing_among p names there is fine = λ m a. by m (below_asks p m a)
     where
       by : (m : Need) → (m ≡ need.Node p) ⊎ (((m ≡ need.Children p) × There p) ⊎ AsksChild p m) → knows k m ≡ true

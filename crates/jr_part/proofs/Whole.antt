@@ -14,10 +14,10 @@ use Rattle.jr_tree.specs.Trees.{IsTree, Nodes, node_at, subtree_of}
 use Rattle.jr_tree.proofs.Entries.{same_lists, sorted_filter}
 use Rattle.jr_tree.proofs.Pointwise.{same_path}
 use Rattle.jr_part.specs.declared.need.Need.TheVariants as need
-use Rattle.jr_part.specs.Parts.{AgreesWith, Knowledge, LacksNothing, Names, known_at, list_at}
+use Rattle.jr_part.specs.Parts.{AgreesWith, Knowledge, LacksNothing, ChildNames, known_at, list_at, has_name}
 use Rattle.jr_part.proofs.Above.{above}
 use Rattle.jr_part.proofs.Children.{has_child}
-use Rattle.jr_part.proofs.Ways.{Lists, There, has_name, known_there, lists_from, nothing_child, reached_itself, there_known}
+use Rattle.jr_part.proofs.Ways.{Lists, There, known_there, lists_from, nothing_child, reached_itself, there_known}
 
 module _ (t : Nodes) (tree : IsTree t) (k : Knowledge) (agrees : AgreesWith t k) where
   -- the node that is known at p is the tree's
@@ -30,7 +30,7 @@ module _ (t : Nodes) (tree : IsTree t) (k : Knowledge) (agrees : AgreesWith t k)
       by (Some answer) h some = known_there k p node (h ∙ ap (λ (a : Option Node). Some a) (agrees.nodes p answer h ∙ is)) ∙ sym is
 
   -- the tree's child is listed where the list is known
-  child : (p : Path) (n : Name) → is_some (node_at t (p ++ n ∷ [])) ≡ true → (o : Option Names) → list_at k p ≡ o → is_some o ≡ true → Lists k p n
+  child : (p : Path) (n : Name) → is_some (node_at t (p ++ n ∷ [])) ≡ true → (o : Option ChildNames) → list_at k p ≡ o → is_some o ≡ true → Lists k p n
   child p n is None h some = absurd (false≢true some)
   child p n is (Some names) h some = lists_from k p names n h ∙ (ap (λ ns. has_name ns n) (agrees.lists p names h) ∙ has_child p n t is)
 

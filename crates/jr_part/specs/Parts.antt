@@ -16,14 +16,14 @@ use Rattle.jr_part.specs.declared.need.Need.{Need}
 use Rattle.jr_part.specs.declared.need.Need.TheVariants as need
 
 -- the names of the children of a node, each with the revision that added the child
-abbrev pub Names : Type 0
-Names = List (Name × Option Revision)
+abbrev pub ChildNames : Type 0
+ChildNames = List (Name × Option Revision)
 
--- what is known of a tree: nodes that are there, paths at which no node is, and the children of nodes
+-- what is known of a tree: nodes that are there, paths without a node, and the children of nodes
 pub record Knowledge : Type 0 where
   pub nodes : Nodes
   pub absent : List (Path × Unit {0})
-  pub lists : List (Path × Names)
+  pub lists : List (Path × ChildNames)
 
 abbrev pub nothing_known : Knowledge
 nothing_known = record { nodes = []; absent = []; lists = [] }
@@ -34,20 +34,27 @@ is_absent k p = is_some (lookup (is_at (path_cmp p)) k.absent)
 
 -- what is known of the node at p: the node that is there, or that none is
 abbrev pub known_at : Knowledge → Path → Option (Option Node)
-known_at k p = cond (is_some (node_at k.nodes p)) (Some (node_at k.nodes p)) (cond (is_absent k p) (Some None) None)
+known_at k p =
+    cond (is_some (node_at k.nodes p))
+    (Some (node_at k.nodes p))
+    (cond (is_absent k p) (Some None) None)
 
 -- the children of p, where they are known
-abbrev pub list_at : Knowledge → Path → Option Names
+abbrev pub list_at : Knowledge → Path → Option ChildNames
 list_at k p = lookup (is_at (path_cmp p)) k.lists
+
+abbrev pub has_name : ChildNames → Name → Bool
+has_name names n = is_some (lookup (is_at (name_cmp n)) names)
 
 -- a child of that name is known to be below p
 abbrev pub lists_child : Knowledge → Path → Name → Bool
-lists_child k p n = option_map_or (λ names. is_some (lookup (is_at (name_cmp n)) names)) (list_at k p) false
+lists_child k p n = option_map_or (λ names. has_name names n) (list_at k p) false
 
 -- the names lead down from p: each is a child's of the node above, which is there
 abbrev pub leads_down : Knowledge → Path → List Name → Bool
 leads_down k p [] = true
-leads_down k p (n ∷ ns) = is_some (node_at k.nodes p) && lists_child k p n && leads_down k (p ++ n ∷ []) ns
+leads_down k p (n ∷ ns) =
+    is_some (node_at k.nodes p) && lists_child k p n && leads_down k (p ++ n ∷ []) ns
 
 -- names lead down from p to q
 pub record IsReached (k : Knowledge) (p q : Path) : Type 0 where
@@ -76,21 +83,21 @@ knows k (need.Children p) = is_some (list_at k p)
 knows k (need.Subtree p) = true
 knows k need.All = true
 
-abbrev pub path_of : Need → Path
-path_of (need.Node p) = p
-path_of (need.Children p) = p
-path_of (need.Subtree p) = p
-path_of need.All = []
+abbrev pub need_path : Need → Path
+need_path (need.Node p) = p
+need_path (need.Children p) = p
+need_path (need.Subtree p) = p
+need_path need.All = []
 
-abbrev pub rank_of : Need → ℕ
-rank_of (need.Node p) = 0
-rank_of (need.Children p) = 1
-rank_of (need.Subtree p) = 2
-rank_of need.All = 3
+abbrev pub need_rank : Need → ℕ
+need_rank (need.Node p) = 0
+need_rank (need.Children p) = 1
+need_rank (need.Subtree p) = 2
+need_rank need.All = 3
 
 -- in path order, and at one path the node before its children
 abbrev pub need_cmp : Need → Need → Ordering
-need_cmp = then_cmp (on path_of path_cmp) (on rank_of nat_cmp)
+need_cmp = then_cmp (on need_path path_cmp) (on need_rank nat_cmp)
 
 -- nothing lacks: each answer that a need asks for is known
 abbrev pub LacksNothing : Knowledge → Need → Type 0
@@ -100,9 +107,10 @@ LacksNothing k wanted = (asked : Need) → Asks k wanted asked → IsTrue (knows
 pub record IsFirstLacking (k : Knowledge) (wanted lacking : Need) : Type 0 where
   pub asked : Asks k wanted lacking
   pub unknown : IsFalse (knows k lacking)
-  pub first : (other : Need) → Asks k wanted other → IsFalse (knows k other) → IsTrue (is_le (need_cmp lacking other))
+  pub first : (other : Need) → Asks k wanted other → IsFalse (knows k other)
+      → IsTrue (is_le (need_cmp lacking other))
 
--- what lacks first, or None where nothing lacks
+-- what lacks first of all that a need asks for, or None where nothing lacks
 abbrev pub Lacks : Knowledge → Need → Option Need → Type 0
 Lacks k wanted None = LacksNothing k wanted
 Lacks k wanted (Some lacking) = IsFirstLacking k wanted lacking
@@ -110,19 +118,28 @@ Lacks k wanted (Some lacking) = IsFirstLacking k wanted lacking
 -- what is known agrees with a tree: each answer is what the tree has there
 pub record AgreesWith (t : Nodes) (k : Knowledge) : Type 0 where
   pub nodes : (p : Path) (answer : Option Node) → known_at k p ≡ Some answer → answer ≡ node_at t p
-  pub lists : (p : Path) (names : Names) → list_at k p ≡ Some names → names ≡ dated_children_of t p
+  pub lists : (p : Path) (names : ChildNames) → list_at k p ≡ Some names
+      → names ≡ dated_children_of t p
 
--- the names of the children of each node rise
-abbrev pub HasRisingLists : Knowledge → Type 0
-HasRisingLists k = (p : Path) (names : Names) → list_at k p ≡ Some names → IsTrue (is_sorted name_cmp names)
+-- the names of each list rise
+abbrev pub HaveRisingNames : List (Path × ChildNames) → Type 0
+HaveRisingNames lists =
+    (p : Path) (names : ChildNames) → lookup (is_at (path_cmp p)) lists ≡ Some names
+    → IsTrue (is_sorted name_cmp names)
 
 -- with the answer for the node at p in the place of an earlier one
 abbrev pub with_node : Knowledge → Path → Option Node → Knowledge
 with_node k p (Some node) =
-    record k { nodes = insert_entry path_cmp k.nodes p node; absent = remove_entry (is_at (path_cmp p)) k.absent }
+    record k {
+      nodes = insert_entry path_cmp k.nodes p node;
+      absent = remove_entry (is_at (path_cmp p)) k.absent;
+    }
 with_node k p None =
-    record k { nodes = remove_entry (is_at (path_cmp p)) k.nodes; absent = insert_entry path_cmp k.absent p tt }
+    record k {
+      nodes = remove_entry (is_at (path_cmp p)) k.nodes;
+      absent = insert_entry path_cmp k.absent p tt;
+    }
 
 -- with the children of p in the place of earlier ones
-abbrev pub with_children : Knowledge → Path → Names → Knowledge
+abbrev pub with_children : Knowledge → Path → ChildNames → Knowledge
 with_children k p names = record k { lists = insert_entry path_cmp k.lists p names }

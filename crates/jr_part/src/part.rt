@@ -7,7 +7,7 @@ ghost use Rattle.std.specs.BTreeMap.{is_at};
 ghost use Rattle.jr_path.specs.Names.{name_cmp, path_cmp};
 ghost use Rattle.jr_tree.specs.Trees.{IsTree, Nodes, node_at};
 ghost use Rattle.jr_part.specs.declared.need.Need.TheVariants as need;
-ghost use Rattle.jr_part.specs.Parts.{AgreesWith, HasRisingLists, Lacks, LacksNothing, known_at, list_at, nothing_known, with_children, with_node};
+ghost use Rattle.jr_part.specs.Parts.{AgreesWith, HaveRisingNames, Lacks, LacksNothing, known_at, list_at, nothing_known, with_children, with_node};
 
 use crate::Need;
 use jr_path::{DeepCopy, Keyed, List, Name, Path};
@@ -16,7 +16,7 @@ use jr_tree::{Edit, Node, Tree, Write};
 use std::alloc::{AllocError, Global};
 use std::marker::Model;
 
-/// A part of a tree, as it was read so far: the nodes that are there, the paths at which no node is, and
+/// A part of a tree, as it was read so far: the nodes that are there, the paths without a node, and
 /// the names of children, each with the revision that added the child.
 #[derive(Drop)]
 pub struct Part {
@@ -27,13 +27,13 @@ pub struct Part {
 }
 
 impl Model for Part {
-    ghost use Rattle.jr_part.specs.Parts.{Knowledge, HasRisingLists};
+    ghost use Rattle.jr_part.specs.Parts.{Knowledge, HaveRisingNames};
 
     ghost Value = { Knowledge };
 
     ghost view = { λ p. record { nodes = p.tree; absent = p.absent; lists = p.lists } };
 
-    ghost invariant = { λ p. HasRisingLists (record { nodes = p.tree; absent = p.absent; lists = p.lists }) };
+    ghost invariant = { λ p. HaveRisingNames p.lists };
 }
 
 impl Part {
@@ -60,8 +60,8 @@ impl Part {
         }
     }
 
-    /// The names of the children of the node at a path, in ascending order, where they are known, each with
-    /// the revision that added the child.
+    /// The names of the children of the node at a path, in ascending order, where they are known, each
+    /// with the revision that added the child.
     pub fn children(&self, path: &Path) -> Option<&[(Name, Option<Revision>)]>
         ensures { option_copied result ≡ list_at self.now path.now }
     {
@@ -71,8 +71,8 @@ impl Part {
         }
     }
 
-    /// Puts the node at a path, or that none is there, in the place of what was known of it. A refusal leaves
-    /// the part as it was.
+    /// Puts the node at a path, or that none is there, in the place of what was known of it. A refusal
+    /// leaves the part as it was.
     pub fn put_node(&mut self, path: &Path, node: Option<Node>) -> Result<(), AllocError>
         ensures ok { OnOk result (self.new ≡ with_node self.old path.now node) }
         ensures err { OnErr result (self.new ≡ self.old) }
@@ -102,7 +102,7 @@ impl Part {
         self.absent.put(path.copy()?, ())
     }
 
-    // A node that was there is gone. No tree agrees with both, so the copy of the nodes is made in vain.
+    // A node that was there is gone. No tree answers both, so only a wrong caller pays for the copy.
     fn put_gone(&mut self, path: &Path) -> Result<(), AllocError>
         ensures ok { OnOk result (self.new ≡ with_node self.old path.now None) }
         ensures err { OnErr result (self.new ≡ self.old) }
@@ -114,7 +114,7 @@ impl Part {
     }
 
     fn tree_without(&self, path: &Path) -> Result<Tree, AllocError>
-        ensures { IfOk result (λ tree. tree ≡ remove_entry (is_at (path_cmp path.now)) self.now.nodes) }
+        ensures { IfOk result (λ t. t ≡ remove_entry (is_at (path_cmp path.now)) self.now.nodes) }
     {
         let mut writes = Vec::new(self.alloc);
         writes.push(Write::Gone(path.copy()?))?;
@@ -126,8 +126,8 @@ impl Part {
         Ok(tree)
     }
 
-    /// Puts the names of the children of the node at a path, in the place of what was known of them. A
-    /// refusal leaves the part as it was.
+    /// Puts the names of the children of the node at a path, which rise, in the place of what was known
+    /// of them. A refusal leaves the part as it was.
     pub fn put_children(
         &mut self,
         path: &Path,
@@ -140,13 +140,14 @@ impl Part {
         self.lists.put(path.copy()?, names)
     }
 
-    /// The first answer, a Node or a Children, in path order, that the need asks for and that isn't known
-    /// yet; None where nothing lacks. A Subtree asks for its node and, where that is there, for its children
-    /// and the subtree of each; All is the subtree of the root.
+    /// The first answer, a Node or a Children, in path order and a Node before the Children of its path,
+    /// that the need asks for and that isn't known yet; None where nothing lacks. A Subtree asks for its
+    /// node and, where that is there, for its children and the subtree of each; All is the Subtree of
+    /// the root.
     ///
-    /// A Node and a Children are looked up; a Subtree goes over all that is known at and below its path up to
-    /// the answer. So who loads a subtree of n nodes asks for the Node and the Children of one path after
-    /// another as the names come, from its path down, and for the Subtree once at the end.
+    /// A Node and a Children are looked up; a Subtree goes over all that is known at and below its path,
+    /// up to the answer. So who loads a subtree of many nodes asks for the Node and then the Children of
+    /// one path after another, from its path down as the names come, and for the Subtree at the end.
     pub fn lacks(&self, need: &Need) -> Result<Option<Need>, AllocError>
         ensures { IfOk result (Lacks self.now need.now) }
     {
@@ -213,21 +214,22 @@ impl Part {
         Ok(None)
     }
 
-    /// The nodes that are there, as a tree: where nothing of All lacks, that is each tree that the part
+    /// The nodes that are there, as a tree: since nothing of All lacks, they are each tree that the part
     /// agrees with. It takes no memory.
     pub fn whole(&self) -> &Tree
         requires { LacksNothing self.now need.All }
-        ensures { (t : Nodes) → IsTree t → AgreesWith t self.now → result.now ≡ t }
+        ensures nodes { result.now ≡ self.now.nodes }
+        ensures whole { (t : Nodes) → IsTree t → AgreesWith t self.now → result.now ≡ t }
     {
         self.in_order();
         &self.tree
     }
 
-    /// Its nodes stand in path order, and the names of the children of each node rise. It does nothing:
-    /// callers learn the facts.
+    /// Its nodes stand in path order, and the names of the children of each node rise. It does
+    /// nothing: callers learn the facts.
     pub fn in_order(&self)
         ensures nodes { IsTrue (is_sorted path_cmp self.now.nodes) }
-        ensures lists { HasRisingLists self.now }
+        ensures lists { HaveRisingNames self.now.lists }
     {
         let _ = self.tree.len();
     }
