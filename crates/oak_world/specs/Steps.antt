@@ -64,7 +64,7 @@ Begins pin (task.Checkpoint i) v = v ≡ work.Upkeep (upkeep.Checkpoint i)
 Begins pin (task.Release i) v = v ≡ work.Upkeep (upkeep.Release i)
 Begins pin _ v = ⊥
 
--- a session may be told to do a task, at its pin: one that a world does; it reads where it has a pin
+-- a session may be told to do a task: a world does the task, and it reads where it has a pin
 abbrev pub CanBegin : Option Pin → Task → Type 0
 CanBegin pin (task.Load p) = IsSome pin
 CanBegin pin (task.List p) = IsSome pin

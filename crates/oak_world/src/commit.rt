@@ -140,8 +140,8 @@ pub(crate) fn mark(
     mark_by(table, events, committer, s, &op, item, other)
 }
 
-// The mark that is due, by its update, with its own item and the other revision, and with a place that
-// is kept for it.
+// The mark that is due, by its update, with its own item and the other revision, and with a place
+// that is kept for it.
 fn mark_by(
     table: &mut DocTable,
     events: &mut Events,
@@ -222,8 +222,8 @@ pub(crate) fn write(
     match store::update(table, &op) {
         Ok(before) => {
             events.push_kept(Event::Went(s, StepKind::Write));
-            // Where memory is refused for what is found in the document, the committer turns to undoing
-            // itself, and the write is made.
+            // Where memory is refused for what is found in the document, the committer turns to
+            // undoing itself, and the write is made.
             let _ = committer.feed(Reply::Updated(before));
             Ok(())
         }
