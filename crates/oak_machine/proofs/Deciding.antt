@@ -1,14 +1,12 @@
 -- Tests that go over events, and what they decide of all revisions, checkpoints and sessions.
-use Rattle.std.proofs.Common.{◌≡◌, ◌<◌, ◌≤◌, ℕ, ◌-◌, Bool, true, false, cond, not, ◌&&◌, ◌||◌, ◌⊎◌, inl, inr, Option, Some, None, List, [], ◌∷◌, ◌++◌, refl, sym, ap, subst, ◌∙◌, arith, reverse, take, drop, length, is_some}
+use Rattle.std.proofs.Common.{◌≡◌, ◌<◌, ◌≤◌, ℕ, ◌-◌, Bool, true, false, cond, not, ◌||◌, ◌⊎◌, inl, inr, Option, Some, None, List, [], ◌∷◌, ◌++◌, refl, sym, ap, subst, ◌∙◌, arith, reverse, take, drop, length, is_some}
 use Rattle.std.specs.Prelude.{◌==◌}
 use Rattle.std.specs.Bool.{Decides}
 use Rattle.std.specs.Option.{option_map_or}
-use Rattle.std.specs.declared.cmp.Ordering.{Ordering}
-use Rattle.std.specs.declared.cmp.Ordering.TheVariants.{Less, Equal, Greater}
 use Rattle.std.specs.Ordering.{is_eq}
 use Rattle.std.proofs.Math.Seq.{drop-append_seam, take-length}
 use Rattle.std.proofs.Math.ListN.{drop_of_length-le}
-use Rattle.std.proofs.lemmas.Bool.{cases_lt}
+use Rattle.std.proofs.lemmas.Bool.{cases_lt, and_parts, and_from, or_left, or_right}
 use Rattle.std.proofs.lemmas.Bool.Decides.{Decides-at, Decides-eqb}
 use Rattle.std.proofs.lemmas.Cmp.{tied_itself}
 use Rattle.std.proofs.lemmas.List.{reverse-append, length-reverse, length-drop, take-append-drop}
@@ -30,27 +28,7 @@ use Rattle.oak_machine.specs.Commits.{is_committed, is_in_base, are_clashing}
 use Rattle.oak_machine.specs.Sessions.{base_of, is_attached, is_stopped_under, is_text, kept_checkpoint, last_checkpoint}
 use Rattle.oak_machine.specs.Tests.{is_apart_among, is_below_kept_among, based_by, IsFreeBase, IsFreeBaseAmong}
 use Rattle.oak_machine.proofs.Induction.{either}
-
-both : (a b : Bool) → (a && b) ≡ true → (a ≡ true) × (b ≡ true)
-both true b h = (refl, h)
-both false b h = absurd (false≢true h)
-
-join : (a b : Bool) → a ≡ true → b ≡ true → (a && b) ≡ true
-join true b h k = k
-join false b h k = absurd (false≢true h)
-
-first : (a b : Bool) → a ≡ true → (a || b) ≡ true
-first true b h = refl
-first false b h = absurd (false≢true h)
-
-second : (a b : Bool) → b ≡ true → (a || b) ≡ true
-second true b h = refl
-second false b h = h
-
-tied : (o : Ordering) → is_eq o ≡ true → o ≡ Equal
-tied Less h = absurd (false≢true h)
-tied Equal h = refl
-tied Greater h = absurd (false≢true h)
+use Rattle.basics.proofs.Orders.{equal_of}
 
 -- ---- clashes
 
@@ -66,7 +44,7 @@ passes false b h = ap not (h refl)
 apart_of : (now : Past) (r : Revision) (past : Past) → is_apart_among now r past ≡ true → (o : Revision) → is_committed past o ≡ true → is_in_base now r o ≡ false → are_clashing now r o ≡ false
 apart_of now r [] h o c out = absurd (false≢true c)
 apart_of now r (event.Commit q ∷ past) h o c out =
-    let p = both (is_in_base now r q || not (are_clashing now r q)) (is_apart_among now r past) h in
+    let p = and_parts (is_in_base now r q || not (are_clashing now r q)) (is_apart_among now r past) h in
     either (is_same o q) (is_committed past o) c _
     (λ same. let t = subst (λ (x : Revision). (is_in_base now r x || not (are_clashing now r x)) ≡ true) (sym (same_revision o q same)) p.0 in unless (is_in_base now r o) (are_clashing now r o) t out)
     (λ rest. apart_of now r past p.1 o rest out)
@@ -75,9 +53,9 @@ apart_of now r (e ∷ past) h o c out = apart_of now r past h o c out
 apart_from : (now : Past) (r : Revision) (past : Past) → ((o : Revision) → is_committed past o ≡ true → is_in_base now r o ≡ false → are_clashing now r o ≡ false) → is_apart_among now r past ≡ true
 apart_from now r [] h = refl
 apart_from now r (event.Commit q ∷ past) h =
-    join (is_in_base now r q || not (are_clashing now r q)) (is_apart_among now r past)
-    (passes (is_in_base now r q) (are_clashing now r q) (h q (first (is_same q q) (is_committed past q) (ap is_eq (tied_itself revision_total q)))))
-    (apart_from now r past (λ o c. h o (second (is_same o q) (is_committed past o) c)))
+    and_from (is_in_base now r q || not (are_clashing now r q)) (is_apart_among now r past)
+    (passes (is_in_base now r q) (are_clashing now r q) (h q (or_left (is_same q q) (is_committed past q) (ap is_eq (tied_itself revision_total q)))))
+    (apart_from now r past (λ o c. h o (or_right (is_same o q) (is_committed past o) c)))
 apart_from now r (e ∷ past) h = apart_from now r past h
 
 pub apart_decided : (past : Past) (r : Revision) → Decides (is_apart_among past r past) ((o : Revision) → is_committed past o ≡ true → is_in_base past r o ≡ false → are_clashing past r o ≡ false)
@@ -111,16 +89,16 @@ below_some m o v h e = ap (λ (x : Option RevVec). option_map_or (is_below m) x 
 kept_of : (now : Past) (m : RevVec) (past : Past) → is_below_kept_among now m past ≡ true → (id : Text) (v : RevVec) → is_made past id ≡ true → kept_checkpoint now id ≡ Some v → is_below m v ≡ true
 kept_of now m [] h id v made kept = absurd (false≢true made)
 kept_of now m (event.Checkpoint other w ∷ past) h id v made kept =
-    let p = both (option_map_or (is_below m) (kept_checkpoint now other) true) (is_below_kept_among now m past) h in
+    let p = and_parts (option_map_or (is_below m) (kept_checkpoint now other) true) (is_below_kept_among now m past) h in
     either (is_text other id) (is_made past id) made _
-    (λ same. below_some m (kept_checkpoint now id) v (subst (λ (x : Text). option_map_or (is_below m) (kept_checkpoint now x) true ≡ true) (name_exact other id (tied (name_cmp other id) same)) p.0) kept)
+    (λ same. below_some m (kept_checkpoint now id) v (subst (λ (x : Text). option_map_or (is_below m) (kept_checkpoint now x) true ≡ true) (name_exact other id (equal_of (name_cmp other id) same)) p.0) kept)
     (λ rest. kept_of now m past p.1 id v rest kept)
 kept_of now m (e ∷ past) h id v made kept = kept_of now m past h id v made kept
 
 kept_from : (now : Past) (m : RevVec) (past : Past) → ((id : Text) (v : RevVec) → kept_checkpoint now id ≡ Some v → is_below m v ≡ true) → is_below_kept_among now m past ≡ true
 kept_from now m [] h = refl
 kept_from now m (event.Checkpoint other w ∷ past) h =
-    join (option_map_or (is_below m) (kept_checkpoint now other) true) (is_below_kept_among now m past) (by (kept_checkpoint now other) (h other)) (kept_from now m past h)
+    and_from (option_map_or (is_below m) (kept_checkpoint now other) true) (is_below_kept_among now m past) (by (kept_checkpoint now other) (h other)) (kept_from now m past h)
   where
     by : (o : Option RevVec) → ((v : RevVec) → o ≡ Some v → is_below m v ≡ true) → option_map_or (is_below m) o true ≡ true
     by None h = refl

@@ -1,5 +1,5 @@
 -- Two inductions over histories, to see that the definitions bear them.
-use Rattle.std.proofs.Common.{◌≡◌, ℕ, Bool, true, false, cond, ◌||◌, ◌&&◌, Some, List, [], ◌∷◌, ◌++◌, refl, sym, subst, is_some}
+use Rattle.std.proofs.Common.{◌≡◌, ℕ, Bool, true, false, cond, ◌||◌, Some, List, [], ◌∷◌, ◌++◌, refl, sym, subst, is_some}
 use Rattle.std.specs.Prelude.{◌==◌}
 use Rattle.std.specs.List.{list_any}
 use mathlib.Core.Bool.{false≢true}
@@ -11,15 +11,13 @@ use Rattle.oak_machine.specs.Commits.{draw_of, is_drawn, is_committed}
 use Rattle.oak_machine.specs.Sessions.{base_of}
 use Rattle.oak_machine.specs.Laws.{Starts, Says, is_event_of}
 use Rattle.oak_machine.specs.Runs.{IsRunOf}
+pub use Rattle.basics.proofs.Bools.{first_of_both}
+pub use Rattle.std.proofs.lemmas.Bool.{or_parts as neither}
 
 -- one of two tests
 pub either : (a b : Bool) → (a || b) ≡ true → (G : Type 0) → (a ≡ true → G) → (b ≡ true → G) → G
 either true b h G f g = f refl
 either false b h G f g = g h
-
-pub first_of_both : (a b : Bool) → (a && b) ≡ true → a ≡ true
-first_of_both true b h = refl
-first_of_both false b h = absurd (false≢true h)
 
 -- a later draw hides no earlier one
 pub still_drawn : (b : Bool) (d : _) (past : Past) (r : Revision) → is_drawn past r ≡ true → is_some (cond b (Some d) (draw_of past r)) ≡ true
@@ -35,10 +33,6 @@ module _ (starts : Starts) (says : Says) (clusters : ℕ) (sessions : List ℕ) 
       (λ rest. committed_is_drawn past r run.1 rest)
   committed_is_drawn (event.Draw d ∷ past) r run h = still_drawn (is_same r d.revision) d past r (committed_is_drawn past r run.1 h)
   committed_is_drawn (e ∷ past) r run h = committed_is_drawn past r run.1 h
-
-pub neither : (a b : Bool) → (a || b) ≡ false → (a ≡ false) × (b ≡ false)
-neither true b h = absurd (false≢true (sym h))
-neither false b h = (refl, h)
 
 pub other : {X : Type 0} (b : Bool) (x y z : X) → b ≡ false → y ≡ z → cond b x y ≡ z
 other true x y z h e = absurd (false≢true (sym h))

@@ -1,5 +1,5 @@
 -- The tree that a vector sees stays as it is while events are added, where all that it sees had ended.
-use Rattle.std.proofs.Common.{◌≡◌, ℕ, Bool, true, false, cond, ◌||◌, ◌&&◌, not, Some, None, Option, List, [], ◌∷◌, ◌++◌, refl, sym, ap, ◌∙◌, subst}
+use Rattle.std.proofs.Common.{◌≡◌, ℕ, Bool, true, false, cond, ◌&&◌, not, Some, None, Option, List, [], ◌∷◌, ◌++◌, refl, sym, ap, ◌∙◌, subst}
 use Rattle.std.specs.Option.{option_map_or}
 use Rattle.std.specs.declared.cmp.Ordering.{Ordering}
 use Rattle.std.specs.declared.cmp.Ordering.TheVariants.{Less, Equal, Greater}
@@ -21,15 +21,12 @@ use Rattle.oak_machine.specs.Commits.{draw_of, is_drawn, is_ended, is_end_of, ap
 use Rattle.oak_machine.specs.Laws.{Starts, Says}
 use Rattle.oak_machine.specs.Runs.{IsRunOf}
 use Rattle.oak_machine.proofs.Induction.{first_of_both, still_drawn}
-
-or_true : (a b : Bool) → b ≡ true → (a || b) ≡ true
-or_true true b h = refl
-or_true false b h = h
+use Rattle.std.proofs.lemmas.Bool.{or_right}
 
 -- what some event of the past passes, some event of a longer past passes
 pub any_later : (test : Event → Bool) (added past : Past) → list_any test past ≡ true → list_any test (added ++ past) ≡ true
 any_later test [] past h = h
-any_later test (e ∷ added) past h = or_true (test e) _ (any_later test added past h)
+any_later test (e ∷ added) past h = or_right (test e) _ (any_later test added past h)
 
 in_flight_not_ended : (a b : Bool) → (a && not b) ≡ true → b ≡ true → false ≡ true
 in_flight_not_ended true true h e = h
