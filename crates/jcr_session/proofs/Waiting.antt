@@ -2,9 +2,7 @@
 use Rattle.std.proofs.Common.{◌≡◌, ℕ, true, false, ◌||◌, cond, is_some, Some, refl, Option, List, [], ◌∷◌, ◌++◌, sym, ap, ◌∙◌, subst, None}
 use Rattle.std.specs.Prelude.{◌==◌}
 use Rattle.std.specs.List.{list_any}
-use Rattle.std.specs.Option.{option_map}
 use mathlib.Core.Bool.{false≢true}
-use Rattle.jr_rev.specs.declared.vector.Pin.{Pin}
 use Rattle.jr_rev.specs.declared.revision.Revision.{Revision}
 use Rattle.jr_tree.specs.Trees.{IsTree, Nodes}
 use Rattle.oak_machine.specs.declared.event.Event.TheVariants as event
@@ -69,10 +67,8 @@ has_base (event.Attach t id ∷ past) s login detached =
 has_base (e ∷ past) s login detached = has_base past s login detached
 
 -- the port has the pin of a session that is in
-pub pin_is_there : {A : Type 0} (law : JcrLaw) (p : Shown) → IsIn law p → (o : Option Pin) → o ≡ None → (has_left p.history.past p.session ≡ false → option_map (λ (pin : Pin). pin.base) o ≡ base_of p.history.past p.session) → A
-pin_is_there law p inside o none told =
-    absurd (false≢true (ap (λ (x : Option Pin). is_some (option_map (λ (pin : Pin). pin.base) x)) (sym none)
-    ∙ (ap is_some (told inside.stays) ∙ has_base p.history.past p.session inside.login inside.detached)))
+pub pin_is_there : {A : Type 0} (law : JcrLaw) (p : Shown) → IsIn law p → (has_left p.history.past p.session ≡ false → None ≡ base_of p.history.past p.session) → A
+pin_is_there law p inside told = absurd (false≢true (ap is_some (told inside.stays) ∙ has_base p.history.past p.session inside.login inside.detached))
 
 -- ---- by pasts
 

@@ -2,7 +2,7 @@
 ghost use Rattle.std.specs.Prelude.{◌≡◌, ◌∷◌, None, not, reverse, IfOk, OnOk};
 ghost use Rattle.std.specs.List.{filter, fold};
 ghost use Rattle.jr_path.specs.Names.{is_under};
-ghost use Rattle.jr_tree.specs.Edits.{applied};
+ghost use Rattle.jr_tree.specs.Edits.{applied, changes};
 ghost use Rattle.jr_tree.specs.declared.edit.Write.TheVariants as write;
 ghost use Rattle.jcr_trans.specs.Views.{view_after};
 ghost use Rattle.core_law.specs.State.{base_tree, pending_after, pending_kept, pending_of, pending_said, reapplied, view_of};
@@ -102,7 +102,10 @@ fn pending_said(
         return Ok(pending);
     }
     match command_at(law, session, index as usize) {
-        Some(command) => pending_after(alloc, command, base_tree(alloc, before, session)?, pending),
+        Some(command) => {
+            let base = base_tree(alloc, before, session)?;
+            pending_after(alloc, command, &base, pending)
+        }
         None => Ok(pending),
     }
 }
@@ -111,19 +114,30 @@ fn pending_said(
 fn pending_after(
     alloc: Global,
     command: &Command,
-    base: Tree,
+    base: &Tree,
     pending: List<Write>,
 ) -> Result<List<Write>, AllocError>
-    ensures { IfOk result (λ writes. writes ≡ pending_after command.now base pending) }
+    ensures { IfOk result (λ writes. writes ≡ pending_after command.now base.now pending) }
 {
     match command {
         Command::Save | Command::Refresh(false) => Ok(List::new(alloc)),
         Command::Head => Ok(pending),
-        _ => {
-            let view = view_after(alloc, command, with_edits(base.copy()?, pending)?)?;
-            Ok(changes(&base, &view)?.writes)
-        }
+        _ => pending_view(alloc, command, base, pending),
     }
+}
+
+// What a command that is answered by the view leaves of the pending edits.
+fn pending_view(
+    alloc: Global,
+    command: &Command,
+    base: &Tree,
+    pending: List<Write>,
+) -> Result<List<Write>, AllocError>
+    ensures { IfOk result (λ writes. writes
+        ≡ changes base.now (view_after command.now (applied None base.now pending))) }
+{
+    let view = view_after(alloc, command, with_edits(base.copy()?, pending)?)?;
+    Ok(changes(base, &view)?.writes)
 }
 
 // The view after a command.

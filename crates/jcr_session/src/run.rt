@@ -429,6 +429,7 @@ impl SessionRun {
     // What a step of a commit answered.
     fn committed_on(&mut self, answer: StepOut) -> Turn
         requires { IsCommitAnswer answer }
+        ensures granted { IsGranted result }
         ensures turn { result ≡ turn_by answer }
         ensures run { self.new ≡ record self.old { phase = phase_by answer self.old.phase } }
     {

@@ -49,4 +49,4 @@ pub unreachable-requires : goal.unreachable-requires
 unreachable-requires g c =
     let law = g.P.Port.law c.args.port.now in
     let p = g.P.Port.shown c.args.port.now in
-    pin_is_there law p (inside_of law p c.args.self.now c.requires.stands c.requires.between) c.pin.result c.in_default.is c.in_default.ensures.base
+    pin_is_there law p (inside_of law p c.args.self.now c.requires.stands c.requires.between) c.in_default.ensures.base
