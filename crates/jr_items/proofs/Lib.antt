@@ -1,2 +1,2 @@
 pub mod FirstRefusal
-pub mod Own
+pub mod OwnNames

@@ -1,0 +1,7 @@
+use Rattle.std.proofs.Common.{refl}
+use Rattle.std.specs.Prelude.{codes}
+use Rattle.jr_path.proofs.OwnNames.{prefixed_name}
+use Rattle.oak_world.proofs.start.start_document.Goals as goal
+
+pub of-requires-2 : goal.of-requires-2
+of-requires-2 c = prefixed_name (codes "jcr") (codes "primaryType") refl

@@ -1,0 +1,7 @@
+use Rattle.std.proofs.Common.{refl}
+use Rattle.std.specs.Prelude.{codes}
+use Rattle.jr_path.proofs.OwnNames.{prefixed_name}
+use Rattle.oak_world.proofs.start.start_root.Goals as goal
+
+pub start_document-requires : goal.start_document-requires
+start_document-requires c = prefixed_name (codes "nt") (codes "unstructured") refl
