@@ -13,7 +13,7 @@ use Rattle.jr_path.specs.declared.path.DocId.{DocId}
 use Rattle.jr_path.specs.declared.path.Path.{Path}
 use Rattle.jr_path.specs.declared.text.Text.{Text}
 use Rattle.jr_rev.specs.Revisions.{is_at_most}
-use Rattle.jr_rev.specs.Vectors.{greatest, sees, raised}
+use Rattle.jr_rev.specs.Vectors.{greatest, sees}
 use Rattle.jr_rev.specs.declared.revision.Revision.{Revision}
 use Rattle.jr_rev.specs.declared.vector.Pin.{Pin}
 use Rattle.jr_rev.specs.declared.vector.RevVec.{RevVec}

@@ -1,3 +1,3 @@
 pub mod FirstRefusal
 mod UpwardPaths
-pub mod Own
+pub mod OwnNames

@@ -1,3 +1,4 @@
+pub mod Cased
 pub mod Rests
 pub mod Orders
 pub mod Missing

@@ -147,15 +147,14 @@ fn text_with_case(alloc: Global, case: Case, text: &str) -> Result<String, Alloc
     }
 }
 
-// A name stays in the grammar of names, so only memory is refused.
+// A name stays in the grammar of names.
+#[tactic(auto, using(crate::proofs::Cased::cased_name))]
 fn name_with_case(alloc: Global, case: Case, name: &Name) -> Result<Name, AllocError>
     ensures { IfOk result (λ changed. changed ≡ map (cased case) name.now) }
 {
+    name.in_grammar();
     let text = text_with_case(alloc, case, name.as_str())?;
-    match Name::parse(alloc, text.as_str()) {
-        Ok(name) => Ok(name),
-        Err(_) => Err(AllocError),
-    }
+    Name::of(alloc, text.as_str())
 }
 
 fn path_with_case(alloc: Global, case: Case, path: &Path) -> Result<Path, AllocError>
