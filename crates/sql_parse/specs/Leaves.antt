@@ -1,16 +1,11 @@
--- What texts mean by themselves.
-use Rattle.std.specs.Prelude.{◌≡◌, ℕ, ℤ, ◌+◌, nat_lt, Bool, true, false, ◌&&◌, ◌==◌, List, [], ◌∷◌, Option, None, Some, option_map, if◌then◌else◌, find, FitsSigned, bytes_eq, codes}
-use Rattle.std.specs.Int.{w64}
+-- What words mean by themselves.
+use Rattle.std.specs.Prelude.{ℕ, ◌+◌, nat_lt, Bool, false, ◌&&◌, ◌==◌, List, [], ◌∷◌, Option}
+use Rattle.std.specs.Prelude.{None, Some, if◌then◌else◌, find, bytes_eq}
 use Rattle.std.specs.Str.{str_eq_ignore_ascii_case}
-use Rattle.std.specs.Str.Parse.{IsNumeral, signed_digits_value, without_leading_sign}
-use Rattle.serde_json.specs.Data.{string}
 use Rattle.jr_value.specs.Json.{kind_text}
-use Rattle.jr_value.specs.Reading.{all_kinds, IsTagged}
+use Rattle.jr_value.specs.Reading.{all_kinds}
 use Rattle.jr_value.specs.declared.value.Kind.{Kind}
-use Rattle.jr_value.specs.declared.value.Kind.TheVariants as kind
 use Rattle.jr_value.specs.declared.value.Value.{Value}
-use Rattle.jr_value.specs.declared.value.Value.TheVariants as value
-use Rattle.sql_lex.specs.Tokens.{next_is}
 use Rattle.sql_parse.specs.declared.piece.Sign.{Sign}
 use Rattle.sql_parse.specs.declared.piece.Sign.TheVariants as sign
 
@@ -65,27 +60,3 @@ value_named (v ∷ vs) name = if bytes_eq v.0 name then Some v.1 else value_name
 abbrev pub unquoted : Bool → List ℕ → List ℕ
 unquoted after_quote [] = []
 unquoted after_quote (b ∷ bs) = if after_quote && b == 39 then unquoted false bs else b ∷ unquoted (b == 39) bs
-
--- decimal digits with `-` before them or not, and no `+` (43), that write a number of 64 bits
-pub record IsWhole (text : List ℕ) (n : ℤ) : Type 0 where
-  pub no_plus : next_is 43 text ≡ false
-  pub digits : IsNumeral 10 (without_leading_sign text)
-  pub fits : FitsSigned w64 (signed_digits_value 10 text)
-  pub is : n ≡ signed_digits_value 10 text
-
-abbrev pub boolean_named : List ℕ → Option Bool
-boolean_named text = if bytes_eq text (codes "true") then Some true else (if bytes_eq text (codes "false") then Some false else None)
-
--- The text is a value of the kind: any text of STRING and URI; a whole number of LONG and DATE, here in milliseconds;
--- `true` and `false`; Base64 with padding of BINARY; a name; a path; a hyphenated identifier.
-abbrev pub IsText : Kind → List ℕ → Value → Type 0
-IsText kind.Str text x = x ≡ value.Str text
-IsText kind.Long text x = (n : ℤ) × IsWhole text n × (x ≡ value.Long n)
-IsText kind.Date text x = (n : ℤ) × IsWhole text n × (x ≡ value.Date n)
-IsText kind.Boolean text x = Some x ≡ option_map value.Boolean (boolean_named text)
-IsText kind.Binary text x = IsTagged kind.Binary (string text) x
-IsText kind.Name text x = IsTagged kind.Name (string text) x
-IsText kind.Path text x = IsTagged kind.Path (string text) x
-IsText kind.Reference text x = IsTagged kind.Reference (string text) x
-IsText kind.WeakReference text x = IsTagged kind.WeakReference (string text) x
-IsText kind.Uri text x = IsTagged kind.Uri (string text) x

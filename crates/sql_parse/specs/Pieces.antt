@@ -2,13 +2,14 @@
 use Rattle.std.specs.Prelude.{◌≡◌, ℕ, ℤ, ◌-◌, ◌<◌, nat_le, nat_lt, ◌==◌, false, List, [], ◌∷◌, ◌++◌, Option, None, Some, if◌then◌else◌, MatchOption, IsUtf8, length, slice_range, codes}
 use Rattle.jr_path.specs.Grammar.{IsName}
 use Rattle.jr_value.specs.Reading.{IsFound, IsPathWithin}
+use Rattle.jr_value.specs.Texts.{IsText, IsWholeNumber}
 use Rattle.jr_value.specs.declared.value.Kind.{Kind}
 use Rattle.jr_value.specs.declared.value.Value.{Value}
 use Rattle.sql_lex.specs.Tokens.{AreTokens, IsStuck}
 use Rattle.sql_lex.specs.declared.token.Token.{Token}
 use Rattle.sql_lex.specs.declared.token.TokenKind.{TokenKind}
 use Rattle.sql_lex.specs.declared.token.TokenKind.TheVariants as token
-use Rattle.sql_parse.specs.Leaves.{is_a, IsText, IsWhole, kind_named, sign_named, unquoted, value_named}
+use Rattle.sql_parse.specs.Leaves.{is_a, kind_named, sign_named, unquoted, value_named}
 use Rattle.sql_parse.specs.declared.piece.Placed.{Placed}
 use Rattle.sql_parse.specs.declared.piece.Says.{Says}
 use Rattle.sql_parse.specs.declared.piece.Says.TheVariants as says
@@ -64,8 +65,8 @@ IsSaid vars cast token.Bracketed t (says.Bracketed name) = IsName t × (name ≡
 IsSaid vars cast token.Bracketed t (says.Path path) = (¬ IsName t) × IsPathWithin t path
 IsSaid vars cast token.Bracketed t says.Nothing = (¬ IsName t) × ((path : List (List ℕ)) → ¬ IsPathWithin t path)
 IsSaid vars cast token.Text t (says.Text text path value) = (text ≡ t) × IsPathOrNone t path × IsCast cast t value
-IsSaid vars cast token.Number t (says.Number n) = IsWhole t n
-IsSaid vars cast token.Number t says.Nothing = (n : ℤ) → ¬ IsWhole t n
+IsSaid vars cast token.Number t (says.Number n) = IsWholeNumber t n
+IsSaid vars cast token.Number t says.Nothing = (n : ℤ) → ¬ IsWholeNumber t n
 IsSaid vars cast token.Variable t (says.Variable value) = value_named vars t ≡ Some value
 IsSaid vars cast token.Variable t says.Nothing = value_named vars t ≡ None
 IsSaid vars cast token.Sign t (says.Sign s) = sign_named t ≡ Some s

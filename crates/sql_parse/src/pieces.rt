@@ -2,12 +2,10 @@
 ghost use Rattle.std.specs.Prelude.{◌≡◌, IfOk, length};
 ghost use Rattle.sql_parse.specs.Pieces.{ArePieces, IsCast, IsPiece, IsReadAs, IsSaid, Means, cast_kind, content, inner, token_bytes, unbracketed, variable_name};
 
-use crate::leaves::{
-    is_a, kind_named, name_of, path_of, sign_named, unquoted, value_named, value_of, whole_number,
-};
+use crate::leaves::{is_a, kind_named, sign_named, unquoted, value_named};
 use crate::piece::{Placed, Says};
 use jr_path::{DeepCopy, Name, Path, Text};
-use jr_value::{Kind, Value};
+use jr_value::{Kind, Value, name_of, path_of, whole_number};
 use sql_lex::{Token, TokenKind, cut};
 use std::alloc::{AllocError, Global};
 
@@ -104,7 +102,7 @@ fn cast_of(alloc: Global, text: &str, cast: Option<Kind>) -> Result<Option<Value
     ensures { IfOk result (IsCast cast text.now) }
 {
     match cast {
-        Some(kind) => Ok(value_of(alloc, kind, text)?),
+        Some(kind) => Value::from_text(alloc, kind, text),
         None => Ok(None),
     }
 }
