@@ -14,6 +14,7 @@ use Rattle.oak_port.specs.declared.task.Task.{Task}
 use Rattle.oak_port.specs.declared.task.Task.TheVariants as task
 use Rattle.oak_port.specs.declared.task.TaskEnd.TheVariants as end
 use Rattle.jcr_trans.specs.Texts.{memory_text}
+use Rattle.jcr_session.specs.declared.limits.TheConstants.{COMMIT_REPLY_BYTES}
 use Rattle.jcr_session.specs.declared.law.JcrLaw.{JcrLaw}
 use Rattle.jcr_session.specs.declared.run.Due.TheVariants as due
 use Rattle.jcr_session.specs.declared.run.Phase.TheVariants as phase
@@ -35,8 +36,8 @@ waits_law law later same a b work room waits = subst (λ (l : JcrLaw). OthersAlo
 begin_law : (law later : JcrLaw) → later ≡ law → (p : Shown) (t : Task) → MayBegin (starts_of law) p.history p.session t → MayBegin (starts_of later) p.history p.session t
 begin_law law later same p t may = subst (λ (l : JcrLaw). MayBegin (starts_of l) p.history p.session t) (sym same) may
 
-place : (o room : Option ℕ) → o ≡ room → HasRoom room 40 → HasRoom o 40
-place o room is h = subst (λ (x : Option ℕ). HasRoom x 40) (sym is) h
+place : (o room : Option ℕ) → o ≡ room → HasRoom room COMMIT_REPLY_BYTES → HasRoom o COMMIT_REPLY_BYTES
+place o room is h = subst (λ (x : Option ℕ). HasRoom x COMMIT_REPLY_BYTES) (sym is) h
 
 went_is : (answer : StepOut) → has_went answer ≡ true → (k : StepKind) × (answer ≡ out.Went k)
 went_is (out.Went k) h = (k, refl)
@@ -61,22 +62,22 @@ module _ (law first : JcrLaw) (firsts : first ≡ law) (old mid : Shown) (run : 
     turned_unplaced new now t turned = turned_behind_place law first firsts old mid run memory_text forgo old.room waits new now t turned
 
   -- a place was kept
-  module _ (waits : OthersAlone (starts_of law) (says_of law) old mid old.work (Some 40)) where
-    fits : HasRoom mid.room 40
-    fits = place mid.room (Some 40) waits.room_is (let h : 40 ≤ 40 = omega arith in h)
+  module _ (waits : OthersAlone (starts_of law) (says_of law) old mid old.work (Some COMMIT_REPLY_BYTES)) where
+    fits : HasRoom mid.room COMMIT_REPLY_BYTES
+    fits = place mid.room (Some COMMIT_REPLY_BYTES) waits.room_is (let h : COMMIT_REPLY_BYTES ≤ COMMIT_REPLY_BYTES = omega arith in h)
 
     pub save_idle : mid.work ≡ Idle
     save_idle = waits.work_is ∙ idle_between law old run stands between read
 
     may_mid : MayAnswer first mid run memory_text
-    may_mid = may_behind law first firsts old mid run memory_text forgo (Some 40) waits
+    may_mid = may_behind law first firsts old mid run memory_text forgo (Some COMMIT_REPLY_BYTES) waits
 
     later_mid : (new : Shown) (now : SessionRun) (t : Turn) → HasTurned first mid new run now t → HasTurned law old new run now t
-    later_mid new now t turned = turned_behind_place law first firsts old mid run memory_text forgo (Some 40) waits new now t turned
+    later_mid new now t turned = turned_behind_place law first firsts old mid run memory_text forgo (Some COMMIT_REPLY_BYTES) waits new now t turned
 
     module _ (edit : Edit) (marks : List MarkAt) (planned : IsPlanOf run.sight (plan.Commit edit marks)) where
       pub save_begins : MayBegin (starts_of first) mid.history mid.session (task.Commit edit marks)
-      save_begins = begin_law law first firsts mid (task.Commit edit marks) (commit_begins law old run stands between read next edit marks planned mid (Some 40) waits)
+      save_begins = begin_law law first firsts mid (task.Commit edit marks) (commit_begins law old run stands between read next edit marks planned mid (Some COMMIT_REPLY_BYTES) waits)
 
     module _ (second : JcrLaw) (seconds : second ≡ first) (begun : Shown) where
       -- the commit wasn't begun
@@ -100,7 +101,7 @@ module _ (law first : JcrLaw) (firsts : first ≡ law) (old mid : Shown) (run : 
 
         draws_by : (k : StepKind) → answer ≡ out.Went k → (now : SessionRun) (t : Turn) → now ≡ record run { phase = phase.Saving } → t ≡ turn.Stepped kind.Draw → HasTurned law old new run now t
         draws_by k went now t is told =
-            commit_draws law old run stands between read next edit marks planned mid (Some 40) waits begun new mid.room begins_old now t k (steps_old (out.Went k) went) fits is told
+            commit_draws law old run stands between read next edit marks planned mid (Some COMMIT_REPLY_BYTES) waits begun new mid.room begins_old now t k (steps_old (out.Went k) went) fits is told
 
         pub save_draws : has_went answer ≡ true → (now : SessionRun) (t : Turn) → now ≡ record run { phase = phase.Saving } → t ≡ turn.Stepped kind.Draw → HasTurned law old new run now t
         save_draws went = let w = went_is answer went in draws_by w.0 w.1
@@ -114,12 +115,12 @@ module _ (law first : JcrLaw) (firsts : first ≡ law) (old mid : Shown) (run : 
           pub save_stops : (third : JcrLaw) → third ≡ second → MayAnswer third new run memory_text
           save_stops third thirds =
               may_law law third (thirds ∙ (seconds ∙ firsts)) new run memory_text
-              (commit_stops law old run stands between read next edit marks planned mid (Some 40) waits begun new mid.room begins_old (steps_old out.Memory memory))
+              (commit_stops law old run stands between read next edit marks planned mid (Some COMMIT_REPLY_BYTES) waits begun new mid.room begins_old (steps_old out.Memory memory))
 
           pub room_stops : HasRoom new.room (length memory_text)
           room_stops = memory_room new.room (place new.room mid.room (steps.room ∙ begins.room_is) fits)
 
           pub save_stopped : (third : JcrLaw) → third ≡ second → (last : Shown) (now : SessionRun) (t : Turn) → HasTurned third new last run now t → HasTurned law old last run now t
           save_stopped third thirds last now t turned =
-              commit_stopped law old run stands between read next edit marks planned mid (Some 40) waits begun new mid.room begins_old (steps_old out.Memory memory) last now t
+              commit_stopped law old run stands between read next edit marks planned mid (Some COMMIT_REPLY_BYTES) waits begun new mid.room begins_old (steps_old out.Memory memory) last now t
               (turned_law law third (thirds ∙ (seconds ∙ firsts)) new last run now t turned)

@@ -32,6 +32,7 @@ use Rattle.core_law.specs.Law.{MayStart}
 use Rattle.core_law.specs.State.{base_tree, command_at}
 use Rattle.core_law.specs.Turns.{IsTurn}
 use Rattle.core_law.proofs.Turns.{may_start}
+use Rattle.jcr_session.specs.declared.limits.TheConstants.{COMMIT_REPLY_BYTES}
 use Rattle.jcr_session.specs.declared.law.JcrLaw.{JcrLaw}
 use Rattle.jcr_session.specs.declared.run.Due.TheVariants as due
 use Rattle.jcr_session.specs.declared.run.Phase.{Phase}
@@ -109,7 +110,7 @@ module _ (law : JcrLaw) (old : Shown) (run : SessionRun) (stands : Stands law ol
 
       module _ (begun new : Shown) (more : Option ℕ) (begins : OthersAlone (starts_of law) (says_of law) mid begun (Starting (task.Commit edit marks)) more) where
         -- it draws
-        module _ (k : StepKind) (steps : Steps (starts_of law) (says_of law) begun new (out.Went k)) (place : HasRoom more 40) where
+        module _ (k : StepKind) (steps : Steps (starts_of law) (says_of law) begun new (out.Went k)) (place : HasRoom more COMMIT_REPLY_BYTES) where
           abbrev s : ℕ
           s = begun.session
 
@@ -196,7 +197,7 @@ module _ (law : JcrLaw) (old : Shown) (run : SessionRun) (stands : Stands law ol
             at = (
               in_new,
               subst (λ (x : Sight). IsInSave law new saving x) (sym at) (
-                record { saving = is_save; room = subst (λ (x : Option ℕ). HasRoom x 40) (sym (steps.room ∙ begins.room_is)) place },
+                record { saving = is_save; room = subst (λ (x : Option ℕ). HasRoom x COMMIT_REPLY_BYTES) (sym (steps.room ∙ begins.room_is)) place },
                 subst (λ (w : Work). Rattle.jcr_session.specs.Standing.IsCommitting law.sessions new.history.past new.session seen.base seen.view w) (sym made.4)
                     (moved (λ h n. Rattle.jcr_session.specs.Standing.IsCommitting law.sessions h.past n seen.base seen.view (Writing made.0.revision))
                     (committing_drawn law.sessions behind s made.0.revision made.0 seen.base seen.view made.1.session refl turn_behind.over.idle
@@ -254,7 +255,7 @@ module _ (law : JcrLaw) (old : Shown) (run : SessionRun) (stands : Stands law ol
 
     module _ (begun new : Shown) (more : Option ℕ) (begins : OthersAlone (starts_of law) (says_of law) mid begun (Starting (task.Commit edit marks)) more) where
       -- it draws, and the session is in its save
-      pub commit_draws : (now : SessionRun) (t : Turn) (k : StepKind) → Steps (starts_of law) (says_of law) begun new (out.Went k) → HasRoom more 40 → now ≡ record run { phase = phase.Saving } → t ≡ turn.Stepped kind.Draw → HasTurned law old new run now t
+      pub commit_draws : (now : SessionRun) (t : Turn) (k : StepKind) → Steps (starts_of law) (says_of law) begun new (out.Went k) → HasRoom more COMMIT_REPLY_BYTES → now ≡ record run { phase = phase.Saving } → t ≡ turn.Stepped kind.Draw → HasTurned law old new run now t
       commit_draws now t k steps place is told =
           let x = plan_seen run.sight edit marks planned in
           subst (λ (y : Turn). HasTurned law old new run now y) (sym told)

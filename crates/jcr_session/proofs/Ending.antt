@@ -20,6 +20,7 @@ use Rattle.core_law.specs.State.{base_tree, command_at}
 use Rattle.core_law.specs.Turns.{IsOver}
 use Rattle.core_law.proofs.Passing.{idle_stays}
 use Rattle.core_law.proofs.Turns.{says_memory, says_refreshed, says_saved, turn_memory, turn_refreshed, turn_refused, turn_saved}
+use Rattle.jcr_session.specs.declared.limits.TheConstants.{COMMIT_REPLY_BYTES}
 use Rattle.jcr_session.specs.declared.law.JcrLaw.{JcrLaw}
 use Rattle.jcr_session.specs.declared.run.Phase.{Phase}
 use Rattle.jcr_session.specs.declared.run.Phase.TheVariants as phase
@@ -77,7 +78,7 @@ module _ (law : JcrLaw) (p : Shown) (run : SessionRun) (stands : Stands law p ru
     save_is : command_at law.sessions p.session run.index ≡ Some command.Save
     save_is = ap (λ s. command_at law.sessions s run.index) stands.session ∙ here.2.saving
 
-    pub saved_room : HasRoom p.room 40
+    pub saved_room : HasRoom p.room COMMIT_REPLY_BYTES
     saved_room = here.2.room
 
     over_then : (base view : Nodes) → IsOver law.sessions p.history.past p.session base view → (added : Past) → IsRun (starts_of law) (says_of law) (after added p.history) → AreOthers p.session added p.history.past → IsOver law.sessions (added ++ p.history.past) p.session base view
@@ -139,7 +140,7 @@ module _ (law : JcrLaw) (p : Shown) (run : SessionRun) (stands : Stands law p ru
 -- ---- by the end of the commit, where the run has left its phase
 
 module _ (law : JcrLaw) (p : Shown) (run : SessionRun) where
-  pub ended_room : (e : CommitEnd) → Stands law p (record run { phase = phase.Saved e }) → HasRoom p.room 40
+  pub ended_room : (e : CommitEnd) → Stands law p (record run { phase = phase.Saved e }) → HasRoom p.room COMMIT_REPLY_BYTES
   ended_room e stands = saved_room law p (record run { phase = phase.Saved e }) stands e refl
 
   pub ended_revision : (r : Revision) → Stands law p (record run { phase = phase.Saved (commit.Committed r) }) → (now : SessionRun) (text : Text) → now ≡ record run { sight = sight.Unread } → text ≡ answer_text (ShowsRevision r) → MayAnswer law p now text

@@ -24,6 +24,7 @@ use Rattle.jcr_trans.specs.Texts.{memory_text}
 use Rattle.jcr_trans.proofs.Passing.{only_refresh}
 use Rattle.core_law.specs.State.{base_tree, command_at}
 use Rattle.core_law.proofs.Passing.{among_same, idle_stays, next_stays}
+use Rattle.jcr_session.specs.declared.limits.TheConstants.{MOST_COMMANDS}
 use Rattle.jcr_session.specs.declared.law.JcrLaw.{JcrLaw}
 use Rattle.jcr_session.specs.declared.run.Due.TheVariants as due
 use Rattle.jcr_session.specs.declared.run.Phase.{Phase}
@@ -104,7 +105,7 @@ module _ (law : JcrLaw) (old mid new : Shown) (t : Task) (answer : StepOut) (roo
       begun = moved (λ h n. h.begin ≡ None) inside_mid.begun;
       run_is = steps.grows.run;
       session = same_session ∙ sym session;
-      few = subst (λ (cs : List Command). length cs ≤ 10000) (sym commands) stands.few;
+      few = subst (λ (cs : List Command). length cs ≤ MOST_COMMANDS) (sym commands) stands.few;
       within = subst (λ (cs : List Command). now.index ≤ length cs) (sym commands) (subst (λ (i : ℕ). i ≤ length run.commands) (sym index) stands.within);
       commands = λ i. ap (λ n. command_at law.sessions n i) session ∙ (stands.commands i ∙ ap (λ (cs : List Command). slice_get cs i) (sym commands));
       index =

@@ -14,6 +14,7 @@ use Rattle.jcr_trans.specs.declared.command.Command.{Command}
 use Rattle.core_law.specs.State.{base_tree, command_at, pending_of}
 use Rattle.core_law.specs.Turns.{IsTurn}
 use Rattle.core_law.proofs.Passing.{idle_stays, next_stays, pending_stays, refreshed_stays}
+use Rattle.jcr_session.specs.declared.limits.TheConstants.{COMMIT_REPLY_BYTES, MOST_COMMANDS}
 use Rattle.jcr_session.specs.declared.law.JcrLaw.{JcrLaw}
 use Rattle.jcr_session.specs.declared.run.Phase.{Phase}
 use Rattle.jcr_session.specs.declared.run.Phase.TheVariants as phase
@@ -53,7 +54,7 @@ module _ (law : JcrLaw) (p q : Shown) (run : SessionRun) (stands : Stands law p 
   sees_now (sight.Seen seen) (idle, turn) = (work ∙ idle, turn_now seen.base seen.view turn)
 
   saving_now : IsSaving law p run → IsSaving law q run
-  saving_now is = record { saving = is.saving; room = subst (λ (x : Option ℕ). HasRoom x 40) (sym room) is.room }
+  saving_now is = record { saving = is.saving; room = subst (λ (x : Option ℕ). HasRoom x COMMIT_REPLY_BYTES) (sym room) is.room }
 
   in_save_now : (x : Sight) → IsInSave law p run x → IsInSave law q run x
   in_save_now sight.Unread h = absurd h
@@ -117,7 +118,7 @@ nothing_behind : {X : Type 0} (a : List X) → a ++ [] ≡ a
 nothing_behind [] = refl
 nothing_behind (x ∷ a) = ap (λ l. x ∷ l) (nothing_behind a)
 
-module _ (law : JcrLaw) (p : Shown) (session : ℕ) (commands : List Command) (run : SessionRun) (new : IsNew session commands run) (few : length commands ≤ 10000) (nodes : AreNodes p.history.clusters p.history.sessions) (begun : p.history.begin ≡ None) (run_is : IsRun (starts_of law) (says_of law) p.history) (own : p.session ≡ session) (theirs : (i : ℕ) → command_at law.sessions session i ≡ slice_get commands i) (idle : p.work ≡ Idle) (none : list_any (is_event_of p.history.past session) p.history.past ≡ false) where
+module _ (law : JcrLaw) (p : Shown) (session : ℕ) (commands : List Command) (run : SessionRun) (new : IsNew session commands run) (few : length commands ≤ MOST_COMMANDS) (nodes : AreNodes p.history.clusters p.history.sessions) (begun : p.history.begin ≡ None) (run_is : IsRun (starts_of law) (says_of law) p.history) (own : p.session ≡ session) (theirs : (i : ℕ) → command_at law.sessions session i ≡ slice_get commands i) (idle : p.work ≡ Idle) (none : list_any (is_event_of p.history.past session) p.history.past ≡ false) where
   abbrev past : Past
   past = p.history.past
 
@@ -140,7 +141,7 @@ module _ (law : JcrLaw) (p : Shown) (session : ℕ) (commands : List Command) (r
     begun = begun;
     run_is = run_is;
     session = own ∙ sym new.session_is;
-    few = subst (λ (cs : List Command). length cs ≤ 10000) (sym new.commands_are) few;
+    few = subst (λ (cs : List Command). length cs ≤ MOST_COMMANDS) (sym new.commands_are) few;
     commands = λ i. ap (λ (s : ℕ). command_at law.sessions s i) new.session_is ∙ (theirs i ∙ ap (λ (cs : List Command). slice_get cs i) (sym new.commands_are));
     index = new.first ∙ sym (ap (next_index past) new.session_is ∙ from_nothing (λ (w : Past). next_index w session ≡ 0) (next_stays past past [] session none));
     within = subst (λ (i : ℕ). i ≤ length run.commands) (sym new.first) (let h : 0 ≤ length run.commands = omega arith in h);

@@ -27,6 +27,7 @@ use Rattle.oak_port.specs.declared.task.TaskEnd.TheVariants as end
 use Rattle.core_law.specs.Law.{SaysBy}
 use Rattle.core_law.specs.State.{base_tree, command_at}
 use Rattle.core_law.proofs.Passing.{next_stays}
+use Rattle.jcr_session.specs.declared.limits.TheConstants.{COMMIT_REPLY_BYTES, MOST_COMMANDS}
 use Rattle.jcr_session.specs.declared.law.JcrLaw.{JcrLaw}
 use Rattle.jcr_session.specs.declared.run.Phase.{Phase}
 use Rattle.jcr_session.specs.declared.run.Phase.TheVariants as phase
@@ -259,7 +260,7 @@ module _ (law : JcrLaw) (old new : Shown) (answer : StepOut) (run : SessionRun) 
     seen_by (sight.Seen seen) (is, committing) = (seen, refl, is, committing)
 
     saving_now : (f : Phase) → IsSaving law old run → IsSaving law new (record run { phase = f })
-    saving_now f is = record { saving = is.saving; room = subst (λ (x : Option ℕ). Rattle.oak_port.specs.Ports.HasRoom x 40) (sym steps.room) is.room }
+    saving_now f is = record { saving = is.saving; room = subst (λ (x : Option ℕ). Rattle.oak_port.specs.Ports.HasRoom x COMMIT_REPLY_BYTES) (sym steps.room) is.room }
 
     still : (base view : Nodes) (work : Work) → IsCommitting law.sessions old.history.past old.session base view work → IsCommitting law.sessions moment.past old.session base view work
     still = committing_still law old.history.clusters old.history.sessions inside.nodes old.session steps.others old.history.past inside.begun inside.run run_moment steps.grows.theirs
@@ -468,13 +469,13 @@ refused_busy law old mid run stands saving first idle =
 -- ---- a reply
 
 module _ (law : JcrLaw) (old : Shown) (run : SessionRun) (text : Text) (may : MayAnswer law old run text) where
-  -- there are at most 10,000 replies
-  pub index_small : run.index < 10000
+  -- there are no more replies than commands
+  pub index_small : run.index < MOST_COMMANDS
   index_small =
       let c = may.says.1 in
       let at : slice_get run.commands run.index ≡ Some c.0 = sym (may.commands run.index) ∙ (ap (λ s. command_at law.sessions s run.index) (sym may.session) ∙ c.2) in
       let w : run.index < length run.commands = get_within run.commands run.index c.0 at in
-      let f : length run.commands ≤ 10000 = may.few in
+      let f : length run.commands ≤ MOST_COMMANDS = may.few in
       omega arith
 
   pub may_index : run.index ≡ next_index old.history.past old.session

@@ -1,16 +1,20 @@
 // The pending edits of a session, by the law and a journal.
 ghost use Rattle.std.specs.Prelude.{◌≡◌, ◌∷◌, None, not, reverse, IfOk, OnOk};
 ghost use Rattle.std.specs.List.{filter, fold};
+ghost use Rattle.std.specs.Option.{option_map_or};
 ghost use Rattle.jr_path.specs.Names.{is_under};
 ghost use Rattle.jr_tree.specs.Edits.{applied, changes};
+ghost use Rattle.jr_tree.specs.Trees.{initial_tree};
 ghost use Rattle.jr_tree.specs.declared.edit.Write.TheVariants as write;
 ghost use Rattle.jcr_trans.specs.Views.{view_after};
+ghost use Rattle.oak_machine.specs.Commits.{tree_at};
 ghost use Rattle.core_law.specs.State.{base_tree, pending_after, pending_kept, pending_of, pending_said, reapplied, view_of};
 
 use crate::law::JcrLaw;
 use crate::next::command_at;
 use jcr_trans::{Command, run};
 use jr_path::{DeepCopy, List, Path, Text};
+use jr_rev::RevVec;
 use jr_tree::{Edit, Node, Tree, Write, changes};
 use oak_machine::Event;
 use oak_past::{base_of, last_checkpoint, tree_among};
@@ -68,22 +72,37 @@ fn pending_next(
         }
         Event::Refresh(s, v) => {
             if *s == session {
-                return pending_kept(alloc, &tree_among(alloc, before, v)?, pending.as_slice());
+                return kept_at(alloc, before, Some(*v), pending.as_slice());
             }
             Ok(pending)
         }
         Event::Attach(s, id) => {
             if *s == session {
-                let base = match last_checkpoint(before, id) {
-                    Some(v) => tree_among(alloc, before, &v)?,
-                    None => Tree::initial(alloc)?,
-                };
-                return pending_kept(alloc, &base, pending.as_slice());
+                return kept_at(
+                    alloc,
+                    before,
+                    last_checkpoint(before, id),
+                    pending.as_slice(),
+                );
             }
             Ok(pending)
         }
         _ => Ok(pending),
     }
+}
+
+// The pending edits after the base moved to a vector, or to the initial tree.
+fn kept_at(
+    alloc: Global,
+    before: &[Event],
+    at: Option<RevVec>,
+    pending: &[Write],
+) -> Result<List<Write>, AllocError>
+    ensures { IfOk result (λ writes. writes
+        ≡ pending_kept (option_map_or (tree_at None (reverse before.now)) at initial_tree) pending.now) }
+{
+    let base = tree_or_initial(alloc, before, at)?;
+    pending_kept(alloc, &base, pending)
 }
 
 // What a reply leaves of the pending edits: those there are, where it refuses.
@@ -223,7 +242,14 @@ fn put_node(alloc: Global, tree: &mut Tree, path: &Path) -> Result<(), AllocErro
 pub(crate) fn base_tree(alloc: Global, events: &[Event], session: u32) -> Result<Tree, AllocError>
     ensures { IfOk result (λ tree. tree ≡ base_tree (reverse events.now) session) }
 {
-    match base_of(events, session) {
+    tree_or_initial(alloc, events, base_of(events, session))
+}
+
+// The tree that a vector sees, or the initial tree.
+fn tree_or_initial(alloc: Global, events: &[Event], at: Option<RevVec>) -> Result<Tree, AllocError>
+    ensures { IfOk result (λ tree. tree ≡ option_map_or (tree_at None (reverse events.now)) at initial_tree) }
+{
+    match at {
         Some(v) => tree_among(alloc, events, &v),
         None => Tree::initial(alloc),
     }
