@@ -111,7 +111,6 @@ not_behind x y h = by (id_cmp x y) (ap is_lt (sym (id_total.antisymm y x)) ∙ h
     by Equal k = refl
     by Greater k = absurd (false≢true (sym k))
 
-
 or_first : (a b : Bool) → a ≡ true → (a || b) ≡ true
 or_first true b h = refl
 or_first false b h = absurd (false≢true h)

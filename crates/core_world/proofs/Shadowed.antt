@@ -59,7 +59,7 @@ module _ (starts : Starts) (says : Says) (proper : StartsProper starts) (w : Sta
       old_case old there f =
           let world = kept.committing.kept in
           let l = in_listed (λ (e : PrevEntry). documents_in w.table.documents (id.Prev e.number p)) old.prev f.0
-              (subst (λ (l : List Document). IsIn f.0 l) (ap (λ (o : Option Document). option_map_or (λ d. filter_map (λ (e : PrevEntry). documents_in w.table.documents (id.Prev e.number p)) d.prev) o []) there) f.1) in
+          (subst (λ (l : List Document). IsIn f.0 l) (ap (λ (o : Option Document). option_map_or (λ d. filter_map (λ (e : PrevEntry). documents_in w.table.documents (id.Prev e.number p)) d.prev) o []) there) f.1) in
           let y = (world.keeps p).previous old there l.0 l.1 in
           let same : f.0 ≡ y.0 = ap (λ o. unwrap_or o f.0) (sym l.2 ∙ y.1) in
           let has : is_some (of_revision (values_of_property (y.0).props n) o) ≡ true = subst (λ (d : Document). has_moved o (Prop n) d ≡ true) same f.2 in
@@ -70,13 +70,15 @@ module _ (starts : Starts) (says : Says) (proper : StartsProper starts) (w : Sta
           let late = some_of (of_revision (values_of_property old.props n) b.0) b.3 in
           let wrote : written (put_of p n) us.0 ≡ Some mine.0 = (y.2).genuine n o us.0 mine.0 us.1 mine.1 in
           let stands : of_revision (values_in n (all_at (documents_in w.table.documents) p)) b.0 ≡ Some late.0 =
-              ap (λ (o : Option Document). of_revision (values_in n (option_map_or (with_previous (documents_in w.table.documents) p) o [])) b.0) there
-              ∙ (value_split (documents_in w.table.documents) p (Some old) n b.0 ∙ ap (λ (o : Option (Option Property)). option_or o (of_revision (values_in n (listed (documents_in w.table.documents) p (Some old))) b.0)) late.1) in
-          let wrote_late : written (put_of p n) vs.0 ≡ Some late.0 = ((world.keeps p).prop n).genuine b.0 vs.0 late.0 vs.1 stands in
-          (b.0, b.1,
-          unseen b.0 (sees x.draw.base b.0) refl ((downward w.past world.told world.separate (sees x.draw.base) base_used.closed).prop p n b.0 o vs.0 us.0 vs.1 us.1 (ap is_some wrote_late) (ap is_some wrote) b.1),
-          edit_done w.past b.0 (ap is_some (sym (edit_is w.past world.told b.0) ∙ vs.1)),
-          ap (λ (d : Option Document). marked d b.0 (Prop n)) there ∙ b.3)
+          ap (λ (o : Option Document). of_revision (values_in n (option_map_or (with_previous (documents_in w.table.documents) p) o [])) b.0) there
+          ∙ (value_split (documents_in w.table.documents) p (Some old) n b.0 ∙ ap (λ (o : Option (Option Property)). option_or o (of_revision (values_in n (listed (documents_in w.table.documents) p (Some old))) b.0)) late.1) in
+          let wrote_late : written (put_of p n) vs.0 ≡ Some late.0 = ((world.keeps p).prop n).genuine b.0 vs.0 late.0 vs.1 stands in (
+            b.0,
+            b.1,
+            unseen b.0 (sees x.draw.base b.0) refl ((downward w.past world.told world.separate (sees x.draw.base) base_used.closed).prop p n b.0 o vs.0 us.0 vs.1 us.1 (ap is_some wrote_late) (ap is_some wrote) b.1),
+            edit_done w.past b.0 (ap is_some (sym (edit_is w.past world.told b.0) ∙ vs.1)),
+            ap (λ (d : Option Document). marked d b.0 (Prop n)) there ∙ b.3,
+          )
         where
           unseen : (q : Revision) (b : Bool) → sees x.draw.base q ≡ b → (sees x.draw.base q ≡ true → sees x.draw.base o ≡ true) → sees x.draw.base q ≡ false
           unseen q false e down = e

@@ -287,7 +287,7 @@ module _ (starts : Starts) (says : Says) (proper : StartsProper starts) (w : Sta
             let at : q ≡ p = same_path q p h in
             ap (λ (o : Option Document). option_map_or (λ d. filter_map (λ (f : PrevEntry). documents_in u.documents (id.Prev f.number q)) d.prev) o []) (change.node q ∙ is)
             ∙ (each q c.prev (λ f i. subst (λ (z : Path). documents_in u.documents (id.Prev f.number z) ≡ documents_in w.table.documents (id.Prev f.number z)) (sym at)
-                (change.other f.number (λ same. unlisted c (ap (λ (z : Path). documents_in w.table.documents (id.Node z)) (sym at) ∙ is) f i same)))
+            (change.other f.number (λ same. unlisted c (ap (λ (z : Path). documents_in w.table.documents (id.Node z)) (sym at) ∙ is) f i same)))
             ∙ sym (ap (λ (o : Option Document). option_map_or (λ d. filter_map (λ (f : PrevEntry). documents_in w.table.documents (id.Prev f.number q)) d.prev) o []) is))
 
     previous_sound : Sound (core_in w.past u kept.sessions.committing.writers)
@@ -384,7 +384,7 @@ module _ (starts : Starts) (says : Says) (proper : StartsProper starts) (w : Sta
         moved : (x : Document) → In x (moved_in w.table p) → stays_listed x ≡ false → is_garbage_previous m t old x ≡ true
         moved x i e =
             let l = in_listed (λ (f : PrevEntry). documents_in w.table.documents (id.Prev f.number p)) old.prev x
-                (subst (λ (l : List Document). IsIn x l) (ap (λ (o : Option Document). option_map_or (λ d. filter_map (λ (f : PrevEntry). documents_in w.table.documents (id.Prev f.number p)) d.prev) o []) may.there) (as_in x (moved_in w.table p) i)) in
+            (subst (λ (l : List Document). IsIn x l) (ap (λ (o : Option Document). option_map_or (λ d. filter_map (λ (f : PrevEntry). documents_in w.table.documents (id.Prev f.number p)) d.prev) o []) may.there) (as_in x (moved_in w.table p) i)) in
             may.garbage.previous l.0 l.1 (turn (is_number_of may.numbers l.0) (sym (named l.0 l.1 x l.2) ∙ e)) x l.2
 
     pruned_sound : Sound (core_in w.past pruned_table kept.sessions.committing.writers)
@@ -483,7 +483,7 @@ module _ (starts : Starts) (says : Says) (proper : StartsProper starts) (w : Sta
     moved_bounded r k h =
         let f = any_in (has_moved r k) (moved_in w.table p) h in
         let l = in_listed (λ (f : PrevEntry). documents_in w.table.documents (id.Prev f.number p)) old.prev f.0
-            (subst (λ (l : List Document). IsIn f.0 l) (ap (λ (o : Option Document). option_map_or (λ d. filter_map (λ (f : PrevEntry). documents_in w.table.documents (id.Prev f.number p)) d.prev) o []) may.there) f.1) in
+        (subst (λ (l : List Document). IsIn f.0 l) (ap (λ (o : Option Document). option_map_or (λ d. filter_map (λ (f : PrevEntry). documents_in w.table.documents (id.Prev f.number p)) d.prev) o []) may.there) f.1) in
         let x = (world.keeps p).previous old may.there l.0 l.1 in
         let same : f.0 ≡ x.0 = ap (λ o. unwrap_or o f.0) (sym l.2 ∙ x.1) in
         of_mark k x.0 (l.0).number x.2 (subst (λ (y : Document). has_moved r k y ≡ true) same f.2)
@@ -497,8 +497,8 @@ module _ (starts : Starts) (says : Says) (proper : StartsProper starts) (w : Sta
             let late = some_of (of_revision (values_of_property old.props n) b.0) b.3 in
             let wrote : written (put_of p n) us.0 ≡ Some mine.0 = previous.genuine n r us.0 mine.0 us.1 mine.1 in
             let stands : of_revision (values_in n (all_at (documents_in w.table.documents) p)) b.0 ≡ Some late.0 =
-                ap (λ (o : Option Document). of_revision (values_in n (option_map_or (with_previous (documents_in w.table.documents) p) o [])) b.0) may.there
-                ∙ (value_split (documents_in w.table.documents) p (Some old) n b.0 ∙ ap (λ (o : Option (Option Property)). option_or o (of_revision (values_in n (listed (documents_in w.table.documents) p (Some old))) b.0)) late.1) in
+            ap (λ (o : Option Document). of_revision (values_in n (option_map_or (with_previous (documents_in w.table.documents) p) o [])) b.0) may.there
+            ∙ (value_split (documents_in w.table.documents) p (Some old) n b.0 ∙ ap (λ (o : Option (Option Property)). option_or o (of_revision (values_in n (listed (documents_in w.table.documents) p (Some old))) b.0)) late.1) in
             let wrote_late : written (put_of p n) vs.0 ≡ Some late.0 = ((world.keeps p).prop n).genuine b.0 vs.0 late.0 vs.1 stands in
             (downward w.past world.told world.separate (is_bounded w.past) world.bounded.closed).prop p n b.0 r vs.0 us.0 vs.1 us.1 (ap is_some wrote_late) (ap is_some wrote) b.1 (unwanted.entries b.0 (inr (n, b.3)))
 

@@ -39,7 +39,7 @@ impl Model for Tree {
     ghost use Rattle.std.specs.Prelude.{IsTrue};
     ghost use Rattle.std.specs.FinMap.{is_sorted};
     ghost use Rattle.jr_path.specs.Grammar.{IsName};
-ghost use Rattle.jr_path.specs.Names.{path_cmp};
+    ghost use Rattle.jr_path.specs.Names.{path_cmp};
 
     ghost invariant = { λ a. IsTrue (is_sorted path_cmp a.nodes) };
 }

@@ -69,7 +69,10 @@ pub(crate) fn is_a(word: &str, text: &[u8]) -> bool
 pub(crate) fn kind_named(word: &[u8]) -> Option<Kind>
     ensures { result ≡ kind_named word.now }
 {
-    ALL_KINDS.iter().copied().find(|kind| is_a(kind.as_str(), word))
+    ALL_KINDS
+        .iter()
+        .copied()
+        .find(|kind| is_a(kind.as_str(), word))
 }
 
 // The place of a name among others, the first where it stands several times. Places from 2^32 on aren't counted.
