@@ -108,6 +108,7 @@ module _ {L : Type 0} (w : WorldOf L) (s : ℕ) (there : s < length w.actors) (q
     read_makes answers.Memory h = (reads_on work.Rest h.1 refl h.0, h.1)
     read_makes (answers.Went _) h = absurd h.1
     read_makes (answers.Wait o) h = absurd h.1
+    read_makes (answers.Stopped position) h = absurd h.1
 
   plan_makes : (edit : Edit) (marks : List MarkAt) → work_in w.actors s ≡ work.Plan edit marks → (o : StepOut) → Steps s node (parts_at w s) (work.Plan edit marks) q v o → Makes s (state_of w) (work.Plan edit marks) now v o
   plan_makes edit marks here (answers.Went kind.Draw) h = (
