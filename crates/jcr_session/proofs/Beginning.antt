@@ -12,7 +12,6 @@ use Rattle.oak_port.specs.declared.task.StepOut.{StepOut}
 use Rattle.oak_port.specs.declared.task.StepOut.TheVariants as out
 use Rattle.oak_port.specs.declared.task.Task.{Task}
 use Rattle.oak_port.specs.declared.task.Task.TheVariants as task
-use Rattle.oak_port.specs.declared.task.TaskEnd.TheVariants as end
 use Rattle.jcr_trans.specs.Texts.{memory_text}
 use Rattle.jcr_session.specs.declared.limits.TheConstants.{COMMIT_REPLY_BYTES}
 use Rattle.jcr_session.specs.declared.law.JcrLaw.{JcrLaw}
