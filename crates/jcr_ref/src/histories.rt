@@ -10,11 +10,11 @@ ghost use Rattle.jr_items.specs.Own.{own_name};
 ghost use Rattle.jcr_ref.specs.References.{identifier_of, uuid_text};
 ghost use Rattle.jcr_ref.specs.Histories.{BeginsHistory, begun, history_drawn, history_of, history_references, history_writes, identified_writes, joined, new_history, number_at, number_by, typed_writes, version_names, with_version};
 
-use crate::identifiers::{identifier_named, identifier_number, uuid_text};
+use crate::identifiers::{identifier_number, uuid_text};
 use jr_items::{OwnName, one_text};
 use jr_path::{DeepCopy, Keyed, List, Name, Path, PathFault, Text};
 use jr_tree::{Tree, Who, Write};
-use jr_value::{Kind, Property, Value};
+use jr_value::{Kind, Property, Value, identifier_named};
 use std::alloc::{AllocError, Global};
 
 /// What a node that becomes versionable writes for its history, and how many identifiers that draws.

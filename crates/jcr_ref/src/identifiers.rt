@@ -2,7 +2,6 @@
 ghost use Rattle.std.specs.Prelude.{◌≡◌, false, IfOk};
 ghost use Rattle.std.specs.Option.{option_copied, option_map_or};
 ghost use Rattle.std.specs.String.{string_bytes};
-ghost use Rattle.jr_value.specs.Reading.{identifier_named};
 ghost use Rattle.jr_value.specs.Values.{same_bytes};
 ghost use Rattle.jr_items.specs.Items.{one_text, same_path};
 ghost use Rattle.jr_items.specs.Names.{uuid};
@@ -11,7 +10,6 @@ ghost use Rattle.jcr_ref.specs.References.{IsPathNamed, by_id, identifier, ident
 use jr_items::{OwnName, is_same_text, one_text};
 use jr_path::{DeepCopy, Name, Path, PathFault};
 use jr_tree::Tree;
-use jr_value::{Property, Value};
 use std::alloc::{AllocError, Global};
 use uuid::Uuid;
 
@@ -52,19 +50,6 @@ pub(crate) fn is_uuid_text(number: u128, id: &str) -> bool
         .hyphenated()
         .encode_lower(&mut buffer);
     is_same_text(text, id)
-}
-
-// The number of an identifier's hyphenated text.
-pub(crate) fn identifier_named(text: &str) -> Option<u128>
-    ensures { result ≡ identifier_named text.now }
-{
-    if text.len() != 36 {
-        return None;
-    }
-    match Uuid::parse_str(text) {
-        Ok(uuid) => Some(uuid.as_u128()),
-        Err(_) => None,
-    }
 }
 
 /// The first node in path order that has the identifier: its `jcr:uuid` where that is one STRING, and else its path.

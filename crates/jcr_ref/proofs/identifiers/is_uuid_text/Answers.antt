@@ -7,4 +7,4 @@ use Rattle.jcr_ref.proofs.identifiers.is_uuid_text.Goals as goal
 pub returns : goal.returns
 returns c =
     let text : c.encode_lower-text.result.now ≡ identifier_text c.args.number = cc in
-    c.is_same.ensures ∙ ap (λ t. same_bytes t c.args.id.now) (text ∙ texts_agree c.args.number)
+    c.is_same_text.ensures ∙ ap (λ t. same_bytes t c.args.id.now) (text ∙ texts_agree c.args.number)
