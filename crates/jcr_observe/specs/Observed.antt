@@ -21,7 +21,7 @@ is_in_mask code mask = mask / code % 2 == 1
 
 -- the path is the filter's, or for deep at or below the filter's
 abbrev pub is_place_observed : Filter → Path → Bool
-is_place_observed f p = cond f.deep (is_under p f.path) (eq_by_cmp path_cmp p f.path)
+is_place_observed f p = cond f.deep (is_under p f.path) (eq_by_cmp path_cmp f.path p)
 
 -- the node above an item is observed: the node of a property, the parent of a node
 abbrev pub is_observed : Filter → Item → Bool

@@ -126,7 +126,7 @@ fn is_property_observed(item: &Item, filter: &Filter) -> bool
     if filter.deep {
         return item.path.is_under(&filter.path);
     }
-    item.path == filter.path
+    filter.path == item.path
 }
 
 // Whether the parent of the node is observed.
