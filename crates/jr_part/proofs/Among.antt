@@ -14,7 +14,8 @@ use Rattle.jr_path.specs.declared.name.Name.{Name}
 use Rattle.jr_path.specs.declared.path.Path.{Path}
 use Rattle.jr_path.proofs.Maps.{name_exact}
 use Rattle.jr_rev.specs.declared.revision.Revision.{Revision}
-use Rattle.jr_tree.proofs.Entries.{exactly, first, is_less, second}
+use Rattle.basics.proofs.Orders.{less_of as is_less}
+use Rattle.jr_tree.proofs.Entries.{exactly, first, second}
 use Rattle.jr_part.specs.declared.need.Need.{Need}
 use Rattle.jr_part.specs.declared.need.Need.TheVariants as need
 use Rattle.jr_part.specs.Parts.{AsksBelow, IsFirstLacking, Knowledge, Lacks, LacksNothing, ChildNames, knows, list_at, need_cmp, has_name}
