@@ -50,7 +50,9 @@ fn add_draws(
 
 fn add_pins(alloc: Global, memory: &mut NodeMem, out: &mut String) -> Result<(), AllocError> {
     memory.pin(7)?;
-    memory.pin_like(71, 7)?;
+    if memory.pin_of(7).is_some() {
+        memory.pin_like(71, 7)?;
+    }
     put_number(alloc, out, memory.pins().len())
 }
 
