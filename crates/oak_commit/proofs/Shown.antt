@@ -1,6 +1,7 @@
 -- What a committer is seen as, step by step.
 use Rattle.std.proofs.Common.{subst, ◌≡◌, ℕ, zero, suc, ◌+◌, ◌<◌, ◌≤◌, Bool, true, false, cond, List, [], ◌∷◌, ◌++◌, length, take, drop, get_or, map, fold, Option, Some, None, refl, sym, ap, ◌∙◌, arith, All}
-use Rattle.std.specs.Prelude.{slice_get}
+use Rattle.std.specs.Prelude.{IfOk, IsTrue, OnErr, OnOk, slice_get, Result, Ok, Err}
+use Rattle.std.specs.declared.alloc.AllocError.{AllocError}
 use Rattle.std.specs.Option.{option_map}
 use Rattle.std.proofs.Math.ListN.{drop_of_length-le}
 use Rattle.std.proofs.lemmas.List.{take_more, drop-append-le, get_or-map, get_or-take, length-drop, length-map, length-take, length-take-le}
@@ -20,9 +21,9 @@ use Rattle.jr_path.specs.declared.path.DocId.TheVariants as id
 use Rattle.oak_clash.specs.declared.mark.MarkAt.{MarkAt}
 use Rattle.oak_doc.specs.declared.document.Document.{Document}
 use Rattle.oak_commit.specs.Clashing.{Met, found}
-use Rattle.oak_commit.specs.Committing.{Committing, looking_on, look_due, wrote, meeting, asks_undo, due_by, due_of, ended_by, mark_due, roots_in, looks_at, undo_due, wanting, with_undone, write_due, written_by, written_paths}
-use Rattle.oak_commit.specs.Kept.{met_by, with_look, shown}
-use Rattle.oak_commit.specs.Looking.{looked_at, looked_before}
+use Rattle.oak_commit.specs.Committing.{Committing, fed_look, looking_on, look_due, wrote, meeting, asks_undo, due_by, due_of, ended_by, mark_due, roots_in, looks_at, undo_due, wanting, with_undone, write_due, written_by, written_paths}
+use Rattle.oak_commit.specs.Kept.{Settles, met_by, shown, with_look}
+use Rattle.oak_commit.specs.Looking.{looked_at, looked_before, with_found}
 use Rattle.oak_read.specs.Wanted.{listed}
 use Rattle.oak_commit.specs.Places.{Planned}
 use Rattle.oak_commit.specs.Stages.{undo_stage}
@@ -220,3 +221,36 @@ tells c before p ps going looked none left = rw (going, looked, none, left) refl
 
 pub tells_previous : (c : Committing) (k : Look) (previous : Option Document) → c.outcome ≡ None → c.looking ≡ Some k → looks_at c (reply.Found previous) ≡ true
 tells_previous c k previous going looking = rw (going, looking) refl
+
+-- ---- what a look has come to
+
+pub settles_ok : (l : Result Looked AllocError) (c d end_ : Committing) (m : Looked) (r : Result Unit AllocError) → Settles l c d r → IfOk l (λ k. k ≡ m) → with_look c m ≡ end_ → OnOk r (d ≡ end_)
+settles_ok (Ok k) c d end_ m (Ok u) h is comes = h ∙ ap {A = Looked} {B = Committing} (with_look c) is ∙ comes
+settles_ok (Ok k) c d end_ m (Err f) h is comes = tt
+settles_ok (Err e) c d end_ m (Ok u) h is comes = absurd h
+settles_ok (Err e) c d end_ m (Err f) h is comes = tt
+
+pub settles_err : (l : Result Looked AllocError) (c d end_ : Committing) (r : Result Unit AllocError) → Settles l c d r → wanting c ≡ end_ → OnErr r (d ≡ end_)
+settles_err (Ok k) c d end_ (Ok u) h comes = tt
+settles_err (Ok k) c d end_ (Err f) h comes = absurd h
+settles_err (Err e) c d end_ (Ok u) h comes = tt
+settles_err (Err e) c d end_ (Err f) h comes = h ∙ comes
+
+pub only_err : (r : Result Unit AllocError) (b : Bool) → b ≡ true → OnErr r (IsTrue b)
+only_err (Ok u) b h = tt
+only_err (Err e) b h = h
+
+-- a look goes on at a previous document
+pub look_goes : (c : Committing) (k : Look) (previous : Option Document) → c.looking ≡ None → with_look c (looked_at c.base c.revision c.marks (names_of k.first) (with_found k.document previous) k.rest) ≡ fed_look (record c { looking = Some k }) k (reply.Found previous)
+look_goes c k previous none = looked_settled c (names_of k.first) (with_found k.document previous) k.rest none ∙ by k.rest
+  where
+    by : (ids : List DocId) → looking_on c (names_of k.first) (with_found k.document previous) ids ≡ looking_on (record c { looking = Some k }) (names_of k.first) (with_found k.document previous) ids
+    by [] = refl
+    by (i ∷ is) = refl
+
+pub look_wants : (c : Committing) (k : Look) (previous : Option Document) → wanting c ≡ wanting (fed_look (record c { looking = Some k }) k (reply.Found previous))
+look_wants c k previous = by k.rest
+  where
+    by : (ids : List DocId) → wanting c ≡ wanting (looking_on (record c { looking = Some k }) (names_of k.first) (with_found k.document previous) ids)
+    by [] = refl
+    by (i ∷ is) = refl

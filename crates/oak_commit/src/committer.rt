@@ -298,7 +298,8 @@ impl Committer {
 
     // A reply to the question for a previous document, by how far the look was.
     fn feed_look(&mut self, look: Look, reply: Reply) -> Result<(), AllocError>
-        requires { self.old.outcome ≡ None }
+        requires going { self.old.outcome ≡ None }
+        requires looked { self.old.looking ≡ None }
         ensures ok { OnOk result (self.new ≡ fed_look (record self.old { looking = Some look }) look reply) }
         ensures err { OnErr result (self.new ≡ wanting (fed_look (record self.old { looking = Some look }) look reply)) }
         ensures only { OnErr result (IsTrue (looks_at (record self.old { looking = Some look }) reply)) }
@@ -317,7 +318,6 @@ impl Committer {
 
     // How far a look is now.
     fn settle(&mut self, looked: Result<Looked, AllocError>) -> Result<(), AllocError>
-        requires { self.old.looking ≡ None }
         ensures { Settles looked self.old self.new result }
     {
         match looked {

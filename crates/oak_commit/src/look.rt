@@ -2,7 +2,7 @@
 ghost use Rattle.std.specs.Prelude.{◌≡◌, IfOk, OnOk, fold, map};
 ghost use Rattle.jr_path.specs.Ids.{names_of};
 ghost use Rattle.jr_path.specs.declared.path.DocId.TheVariants.{Prev};
-ghost use Rattle.oak_commit.specs.Looking.{entries_in, looked_at, looked_before, with_all, with_found};
+ghost use Rattle.oak_commit.specs.Looking.{entries_in, looked_at, looked_before, with_all, with_found, with_properties};
 ghost use Rattle.oak_doc.specs.Updates.{changed, values_of_property, with_revision, with_values};
 
 use crate::met::Due;
@@ -55,9 +55,7 @@ impl Look {
             rest,
         } = self;
         let mut document = document;
-        if let Some(previous) = previous {
-            put_back(alloc, &mut document, previous)?;
-        }
+        put_found(alloc, &mut document, previous)?;
         look_at(plan, base, r, &first, document, rest)
     }
 }
@@ -129,6 +127,20 @@ fn listed_at(alloc: Global, path: &Path, entries: &[PrevEntry]) -> Result<List<D
     Ok(ids)
 }
 
+// Puts what moved to a previous document back, where that was found.
+fn put_found(
+    alloc: Global,
+    document: &mut Document,
+    previous: Option<Document>,
+) -> Result<(), AllocError>
+    ensures { OnOk result (document.new ≡ with_found document.old previous) }
+{
+    match previous {
+        Some(previous) => put_back(alloc, document, previous),
+        None => Ok(()),
+    }
+}
+
 // Puts what moved to a previous document back.
 fn put_back(
     alloc: Global,
@@ -138,10 +150,22 @@ fn put_back(
     ensures { OnOk result (document.new ≡ fold changed document.old (entries_in previous)) }
 {
     let Document { props, .. } = previous;
-    // The names rise, so that each stands once.
+    // The names rise, so each stands once.
     let _names = props.len();
-    for (name, values) in props.into_inner() {
-        put_values(alloc, &mut document.props, &name, values)?;
+    put_properties(alloc, &mut document.props, props)?;
+    Ok(())
+}
+
+// Puts the values of properties.
+fn put_properties(
+    alloc: Global,
+    props: &mut Keyed<Name, Values>,
+    moved: Keyed<Name, Values>,
+) -> Result<(), AllocError>
+    ensures { OnOk result (props.new ≡ with_properties props.old moved) }
+{
+    for (name, values) in moved.into_inner() {
+        put_values(alloc, props, &name, values)?;
     }
     Ok(())
 }
@@ -173,9 +197,11 @@ fn put_value(
         (with_revision (values_of_property props.old name.now) r value)) }
 {
     if let Some(values) = props.inner_mut().get_mut(name) {
-        return values.put(r, value);
+        values.put(r, value)?;
+        return Ok(());
     }
     let mut values = Keyed::new(alloc);
     values.put(r, value)?;
-    props.put(name.copy()?, values)
+    props.put(name.copy()?, values)?;
+    Ok(())
 }
