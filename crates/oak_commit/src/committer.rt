@@ -306,7 +306,13 @@ impl Committer {
     {
         match reply {
             Reply::Found(previous) => {
-                let looked = look.go_on(self.alloc, &self.plan, &self.base, self.revision, previous);
+                let looked = look.go_on(
+                    self.alloc,
+                    &self.plan,
+                    &self.base,
+                    self.revision,
+                    previous,
+                );
                 self.settle(looked)
             }
             _ => {
@@ -386,7 +392,14 @@ impl Committer {
             self.outcome = Some(CommitEnd::Committed(self.revision));
             return Ok(());
         };
-        let looked = look_before(self.alloc, &self.plan, &self.base, self.revision, id, before);
+        let looked = look_before(
+            self.alloc,
+            &self.plan,
+            &self.base,
+            self.revision,
+            id,
+            before,
+        );
         self.written += 1;
         self.settle(looked)
     }

@@ -142,11 +142,7 @@ fn put_found(
 }
 
 // Puts what moved to a previous document back.
-fn put_back(
-    alloc: Global,
-    document: &mut Document,
-    previous: Document,
-) -> Result<(), AllocError>
+fn put_back(alloc: Global, document: &mut Document, previous: Document) -> Result<(), AllocError>
     ensures { OnOk result (document.new ≡ fold changed document.old (entries_in previous)) }
 {
     let Document { props, .. } = previous;
