@@ -367,10 +367,11 @@ needed _ = 0
 
 -- ---- what a step takes
 
--- the revision is in flight by the memory, it hasn't ended, and places are kept
+-- the revision is in flight by the memory, it hasn't ended, no previous document is looked at, and places are kept
 pub record CanCommit (m : NodeState) (places : ℕ) (c : Committing) : Type 0 where
   pub flying : IsInFlight m c.revision
   pub unended : c.ended ≡ false
+  pub looked : c.looking ≡ None
   pub kept : needed_by c ≤ places
 
 -- the revision has ended by the memory, the session is pinned, and a place is kept

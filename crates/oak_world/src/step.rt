@@ -68,6 +68,7 @@ pub(crate) fn step(
 }
 
 // A step of a commit that has drawn its revision: the end, or an operation on a document.
+#[tactic(auto, using(crate::proofs::Stages::look_stage))]
 fn commit_on(
     table: &mut DocTable,
     memory: &mut NodeMem,
@@ -87,6 +88,8 @@ fn commit_on(
         Stage::Mark | Stage::Write | Stage::Last | Stage::Undo => {
             update_on(table, events, s, committer)
         }
+        // No document lists a previous one, so none is looked at.
+        Stage::Look => unreachable!(),
     }
 }
 
@@ -151,7 +154,7 @@ fn update(
             commit::undo(table, events, committer, s);
             Ok(StepKind::Undo)
         }
-        Stage::Finish | Stage::Done => unreachable!(),
+        Stage::Look | Stage::Finish | Stage::Done => unreachable!(),
     }
 }
 

@@ -45,6 +45,7 @@ fn add_answer(
         "remove" => remove(alloc, rest, table, out),
         "walk" => walk(alloc, table, out),
         "commit" => commits::add(alloc, rest, out),
+        "moved" => commits::add_moved(alloc, rest, out),
         "copies" => add_copies(alloc, out),
         "memory" => nodes::add(alloc, out),
         "node" => reading::add_node(alloc, rest, table, out),
