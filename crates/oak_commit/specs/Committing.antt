@@ -41,7 +41,7 @@ pub record Committing : Type 0 where
   pub roots : List Path
   -- the look at the document that was written last, while a previous one is asked for
   pub looking : Option Look
-  -- how it ends, once that is with_look
+  -- how it ends, once that is settled
   pub outcome : Option CommitEnd
   -- whether the memory has ended it
   pub ended : Bool

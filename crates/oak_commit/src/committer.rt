@@ -41,7 +41,7 @@ pub struct Committer {
     due: Vec<Due>,
     // The document that was written last, as it was before, while previous documents of it are looked at.
     looking: Option<Look>,
-    // How it ends, once that is with_look.
+    // How it ends, once that is settled.
     outcome: Option<CommitEnd>,
     // Whether the node's memory has ended it.
     ended: bool,
