@@ -52,7 +52,7 @@ use Rattle.oak_world.specs.Seen.{no_seat, seat_of, shown_at, shown_by, shown_upk
 use Rattle.oak_world.specs.Steps.{Begins, CanBegin, HasCome, StepsIn, kind_due, kind_of}
 use Rattle.oak_world.specs.Worlds.{ActorState, Story, WorldOf, actor_in, live, node_in, reading_of, running_as, running_of, said_in, state_of, state_with, with_reply, with_work, work_in}
 use Rattle.oak_world.proofs.States.{actor_other, actor_set, session_same, session_set}
-use Rattle.oak_world.proofs.Stages.{done_stage}
+use Rattle.oak_world.proofs.Stages.{counted_stage, done_stage}
 use Rattle.oak_world.proofs.Staying.{may_last}
 use Rattle.oak_world.proofs.StepsOf.{IsStepOf}
 use Rattle.oak_world.proofs.Walking.{any_step}
@@ -231,7 +231,7 @@ module _ (starts : Starts) (says : Says) (proper : StartsProper starts) (last : 
   can_by work.Refresh busy at may places kept short = come_pinned may
   can_by (work.Read r) busy at may places kept short = tt
   can_by (work.Plan edit marks) busy at may places kept short = let t : known_time (memory_of (state_of w) s) ≤ length w.history.past = time_known starts says proper (state_of w) is.kept.sessions (node_in w.history s) node in omega arith
-  can_by (work.Commit c) busy at may places kept short = record { flying = flies_there starts says proper (state_of w) is.kept.sessions s (running_as s c) (ap (running_of s) at); unended = may.unended; looked = may.looked; kept = kept }
+  can_by (work.Commit c) busy at may places kept short = record { flying = flies_there starts says proper (state_of w) is.kept.sessions s (running_as s c) (ap (running_of s) at); unended = may.unended; counted = counted_stage c may.looked; kept = kept }
   can_by (work.Upkeep u) busy at may places kept short = can_keep_up u may.0
   can_by (work.Move r) busy at may places kept short = record { ended = moved_ended r may; pinned = come_pinned may.0; place = kept }
 

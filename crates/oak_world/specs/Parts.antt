@@ -240,6 +240,11 @@ IsUpdating stage.Last = Unit {0}
 IsUpdating stage.Undo = Unit {0}
 IsUpdating _ = ⊥
 
+-- no previous document is to be looked at
+abbrev pub IsCounted : Stage → Type 0
+IsCounted stage.Look = ⊥
+IsCounted _ = Unit {0}
+
 -- nothing is due but the end
 pub record IsOver (c : Committing) : Type 0 where
   pub finish : stage_of c ≡ stage.Finish
@@ -371,7 +376,7 @@ needed _ = 0
 pub record CanCommit (m : NodeState) (places : ℕ) (c : Committing) : Type 0 where
   pub flying : IsInFlight m c.revision
   pub unended : c.ended ≡ false
-  pub looked : c.looking ≡ None
+  pub counted : IsCounted (stage_of c)
   pub kept : needed_by c ≤ places
 
 -- the revision has ended by the memory, the session is pinned, and a place is kept

@@ -68,7 +68,6 @@ pub(crate) fn step(
 }
 
 // A step of a commit that has drawn its revision: the end, or an operation on a document.
-#[tactic(auto, using(crate::proofs::Stages::look_stage))]
 fn commit_on(
     table: &mut DocTable,
     memory: &mut NodeMem,
