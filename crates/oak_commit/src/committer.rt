@@ -22,11 +22,12 @@ use std::alloc::{AllocError, Global};
 use std::marker::Model;
 
 /// Commits an edit with its marks as a revision, one document at a time (Oak, DocumentNodeStore: commit). It writes
-/// each marked node's document, in store order, and looks at the document as it was before, and at the previous documents
-/// that it listed then, for which it asks one after another: each other revision that its base doesn't see, and that has a
-/// clashing mark there, gets a note of the collision on its own commit root, unless it is committed there. The last write, on the commit root, is the commit point. Where the other
-/// is committed, or where somebody noted a collision with this revision before its last write, it is refused; then,
-/// or where memory is refused before the commit point, it undoes what it wrote. It ends in its node's memory.
+/// each marked node's document, in store order, and looks at the document as it was before, and at the previous
+/// documents that it listed then, for which it asks one after another: each other revision that its base doesn't see,
+/// and that has a clashing mark there, gets a note of the collision on its own commit root, unless it is committed there.
+/// The last write, on the commit root, is the commit point. Where the other is committed, or where somebody noted a
+/// collision with this revision before its last write, it is refused; then, or where memory is refused before the commit
+/// point, it undoes what it wrote. It ends in its node's memory.
 #[derive(Drop)]
 pub struct Committer {
     alloc: Global,
@@ -300,9 +301,12 @@ impl Committer {
     fn feed_look(&mut self, look: Look, reply: Reply) -> Result<(), AllocError>
         requires going { self.old.outcome ≡ None }
         requires looked { self.old.looking ≡ None }
-        ensures ok { OnOk result (self.new ≡ fed_look (record self.old { looking = Some look }) look reply) }
-        ensures err { OnErr result (self.new ≡ wanting (fed_look (record self.old { looking = Some look }) look reply)) }
-        ensures only { OnErr result (IsTrue (looks_at (record self.old { looking = Some look }) reply)) }
+        ensures ok { OnOk result (self.new
+            ≡ fed_look (record self.old { looking = Some look }) look reply) }
+        ensures err { OnErr result (self.new
+            ≡ wanting (fed_look (record self.old { looking = Some look }) look reply)) }
+        ensures only { OnErr result
+            (IsTrue (looks_at (record self.old { looking = Some look }) reply)) }
     {
         match reply {
             Reply::Found(previous) => {
@@ -385,7 +389,8 @@ impl Committer {
         requires looked { self.old.looking ≡ None }
         requires marked { self.old.writer.due ≡ [] }
         ensures ok { OnOk result (self.new ≡ written_by self.old self.old.writer.left before) }
-        ensures err { OnErr result (self.new ≡ wanting (written_by self.old self.old.writer.left before)) }
+        ensures err { OnErr result (self.new
+            ≡ wanting (written_by self.old self.old.writer.left before)) }
         ensures only { OnErr result (IsTrue (looks_at self.old (Reply.Updated before))) }
     {
         let Some(id) = self.plan.ids().get(self.written) else {

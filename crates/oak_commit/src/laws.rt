@@ -14,10 +14,11 @@ ghost use Rattle.oak_doc.specs.declared.document.PrevEntry.{PrevEntry};
 /// once; and then it is to mark what it meets in the document with all that moved put back. A previous document that is
 /// gone is empty (Oak, DocumentNodeStore: "Previous Documents").
 pub fn looks_pass_previous_documents()
-    ensures asks { (ds : DocId → Option Document) (c : Committing) (p : Path) (rest : List Path) (d : Document)
-        (es fs : List PrevEntry) (e : PrevEntry) → IsWriting c p rest → d.prev ≡ es ++ e ∷ fs
+    ensures asks { (ds : DocId → Option Document) (c : Committing) (p : Path) (rest : List Path)
+        (d : Document) (es fs : List PrevEntry) (e : PrevEntry)
+        → IsWriting c p rest → d.prev ≡ es ++ e ∷ fs
         → due_of (after_looks p ds c d es) ≡ ask.Find (id.Prev e.number p) }
-    ensures meets { (ds : DocId → Option Document) (c : Committing) (p : Path) (rest : List Path) (d : Document)
-        → IsWriting c p rest → after_looks p ds c d d.prev
+    ensures meets { (ds : DocId → Option Document) (c : Committing) (p : Path) (rest : List Path)
+        (d : Document) → IsWriting c p rest → after_looks p ds c d d.prev
         ≡ meeting (wrote c p rest) p (whole p (Some d) (previous_in p ds d.prev)) }
 {}

@@ -47,7 +47,8 @@ impl Look {
         previous: Option<Document>,
     ) -> Result<Looked, AllocError>
         ensures { IfOk result (λ looked. looked
-            ≡ looked_at base.now r plan.now.marks (names_of self.first) (with_found self.document previous) self.rest) }
+            ≡ looked_at base.now r plan.now.marks (names_of self.first)
+            (with_found self.document previous) self.rest) }
     {
         let Look {
             document,
@@ -69,7 +70,8 @@ pub(crate) fn look_before(
     id: &DocId,
     before: Option<Document>,
 ) -> Result<Looked, AllocError>
-    ensures { IfOk result (λ looked. looked ≡ looked_before base.now r plan.now.marks (names_of id.now) before) }
+    ensures { IfOk result (λ looked. looked
+        ≡ looked_before base.now r plan.now.marks (names_of id.now) before) }
 {
     match before {
         Some(document) => {

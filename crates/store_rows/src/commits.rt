@@ -1,5 +1,5 @@
-// A commit that adds a node which another added too, memory that is refused, and a commit that sets a property of which an
-// entry has moved to a previous document.
+// A commit that adds a node which another added too, memory that is refused, and a commit that sets a property of
+// which an entry has moved to a previous document.
 use jr_path::{DocId, Keyed, List, Name, Path, PathFault};
 use jr_rev::{RevVec, Revision};
 use jr_tree::{Edit, Write};
@@ -18,11 +18,7 @@ pub(crate) fn add(alloc: Global, letters: &str, out: &mut String) -> Result<(), 
 }
 
 // The same of a commit that sets a property.
-pub(crate) fn add_moved(
-    alloc: Global,
-    letters: &str,
-    out: &mut String,
-) -> Result<(), AllocError> {
+pub(crate) fn add_moved(alloc: Global, letters: &str, out: &mut String) -> Result<(), AllocError> {
     match setting(alloc) {
         Ok(committer) => add_told(alloc, committer, letters, out),
         Err(_) => out.push_str("no path"),
@@ -85,7 +81,10 @@ fn marks(alloc: Global) -> Result<List<MarkAt>, PathFault> {
 fn setting(alloc: Global) -> Result<Committer, PathFault> {
     let edit = setting_edit(alloc)?;
     let mut marks = List::new(alloc);
-    marks.push(mark_at(Path::parse(alloc, "/a")?, Mark::Prop(Name::parse(alloc, "x")?)))?;
+    marks.push(mark_at(
+        Path::parse(alloc, "/a")?,
+        Mark::Prop(Name::parse(alloc, "x")?),
+    ))?;
     Ok(Committer::new(alloc, revision(2, 2), &RevVec::none(), edit, marks)?)
 }
 
@@ -118,9 +117,9 @@ fn add_id(alloc: Global, id: &DocId, out: &mut String) -> Result<(), AllocError>
     out.push_str(id.text(alloc)?.as_str())
 }
 
-// An update of a document that is new, one of /a, which another added, and one of /a, which lists two previous documents; one of
-// these with what another set, and one that is gone; an update whose condition is false, since the other is committed; memory
-// refused; an undoing; the end.
+// An update of a document that is new, one of /a, which another added, and one of /a, which lists two previous
+// documents; one of these with what another set, and one that is gone; an update whose condition is false, since the
+// other is committed; memory refused; an undoing; the end.
 fn reply(alloc: Global, letter: char) -> Result<Reply, AllocError> {
     match letter {
         'n' => Ok(Reply::Updated(None)),
@@ -157,8 +156,8 @@ fn added_document(alloc: Global) -> Result<Document, PathFault> {
     Ok(added)
 }
 
-// The document of /a, which tells that the root is the commit root of revision 1 of cluster node 1, and lists the previous
-// documents 7 and 4.
+// The document of /a, which tells that the root is the commit root of revision 1 of cluster node 1, and lists the
+// previous documents 7 and 4.
 fn listing_document(alloc: Global) -> Result<Document, PathFault> {
     let mut listing = Document::empty(alloc, DocId::Node(Path::parse(alloc, "/a")?));
     listing.commit_root.put(revision(1, 1), 0)?;
