@@ -1,11 +1,11 @@
 -- A collector that a store answers alone collects each document of the store, and ends.
-use Rattle.std.proofs.Common.{◌≡◌, ℕ, zero, suc, ◌==◌, Bool, true, false, cond, List, [], ◌∷◌, ◌++◌, Option, None, Some, length, map, fold, refl, sym, ap, ◌∙◌, subst, arith, append_assoc}
-use Rattle.std.specs.Prelude.{◌+◌, ◌-◌, nat_lt, reverse, Result, Ok, Err, slice_get}
+use Rattle.std.proofs.Common.{◌≡◌, ℕ, zero, suc, Bool, true, false, cond, List, [], ◌∷◌, ◌++◌, Option, None, Some, length, map, fold, refl, sym, ap, ◌∙◌, subst, arith, append_assoc}
+use Rattle.std.specs.Prelude.{◌+◌, ◌-◌, nat_lt, reverse, Ok, Err, slice_get}
 use Rattle.std.specs.Option.{option_flatten, option_map, option_map_or}
 use Rattle.std.specs.Ordering.{nat_cmp}
-use Rattle.std.specs.BTreeMap.{insert_entry, is_at}
-use Rattle.std.specs.Map.{keys_of, lookup, remove_entry}
-use Rattle.std.specs.List.{AllByRecursion, filter, list_any}
+use Rattle.std.specs.BTreeMap.{insert_entry}
+use Rattle.std.specs.Map.{keys_of}
+use Rattle.std.specs.List.{AllByRecursion, filter}
 use Rattle.std.specs.List.Sorted.{IsStrictlySortedBy}
 use Rattle.std.specs.declared.alloc.Global.{Global}
 use Rattle.std.proofs.lemmas.Grind.{reverse_onto}
@@ -30,7 +30,6 @@ use Rattle.oak_doc.specs.declared.update.Cond.TheVariants.{Unchanged}
 use Rattle.oak_doc.specs.declared.update.EntryKey.{EntryKey}
 use Rattle.oak_doc.specs.declared.update.Field.{Field}
 use Rattle.oak_doc.specs.declared.update.Field.TheVariants as field
-use Rattle.oak_doc.specs.declared.update.OpFault.{OpFault}
 use Rattle.oak_doc.specs.Updates.{after_changes, changed, is_met, pruned, refusal, updated}
 use Rattle.oak_prev.proofs.Resting.{named_found}
 use Rattle.oak_prev.specs.Resting.{update_reply}
@@ -42,9 +41,9 @@ use Rattle.oak_gc.proofs.Bounding.{at_node, fold-append, more_to_ask, none_to_as
 use Rattle.oak_gc.proofs.Going.{last_is}
 use Rattle.oak_gc.specs.Bounding.{node_reply, those_that_tell}
 use Rattle.oak_gc.specs.Bounds.{Told, bound_of, kept_pairs, lesser_pair, root_pair}
-use Rattle.oak_gc.specs.Collecting.{Previous, begun, decided, due, fed, found_document, found_in, going_on, has_garbage_in, last_of, more_documents, more_entries, more_skips, nothing_collected, nothing_read, on_next, reading_of, removing}
+use Rattle.oak_gc.specs.Collecting.{Previous, begun, decided, due, fed, found_document, found_in, going_on, has_garbage_in, more_documents, more_entries, more_skips, nothing_collected, nothing_read, on_next, reading_of, removing}
 use Rattle.oak_gc.specs.Garbage.{garbage_in, garbage_listed, has_garbage, is_garbage_document, is_garbage_previous}
-use Rattle.oak_gc.specs.Resting.{Alone, CollectsByTheLeast, CollectsEach, EndsIn, Outcome, after, after_update, answer, collected_at, collected_by, counted, garbage_op, previous_listed, with_collected, with_listed, with_update, without, without_document, without_garbage, without_previous}
+use Rattle.oak_gc.specs.Resting.{CollectsByTheLeast, CollectsEach, EndsIn, Outcome, after, after_update, answer, collected_at, collected_by, counted, garbage_op, previous_listed, with_collected, with_listed, with_update, without, without_document, without_garbage, without_previous}
 use Rattle.oak_gc.specs.declared.collector.Collector.{Collector}
 use Rattle.oak_gc.specs.declared.reading.Reading.{Reading}
 use Rattle.oak_gc.specs.declared.reading.Step.{Step}
