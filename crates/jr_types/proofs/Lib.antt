@@ -1,3 +1,12 @@
 pub mod Meeting
-pub mod Adding
+pub mod Added
 pub mod Rows
+pub mod Found
+pub mod Alike
+pub mod Digits
+pub mod Lines
+pub mod Kept
+pub mod Below
+pub mod NamesText
+pub mod Copied
+pub mod Further

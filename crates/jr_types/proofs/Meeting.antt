@@ -35,7 +35,7 @@ exactly Greater h = absurd (false≢true h)
 same : (n m : Name) → same_name n m ≡ true → n ≡ m
 same n m h = name_exact n m (exactly (name_cmp n m) h)
 
-itself : (n : Name) → same_name n n ≡ true
+pub itself : (n : Name) → same_name n n ≡ true
 itself n = ap is_eq (tied_itself nat_list_cmp_total n)
 
 -- ---- lists
