@@ -10,3 +10,7 @@ pub mod Below
 pub mod NamesText
 pub mod Copied
 pub mod Further
+pub mod Counting
+pub mod Faults
+pub mod Breaks
+pub mod Covered

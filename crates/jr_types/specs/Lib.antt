@@ -7,3 +7,4 @@ pub mod Registered
 pub mod Rules
 pub mod Types
 pub mod Violations
+pub mod Tables

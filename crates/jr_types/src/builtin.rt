@@ -1,6 +1,10 @@
 // The built-in node types (JSR 283, 3.7.11 Standard Application Node Types), as rows of a table.
-ghost use Rattle.std.specs.Prelude.{◌≡◌, IfOk};
+ghost use Rattle.std.specs.Prelude.{◌≡◌, ◌++◌, ◌∷◌, [], IfOk, None, OnOk, map, option_to_list};
+ghost use Rattle.std.specs.Option.{option_copied, option_map};
+ghost use Rattle.jr_value.specs.declared.value.Value.TheVariants.{Boolean};
 ghost use Rattle.jr_types.specs.Builtin.{builtin};
+ghost use Rattle.jr_types.specs.Rules.{type_fault};
+ghost use Rattle.jr_types.specs.Tables.{child_in, prop_in, type_in};
 
 use crate::{ChildDef, OnParentVersion, PropDef, Registry, TypeDef, TypeFault};
 use jr_path::{List, Name};
@@ -462,15 +466,20 @@ impl Registry {
 }
 
 // Registers the type of a row.
-fn add_row(alloc: Global, registry: &mut Registry, row: &TypeRow) -> Result<(), AllocError> {
+fn add_row(alloc: Global, registry: &mut Registry, row: &TypeRow) -> Result<(), AllocError>
+    requires { type_fault registry.old (type_in row.now) ≡ None }
+    ensures { OnOk result (registry.new ≡ registry.old ++ type_in row.now ∷ []) }
+{
     match registry.add(type_of(alloc, row)?) {
         Ok(()) => Ok(()),
-        // Each built-in type may be added behind those before it, so only memory is refused.
-        Err(_) => Err(AllocError),
+        Err(TypeFault::Memory) => Err(AllocError),
+        Err(TypeFault::BadType(_)) => unreachable!(),
     }
 }
 
-fn type_of(alloc: Global, row: &TypeRow) -> Result<TypeDef, AllocError> {
+fn type_of(alloc: Global, row: &TypeRow) -> Result<TypeDef, AllocError>
+    ensures { IfOk result (λ d. d ≡ type_in row.now) }
+{
     let supertypes = names_of(alloc, row.supertypes)?;
     let primary_item = optional_name(alloc, row.primary_item)?;
     let props = props_of(alloc, row.props)?;
@@ -487,7 +496,9 @@ fn type_of(alloc: Global, row: &TypeRow) -> Result<TypeDef, AllocError> {
     })
 }
 
-fn names_of(alloc: Global, rows: &[&str]) -> Result<List<Name>, AllocError> {
+fn names_of(alloc: Global, rows: &[&str]) -> Result<List<Name>, AllocError>
+    ensures { IfOk result (λ names. names ≡ map (λ n. n.now) rows.now) }
+{
     let mut names = List::new(alloc);
     for row in rows {
         names.push(name_of(alloc, row)?)?;
@@ -495,7 +506,9 @@ fn names_of(alloc: Global, rows: &[&str]) -> Result<List<Name>, AllocError> {
     Ok(names)
 }
 
-fn props_of(alloc: Global, rows: &[PropRow]) -> Result<List<PropDef>, AllocError> {
+fn props_of(alloc: Global, rows: &[PropRow]) -> Result<List<PropDef>, AllocError>
+    ensures { IfOk result (λ props. props ≡ map prop_in rows.now) }
+{
     let mut props = List::new(alloc);
     for row in rows {
         props.push(prop_of(alloc, row)?)?;
@@ -503,7 +516,9 @@ fn props_of(alloc: Global, rows: &[PropRow]) -> Result<List<PropDef>, AllocError
     Ok(props)
 }
 
-fn children_of(alloc: Global, rows: &[ChildRow]) -> Result<List<ChildDef>, AllocError> {
+fn children_of(alloc: Global, rows: &[ChildRow]) -> Result<List<ChildDef>, AllocError>
+    ensures { IfOk result (λ children. children ≡ map child_in rows.now) }
+{
     let mut children = List::new(alloc);
     for row in rows {
         children.push(child_of(alloc, row)?)?;
@@ -511,11 +526,10 @@ fn children_of(alloc: Global, rows: &[ChildRow]) -> Result<List<ChildDef>, Alloc
     Ok(children)
 }
 
-fn prop_of(alloc: Global, row: &PropRow) -> Result<PropDef, AllocError> {
-    let mut defaults = List::new(alloc);
-    if let Some(truth) = row.default {
-        defaults.push(Value::Boolean(truth))?;
-    }
+fn prop_of(alloc: Global, row: &PropRow) -> Result<PropDef, AllocError>
+    ensures { IfOk result (λ prop. prop ≡ prop_in row.now) }
+{
+    let defaults = defaults_of(alloc, row.default)?;
     Ok(PropDef {
         name: optional_name(alloc, row.name)?,
         kind: row.kind,
@@ -529,8 +543,21 @@ fn prop_of(alloc: Global, row: &PropRow) -> Result<PropDef, AllocError> {
     })
 }
 
-fn child_of(alloc: Global, row: &ChildRow) -> Result<ChildDef, AllocError> {
-    let types = names_of(alloc, &[row.required])?;
+fn defaults_of(alloc: Global, truth: Option<bool>) -> Result<List<Value>, AllocError>
+    ensures { IfOk result (λ defaults. defaults ≡ option_to_list (option_map Boolean truth)) }
+{
+    let mut defaults = List::new(alloc);
+    if let Some(truth) = truth {
+        defaults.push(Value::Boolean(truth))?;
+    }
+    Ok(defaults)
+}
+
+fn child_of(alloc: Global, row: &ChildRow) -> Result<ChildDef, AllocError>
+    ensures { IfOk result (λ child. child ≡ child_in row.now) }
+{
+    let mut types = List::new(alloc);
+    types.push(name_of(alloc, row.required)?)?;
     let default_type = optional_name(alloc, row.default_type)?;
     Ok(ChildDef {
         name: optional_name(alloc, row.name)?,
@@ -543,7 +570,9 @@ fn child_of(alloc: Global, row: &ChildRow) -> Result<ChildDef, AllocError> {
     })
 }
 
-fn optional_name(alloc: Global, text: Option<&str>) -> Result<Option<Name>, AllocError> {
+fn optional_name(alloc: Global, text: Option<&str>) -> Result<Option<Name>, AllocError>
+    ensures { IfOk result (λ name. name ≡ option_copied text.entry) }
+{
     match text {
         Some(text) => Ok(Some(name_of(alloc, text)?)),
         None => Ok(None),

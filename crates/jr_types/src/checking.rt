@@ -1,14 +1,16 @@
 // Which rule of its types a node breaks first.
-ghost use Rattle.std.specs.Prelude.{◌≡◌, ◌++◌, ◌∷◌, [], IfErr, IfOk, IsTrue, None, OnOk, Some, cond, is_none, is_some, map};
-ghost use Rattle.std.specs.List.{filter, filter_map, flat_map, list_any};
-ghost use Rattle.std.specs.Option.{option_copied};
+ghost use Rattle.std.specs.Prelude.{◌≡◌, ◌++◌, ◌∷◌, ◌&&◌, [], IfErr, IfOk, IsTrue, None, OnOk, Some, cond, is_none, is_some, map, not};
+ghost use Rattle.std.specs.List.{filter, filter_map, flat_map, list_all, list_any};
+ghost use Rattle.std.specs.Map.{keys_of};
+ghost use Rattle.std.specs.Option.{option_copied, option_map_or};
 ghost use Rattle.jr_tree.specs.Trees.{node_at};
 ghost use Rattle.jr_items.specs.Names.{mixin_types, primary_type};
-ghost use Rattle.jr_items.specs.Items.{many_names, name_in, one_name, property_of};
-ghost use Rattle.jr_types.specs.Checking.{IsFirstOf, IsLeast, breaks, counting_children, counting_props, types_said};
+ghost use Rattle.jr_items.specs.Items.{is_empty, many_names, name_in, one_name, property_of, same_name};
+ghost use Rattle.jr_types.specs.Checking.{IsFirstBreak, IsFirstOf, IsViolation, child_rule, counting_children, counting_props, definition_rule, earlier, first_break, property_rule, types_said};
+ghost use Rattle.jr_types.specs.Constraints.{admits};
 ghost use Rattle.jr_types.specs.Registered.{IsAlike, IsFurther, types_at};
-ghost use Rattle.jr_types.specs.Rules.{are_mixins, is_primary_type};
-ghost use Rattle.jr_types.specs.Types.{fits, fits_child, is_a, is_named, props_of, types_of};
+ghost use Rattle.jr_types.specs.Rules.{are_distinct, are_mixins, is_mixin, is_primary_type, node_types};
+ghost use Rattle.jr_types.specs.Types.{fits, fits_child, is_a, is_named, props_of, type_named, types_of};
 ghost use Rattle.jr_types.specs.Violations.{violations_at};
 ghost use Rattle.jr_types.specs.declared.checking.TypesOut.TheVariants.{Memory};
 
@@ -61,37 +63,165 @@ impl Registry {
         ensures err { IfErr result (IsFirstOf (violations_at self.now tree.now path.now)) }
     {
         let Some(node) = tree.get(path) else {
-            return Ok(());
+            unreachable!()
         };
-        for rule in 1..=9 {
-            if let Some(item) = self.first_break(tree, path, node, rule)? {
-                let node = path.copy()?;
-                return Err(TypesOut::Violation { node, item, rule });
-            }
+        let types = self.types_of(node)?;
+        if let Some(broken) = self.property_break(node, &types)? {
+            return Err(violation(path, broken));
+        }
+        if let Some(broken) = self.child_break(tree, path, &types)? {
+            return Err(violation(path, broken));
         }
         Ok(())
     }
 
-    // The least item at which a rule fails.
-    fn first_break(
+    // What a node breaks first by its properties.
+    fn property_break(
+        &self,
+        node: &Node,
+        types: &[&TypeDef],
+    ) -> Result<Option<Break>, AllocError>
+        requires { IsAlike (map (λ d. d.now) types.now) (types_of self.now (types_said node.now)) }
+        ensures { IfOk result (IsFirstBreak (property_rule self.now node.now)) }
+    {
+        let props = self.props_of(types)?;
+        let names = self.property_names(node, &props)?;
+        self.first_property(node, &props, &names)
+    }
+
+    // What a node breaks first by its properties of these names.
+    fn first_property(
+        &self,
+        node: &Node,
+        props: &[&PropDef],
+        names: &[&Name],
+    ) -> Result<Option<Break>, AllocError>
+        requires { IsAlike (map (λ d. d.now) props.now) (flat_map props_of (types_of self.now (types_said node.now))) }
+        ensures { IfOk result (λ broken. broken ≡ first_break (property_rule self.now node.now) (map (λ n. n.now) names.now)) }
+    {
+        let mut first = None;
+        for name in names {
+            first = earlier(first, self.property_fault(node, props, name)?, name)?;
+        }
+        Ok(first)
+    }
+
+    // The first rule that a node breaks by its property of that name, or by having none.
+    fn property_fault(
+        &self,
+        node: &Node,
+        props: &[&PropDef],
+        name: &Name,
+    ) -> Result<Option<u8>, AllocError>
+        requires { IsAlike (map (λ d. d.now) props.now) (flat_map props_of (types_of self.now (types_said node.now))) }
+        ensures { IfOk result (λ rule. rule ≡ property_rule self.now node.now name.now) }
+    {
+        let property = node.props.get(name);
+        if self.has_bad_primary(name, property) {
+            return Ok(Some(1));
+        }
+        if self.has_bad_mixins(name, property) {
+            return Ok(Some(2));
+        }
+        match property {
+            Some(property) => definition_fault(
+                self.alloc,
+                &counting_props(self.alloc, props, name)?,
+                property,
+            ),
+            None => Ok(missing_property(props, name)),
+        }
+    }
+
+    // The names of the two properties that tell the types, of the node's own ones, and of the mandatory ones.
+    fn property_names<'a>(
+        &'a self,
+        node: &'a Node,
+        props: &[&'a PropDef],
+    ) -> Result<Vec<&'a Name>, AllocError>
+        ensures { IfOk result (λ names. map (λ n. n.now) names.items ≡ primary_type ∷ mixin_types ∷ keys_of node.now.props ++ filter_map (λ d. cond d.mandatory d.name None) (map (λ d. d.now) props.now)) }
+    {
+        let mut names = Vec::new(self.alloc);
+        names.push(&self.primary_type)?;
+        names.push(&self.mixin_types)?;
+        for (name, _) in node.props.iter() {
+            names.push(name)?;
+        }
+        add_mandatory_props(&mut names, props)?;
+        Ok(names)
+    }
+
+    // What a node breaks first by its children.
+    fn child_break(
         &self,
         tree: &Tree,
         path: &Path,
-        node: &Node,
-        rule: u8,
-    ) -> Result<Option<Name>, AllocError>
-        requires { option_copied (Some node) ≡ node_at tree.now path.now }
-        ensures { IfOk result (IsLeast (breaks self.now tree.now path.now rule)) }
+        types: &[&TypeDef],
+    ) -> Result<Option<Break>, AllocError>
+        requires { IsAlike (map (λ d. d.now) types.now) (types_of self.now (node_types tree.now path.now)) }
+        ensures { IfOk result (IsFirstBreak (child_rule self.now tree.now path.now)) }
     {
-        let types = self.types_of(node)?;
-        match rule {
-            1 => self.bad_primary(node),
-            2 => self.bad_mixins(node),
-            3 | 4 | 5 => bad_property(self.alloc, node, &self.props_of(&types)?, rule),
-            6 => missing_property(node, &self.props_of(&types)?),
-            7 | 8 => self.bad_child(tree, path, &children_of(self.alloc, &types)?, rule),
-            _ => missing_child(tree, path, &children_of(self.alloc, &types)?),
+        let defs = children_of(self.alloc, types)?;
+        let own = tree.children(path)?;
+        let names = child_names(self.alloc, &own, &defs)?;
+        self.first_child(tree, path, &defs, &names)
+    }
+
+    // What a node breaks first by its children of these names.
+    fn first_child(
+        &self,
+        tree: &Tree,
+        path: &Path,
+        defs: &[&ChildDef],
+        names: &[&Name],
+    ) -> Result<Option<Break>, AllocError>
+        requires { IsAlike (map (λ d. d.now) defs.now) (flat_map (λ d. d.children) (types_of self.now (node_types tree.now path.now))) }
+        ensures { IfOk result (λ broken. broken ≡ first_break (child_rule self.now tree.now path.now) (map (λ n. n.now) names.now)) }
+    {
+        let mut first = None;
+        for name in names {
+            first = earlier(first, self.child_fault(tree, path, defs, name)?, name)?;
         }
+        Ok(first)
+    }
+
+    // The first rule that a node breaks by its child of that name, or by having none.
+    fn child_fault(
+        &self,
+        tree: &Tree,
+        path: &Path,
+        defs: &[&ChildDef],
+        name: &Name,
+    ) -> Result<Option<u8>, AllocError>
+        requires { IsAlike (map (λ d. d.now) defs.now) (flat_map (λ d. d.children) (types_of self.now (node_types tree.now path.now))) }
+        ensures { IfOk result (λ rule. rule ≡ child_rule self.now tree.now path.now name.now) }
+    {
+        let child = path.child(name)?;
+        if !tree.has(&child) {
+            return Ok(missing_child(defs, name));
+        }
+        let counting = counting_children(self.alloc, defs, name)?;
+        Ok(self.type_fault_of(&counting, tree.property(&child, &self.primary_type)))
+    }
+
+    // Rules 7 and 8, for a child of that primary type with these definitions.
+    fn type_fault_of(&self, counting: &[&ChildDef], primary: Option<&Property>) -> Option<u8>
+        ensures { result ≡ cond (is_empty counting.now) (Some 7) (cond (list_any (λ d. fits_child self.now d.now (option_copied primary.entry)) counting.now) None (Some 8)) }
+    {
+        if counting.is_empty() {
+            return Some(7);
+        }
+        if self.is_fit_for(counting, primary) {
+            return None;
+        }
+        Some(8)
+    }
+
+    // Whether a child of that primary type is of a required type of one of these definitions.
+    fn is_fit_for(&self, counting: &[&ChildDef], primary: Option<&Property>) -> bool
+        ensures { result ≡ list_any (λ d. fits_child self.now d.now (option_copied primary.entry)) counting.now }
+    {
+        counting.iter().any(|def| self.fits_child(def, primary))
     }
 
     // The types of a node: its primary type, its mixins and all their supertypes.
@@ -187,74 +317,71 @@ impl Registry {
         add_props(props, definition.props.as_slice())
     }
 
-    // Rule 1: the primary type is one that nodes may have.
-    fn bad_primary(&self, node: &Node) -> Result<Option<Name>, AllocError>
-        ensures { IfOk result (λ bad. bad ≡ cond (is_primary_type self.now (property_of node.now primary_type)) None (Some primary_type)) }
+    // Rule 1: the property is the primary type, and none that nodes may have.
+    fn has_bad_primary(&self, name: &Name, property: Option<&Property>) -> bool
+        ensures { result ≡ (same_name name.now primary_type && not (is_primary_type self.now (option_copied property.entry))) }
     {
-        let is_primary = match one_name(self.primary_of(node)) {
-            Some(name) => self
-                .get(name)
-                .is_some_and(|definition| !definition.mixin && !definition.is_abstract),
+        if *name == self.primary_type {
+            return !self.is_primary_type(property);
+        }
+        false
+    }
+
+    // Whether a property is one NAME, of a registered type that is neither a mixin nor abstract.
+    fn is_primary_type(&self, property: Option<&Property>) -> bool
+        ensures { result ≡ is_primary_type self.now (option_copied property.entry) }
+    {
+        match one_name(property) {
+            Some(name) => self.may_be_primary(name),
             None => false,
-        };
-        if is_primary {
-            Ok(None)
-        } else {
-            Ok(Some(self.primary_type.copy()?))
         }
     }
 
-    // Rule 2: the mixins are distinct mixins.
-    fn bad_mixins(&self, node: &Node) -> Result<Option<Name>, AllocError>
-        ensures { IfOk result (λ bad. bad ≡ cond (are_mixins self.now (property_of node.now mixin_types)) None (Some mixin_types)) }
+    fn may_be_primary(&self, name: &Name) -> bool
+        ensures { result ≡ option_map_or (λ d. not d.mixin && not d.is_abstract) (type_named self.now name.now) false }
     {
-        let are_mixins = match self.mixins_of(node) {
+        match self.get(name) {
+            Some(definition) => !definition.mixin && !definition.is_abstract,
+            None => false,
+        }
+    }
+
+    // Rule 2: the property is the list of mixins, and no list of distinct NAMEs of registered mixins.
+    fn has_bad_mixins(&self, name: &Name, property: Option<&Property>) -> bool
+        ensures { result ≡ (same_name name.now mixin_types && not (are_mixins self.now (option_copied property.entry))) }
+    {
+        if *name == self.mixin_types {
+            return !self.are_mixins(property);
+        }
+        false
+    }
+
+    fn are_mixins(&self, property: Option<&Property>) -> bool
+        ensures { result ≡ are_mixins self.now (option_copied property.entry) }
+    {
+        match property {
             None => true,
-            Some(Property::Many(Kind::Name, values)) => self.are_mixins(values.as_slice()),
-            Some(_) => false,
-        };
-        if are_mixins {
-            Ok(None)
-        } else {
-            Ok(Some(self.mixin_types.copy()?))
+            Some(Property::Single(_)) => false,
+            Some(Property::Many(kind, values)) => *kind == Kind::Name
+                && self.are_all_mixins(values.as_slice())
+                && are_distinct(values.as_slice()),
         }
     }
 
-    // Whether the values are distinct NAMEs of registered mixins.
-    fn are_mixins(&self, values: &[Value]) -> bool {
-        match values {
-            [] => true,
-            [Value::Name(name), rest @ ..] => self.is_mixin(name)
-                && !is_among(rest, name)
-                && self.are_mixins(rest),
-            _ => false,
-        }
+    // Whether each value is the NAME of a registered mixin.
+    fn are_all_mixins(&self, values: &[Value]) -> bool
+        ensures { result ≡ list_all (λ x. option_map_or (is_mixin self.now) (name_in x) false) values.now }
+    {
+        values.iter().all(|value| self.is_mixin_name(value))
     }
 
-    // Rules 7 and 8: the first child that has no definition, or none of whose required types it is.
-    fn bad_child(
-        &self,
-        tree: &Tree,
-        path: &Path,
-        defs: &[&ChildDef],
-        rule: u8,
-    ) -> Result<Option<Name>, AllocError> {
-        for name in tree.children(path)? {
-            let counting = counting_children(self.alloc, defs, &name)?;
-            let child = path.child(&name)?;
-            let fits = counting.iter().any(|def| self.fits_child(
-                def,
-                tree.property(&child, &self.primary_type),
-            ));
-            if if rule == 7 {
-                counting.is_empty()
-            } else {
-                !counting.is_empty() && !fits
-            } {
-                return Ok(Some(name));
-            }
+    fn is_mixin_name(&self, value: &Value) -> bool
+        ensures { result ≡ option_map_or (is_mixin self.now) (name_in value.now) false }
+    {
+        match name_in(value) {
+            Some(name) => self.is_mixin(name),
+            None => false,
         }
-        Ok(None)
     }
 
     // Whether a child of that primary type is of one of the definition's required types.
@@ -318,8 +445,39 @@ fn values_of(property: Option<&Property>) -> &[Value]
     }
 }
 
-fn is_among(values: &[Value], name: &Name) -> bool {
-    values.iter().any(|value| matches!(value, Value::Name(other) if other == name))
+// Whether no two of the values are one NAME.
+fn are_distinct(values: &[Value]) -> bool
+    ensures { result ≡ are_distinct (filter_map name_in values.now) }
+{
+    match values {
+        [] => true,
+        [first, rest @ ..] => !is_among(rest, first) && are_distinct(rest),
+    }
+}
+
+// Whether the value is a NAME that is among the others.
+fn is_among(others: &[Value], value: &Value) -> bool
+    ensures { result ≡ option_map_or (λ n. list_any (λ x. option_map_or (same_name n) (name_in x) false) others.now) (name_in value.now) false }
+{
+    match name_in(value) {
+        Some(name) => is_name_among(others, name),
+        None => false,
+    }
+}
+
+fn is_name_among(others: &[Value], name: &Name) -> bool
+    ensures { result ≡ list_any (λ x. option_map_or (same_name name.now) (name_in x) false) others.now }
+{
+    others.iter().any(|other| is_the_name(other, name))
+}
+
+fn is_the_name(value: &Value, name: &Name) -> bool
+    ensures { result ≡ option_map_or (same_name name.now) (name_in value.now) false }
+{
+    match name_in(value) {
+        Some(other) => name == other,
+        None => false,
+    }
 }
 
 // The definitions that count for a property: those of its name, or else those of no name.
@@ -464,78 +622,192 @@ fn add_props<'a>(list: &mut Vec<&'a PropDef>, props: &'a [PropDef]) -> Result<()
     Ok(())
 }
 
-// Rules 3 to 5: the first property that has no definition, none that it fits, or none that admits it.
-fn bad_property(
+// Those of the definitions that the property fits.
+pub(crate) fn fitting_props<'a>(
     alloc: Global,
-    node: &Node,
-    props: &[&PropDef],
-    rule: u8,
-) -> Result<Option<Name>, AllocError> {
-    for (name, property) in node.props.iter() {
-        let counting = counting_props(alloc, props, name)?;
-        if is_bad(rule, &counting, property) {
-            return Ok(Some(name.copy()?));
-        }
-    }
-    Ok(None)
-}
-
-// Whether a property breaks rule 3, 4 or 5 by the definitions that count for it.
-fn is_bad(rule: u8, counting: &[&PropDef], property: &Property) -> bool {
-    if rule == 3 {
-        return counting.is_empty();
-    }
-    let fits = counting.iter().any(|def| def.fits(property));
-    if rule == 4 {
-        return !counting.is_empty() && !fits;
-    }
-    fits && !counting
-        .iter()
-        .any(|def| def.fits(property) && def.admits(property))
-}
-
-// Rule 6: the least mandatory property that is missing.
-fn missing_property(node: &Node, props: &[&PropDef]) -> Result<Option<Name>, AllocError> {
-    let mut least: Option<&Name> = None;
-    for def in props {
-        if let (true, Some(name)) = (def.mandatory, &def.name) {
-            if !node.props.contains(name) {
-                least = Some(lesser(least, name));
-            }
-        }
-    }
-    copied(least)
-}
-
-// Rule 9: the least mandatory child that is missing.
-fn missing_child(
-    tree: &Tree,
-    path: &Path,
-    children: &[&ChildDef],
-) -> Result<Option<Name>, AllocError> {
-    let mut least: Option<&Name> = None;
-    for def in children {
-        if let (true, Some(name)) = (def.mandatory, &def.name) {
-            if !tree.has(&path.child(name)?) {
-                least = Some(lesser(least, name));
-            }
-        }
-    }
-    copied(least)
-}
-
-fn lesser<'a>(least: Option<&'a Name>, name: &'a Name) -> &'a Name {
-    match least {
-        Some(other) => if other < name { other } else { name },
-        None => name,
-    }
-}
-
-fn copied(name: Option<&Name>) -> Result<Option<Name>, AllocError>
-    ensures { IfOk result (λ copy. copy ≡ option_copied name.entry) }
+    counting: &[&'a PropDef],
+    property: &Property,
+) -> Result<Vec<&'a PropDef>, AllocError>
+    ensures { IfOk result (λ fitting. map (λ d. d.now) fitting.items ≡ filter (λ d. fits d property.now) (map (λ d. d.now) counting.now)) }
 {
-    match name {
-        Some(name) => Ok(Some(name.copy()?)),
-        None => Ok(None),
+    let mut fitting = Vec::new(alloc);
+    for def in counting {
+        if def.fits(property) {
+            fitting.push(*def)?;
+        }
+    }
+    Ok(fitting)
+}
+
+// Rules 3 to 5, for a property with these definitions.
+fn definition_fault(
+    alloc: Global,
+    counting: &[&PropDef],
+    property: &Property,
+) -> Result<Option<u8>, AllocError>
+    ensures { IfOk result (λ rule. rule ≡ definition_rule (map (λ d. d.now) counting.now) property.now) }
+{
+    if counting.is_empty() {
+        return Ok(Some(3));
+    }
+    let fitting = fitting_props(alloc, counting, property)?;
+    Ok(constraint_fault(&fitting, property))
+}
+
+// Rules 4 and 5, for a property that fits these definitions.
+fn constraint_fault(fitting: &[&PropDef], property: &Property) -> Option<u8>
+    ensures { result ≡ cond (is_empty fitting.now) (Some 4) (cond (list_any (λ d. admits d.now property.now) fitting.now) None (Some 5)) }
+{
+    if fitting.is_empty() {
+        return Some(4);
+    }
+    if is_admitted(fitting, property) {
+        return None;
+    }
+    Some(5)
+}
+
+fn is_admitted(fitting: &[&PropDef], property: &Property) -> bool
+    ensures { result ≡ list_any (λ d. admits d.now property.now) fitting.now }
+{
+    fitting.iter().any(|def| def.admits(property))
+}
+
+// Rule 6, for a property that is missing.
+fn missing_property(props: &[&PropDef], name: &Name) -> Option<u8>
+    ensures { result ≡ cond (list_any (λ d. d.now.mandatory && is_named name.now d.now.name) props.now) (Some 6) None }
+{
+    if props.iter().any(|def| is_wanted_prop(def, name)) {
+        return Some(6);
+    }
+    None
+}
+
+fn is_wanted_prop(def: &PropDef, name: &Name) -> bool
+    ensures { result ≡ (def.now.mandatory && is_named name.now def.now.name) }
+{
+    def.mandatory && is_of(&def.name, name)
+}
+
+// Rule 9, for a child that is missing.
+fn missing_child(defs: &[&ChildDef], name: &Name) -> Option<u8>
+    ensures { result ≡ cond (list_any (λ d. d.now.mandatory && is_named name.now d.now.name) defs.now) (Some 9) None }
+{
+    if defs.iter().any(|def| is_wanted_child(def, name)) {
+        return Some(9);
+    }
+    None
+}
+
+fn is_wanted_child(def: &ChildDef, name: &Name) -> bool
+    ensures { result ≡ (def.now.mandatory && is_named name.now def.now.name) }
+{
+    def.mandatory && is_of(&def.name, name)
+}
+
+// Puts the names of the mandatory properties behind others.
+fn add_mandatory_props<'a>(
+    names: &mut Vec<&'a Name>,
+    props: &[&'a PropDef],
+) -> Result<(), AllocError>
+    ensures { OnOk result (map (λ n. n.now) names.new.items ≡ map (λ n. n.now) names.old.items ++ filter_map (λ d. cond d.mandatory d.name None) (map (λ d. d.now) props.now)) }
+{
+    for def in props {
+        if let Some(name) = wanted(def.mandatory, &def.name) {
+            names.push(name)?;
+        }
+    }
+    Ok(())
+}
+
+// The names of children at which a rule may fail: a node's own, and the mandatory ones.
+fn child_names<'a>(
+    alloc: Global,
+    own: &'a [Name],
+    defs: &[&'a ChildDef],
+) -> Result<Vec<&'a Name>, AllocError>
+    ensures { IfOk result (λ names. map (λ n. n.now) names.items ≡ own.now ++ filter_map (λ d. cond d.mandatory d.name None) (map (λ d. d.now) defs.now)) }
+{
+    let mut names = Vec::new(alloc);
+    for name in own {
+        names.push(name)?;
+    }
+    add_mandatory_children(&mut names, defs)?;
+    Ok(names)
+}
+
+// Puts the names of the mandatory children behind others.
+fn add_mandatory_children<'a>(
+    names: &mut Vec<&'a Name>,
+    defs: &[&'a ChildDef],
+) -> Result<(), AllocError>
+    ensures { OnOk result (map (λ n. n.now) names.new.items ≡ map (λ n. n.now) names.old.items ++ filter_map (λ d. cond d.mandatory d.name None) (map (λ d. d.now) defs.now)) }
+{
+    for def in defs {
+        if let Some(name) = wanted(def.mandatory, &def.name) {
+            names.push(name)?;
+        }
+    }
+    Ok(())
+}
+
+// The name, where the item is mandatory.
+fn wanted(mandatory: bool, name: &Option<Name>) -> Option<&Name>
+    ensures { option_copied result ≡ cond mandatory name.now None }
+{
+    if mandatory { name.as_ref() } else { None }
+}
+
+// A rule that is broken, and the item at which it is.
+#[derive(PartialEq, Eq, PartialOrd, Ord, Drop)]
+pub struct Break {
+    rule: u8,
+    item: Name,
+}
+
+// What is broken first: by rule, and then by item.
+fn earlier(
+    first: Option<Break>,
+    rule: Option<u8>,
+    name: &Name,
+) -> Result<Option<Break>, AllocError>
+    ensures { IfOk result (λ broken. broken ≡ earlier first rule name.now) }
+{
+    match rule {
+        Some(rule) => {
+            let item = name.copy()?;
+            Ok(Some(first_of(Break { rule, item }, first)))
+        }
+        None => Ok(first),
+    }
+}
+
+// Whichever comes first.
+fn first_of(found: Break, known: Option<Break>) -> Break
+    ensures { Some result ≡ earlier known (Some found.rule) found.item }
+{
+    match known {
+        Some(known) => {
+            if found.cmp(&known).is_lt() {
+                found
+            } else {
+                known
+            }
+        }
+        None => found,
+    }
+}
+
+// What is told of a broken rule.
+fn violation(path: &Path, broken: Break) -> TypesOut
+    ensures { IsViolation path.now broken result }
+{
+    match path.copy() {
+        Ok(node) => TypesOut::Violation {
+            node,
+            item: broken.item,
+            rule: broken.rule,
+        },
+        Err(_) => TypesOut::Memory,
     }
 }

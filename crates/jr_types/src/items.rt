@@ -1,19 +1,19 @@
 // What types say of the items of a node, for the commands that make, write and keep them.
-ghost use Rattle.std.specs.Prelude.{◌≡◌, IfOk};
-ghost use Rattle.std.specs.List.{list_any};
+ghost use Rattle.std.specs.Prelude.{◌≡◌, IfOk, is_some, map, option_and_then};
+ghost use Rattle.std.specs.List.{filter, list_any};
 ghost use Rattle.std.specs.Option.{option_copied};
 ghost use Rattle.jr_items.specs.Names.{primary_type};
-ghost use Rattle.jr_items.specs.Items.{property_of};
+ghost use Rattle.jr_items.specs.Items.{first_of, property_of};
 ghost use Rattle.jr_types.specs.Attributes.{are_ordered, default_type};
 ghost use Rattle.jr_types.specs.Checking.{types_said};
-ghost use Rattle.jr_types.specs.Types.{child_def, prop_def, types_of};
+ghost use Rattle.jr_types.specs.Types.{child_def, fits_child, prop_def, types_of};
 
-use crate::checking::{children_of, counting_children, counting_props};
+use crate::checking::{children_of, counting_children, counting_props, fitting_props};
 use crate::{ChildDef, PropDef, Registry, TypeDef};
 use jr_path::Name;
 use jr_tree::Node;
 use jr_value::Property;
-use std::alloc::AllocError;
+use std::alloc::{AllocError, Global};
 
 impl Registry {
     /// The definition that a property of a node goes by: the first that it fits of those that count for it, or else the first
@@ -28,8 +28,8 @@ impl Registry {
     {
         let types = self.types_of(node)?;
         let counting = counting_props(self.alloc, &self.props_of(&types)?, name)?;
-        let fitting = counting.iter().copied().find(|def| def.fits(property));
-        Ok(fitting.or(counting.first().copied()))
+        let fitting = fitting_props(self.alloc, &counting, property)?;
+        Ok(first_def(&fitting).or(first_def(&counting)))
     }
 
     /// The definition that a child of a node goes by: the first that it fits of those that count for it, or else the first
@@ -44,12 +44,8 @@ impl Registry {
     {
         let types = self.types_of(node)?;
         let counting = counting_children(self.alloc, &children_of(self.alloc, &types)?, name)?;
-        let primary = self.primary_of(child);
-        let fitting = counting
-            .iter()
-            .copied()
-            .find(|def| self.fits_child(def, primary));
-        Ok(fitting.or(counting.first().copied()))
+        let fitting = self.fitting_children(&counting, self.primary_of(child))?;
+        Ok(first_def(&fitting).or(first_def(&counting)))
     }
 
     /// The type of a new child of that name that is added without a type: the first that a definition gives that counts for it.
@@ -58,12 +54,8 @@ impl Registry {
     {
         let types = self.types_of(node)?;
         let counting = counting_children(self.alloc, &children_of(self.alloc, &types)?, name)?;
-        Ok(
-            counting
-                .iter()
-                .copied()
-                .find_map(|def| def.default_type.as_ref()),
-        )
+        let telling = telling_children(self.alloc, &counting)?;
+        Ok(default_of(first_def(&telling)))
     }
 
     /// Whether the children of a node keep the order that they are put in (JSR 283, 23 Orderable Child Nodes).
@@ -72,6 +64,58 @@ impl Registry {
     {
         Ok(is_one_ordered(&self.types_of(node)?))
     }
+}
+
+impl Registry {
+    // Those of the definitions of whose required types a child of that primary type is.
+    fn fitting_children<'a>(
+        &self,
+        counting: &[&'a ChildDef],
+        primary: Option<&Property>,
+    ) -> Result<Vec<&'a ChildDef>, AllocError>
+        ensures { IfOk result (λ fitting. map (λ d. d.now) fitting.items ≡ filter (λ d. fits_child self.now d (option_copied primary.entry)) (map (λ d. d.now) counting.now)) }
+    {
+        let mut fitting = Vec::new(self.alloc);
+        for def in counting {
+            if self.fits_child(def, primary) {
+                fitting.push(*def)?;
+            }
+        }
+        Ok(fitting)
+    }
+}
+
+// Those of the definitions that give a default type.
+fn telling_children<'a>(
+    alloc: Global,
+    counting: &[&'a ChildDef],
+) -> Result<Vec<&'a ChildDef>, AllocError>
+    ensures { IfOk result (λ telling. map (λ d. d.now) telling.items ≡ filter (λ d. is_some d.default_type) (map (λ d. d.now) counting.now)) }
+{
+    let mut telling = Vec::new(alloc);
+    for def in counting {
+        if def.default_type.is_some() {
+            telling.push(*def)?;
+        }
+    }
+    Ok(telling)
+}
+
+// The default type that a definition gives.
+fn default_of(def: Option<&ChildDef>) -> Option<&Name>
+    ensures { option_copied result ≡ option_and_then (λ d. d.default_type) (option_copied def.entry) }
+{
+    match def {
+        Some(def) => def.default_type.as_ref(),
+        None => None,
+    }
+}
+
+// The first of the definitions.
+fn first_def<'a, T>(defs: &[&'a T]) -> Option<&'a T>
+    ensures { option_copied result ≡ first_of (map (λ d. d.now) defs.now) }
+{
+    defs.first().copied()
 }
 
 // Whether one of the types is orderable.
