@@ -1,5 +1,5 @@
 -- The first rule that a node breaks at one item.
-use Rattle.std.proofs.Common.{◌≡◌, ℕ, Bool, true, false, cond, not, ◌&&◌, ◌||◌, Option, None, Some, List, [], ◌∷◌, ◌++◌, map, refl, sym, ap, ◌∙◌, subst}
+use Rattle.std.proofs.Common.{arith, ◌<◌, length, ◌≡◌, ℕ, Bool, true, false, cond, not, ◌&&◌, ◌||◌, Option, None, Some, List, [], ◌∷◌, ◌++◌, map, refl, sym, ap, ◌∙◌, subst}
 use Rattle.std.specs.Prelude.{is_none, is_some}
 use Rattle.std.specs.Option.{option_copied, option_map_or}
 use Rattle.std.specs.List.{cons_option, filter, filter_map, find, flat_map, list_any, list_all}
@@ -7,17 +7,18 @@ use denote.Ref.{Bor}
 use Rattle.jr_path.specs.declared.name.Name.{Name}
 use Rattle.jr_path.specs.declared.path.Path.{Path}
 use Rattle.jr_value.specs.declared.value.Property.{Property}
+use Rattle.jr_value.specs.declared.value.Value.{Value}
 use Rattle.jr_tree.specs.declared.tree.Node.{Node}
 use Rattle.jr_tree.specs.Trees.{Nodes, node_at, property_at}
 use Rattle.jr_items.specs.Names.{mixin_types, primary_type}
-use Rattle.jr_items.specs.Items.{child_path, first_of, is_empty, property_of, same_name}
+use Rattle.jr_items.specs.Items.{child_path, first_of, is_empty, name_in, property_of, same_name}
 use Rattle.jr_types.specs.declared.PropDef.{PropDef}
 use Rattle.jr_types.specs.declared.ChildDef.{ChildDef}
 use Rattle.jr_types.specs.declared.TypeDef.{TypeDef}
 use Rattle.jr_types.specs.Checking.{child_rule, counting_children, counting_props, definition_rule, property_rule, types_said}
 use Rattle.jr_types.specs.Constraints.{admits}
 use Rattle.jr_types.specs.Registered.{IsAlike}
-use Rattle.jr_types.specs.Rules.{Child, are_mixins, child_at, child_faults, failing, is_misfit, is_missing, is_of_no_type, is_outside, is_primary_type, is_stray, is_undefined, mandatory_children, mandatory_props, node_types, property_faults}
+use Rattle.jr_types.specs.Rules.{Child, are_distinct, are_mixins, child_at, child_faults, failing, is_misfit, is_missing, is_of_no_type, is_outside, is_primary_type, is_stray, is_undefined, mandatory_children, mandatory_props, node_types, property_faults}
 use Rattle.jr_types.specs.Types.{child_defs, fits, fits_child, is_named, prop_defs, props_of, types_of}
 use Rattle.jr_types.proofs.Alike.{any-alike, any_seen, empty-alike, filter-alike}
 use Rattle.jr_types.proofs.Counting.{children-alike, props-alike}
@@ -65,6 +66,46 @@ definition-alike xs ys x h =
     ap (λ b. cond b (Some 3) (cond (is_empty (filter (λ d. fits d x) xs)) (Some 4) (cond (list_any (λ d. admits d x) (filter (λ d. fits d x) xs)) None (Some 5)))) (empty-alike xs ys h)
     ∙ (ap (λ b. cond (is_empty ys) (Some 3) (cond b (Some 4) (cond (list_any (λ d. admits d x) (filter (λ d. fits d x) xs)) None (Some 5)))) (empty-alike _ _ k)
     ∙ ap (λ b. cond (is_empty ys) (Some 3) (cond (is_empty (filter (λ d. fits d x) ys)) (Some 4) (cond b None (Some 5)))) (any-alike (λ d. admits d x) _ _ k))
+
+empty_seen : {X Y : Type 0} (f : X → Y) (xs : List X) → is_empty xs ≡ is_empty (map f xs)
+empty_seen f [] = refl
+empty_seen f (x ∷ xs) = refl
+
+pub not_empty : {X : Type 0} (xs : List X) → 0 < length xs → is_empty xs ≡ false
+not_empty [] l = grind arith
+not_empty (x ∷ xs) l = refl
+
+-- what the definitions that a property fits say of it, where there are definitions for it
+pub fitting_rule : (counting : List (Bor PropDef)) (fit : List (Bor PropDef)) (x : Property) (r : Option ℕ) → is_empty counting ≡ false
+    → map (λ d. d.now) fit ≡ filter (λ d. fits d x) (map (λ d. d.now) counting) → r ≡ cond (is_empty fit) (Some 4) (cond (list_any (λ d. admits d.now x) fit) None (Some 5))
+    → r ≡ definition_rule (map (λ d. d.now) counting) x
+fitting_rule counting fit x r some f h = h
+    ∙ (ap (λ b. cond b (Some 4) (cond (list_any (λ d. admits d.now x) fit) None (Some 5))) (empty_seen (λ d. d.now) fit ∙ ap is_empty f)
+    ∙ (ap (λ b. cond (is_empty (filter (λ d. fits d x) (map (λ d. d.now) counting))) (Some 4) (cond b None (Some 5))) (any_seen (λ d. admits d x) (λ d. d.now) fit ∙ ap (list_any (λ d. admits d x)) f)
+    ∙ ap (λ b. cond b (Some 3) (cond (is_empty (filter (λ d. fits d x) (map (λ d. d.now) counting))) (Some 4) (cond (list_any (λ d. admits d x) (filter (λ d. fits d x) (map (λ d. d.now) counting))) None (Some 5))))
+        (sym (sym (empty_seen (λ d. d.now) counting) ∙ some))))
+
+pub none_rule : (counting : List (Bor PropDef)) (x : Property) → is_empty counting ≡ true → Some 3 ≡ definition_rule (map (λ d. d.now) counting) x
+none_rule counting x h = ap (λ b. cond b (Some 3) (cond (is_empty (filter (λ d. fits d x) (map (λ d. d.now) counting))) (Some 4) (cond (list_any (λ d. admits d x) (filter (λ d. fits d x) (map (λ d. d.now) counting))) None (Some 5))))
+    (sym (sym (empty_seen (λ d. d.now) counting) ∙ h))
+
+-- a NAME is none of those that stand behind it
+among_names : (n : Name) (vs : List Value) → list_any (λ x. option_map_or (same_name n) (name_in x) false) vs ≡ list_any (same_name n) (filter_map name_in vs)
+among_names n [] = refl
+among_names n (v ∷ vs) = by (name_in v) (among_names n vs)
+  where
+    by : (o : Option Name) → list_any (λ x. option_map_or (same_name n) (name_in x) false) vs ≡ list_any (same_name n) (filter_map name_in vs)
+        → (option_map_or (same_name n) o false || list_any (λ x. option_map_or (same_name n) (name_in x) false) vs) ≡ list_any (same_name n) (cons_option o (filter_map name_in vs))
+    by None h = h
+    by (Some m) h = ap (λ b. same_name n m || b) h
+
+pub distinct_step : (values rest : List Value) (first : Value) → values ≡ first ∷ rest
+    → (not (option_map_or (λ n. list_any (λ x. option_map_or (same_name n) (name_in x) false) rest) (name_in first) false) && are_distinct (filter_map name_in rest)) ≡ are_distinct (filter_map name_in values)
+distinct_step values rest first is = by (name_in first) ∙ ap (λ vs. are_distinct (filter_map name_in vs)) (sym is)
+  where
+    by : (o : Option Name) → (not (option_map_or (λ n. list_any (λ x. option_map_or (same_name n) (name_in x) false) rest) o false) && are_distinct (filter_map name_in rest)) ≡ are_distinct (cons_option o (filter_map name_in rest))
+    by None = refl
+    by (Some n) = ap (λ b. not b && are_distinct (filter_map name_in rest)) (among_names n rest)
 
 -- the mandatory definitions of a name
 wanted_step : (n : Name) (mandatory : Bool) (own : Option Name) (names : List Name) (rest : Bool) → list_any (same_name n) names ≡ rest
@@ -157,10 +198,6 @@ module _ (types : List TypeDef) (t : Nodes) (p : Path) (n : Name) where
   kinds-alike : (xs ys : List ChildDef) → IsAlike xs ys → kinds xs ≡ kinds ys
   kinds-alike xs ys h = ap (λ b. cond b (Some 7) (cond (list_any (λ d. fits_child types d primary) xs) None (Some 8))) (empty-alike xs ys h)
       ∙ ap (λ b. cond (is_empty ys) (Some 7) (cond b None (Some 8))) (any-alike (λ d. fits_child types d primary) xs ys h)
-
-  empty_seen : {X Y : Type 0} (f : X → Y) (xs : List X) → is_empty xs ≡ is_empty (map f xs)
-  empty_seen f [] = refl
-  empty_seen f (x ∷ xs) = refl
 
   kinds_seen : (cs : List (Bor ChildDef)) → cond (is_empty cs) (Some 7) (cond (list_any (λ d. fits_child types d.now primary) cs) None (Some 8)) ≡ kinds (map (λ d. d.now) cs)
   kinds_seen cs = ap (λ b. cond b (Some 7) (cond (list_any (λ d. fits_child types d.now primary) cs) None (Some 8))) (empty_seen (λ d. d.now) cs)

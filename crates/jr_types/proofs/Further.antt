@@ -5,6 +5,7 @@ use Rattle.std.specs.List.{cons_option, filter_map, find, flat_map}
 use Rattle.std.proofs.lemmas.List.{append-nil, take_more}
 use Rattle.std.proofs.lemmas.List.Elements.{filter_map-append}
 use Rattle.std.proofs.lemmas.Grind.{flat_map-append}
+use denote.Ref.{Bor}
 use Rattle.jr_path.specs.declared.name.Name.{Name}
 use Rattle.jr_value.specs.declared.value.Value.{Value}
 use Rattle.jr_items.specs.Items.{name_in}
@@ -24,6 +25,20 @@ pushed f old new x o put same = ap (map f) put ∙ (behind old ∙ ap (λ o. map
     behind : (ys : List _) → map f (ys ++ x ∷ []) ≡ map f ys ++ f x ∷ []
     behind [] = refl
     behind (y ∷ ys) = ap (λ zs. f y ∷ zs) (behind ys)
+
+seen_behind : {X Y : Type 0} (f : X → Y) (xs : List X) (x : X) → map f (xs ++ x ∷ []) ≡ map f xs ++ f x ∷ []
+seen_behind f [] x = refl
+seen_behind f (y ∷ ys) x = ap (λ zs. f y ∷ zs) (seen_behind f ys x)
+
+-- what lent definitions give, with one more
+pub given_more : {X Y : Type 0} (g : X → Option Y) (xs : List (Bor X)) (i : ℕ) (d : Bor X) (init old new : List Y) → i < length xs → old ≡ init ++ filter_map g (map (λ x. x.now) (take i xs))
+    → new ≡ old ++ cons_option (g ((slice_index_or xs i d).now)) [] → new ≡ init ++ filter_map g (map (λ x. x.now) (take (i + 1) xs))
+given_more g xs i d init old new l so_far put =
+    let x = slice_index_or xs i d in
+    let front = map (λ b. b.now) (take i xs) in
+    let more : filter_map g (map (λ b. b.now) (take (i + 1) xs)) ≡ filter_map g front ++ cons_option (g x.now) [] =
+        ap (λ ys. filter_map g (map (λ b. b.now) ys)) (take_more xs i d l) ∙ (ap (filter_map g) (seen_behind (λ b. b.now) (take i xs) x) ∙ filter_map-append g front (x.now ∷ [])) in
+    put ∙ (ap (λ ys. ys ++ cons_option (g x.now) []) so_far ∙ (append_assoc init (filter_map g front) (cons_option (g x.now) []) ∙ ap (λ ys. init ++ ys) (sym more)))
 
 module _ (types : List TypeDef) where
   -- a line behind others

@@ -1,10 +1,12 @@
 -- The JSON of node types, by cases on it.
-use Rattle.std.specs.Prelude.{◌≡◌, ℕ, Bool, true, false, List, [], ◌∷◌, Option, None, Some, codes}
+use Rattle.std.specs.Prelude.{◌≡◌, ℕ, Bool, true, false, ◌&&◌, Result, Ok, Err, List, [], ◌∷◌, Option, None, Some, codes}
 use Rattle.std.specs.List.{list_any}
 use Rattle.std.specs.Str.{bytes_eq}
 use Rattle.serde_json.specs.Data.{Data, Items, no_items, item, Members, no_members, member, null, boolean, number, string, array, object}
-use Rattle.serde_json.specs.Find.{get_member}
+use Rattle.serde_json.specs.Find.{get}
 use Rattle.jr_path.specs.Grammar.{IsName}
+use Rattle.jr_path.specs.declared.fault.PathFault.{PathFault}
+use Rattle.jr_path.specs.declared.fault.PathFault.TheVariants as fault
 use Rattle.jr_path.specs.declared.name.Name.{Name}
 use Rattle.jr_value.specs.Json.{kind_text}
 use Rattle.jr_value.specs.Reading.{IsPropertyJson}
@@ -83,10 +85,15 @@ AreDefaultsJson d [] = d ≡ array no_items
 AreDefaultsJson (array ds) (x ∷ xs) = (k : Kind) × IsPropertyJson (array ds) (Many k (x ∷ xs))
 AreDefaultsJson _ (x ∷ xs) = ⊥
 
--- an object has no other keys than these
-abbrev pub HasOnly : List (List ℕ) → Members → Type 0
-HasOnly keys no_members = Unit {0}
-HasOnly keys (member key d more) = (list_any (bytes_eq key) keys ≡ true) × HasOnly keys more
+-- the members have no other keys than these
+abbrev pub have_keys : List (List ℕ) → Members → Bool
+have_keys keys no_members = true
+have_keys keys (member key d more) = list_any (λ k. bytes_eq key k) keys && have_keys keys more
+
+-- the JSON is an object that has no other keys than these
+abbrev pub is_object_of : List (List ℕ) → Data → Bool
+is_object_of keys (object ms) = have_keys keys ms
+is_object_of keys _ = false
 
 abbrev pub prop_keys : List (List ℕ)
 prop_keys = codes "name" ∷ codes "type" ∷ codes "mandatory" ∷ codes "autocreated" ∷ codes "protected" ∷ codes "multiple" ∷ codes "defaults" ∷ codes "constraints" ∷ codes "opv" ∷ []
@@ -97,52 +104,49 @@ child_keys = codes "name" ∷ codes "types" ∷ codes "default" ∷ codes "manda
 abbrev pub type_keys : List (List ℕ)
 type_keys = codes "name" ∷ codes "supertypes" ∷ codes "abstract" ∷ codes "mixin" ∷ codes "orderable" ∷ codes "primaryItem" ∷ codes "props" ∷ codes "children" ∷ []
 
--- the members of a property's definition
-pub record ArePropMembers (ms : Members) (p : PropDef) : Type 0 where
-  pub keys : HasOnly prop_keys ms
-  pub name : IsThere IsItemNameJson (get_member (codes "name") ms) p.name
-  pub kind : IsOr None IsKindJson (get_member (codes "type") ms) p.kind
-  pub mandatory : IsOr false IsFlagJson (get_member (codes "mandatory") ms) p.mandatory
-  pub autocreated : IsOr false IsFlagJson (get_member (codes "autocreated") ms) p.autocreated
-  pub protected : IsOr false IsFlagJson (get_member (codes "protected") ms) p.protected
-  pub multiple : IsOr false IsFlagJson (get_member (codes "multiple") ms) p.multiple
-  pub defaults : IsOr [] AreDefaultsJson (get_member (codes "defaults") ms) p.defaults
-  pub constraints : IsOr [] (IsListJson IsTextJson) (get_member (codes "constraints") ms) p.constraints
-  pub opv : IsOr opv.Copy IsOpvJson (get_member (codes "opv") ms) p.opv
+-- the JSON is the definition of a property
+pub record IsPropJson (json : Data) (p : PropDef) : Type 0 where
+  pub keys : is_object_of prop_keys json ≡ true
+  pub name : IsThere IsItemNameJson (get (codes "name") json) p.name
+  pub kind : IsOr None IsKindJson (get (codes "type") json) p.kind
+  pub mandatory : IsOr false IsFlagJson (get (codes "mandatory") json) p.mandatory
+  pub autocreated : IsOr false IsFlagJson (get (codes "autocreated") json) p.autocreated
+  pub protected : IsOr false IsFlagJson (get (codes "protected") json) p.protected
+  pub multiple : IsOr false IsFlagJson (get (codes "multiple") json) p.multiple
+  pub defaults : IsOr [] AreDefaultsJson (get (codes "defaults") json) p.defaults
+  pub constraints : IsOr [] (IsListJson IsTextJson) (get (codes "constraints") json) p.constraints
+  pub opv : IsOr opv.Copy IsOpvJson (get (codes "opv") json) p.opv
 
--- the members of a child's definition
-pub record AreChildMembers (ms : Members) (c : ChildDef) : Type 0 where
-  pub keys : HasOnly child_keys ms
-  pub name : IsThere IsItemNameJson (get_member (codes "name") ms) c.name
-  pub types : IsOr (base_type ∷ []) (IsListJson IsNameJson) (get_member (codes "types") ms) c.types
-  pub default_type : IsOr None IsSomeNameJson (get_member (codes "default") ms) c.default_type
-  pub mandatory : IsOr false IsFlagJson (get_member (codes "mandatory") ms) c.mandatory
-  pub autocreated : IsOr false IsFlagJson (get_member (codes "autocreated") ms) c.autocreated
-  pub protected : IsOr false IsFlagJson (get_member (codes "protected") ms) c.protected
-  pub opv : IsOr opv.Copy IsOpvJson (get_member (codes "opv") ms) c.opv
+-- the JSON is the definition of a child
+pub record IsChildJson (json : Data) (c : ChildDef) : Type 0 where
+  pub keys : is_object_of child_keys json ≡ true
+  pub name : IsThere IsItemNameJson (get (codes "name") json) c.name
+  pub types : IsOr (base_type ∷ []) (IsListJson IsNameJson) (get (codes "types") json) c.types
+  pub default_type : IsOr None IsSomeNameJson (get (codes "default") json) c.default_type
+  pub mandatory : IsOr false IsFlagJson (get (codes "mandatory") json) c.mandatory
+  pub autocreated : IsOr false IsFlagJson (get (codes "autocreated") json) c.autocreated
+  pub protected : IsOr false IsFlagJson (get (codes "protected") json) c.protected
+  pub opv : IsOr opv.Copy IsOpvJson (get (codes "opv") json) c.opv
 
--- an object whose members are read
-abbrev pub IsObjectJson : {X : Type 0} → (Members → X → Type 0) → Data → X → Type 0
-IsObjectJson AreMembers (object ms) x = AreMembers ms x
-IsObjectJson AreMembers _ x = ⊥
+-- the JSON is the definition of a type
+pub record IsTypeJson (json : Data) (d : TypeDef) : Type 0 where
+  pub keys : is_object_of type_keys json ≡ true
+  pub name : IsThere IsNameJson (get (codes "name") json) d.name
+  pub supertypes : IsOr [] (IsListJson IsNameJson) (get (codes "supertypes") json) d.supertypes
+  pub is_abstract : IsOr false IsFlagJson (get (codes "abstract") json) d.is_abstract
+  pub mixin : IsOr false IsFlagJson (get (codes "mixin") json) d.mixin
+  pub orderable : IsOr false IsFlagJson (get (codes "orderable") json) d.orderable
+  pub primary_item : IsOr None IsSomeNameJson (get (codes "primaryItem") json) d.primary_item
+  pub props : IsOr [] (IsListJson IsPropJson) (get (codes "props") json) d.props
+  pub children : IsOr [] (IsListJson IsChildJson) (get (codes "children") json) d.children
 
--- the members of a type's definition
-pub record AreTypeMembers (ms : Members) (d : TypeDef) : Type 0 where
-  pub keys : HasOnly type_keys ms
-  pub name : IsThere IsNameJson (get_member (codes "name") ms) d.name
-  pub supertypes : IsOr [] (IsListJson IsNameJson) (get_member (codes "supertypes") ms) d.supertypes
-  pub is_abstract : IsOr false IsFlagJson (get_member (codes "abstract") ms) d.is_abstract
-  pub mixin : IsOr false IsFlagJson (get_member (codes "mixin") ms) d.mixin
-  pub orderable : IsOr false IsFlagJson (get_member (codes "orderable") ms) d.orderable
-  pub primary_item : IsOr None IsSomeNameJson (get_member (codes "primaryItem") ms) d.primary_item
-  pub props : IsOr [] (IsListJson (IsObjectJson ArePropMembers)) (get_member (codes "props") ms) d.props
-  pub children : IsOr [] (IsListJson (IsObjectJson AreChildMembers)) (get_member (codes "children") ms) d.children
+-- what was read is one that might be; or there is none that might be, or memory was refused
+abbrev pub Reads : {X : Type 0} → (X → Type 0) → Result X NoType → Type 0
+Reads IsRead (Ok x) = IsRead x
+Reads {X} IsRead (Err no.NoDefinition) = (x : X) → IsRead x → ⊥
+Reads IsRead (Err no.Memory) = Unit {0}
 
--- the JSON is the definition of this type
-abbrev pub IsTypeJson : Data → TypeDef → Type 0
-IsTypeJson = IsObjectJson AreTypeMembers
-
--- the JSON is no type's definition, or memory was refused
-abbrev pub IsNoType : Data → NoType → Type 0
-IsNoType d no.NoDefinition = (t : TypeDef) → IsTypeJson d t → ⊥
-IsNoType d no.Memory = Unit {0}
+-- why no type is read where a name in it isn't
+abbrev pub refused : PathFault → NoType
+refused fault.Memory = no.Memory
+refused _ = no.NoDefinition

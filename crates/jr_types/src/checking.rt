@@ -1,5 +1,5 @@
 // Which rule of its types a node breaks first.
-ghost use Rattle.std.specs.Prelude.{◌≡◌, ◌++◌, ◌∷◌, ◌&&◌, [], IfErr, IfOk, IsTrue, None, OnOk, Some, cond, is_none, is_some, map, not};
+ghost use Rattle.std.specs.Prelude.{◌≡◌, ◌++◌, ◌∷◌, ◌&&◌, [], false, IfErr, IfOk, IsTrue, None, OnOk, Some, cond, is_none, is_some, map, not};
 ghost use Rattle.std.specs.List.{filter, filter_map, flat_map, list_all, list_any};
 ghost use Rattle.std.specs.Map.{keys_of};
 ghost use Rattle.std.specs.Option.{option_copied, option_map_or};
@@ -677,10 +677,16 @@ fn is_admitted(fitting: &[&PropDef], property: &Property) -> bool
 fn missing_property(props: &[&PropDef], name: &Name) -> Option<u8>
     ensures { result ≡ cond (list_any (λ d. d.now.mandatory && is_named name.now d.now.name) props.now) (Some 6) None }
 {
-    if props.iter().any(|def| is_wanted_prop(def, name)) {
+    if is_wanted_among(props, name) {
         return Some(6);
     }
     None
+}
+
+fn is_wanted_among(props: &[&PropDef], name: &Name) -> bool
+    ensures { result ≡ list_any (λ d. d.now.mandatory && is_named name.now d.now.name) props.now }
+{
+    props.iter().any(|def| is_wanted_prop(def, name))
 }
 
 fn is_wanted_prop(def: &PropDef, name: &Name) -> bool
@@ -693,10 +699,16 @@ fn is_wanted_prop(def: &PropDef, name: &Name) -> bool
 fn missing_child(defs: &[&ChildDef], name: &Name) -> Option<u8>
     ensures { result ≡ cond (list_any (λ d. d.now.mandatory && is_named name.now d.now.name) defs.now) (Some 9) None }
 {
-    if defs.iter().any(|def| is_wanted_child(def, name)) {
+    if is_wanted_below(defs, name) {
         return Some(9);
     }
     None
+}
+
+fn is_wanted_below(defs: &[&ChildDef], name: &Name) -> bool
+    ensures { result ≡ list_any (λ d. d.now.mandatory && is_named name.now d.now.name) defs.now }
+{
+    defs.iter().any(|def| is_wanted_child(def, name))
 }
 
 fn is_wanted_child(def: &ChildDef, name: &Name) -> bool

@@ -1,0 +1,80 @@
+-- What is read of JSON, by what is read of its parts.
+use Rattle.std.proofs.Common.{arith, ◌<◌, ◌≤◌, ◌+◌, zero, suc, length, take, ◌++◌, get_or, ◌≡◌, ℕ, Bool, true, false, Result, Ok, Err, Option, Some, None, List, [], ◌∷◌, refl, sym, ap, ◌∙◌, subst}
+use Rattle.std.specs.Result.{IsErrAnd}
+use Rattle.std.proofs.lemmas.Option.{none-some}
+use Rattle.std.proofs.lemmas.List.{take_more}
+use Rattle.serde_json.specs.View.{items_view, view}
+use Rattle.serde_json.specs.declared.value.Value.{Value}
+use Rattle.serde_json.specs.Data.{Data, Items, null, boolean, number, string, array, object}
+use Rattle.serde_json.specs.Find.{as_array, as_bool, as_str}
+use Rattle.jr_path.specs.Grammar.{IsName, RefusesName}
+use Rattle.jr_path.specs.declared.fault.PathFault.{PathFault}
+use Rattle.jr_path.specs.declared.fault.PathFault.TheVariants.{BadName, Memory}
+use Rattle.jr_value.proofs.Texts.{fault_refuses}
+use Rattle.jr_types.specs.declared.reading.NoType.{NoType}
+use Rattle.jr_types.specs.declared.reading.NoType.TheVariants as no
+use Rattle.jr_types.specs.Reading.{AreRead, IsListJson, Reads, refused}
+
+-- a part can't be read, so the whole can't
+pub exits : {X Y : Type 0} (P : X → Type 0) (Q : Y → Type 0) (f : NoType) (r : Result Y NoType) → IsErrAnd r (λ e. e ≡ f) → Reads P (Err f) → ((y : Y) → Q y → (x : X) × P x) → Reads Q r
+exits P Q f (Ok y) h g k = absurd h
+exits P Q no.NoDefinition (Err e) h g k = subst (λ e. Reads Q (Err e)) (sym h) (λ y q. let x = k y q in g x.0 x.1)
+exits P Q no.Memory (Err e) h g k = subst (λ e. Reads Q (Err e)) (sym h) tt
+
+-- the JSON is a truth value, a text or a list, where it is read as one
+pub is_truth : (d : Data) (b : Bool) → as_bool d ≡ Some b → d ≡ boolean b
+is_truth null b h = absurd (none-some b h)
+is_truth (boolean a) b h = ap (λ o. boolean (value o)) h
+  where
+    value : Option Bool → Bool
+    value None = a
+    value (Some c) = c
+is_truth (number n) b h = absurd (none-some b h)
+is_truth (string s) b h = absurd (none-some b h)
+is_truth (array ds) b h = absurd (none-some b h)
+is_truth (object ms) b h = absurd (none-some b h)
+
+pub no_name : (text : List ℕ) (e : PathFault) → RefusesName text e → Reads (λ (n : List ℕ). (n ≡ text) × IsName text) (Err (refused e))
+no_name text (BadName offset) h = λ n g. fault_refuses IsName text offset h g.1
+no_name text Memory h = tt
+no_name text e h = absurd h
+
+-- ---- lists
+
+-- one item more
+read_one : {X : Type 0} (IsRead : Data → X → Type 0) (us : List Value) (xs : List X) (v : Value) (x : X) → AreRead IsRead (items_view us) xs → IsRead (view v) x → AreRead IsRead (items_view (us ++ v ∷ [])) (xs ++ x ∷ [])
+read_one IsRead [] [] v x h g = (g, tt)
+read_one IsRead [] (y ∷ xs) v x h g = absurd h
+read_one IsRead (u ∷ us) [] v x h g = absurd h
+read_one IsRead (u ∷ us) (y ∷ xs) v x h g = (h.0, read_one IsRead us xs v x h.1 g)
+
+pub read_more : {X : Type 0} (IsRead : Data → X → Type 0) (vs : List Value) (i : ℕ) (v : Value) (old new : List X) (x : X) → i < length vs → v ≡ get_or vs i v
+    → AreRead IsRead (items_view (take i vs)) old → IsRead (view v) x → new ≡ old ++ x ∷ [] → AreRead IsRead (items_view (take (i + 1) vs)) new
+read_more IsRead vs i v old new x l at h g put = subst (λ us. AreRead IsRead (items_view us) new) (sym (take_more vs i v l ∙ ap (λ w. take i vs ++ w ∷ []) (sym at)))
+    (subst (λ xs. AreRead IsRead (items_view (take i vs ++ v ∷ [])) xs) (sym put) (read_one IsRead (take i vs) old v x h g))
+
+past : {X : Type 0} (vs : List X) (i : ℕ) → length vs ≤ i → take i vs ≡ vs
+past [] zero l = refl
+past [] (suc i) l = refl
+past (v ∷ vs) zero l = absurd (none l)
+  where
+    none : length (v ∷ vs) ≤ 0 → ⊥
+    none l = omega arith
+past (v ∷ vs) (suc i) l = ap (λ us. v ∷ us) (past vs i (let m : length vs ≤ i = omega arith in m))
+
+pub read_all : {X : Type 0} (IsRead : Data → X → Type 0) (vs : List Value) (i : ℕ) (xs : List X) → length vs ≤ i → AreRead IsRead (items_view (take i vs)) xs → AreRead IsRead (items_view vs) xs
+read_all IsRead vs i xs l h = subst (λ us. AreRead IsRead (items_view us) xs) (past vs i l) h
+
+-- what is read of an item
+read_at : {X : Type 0} (IsRead : Data → X → Type 0) (vs : List Value) (xs : List X) (i : ℕ) (v : Value) → AreRead IsRead (items_view vs) xs → i < length vs → v ≡ get_or vs i v → (x : X) × IsRead (view v) x
+read_at IsRead [] xs i v h l at = absurd (none l)
+  where
+    none : i < 0 → ⊥
+    none l = omega arith
+read_at IsRead (u ∷ vs) [] i v h l at = absurd h
+read_at IsRead (u ∷ vs) (y ∷ xs) zero v h l at = (y, subst (λ w. IsRead (view w) y) (sym at) h.0)
+read_at IsRead (u ∷ vs) (y ∷ xs) (suc i) v h l at = read_at IsRead vs xs i v h.1 (let m : i < length vs = omega arith in m) at
+
+pub read_stop : {X : Type 0} (IsRead : Data → X → Type 0) (vs : List Value) (i : ℕ) (v : Value) (f : NoType) (r : Result (List X) NoType) → i < length vs → v ≡ get_or vs i v
+    → IsErrAnd r (λ e. e ≡ f) → Reads (IsRead (view v)) (Err f) → Reads (AreRead IsRead (items_view vs)) r
+read_stop IsRead vs i v f r l at h g = exits (IsRead (view v)) (AreRead IsRead (items_view vs)) f r h g (λ xs a. read_at IsRead vs xs i v a l at)
