@@ -184,13 +184,13 @@ none_there (x ∷ xs) k h = absurd (none-some x (sym h))
 
 -- ---- names in their order
 
+abbrev IsRising : List Name → Type 0
+IsRising = IsStrictlySortedBy name_cmp
+
 order_is : (ns : List Name) → is_sorted name_cmp (map (λ m. (m, true)) (in_name_order ns)) ≡ true
 order_is [] = refl
 order_is (n ∷ ns) = tested name_cmp (map (λ m. (m, true)) (in_name_order (n ∷ ns)))
-    (subst (λ ks. IsRising ks) (sym (keys-of-pairs (in_name_order (n ∷ ns)))) (rising name_cmp _ (sorted_insert name_cmp nat_list_cmp_total n true (map (λ m. (m, true)) (in_name_order ns)) (order_is ns))))
-  where
-    abbrev IsRising : List Name → Type 0
-    IsRising = IsStrictlySortedBy name_cmp
+    (subst IsRising (sym (keys-of-pairs (in_name_order (n ∷ ns)))) (rising name_cmp _ (sorted_insert name_cmp nat_list_cmp_total n true (map (λ m. (m, true)) (in_name_order ns)) (order_is ns))))
 
 below_any : (x n : Name) (ns : List Name) → below_all name_cmp x (map (λ m. (m, true)) ns) ≡ true → list_any (same_name n) ns ≡ true → is_lt (name_cmp x n) ≡ true
 below_any x n [] h a = absurd (false≢true a)
@@ -258,9 +258,6 @@ module _ (rule_of : Name → Option ℕ) where
   among_step : (ns : List Name) (n : Name) (o : Option Break) → IsFirstAmong ns o → IsFirstAmong (ns ++ n ∷ []) (earlier o (rule_of n) n)
   among_step ns n o h = by o h (rule_of n) refl
     where
-      is_new : (rule : ℕ) → Break
-      is_new rule = record { rule = rule; item = n }
-
       own : (x : ℕ) (e : rule_of n ≡ Some x) (m : Name) (rule : ℕ) → m ≡ n → rule_of m ≡ Some rule → (b : Break) → is_lt (break_cmp (record { rule = x; item = n }) b) ≡ false
           → is_lt (break_cmp (record { rule = rule; item = m }) b) ≡ false
       own x e m rule s k b f = subst (λ (q : Name). is_lt (break_cmp (record { rule = rule; item = q }) b) ≡ false) (sym s)

@@ -1,5 +1,6 @@
 -- Beside the names that a node's rules are asked of no rule fails.
-use Rattle.std.proofs.Common.{◌≡◌, Bool, true, false, ◌||◌, Option, None, Some, List, [], ◌∷◌, ◌++◌, map, refl, sym, ap, ◌∙◌, subst, cond}
+use Rattle.std.proofs.Common.{Result, Ok, Err, ℕ, ◌≡◌, Bool, true, false, ◌||◌, Option, None, Some, List, [], ◌∷◌, ◌++◌, map, refl, sym, ap, ◌∙◌, subst, cond}
+use Rattle.std.specs.Prelude.{IfOk}
 use Rattle.std.specs.List.{filter_map, flat_map, list_any}
 use Rattle.std.specs.Map.{keys_of, lookup}
 use Rattle.std.specs.BTreeMap.{is_at}
@@ -18,7 +19,10 @@ use Rattle.jr_types.specs.declared.PropDef.{PropDef}
 use Rattle.jr_types.specs.declared.ChildDef.{ChildDef}
 use Rattle.jr_types.specs.declared.TypeDef.{TypeDef}
 use Rattle.jr_types.specs.declared.checking.Break.{Break}
-use Rattle.jr_types.specs.Checking.{IsFirstBreak, child_rule, first_break, property_rule, types_said}
+use Rattle.jr_types.specs.declared.checking.TypesOut.{TypesOut}
+use Rattle.jr_types.specs.declared.checking.TypesOut.TheVariants as out
+use Rattle.jr_types.specs.Violations.{Violation}
+use Rattle.jr_types.specs.Checking.{IsFirstBreak, IsFirstOf, IsViolation, child_rule, first_break, property_rule, types_said}
 use Rattle.jr_types.specs.Registered.{IsAlike}
 use Rattle.jr_types.specs.Rules.{mandatory_children, mandatory_props, node_types, property_faults}
 use Rattle.jr_types.specs.Types.{props_of, types_of}
@@ -32,9 +36,9 @@ abbrev alone : Node → Nodes
 alone node = ([], node) ∷ []
 
 pub first_property : (types : List TypeDef) (node : Node) (props : List PropDef) (names : List Name) (broken : Option Break) → IsAlike props (flat_map props_of (types_of types (types_said node)))
-    → names ≡ primary_type ∷ mixin_types ∷ keys_of node.props ++ filter_map (λ d. cond d.mandatory d.name None) props → broken ≡ first_break (property_rule types node) names
+    → broken ≡ first_break (property_rule types node) names → names ≡ primary_type ∷ mixin_types ∷ keys_of node.props ++ filter_map (λ d. cond d.mandatory d.name None) props
     → IsFirstBreak (property_rule types node) broken
-first_property types node props names broken alike are is = subst (IsFirstBreak (property_rule types node)) (sym is) (first_everywhere (property_rule types node) names apart)
+first_property types node props names broken alike is are = subst (IsFirstBreak (property_rule types node)) (sym is) (first_everywhere (property_rule types node) names apart)
   where
     ds : List TypeDef
     ds = types_of types (types_said node)
@@ -56,9 +60,9 @@ first_property types node props names broken alike are is = subst (IsFirstBreak 
     apart n h = ap first_of (property_apart types (alone node) [] n (any-in_order n (known ++ mandatory_props ds) ∙ (sym (same_names n) ∙ h)))
 
 pub first_child : (types : List TypeDef) (t : Nodes) (p : Path) (defs : List ChildDef) (names : List Name) (broken : Option Break) → IsAlike defs (flat_map (λ d. d.children) (types_of types (node_types t p)))
-    → names ≡ children_of t p ++ filter_map (λ d. cond d.mandatory d.name None) defs → broken ≡ first_break (child_rule types t p) names
+    → broken ≡ first_break (child_rule types t p) names → names ≡ children_of t p ++ filter_map (λ d. cond d.mandatory d.name None) defs
     → IsFirstBreak (child_rule types t p) broken
-first_child types t p defs names broken alike are is = subst (IsFirstBreak (child_rule types t p)) (sym is) (first_everywhere (child_rule types t p) names apart)
+first_child types t p defs names broken alike is are = subst (IsFirstBreak (child_rule types t p)) (sym is) (first_everywhere (child_rule types t p) names apart)
   where
     ds : List TypeDef
     ds = types_of types (node_types t p)
@@ -89,3 +93,19 @@ types_at_node t p node e = sym (ap (λ (o : Option Node). record { primary = of 
   where
     of : Option Node → Name → Option Property
     of o n = option_and_then (λ node. lookup (is_at (name_cmp n)) node.props) o
+
+-- ---- what is told
+
+pub if_ok : {X E : Type 0} (P Q : X → Type 0) (r : Result X E) → ((x : X) → P x → Q x) → IfOk r P → IfOk r Q
+if_ok P Q (Ok x) f h = f x h
+if_ok P Q (Err e) f h = tt
+
+pub told : (violations : List Violation) (b : Break) (p : Path) (o : TypesOut) → first_of violations ≡ Some (record { node = p; rule = b.rule; item = b.item }) → IsViolation p b o → IsFirstOf violations o
+told violations b p (out.Violation node item rule) h g = h
+    ∙ (ap (λ (q : Path). Some (record { node = q; rule = b.rule; item = b.item })) (sym g.0)
+    ∙ (ap (λ (n : Name). Some (record { node = node; rule = b.rule; item = n })) (sym g.1)
+    ∙ ap (λ (r : ℕ). Some (record { node = node; rule = r; item = item })) (sym g.2)))
+told violations b p out.Memory h g = tt
+
+pub alike_by : {X : Type 0} (xs ys zs : List X) → IsAlike ys zs → xs ≡ ys → IsAlike xs zs
+alike_by xs ys zs h e = subst (λ xs. IsAlike xs zs) (sym e) h

@@ -49,13 +49,13 @@ none_passes p (x ∷ xs) = by (p x) (none_passes p xs)
     by true h = refl
     by false h = h
 
-three_to_five : (a b c : Bool) → cond a (Some 3) (cond (not a && b) (Some 4) (cond (not b && not c) (Some 5) (cond false (Some 6) None))) ≡ cond a (Some 3) (cond b (Some 4) (cond c None (Some 5)))
+three_to_five : (a b c : Bool) → cond {A = Option ℕ} a (Some 3) (cond (not a && b) (Some 4) (cond (not b && not c) (Some 5) (cond false (Some 6) None))) ≡ cond a (Some 3) (cond b (Some 4) (cond c None (Some 5)))
 three_to_five true b c = refl
 three_to_five false true c = refl
 three_to_five false false true = refl
 three_to_five false false false = refl
 
-seven_eight : (a c : Bool) → cond a (Some 7) (cond (not a && not c) (Some 8) (cond false (Some 9) None)) ≡ cond a (Some 7) (cond c None (Some 8))
+seven_eight : (a c : Bool) → cond {A = Option ℕ} a (Some 7) (cond (not a && not c) (Some 8) (cond false (Some 9) None)) ≡ cond a (Some 7) (cond c None (Some 8))
 seven_eight true c = refl
 seven_eight false true = refl
 seven_eight false false = refl

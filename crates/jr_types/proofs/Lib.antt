@@ -14,4 +14,4 @@ pub mod Counting
 pub mod Faults
 pub mod Breaks
 pub mod Covered
-pub mod Reads
+pub mod ByParts

@@ -1,456 +1,34 @@
-// The built-in node types (JSR 283, 3.7.11 Standard Application Node Types), as rows of a table.
-ghost use Rattle.std.specs.Prelude.{◌≡◌, ◌++◌, ◌∷◌, [], IfOk, None, OnOk, map, option_to_list};
+// The built-in node types (JSR 283, 3.7.11 Standard Application Node Types), in their order.
+ghost use Rattle.std.specs.Prelude.{◌≡◌, ◌++◌, ◌∷◌, ◌<◌, [], IfOk, None, OnOk, Some, option_to_list, slice_get};
 ghost use Rattle.std.specs.Option.{option_copied, option_map};
 ghost use Rattle.jr_value.specs.declared.value.Value.TheVariants.{Boolean};
 ghost use Rattle.jr_types.specs.Builtin.{builtin};
 ghost use Rattle.jr_types.specs.Rules.{type_fault};
-ghost use Rattle.jr_types.specs.Tables.{child_in, prop_in, type_in};
+ghost use Rattle.jr_types.specs.Tables.{child_of, prop_of};
 
 use crate::{ChildDef, OnParentVersion, PropDef, Registry, TypeDef, TypeFault};
 use jr_path::{List, Name};
 use jr_value::{Kind, Value};
 use std::alloc::{AllocError, Global};
 
-// A property; with no name, any other, and with no kind, of any kind. Its one default value is a truth value.
+// What a definition asks of an item.
 #[derive(Clone, Copy)]
-struct PropRow {
-    name: Option<&'static str>,
-    kind: Option<Kind>,
+pub struct Flags {
     mandatory: bool,
     autocreated: bool,
     protected: bool,
     multiple: bool,
-    default: Option<bool>,
     opv: OnParentVersion,
 }
 
-// A child of the required type; with no name, any other.
-#[derive(Clone, Copy)]
-struct ChildRow {
-    name: Option<&'static str>,
-    required: &'static str,
-    default_type: Option<&'static str>,
-    mandatory: bool,
-    protected: bool,
-    opv: OnParentVersion,
-}
-
-#[derive(Clone, Copy)]
-struct TypeRow {
-    name: &'static str,
-    supertypes: &'static [&'static str],
-    is_abstract: bool,
-    mixin: bool,
-    orderable: bool,
-    primary_item: Option<&'static str>,
-    props: &'static [PropRow],
-    children: &'static [ChildRow],
-}
-
-// What rows leave out.
-const PROP: PropRow = PropRow {
-    name: None,
-    kind: None,
+// Nothing is asked.
+const PLAIN: Flags = Flags {
     mandatory: false,
     autocreated: false,
     protected: false,
     multiple: false,
-    default: None,
     opv: OnParentVersion::Copy,
 };
-
-const CHILD: ChildRow = ChildRow {
-    name: None,
-    required: "nt:base",
-    default_type: None,
-    mandatory: false,
-    protected: false,
-    opv: OnParentVersion::Copy,
-};
-
-const TYPE: TypeRow = TypeRow {
-    name: "",
-    supertypes: &[],
-    is_abstract: false,
-    mixin: false,
-    orderable: false,
-    primary_item: None,
-    props: &[],
-    children: &[],
-};
-
-const TYPES: [TypeRow; 20] = [
-    TypeRow {
-        name: "nt:base",
-        is_abstract: true,
-        props: &[
-            PropRow {
-                name: Some("jcr:primaryType"),
-                kind: Some(Kind::Name),
-                mandatory: true,
-                autocreated: true,
-                protected: true,
-                opv: OnParentVersion::Compute,
-                ..PROP
-            },
-            PropRow {
-                name: Some("jcr:mixinTypes"),
-                kind: Some(Kind::Name),
-                protected: true,
-                multiple: true,
-                opv: OnParentVersion::Compute,
-                ..PROP
-            },
-        ],
-        ..TYPE
-    },
-    TypeRow {
-        name: "nt:unstructured",
-        orderable: true,
-        props: &[
-            PropRow {
-                multiple: true,
-                ..PROP
-            },
-            PROP,
-        ],
-        children: &[ChildRow {
-            default_type: Some("nt:unstructured"),
-            opv: OnParentVersion::Version,
-            ..CHILD
-        }],
-        ..TYPE
-    },
-    TypeRow {
-        name: "mix:created",
-        mixin: true,
-        props: &[
-            PropRow {
-                name: Some("jcr:created"),
-                kind: Some(Kind::Date),
-                autocreated: true,
-                protected: true,
-                ..PROP
-            },
-            PropRow {
-                name: Some("jcr:createdBy"),
-                kind: Some(Kind::Str),
-                autocreated: true,
-                protected: true,
-                ..PROP
-            },
-        ],
-        ..TYPE
-    },
-    TypeRow {
-        name: "mix:lastModified",
-        mixin: true,
-        props: &[
-            PropRow {
-                name: Some("jcr:lastModified"),
-                kind: Some(Kind::Date),
-                autocreated: true,
-                ..PROP
-            },
-            PropRow {
-                name: Some("jcr:lastModifiedBy"),
-                kind: Some(Kind::Str),
-                autocreated: true,
-                ..PROP
-            },
-        ],
-        ..TYPE
-    },
-    TypeRow {
-        name: "mix:mimeType",
-        mixin: true,
-        props: &[
-            PropRow {
-                name: Some("jcr:mimeType"),
-                kind: Some(Kind::Str),
-                ..PROP
-            },
-            PropRow {
-                name: Some("jcr:encoding"),
-                kind: Some(Kind::Str),
-                ..PROP
-            },
-        ],
-        ..TYPE
-    },
-    TypeRow {
-        name: "mix:title",
-        mixin: true,
-        props: &[
-            PropRow {
-                name: Some("jcr:title"),
-                kind: Some(Kind::Str),
-                ..PROP
-            },
-            PropRow {
-                name: Some("jcr:description"),
-                kind: Some(Kind::Str),
-                ..PROP
-            },
-        ],
-        ..TYPE
-    },
-    TypeRow {
-        name: "mix:referenceable",
-        mixin: true,
-        props: &[PropRow {
-            name: Some("jcr:uuid"),
-            kind: Some(Kind::Str),
-            mandatory: true,
-            autocreated: true,
-            protected: true,
-            opv: OnParentVersion::Initialize,
-            ..PROP
-        }],
-        ..TYPE
-    },
-    TypeRow {
-        name: "mix:lockable",
-        mixin: true,
-        props: &[
-            PropRow {
-                name: Some("jcr:lockOwner"),
-                kind: Some(Kind::Str),
-                protected: true,
-                opv: OnParentVersion::Ignore,
-                ..PROP
-            },
-            PropRow {
-                name: Some("jcr:lockIsDeep"),
-                kind: Some(Kind::Boolean),
-                protected: true,
-                opv: OnParentVersion::Ignore,
-                ..PROP
-            },
-        ],
-        ..TYPE
-    },
-    TypeRow {
-        name: "mix:simpleVersionable",
-        mixin: true,
-        props: &[PropRow {
-            name: Some("jcr:isCheckedOut"),
-            kind: Some(Kind::Boolean),
-            mandatory: true,
-            autocreated: true,
-            protected: true,
-            default: Some(true),
-            opv: OnParentVersion::Ignore,
-            ..PROP
-        }],
-        ..TYPE
-    },
-    TypeRow {
-        name: "mix:versionable",
-        supertypes: &["mix:simpleVersionable", "mix:referenceable"],
-        mixin: true,
-        props: &[
-            PropRow {
-                name: Some("jcr:versionHistory"),
-                kind: Some(Kind::Reference),
-                mandatory: true,
-                protected: true,
-                opv: OnParentVersion::Ignore,
-                ..PROP
-            },
-            PropRow {
-                name: Some("jcr:baseVersion"),
-                kind: Some(Kind::Reference),
-                mandatory: true,
-                protected: true,
-                opv: OnParentVersion::Ignore,
-                ..PROP
-            },
-            PropRow {
-                name: Some("jcr:predecessors"),
-                kind: Some(Kind::Reference),
-                mandatory: true,
-                protected: true,
-                multiple: true,
-                opv: OnParentVersion::Ignore,
-                ..PROP
-            },
-        ],
-        ..TYPE
-    },
-    TypeRow {
-        name: "nt:hierarchyNode",
-        supertypes: &["mix:created"],
-        is_abstract: true,
-        ..TYPE
-    },
-    TypeRow {
-        name: "nt:folder",
-        supertypes: &["nt:hierarchyNode"],
-        children: &[ChildRow {
-            required: "nt:hierarchyNode",
-            opv: OnParentVersion::Version,
-            ..CHILD
-        }],
-        ..TYPE
-    },
-    TypeRow {
-        name: "nt:file",
-        supertypes: &["nt:hierarchyNode"],
-        primary_item: Some("jcr:content"),
-        children: &[ChildRow {
-            name: Some("jcr:content"),
-            mandatory: true,
-            ..CHILD
-        }],
-        ..TYPE
-    },
-    TypeRow {
-        name: "nt:resource",
-        supertypes: &["mix:mimeType", "mix:lastModified"],
-        primary_item: Some("jcr:data"),
-        props: &[PropRow {
-            name: Some("jcr:data"),
-            kind: Some(Kind::Binary),
-            mandatory: true,
-            ..PROP
-        }],
-        ..TYPE
-    },
-    TypeRow {
-        name: "nt:frozenNode",
-        props: &[
-            PropRow {
-                name: Some("jcr:frozenPrimaryType"),
-                kind: Some(Kind::Name),
-                protected: true,
-                ..PROP
-            },
-            PropRow {
-                name: Some("jcr:frozenMixinTypes"),
-                kind: Some(Kind::Name),
-                protected: true,
-                multiple: true,
-                ..PROP
-            },
-            PropRow {
-                name: Some("jcr:frozenUuid"),
-                kind: Some(Kind::Str),
-                protected: true,
-                ..PROP
-            },
-            PropRow {
-                protected: true,
-                multiple: true,
-                ..PROP
-            },
-            PropRow {
-                protected: true,
-                ..PROP
-            },
-        ],
-        children: &[ChildRow {
-            required: "nt:frozenNode",
-            protected: true,
-            ..CHILD
-        }],
-        ..TYPE
-    },
-    TypeRow {
-        name: "nt:version",
-        supertypes: &["mix:referenceable"],
-        props: &[
-            PropRow {
-                name: Some("jcr:created"),
-                kind: Some(Kind::Date),
-                protected: true,
-                ..PROP
-            },
-            PropRow {
-                name: Some("jcr:predecessors"),
-                kind: Some(Kind::Reference),
-                protected: true,
-                multiple: true,
-                ..PROP
-            },
-            PropRow {
-                name: Some("jcr:successors"),
-                kind: Some(Kind::Reference),
-                protected: true,
-                multiple: true,
-                ..PROP
-            },
-        ],
-        children: &[ChildRow {
-            name: Some("jcr:frozenNode"),
-            required: "nt:frozenNode",
-            protected: true,
-            ..CHILD
-        }],
-        ..TYPE
-    },
-    TypeRow {
-        name: "nt:versionLabels",
-        props: &[PropRow {
-            kind: Some(Kind::Reference),
-            protected: true,
-            ..PROP
-        }],
-        ..TYPE
-    },
-    TypeRow {
-        name: "nt:versionHistory",
-        supertypes: &["mix:referenceable"],
-        props: &[PropRow {
-            name: Some("jcr:versionableUuid"),
-            kind: Some(Kind::Str),
-            protected: true,
-            ..PROP
-        }],
-        children: &[
-            ChildRow {
-                name: Some("jcr:rootVersion"),
-                required: "nt:version",
-                mandatory: true,
-                protected: true,
-                ..CHILD
-            },
-            ChildRow {
-                name: Some("jcr:versionLabels"),
-                required: "nt:versionLabels",
-                mandatory: true,
-                protected: true,
-                ..CHILD
-            },
-            ChildRow {
-                required: "nt:version",
-                protected: true,
-                ..CHILD
-            },
-        ],
-        ..TYPE
-    },
-    TypeRow {
-        name: "rep:versionStorage",
-        children: &[ChildRow {
-            required: "nt:versionHistory",
-            protected: true,
-            ..CHILD
-        }],
-        ..TYPE
-    },
-    TypeRow {
-        name: "rep:system",
-        children: &[ChildRow {
-            name: Some("jcr:versionStorage"),
-            required: "rep:versionStorage",
-            mandatory: true,
-            protected: true,
-            ..CHILD
-        }],
-        ..TYPE
-    },
-];
 
 impl Registry {
     /// The registry of the built-in types.
@@ -458,88 +36,506 @@ impl Registry {
         ensures { IfOk result (λ registry. registry ≡ builtin) }
     {
         let mut registry = Registry::new(alloc)?;
-        for row in &TYPES {
-            add_row(alloc, &mut registry, row)?;
+        for place in 0..20 {
+            add_next(&mut registry, at(alloc, place)?)?;
         }
         Ok(registry)
     }
 }
 
-// Registers the type of a row.
-fn add_row(alloc: Global, registry: &mut Registry, row: &TypeRow) -> Result<(), AllocError>
-    requires { type_fault registry.old (type_in row.now) ≡ None }
-    ensures { OnOk result (registry.new ≡ registry.old ++ type_in row.now ∷ []) }
+// Registers a type that may be added.
+fn add_next(registry: &mut Registry, definition: TypeDef) -> Result<(), AllocError>
+    requires { type_fault registry.old definition ≡ None }
+    ensures { OnOk result (registry.new ≡ registry.old ++ definition ∷ []) }
 {
-    match registry.add(type_of(alloc, row)?) {
+    match registry.add(definition) {
         Ok(()) => Ok(()),
         Err(TypeFault::Memory) => Err(AllocError),
         Err(TypeFault::BadType(_)) => unreachable!(),
     }
 }
 
-fn type_of(alloc: Global, row: &TypeRow) -> Result<TypeDef, AllocError>
-    ensures { IfOk result (λ d. d ≡ type_in row.now) }
+// A built-in type, by its place in their order.
+fn at(alloc: Global, place: usize) -> Result<TypeDef, AllocError>
+    requires { place < 20 }
+    ensures { IfOk result (λ d. Some d ≡ slice_get builtin place) }
 {
-    let supertypes = names_of(alloc, row.supertypes)?;
-    let primary_item = optional_name(alloc, row.primary_item)?;
-    let props = props_of(alloc, row.props)?;
-    let children = children_of(alloc, row.children)?;
+    match place {
+        0 => base(alloc),
+        1 => unstructured(alloc),
+        2 => created(alloc),
+        3 => last_modified(alloc),
+        4 => mime_type(alloc),
+        5 => title(alloc),
+        6 => referenceable(alloc),
+        7 => lockable(alloc),
+        8 => simple_versionable(alloc),
+        9 => versionable(alloc),
+        10 => hierarchy_node(alloc),
+        11 => folder(alloc),
+        12 => file(alloc),
+        13 => resource(alloc),
+        14 => frozen_node(alloc),
+        15 => version(alloc),
+        16 => version_labels(alloc),
+        17 => version_history(alloc),
+        18 => version_storage(alloc),
+        _ => system(alloc),
+    }
+}
+
+fn base(alloc: Global) -> Result<TypeDef, AllocError>
+    ensures { IfOk result (λ d. Some d ≡ slice_get builtin 0) }
+{
+    let supertypes = List::new(alloc);
+    let mut props = List::new(alloc);
+    add_prop(alloc, &mut props, Some("jcr:primaryType"), Some(Kind::Name), None, Flags { mandatory: true, autocreated: true, protected: true, opv: OnParentVersion::Compute, ..PLAIN })?;
+    add_prop(alloc, &mut props, Some("jcr:mixinTypes"), Some(Kind::Name), None, Flags { protected: true, multiple: true, opv: OnParentVersion::Compute, ..PLAIN })?;
+    let children = List::new(alloc);
+    let primary_item = optional_name(alloc, None)?;
     Ok(TypeDef {
-        name: name_of(alloc, row.name)?,
+        name: name_of(alloc, "nt:base")?,
         supertypes,
-        is_abstract: row.is_abstract,
-        mixin: row.mixin,
-        orderable: row.orderable,
+        is_abstract: true,
+        mixin: false,
+        orderable: false,
         primary_item,
         props,
         children,
     })
 }
 
-fn names_of(alloc: Global, rows: &[&str]) -> Result<List<Name>, AllocError>
-    ensures { IfOk result (λ names. names ≡ map (λ n. n.now) rows.now) }
+fn unstructured(alloc: Global) -> Result<TypeDef, AllocError>
+    ensures { IfOk result (λ d. Some d ≡ slice_get builtin 1) }
 {
-    let mut names = List::new(alloc);
-    for row in rows {
-        names.push(name_of(alloc, row)?)?;
-    }
-    Ok(names)
-}
-
-fn props_of(alloc: Global, rows: &[PropRow]) -> Result<List<PropDef>, AllocError>
-    ensures { IfOk result (λ props. props ≡ map prop_in rows.now) }
-{
+    let supertypes = List::new(alloc);
     let mut props = List::new(alloc);
-    for row in rows {
-        props.push(prop_of(alloc, row)?)?;
-    }
-    Ok(props)
-}
-
-fn children_of(alloc: Global, rows: &[ChildRow]) -> Result<List<ChildDef>, AllocError>
-    ensures { IfOk result (λ children. children ≡ map child_in rows.now) }
-{
+    add_prop(alloc, &mut props, None, None, None, Flags { multiple: true, ..PLAIN })?;
+    add_prop(alloc, &mut props, None, None, None, PLAIN)?;
     let mut children = List::new(alloc);
-    for row in rows {
-        children.push(child_of(alloc, row)?)?;
-    }
-    Ok(children)
+    add_child(alloc, &mut children, None, "nt:base", Some("nt:unstructured"), Flags { opv: OnParentVersion::Version, ..PLAIN })?;
+    let primary_item = optional_name(alloc, None)?;
+    Ok(TypeDef {
+        name: name_of(alloc, "nt:unstructured")?,
+        supertypes,
+        is_abstract: false,
+        mixin: false,
+        orderable: true,
+        primary_item,
+        props,
+        children,
+    })
 }
 
-fn prop_of(alloc: Global, row: &PropRow) -> Result<PropDef, AllocError>
-    ensures { IfOk result (λ prop. prop ≡ prop_in row.now) }
+fn created(alloc: Global) -> Result<TypeDef, AllocError>
+    ensures { IfOk result (λ d. Some d ≡ slice_get builtin 2) }
 {
-    let defaults = defaults_of(alloc, row.default)?;
-    Ok(PropDef {
-        name: optional_name(alloc, row.name)?,
-        kind: row.kind,
-        mandatory: row.mandatory,
-        autocreated: row.autocreated,
-        protected: row.protected,
-        multiple: row.multiple,
+    let supertypes = List::new(alloc);
+    let mut props = List::new(alloc);
+    add_prop(alloc, &mut props, Some("jcr:created"), Some(Kind::Date), None, Flags { autocreated: true, protected: true, ..PLAIN })?;
+    add_prop(alloc, &mut props, Some("jcr:createdBy"), Some(Kind::Str), None, Flags { autocreated: true, protected: true, ..PLAIN })?;
+    let children = List::new(alloc);
+    let primary_item = optional_name(alloc, None)?;
+    Ok(TypeDef {
+        name: name_of(alloc, "mix:created")?,
+        supertypes,
+        is_abstract: false,
+        mixin: true,
+        orderable: false,
+        primary_item,
+        props,
+        children,
+    })
+}
+
+fn last_modified(alloc: Global) -> Result<TypeDef, AllocError>
+    ensures { IfOk result (λ d. Some d ≡ slice_get builtin 3) }
+{
+    let supertypes = List::new(alloc);
+    let mut props = List::new(alloc);
+    add_prop(alloc, &mut props, Some("jcr:lastModified"), Some(Kind::Date), None, Flags { autocreated: true, ..PLAIN })?;
+    add_prop(alloc, &mut props, Some("jcr:lastModifiedBy"), Some(Kind::Str), None, Flags { autocreated: true, ..PLAIN })?;
+    let children = List::new(alloc);
+    let primary_item = optional_name(alloc, None)?;
+    Ok(TypeDef {
+        name: name_of(alloc, "mix:lastModified")?,
+        supertypes,
+        is_abstract: false,
+        mixin: true,
+        orderable: false,
+        primary_item,
+        props,
+        children,
+    })
+}
+
+fn mime_type(alloc: Global) -> Result<TypeDef, AllocError>
+    ensures { IfOk result (λ d. Some d ≡ slice_get builtin 4) }
+{
+    let supertypes = List::new(alloc);
+    let mut props = List::new(alloc);
+    add_prop(alloc, &mut props, Some("jcr:mimeType"), Some(Kind::Str), None, PLAIN)?;
+    add_prop(alloc, &mut props, Some("jcr:encoding"), Some(Kind::Str), None, PLAIN)?;
+    let children = List::new(alloc);
+    let primary_item = optional_name(alloc, None)?;
+    Ok(TypeDef {
+        name: name_of(alloc, "mix:mimeType")?,
+        supertypes,
+        is_abstract: false,
+        mixin: true,
+        orderable: false,
+        primary_item,
+        props,
+        children,
+    })
+}
+
+fn title(alloc: Global) -> Result<TypeDef, AllocError>
+    ensures { IfOk result (λ d. Some d ≡ slice_get builtin 5) }
+{
+    let supertypes = List::new(alloc);
+    let mut props = List::new(alloc);
+    add_prop(alloc, &mut props, Some("jcr:title"), Some(Kind::Str), None, PLAIN)?;
+    add_prop(alloc, &mut props, Some("jcr:description"), Some(Kind::Str), None, PLAIN)?;
+    let children = List::new(alloc);
+    let primary_item = optional_name(alloc, None)?;
+    Ok(TypeDef {
+        name: name_of(alloc, "mix:title")?,
+        supertypes,
+        is_abstract: false,
+        mixin: true,
+        orderable: false,
+        primary_item,
+        props,
+        children,
+    })
+}
+
+fn referenceable(alloc: Global) -> Result<TypeDef, AllocError>
+    ensures { IfOk result (λ d. Some d ≡ slice_get builtin 6) }
+{
+    let supertypes = List::new(alloc);
+    let mut props = List::new(alloc);
+    add_prop(alloc, &mut props, Some("jcr:uuid"), Some(Kind::Str), None, Flags { mandatory: true, autocreated: true, protected: true, opv: OnParentVersion::Initialize, ..PLAIN })?;
+    let children = List::new(alloc);
+    let primary_item = optional_name(alloc, None)?;
+    Ok(TypeDef {
+        name: name_of(alloc, "mix:referenceable")?,
+        supertypes,
+        is_abstract: false,
+        mixin: true,
+        orderable: false,
+        primary_item,
+        props,
+        children,
+    })
+}
+
+fn lockable(alloc: Global) -> Result<TypeDef, AllocError>
+    ensures { IfOk result (λ d. Some d ≡ slice_get builtin 7) }
+{
+    let supertypes = List::new(alloc);
+    let mut props = List::new(alloc);
+    add_prop(alloc, &mut props, Some("jcr:lockOwner"), Some(Kind::Str), None, Flags { protected: true, opv: OnParentVersion::Ignore, ..PLAIN })?;
+    add_prop(alloc, &mut props, Some("jcr:lockIsDeep"), Some(Kind::Boolean), None, Flags { protected: true, opv: OnParentVersion::Ignore, ..PLAIN })?;
+    let children = List::new(alloc);
+    let primary_item = optional_name(alloc, None)?;
+    Ok(TypeDef {
+        name: name_of(alloc, "mix:lockable")?,
+        supertypes,
+        is_abstract: false,
+        mixin: true,
+        orderable: false,
+        primary_item,
+        props,
+        children,
+    })
+}
+
+fn simple_versionable(alloc: Global) -> Result<TypeDef, AllocError>
+    ensures { IfOk result (λ d. Some d ≡ slice_get builtin 8) }
+{
+    let supertypes = List::new(alloc);
+    let mut props = List::new(alloc);
+    add_prop(alloc, &mut props, Some("jcr:isCheckedOut"), Some(Kind::Boolean), Some(true), Flags { mandatory: true, autocreated: true, protected: true, opv: OnParentVersion::Ignore, ..PLAIN })?;
+    let children = List::new(alloc);
+    let primary_item = optional_name(alloc, None)?;
+    Ok(TypeDef {
+        name: name_of(alloc, "mix:simpleVersionable")?,
+        supertypes,
+        is_abstract: false,
+        mixin: true,
+        orderable: false,
+        primary_item,
+        props,
+        children,
+    })
+}
+
+fn versionable(alloc: Global) -> Result<TypeDef, AllocError>
+    ensures { IfOk result (λ d. Some d ≡ slice_get builtin 9) }
+{
+    let mut supertypes = List::new(alloc);
+    supertypes.push(name_of(alloc, "mix:simpleVersionable")?)?;
+    supertypes.push(name_of(alloc, "mix:referenceable")?)?;
+    let mut props = List::new(alloc);
+    add_prop(alloc, &mut props, Some("jcr:versionHistory"), Some(Kind::Reference), None, Flags { mandatory: true, protected: true, opv: OnParentVersion::Ignore, ..PLAIN })?;
+    add_prop(alloc, &mut props, Some("jcr:baseVersion"), Some(Kind::Reference), None, Flags { mandatory: true, protected: true, opv: OnParentVersion::Ignore, ..PLAIN })?;
+    add_prop(alloc, &mut props, Some("jcr:predecessors"), Some(Kind::Reference), None, Flags { mandatory: true, protected: true, multiple: true, opv: OnParentVersion::Ignore, ..PLAIN })?;
+    let children = List::new(alloc);
+    let primary_item = optional_name(alloc, None)?;
+    Ok(TypeDef {
+        name: name_of(alloc, "mix:versionable")?,
+        supertypes,
+        is_abstract: false,
+        mixin: true,
+        orderable: false,
+        primary_item,
+        props,
+        children,
+    })
+}
+
+fn hierarchy_node(alloc: Global) -> Result<TypeDef, AllocError>
+    ensures { IfOk result (λ d. Some d ≡ slice_get builtin 10) }
+{
+    let mut supertypes = List::new(alloc);
+    supertypes.push(name_of(alloc, "mix:created")?)?;
+    let props = List::new(alloc);
+    let children = List::new(alloc);
+    let primary_item = optional_name(alloc, None)?;
+    Ok(TypeDef {
+        name: name_of(alloc, "nt:hierarchyNode")?,
+        supertypes,
+        is_abstract: true,
+        mixin: false,
+        orderable: false,
+        primary_item,
+        props,
+        children,
+    })
+}
+
+fn folder(alloc: Global) -> Result<TypeDef, AllocError>
+    ensures { IfOk result (λ d. Some d ≡ slice_get builtin 11) }
+{
+    let mut supertypes = List::new(alloc);
+    supertypes.push(name_of(alloc, "nt:hierarchyNode")?)?;
+    let props = List::new(alloc);
+    let mut children = List::new(alloc);
+    add_child(alloc, &mut children, None, "nt:hierarchyNode", None, Flags { opv: OnParentVersion::Version, ..PLAIN })?;
+    let primary_item = optional_name(alloc, None)?;
+    Ok(TypeDef {
+        name: name_of(alloc, "nt:folder")?,
+        supertypes,
+        is_abstract: false,
+        mixin: false,
+        orderable: false,
+        primary_item,
+        props,
+        children,
+    })
+}
+
+fn file(alloc: Global) -> Result<TypeDef, AllocError>
+    ensures { IfOk result (λ d. Some d ≡ slice_get builtin 12) }
+{
+    let mut supertypes = List::new(alloc);
+    supertypes.push(name_of(alloc, "nt:hierarchyNode")?)?;
+    let props = List::new(alloc);
+    let mut children = List::new(alloc);
+    add_child(alloc, &mut children, Some("jcr:content"), "nt:base", None, Flags { mandatory: true, ..PLAIN })?;
+    let primary_item = optional_name(alloc, Some("jcr:content"))?;
+    Ok(TypeDef {
+        name: name_of(alloc, "nt:file")?,
+        supertypes,
+        is_abstract: false,
+        mixin: false,
+        orderable: false,
+        primary_item,
+        props,
+        children,
+    })
+}
+
+fn resource(alloc: Global) -> Result<TypeDef, AllocError>
+    ensures { IfOk result (λ d. Some d ≡ slice_get builtin 13) }
+{
+    let mut supertypes = List::new(alloc);
+    supertypes.push(name_of(alloc, "mix:mimeType")?)?;
+    supertypes.push(name_of(alloc, "mix:lastModified")?)?;
+    let mut props = List::new(alloc);
+    add_prop(alloc, &mut props, Some("jcr:data"), Some(Kind::Binary), None, Flags { mandatory: true, ..PLAIN })?;
+    let children = List::new(alloc);
+    let primary_item = optional_name(alloc, Some("jcr:data"))?;
+    Ok(TypeDef {
+        name: name_of(alloc, "nt:resource")?,
+        supertypes,
+        is_abstract: false,
+        mixin: false,
+        orderable: false,
+        primary_item,
+        props,
+        children,
+    })
+}
+
+fn frozen_node(alloc: Global) -> Result<TypeDef, AllocError>
+    ensures { IfOk result (λ d. Some d ≡ slice_get builtin 14) }
+{
+    let supertypes = List::new(alloc);
+    let mut props = List::new(alloc);
+    add_prop(alloc, &mut props, Some("jcr:frozenPrimaryType"), Some(Kind::Name), None, Flags { protected: true, ..PLAIN })?;
+    add_prop(alloc, &mut props, Some("jcr:frozenMixinTypes"), Some(Kind::Name), None, Flags { protected: true, multiple: true, ..PLAIN })?;
+    add_prop(alloc, &mut props, Some("jcr:frozenUuid"), Some(Kind::Str), None, Flags { protected: true, ..PLAIN })?;
+    add_prop(alloc, &mut props, None, None, None, Flags { protected: true, multiple: true, ..PLAIN })?;
+    add_prop(alloc, &mut props, None, None, None, Flags { protected: true, ..PLAIN })?;
+    let mut children = List::new(alloc);
+    add_child(alloc, &mut children, None, "nt:frozenNode", None, Flags { protected: true, ..PLAIN })?;
+    let primary_item = optional_name(alloc, None)?;
+    Ok(TypeDef {
+        name: name_of(alloc, "nt:frozenNode")?,
+        supertypes,
+        is_abstract: false,
+        mixin: false,
+        orderable: false,
+        primary_item,
+        props,
+        children,
+    })
+}
+
+fn version(alloc: Global) -> Result<TypeDef, AllocError>
+    ensures { IfOk result (λ d. Some d ≡ slice_get builtin 15) }
+{
+    let mut supertypes = List::new(alloc);
+    supertypes.push(name_of(alloc, "mix:referenceable")?)?;
+    let mut props = List::new(alloc);
+    add_prop(alloc, &mut props, Some("jcr:created"), Some(Kind::Date), None, Flags { protected: true, ..PLAIN })?;
+    add_prop(alloc, &mut props, Some("jcr:predecessors"), Some(Kind::Reference), None, Flags { protected: true, multiple: true, ..PLAIN })?;
+    add_prop(alloc, &mut props, Some("jcr:successors"), Some(Kind::Reference), None, Flags { protected: true, multiple: true, ..PLAIN })?;
+    let mut children = List::new(alloc);
+    add_child(alloc, &mut children, Some("jcr:frozenNode"), "nt:frozenNode", None, Flags { protected: true, ..PLAIN })?;
+    let primary_item = optional_name(alloc, None)?;
+    Ok(TypeDef {
+        name: name_of(alloc, "nt:version")?,
+        supertypes,
+        is_abstract: false,
+        mixin: false,
+        orderable: false,
+        primary_item,
+        props,
+        children,
+    })
+}
+
+fn version_labels(alloc: Global) -> Result<TypeDef, AllocError>
+    ensures { IfOk result (λ d. Some d ≡ slice_get builtin 16) }
+{
+    let supertypes = List::new(alloc);
+    let mut props = List::new(alloc);
+    add_prop(alloc, &mut props, None, Some(Kind::Reference), None, Flags { protected: true, ..PLAIN })?;
+    let children = List::new(alloc);
+    let primary_item = optional_name(alloc, None)?;
+    Ok(TypeDef {
+        name: name_of(alloc, "nt:versionLabels")?,
+        supertypes,
+        is_abstract: false,
+        mixin: false,
+        orderable: false,
+        primary_item,
+        props,
+        children,
+    })
+}
+
+fn version_history(alloc: Global) -> Result<TypeDef, AllocError>
+    ensures { IfOk result (λ d. Some d ≡ slice_get builtin 17) }
+{
+    let mut supertypes = List::new(alloc);
+    supertypes.push(name_of(alloc, "mix:referenceable")?)?;
+    let mut props = List::new(alloc);
+    add_prop(alloc, &mut props, Some("jcr:versionableUuid"), Some(Kind::Str), None, Flags { protected: true, ..PLAIN })?;
+    let mut children = List::new(alloc);
+    add_child(alloc, &mut children, Some("jcr:rootVersion"), "nt:version", None, Flags { mandatory: true, protected: true, ..PLAIN })?;
+    add_child(alloc, &mut children, Some("jcr:versionLabels"), "nt:versionLabels", None, Flags { mandatory: true, protected: true, ..PLAIN })?;
+    add_child(alloc, &mut children, None, "nt:version", None, Flags { protected: true, ..PLAIN })?;
+    let primary_item = optional_name(alloc, None)?;
+    Ok(TypeDef {
+        name: name_of(alloc, "nt:versionHistory")?,
+        supertypes,
+        is_abstract: false,
+        mixin: false,
+        orderable: false,
+        primary_item,
+        props,
+        children,
+    })
+}
+
+fn version_storage(alloc: Global) -> Result<TypeDef, AllocError>
+    ensures { IfOk result (λ d. Some d ≡ slice_get builtin 18) }
+{
+    let supertypes = List::new(alloc);
+    let props = List::new(alloc);
+    let mut children = List::new(alloc);
+    add_child(alloc, &mut children, None, "nt:versionHistory", None, Flags { protected: true, ..PLAIN })?;
+    let primary_item = optional_name(alloc, None)?;
+    Ok(TypeDef {
+        name: name_of(alloc, "rep:versionStorage")?,
+        supertypes,
+        is_abstract: false,
+        mixin: false,
+        orderable: false,
+        primary_item,
+        props,
+        children,
+    })
+}
+
+fn system(alloc: Global) -> Result<TypeDef, AllocError>
+    ensures { IfOk result (λ d. Some d ≡ slice_get builtin 19) }
+{
+    let supertypes = List::new(alloc);
+    let props = List::new(alloc);
+    let mut children = List::new(alloc);
+    add_child(alloc, &mut children, Some("jcr:versionStorage"), "rep:versionStorage", None, Flags { mandatory: true, protected: true, ..PLAIN })?;
+    let primary_item = optional_name(alloc, None)?;
+    Ok(TypeDef {
+        name: name_of(alloc, "rep:system")?,
+        supertypes,
+        is_abstract: false,
+        mixin: false,
+        orderable: false,
+        primary_item,
+        props,
+        children,
+    })
+}
+
+// Puts the definition of a property behind others; with no name it is of any other, with no kind of any kind.
+fn add_prop(
+    alloc: Global,
+    props: &mut List<PropDef>,
+    name: Option<&str>,
+    kind: Option<Kind>,
+    default: Option<bool>,
+    flags: Flags,
+) -> Result<(), AllocError>
+    ensures { OnOk result (props.new ≡ props.old ++ prop_of (option_copied name.entry) kind default flags ∷ []) }
+{
+    let defaults = defaults_of(alloc, default)?;
+    let name = optional_name(alloc, name)?;
+    props.push(PropDef {
+        name,
+        kind,
+        mandatory: flags.mandatory,
+        autocreated: flags.autocreated,
+        protected: flags.protected,
+        multiple: flags.multiple,
         defaults,
         constraints: List::new(alloc),
-        opv: row.opv,
+        opv: flags.opv,
     })
 }
 
@@ -553,20 +549,29 @@ fn defaults_of(alloc: Global, truth: Option<bool>) -> Result<List<Value>, AllocE
     Ok(defaults)
 }
 
-fn child_of(alloc: Global, row: &ChildRow) -> Result<ChildDef, AllocError>
-    ensures { IfOk result (λ child. child ≡ child_in row.now) }
+// Puts the definition of a child behind others; with no name it is of any other.
+fn add_child(
+    alloc: Global,
+    children: &mut List<ChildDef>,
+    name: Option<&str>,
+    required: &str,
+    default_type: Option<&str>,
+    flags: Flags,
+) -> Result<(), AllocError>
+    ensures { OnOk result (children.new ≡ children.old ++ child_of (option_copied name.entry) required.now (option_copied default_type.entry) flags ∷ []) }
 {
     let mut types = List::new(alloc);
-    types.push(name_of(alloc, row.required)?)?;
-    let default_type = optional_name(alloc, row.default_type)?;
-    Ok(ChildDef {
-        name: optional_name(alloc, row.name)?,
+    types.push(name_of(alloc, required)?)?;
+    let default_type = optional_name(alloc, default_type)?;
+    let name = optional_name(alloc, name)?;
+    children.push(ChildDef {
+        name,
         types,
         default_type,
-        mandatory: row.mandatory,
-        autocreated: false,
-        protected: row.protected,
-        opv: row.opv,
+        mandatory: flags.mandatory,
+        autocreated: flags.autocreated,
+        protected: flags.protected,
+        opv: flags.opv,
     })
 }
 

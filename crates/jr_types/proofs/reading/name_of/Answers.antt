@@ -1,5 +1,5 @@
 use Rattle.std.proofs.Common.{rules}
-use Rattle.jr_types.proofs.Reads.{no_name}
+use Rattle.jr_types.proofs.ByParts.{no_name}
 use Rattle.jr_types.proofs.reading.name_of.Goals as goal
 
 pub returns-in-Err : goal.returns-in-Err

@@ -1,6 +1,6 @@
 use Rattle.std.proofs.Common.{rules, ◌<◌, ◌≤◌, length}
 use Rattle.jr_types.specs.Reading.{IsPropJson}
-use Rattle.jr_types.proofs.Reads.{read_all, read_more, read_stop}
+use Rattle.jr_types.proofs.ByParts.{read_all, read_more, read_stop}
 use Rattle.jr_types.proofs.reading.prop_list_of.Goals as goal
 
 pub returns-in_err-prop_in : goal.returns-in_err-prop_in
@@ -11,7 +11,7 @@ returns-in_err-prop_in c =
 pub loop-item-preserved : goal.loop-item-preserved
 loop-item-preserved c =
     let l : c.loop-item.item-index < length c.args.items.now = search rules in
-    read_more IsPropJson c.args.items.now c.loop-item.item-index c.item-item.result _ _ _ l c.item-item.is c.loop-item.invariant c.in_ok-prop_in.ensures c.in_ok-push.ensures
+    read_more IsPropJson c.args.items.now c.loop-item.item-index c.item-item.result _ _ _ l c.item-item.is c.loop-item.invariant c.in_ok-prop_in.ensures c.in_ok-push.ensures.ok
 
 pub returns : goal.returns
 returns c =

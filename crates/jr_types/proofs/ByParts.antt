@@ -5,15 +5,16 @@ use Rattle.std.proofs.lemmas.Option.{none-some}
 use Rattle.std.proofs.lemmas.List.{take_more}
 use Rattle.serde_json.specs.View.{items_view, view}
 use Rattle.serde_json.specs.declared.value.Value.{Value}
-use Rattle.serde_json.specs.Data.{Data, Items, null, boolean, number, string, array, object}
-use Rattle.serde_json.specs.Find.{as_array, as_bool, as_str}
+use Rattle.serde_json.specs.Data.{Data, Items, Members, null, boolean, number, string, array, object}
+use Rattle.serde_json.specs.Find.{as_array, as_bool, as_object, as_str}
 use Rattle.jr_path.specs.Grammar.{IsName, RefusesName}
+use Rattle.jr_path.specs.declared.name.Name.{Name}
 use Rattle.jr_path.specs.declared.fault.PathFault.{PathFault}
 use Rattle.jr_path.specs.declared.fault.PathFault.TheVariants.{BadName, Memory}
 use Rattle.jr_value.proofs.Texts.{fault_refuses}
 use Rattle.jr_types.specs.declared.reading.NoType.{NoType}
 use Rattle.jr_types.specs.declared.reading.NoType.TheVariants as no
-use Rattle.jr_types.specs.Reading.{AreRead, IsListJson, Reads, refused}
+use Rattle.jr_types.specs.Reading.{AreRead, IsListJson, IsNameJson, IsOr, IsSomeNameJson, IsThere, Reads, have_keys, is_object_of, refused}
 
 -- a part can't be read, so the whole can't
 pub exits : {X Y : Type 0} (P : X → Type 0) (Q : Y → Type 0) (f : NoType) (r : Result Y NoType) → IsErrAnd r (λ e. e ≡ f) → Reads P (Err f) → ((y : Y) → Q y → (x : X) × P x) → Reads Q r
@@ -78,3 +79,31 @@ read_at IsRead (u ∷ vs) (y ∷ xs) (suc i) v h l at = read_at IsRead vs xs i v
 pub read_stop : {X : Type 0} (IsRead : Data → X → Type 0) (vs : List Value) (i : ℕ) (v : Value) (f : NoType) (r : Result (List X) NoType) → i < length vs → v ≡ get_or vs i v
     → IsErrAnd r (λ e. e ≡ f) → Reads (IsRead (view v)) (Err f) → Reads (AreRead IsRead (items_view vs)) r
 read_stop IsRead vs i v f r l at h g = exits (IsRead (view v)) (AreRead IsRead (items_view vs)) f r h g (λ xs a. read_at IsRead vs xs i v a l at)
+
+-- ---- members
+
+-- a member that is there
+pub member_there : {X : Type 0} (IsRead : Data → X → Type 0) (d : Data) (o : Option Data) (r : Result X NoType) → Some d ≡ o → Reads (IsRead d) r → Reads (IsThere IsRead o) r
+member_there IsRead d o r e h = subst (λ o. Reads (IsThere IsRead o) r) e h
+
+pub member_given : {X : Type 0} (left : X) (IsRead : Data → X → Type 0) (d : Data) (o : Option Data) (r : Result X NoType) → Some d ≡ o → Reads (IsRead d) r → Reads (IsOr left IsRead o) r
+member_given left IsRead d o r e h = subst (λ o. Reads (IsOr left IsRead o) r) e h
+
+pub some_is_name : (d : Data) (o : Option Name) → IsSomeNameJson d o → (n : Name) × IsNameJson d n
+some_is_name d None h = absurd h
+some_is_name d (Some n) h = (n, h)
+
+same_members : (a b : Members) → Some a ≡ Some b → a ≡ b
+same_members a b h = ap (λ o. value o) h
+  where
+    value : Option Members → Members
+    value None = a
+    value (Some m) = m
+
+pub of_object : (keys : List (List ℕ)) (d : Data) (ms : Members) (r : Result (Unit {0}) NoType) → as_object d ≡ Some ms → Reads (λ u. have_keys keys ms ≡ true) r → Reads (λ u. is_object_of keys d ≡ true) r
+of_object keys null ms r h g = absurd (none-some ms h)
+of_object keys (boolean a) ms r h g = absurd (none-some ms h)
+of_object keys (number n) ms r h g = absurd (none-some ms h)
+of_object keys (string s) ms r h g = absurd (none-some ms h)
+of_object keys (array ds) ms r h g = absurd (none-some ms h)
+of_object keys (object mine) ms r h g = subst (λ m. Reads (λ u. have_keys keys m ≡ true) r) (sym (same_members mine ms h)) g
