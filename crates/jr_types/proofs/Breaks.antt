@@ -11,7 +11,7 @@ use Rattle.std.specs.BTreeMap.{insert_entry}
 use Rattle.std.specs.FinMap.{is_sorted}
 use Rattle.std.specs.FinMap.Entries.{below_all}
 use Rattle.std.specs.declared.cmp.Ordering.TheVariants.{Less, Equal, Greater}
-use Rattle.std.proofs.lemmas.Bool.{cases_lt, eqb-true, false≢true, ltb-true}
+use Rattle.std.proofs.lemmas.Bool.{cases_lt, eqb-true, false≢true, ltb-true, leb-true}
 use Rattle.std.proofs.lemmas.Cmp.{nat_cmp_total, nat_list_cmp_total, on_total, then_total}
 use Rattle.std.proofs.lemmas.List.{append-nil, append_assoc}
 use Rattle.std.proofs.lemmas.List.Folds.{list_any-append}
@@ -22,7 +22,9 @@ use Rattle.jr_path.specs.Names.{name_cmp}
 use Rattle.jr_path.specs.declared.name.Name.{Name}
 use Rattle.jr_path.specs.declared.path.Path.{Path}
 use Rattle.jr_tree.proofs.Entries.{sorted_insert, rising, tested}
-use Rattle.jr_tree.specs.Trees.{Nodes, property_at}
+use Rattle.jr_tree.specs.Trees.{Nodes, children_of, property_at}
+use Rattle.jr_tree.specs.Edits.{properties_at}
+use Rattle.jr_items.specs.Names.{mixin_types, primary_type}
 use Rattle.jr_items.specs.Items.{first_of, in_name_order, same_name}
 use Rattle.jr_types.specs.declared.TypeDef.{TypeDef}
 use Rattle.jr_types.specs.declared.checking.Break.{Break}
@@ -122,7 +124,7 @@ three_within false false true = refl
 three_within false false false = refl
 
 at_least : (a b : ℕ) → nat_le a b ≡ true → a ≤ b
-at_least a b h = omega arith
+at_least a b h = leb-true a b h
 
 same_number : (a b : ℕ) → (a == b) ≡ true → a ≡ b
 same_number a b h = eqb-true a b h
@@ -137,7 +139,7 @@ record IsPlaced (low : ℕ) (others xs : List ℕ) (k : ℕ) : Type 0 where
 
 placed : (low : ℕ) (others xs : List ℕ) (k : ℕ) → are_within low others xs ≡ true → list_any (λ r. r == k) xs ≡ true → IsPlaced low others xs k
 placed low others [] k w h = absurd (false≢true h)
-placed low others (x ∷ xs) k w h = by (x == k) refl h
+placed low others (x ∷ xs) k w h = by (x == k) refl h (λ a. placed (suc x) others xs k (second_of_both _ _ (second_of_both (nat_le low x) _ w)) a)
   where
     least : low ≤ x
     least = at_least low x (first_of_both _ _ w)
@@ -145,24 +147,25 @@ placed low others (x ∷ xs) k w h = by (x == k) refl h
     among : list_any (λ j. j == x) others ≡ true
     among = first_of_both _ _ (second_of_both (nat_le low x) _ w)
 
-    by : (b : Bool) → (x == k) ≡ b → (b || list_any (λ r. r == k) xs) ≡ true → IsPlaced low others (x ∷ xs) k
-    by true e h =
+    by : (b : Bool) → (x == k) ≡ b → (b || list_any (λ r. r == k) xs) ≡ true → (list_any (λ r. r == k) xs ≡ true → IsPlaced (suc x) others xs k) → IsPlaced low others (x ∷ xs) k
+    by true e h rest =
         let same : x ≡ k = same_number x k e in
-        record { first = x; is_first = refl; up = subst (λ y. x ≤ y) same (omega arith); low_up = subst (λ y. low ≤ y) same least; known = subst (λ y. list_any (λ j. j == y) others ≡ true) same among }
-    by false e h =
-        let r = placed (suc x) others xs k (second_of_both _ _ (second_of_both (nat_le low x) _ w)) h in
+        let up : x ≤ x = omega arith in
+        record { first = x; is_first = refl; up = subst (λ y. x ≤ y) same up; low_up = subst (λ y. low ≤ y) same least; known = subst (λ y. list_any (λ j. j == y) others ≡ true) same among }
+    by false e h rest =
+        let r = rest h in
         let up : suc x ≤ k = r.low_up in
-        let least' : low ≤ x = least in
-        record { first = x; is_first = refl; up = omega arith; low_up = omega arith; known = r.known }
+        let low_x : low ≤ x = least in
+        record { first = x; is_first = refl; up = omega (arith, up); low_up = omega (arith, up, low_x); known = r.known }
 
 -- what all of a list have, each of them has
 of_all : (p : ℕ → Bool) (xs : List ℕ) (k : ℕ) → list_all p xs ≡ true → list_any (λ j. j == k) xs ≡ true → p k ≡ true
 of_all p [] k h a = absurd (false≢true a)
-of_all p (x ∷ xs) k h a = by (x == k) refl a
+of_all p (x ∷ xs) k h a = by (x == k) refl a (λ c. of_all p xs k (second_of_both (p x) _ h) c)
   where
-    by : (b : Bool) → (x == k) ≡ b → (b || list_any (λ j. j == k) xs) ≡ true → p k ≡ true
-    by true e a = subst (λ y. p y ≡ true) (same_number x k e) (first_of_both (p x) _ h)
-    by false e a = of_all p xs k (second_of_both (p x) _ h) a
+    by : (b : Bool) → (x == k) ≡ b → (b || list_any (λ j. j == k) xs) ≡ true → (list_any (λ j. j == k) xs ≡ true → p k ≡ true) → p k ≡ true
+    by true e a rest = subst (λ y. p y ≡ true) (same_number x k e) (first_of_both (p x) _ h)
+    by false e a rest = rest a
 
 first_there : (xs : List ℕ) (k : ℕ) → first_of xs ≡ Some k → list_any (λ r. r == k) xs ≡ true
 first_there [] k h = absurd (none-some k h)
@@ -194,23 +197,24 @@ order_is (n ∷ ns) = tested name_cmp (map (λ m. (m, true)) (in_name_order (n �
 
 below_any : (x n : Name) (ns : List Name) → below_all name_cmp x (map (λ m. (m, true)) ns) ≡ true → list_any (same_name n) ns ≡ true → is_lt (name_cmp x n) ≡ true
 below_any x n [] h a = absurd (false≢true a)
-below_any x n (m ∷ ns) h a = by (same_name n m) refl a
+below_any x n (m ∷ ns) h a = by (same_name n m) refl a (λ c. below_any x n ns (second_of_both (is_lt (name_cmp x m)) _ h) c)
   where
-    by : (b : Bool) → same_name n m ≡ b → (b || list_any (same_name n) ns) ≡ true → is_lt (name_cmp x n) ≡ true
-    by true e a = subst (λ y. is_lt (name_cmp x y) ≡ true) (sym (same n m e)) (first_of_both _ _ h)
-    by false e a = below_any x n ns (second_of_both (is_lt (name_cmp x m)) _ h) a
+    by : (b : Bool) → same_name n m ≡ b → (b || list_any (same_name n) ns) ≡ true → (list_any (same_name n) ns ≡ true → is_lt (name_cmp x n) ≡ true) → is_lt (name_cmp x n) ≡ true
+    by true e a rest = subst (λ y. is_lt (name_cmp x y) ≡ true) (sym (same n m e)) (first_of_both _ _ h)
+    by false e a rest = rest a
 
 -- the least that passes a test is the first of those in order that do
 least_first : (test : Name → Bool) (n : Name) (ns : List Name) → is_sorted name_cmp (map (λ m. (m, true)) ns) ≡ true → test n ≡ true → list_any (same_name n) ns ≡ true
     → ((m : Name) → test m ≡ true → is_lt (name_cmp m n) ≡ false) → first_of (filter test ns) ≡ Some n
 least_first test n [] s t a least = absurd (false≢true a)
-least_first test n (x ∷ ns) s t a least = by (test x) refl (same_name n x) refl a
+least_first test n (x ∷ ns) s t a least = by (test x) refl (same_name n x) refl a (λ c. least_first test n ns (second_of_both (below_all name_cmp x (map (λ m. (m, true)) ns)) _ s) t c least)
   where
-    by : (b : Bool) → test x ≡ b → (c : Bool) → same_name n x ≡ c → (c || list_any (same_name n) ns) ≡ true → first_of (cond b (x ∷ filter test ns) (filter test ns)) ≡ Some n
-    by true e true k a = ap Some (sym (same n x k))
-    by true e false k a = absurd (false≢true (sym (least x e) ∙ below_any x n ns (first_of_both _ _ s) a))
-    by false e true k a = absurd (false≢true (sym e ∙ (ap test (sym (same n x k)) ∙ t)))
-    by false e false k a = least_first test n ns (second_of_both (below_all name_cmp x (map (λ m. (m, true)) ns)) _ s) t a least
+    by : (b : Bool) → test x ≡ b → (c : Bool) → same_name n x ≡ c → (c || list_any (same_name n) ns) ≡ true → (list_any (same_name n) ns ≡ true → first_of (filter test ns) ≡ Some n)
+        → first_of (cond b (x ∷ filter test ns) (filter test ns)) ≡ Some n
+    by true e true k a rest = ap Some (sym (same n x k))
+    by true e false k a rest = absurd (false≢true (sym (least x e) ∙ below_any x n ns (first_of_both _ _ s) a))
+    by false e true k a rest = absurd (false≢true (sym e ∙ (ap test (sym (same n x k)) ∙ t)))
+    by false e false k a rest = rest a
 
 none_left : (test : Name → Bool) (ns : List Name) → ((m : Name) → test m ≡ false) → filter test ns ≡ []
 none_left test [] h = refl
@@ -240,10 +244,10 @@ module _ (rule_of : Name → Option ℕ) where
   IsFirstAmong ns (Some b) = (rule_of b.item ≡ Some b.rule) × ((n : Name) (rule : ℕ) → list_any (same_name n) ns ≡ true → rule_of n ≡ Some rule → is_lt (break_cmp (record { rule = rule; item = n }) b) ≡ false)
 
   -- a name of a longer list is one of the former, or the new one
-  or_last : {P : Type 0} (m n : Name) (ns : List Name) → list_any (same_name m) (ns ++ n ∷ []) ≡ true → (list_any (same_name m) ns ≡ true → P) → (m ≡ n → P) → P
-  or_last m n ns h old new = by (list_any (same_name m) ns) refl (same_name m n) refl (sym (list_any-append (same_name m) ns (n ∷ [])) ∙ h)
+  or_last : (P : Type 0) (m n : Name) (ns : List Name) → list_any (same_name m) (ns ++ n ∷ []) ≡ true → (list_any (same_name m) ns ≡ true → P) → (m ≡ n → P) → P
+  or_last P m n ns h old new = by (list_any (same_name m) ns) refl (same_name m n) refl (sym (list_any-append (same_name m) ns (n ∷ [])) ∙ h)
     where
-      by : (b : Bool) → list_any (same_name m) ns ≡ b → (c : Bool) → same_name m n ≡ c → (b || (c || false)) ≡ true → _
+      by : (b : Bool) → list_any (same_name m) ns ≡ b → (c : Bool) → same_name m n ≡ c → (b || (c || false)) ≡ true → P
       by true e c k a = old e
       by false e true k a = new (same m n k)
       by false e false k a = absurd (false≢true a)
@@ -265,19 +269,19 @@ module _ (rule_of : Name → Option ℕ) where
 
       chosen : (b : Break) → IsFirstAmong ns (Some b) → (x : ℕ) → rule_of n ≡ Some x → (c : Bool) → is_lt (break_cmp (record { rule = x; item = n }) b) ≡ c
           → IsFirstAmong (ns ++ n ∷ []) (cond c (Some (record { rule = x; item = n })) (Some b))
-      chosen b h x e true l = (e, λ m rule a k. or_last m n ns a
-          (λ i. behind (is_lt (break_cmp (record { rule = rule; item = m }) (record { rule = x; item = n }))) refl (h.1 m rule i k))
+      chosen b h x e true l = (e, λ m rule a k. or_last _ m n ns a
+          (λ i. behind (record { rule = rule; item = m }) (is_lt (break_cmp (record { rule = rule; item = m }) (record { rule = x; item = n }))) refl (h.1 m rule i k))
           (λ s. own x e m rule s k (record { rule = x; item = n }) (not_before_itself (record { rule = x; item = n }))))
         where
-          behind : {a : Break} (c : Bool) → is_lt (break_cmp a (record { rule = x; item = n })) ≡ c → is_lt (break_cmp a b) ≡ false → c ≡ false
-          behind true q f = absurd (false≢true (sym f ∙ before_both _ _ b q l))
-          behind false q f = refl
-      chosen b h x e false l = (h.0, λ m rule a k. or_last m n ns a (λ i. h.1 m rule i k) (λ s. own x e m rule s k b l))
+          behind : (a : Break) (c : Bool) → is_lt (break_cmp a (record { rule = x; item = n })) ≡ c → is_lt (break_cmp a b) ≡ false → c ≡ false
+          behind a true q f = absurd (false≢true (sym f ∙ before_both a (record { rule = x; item = n }) b q l))
+          behind a false q f = refl
+      chosen b h x e false l = (h.0, λ m rule a k. or_last _ m n ns a (λ i. h.1 m rule i k) (λ s. own x e m rule s k b l))
 
       by : (o : Option Break) → IsFirstAmong ns o → (r : Option ℕ) → rule_of n ≡ r → IsFirstAmong (ns ++ n ∷ []) (earlier o r n)
-      by None h None e = λ m a. or_last m n ns a (h m) (λ s. ap rule_of s ∙ e)
-      by (Some b) h None e = (h.0, λ m rule a k. or_last m n ns a (λ i. h.1 m rule i k) (λ s. absurd (none-some rule (sym e ∙ (ap rule_of (sym s) ∙ k)))))
-      by None h (Some x) e = (e, λ m rule a k. or_last m n ns a (λ i. absurd (none-some rule (sym (h m i) ∙ k)))
+      by None h None e = λ m a. or_last _ m n ns a (h m) (λ s. ap rule_of s ∙ e)
+      by (Some b) h None e = (h.0, λ m rule a k. or_last _ m n ns a (λ i. h.1 m rule i k) (λ s. absurd (none-some rule (sym e ∙ (ap rule_of (sym s) ∙ k)))))
+      by None h (Some x) e = (e, λ m rule a k. or_last _ m n ns a (λ i. absurd (none-some rule (sym (h m i) ∙ k)))
           (λ s. own x e m rule s k (record { rule = x; item = n }) (not_before_itself (record { rule = x; item = n }))))
       by (Some b) h (Some x) e = chosen b h x e (is_lt (break_cmp (record { rule = x; item = n }) b)) refl
 
@@ -307,20 +311,23 @@ module _ (rule_of : Name → Option ℕ) where
 violations_in : {Y : Type 0} (v : ℕ → Name → Y) (F : ℕ → List Name) (ks : List ℕ) (r : ℕ) (n : Name) (low : ℕ) (others : List ℕ) → are_within low others ks ≡ true
     → list_any (λ k. k == r) ks ≡ true → first_of (F r) ≡ Some n → ((k : ℕ) → k < r → F k ≡ []) → first_of (flat_map (λ k. map (v k) (F k)) ks) ≡ Some (v r n)
 violations_in v F [] r n low others w a f h = absurd (false≢true a)
-violations_in {Y} v F (k ∷ ks) r n low others w a f h = by (k == r) refl a
+violations_in {Y} v F (k ∷ ks) r n low others w a f h = by (k == r) refl a (λ c. violations_in v F ks r n (suc k) others (second_of_both _ _ (second_of_both (nat_le low k) _ w)) c f h)
   where
+    rest : are_within (suc k) others ks ≡ true
+    rest = second_of_both (list_any (λ j. j == k) others) (are_within (suc k) others ks) (second_of_both (nat_le low k) (list_any (λ j. j == k) others && are_within (suc k) others ks) w)
+
     first_seen : (xs : List Name) (g : Name → Y) (ys : List Y) → first_of xs ≡ Some n → first_of (map g xs ++ ys) ≡ Some (g n)
     first_seen [] g ys e = absurd (none-some n e)
     first_seen (x ∷ xs) g ys e = ap (λ o. option_map g o) e
 
-    by : (b : Bool) → (k == r) ≡ b → (b || list_any (λ k. k == r) ks) ≡ true → first_of (map (v k) (F k) ++ flat_map (λ k. map (v k) (F k)) ks) ≡ Some (v r n)
-    by true e a = let s : k ≡ r = same_number k r e in
+    by : (b : Bool) → (k == r) ≡ b → (b || list_any (λ k. k == r) ks) ≡ true → (list_any (λ k. k == r) ks ≡ true → first_of (flat_map (λ k. map (v k) (F k)) ks) ≡ Some (v r n))
+        → first_of (map (v k) (F k) ++ flat_map (λ k. map (v k) (F k)) ks) ≡ Some (v r n)
+    by true e a more = let s : k ≡ r = same_number k r e in
         first_seen (F k) (v k) _ (ap (λ j. first_of (F j)) s ∙ f) ∙ ap (λ j. Some (v j n)) s
-    by false e a =
-        let rest = second_of_both _ _ (second_of_both (nat_le low k) _ w) in
+    by false e a more =
         let up : suc k ≤ r = (placed (suc k) others ks r rest a).low_up in
-        let less : k < r = omega arith in
-        ap (λ xs. first_of (map (v k) xs ++ flat_map (λ k. map (v k) (F k)) ks)) (h k less) ∙ violations_in v F ks r n (suc k) others rest a f h
+        let less : k < r = omega (arith, up) in
+        ap (λ xs. first_of (map (v k) xs ++ flat_map (λ k. map (v k) (F k)) ks)) (h k less) ∙ more a
 
 no_violations : {Y : Type 0} (v : ℕ → Name → Y) (F : ℕ → List Name) (ks : List ℕ) → ((k : ℕ) → F k ≡ []) → flat_map (λ k. map (v k) (F k)) ks ≡ []
 no_violations v F [] h = refl
@@ -364,7 +371,7 @@ module _ (types : List TypeDef) (t : Nodes) (p : Path) where
         by true e =
             let s = placed low others (rules n) k (within n) e in
             let up : s.first ≤ k = s.up in
-            let less : s.first < b.rule = omega arith in
+            let less : s.first < b.rule = omega (arith, up, l) in
             absurd (false≢true (sym (first.1 n s.first s.is_first) ∙ before_by_rule (record { rule = s.first; item = n }) b less))
 
     least_item : (n : Name) → list_any (λ r. r == b.rule) (rules n) ≡ true → is_lt (name_cmp n b.item) ≡ false
@@ -376,7 +383,7 @@ module _ (types : List TypeDef) (t : Nodes) (p : Path) where
         by : (x : ℕ) → first_of (rules n) ≡ Some x → x ≤ b.rule → (x < b.rule) ⊎ (b.rule ≤ x) → is_lt (name_cmp n b.item) ≡ false
         by x f up (inl less) = absurd (false≢true (sym (first.1 n x f) ∙ before_by_rule (record { rule = x; item = n }) b less))
         by x f up (inr more) =
-            let same : x ≡ b.rule = omega arith in
+            let same : x ≡ b.rule = omega (arith, up, more) in
             sym (by_item b n) ∙ first.1 n b.rule (f ∙ ap Some same)
 
     pub known_rule : list_any (λ k. k == b.rule) others ≡ true
@@ -409,7 +416,7 @@ module _ (types : List TypeDef) (t : Nodes) (p : Path) where
           absurd (contradiction up l)
         where
           contradiction : 7 ≤ k → k < 7 → ⊥
-          contradiction a b = omega arith
+          contradiction a b = omega (arith, a, b)
 
   pub first_of_properties : (b : Break) → IsFirstBreak (λ n. first_of (own n)) (Some b) → first_of (violations_at types t p) ≡ Some (told b.rule b.item)
   first_of_properties b h =
@@ -417,8 +424,8 @@ module _ (types : List TypeDef) (t : Nodes) (p : Path) where
       let less : b.rule < 7 = ltb-true b.rule 7 (of_all (λ k. nat_lt k 7) of_properties b.rule refl known) in
       violations_in told (λ k. own_at k ++ below_at k) all_rules b.rule b.item 1 all_rules refl
       (list_any-append (λ k. k == b.rule) of_properties of_children ∙ ap (λ c. c || list_any (λ k. k == b.rule) of_children) known)
-      (ap (λ xs. first_of (own_at b.rule ++ xs)) (no_child_before b.rule less) ∙ (ap first_of (append-nil (own_at b.rule)) ∙ item_first own 1 of_properties own_within b h _ (λ n e. property_apart types t p n e)))
-      (λ k l. let m : k < 7 = omega arith in
+      (ap (λ xs. first_of (own_at b.rule ++ xs)) (no_child_before b.rule less) ∙ (ap first_of (append-nil (own_at b.rule)) ∙ item_first own 1 of_properties own_within b h (primary_type ∷ mixin_types ∷ map (λ e. e.0) (properties_at t p) ++ mandatory_props ds) (λ n e. property_apart types t p n e)))
+      (λ k l. let m : k < 7 = omega (arith, l, less) in
           ap (λ xs. xs ++ below_at k) (none_left (λ n. list_any (λ r. r == k) (own n)) (property_names types t p) (none_before own 1 of_properties own_within b h k l)) ∙ no_child_before k m)
 
   pub first_of_children : (b : Break) → IsFirstBreak (λ n. first_of (own n)) None → IsFirstBreak (λ n. first_of (below n)) (Some b) → first_of (violations_at types t p) ≡ Some (told b.rule b.item)
@@ -426,7 +433,7 @@ module _ (types : List TypeDef) (t : Nodes) (p : Path) where
       let known = known_rule below 7 of_children below_within b h in
       violations_in told (λ k. own_at k ++ below_at k) all_rules b.rule b.item 1 all_rules refl
       (list_any-append (λ k. k == b.rule) of_properties of_children ∙ or_right (list_any (λ k. k == b.rule) of_properties) _ known)
-      (ap (λ xs. first_of (xs ++ below_at b.rule)) (no_rules own g b.rule (property_names types t p)) ∙ item_first below 7 of_children below_within b h _ (λ n e. child_apart types t p n e))
+      (ap (λ xs. first_of (xs ++ below_at b.rule)) (no_rules own g b.rule (property_names types t p)) ∙ item_first below 7 of_children below_within b h (children_of t p ++ mandatory_children ds) (λ n e. child_apart types t p n e))
       (λ k l. ap (λ xs. xs ++ below_at k) (no_rules own g k (property_names types t p))
           ∙ none_left (λ n. list_any (λ r. r == k) (below n)) (child_names types t p) (none_before below 7 of_children below_within b h k l))
     where

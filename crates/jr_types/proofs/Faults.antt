@@ -128,10 +128,10 @@ module _ (types : List TypeDef) (node : Node) (n : Name) where
   abbrev ds : List TypeDef
   ds = types_of types (types_said node)
 
-  abbrev bad_primary : Bool
+  abbrev pub bad_primary : Bool
   bad_primary = same_name n primary_type && not (is_primary_type types (property_of node n))
 
-  abbrev bad_mixins : Bool
+  abbrev pub bad_mixins : Bool
   bad_mixins = same_name n mixin_types && not (are_mixins types (property_of node n))
 
   abbrev behind : Option Property → Option ℕ
