@@ -1,11 +1,23 @@
 -- What is read of JSON, by what is read of its parts.
 use Rattle.std.proofs.Common.{arith, ◌<◌, ◌≤◌, ◌+◌, zero, suc, length, take, ◌++◌, get_or, ◌≡◌, ℕ, Bool, true, false, Result, Ok, Err, Option, Some, None, List, [], ◌∷◌, refl, sym, ap, ◌∙◌, subst}
 use Rattle.std.specs.Result.{IsErrAnd}
+use Rattle.std.specs.Prelude.{codes}
+use Rattle.std.specs.Option.{option_map_or}
+use Rattle.std.specs.Str.{bytes_eq}
+use Rattle.std.proofs.lemmas.Bool.{false≢true}
+use Rattle.std.proofs.lemmas.Slice.Eq.{bytes_eq-Decides}
+use Rattle.jr_value.specs.Reading.{IsPropertyJson, IsValueFault}
+use Rattle.jr_value.specs.declared.fault.ValueFault.{ValueFault}
+use Rattle.jr_value.specs.declared.fault.ValueFault.TheVariants as values
+use Rattle.jr_value.specs.declared.fault.ValueFault.TheVariants.{ValueFormat}
+use Rattle.jr_value.specs.declared.value.Kind.{Kind}
+use Rattle.jr_value.specs.declared.value.Property.TheVariants.{Many}
+use Rattle.jr_value.specs.declared.value.Value.{Value as Val}
 use Rattle.std.proofs.lemmas.Option.{none-some}
 use Rattle.std.proofs.lemmas.List.{take_more}
 use Rattle.serde_json.specs.View.{items_view, view}
 use Rattle.serde_json.specs.declared.value.Value.{Value}
-use Rattle.serde_json.specs.Data.{Data, Items, Members, null, boolean, number, string, array, object}
+use Rattle.serde_json.specs.Data.{Data, Items, Members, item, no_items, null, boolean, number, string, array, object}
 use Rattle.serde_json.specs.Find.{as_array, as_bool, as_object, as_str}
 use Rattle.jr_path.specs.Grammar.{IsName, RefusesName}
 use Rattle.jr_path.specs.declared.name.Name.{Name}
@@ -14,7 +26,7 @@ use Rattle.jr_path.specs.declared.fault.PathFault.TheVariants.{BadName, Memory}
 use Rattle.jr_value.proofs.Texts.{fault_refuses}
 use Rattle.jr_types.specs.declared.reading.NoType.{NoType}
 use Rattle.jr_types.specs.declared.reading.NoType.TheVariants as no
-use Rattle.jr_types.specs.Reading.{AreRead, IsListJson, IsNameJson, IsOr, IsSomeNameJson, IsThere, Reads, have_keys, is_object_of, refused}
+use Rattle.jr_types.specs.Reading.{AreDefaultsJson, AreRead, IsItemNameJson, IsListJson, IsNameJson, no_values, IsOr, IsSomeNameJson, IsThere, Reads, have_keys, is_object_of, refused}
 
 -- a part can't be read, so the whole can't
 pub exits : {X Y : Type 0} (P : X → Type 0) (Q : Y → Type 0) (f : NoType) (r : Result Y NoType) → IsErrAnd r (λ e. e ≡ f) → Reads P (Err f) → ((y : Y) → Q y → (x : X) × P x) → Reads Q r
@@ -107,3 +119,76 @@ of_object keys (number n) ms r h g = absurd (none-some ms h)
 of_object keys (string s) ms r h g = absurd (none-some ms h)
 of_object keys (array ds) ms r h g = absurd (none-some ms h)
 of_object keys (object mine) ms r h g = subst (λ m. Reads (λ u. have_keys keys m ≡ true) r) (sym (same_members mine ms h)) g
+
+-- ---- names of items
+
+star_is : (d : Data) → option_map_or (λ text. bytes_eq text (codes "*")) (as_str d) false ≡ true → d ≡ string (codes "*")
+star_is null h = absurd (false≢true h)
+star_is (boolean b) h = absurd (false≢true h)
+star_is (number n) h = absurd (false≢true h)
+star_is (string s) h = ap string ((bytes_eq-Decides s (codes "*")).0 h)
+star_is (array ds) h = absurd (false≢true h)
+star_is (object ms) h = absurd (false≢true h)
+
+pub star_read : (d : Data) (b : Bool) → b ≡ option_map_or (λ text. bytes_eq text (codes "*")) (as_str d) false → b ≡ true → IsItemNameJson d None
+star_read d b e h = star_is d (sym e ∙ h)
+
+pub other_read : (d : Data) (b : Bool) (r : Result (Option Name) NoType) → b ≡ option_map_or (λ text. bytes_eq text (codes "*")) (as_str d) false → b ≡ false → Reads (IsSomeNameJson d) r → Reads (IsItemNameJson d) r
+other_read d b (Ok None) e h g = absurd g
+other_read d b (Ok (Some n)) e h g = g
+other_read d b (Err no.Memory) e h g = tt
+other_read d b (Err no.NoDefinition) e h g = by
+  where
+    star : d ≡ string (codes "*") → ⊥
+    star q = false≢true (sym h ∙ (e ∙ ap (λ x. option_map_or (λ text. bytes_eq text (codes "*")) (as_str x) false) q))
+
+    by : (o : Option Name) → IsItemNameJson d o → ⊥
+    by None q = star q
+    by (Some n) q = g (Some n) q
+
+-- ---- default values
+
+pub values_fault : (d : Data) (e : ValueFault) → IsValueFault d e → Reads (λ (xs : List Val). (k : Kind) × IsPropertyJson d (Many k xs)) (Err (no_values e))
+values_fault d (ValueFormat required found) h = λ xs q. h.0 (Many q.0 xs) q.1
+values_fault d values.Memory h = tt
+
+is_list : Data → Bool
+is_list (array ds) = true
+is_list _ = false
+
+has_items : Items → Bool
+has_items no_items = false
+has_items (item d ds) = true
+
+items_of_array : Data → Items
+items_of_array (array ds) = ds
+items_of_array _ = no_items
+
+some_defaults : (ds : Items) (r : Result (List Val) NoType) → has_items ds ≡ true → Reads (λ (xs : List Val). (k : Kind) × IsPropertyJson (array ds) (Many k xs)) r → Reads (AreDefaultsJson (array ds)) r
+some_defaults ds (Ok []) h g = absurd (false≢true (sym (ap is_list g.1)))
+some_defaults ds (Ok (x ∷ xs)) h g = g
+some_defaults ds (Err no.Memory) h g = tt
+some_defaults ds (Err no.NoDefinition) h g = by
+  where
+    by : (xs : List Val) → AreDefaultsJson (array ds) xs → ⊥
+    by [] q = false≢true (sym (ap (λ x. has_items (items_of_array x)) q) ∙ h)
+    by (x ∷ xs) q = g (x ∷ xs) q
+
+same_items : (a b : Items) → Some a ≡ Some b → a ≡ b
+same_items a b h = ap (λ o. value o) h
+  where
+    value : Option Items → Items
+    value None = a
+    value (Some m) = m
+
+pub defaults_read : (d : Data) (vs : List Value) (r : Result (List Val) NoType) → as_array d ≡ Some (items_view vs) → 0 < length vs → Reads (λ (xs : List Val). (k : Kind) × IsPropertyJson d (Many k xs)) r → Reads (AreDefaultsJson d) r
+defaults_read null vs r e l g = absurd (none-some (items_view vs) e)
+defaults_read (boolean b) vs r e l g = absurd (none-some (items_view vs) e)
+defaults_read (number n) vs r e l g = absurd (none-some (items_view vs) e)
+defaults_read (string s) vs r e l g = absurd (none-some (items_view vs) e)
+defaults_read (object ms) vs r e l g = absurd (none-some (items_view vs) e)
+defaults_read (array ds) vs r e l g = some_defaults ds r (ap has_items (same_items ds (items_view vs) e) ∙ some vs l) g
+  where
+    some : (vs : List Value) → 0 < length vs → has_items (items_view vs) ≡ true
+    some [] l = grind arith
+    some (v ∷ vs) l = refl

@@ -10,6 +10,8 @@ use Rattle.jr_path.specs.declared.fault.PathFault.TheVariants as fault
 use Rattle.jr_path.specs.declared.name.Name.{Name}
 use Rattle.jr_value.specs.Json.{kind_text}
 use Rattle.jr_value.specs.Reading.{IsPropertyJson}
+use Rattle.jr_value.specs.declared.fault.ValueFault.{ValueFault}
+use Rattle.jr_value.specs.declared.fault.ValueFault.TheVariants as values
 use Rattle.jr_value.specs.declared.value.Kind.{Kind}
 use Rattle.jr_value.specs.declared.value.Value.{Value}
 use Rattle.jr_value.specs.declared.value.Property.TheVariants.{Many}
@@ -150,3 +152,8 @@ Reads IsRead (Err no.Memory) = Unit {0}
 abbrev pub refused : PathFault → NoType
 refused fault.Memory = no.Memory
 refused _ = no.NoDefinition
+
+-- why no type is read where its default values aren't
+abbrev pub no_values : ValueFault → NoType
+no_values values.Memory = no.Memory
+no_values _ = no.NoDefinition

@@ -2,14 +2,15 @@
 ghost use Rattle.std.specs.Prelude.{◌≡◌, ◌∷◌, [], None, codes, false, true, IfOk, map};
 ghost use Rattle.std.specs.List.{list_any};
 ghost use Rattle.std.specs.Str.{bytes_eq};
-ghost use Rattle.serde_json.specs.Find.{get};
+ghost use Rattle.std.specs.Option.{option_map_or};
+ghost use Rattle.serde_json.specs.Find.{as_str, get};
 ghost use Rattle.serde_json.specs.View.{items_view, members_view, view};
 ghost use Rattle.jr_path.specs.Grammar.{IsName};
 ghost use Rattle.jr_value.specs.Reading.{IsPropertyJson};
 ghost use Rattle.jr_value.specs.declared.value.Kind.{Kind};
 ghost use Rattle.jr_value.specs.declared.value.Property.TheVariants.{Many};
 ghost use Rattle.jr_items.specs.Names.{base_type};
-ghost use Rattle.jr_types.specs.Reading.{AreDefaultsJson, AreRead, IsChildJson, IsFlagJson, IsItemNameJson, IsKindJson, IsListJson, IsNameJson, IsOpvJson, IsOr, IsPropJson, IsSomeNameJson, IsTextJson, IsThere, IsTypeJson, Reads, have_keys, is_object_of, opv_text, refused};
+ghost use Rattle.jr_types.specs.Reading.{AreDefaultsJson, AreRead, IsChildJson, IsFlagJson, IsItemNameJson, IsKindJson, IsListJson, IsNameJson, IsOpvJson, IsOr, IsPropJson, IsSomeNameJson, IsTextJson, IsThere, IsTypeJson, Reads, have_keys, is_object_of, no_values, opv_text, refused};
 ghost use Rattle.jr_types.specs.declared.OnParentVersion.TheVariants.{Copy};
 ghost use Rattle.jr_types.specs.declared.reading.NoType.TheVariants.{Memory};
 
@@ -383,8 +384,16 @@ fn some_values(alloc: Global, json: &Json) -> Result<List<Value>, NoType>
     match Property::from_json(alloc, json) {
         Ok(Property::Many(_, values)) => Ok(values),
         Ok(Property::Single(_)) => Err(NoType::NoDefinition),
-        Err(ValueFault::Memory) => Err(NoType::Memory),
-        Err(_) => Err(NoType::NoDefinition),
+        Err(fault) => Err(no_values(fault)),
+    }
+}
+
+fn no_values(fault: ValueFault) -> NoType
+    ensures { result ≡ no_values fault }
+{
+    match fault {
+        ValueFault::Memory => NoType::Memory,
+        _ => NoType::NoDefinition,
     }
 }
 
@@ -437,9 +446,18 @@ fn item_name(alloc: Global, json: &Json) -> Result<Option<Name>, NoType>
 fn item_name_in(alloc: Global, json: &Json) -> Result<Option<Name>, NoType>
     ensures { Reads (IsItemNameJson (view json.now)) result }
 {
+    if is_star(json) {
+        return Ok(None);
+    }
+    some_name(alloc, json)
+}
+
+fn is_star(json: &Json) -> bool
+    ensures { result ≡ option_map_or (λ text. bytes_eq text (codes "*")) (as_str (view json.now)) false }
+{
     match json.as_str() {
-        Some("*") => Ok(None),
-        _ => some_name(alloc, json),
+        Some(text) => text == "*",
+        None => false,
     }
 }
 
