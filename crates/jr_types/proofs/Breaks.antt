@@ -269,9 +269,12 @@ module _ (rule_of : Name → Option ℕ) where
 
       chosen : (b : Break) → IsFirstAmong ns (Some b) → (x : ℕ) → rule_of n ≡ Some x → (c : Bool) → is_lt (break_cmp (record { rule = x; item = n }) b) ≡ c
           → IsFirstAmong (ns ++ n ∷ []) (cond c (Some (record { rule = x; item = n })) (Some b))
-      chosen b h x e true l = (e, λ m rule a k. or_last _ m n ns a
-          (λ i. behind (record { rule = rule; item = m }) (is_lt (break_cmp (record { rule = rule; item = m }) (record { rule = x; item = n }))) refl (h.1 m rule i k))
-          (λ s. own x e m rule s k (record { rule = x; item = n }) (not_before_itself (record { rule = x; item = n }))))
+      chosen b h x e true l = (
+        e,
+        λ m rule a k. or_last _ m n ns a
+            (λ i. behind (record { rule = rule; item = m }) (is_lt (break_cmp (record { rule = rule; item = m }) (record { rule = x; item = n }))) refl (h.1 m rule i k))
+            (λ s. own x e m rule s k (record { rule = x; item = n }) (not_before_itself (record { rule = x; item = n }))),
+      )
         where
           behind : (a : Break) (c : Bool) → is_lt (break_cmp a (record { rule = x; item = n })) ≡ c → is_lt (break_cmp a b) ≡ false → c ≡ false
           behind a true q f = absurd (false≢true (sym f ∙ before_both a (record { rule = x; item = n }) b q l))
@@ -281,8 +284,11 @@ module _ (rule_of : Name → Option ℕ) where
       by : (o : Option Break) → IsFirstAmong ns o → (r : Option ℕ) → rule_of n ≡ r → IsFirstAmong (ns ++ n ∷ []) (earlier o r n)
       by None h None e = λ m a. or_last _ m n ns a (h m) (λ s. ap rule_of s ∙ e)
       by (Some b) h None e = (h.0, λ m rule a k. or_last _ m n ns a (λ i. h.1 m rule i k) (λ s. absurd (none-some rule (sym e ∙ (ap rule_of (sym s) ∙ k)))))
-      by None h (Some x) e = (e, λ m rule a k. or_last _ m n ns a (λ i. absurd (none-some rule (sym (h m i) ∙ k)))
-          (λ s. own x e m rule s k (record { rule = x; item = n }) (not_before_itself (record { rule = x; item = n }))))
+      by None h (Some x) e = (
+        e,
+        λ m rule a k. or_last _ m n ns a (λ i. absurd (none-some rule (sym (h m i) ∙ k)))
+            (λ s. own x e m rule s k (record { rule = x; item = n }) (not_before_itself (record { rule = x; item = n }))),
+      )
       by (Some b) h (Some x) e = chosen b h x e (is_lt (break_cmp (record { rule = x; item = n }) b)) refl
 
   among_all : (done ns : List Name) (o : Option Break) → IsFirstAmong done o → IsFirstAmong (done ++ ns) (fold (λ b n. earlier b (rule_of n) n) o ns)
@@ -426,7 +432,7 @@ module _ (types : List TypeDef) (t : Nodes) (p : Path) where
       (list_any-append (λ k. k == b.rule) of_properties of_children ∙ ap (λ c. c || list_any (λ k. k == b.rule) of_children) known)
       (ap (λ xs. first_of (own_at b.rule ++ xs)) (no_child_before b.rule less) ∙ (ap first_of (append-nil (own_at b.rule)) ∙ item_first own 1 of_properties own_within b h (primary_type ∷ mixin_types ∷ map (λ e. e.0) (properties_at t p) ++ mandatory_props ds) (λ n e. property_apart types t p n e)))
       (λ k l. let m : k < 7 = omega (arith, l, less) in
-          ap (λ xs. xs ++ below_at k) (none_left (λ n. list_any (λ r. r == k) (own n)) (property_names types t p) (none_before own 1 of_properties own_within b h k l)) ∙ no_child_before k m)
+      ap (λ xs. xs ++ below_at k) (none_left (λ n. list_any (λ r. r == k) (own n)) (property_names types t p) (none_before own 1 of_properties own_within b h k l)) ∙ no_child_before k m)
 
   pub first_of_children : (b : Break) → IsFirstBreak (λ n. first_of (own n)) None → IsFirstBreak (λ n. first_of (below n)) (Some b) → first_of (violations_at types t p) ≡ Some (told b.rule b.item)
   first_of_children b g h =
@@ -435,7 +441,7 @@ module _ (types : List TypeDef) (t : Nodes) (p : Path) where
       (list_any-append (λ k. k == b.rule) of_properties of_children ∙ or_right (list_any (λ k. k == b.rule) of_properties) _ known)
       (ap (λ xs. first_of (xs ++ below_at b.rule)) (no_rules own g b.rule (property_names types t p)) ∙ item_first below 7 of_children below_within b h (children_of t p ++ mandatory_children ds) (λ n e. child_apart types t p n e))
       (λ k l. ap (λ xs. xs ++ below_at k) (no_rules own g k (property_names types t p))
-          ∙ none_left (λ n. list_any (λ r. r == k) (below n)) (child_names types t p) (none_before below 7 of_children below_within b h k l))
+      ∙ none_left (λ n. list_any (λ r. r == k) (below n)) (child_names types t p) (none_before below 7 of_children below_within b h k l))
     where
       or_right : (a b : Bool) → b ≡ true → (a || b) ≡ true
       or_right true b h = refl

@@ -83,7 +83,7 @@ fitting_rule counting fit x r some f h = h
     ∙ (ap (λ b. cond b (Some 4) (cond (list_any (λ d. admits d.now x) fit) None (Some 5))) (empty_seen (λ d. d.now) fit ∙ ap is_empty f)
     ∙ (ap (λ b. cond (is_empty (filter (λ d. fits d x) (map (λ d. d.now) counting))) (Some 4) (cond b None (Some 5))) (any_seen (λ d. admits d x) (λ d. d.now) fit ∙ ap (list_any (λ d. admits d x)) f)
     ∙ ap (λ b. cond b (Some 3) (cond (is_empty (filter (λ d. fits d x) (map (λ d. d.now) counting))) (Some 4) (cond (list_any (λ d. admits d x) (filter (λ d. fits d x) (map (λ d. d.now) counting))) None (Some 5))))
-        (sym (sym (empty_seen (λ d. d.now) counting) ∙ some))))
+    (sym (sym (empty_seen (λ d. d.now) counting) ∙ some))))
 
 pub none_rule : (counting : List (Bor PropDef)) (x : Property) → is_empty counting ≡ true → Some 3 ≡ definition_rule (map (λ d. d.now) counting) x
 none_rule counting x h = ap (λ b. cond b (Some 3) (cond (is_empty (filter (λ d. fits d x) (map (λ d. d.now) counting))) (Some 4) (cond (list_any (λ d. admits d x) (filter (λ d. fits d x) (map (λ d. d.now) counting))) None (Some 5))))

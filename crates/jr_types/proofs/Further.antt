@@ -37,7 +37,7 @@ given_more g xs i d init old new l so_far put =
     let x = slice_index_or xs i d in
     let front = map (λ b. b.now) (take i xs) in
     let more : filter_map g (map (λ b. b.now) (take (i + 1) xs)) ≡ filter_map g front ++ cons_option (g x.now) [] =
-        ap (λ ys. filter_map g (map (λ b. b.now) ys)) (take_more xs i d l) ∙ (ap (filter_map g) (seen_behind (λ b. b.now) (take i xs) x) ∙ filter_map-append g front (x.now ∷ [])) in
+    ap (λ ys. filter_map g (map (λ b. b.now) ys)) (take_more xs i d l) ∙ (ap (filter_map g) (seen_behind (λ b. b.now) (take i xs) x) ∙ filter_map-append g front (x.now ∷ [])) in
     put ∙ (ap (λ ys. ys ++ cons_option (g x.now) []) so_far ∙ (append_assoc init (filter_map g front) (cons_option (g x.now) []) ∙ ap (λ ys. init ++ ys) (sym more)))
 
 module _ (types : List TypeDef) where

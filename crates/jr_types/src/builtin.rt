@@ -89,8 +89,33 @@ fn base(alloc: Global) -> Result<TypeDef, AllocError>
 {
     let supertypes = List::new(alloc);
     let mut props = List::new(alloc);
-    add_prop(alloc, &mut props, Some("jcr:primaryType"), Some(Kind::Name), None, Flags { mandatory: true, autocreated: true, protected: true, opv: OnParentVersion::Compute, ..PLAIN })?;
-    add_prop(alloc, &mut props, Some("jcr:mixinTypes"), Some(Kind::Name), None, Flags { protected: true, multiple: true, opv: OnParentVersion::Compute, ..PLAIN })?;
+    add_prop(
+        alloc,
+        &mut props,
+        Some("jcr:primaryType"),
+        Some(Kind::Name),
+        None,
+        Flags {
+            mandatory: true,
+            autocreated: true,
+            protected: true,
+            opv: OnParentVersion::Compute,
+            ..PLAIN
+        },
+    )?;
+    add_prop(
+        alloc,
+        &mut props,
+        Some("jcr:mixinTypes"),
+        Some(Kind::Name),
+        None,
+        Flags {
+            protected: true,
+            multiple: true,
+            opv: OnParentVersion::Compute,
+            ..PLAIN
+        },
+    )?;
     let children = List::new(alloc);
     let primary_item = optional_name(alloc, None)?;
     Ok(TypeDef {
@@ -110,10 +135,30 @@ fn unstructured(alloc: Global) -> Result<TypeDef, AllocError>
 {
     let supertypes = List::new(alloc);
     let mut props = List::new(alloc);
-    add_prop(alloc, &mut props, None, None, None, Flags { multiple: true, ..PLAIN })?;
+    add_prop(
+        alloc,
+        &mut props,
+        None,
+        None,
+        None,
+        Flags {
+            multiple: true,
+            ..PLAIN
+        },
+    )?;
     add_prop(alloc, &mut props, None, None, None, PLAIN)?;
     let mut children = List::new(alloc);
-    add_child(alloc, &mut children, None, "nt:base", Some("nt:unstructured"), Flags { opv: OnParentVersion::Version, ..PLAIN })?;
+    add_child(
+        alloc,
+        &mut children,
+        None,
+        "nt:base",
+        Some("nt:unstructured"),
+        Flags {
+            opv: OnParentVersion::Version,
+            ..PLAIN
+        },
+    )?;
     let primary_item = optional_name(alloc, None)?;
     Ok(TypeDef {
         name: name_of(alloc, "nt:unstructured")?,
@@ -132,8 +177,30 @@ fn created(alloc: Global) -> Result<TypeDef, AllocError>
 {
     let supertypes = List::new(alloc);
     let mut props = List::new(alloc);
-    add_prop(alloc, &mut props, Some("jcr:created"), Some(Kind::Date), None, Flags { autocreated: true, protected: true, ..PLAIN })?;
-    add_prop(alloc, &mut props, Some("jcr:createdBy"), Some(Kind::Str), None, Flags { autocreated: true, protected: true, ..PLAIN })?;
+    add_prop(
+        alloc,
+        &mut props,
+        Some("jcr:created"),
+        Some(Kind::Date),
+        None,
+        Flags {
+            autocreated: true,
+            protected: true,
+            ..PLAIN
+        },
+    )?;
+    add_prop(
+        alloc,
+        &mut props,
+        Some("jcr:createdBy"),
+        Some(Kind::Str),
+        None,
+        Flags {
+            autocreated: true,
+            protected: true,
+            ..PLAIN
+        },
+    )?;
     let children = List::new(alloc);
     let primary_item = optional_name(alloc, None)?;
     Ok(TypeDef {
@@ -153,8 +220,28 @@ fn last_modified(alloc: Global) -> Result<TypeDef, AllocError>
 {
     let supertypes = List::new(alloc);
     let mut props = List::new(alloc);
-    add_prop(alloc, &mut props, Some("jcr:lastModified"), Some(Kind::Date), None, Flags { autocreated: true, ..PLAIN })?;
-    add_prop(alloc, &mut props, Some("jcr:lastModifiedBy"), Some(Kind::Str), None, Flags { autocreated: true, ..PLAIN })?;
+    add_prop(
+        alloc,
+        &mut props,
+        Some("jcr:lastModified"),
+        Some(Kind::Date),
+        None,
+        Flags {
+            autocreated: true,
+            ..PLAIN
+        },
+    )?;
+    add_prop(
+        alloc,
+        &mut props,
+        Some("jcr:lastModifiedBy"),
+        Some(Kind::Str),
+        None,
+        Flags {
+            autocreated: true,
+            ..PLAIN
+        },
+    )?;
     let children = List::new(alloc);
     let primary_item = optional_name(alloc, None)?;
     Ok(TypeDef {
@@ -174,8 +261,22 @@ fn mime_type(alloc: Global) -> Result<TypeDef, AllocError>
 {
     let supertypes = List::new(alloc);
     let mut props = List::new(alloc);
-    add_prop(alloc, &mut props, Some("jcr:mimeType"), Some(Kind::Str), None, PLAIN)?;
-    add_prop(alloc, &mut props, Some("jcr:encoding"), Some(Kind::Str), None, PLAIN)?;
+    add_prop(
+        alloc,
+        &mut props,
+        Some("jcr:mimeType"),
+        Some(Kind::Str),
+        None,
+        PLAIN,
+    )?;
+    add_prop(
+        alloc,
+        &mut props,
+        Some("jcr:encoding"),
+        Some(Kind::Str),
+        None,
+        PLAIN,
+    )?;
     let children = List::new(alloc);
     let primary_item = optional_name(alloc, None)?;
     Ok(TypeDef {
@@ -195,8 +296,22 @@ fn title(alloc: Global) -> Result<TypeDef, AllocError>
 {
     let supertypes = List::new(alloc);
     let mut props = List::new(alloc);
-    add_prop(alloc, &mut props, Some("jcr:title"), Some(Kind::Str), None, PLAIN)?;
-    add_prop(alloc, &mut props, Some("jcr:description"), Some(Kind::Str), None, PLAIN)?;
+    add_prop(
+        alloc,
+        &mut props,
+        Some("jcr:title"),
+        Some(Kind::Str),
+        None,
+        PLAIN,
+    )?;
+    add_prop(
+        alloc,
+        &mut props,
+        Some("jcr:description"),
+        Some(Kind::Str),
+        None,
+        PLAIN,
+    )?;
     let children = List::new(alloc);
     let primary_item = optional_name(alloc, None)?;
     Ok(TypeDef {
@@ -216,7 +331,20 @@ fn referenceable(alloc: Global) -> Result<TypeDef, AllocError>
 {
     let supertypes = List::new(alloc);
     let mut props = List::new(alloc);
-    add_prop(alloc, &mut props, Some("jcr:uuid"), Some(Kind::Str), None, Flags { mandatory: true, autocreated: true, protected: true, opv: OnParentVersion::Initialize, ..PLAIN })?;
+    add_prop(
+        alloc,
+        &mut props,
+        Some("jcr:uuid"),
+        Some(Kind::Str),
+        None,
+        Flags {
+            mandatory: true,
+            autocreated: true,
+            protected: true,
+            opv: OnParentVersion::Initialize,
+            ..PLAIN
+        },
+    )?;
     let children = List::new(alloc);
     let primary_item = optional_name(alloc, None)?;
     Ok(TypeDef {
@@ -236,8 +364,30 @@ fn lockable(alloc: Global) -> Result<TypeDef, AllocError>
 {
     let supertypes = List::new(alloc);
     let mut props = List::new(alloc);
-    add_prop(alloc, &mut props, Some("jcr:lockOwner"), Some(Kind::Str), None, Flags { protected: true, opv: OnParentVersion::Ignore, ..PLAIN })?;
-    add_prop(alloc, &mut props, Some("jcr:lockIsDeep"), Some(Kind::Boolean), None, Flags { protected: true, opv: OnParentVersion::Ignore, ..PLAIN })?;
+    add_prop(
+        alloc,
+        &mut props,
+        Some("jcr:lockOwner"),
+        Some(Kind::Str),
+        None,
+        Flags {
+            protected: true,
+            opv: OnParentVersion::Ignore,
+            ..PLAIN
+        },
+    )?;
+    add_prop(
+        alloc,
+        &mut props,
+        Some("jcr:lockIsDeep"),
+        Some(Kind::Boolean),
+        None,
+        Flags {
+            protected: true,
+            opv: OnParentVersion::Ignore,
+            ..PLAIN
+        },
+    )?;
     let children = List::new(alloc);
     let primary_item = optional_name(alloc, None)?;
     Ok(TypeDef {
@@ -257,7 +407,20 @@ fn simple_versionable(alloc: Global) -> Result<TypeDef, AllocError>
 {
     let supertypes = List::new(alloc);
     let mut props = List::new(alloc);
-    add_prop(alloc, &mut props, Some("jcr:isCheckedOut"), Some(Kind::Boolean), Some(true), Flags { mandatory: true, autocreated: true, protected: true, opv: OnParentVersion::Ignore, ..PLAIN })?;
+    add_prop(
+        alloc,
+        &mut props,
+        Some("jcr:isCheckedOut"),
+        Some(Kind::Boolean),
+        Some(true),
+        Flags {
+            mandatory: true,
+            autocreated: true,
+            protected: true,
+            opv: OnParentVersion::Ignore,
+            ..PLAIN
+        },
+    )?;
     let children = List::new(alloc);
     let primary_item = optional_name(alloc, None)?;
     Ok(TypeDef {
@@ -279,9 +442,46 @@ fn versionable(alloc: Global) -> Result<TypeDef, AllocError>
     supertypes.push(name_of(alloc, "mix:simpleVersionable")?)?;
     supertypes.push(name_of(alloc, "mix:referenceable")?)?;
     let mut props = List::new(alloc);
-    add_prop(alloc, &mut props, Some("jcr:versionHistory"), Some(Kind::Reference), None, Flags { mandatory: true, protected: true, opv: OnParentVersion::Ignore, ..PLAIN })?;
-    add_prop(alloc, &mut props, Some("jcr:baseVersion"), Some(Kind::Reference), None, Flags { mandatory: true, protected: true, opv: OnParentVersion::Ignore, ..PLAIN })?;
-    add_prop(alloc, &mut props, Some("jcr:predecessors"), Some(Kind::Reference), None, Flags { mandatory: true, protected: true, multiple: true, opv: OnParentVersion::Ignore, ..PLAIN })?;
+    add_prop(
+        alloc,
+        &mut props,
+        Some("jcr:versionHistory"),
+        Some(Kind::Reference),
+        None,
+        Flags {
+            mandatory: true,
+            protected: true,
+            opv: OnParentVersion::Ignore,
+            ..PLAIN
+        },
+    )?;
+    add_prop(
+        alloc,
+        &mut props,
+        Some("jcr:baseVersion"),
+        Some(Kind::Reference),
+        None,
+        Flags {
+            mandatory: true,
+            protected: true,
+            opv: OnParentVersion::Ignore,
+            ..PLAIN
+        },
+    )?;
+    add_prop(
+        alloc,
+        &mut props,
+        Some("jcr:predecessors"),
+        Some(Kind::Reference),
+        None,
+        Flags {
+            mandatory: true,
+            protected: true,
+            multiple: true,
+            opv: OnParentVersion::Ignore,
+            ..PLAIN
+        },
+    )?;
     let children = List::new(alloc);
     let primary_item = optional_name(alloc, None)?;
     Ok(TypeDef {
@@ -323,7 +523,17 @@ fn folder(alloc: Global) -> Result<TypeDef, AllocError>
     supertypes.push(name_of(alloc, "nt:hierarchyNode")?)?;
     let props = List::new(alloc);
     let mut children = List::new(alloc);
-    add_child(alloc, &mut children, None, "nt:hierarchyNode", None, Flags { opv: OnParentVersion::Version, ..PLAIN })?;
+    add_child(
+        alloc,
+        &mut children,
+        None,
+        "nt:hierarchyNode",
+        None,
+        Flags {
+            opv: OnParentVersion::Version,
+            ..PLAIN
+        },
+    )?;
     let primary_item = optional_name(alloc, None)?;
     Ok(TypeDef {
         name: name_of(alloc, "nt:folder")?,
@@ -344,7 +554,17 @@ fn file(alloc: Global) -> Result<TypeDef, AllocError>
     supertypes.push(name_of(alloc, "nt:hierarchyNode")?)?;
     let props = List::new(alloc);
     let mut children = List::new(alloc);
-    add_child(alloc, &mut children, Some("jcr:content"), "nt:base", None, Flags { mandatory: true, ..PLAIN })?;
+    add_child(
+        alloc,
+        &mut children,
+        Some("jcr:content"),
+        "nt:base",
+        None,
+        Flags {
+            mandatory: true,
+            ..PLAIN
+        },
+    )?;
     let primary_item = optional_name(alloc, Some("jcr:content"))?;
     Ok(TypeDef {
         name: name_of(alloc, "nt:file")?,
@@ -365,7 +585,17 @@ fn resource(alloc: Global) -> Result<TypeDef, AllocError>
     supertypes.push(name_of(alloc, "mix:mimeType")?)?;
     supertypes.push(name_of(alloc, "mix:lastModified")?)?;
     let mut props = List::new(alloc);
-    add_prop(alloc, &mut props, Some("jcr:data"), Some(Kind::Binary), None, Flags { mandatory: true, ..PLAIN })?;
+    add_prop(
+        alloc,
+        &mut props,
+        Some("jcr:data"),
+        Some(Kind::Binary),
+        None,
+        Flags {
+            mandatory: true,
+            ..PLAIN
+        },
+    )?;
     let children = List::new(alloc);
     let primary_item = optional_name(alloc, Some("jcr:data"))?;
     Ok(TypeDef {
@@ -385,13 +615,75 @@ fn frozen_node(alloc: Global) -> Result<TypeDef, AllocError>
 {
     let supertypes = List::new(alloc);
     let mut props = List::new(alloc);
-    add_prop(alloc, &mut props, Some("jcr:frozenPrimaryType"), Some(Kind::Name), None, Flags { protected: true, ..PLAIN })?;
-    add_prop(alloc, &mut props, Some("jcr:frozenMixinTypes"), Some(Kind::Name), None, Flags { protected: true, multiple: true, ..PLAIN })?;
-    add_prop(alloc, &mut props, Some("jcr:frozenUuid"), Some(Kind::Str), None, Flags { protected: true, ..PLAIN })?;
-    add_prop(alloc, &mut props, None, None, None, Flags { protected: true, multiple: true, ..PLAIN })?;
-    add_prop(alloc, &mut props, None, None, None, Flags { protected: true, ..PLAIN })?;
+    add_prop(
+        alloc,
+        &mut props,
+        Some("jcr:frozenPrimaryType"),
+        Some(Kind::Name),
+        None,
+        Flags {
+            protected: true,
+            ..PLAIN
+        },
+    )?;
+    add_prop(
+        alloc,
+        &mut props,
+        Some("jcr:frozenMixinTypes"),
+        Some(Kind::Name),
+        None,
+        Flags {
+            protected: true,
+            multiple: true,
+            ..PLAIN
+        },
+    )?;
+    add_prop(
+        alloc,
+        &mut props,
+        Some("jcr:frozenUuid"),
+        Some(Kind::Str),
+        None,
+        Flags {
+            protected: true,
+            ..PLAIN
+        },
+    )?;
+    add_prop(
+        alloc,
+        &mut props,
+        None,
+        None,
+        None,
+        Flags {
+            protected: true,
+            multiple: true,
+            ..PLAIN
+        },
+    )?;
+    add_prop(
+        alloc,
+        &mut props,
+        None,
+        None,
+        None,
+        Flags {
+            protected: true,
+            ..PLAIN
+        },
+    )?;
     let mut children = List::new(alloc);
-    add_child(alloc, &mut children, None, "nt:frozenNode", None, Flags { protected: true, ..PLAIN })?;
+    add_child(
+        alloc,
+        &mut children,
+        None,
+        "nt:frozenNode",
+        None,
+        Flags {
+            protected: true,
+            ..PLAIN
+        },
+    )?;
     let primary_item = optional_name(alloc, None)?;
     Ok(TypeDef {
         name: name_of(alloc, "nt:frozenNode")?,
@@ -411,11 +703,53 @@ fn version(alloc: Global) -> Result<TypeDef, AllocError>
     let mut supertypes = List::new(alloc);
     supertypes.push(name_of(alloc, "mix:referenceable")?)?;
     let mut props = List::new(alloc);
-    add_prop(alloc, &mut props, Some("jcr:created"), Some(Kind::Date), None, Flags { protected: true, ..PLAIN })?;
-    add_prop(alloc, &mut props, Some("jcr:predecessors"), Some(Kind::Reference), None, Flags { protected: true, multiple: true, ..PLAIN })?;
-    add_prop(alloc, &mut props, Some("jcr:successors"), Some(Kind::Reference), None, Flags { protected: true, multiple: true, ..PLAIN })?;
+    add_prop(
+        alloc,
+        &mut props,
+        Some("jcr:created"),
+        Some(Kind::Date),
+        None,
+        Flags {
+            protected: true,
+            ..PLAIN
+        },
+    )?;
+    add_prop(
+        alloc,
+        &mut props,
+        Some("jcr:predecessors"),
+        Some(Kind::Reference),
+        None,
+        Flags {
+            protected: true,
+            multiple: true,
+            ..PLAIN
+        },
+    )?;
+    add_prop(
+        alloc,
+        &mut props,
+        Some("jcr:successors"),
+        Some(Kind::Reference),
+        None,
+        Flags {
+            protected: true,
+            multiple: true,
+            ..PLAIN
+        },
+    )?;
     let mut children = List::new(alloc);
-    add_child(alloc, &mut children, Some("jcr:frozenNode"), "nt:frozenNode", None, Flags { protected: true, ..PLAIN })?;
+    add_child(
+        alloc,
+        &mut children,
+        Some("jcr:frozenNode"),
+        "nt:frozenNode",
+        None,
+        Flags {
+            protected: true,
+            ..PLAIN
+        },
+    )?;
     let primary_item = optional_name(alloc, None)?;
     Ok(TypeDef {
         name: name_of(alloc, "nt:version")?,
@@ -434,7 +768,17 @@ fn version_labels(alloc: Global) -> Result<TypeDef, AllocError>
 {
     let supertypes = List::new(alloc);
     let mut props = List::new(alloc);
-    add_prop(alloc, &mut props, None, Some(Kind::Reference), None, Flags { protected: true, ..PLAIN })?;
+    add_prop(
+        alloc,
+        &mut props,
+        None,
+        Some(Kind::Reference),
+        None,
+        Flags {
+            protected: true,
+            ..PLAIN
+        },
+    )?;
     let children = List::new(alloc);
     let primary_item = optional_name(alloc, None)?;
     Ok(TypeDef {
@@ -455,11 +799,53 @@ fn version_history(alloc: Global) -> Result<TypeDef, AllocError>
     let mut supertypes = List::new(alloc);
     supertypes.push(name_of(alloc, "mix:referenceable")?)?;
     let mut props = List::new(alloc);
-    add_prop(alloc, &mut props, Some("jcr:versionableUuid"), Some(Kind::Str), None, Flags { protected: true, ..PLAIN })?;
+    add_prop(
+        alloc,
+        &mut props,
+        Some("jcr:versionableUuid"),
+        Some(Kind::Str),
+        None,
+        Flags {
+            protected: true,
+            ..PLAIN
+        },
+    )?;
     let mut children = List::new(alloc);
-    add_child(alloc, &mut children, Some("jcr:rootVersion"), "nt:version", None, Flags { mandatory: true, protected: true, ..PLAIN })?;
-    add_child(alloc, &mut children, Some("jcr:versionLabels"), "nt:versionLabels", None, Flags { mandatory: true, protected: true, ..PLAIN })?;
-    add_child(alloc, &mut children, None, "nt:version", None, Flags { protected: true, ..PLAIN })?;
+    add_child(
+        alloc,
+        &mut children,
+        Some("jcr:rootVersion"),
+        "nt:version",
+        None,
+        Flags {
+            mandatory: true,
+            protected: true,
+            ..PLAIN
+        },
+    )?;
+    add_child(
+        alloc,
+        &mut children,
+        Some("jcr:versionLabels"),
+        "nt:versionLabels",
+        None,
+        Flags {
+            mandatory: true,
+            protected: true,
+            ..PLAIN
+        },
+    )?;
+    add_child(
+        alloc,
+        &mut children,
+        None,
+        "nt:version",
+        None,
+        Flags {
+            protected: true,
+            ..PLAIN
+        },
+    )?;
     let primary_item = optional_name(alloc, None)?;
     Ok(TypeDef {
         name: name_of(alloc, "nt:versionHistory")?,
@@ -479,7 +865,17 @@ fn version_storage(alloc: Global) -> Result<TypeDef, AllocError>
     let supertypes = List::new(alloc);
     let props = List::new(alloc);
     let mut children = List::new(alloc);
-    add_child(alloc, &mut children, None, "nt:versionHistory", None, Flags { protected: true, ..PLAIN })?;
+    add_child(
+        alloc,
+        &mut children,
+        None,
+        "nt:versionHistory",
+        None,
+        Flags {
+            protected: true,
+            ..PLAIN
+        },
+    )?;
     let primary_item = optional_name(alloc, None)?;
     Ok(TypeDef {
         name: name_of(alloc, "rep:versionStorage")?,
@@ -499,7 +895,18 @@ fn system(alloc: Global) -> Result<TypeDef, AllocError>
     let supertypes = List::new(alloc);
     let props = List::new(alloc);
     let mut children = List::new(alloc);
-    add_child(alloc, &mut children, Some("jcr:versionStorage"), "rep:versionStorage", None, Flags { mandatory: true, protected: true, ..PLAIN })?;
+    add_child(
+        alloc,
+        &mut children,
+        Some("jcr:versionStorage"),
+        "rep:versionStorage",
+        None,
+        Flags {
+            mandatory: true,
+            protected: true,
+            ..PLAIN
+        },
+    )?;
     let primary_item = optional_name(alloc, None)?;
     Ok(TypeDef {
         name: name_of(alloc, "rep:system")?,

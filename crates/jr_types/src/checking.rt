@@ -76,11 +76,7 @@ impl Registry {
     }
 
     // What a node breaks first by its properties.
-    fn property_break(
-        &self,
-        node: &Node,
-        types: &[&TypeDef],
-    ) -> Result<Option<Break>, AllocError>
+    fn property_break(&self, node: &Node, types: &[&TypeDef]) -> Result<Option<Break>, AllocError>
         requires { IsAlike (map (λ d. d.now) types.now) (types_of self.now (types_said node.now)) }
         ensures { IfOk result (IsFirstBreak (property_rule self.now node.now)) }
     {
@@ -513,10 +509,7 @@ fn props_named<'a>(
 }
 
 // The definitions of no name.
-fn residual_props<'a>(
-    alloc: Global,
-    props: &[&'a PropDef],
-) -> Result<Vec<&'a PropDef>, AllocError>
+fn residual_props<'a>(alloc: Global, props: &[&'a PropDef]) -> Result<Vec<&'a PropDef>, AllocError>
     ensures { IfOk result (λ residual. map (λ d. d.now) residual.items ≡ filter (λ d. is_none d.name) (map (λ d. d.now) props.now)) }
 {
     let mut residual = Vec::new(alloc);
@@ -778,11 +771,7 @@ pub struct Break {
 }
 
 // What is broken first: by rule, and then by item.
-fn earlier(
-    first: Option<Break>,
-    rule: Option<u8>,
-    name: &Name,
-) -> Result<Option<Break>, AllocError>
+fn earlier(first: Option<Break>, rule: Option<u8>, name: &Name) -> Result<Option<Break>, AllocError>
     ensures { IfOk result (λ broken. broken ≡ earlier first rule name.now) }
 {
     match rule {

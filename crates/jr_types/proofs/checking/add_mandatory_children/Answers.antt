@@ -11,10 +11,11 @@ loop-def-preserved c =
     let l : c.loop-def.def-index < length c.args.defs.now = search rules in
     let x = slice_index_or c.args.defs.now c.loop-def.def-index c.def-item.result in
     let put : map (λ n. n.now) c.match-wanted.names.items ≡ map (λ n. n.now) c.loop-def.names.items ++ cons_option (cond x.now.mandatory x.now.name None) [] =
-        elim c.match-wanted.branch [
-          in-Some+in_ok-push w ↦
-            let p : c.match-wanted.names.items ≡ c.loop-def.names.items ++ w.in-Some.name ∷ [] = search rules in
-            let s : Some w.in-Some.name.now ≡ cond x.now.mandatory x.now.name None = search rules in
-            pushed (λ n. n.now) c.loop-def.names.items c.match-wanted.names.items w.in-Some.name _ p s
-        | in_default w ↦ search rules ] in
+    elim c.match-wanted.branch [
+      | in-Some+in_ok-push w ↦
+          let p : c.match-wanted.names.items ≡ c.loop-def.names.items ++ w.in-Some.name ∷ [] = search rules in
+          let s : Some w.in-Some.name.now ≡ cond x.now.mandatory x.now.name None = search rules in
+          pushed (λ n. n.now) c.loop-def.names.items c.match-wanted.names.items w.in-Some.name _ p s
+      | in_default w ↦ search rules
+    ] in
     given_more (λ (d : ChildDef). cond d.mandatory d.name None) c.args.defs.now c.loop-def.def-index c.def-item.result _ _ _ l c.loop-def.invariant put

@@ -12,15 +12,16 @@ pub loop-value-preserved : goal.loop-value-preserved
 loop-value-preserved c =
     let l : c.loop-value.value-index < length c.args.values.now = search rules in
     let step : IsFurther c.args.self.now (map (λ d. d.now) c.loop-value.types.items) (cons_option (name_in (slice_index_or c.args.values.now c.loop-value.value-index c.value-item.result)) []) (map (λ d. d.now) c.match-name_in.types.items) =
-        elim c.match-name_in.branch [
-          in-Some+in_ok-add_line w ↦
-            let s : Some w.in-Some.name.now ≡ name_in (slice_index_or c.args.values.now c.loop-value.value-index c.value-item.result) = search rules in
-            let p : map (λ d. d.now) c.match-name_in.types.items ≡ map (λ d. d.now) w.add_line.new.types.items = search rules in
-            further_given c.args.self.now _ _ _ _ _ s p w.in_ok-add_line.ensures
-        | in_default w ↦
-            let s : None ≡ name_in (slice_index_or c.args.values.now c.loop-value.value-index c.value-item.result) = search rules in
-            let p : map (λ d. d.now) c.match-name_in.types.items ≡ map (λ d. d.now) c.loop-value.types.items = search rules in
-            further_not c.args.self.now _ _ _ s p ] in
+    elim c.match-name_in.branch [
+      | in-Some+in_ok-add_line w ↦
+          let s : Some w.in-Some.name.now ≡ name_in (slice_index_or c.args.values.now c.loop-value.value-index c.value-item.result) = search rules in
+          let p : map (λ d. d.now) c.match-name_in.types.items ≡ map (λ d. d.now) w.add_line.new.types.items = search rules in
+          further_given c.args.self.now _ _ _ _ _ s p w.in_ok-add_line.ensures
+      | in_default w ↦
+          let s : None ≡ name_in (slice_index_or c.args.values.now c.loop-value.value-index c.value-item.result) = search rules in
+          let p : map (λ d. d.now) c.match-name_in.types.items ≡ map (λ d. d.now) c.loop-value.types.items = search rules in
+          further_not c.args.self.now _ _ _ s p
+    ] in
     value_step c.args.self.now c.args.values.now c.loop-value.value-index c.value-item.result _ _ _ l c.loop-value.invariant step
 
 pub returns : goal.returns

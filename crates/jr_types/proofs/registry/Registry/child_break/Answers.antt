@@ -16,7 +16,7 @@ first_child-requires c = alike_by _ (flat_map (λ d. d.children) (map (λ d. d.n
 pub returns : goal.returns
 returns c =
     let a = alike_by (map (λ d. d.now) c.in_ok-defs.defs.items) (flat_map (λ d. d.children) (map (λ d. d.now) c.args.types.now)) (flat_map (λ d. d.children) (types_of c.args.self.now (node_types c.args.tree.now c.args.path.now)))
-            (flat-alike (λ d. d.children) (map (λ d. d.now) c.args.types.now) (types_of c.args.self.now (node_types c.args.tree.now c.args.path.now)) c.requires) c.in_ok-defs.ensures in
+    (flat-alike (λ d. d.children) (map (λ d. d.now) c.args.types.now) (types_of c.args.self.now (node_types c.args.tree.now c.args.path.now)) c.requires) c.in_ok-defs.ensures in
     let k : map (λ n. n.now) c.deref-4.result.now ≡ children_of c.args.tree.now c.args.path.now ++ filter_map (λ (d : ChildDef). cond d.mandatory d.name None) (map (λ d. d.now) c.in_ok-defs.defs.items) = search rules in
     if_ok (λ b. b ≡ first_break (child_rule c.args.self.now c.args.tree.now c.args.path.now) (map (λ n. n.now) c.deref-4.result.now)) (IsFirstBreak (child_rule c.args.self.now c.args.tree.now c.args.path.now)) c.first_child.result
     (λ b e. first_child c.args.self.now c.args.tree.now c.args.path.now (map (λ d. d.now) c.in_ok-defs.defs.items) (map (λ n. n.now) c.deref-4.result.now) b a e k) c.first_child.ensures

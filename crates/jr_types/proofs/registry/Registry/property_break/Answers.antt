@@ -16,7 +16,7 @@ first_property-requires c = alike_by _ (flat_map props_of (map (λ d. d.now) c.a
 pub returns : goal.returns
 returns c =
     let a = alike_by (map (λ d. d.now) c.in_ok-props.props.items) (flat_map props_of (map (λ d. d.now) c.args.types.now)) (flat_map props_of (types_of c.args.self.now (types_said c.args.node.now)))
-            (flat-alike props_of (map (λ d. d.now) c.args.types.now) (types_of c.args.self.now (types_said c.args.node.now)) c.requires) c.in_ok-props.ensures in
+    (flat-alike props_of (map (λ d. d.now) c.args.types.now) (types_of c.args.self.now (types_said c.args.node.now)) c.requires) c.in_ok-props.ensures in
     let k : map (λ n. n.now) c.deref-3.result.now ≡ primary_type ∷ mixin_types ∷ keys_of c.args.node.now.props ++ filter_map (λ (d : PropDef). cond d.mandatory d.name None) (map (λ d. d.now) c.in_ok-props.props.items) = search rules in
     if_ok (λ b. b ≡ first_break (property_rule c.args.self.now c.args.node.now) (map (λ n. n.now) c.deref-3.result.now)) (IsFirstBreak (property_rule c.args.self.now c.args.node.now)) c.first_property.result
     (λ b e. first_property c.args.self.now c.args.node.now (map (λ d. d.now) c.in_ok-props.props.items) (map (λ n. n.now) c.deref-3.result.now) b a e k) c.first_property.ensures

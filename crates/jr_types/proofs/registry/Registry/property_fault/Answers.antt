@@ -15,9 +15,9 @@ returns-in_ok-counting_props-in-Some c =
     let r : c.has_bad_primary.result ≡ false = search rules in
     let s : c.has_bad_mixins.result ≡ false = search rules in
     let p : bad_primary c.args.self.now c.args.node.now c.args.name.now ≡ false =
-        sym (c.has_bad_primary.ensures ∙ ap (λ o. same_name c.args.name.now primary_type && not (is_primary_type c.args.self.now o)) c.get-property.ensures) ∙ r in
+    sym (c.has_bad_primary.ensures ∙ ap (λ o. same_name c.args.name.now primary_type && not (is_primary_type c.args.self.now o)) c.get-property.ensures) ∙ r in
     let m : bad_mixins c.args.self.now c.args.node.now c.args.name.now ≡ false =
-        sym (c.has_bad_mixins.ensures ∙ ap (λ o. same_name c.args.name.now mixin_types && not (are_mixins c.args.self.now o)) c.get-property.ensures) ∙ s in
+    sym (c.has_bad_mixins.ensures ∙ ap (λ o. same_name c.args.name.now mixin_types && not (are_mixins c.args.self.now o)) c.get-property.ensures) ∙ s in
     let k : map (λ d. d.now) c.deref.result.now ≡ counting_props (map (λ d. d.now) c.args.props.now) c.args.name.now = search rules in
     if_ok (λ rule. rule ≡ definition_rule (map (λ d. d.now) c.deref.result.now) c.in-Some.property.now) (λ rule. rule ≡ property_rule c.args.self.now c.args.node.now c.args.name.now) c.definition_fault.result
     (λ rule e. e ∙ rules_there c.args.self.now c.args.node.now c.args.name.now c.in-Some.property.now _ _ x p m k c.requires) c.definition_fault.ensures
@@ -28,7 +28,7 @@ returns-in-None c =
     let r : c.has_bad_primary.result ≡ false = search rules in
     let s : c.has_bad_mixins.result ≡ false = search rules in
     let p : bad_primary c.args.self.now c.args.node.now c.args.name.now ≡ false =
-        sym (c.has_bad_primary.ensures ∙ ap (λ o. same_name c.args.name.now primary_type && not (is_primary_type c.args.self.now o)) c.get-property.ensures) ∙ r in
+    sym (c.has_bad_primary.ensures ∙ ap (λ o. same_name c.args.name.now primary_type && not (is_primary_type c.args.self.now o)) c.get-property.ensures) ∙ r in
     let m : bad_mixins c.args.self.now c.args.node.now c.args.name.now ≡ false =
-        sym (c.has_bad_mixins.ensures ∙ ap (λ o. same_name c.args.name.now mixin_types && not (are_mixins c.args.self.now o)) c.get-property.ensures) ∙ s in
+    sym (c.has_bad_mixins.ensures ∙ ap (λ o. same_name c.args.name.now mixin_types && not (are_mixins c.args.self.now o)) c.get-property.ensures) ∙ s in
     c.missing_property.ensures ∙ rule_six c.args.self.now c.args.node.now c.args.name.now c.args.props.now x p m c.requires
