@@ -152,15 +152,15 @@ pub values_fault : (d : Data) (e : ValueFault) → IsValueFault d e → Reads (�
 values_fault d (ValueFormat required found) h = λ xs q. h.0 (Many q.0 xs) q.1
 values_fault d values.Memory h = tt
 
-is_list : Data → Bool
+abbrev is_list : Data → Bool
 is_list (array ds) = true
 is_list _ = false
 
-has_items : Items → Bool
+abbrev has_items : Items → Bool
 has_items no_items = false
 has_items (item d ds) = true
 
-items_of_array : Data → Items
+abbrev items_of_array : Data → Items
 items_of_array (array ds) = ds
 items_of_array _ = no_items
 

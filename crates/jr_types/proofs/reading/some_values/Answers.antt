@@ -3,5 +3,5 @@ use Rattle.serde_json.specs.View.{view}
 use Rattle.jr_types.proofs.ByParts.{values_fault}
 use Rattle.jr_types.proofs.reading.some_values.Goals as goal
 
-pub returns-in-Err : goal.returns-in-Err
-returns-in-Err c = rw c.no_values.ensures (values_fault (view c.args.json.now) _ c.in-Err.ensures.fault)
+pub returns : goal.returns
+returns c = rw c.no_values.ensures (values_fault (view c.args.json.now) _ c.in-Err.ensures.fault)
