@@ -32,10 +32,10 @@ exactly Less h = absurd (false≢true h)
 exactly Equal h = refl
 exactly Greater h = absurd (false≢true h)
 
-same : (n m : Name) → same_name n m ≡ true → n ≡ m
+pub same : (n m : Name) → same_name n m ≡ true → n ≡ m
 same n m h = name_exact n m (exactly (name_cmp n m) h)
 
-itself : (n : Name) → same_name n n ≡ true
+pub itself : (n : Name) → same_name n n ≡ true
 itself n = ap is_eq (tied_itself nat_list_cmp_total n)
 
 -- ---- lists
@@ -79,11 +79,11 @@ found : {X : Type 0} (n : Name) (e : Name × X) (rest : List (Name × X)) → li
 found n e rest h true = refl
 found n e rest h false = h
 
-any-keys : {X : Type 0} (n : Name) (es : List (Name × X)) → list_any (same_name n) (keys_of es) ≡ is_some (lookup (is_at (name_cmp n)) es)
+pub any-keys : {X : Type 0} (n : Name) (es : List (Name × X)) → list_any (same_name n) (keys_of es) ≡ is_some (lookup (is_at (name_cmp n)) es)
 any-keys n [] = refl
 any-keys n (e ∷ es) = found n e es (any-keys n es) (same_name n e.0)
 
-keys-of-pairs : (ns : List Name) → keys_of (map (λ m. (m, true)) ns) ≡ ns
+pub keys-of-pairs : (ns : List Name) → keys_of (map (λ m. (m, true)) ns) ≡ ns
 keys-of-pairs [] = refl
 keys-of-pairs (n ∷ ns) = ap (λ ms. n ∷ ms) (keys-of-pairs ns)
 
@@ -92,7 +92,7 @@ in_order-step : (n m : Name) (ordered ns : List Name) → list_any (same_name n)
 in_order-step n m ordered ns h true = refl
 in_order-step n m ordered ns h false = sym (any-keys n (map (λ k. (k, true)) ordered)) ∙ (ap (list_any (same_name n)) (keys-of-pairs ordered) ∙ h)
 
-any-in_order : (n : Name) (ns : List Name) → list_any (same_name n) (in_name_order ns) ≡ list_any (same_name n) ns
+pub any-in_order : (n : Name) (ns : List Name) → list_any (same_name n) (in_name_order ns) ≡ list_any (same_name n) ns
 any-in_order n [] = refl
 any-in_order n (m ∷ ns) =
     any-keys n (insert_entry name_cmp (map (λ k. (k, true)) (in_name_order ns)) m true)
@@ -201,6 +201,35 @@ absent_property : (n : Name) (o : Option Node) → lookup (is_at (name_cmp n)) (
 absent_property n None h = refl
 absent_property n (Some node) h = h
 
+module _ (types : List TypeDef) (t : Nodes) (p : Path) where
+  abbrev its : NodeTypes
+  its = node_types t p
+
+  abbrev ds : List TypeDef
+  ds = types_of types its
+
+  -- no rule fails at a property that is neither there nor mandatory nor one of those that tell the types
+  pub property_apart : (n : Name) → list_any (same_name n) (property_names types t p) ≡ false → property_faults types its n (property_at t p n) ≡ []
+  property_apart n e =
+      let all = sym (any-in_order n (primary_type ∷ mixin_types ∷ map (λ x. x.0) (properties_at t p) ++ mandatory_props ds)) ∙ e in
+      let rest = or_second (same_name n mixin_types) _ (or_second (same_name n primary_type) _ all) in
+      let parts = sym (list_any-append (same_name n) (keys_of (properties_at t p)) (mandatory_props ds)) ∙ rest in
+      let absent : property_at t p n ≡ None = absent_property n (node_at t p) (not_there _ (sym (any-keys n (properties_at t p)) ∙ or_first _ _ parts)) in
+      ap (property_faults types its n) absent
+      ∙ absent_six (same_name n primary_type) (same_name n mixin_types) (list_any (same_name n) (mandatory_props ds)) _ _
+      (or_first (same_name n primary_type) _ all) (or_first (same_name n mixin_types) _ (or_second (same_name n primary_type) _ all)) (or_second _ _ parts)
+
+  -- no rule fails at a child that is neither there nor mandatory
+  pub child_apart : (n : Name) → list_any (same_name n) (child_names types t p) ≡ false → child_faults types its n (child_at t p n) ≡ []
+  child_apart n e =
+      let parts = sym (list_any-append (same_name n) (children_of t p) (mandatory_children ds)) ∙ (sym (any-in_order n (children_of t p ++ mandatory_children ds)) ∙ e) in
+      let gone = or_first (list_any (same_name n) (children_of t p)) _ parts in
+      ap (child_faults types its n) (absent (is_some (node_at t (child_path p n))) refl gone) ∙ absent_three (list_any (same_name n) (mandatory_children ds)) (or_second _ _ parts)
+    where
+      absent : (b : Bool) → is_some (node_at t (child_path p n)) ≡ b → list_any (same_name n) (children_of t p) ≡ false → cond b (Some (property_at t (child_path p n) primary_type)) None ≡ None
+      absent true h k = absurd (false≢true (sym k ∙ in_children p n t h))
+      absent false h k = refl
+
 module _ (types : List TypeDef) (t : Nodes) (p : Path) (none : violations_at types t p ≡ []) where
   at_rule : (k : ℕ) → In k (of_properties ++ of_children) → failing_at types t p k ≡ []
   at_rule k i = map_nil (λ n. record { node = p; rule = k; item = n }) (failing_at types t p k) (flat_nil (λ rule. map (λ n. violation rule n) (failing_at types t p rule)) (of_properties ++ of_children) none k i)
@@ -208,42 +237,22 @@ module _ (types : List TypeDef) (t : Nodes) (p : Path) (none : violations_at typ
       violation : ℕ → Name → Violation
       violation rule n = record { node = p; rule = rule; item = n }
 
-  abbrev its : NodeTypes
-  its = node_types t p
-
-  abbrev ds : List TypeDef
-  ds = types_of types its
-
-  property_ok : (n : Name) → property_faults types its n (property_at t p n) ≡ []
+  property_ok : (n : Name) → property_faults types (its types t p) n (property_at t p n) ≡ []
   property_ok n = by (list_any (same_name n) (property_names types t p)) refl
     where
-      by : (b : Bool) → list_any (same_name n) (property_names types t p) ≡ b → property_faults types its n (property_at t p n) ≡ []
+      by : (b : Bool) → list_any (same_name n) (property_names types t p) ≡ b → property_faults types (its types t p) n (property_at t p n) ≡ []
       by true e = six (same_name n primary_type && not (is_primary_type types (property_at t p n))) (same_name n mixin_types && not (are_mixins types (property_at t p n)))
-          (is_undefined ds n (property_at t p n)) (is_misfit ds n (property_at t p n)) (is_outside ds n (property_at t p n)) (is_missing (mandatory_props ds) n (property_at t p n))
-          (λ k i. filtered (λ m. list_any (λ r. r == k) (property_faults types its m (property_at t p m))) n (property_names types t p) (left_nil _ _ (at_rule k (in_more k of_properties of_children i))) e)
-      by false e =
-          let all = sym (any-in_order n (primary_type ∷ mixin_types ∷ map (λ x. x.0) (properties_at t p) ++ mandatory_props ds)) ∙ e in
-          let rest = or_second (same_name n mixin_types) _ (or_second (same_name n primary_type) _ all) in
-          let parts = sym (list_any-append (same_name n) (keys_of (properties_at t p)) (mandatory_props ds)) ∙ rest in
-          let absent : property_at t p n ≡ None = absent_property n (node_at t p) (not_there _ (sym (any-keys n (properties_at t p)) ∙ or_first _ _ parts)) in
-          ap (property_faults types its n) absent
-          ∙ absent_six (same_name n primary_type) (same_name n mixin_types) (list_any (same_name n) (mandatory_props ds)) _ _
-          (or_first (same_name n primary_type) _ all) (or_first (same_name n mixin_types) _ (or_second (same_name n primary_type) _ all)) (or_second _ _ parts)
+          (is_undefined (ds types t p) n (property_at t p n)) (is_misfit (ds types t p) n (property_at t p n)) (is_outside (ds types t p) n (property_at t p n)) (is_missing (mandatory_props (ds types t p)) n (property_at t p n))
+          (λ k i. filtered (λ m. list_any (λ r. r == k) (property_faults types (its types t p) m (property_at t p m))) n (property_names types t p) (left_nil _ _ (at_rule k (in_more k of_properties of_children i))) e)
+      by false e = property_apart types t p n e
 
-  child_ok : (n : Name) → child_faults types its n (child_at t p n) ≡ []
+  child_ok : (n : Name) → child_faults types (its types t p) n (child_at t p n) ≡ []
   child_ok n = by (list_any (same_name n) (child_names types t p)) refl
     where
-      by : (b : Bool) → list_any (same_name n) (child_names types t p) ≡ b → child_faults types its n (child_at t p n) ≡ []
-      by true e = three (is_stray ds n (child_at t p n)) (is_of_no_type types ds n (child_at t p n)) (is_missing (mandatory_children ds) n (child_at t p n))
-          (λ k i. filtered (λ m. list_any (λ r. r == k) (child_faults types its m (child_at t p m))) n (child_names types t p) (right_nil _ _ (at_rule k (in_rest k of_properties of_children i))) e)
-      by false e =
-          let parts = sym (list_any-append (same_name n) (children_of t p) (mandatory_children ds)) ∙ (sym (any-in_order n (children_of t p ++ mandatory_children ds)) ∙ e) in
-          let gone = or_first (list_any (same_name n) (children_of t p)) _ parts in
-          ap (child_faults types its n) (absent (is_some (node_at t (child_path p n))) refl gone) ∙ absent_three (list_any (same_name n) (mandatory_children ds)) (or_second _ _ parts)
-        where
-          absent : (b : Bool) → is_some (node_at t (child_path p n)) ≡ b → list_any (same_name n) (children_of t p) ≡ false → cond b (Some (property_at t (child_path p n) primary_type)) None ≡ None
-          absent true h k = absurd (false≢true (sym k ∙ in_children p n t h))
-          absent false h k = refl
+      by : (b : Bool) → list_any (same_name n) (child_names types t p) ≡ b → child_faults types (its types t p) n (child_at t p n) ≡ []
+      by true e = three (is_stray (ds types t p) n (child_at t p n)) (is_of_no_type types (ds types t p) n (child_at t p n)) (is_missing (mandatory_children (ds types t p)) n (child_at t p n))
+          (λ k i. filtered (λ m. list_any (λ r. r == k) (child_faults types (its types t p) m (child_at t p m))) n (child_names types t p) (right_nil _ _ (at_rule k (in_rest k of_properties of_children i))) e)
+      by false e = child_apart types t p n e
 
 at_node : (types : List TypeDef) (t all : Nodes) (p : Path) → flat_map (λ e. violations_at types all e.0) t ≡ [] → is_some (node_at t p) ≡ true → violations_at types all p ≡ []
 at_node types [] all p none h = absurd (false≢true h)

@@ -5,7 +5,9 @@ use Rattle.jr_path.specs.declared.name.Name.{Name}
 use Rattle.jr_value.specs.declared.value.Property.{Property}
 use Rattle.jr_types.specs.declared.OnParentVersion.{OnParentVersion}
 use Rattle.jr_types.specs.declared.TypeDef.{TypeDef}
-use Rattle.jr_types.specs.Types.{NodeTypes, types_of, prop_def, child_def}
+use Rattle.std.specs.List.{filter_map, list_any}
+use Rattle.jr_items.specs.Items.{first_of}
+use Rattle.jr_types.specs.Types.{NodeTypes, types_of, prop_def, child_def, child_defs}
 use Rattle.jr_types.specs.Rules.{Child}
 
 -- the attribute of a property of a node of these types passes the test; a property without a definition passes none
@@ -15,3 +17,11 @@ property_passes test types its n o = option_map_or (λ d. test d.opv) (option_an
 -- the attribute of a child of a node of these types passes the test; a child without a definition passes none
 abbrev pub child_passes : (OnParentVersion → Bool) → List TypeDef → NodeTypes → Name → Option Child → Bool
 child_passes test types its n o = option_map_or (λ d. test d.opv) (option_and_then (child_def types (types_of types its) n) o) false
+
+-- the type of a child of that name that is added without a type: the first that a definition gives that counts for it
+abbrev pub default_type : List TypeDef → Name → Option Name
+default_type ds n = first_of (filter_map (λ d. d.default_type) (child_defs ds n))
+
+-- the children of a node of these types are ordered
+abbrev pub are_ordered : List TypeDef → Bool
+are_ordered ds = list_any (λ d. d.orderable) ds

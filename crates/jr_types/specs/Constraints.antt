@@ -12,13 +12,7 @@ use Rattle.jr_value.specs.declared.value.Property.{Property}
 use Rattle.jr_value.specs.Values.{same_bytes}
 use Rattle.jr_items.specs.Items.{is_empty, values_in}
 use Rattle.jr_types.specs.declared.PropDef.{PropDef}
-
--- a range of whole numbers; an end without a number bounds nothing
-pub record Range : Type 0 where
-  pub low_open : Bool
-  pub low : Option ℤ
-  pub high : Option ℤ
-  pub high_open : Bool
+use Rattle.jr_types.specs.declared.constraints.Range.{Range}
 
 -- one or more decimal digits
 abbrev pub are_digits : List ℕ → Bool

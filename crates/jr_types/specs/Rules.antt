@@ -1,5 +1,5 @@
 -- The rules of node types. Each is a statement about one node's types and one named item, or its absence.
-use Rattle.std.specs.Prelude.{◌≡◌, ℕ, Bool, true, false, cond, not, ◌&&◌, ◌==◌, List, [], ◌∷◌, ◌++◌, Option, None, Some, is_some, is_none, IsTrue}
+use Rattle.std.specs.Prelude.{◌≡◌, ℕ, Bool, true, false, cond, not, ◌&&◌, ◌||◌, ◌==◌, List, [], ◌∷◌, ◌++◌, Option, None, Some, is_some, is_none, IsTrue}
 use Rattle.std.specs.List.{filter, filter_map, flat_map, list_any, list_all}
 use Rattle.std.specs.Option.{option_map_or}
 use Rattle.jr_path.specs.declared.name.Name.{Name}
@@ -111,13 +111,19 @@ pub record TypesOk (types : List TypeDef) (t : Nodes) : Type 0 where
   pub properties : (p : Path) (n : Name) → IsTrue (is_some (node_at t p)) → property_faults types (node_types t p) n (property_at t p n) ≡ []
   pub children : (p : Path) (n : Name) → IsTrue (is_some (node_at t p)) → child_faults types (node_types t p) n (child_at t p n) ≡ []
 
+-- the type defines a property or a child named as the order of children, which each orderable type has by itself
+abbrev pub defines_order : TypeDef → Bool
+defines_order d =
+    list_any (λ p. option_map_or (same_name child_order) p.name false) d.props
+    || list_any (λ c. option_map_or (same_name child_order) c.name false) d.children
+
 -- the first rule that a new definition breaks: its name is registered, a supertype is not, a mixin has a supertype that is none, a constraint is none,
--- it defines the order of children, which each orderable type has by itself
+-- it defines the order of children
 abbrev pub type_fault : List TypeDef → TypeDef → Option ℕ
 type_fault types d =
     cond (is_some (type_named types d.name)) (Some 1)
     (cond (list_any (λ n. is_none (type_named types n)) d.supertypes) (Some 2)
     (cond (d.mixin && list_any (λ n. not (is_mixin types n)) d.supertypes) (Some 3)
     (cond (list_any (λ p. list_any (λ c. not (is_constraint p.kind c)) p.constraints) d.props) (Some 4)
-    (cond (list_any (λ p. option_map_or (same_name child_order) p.name false) d.props) (Some 5)
+    (cond (defines_order d) (Some 5)
     None))))

@@ -49,9 +49,13 @@ pub record NodeTypes : Type 0 where
 abbrev pub types_of : List TypeDef → NodeTypes → List TypeDef
 types_of types its = flat_map (lineage types) (option_to_list (one_name its.primary) ++ many_names its.mixins)
 
--- what a type says of properties; an orderable one also tells the order of its children
+-- the order of children, as each orderable type tells it without saying so
+abbrev pub order_def : PropDef
+order_def = record { name = Some child_order; kind = Some kind.Name; mandatory = false; autocreated = false; protected = true; multiple = true; defaults = []; constraints = []; opv = opv.Copy }
+
+-- what a type says of properties: first the order of children, where it is orderable
 abbrev pub props_of : TypeDef → List PropDef
-props_of d = d.props ++ cond d.orderable (record { name = Some child_order; kind = Some kind.Name; mandatory = false; autocreated = false; protected = true; multiple = true; defaults = []; constraints = []; opv = opv.Copy } ∷ []) []
+props_of d = cond d.orderable (order_def ∷ []) [] ++ d.props
 
 -- the first of two lists that has elements
 abbrev pub either_of : {X : Type 0} → List X → List X → List X

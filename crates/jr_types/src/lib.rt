@@ -1,16 +1,27 @@
 //! Node types: what the properties and children of a node may be (JSR 283, 3.7 Node Types).
 #![tactic(auto)]
 
+mod adding;
+mod builtin;
+mod checking;
+mod constraints;
+mod copies;
+mod items;
 mod laws;
+mod reading;
+mod registry;
 
-use indexmap::IndexMap;
+pub use adding::TypeFault;
+pub use checking::TypesOut;
+pub use constraints::{Range, is_constraint};
 use jr_path::{List, Name, Text};
 use jr_value::{Kind, Value};
 pub use laws::{
     added_types_keep_the_rules, the_initial_tree_meets_the_built_in_types,
     what_lists_no_violation_meets_the_rules,
 };
-use std::marker::Model;
+pub use reading::{NoType, read_type};
+pub use registry::{Registered, Registry};
 
 /// What a check-in of the parent does with an item.
 #[derive(Clone, Copy, Debug, PartialEq, Eq, PartialOrd, Ord)]
@@ -61,20 +72,4 @@ pub struct TypeDef {
     pub primary_item: Option<Name>,
     pub props: List<PropDef>,
     pub children: List<ChildDef>,
-}
-
-/// The registered types by their names' texts, seen as the list of definitions in their order.
-#[derive(Drop)]
-pub struct Registry {
-    types: IndexMap<String, TypeDef>,
-}
-
-impl Model for Registry {
-    ghost use Rattle.std.specs.Prelude.{List};
-    ghost use Rattle.std.specs.Map.{values_of};
-    ghost use Rattle.jr_types.specs.declared.TypeDef.{TypeDef};
-
-    ghost Value = { List TypeDef };
-
-    ghost view = { λ a. values_of a.types.entries };
 }

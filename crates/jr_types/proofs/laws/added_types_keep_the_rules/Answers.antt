@@ -1,5 +1,5 @@
 -- Registered names mean what they meant.
-use Rattle.jr_types.proofs.Adding.{rules_last}
+use Rattle.jr_types.proofs.Added.{rules_last}
 use Rattle.jr_types.proofs.laws.added_types_keep_the_rules.Goals as goal
 
 pub returns : goal.returns

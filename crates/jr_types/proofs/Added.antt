@@ -31,7 +31,7 @@ exactly Less h = absurd (false≢true h)
 exactly Equal h = refl
 exactly Greater h = absurd (false≢true h)
 
-same : (n m : Name) → same_name n m ≡ true → n ≡ m
+pub same : (n m : Name) → same_name n m ≡ true → n ≡ m
 same n m h = name_exact n m (exactly (name_cmp n m) h)
 
 first : (a b : Bool) → (a && b) ≡ true → a ≡ true
@@ -73,7 +73,7 @@ module _ (types : List TypeDef) (d : TypeDef) (new : type_named types d.name ≡
       by false e = refl
       by true e = absurd (false≢true (sym (ap is_some new) ∙ (ap (λ m. is_some (type_named types m)) (same d.name n e) ∙ h)))
 
-  lineage-added : (n : Name) → IsRegistered n → lineage more n ≡ lineage types n
+  pub lineage-added : (n : Name) → IsRegistered n → lineage more n ≡ lineage types n
   lineage-added n h = ap (λ ts. lineage_among ts n) (reverse-append types (d ∷ [])) ∙ chosen (same_name d.name n) (other n h)
     where
       chosen : (b : Bool) → b ≡ false → (elim b as (λ b. List TypeDef) [ true ↦ d ∷ flat_map (lineage_among (reverse types)) (supertypes_of d) | false ↦ lineage_among (reverse types) n ]) ≡ lineage types n
@@ -84,7 +84,7 @@ module _ (types : List TypeDef) (d : TypeDef) (new : type_named types d.name ≡
   find_more test [] h = ap (λ b. cond b (Some d) None) h
   find_more test (e ∷ ds) h = ap (λ o. cond (test e) (Some e) o) (find_more test ds h)
 
-  named-added : (n : Name) → IsRegistered n → type_named more n ≡ type_named types n
+  pub named-added : (n : Name) → IsRegistered n → type_named more n ≡ type_named types n
   named-added n h = find_more (λ e. same_name e.name n) types (other n h)
 
   -- ---- a node's types

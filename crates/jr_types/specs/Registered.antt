@@ -1,0 +1,65 @@
+-- How the registry keeps what types inherit.
+use Rattle.std.specs.Prelude.{◌≡◌, ℕ, ◌<◌, Bool, true, All, cond, ◌==◌, List, [], ◌∷◌, ◌++◌, Option, Some, is_some, length, map, slice_get}
+use Rattle.std.specs.List.{find, filter_map, flat_map, list_any}
+use Rattle.std.specs.Prelude.{String, string_bytes}
+use Rattle.std.specs.declared.alloc.Global.{Global}
+use Rattle.jr_path.specs.declared.name.Name.{Name}
+use Rattle.jr_items.specs.Names.{mixin_types, primary_type}
+use Rattle.jr_types.specs.declared.PropDef.{PropDef}
+use Rattle.jr_types.specs.declared.TypeDef.{TypeDef}
+use Rattle.jr_types.specs.declared.registry.Registered.{Registered}
+use Rattle.jr_types.specs.declared.adding.TypeFault.{TypeFault}
+use Rattle.jr_types.specs.declared.adding.TypeFault.TheVariants.{BadType, Memory}
+use Rattle.jr_types.specs.Types.{lineage, order_def, type_named}
+
+-- the first that passes a test is the same in both lists, whatever the test
+abbrev pub IsAlike : {X : Type 0} → List X → List X → Type 0
+IsAlike xs ys = (test : _ → Bool) → find test xs ≡ find test ys
+
+-- the types that stand at these places
+abbrev pub types_at : List TypeDef → List ℕ → List TypeDef
+types_at types places = filter_map (slice_get types) places
+
+-- the definitions of registered types
+abbrev pub definitions : List (String Global × Registered) → List TypeDef
+definitions entries = map (λ e. e.1.definition) entries
+
+-- each entry's name, and what is registered under it
+abbrev pub named_types : List (String Global × Registered) → List (List ℕ × Registered)
+named_types entries = map (λ e. (string_bytes e.0, e.1)) entries
+
+-- each of the places is one of the types'
+abbrev pub AreWithin : List TypeDef → List ℕ → Type 0
+AreWithin types places = All (λ k. k < length types) places
+
+-- a registered type stands under its name, with the places of itself and all its supertypes
+pub record IsRegistered (types : List TypeDef) (entry : String Global × Registered) : Type 0 where
+  pub named : string_bytes entry.0 ≡ entry.1.definition.name
+  pub known : is_some (type_named types entry.1.definition.name) ≡ true
+  pub within : AreWithin types entry.1.line
+  pub line : IsAlike (types_at types entry.1.line) (lineage types entry.1.definition.name)
+
+-- the places are those of all supertypes of a new type
+pub record AreAbove (types : List TypeDef) (names : List Name) (places : List ℕ) : Type 0 where
+  pub within : AreWithin types places
+  pub alike : IsAlike (types_at types places) (flat_map (lineage types) names)
+
+-- the new types are the old ones with the types of these names and all their supertypes behind them
+abbrev pub IsFurther : List TypeDef → List TypeDef → List Name → List TypeDef → Type 0
+IsFurther types old names new = (before : List Name) → IsAlike old (flat_map (lineage types) before) → IsAlike new (flat_map (lineage types) (before ++ names))
+
+-- places with one more, unless it is among them
+abbrev pub with_place : List ℕ → ℕ → List ℕ
+with_place places k = cond (list_any (λ j. j == k) places) places (places ++ k ∷ [])
+
+-- why a type with this first broken rule isn't registered: that rule, or memory was refused
+abbrev pub IsTypeFault : Option ℕ → TypeFault → Type 0
+IsTypeFault broken (BadType rule) = broken ≡ Some rule
+IsTypeFault broken Memory = Unit {0}
+
+-- what the registry keeps: each type under its name with its line, and what each check asks for
+pub record IsKept (entries : List (String Global × Registered)) (primary mixins : Name) (order : PropDef) : Type 0 where
+  pub types : All (IsRegistered (definitions entries)) entries
+  pub primary_is : primary ≡ primary_type
+  pub mixins_is : mixins ≡ mixin_types
+  pub order_is : order ≡ order_def

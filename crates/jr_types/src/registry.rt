@@ -1,0 +1,200 @@
+// The registry of node types: look-ups by name, and what types inherit.
+ghost use Rattle.std.specs.Prelude.{◌≡◌, [], false, slice_get, IfOk};
+ghost use Rattle.std.specs.Option.{option_copied, option_map_or};
+ghost use Rattle.std.specs.List.{list_any};
+ghost use Rattle.jr_items.specs.Items.{same_name};
+ghost use Rattle.jr_types.specs.Types.{is_a, order_def, subtypes, type_named, lineage};
+ghost use Rattle.jr_types.specs.Rules.{is_mixin};
+ghost use Rattle.jr_types.specs.Registered.{AreWithin, IsAlike, named_types, types_at};
+
+use crate::{OnParentVersion, PropDef, TypeDef};
+use indexmap::IndexMap;
+use jr_items::OwnName;
+use jr_path::{DeepCopy, List, Name};
+use jr_value::Kind;
+use std::alloc::{AllocError, Global};
+use std::marker::Model;
+
+/// A registered type: its definition, and the places of itself and of all its supertypes among the registered ones, each once.
+#[derive(Drop)]
+pub struct Registered {
+    pub(crate) definition: TypeDef,
+    pub(crate) line: List<usize>,
+}
+
+/// The registered node types (JSR 283, 3.7.7 Node Type Registry), seen as the list of their definitions in order.
+#[derive(Drop)]
+pub struct Registry {
+    pub(crate) alloc: Global,
+    pub(crate) types: IndexMap<String, Registered>,
+    // The names and the definition that each check asks for, made once.
+    pub(crate) primary_type: Name,
+    pub(crate) mixin_types: Name,
+    pub(crate) order: PropDef,
+}
+
+impl Model for Registry {
+    ghost use Rattle.std.specs.Prelude.{List};
+    ghost use Rattle.jr_types.specs.declared.TypeDef.{TypeDef};
+    ghost use Rattle.jr_types.specs.Registered.{definitions};
+
+    ghost Value = { List TypeDef };
+
+    ghost view = { λ a. definitions a.types.entries };
+
+    ghost use Rattle.jr_types.specs.Registered.{IsKept};
+
+    ghost invariant = { λ a. IsKept a.types.entries a.primary_type a.mixin_types a.order };
+}
+
+impl Registry {
+    /// A registry without a type.
+    pub fn new(alloc: Global) -> Result<Registry, AllocError>
+        ensures { IfOk result (λ registry. registry ≡ []) }
+    {
+        let primary_type = OwnName::PrimaryType.name(alloc)?;
+        let mixin_types = OwnName::MixinTypes.name(alloc)?;
+        Ok(Registry {
+            alloc,
+            types: IndexMap::new(alloc),
+            primary_type,
+            mixin_types,
+            order: order_def(alloc)?,
+        })
+    }
+
+    /// The definition of the type of that name.
+    pub fn get(&self, name: &Name) -> Option<&TypeDef>
+        ensures { option_copied result ≡ type_named self.now name.now }
+    {
+        match self.types.get(name.as_str()) {
+            Some(found) => Some(&found.definition),
+            None => None,
+        }
+    }
+
+    /// Whether the type is a registered mixin.
+    pub fn is_mixin(&self, name: &Name) -> bool
+        ensures { result ≡ is_mixin self.now name.now }
+    {
+        match self.get(name) {
+            Some(definition) => definition.mixin,
+            None => false,
+        }
+    }
+
+    /// Whether the first type is the second or below it; an unregistered one is below none, not even itself.
+    pub fn is_a(&self, name: &Name, of: &Name) -> bool
+        ensures { result ≡ is_a self.now name.now of.now }
+    {
+        self.has_named(self.line(name.as_str()), of)
+    }
+
+    // Whether a type at one of the places has the name.
+    fn has_named(&self, places: &[usize], name: &Name) -> bool
+        ensures { result ≡ list_any (λ k. option_map_or (λ d. same_name d.name name.now) (slice_get self.now k) false) places.now }
+    {
+        places.iter().any(|place| self.is_named(*place, name))
+    }
+
+    /// The type itself and those below it, in order of definition.
+    pub fn subtypes(&self, name: &Name) -> Result<Vec<Name>, AllocError>
+        ensures { IfOk result (λ names. names.items ≡ subtypes self.now name.now) }
+    {
+        let mut names = Vec::new(self.alloc);
+        for registered in self.types.values() {
+            if self.is_a(&registered.definition.name, name) {
+                names.push(registered.definition.name.copy()?)?;
+            }
+        }
+        Ok(names)
+    }
+
+    /// A registry of the same types that shares nothing with this one.
+    pub fn copy(&self) -> Result<Registry, AllocError>
+        ensures { IfOk result (λ copy. copy ≡ self.now) }
+    {
+        let types = copies_of(self.alloc, &self.types)?;
+        let primary_type = self.primary_type.copy()?;
+        let mixin_types = self.mixin_types.copy()?;
+        Ok(Registry {
+            alloc: self.alloc,
+            types,
+            primary_type,
+            mixin_types,
+            order: self.order.copy()?,
+        })
+    }
+
+    // The type at a place.
+    pub(crate) fn at(&self, place: usize) -> Option<&TypeDef>
+        ensures { option_copied result ≡ slice_get self.now place }
+    {
+        match self.types.get_index(place) {
+            Some((_, registered)) => Some(&registered.definition),
+            None => None,
+        }
+    }
+
+    // Whether the type at a place has the name.
+    fn is_named(&self, place: usize, name: &Name) -> bool
+        ensures { result ≡ option_map_or (λ d. same_name d.name name.now) (slice_get self.now place) false }
+    {
+        match self.at(place) {
+            Some(definition) => definition.name == *name,
+            None => false,
+        }
+    }
+
+    // The places of the type of that name and of all its supertypes; of an unregistered name none.
+    pub(crate) fn line(&self, name: &str) -> &[usize]
+        ensures within { AreWithin self.now result.now }
+        ensures line { IsAlike (types_at self.now result.now) (lineage self.now name.now) }
+    {
+        match self.types.get(name) {
+            Some(found) => found.line.as_slice(),
+            None => &[],
+        }
+    }
+}
+
+// Copies of registered types, each under its name.
+fn copies_of(
+    alloc: Global,
+    types: &IndexMap<String, Registered>,
+) -> Result<IndexMap<String, Registered>, AllocError>
+    ensures { IfOk result (λ copies. named_types copies.entries ≡ named_types types.now.entries) }
+{
+    let mut copies = IndexMap::new(alloc);
+    for (name, registered) in types.iter() {
+        copies.insert(name.clone()?, registered.copy()?)?;
+    }
+    Ok(copies)
+}
+
+// The order of children, as each orderable type tells it.
+fn order_def(alloc: Global) -> Result<PropDef, AllocError>
+    ensures { IfOk result (λ def. def ≡ order_def) }
+{
+    Ok(PropDef {
+        name: Some(OwnName::ChildOrder.name(alloc)?),
+        kind: Some(Kind::Name),
+        mandatory: false,
+        autocreated: false,
+        protected: true,
+        multiple: true,
+        defaults: List::new(alloc),
+        constraints: List::new(alloc),
+        opv: OnParentVersion::Copy,
+    })
+}
+
+impl DeepCopy for Registered {
+    fn copy(&self) -> Result<Registered, AllocError> {
+        let line = List::of(self.line.inner().clone()?);
+        Ok(Registered {
+            definition: self.definition.copy()?,
+            line,
+        })
+    }
+}
