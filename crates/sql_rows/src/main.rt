@@ -12,7 +12,7 @@ fn main(rt: HostRuntime) -> ExitCode {
     let alloc = rt.alloc();
     let mut source = StdSource::new(rt.reader());
     let mut sink = StdSink::new(io::writer(&rt));
-    let Ok(input) = read_all(alloc, &mut source, 1_000_000) else {
+    let Ok(input) = read_all(alloc, &mut source, 4_000_000) else {
         return ExitCode::from(3);
     };
     let Ok(text) = rows::answers(alloc, input.as_slice()) else {
