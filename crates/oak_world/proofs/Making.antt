@@ -11,6 +11,7 @@ use Rattle.jr_path.specs.declared.path.DocId.TheVariants as id
 use Rattle.jr_rev.specs.declared.revision.Revision.{Revision}
 use Rattle.jr_rev.specs.Revisions.{is_before}
 use Rattle.oak_clash.specs.Clashes.{commit_root}
+use Rattle.oak_commit.proofs.Looks.{looked_alone}
 use Rattle.oak_commit.specs.Clashing.{Met, mark_op}
 use Rattle.oak_commit.specs.Committing.{Committing, fed, first_path, is_past, refused as refused_as, wanting, with_undone, written_alone}
 use Rattle.oak_commit.specs.Writing.{last_op, write_op}

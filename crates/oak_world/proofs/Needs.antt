@@ -68,6 +68,14 @@ module _ (s : ℕ) (t u : Table) (es fs : List Event) (c d : Committing) where
   written_needs p rest None (Some end.Memory) = refl
   written_needs p rest (Some d) o = look_needs (wrote c p rest) p d (listed p d) o
 
+  look_outcome : (b : Committing) (p : Path) (d : Document) (ids : List DocId) → (looking_on b p d ids).outcome ≡ b.outcome
+  look_outcome b p d [] = refl
+  look_outcome b p d (i ∷ is) = refl
+
+  written_outcome : (p : Path) (rest : List Path) (b : Option Document) → (written c p rest b).outcome ≡ c.outcome
+  written_outcome p rest None = refl
+  written_outcome p rest (Some d) = look_outcome (wrote c p rest) p d (listed p d)
+
   look_count : (b : Committing) (p : Path) (d : Document) (ids : List DocId) → length (looking_on b p d ids).writer.written ≡ length b.writer.written
   look_count b p d [] = refl
   look_count b p d (i ∷ is) = refl
@@ -82,7 +90,7 @@ module _ (s : ℕ) (t u : Table) (es fs : List Event) (c d : Committing) where
       by : IsWriteStage c → (d ≡ fed_made t c) ⊎ (d ≡ wanting (fed_made t c)) → needed_by d + 1 ≤ needed_by c
       by at (inl e) =
           let now : d ≡ written c at.first at.rest (found t (op_due c).id) = e ∙ fed_write c at.going at.looked at.first at.rest at.unmet at.left (found t (op_due c).id) in
-          let k : needed_by d ≡ 2 * length at.rest + length (c.writer.written ++ at.first ∷ []) + 4 = ap needed_by now ∙ (written_needs at.first at.rest (found t (op_due c).id) c.outcome ∙ ap (needed_for (wrote c at.first at.rest).writer) at.going) in
+          let k : needed_by d ≡ 2 * length at.rest + length (c.writer.written ++ at.first ∷ []) + 4 = ap needed_by now ∙ (ap (needed_for (written c at.first at.rest (found t (op_due c).id)).writer) (written_outcome at.first at.rest (found t (op_due c).id)) ∙ (written_needs at.first at.rest (found t (op_due c).id) c.outcome ∙ ap (needed_for (wrote c at.first at.rest).writer) at.going)) in
           let n = going_needs c at.going in
           let l : length c.writer.left ≡ length at.rest + 1 = ap length at.left ∙ omega arith in
           let a = length-append c.writer.written (at.first ∷ []) in
