@@ -8,6 +8,7 @@ mod references;
 mod rows;
 mod shows;
 mod trees;
+mod types;
 
 use jr_io::{StdSink, StdSource, read_all, write_all};
 use std::io;
