@@ -79,13 +79,13 @@ impl Write for Unflushed {
     }
 }
 
-// Flushes of a sink whose first call fails, of bytes that a sink holds back, and of a writer that fails at each.
+// Flushes of a sink whose first call fails, of bytes that a sink holds back, and of a writer that fails at each flush.
 fn add_flushed(alloc: Global, out: &mut String) -> Result<(), AllocError> {
     let mut sink = MemSink::new(alloc, 9, 9, Vec::from_slice(alloc, &[0])?)?;
     let is_refused = sink.flush().is_err();
     let is_held = write_all(&mut sink, "ab".as_bytes()).is_ok() && sink.passed() == 0;
     let is_flushed = sink.flush().is_ok() && sink.passed() == 2;
-    let mut broken = StdSink::new(Unflushed);
+    let mut broken = StdSink::new(alloc, Unflushed)?;
     let is_broken = broken.flush().is_err() && broken.faults() == 1;
     out.push_str(if is_refused && is_held && is_flushed && is_broken {
         "counted"
@@ -99,12 +99,9 @@ fn add_slices(alloc: Global, text: &str, out: &mut String) -> Result<(), AllocEr
     let mut source = StdSource::new(text.as_bytes());
     put_read(read_all(alloc, &mut source, 100), out)?;
     let mut room = [0u8; 4];
-    let mut sink = StdSink::new(room.as_mut_slice());
-    out.push_str(if write_all(&mut sink, text.as_bytes()).is_ok() {
-        " ok "
-    } else {
-        " failed "
-    })?;
+    let mut sink = StdSink::new(alloc, room.as_mut_slice())?;
+    let is_written = write_all(&mut sink, text.as_bytes()).is_ok() && sink.flush().is_ok();
+    out.push_str(if is_written { " ok " } else { " failed " })?;
     put_number(alloc, out, sink.faults() as usize)
 }
 

@@ -19,7 +19,8 @@ use Rattle.oak_machine.specs.Runs.{IsOpen, MayCommit, MayRefuse}
 use Rattle.oak_commit.specs.Writing.{write_op, last_op}
 use Rattle.oak_commit.specs.Clashing.{Met, marked, noted, collision, found, mark_op}
 use Rattle.core_clash.specs.Views.{In, mark_at}
-use Rattle.core_clash.specs.Core.{Core, docs_after, whole, with_document, with_writer, root_of, IsGoing, IsDone, MayWrite, MayMark, MayLast, after_write, after_mark, after_last, marked_by, lasted_by}
+use Rattle.core_clash.specs.Core.{Core, docs_after, with_document, with_writer, root_of, IsGoing, IsDone, MayWrite, MayMark, MayLast, after_write, after_mark, after_last, marked_by, lasted_by}
+use Rattle.oak_commit.specs.Looking.{whole}
 use Rattle.core_clash.specs.Sound.{Sound, Cause, Noticed, Stands, IsOf, IsRooted, has_moved, marked_in}
 use Rattle.std.specs.List.{list_any}
 use Rattle.core_clash.proofs.Whole.{whole_from}

@@ -19,7 +19,7 @@ use Rattle.oak_doc.specs.declared.update.Change.TheVariants as change
 use Rattle.oak_doc.specs.Updates.{changed, document_of, of_revision, values_of_property, Props}
 use Rattle.oak_commit.specs.Clashing.{has, has_mark, marked}
 use Rattle.core_clash.specs.Views.{In}
-use Rattle.core_clash.specs.Core.{entries_in, put_back, whole}
+use Rattle.oak_commit.specs.Looking.{entries_in, put_back, whole}
 use Rattle.core_clash.specs.Sound.{has_moved, marked_in}
 use Rattle.core_clash.proofs.Basics.{is_same_self, or_left, or_right, or_cases, same_name, same_revision}
 use Rattle.core_clash.proofs.Documents.{leaves_prop}

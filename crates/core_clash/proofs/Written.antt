@@ -17,7 +17,8 @@ use Rattle.oak_commit.specs.Clashing.{Met, marked, collision, Writer}
 use Rattle.core_read.specs.Holds.{root_entry}
 use Rattle.oak_clash.specs.declared.mark.MarkAt.{MarkAt}
 use Rattle.core_clash.specs.Views.{In, Once, mark_at}
-use Rattle.core_clash.specs.Core.{Core, Docs, whole, with_writer, root_of, IsDone, MayWrite}
+use Rattle.core_clash.specs.Core.{Core, Docs, with_writer, root_of, IsDone, MayWrite}
+use Rattle.oak_commit.specs.Looking.{whole}
 use Rattle.core_clash.specs.Sound.{Sound, IsListed, Noticed, Stands, IsWhole, IsOf, IsDue, Cause, IsRooted, IsWriterOf, has_moved, marked_in}
 use Rattle.core_clash.proofs.Basics.{test, not_both, decide, at_writer, writer_mine, writer_other, none_in, In-left, In-right, In-append, and_true, or_left, or_right, or_cases, once_apart, other_revision}
 use Rattle.core_clash.proofs.Pasts.{cause_later, due_later, live_now, marks_drawn, in_flight}

@@ -1,11 +1,8 @@
 -- The core: documents, the past and the committers, and each kind of step of a commit.
-use Rattle.std.specs.Prelude.{◌≡◌, ℕ, ◌+◌, Bool, true, false, cond, ◌⊎◌, List, [], ◌∷◌, ◌++◌, map, Option, Some, Result, Ok, Err}
-use Rattle.std.specs.List.{flat_map, fold}
-use Rattle.std.specs.Map.{keys_of}
+use Rattle.std.specs.Prelude.{◌≡◌, ℕ, ◌+◌, Bool, true, false, cond, ◌⊎◌, List, [], ◌∷◌, ◌++◌, Option, Some, Result, Ok, Err}
 use Rattle.std.specs.Ordering.{eq_by_cmp}
 use Rattle.jr_path.specs.Names.{path_cmp}
 use Rattle.jr_path.specs.declared.path.Path.{Path}
-use Rattle.jr_path.specs.declared.path.DocId.TheVariants as id
 use Rattle.jr_rev.specs.declared.revision.Revision.{Revision}
 use Rattle.jr_rev.specs.Revisions.{is_same}
 use Rattle.oak_clash.specs.declared.mark.Mark.{Mark}
@@ -14,9 +11,8 @@ use Rattle.oak_doc.specs.declared.document.Document.{Document}
 use Rattle.oak_doc.specs.declared.update.OpFault.{OpFault}
 use Rattle.oak_doc.specs.declared.update.OpFault.TheVariants as fault
 use Rattle.oak_doc.specs.declared.update.Kept.TheVariants as kept
-use Rattle.oak_doc.specs.declared.update.Change.{Change}
-use Rattle.oak_doc.specs.declared.update.Change.TheVariants as change
-use Rattle.oak_doc.specs.Updates.{changed, document_of, updated, values_of_property}
+use Rattle.oak_doc.specs.Updates.{updated}
+use Rattle.oak_commit.specs.Looking.{whole}
 use Rattle.oak_commit.specs.Writing.{write_op, last_op}
 use Rattle.oak_commit.specs.Clashing.{Met, found, mark_op, undo_op, Writer}
 use Rattle.oak_machine.specs.declared.event.Draw.{Draw}
@@ -55,17 +51,6 @@ with_document docs p d q = cond (is_path q p) (Some d) (docs q)
 abbrev pub docs_after : Docs → Path → Result Document OpFault → Docs
 docs_after docs p (Ok d) = with_document docs p d
 docs_after docs p (Err fault) = docs
-
--- what moved to a previous document, as the changes by which it was written
-abbrev pub entries_in : Document → List Change
-entries_in x = flat_map (λ n. map (λ e. change.Prop n e.0 e.1) (values_of_property x.props n)) (keys_of x.props)
-
-abbrev pub put_back : Path → Option Document → Document → Option Document
-put_back p doc x = Some (fold changed (document_of doc (id.Node p)) (entries_in x))
-
--- what a committer looks at: a document, with what moved to its previous documents put back
-abbrev pub whole : Path → Option Document → List Document → Option Document
-whole p doc xs = fold (put_back p) doc xs
 
 abbrev pub with_writer : (Revision → Writer) → Revision → Writer → Revision → Writer
 with_writer writers r w q = cond (is_same q r) w (writers q)

@@ -11,7 +11,8 @@ ghost use Rattle.oak_commit.specs.Clashing.{found, marked};
 ghost use Rattle.std.specs.List.{list_any};
 ghost use Rattle.core_keep.specs.Journal.{is_swept};
 ghost use Rattle.core_clash.specs.Views.{In, Once, mark_at};
-ghost use Rattle.core_clash.specs.Core.{Core, MayBegin, MayWrite, root_of, whole};
+ghost use Rattle.core_clash.specs.Core.{Core, MayBegin, MayWrite, root_of};
+ghost use Rattle.oak_commit.specs.Looking.{whole};
 ghost use Rattle.core_clash.specs.Sound.{IsRooted, has_moved, marked_in};
 ghost use Rattle.core_clash.specs.Steps.{Reached, EndsWell};
 

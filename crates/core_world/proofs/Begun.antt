@@ -6,7 +6,7 @@ use Rattle.jr_path.specs.declared.path.DocId.TheVariants as id
 use Rattle.jr_path.specs.declared.path.Path.{Path}
 use Rattle.oak_doc.specs.declared.document.Document.{Document}
 use Rattle.core_clash.specs.Sound.{Sound}
-use Rattle.core_world.specs.States.{moved_in}
+use Rattle.core_world.specs.States.{listed_at, moved_in}
 use Rattle.core_keep.proofs.Start.{holds_keeps, kept_start, start_separate}
 use Rattle.oak_read.specs.Meaning.{documents_in}
 use Rattle.std.proofs.Common.{◌≡◌, ℕ, zero, suc, ◌+◌, ◌-◌, ◌<◌, false, List, [], length, map, is_some, refl, sym, ap, subst, ◌∙◌, arith, true}
@@ -44,6 +44,13 @@ begun_at : (clusters k : ℕ) → IsNode clusters k → memory_at (all_begun clu
 begun_at clusters k node = read_at (all_begun clusters 1 clusters) k ∙ (place clusters 1 clusters (k - 1) (begun k no_entries) (let a = node.0 in let b = node.1 in omega arith) ∙ ap (λ j. begun j (start clusters)) (let a = node.0 in omega arith))
 
 -- its documents list no previous ones
+pub start_lists : (c n : ℕ) → listed_at (start_table c n) ≡ (λ p. [])
+start_lists c n = fun_ext (λ p. by p (nodes_in (start_table c n) p) refl)
+  where
+    by : (p : Path) (o : Option Document) → nodes_in (start_table c n) p ≡ o → option_map_or (λ d. d.prev) o [] ≡ []
+    by p None h = refl
+    by p (Some d) h = (start_holds c n).whole p d h
+
 pub start_moved : (c n : ℕ) → moved_in (start_table c n) ≡ (λ p. [])
 start_moved c n = fun_ext (λ p. by p (nodes_in (start_table c n) p) refl)
   where

@@ -30,7 +30,8 @@ use Rattle.oak_read.specs.Meaning.{documents_in}
 use Rattle.oak_store.specs.Tables.{Table, after_undo, next_number}
 use Rattle.core_read.specs.Told.{IsInUse}
 use Rattle.core_heads.proofs.Runs.{held_in_use, sound_run}
-use Rattle.core_clash.specs.Core.{root_of, whole}
+use Rattle.core_clash.specs.Core.{root_of}
+use Rattle.oak_commit.specs.Looking.{whole}
 use Rattle.core_clash.specs.Sessions.{IsTheirs, Running}
 use Rattle.core_clash.specs.Sound.{Cause}
 use Rattle.core_clash.proofs.Steps.{may_refuse_at_last, may_refuse_at_mark}

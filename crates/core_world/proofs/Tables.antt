@@ -25,7 +25,7 @@ use Rattle.core_clash.specs.Core.{with_document as with_node}
 use Rattle.core_keep.specs.Steps.{IsMainAt}
 use Rattle.oak_read.specs.Meaning.{Documents}
 use Rattle.std.specs.List.{filter_map}
-use Rattle.core_world.specs.States.{moved_in, nodes_in}
+use Rattle.core_world.specs.States.{listed_at, moved_in, nodes_in}
 
 -- ---- ids
 
@@ -128,6 +128,16 @@ put_main t p d n = main_from (documents_in t.documents) (documents_in (with_docu
 
 pub moved_stays : (t u : Table) (p : Path) (d : Document) → IsMainAt (documents_in t.documents) (documents_in u.documents) p d → d.prev ≡ option_map_or (λ d. d.prev) (nodes_in t p) [] → moved_in u ≡ moved_in t
 moved_stays t u p d main same = fun_ext (λ q. listed_stay (documents_in t.documents) (documents_in u.documents) p d main same q)
+
+-- what each document lists stays
+pub lists_stay : (t u : Table) (p : Path) (d : Document) → IsMainAt (documents_in t.documents) (documents_in u.documents) p d → d.prev ≡ listed_at t p → listed_at u ≡ listed_at t
+lists_stay t u p d main same = fun_ext (λ q. by q (eq_by_cmp path_cmp q p) refl)
+  where
+    by : (q : Path) (b : Bool) → eq_by_cmp path_cmp q p ≡ b → listed_at u q ≡ listed_at t q
+    by q false h = ap (λ (o : Option Document). option_map_or (λ d. d.prev) o []) (main.elsewhere.node q h)
+    by q true h =
+        subst (λ (z : Path). listed_at u z ≡ listed_at t z) (sym (Rattle.jr_path.proofs.Maps.path_exact q p (exactly (path_cmp q p) h)))
+        (ap (λ (o : Option Document). option_map_or (λ d. d.prev) o []) main.at ∙ same)
 
 -- ---- a document's value is set
 

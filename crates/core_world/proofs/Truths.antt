@@ -1,7 +1,7 @@
 -- What is true of each world that is kept.
 use Rattle.oak_clash.specs.declared.mark.Mark.{Mark}
 use Rattle.core_clash.specs.Sound.{marked_in}
-use Rattle.core_clash.specs.Core.{whole}
+use Rattle.oak_commit.specs.Looking.{whole}
 use Rattle.core_clash.proofs.Whole.{whole_from}
 use Rattle.core_world.specs.States.{moved_in}
 use Rattle.core_keep.proofs.Journal.{edit_is, reading}

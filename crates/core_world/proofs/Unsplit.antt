@@ -30,12 +30,13 @@ use Rattle.oak_doc.specs.declared.update.UpdateOp.{UpdateOp}
 use Rattle.oak_doc.specs.Updates.{after_changes, changed, document_of, is_met, refusal, undone, updated}
 use Rattle.oak_read.specs.Meaning.{documents_in}
 use Rattle.oak_store.specs.Tables.{Table, after_undo, found, next_number, with_document}
-use Rattle.core_clash.specs.Core.{root_of, whole}
+use Rattle.core_clash.specs.Core.{root_of}
+use Rattle.oak_commit.specs.Looking.{whole}
 use Rattle.core_clash.specs.Sessions.{Running}
 use Rattle.core_keep.proofs.Garbage.{same_parts}
-use Rattle.core_world.specs.States.{State, moved_in, nodes_in}
+use Rattle.core_world.specs.States.{State, listed_at, moved_in, nodes_in}
 use Rattle.core_world.specs.Steps.{after_last, after_mark, after_undoing, after_update, after_write, after_write_in_want, back_op, lasted_by, marked_by, settings_op, sweep_op, with_result}
-use Rattle.core_world.proofs.Tables.{moved_stays, put_is, put_main, undo_main, undo_none}
+use Rattle.core_world.proofs.Tables.{lists_stay, put_is, put_main, undo_main, undo_none}
 use Rattle.core_world.proofs.Writing.{all_append}
 
 -- the change lists nothing and unlists nothing
@@ -81,44 +82,49 @@ made_prev o op n all d h = by (is_none o && not op.create) (is_met o op.cond) h
     by false false k = absurd (false≢true (sym (ap none k)))
 
 module _ (t : Table) where
-  pub put_moved : (p : Path) (d : Document) (n : ℕ) → d.prev ≡ option_map_or (λ d. d.prev) (nodes_in t p) [] → moved_in (with_document t (id.Node p) d n) ≡ moved_in t
-  put_moved p d n same = moved_stays t (with_document t (id.Node p) d n) p d (put_main t p d n) same
+  pub put_lists : (p : Path) (d : Document) (n : ℕ) → d.prev ≡ option_map_or (λ d. d.prev) (nodes_in t p) [] → listed_at (with_document t (id.Node p) d n) ≡ listed_at t
+  put_lists p d n same = lists_stay t (with_document t (id.Node p) d n) p d (put_main t p d n) same
 
-  pub update_moved : (p : Path) (op : UpdateOp) → op.id ≡ id.Node p → list_all is_still op.changes ≡ true → moved_in (after_update t op) ≡ moved_in t
-  update_moved p op at all = by (is_none (found t op.id) && not op.create) (is_met (found t op.id) op.cond)
+  pub update_lists : (p : Path) (op : UpdateOp) → op.id ≡ id.Node p → list_all is_still op.changes ≡ true → listed_at (after_update t op) ≡ listed_at t
+  update_lists p op at all = by (is_none (found t op.id) && not op.create) (is_met (found t op.id) op.cond)
     where
-      made : moved_in (with_document t op.id (after_changes (found t op.id) op (next_number t)) (next_number t)) ≡ moved_in t
-      made = subst (λ (i : DocId). moved_in (with_document t i (after_changes (found t i) op (next_number t)) (next_number t)) ≡ moved_in t) (sym at)
-          (put_moved p (after_changes (found t (id.Node p)) op (next_number t)) (next_number t) (still_document (found t (id.Node p)) op (next_number t) all))
+      made : listed_at (with_document t op.id (after_changes (found t op.id) op (next_number t)) (next_number t)) ≡ listed_at t
+      made = subst (λ (i : DocId). listed_at (with_document t i (after_changes (found t i) op (next_number t)) (next_number t)) ≡ listed_at t) (sym at)
+          (put_lists p (after_changes (found t (id.Node p)) op (next_number t)) (next_number t) (still_document (found t (id.Node p)) op (next_number t) all))
 
-      by : (a b : Bool) → moved_in (with_result t op.id (cond a (Err fault.Absent) (cond b (Ok (after_changes (found t op.id) op (next_number t))) (Err (refusal (found t op.id) op.cond))))) ≡ moved_in t
+      by : (a b : Bool) → listed_at (with_result t op.id (cond a (Err fault.Absent) (cond b (Ok (after_changes (found t op.id) op (next_number t))) (Err (refusal (found t op.id) op.cond))))) ≡ listed_at t
       by true b = refl
       by false true = made
       by false false = refl
 
   -- the settings are no node's document
-  pub settings_moved : (c : Change) → moved_in (after_update t (settings_op c)) ≡ moved_in t
-  settings_moved c = by (is_none (found t id.Settings) && true)
+  pub settings_lists : (c : Change) → listed_at (after_update t (settings_op c)) ≡ listed_at t
+  settings_lists c = by (is_none (found t id.Settings) && true)
     where
-      made : moved_in (with_document t id.Settings (after_changes (found t id.Settings) (settings_op c) (next_number t)) (next_number t)) ≡ moved_in t
-      made = fun_ext (λ p.
-          ap (λ (f : ℕ → Option Document). option_map_or (λ d. filter_map (λ e. f e.number) d.prev) (nodes_in (with_document t id.Settings (after_changes (found t id.Settings) (settings_op c) (next_number t)) (next_number t)) p) []) (fun_ext (λ k. put_is t id.Settings (after_changes (found t id.Settings) (settings_op c) (next_number t)) (next_number t) (id.Prev k p)))
-          ∙ ap (λ (o : Option Document). option_map_or (λ d. filter_map (λ e. documents_in t.documents (id.Prev e.number p)) d.prev) o []) (put_is t id.Settings (after_changes (found t id.Settings) (settings_op c) (next_number t)) (next_number t) (id.Node p)))
+      made : listed_at (with_document t id.Settings (after_changes (found t id.Settings) (settings_op c) (next_number t)) (next_number t)) ≡ listed_at t
+      made = fun_ext (λ p. ap (λ (o : Option Document). option_map_or (λ d. d.prev) o []) (put_is t id.Settings (after_changes (found t id.Settings) (settings_op c) (next_number t)) (next_number t) (id.Node p)))
 
-      by : (a : Bool) → moved_in (with_result t id.Settings (cond a (Err fault.Absent) (Ok (after_changes (found t id.Settings) (settings_op c) (next_number t))))) ≡ moved_in t
+      by : (a : Bool) → listed_at (with_result t id.Settings (cond a (Err fault.Absent) (Ok (after_changes (found t id.Settings) (settings_op c) (next_number t))))) ≡ listed_at t
       by true = refl
       by false = made
 
-  pub undo_moved : (p : Path) (r : Revision) → moved_in (after_undo t (id.Node p) r) ≡ moved_in t
-  undo_moved p r = by (found t (id.Node p)) refl
+  pub undo_lists : (p : Path) (r : Revision) → listed_at (after_undo t (id.Node p) r) ≡ listed_at t
+  undo_lists p r = by (found t (id.Node p)) refl
     where
-      by : (o : Option Document) → found t (id.Node p) ≡ o → moved_in (after_undo t (id.Node p) r) ≡ moved_in t
-      by None is = ap (λ es. λ q. option_map_or (λ d. filter_map (λ e. documents_in es (id.Prev e.number q)) d.prev) (documents_in es (id.Node q)) []) (undo_none t p r is)
-      by (Some d) is = moved_stays t (after_undo t (id.Node p) r) p (undone d r (next_number t)) (undo_main t p r d is) (sym (ap (λ (o : Option Document). option_map_or (λ d. d.prev) o []) is))
+      by : (o : Option Document) → found t (id.Node p) ≡ o → listed_at (after_undo t (id.Node p) r) ≡ listed_at t
+      by None is = ap (λ es. λ q. option_map_or (λ d. d.prev) (documents_in es (id.Node q)) []) (undo_none t p r is)
+      by (Some d) is = lists_stay t (after_undo t (id.Node p) r) p (undone d r (next_number t)) (undo_main t p r d is) (sym (ap (λ (o : Option Document). option_map_or (λ d. d.prev) o []) is))
 
-  -- where nothing is listed, the document is all
-  pub whole_alone : (p : Path) → moved_in t p ≡ [] → whole p (nodes_in t p) (moved_in t p) ≡ nodes_in t p
-  whole_alone p none = ap (whole p (nodes_in t p)) none
+  -- where nothing is listed, nothing has moved, and the document is all
+  pub none_moved : (p : Path) → listed_at t p ≡ [] → moved_in t p ≡ []
+  none_moved p none = by (nodes_in t p) none
+    where
+      by : (o : Option Document) → option_map_or (λ d. d.prev) o [] ≡ [] → option_map_or (λ d. filter_map (λ e. documents_in t.documents (id.Prev e.number p)) d.prev) o [] ≡ []
+      by None h = refl
+      by (Some d) h = ap (filter_map (λ e. documents_in t.documents (id.Prev e.number p))) h
+
+  pub whole_alone : (p : Path) → listed_at t p ≡ [] → whole p (nodes_in t p) (moved_in t p) ≡ nodes_in t p
+  whole_alone p none = ap (whole p (nodes_in t p)) (none_moved p none)
 
 -- ---- the write of a document
 
@@ -159,32 +165,32 @@ write_still r ws ms p = all_append is_still (entries_at r p ws) (rooting r p (co
 -- ---- the steps of committers
 
 module _ (w : State) (s : ℕ) (x : Running) where
-  pub write_moved : (p : Path) (rest : List Path) → moved_in (after_write w s x p rest).table ≡ moved_in w.table
-  write_moved p rest = update_moved w.table p (write_op x.draw.revision x.draw.edit.writes x.draw.marks p) refl (write_still x.draw.revision x.draw.edit.writes x.draw.marks p)
+  pub write_lists : (p : Path) (rest : List Path) → listed_at (after_write w s x p rest).table ≡ listed_at w.table
+  write_lists p rest = update_lists w.table p (write_op x.draw.revision x.draw.edit.writes x.draw.marks p) refl (write_still x.draw.revision x.draw.edit.writes x.draw.marks p)
 
-  pub want_moved : (p : Path) (rest : List Path) → moved_in (after_write_in_want w s x p rest).table ≡ moved_in w.table
-  want_moved p rest = update_moved w.table p (write_op x.draw.revision x.draw.edit.writes x.draw.marks p) refl (write_still x.draw.revision x.draw.edit.writes x.draw.marks p)
+  pub want_lists : (p : Path) (rest : List Path) → listed_at (after_write_in_want w s x p rest).table ≡ listed_at w.table
+  want_lists p rest = update_lists w.table p (write_op x.draw.revision x.draw.edit.writes x.draw.marks p) refl (write_still x.draw.revision x.draw.edit.writes x.draw.marks p)
 
-  marked_moved : (f : Met) (rest : List Met) (o : Result Document OpFault) → ((d : Document) → o ≡ Ok d → d.prev ≡ option_map_or (λ d. d.prev) (nodes_in w.table (root_of w.past f.other)) []) → moved_in (marked_by w s x f rest o).table ≡ moved_in w.table
-  marked_moved f rest (Ok d) same = put_moved w.table (root_of w.past f.other) d (next_number w.table) (same d refl)
-  marked_moved f rest (Err g) same = refl
+  marked_lists : (f : Met) (rest : List Met) (o : Result Document OpFault) → ((d : Document) → o ≡ Ok d → d.prev ≡ option_map_or (λ d. d.prev) (nodes_in w.table (root_of w.past f.other)) []) → listed_at (marked_by w s x f rest o).table ≡ listed_at w.table
+  marked_lists f rest (Ok d) same = put_lists w.table (root_of w.past f.other) d (next_number w.table) (same d refl)
+  marked_lists f rest (Err g) same = refl
 
-  lasted_moved : (o : Result Document OpFault) → ((d : Document) → o ≡ Ok d → d.prev ≡ option_map_or (λ d. d.prev) (nodes_in w.table (commit_root x.draw.marks)) []) → moved_in (lasted_by w s x o).table ≡ moved_in w.table
-  lasted_moved (Ok d) same = put_moved w.table (commit_root x.draw.marks) d (next_number w.table) (same d refl)
-  lasted_moved (Err (fault.Unmet c (kept.Entry o item))) same = refl
-  lasted_moved (Err g) same = refl
+  lasted_lists : (o : Result Document OpFault) → ((d : Document) → o ≡ Ok d → d.prev ≡ option_map_or (λ d. d.prev) (nodes_in w.table (commit_root x.draw.marks)) []) → listed_at (lasted_by w s x o).table ≡ listed_at w.table
+  lasted_lists (Ok d) same = put_lists w.table (commit_root x.draw.marks) d (next_number w.table) (same d refl)
+  lasted_lists (Err (fault.Unmet c (kept.Entry o item))) same = refl
+  lasted_lists (Err g) same = refl
 
-  pub mark_moved : (f : Met) (rest : List Met) → moved_in (after_mark w s x f rest).table ≡ moved_in w.table
-  mark_moved f rest = marked_moved f rest _ (made_prev (nodes_in w.table (root_of w.past f.other)) (mark_op (root_of w.past f.other) f.other x.draw.revision f.theirs) (next_number w.table) refl)
+  pub mark_lists : (f : Met) (rest : List Met) → listed_at (after_mark w s x f rest).table ≡ listed_at w.table
+  mark_lists f rest = marked_lists f rest _ (made_prev (nodes_in w.table (root_of w.past f.other)) (mark_op (root_of w.past f.other) f.other x.draw.revision f.theirs) (next_number w.table) refl)
 
-  pub last_moved : moved_in (after_last w s x).table ≡ moved_in w.table
-  last_moved = lasted_moved _ (made_prev (nodes_in w.table (commit_root x.draw.marks)) (last_op x.draw.revision x.draw.marks) (next_number w.table) refl)
+  pub last_lists : listed_at (after_last w s x).table ≡ listed_at w.table
+  last_lists = lasted_lists _ (made_prev (nodes_in w.table (commit_root x.draw.marks)) (last_op x.draw.revision x.draw.marks) (next_number w.table) refl)
 
-  pub undoing_moved : (p : Path) (rest : List Path) → moved_in (after_undoing w s x p rest).table ≡ moved_in w.table
-  undoing_moved p rest = undo_moved w.table p x.draw.revision
+  pub undoing_lists : (p : Path) (rest : List Path) → listed_at (after_undoing w s x p rest).table ≡ listed_at w.table
+  undoing_lists p rest = undo_lists w.table p x.draw.revision
 
-pub back_moved : (t : Table) (p : Path) (r : Revision) → moved_in (after_update t (back_op p r)) ≡ moved_in t
-back_moved t p r = update_moved t p (back_op p r) refl refl
+pub back_lists : (t : Table) (p : Path) (r : Revision) → listed_at (after_update t (back_op p r)) ≡ listed_at t
+back_lists t p r = update_lists t p (back_op p r) refl refl
 
-pub sweep_moved : (t : Table) (r : Revision) → moved_in (after_update t (sweep_op r)) ≡ moved_in t
-sweep_moved t r = update_moved t [] (sweep_op r) refl refl
+pub sweep_lists : (t : Table) (r : Revision) → listed_at (after_update t (sweep_op r)) ≡ listed_at t
+sweep_lists t r = update_lists t [] (sweep_op r) refl refl

@@ -30,7 +30,8 @@ use Rattle.core_read.proofs.Updates.{update_same}
 use Rattle.core_keep.specs.Journal.{with_progress, IsKeptWorld}
 use Rattle.core_keep.proofs.Events.{kept_idle}
 use Rattle.core_keep.proofs.World.{kept_write_op}
-use Rattle.core_clash.specs.Core.{Docs, MayWrite, whole, with_writer}
+use Rattle.core_clash.specs.Core.{Docs, MayWrite, with_writer}
+use Rattle.oak_commit.specs.Looking.{whole}
 use Rattle.core_clash.specs.Sessions.{Running}
 use Rattle.core_clash.specs.Sound.{Sound}
 use Rattle.core_clash.specs.Views.{In, Once, mark_at}

@@ -14,6 +14,7 @@ use Rattle.jr_rev.specs.declared.vector.RevVec.{RevVec}
 use Rattle.jr_rev.specs.Vectors.{no_entries}
 use Rattle.oak_commit.specs.Clashing.{Writer}
 use Rattle.oak_doc.specs.declared.document.Document.{Document}
+use Rattle.oak_doc.specs.declared.document.PrevEntry.{PrevEntry}
 use Rattle.oak_machine.specs.History.{History, Past}
 use Rattle.oak_node.specs.Memory.{NodeState, begun}
 use Rattle.oak_node.specs.Pins.{pin_of}
@@ -47,6 +48,10 @@ with_session has s x q = cond (q == s) x (has q)
 -- the documents of the nodes in a table, by their paths
 abbrev pub nodes_in : Table → Path → Option Document
 nodes_in t p = documents_in t.documents (id.Node p)
+
+-- of each node what its document lists as previous documents
+abbrev pub listed_at : Table → Path → List PrevEntry
+listed_at t p = option_map_or (λ d. d.prev) (nodes_in t p) []
 
 -- of each node the previous documents that its document lists and that are there
 abbrev pub moved_in : Table → Path → List Document

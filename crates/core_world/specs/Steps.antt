@@ -36,7 +36,8 @@ use Rattle.oak_node.specs.Notes.{with_note, without_seen}
 use Rattle.oak_node.specs.Pins.{pin_now, with_pin}
 use Rattle.oak_read.specs.declared.reader.Reader.{Reader}
 use Rattle.oak_store.specs.Tables.{Table, after_undo, next_number, with_document}
-use Rattle.core_clash.specs.Core.{root_of, whole}
+use Rattle.core_clash.specs.Core.{root_of}
+use Rattle.oak_commit.specs.Looking.{whole}
 use Rattle.core_clash.specs.Sessions.{Running}
 use Rattle.core_nodes.specs.Nodes.{cursor_owner, without_session}
 use Rattle.core_world.specs.States.{State, base_in, memory_of, node_of, nodes_in, with_memory, with_session, moved_in}

@@ -1,5 +1,7 @@
 -- A reader and a writer of std with its counts, as the callers of the adapters see them.
 use Rattle.std.specs.Prelude.{ℕ}
+use Rattle.std.specs.declared.alloc.Global.{Global}
+use Rattle.std.specs.declared.io.buffered.BufWriter.{BufWriter}
 
 -- the reader, how many bytes it has given, and how many calls have failed
 pub record Reading (R : Type 0) : Type 0 where
@@ -7,7 +9,7 @@ pub record Reading (R : Type 0) : Type 0 where
   pub given : ℕ
   pub faults : ℕ
 
--- the writer, and how many calls have failed
+-- the writer behind its buffer, and how many calls have failed
 pub record Writing (W : Type 0) : Type 0 where
-  pub inner : W
+  pub inner : BufWriter W Global
   pub faults : ℕ

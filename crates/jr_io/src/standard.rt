@@ -1,10 +1,12 @@
 // std's readers and writers as sources and sinks.
-ghost use Rattle.std.specs.Prelude.{◌≡◌, ◌<◌, ◌≤◌, None, IfOk, OnErr, length};
+ghost use Rattle.std.specs.Prelude.{◌≡◌, ◌<◌, ◌≤◌, [], None, IfOk, OnErr, OnOk, length};
+ghost use Rattle.std.specs.Io.Buffered.{writer_buffer, writer_contents, writer_inner};
 ghost use Rattle.std.specs.Io.KnownBytes.{Keeps, ReadConsumes, WriteAppends};
 ghost use Rattle.jr_io.specs.Causes.{HasCause, RoseExactly};
 
 use crate::ends::{Failed, Sink, Source, count_fault};
-use std::io::{Read, Write};
+use std::alloc::{AllocError, Global};
+use std::io::{BufWriter, Read, Write};
 use std::marker::Model;
 
 /// A reader of std, as the standard input, as a source. It tells nothing of the bytes left, and
@@ -68,16 +70,16 @@ impl<R: Read> Source for StdSource<R> {
     }
 }
 
-/// A writer of std, as the standard output, as a sink. It tells nothing of the bytes taken, nor
-/// of those passed on, and counts as a fault each error of the writer, and a write that takes no
-/// byte of some.
+/// A writer of std, as the standard output, as a sink, behind a buffer of 8,192 bytes. It tells nothing
+/// of the bytes taken, nor of those passed on, and counts as a fault each error of the writer, and a
+/// write that takes no byte of some.
 #[derive(Drop)]
-pub struct StdSink<W> {
-    inner: W,
+pub struct StdSink<W: Write + Drop> {
+    inner: BufWriter<W>,
     faults: u64,
 }
 
-impl<W> Model for StdSink<W> {
+impl<W: Write + Drop> Model for StdSink<W> {
     ghost use Rattle.jr_io.specs.Standard.{Writing};
 
     ghost Value = { Writing W };
@@ -85,16 +87,21 @@ impl<W> Model for StdSink<W> {
     ghost view = { λ s. record { inner = s.inner; faults = s.faults } };
 }
 
-impl<W: Write> StdSink<W> {
-    /// A sink into this writer.
-    pub fn new(inner: W) -> StdSink<W>
-        ensures { result ≡ record { inner = inner; faults = 0 } }
+impl<W: Write + Drop> StdSink<W> {
+    /// A sink into this writer, which is dropped where memory is refused for the buffer.
+    pub fn new(alloc: Global, inner: W) -> Result<StdSink<W>, AllocError>
+        ensures inner { IfOk result (λ sink. writer_inner sink.inner ≡ inner) }
+        ensures empty { IfOk result (λ sink. writer_buffer sink.inner ≡ []) }
+        ensures faults { IfOk result (λ sink. sink.faults ≡ 0) }
     {
-        StdSink { inner, faults: 0 }
+        match BufWriter::new(alloc, inner) {
+            Ok(inner) => Ok(StdSink { inner, faults: 0 }),
+            Err(_) => Err(AllocError),
+        }
     }
 }
 
-impl<W: Write> Sink for StdSink<W> {
+impl<W: Write + Drop> Sink for StdSink<W> {
     ghost written = { λ s. None };
 
     ghost passed = { λ s. None };
@@ -106,9 +113,9 @@ impl<W: Write> Sink for StdSink<W> {
         ensures some { IfOk result (λ n. 0 < length bytes.now → 0 < n) }
         ensures cause { HasCause self.old.faults self.new.faults result }
 
-        // What the writer tells of its bytes is handed on.
-        ensures passed { WriteAppends (W.contents self.old.inner) (W.contents self.new.inner)
-            result bytes.now }
+        // What the writer and the buffer tell of their bytes is handed on.
+        ensures taken { WriteAppends (writer_contents W.contents self.old.inner)
+            (writer_contents W.contents self.new.inner) result bytes.now }
     {
         match self.inner.write(bytes) {
             Ok(0) if !bytes.is_empty() => Err(count_fault(&mut self.faults)),
@@ -119,7 +126,11 @@ impl<W: Write> Sink for StdSink<W> {
 
     fn flush(&mut self) -> Result<(), Failed>
         ensures cause { HasCause self.old.faults self.new.faults result }
-        ensures passed { Keeps (W.contents self.old.inner) (W.contents self.new.inner) }
+
+        // All that the buffer held is with the writer, and nothing else.
+        ensures kept { Keeps (writer_contents W.contents self.old.inner)
+            (writer_contents W.contents self.new.inner) }
+        ensures empty { OnOk result (writer_buffer self.new.inner ≡ []) }
     {
         match self.inner.flush() {
             Ok(()) => Ok(()),

@@ -1,4 +1,6 @@
 pub mod Backward
 pub mod Indexed
+pub mod Looks
 pub mod Meeting
+pub mod Moved
 pub mod Shown

@@ -1,6 +1,7 @@
 -- What a committer is seen as, step by step.
 use Rattle.std.proofs.Common.{subst, ◌≡◌, ℕ, zero, suc, ◌+◌, ◌<◌, ◌≤◌, Bool, true, false, cond, List, [], ◌∷◌, ◌++◌, length, take, drop, get_or, map, fold, Option, Some, None, refl, sym, ap, ◌∙◌, arith, All}
-use Rattle.std.specs.Prelude.{slice_get}
+use Rattle.std.specs.Prelude.{IfOk, IsTrue, OnErr, OnOk, slice_get, Result, Ok, Err}
+use Rattle.std.specs.declared.alloc.AllocError.{AllocError}
 use Rattle.std.specs.Option.{option_map}
 use Rattle.std.proofs.Math.ListN.{drop_of_length-le}
 use Rattle.std.proofs.lemmas.List.{take_more, drop-append-le, get_or-map, get_or-take, length-drop, length-map, length-take, length-take-le}
@@ -20,14 +21,18 @@ use Rattle.jr_path.specs.declared.path.DocId.TheVariants as id
 use Rattle.oak_clash.specs.declared.mark.MarkAt.{MarkAt}
 use Rattle.oak_doc.specs.declared.document.Document.{Document}
 use Rattle.oak_commit.specs.Clashing.{Met, found}
-use Rattle.oak_commit.specs.Committing.{Committing, asks_undo, due_by, due_of, ended_by, mark_due, roots_in, tells_written, undo_due, wanting, with_undone, write_due, written_by, written_paths}
-use Rattle.oak_commit.specs.Kept.{met_by, shown}
+use Rattle.oak_commit.specs.Committing.{Committing, fed_look, looking_on, look_due, wrote, meeting, asks_undo, due_by, due_of, ended_by, mark_due, roots_in, looks_at, undo_due, wanting, with_undone, write_due, written_by, written_paths}
+use Rattle.oak_commit.specs.Kept.{Settles, met_by, shown, with_look}
+use Rattle.oak_commit.specs.Looking.{looked_at, looked_before, with_found}
+use Rattle.oak_read.specs.Wanted.{listed}
 use Rattle.oak_commit.specs.Places.{Planned}
 use Rattle.oak_commit.specs.Stages.{undo_stage}
 use Rattle.oak_commit.specs.Writing.{write_op, written_ids}
 use Rattle.oak_commit.specs.declared.outcome.CommitEnd.{CommitEnd}
 use Rattle.oak_commit.specs.declared.outcome.CommitEnd.TheVariants as end
 use Rattle.oak_commit.specs.Meeting.{dues_in, root_in}
+use Rattle.oak_commit.specs.declared.look.Look.{Look}
+use Rattle.oak_commit.specs.declared.look.Looked.{Looked}
 use Rattle.oak_commit.specs.declared.met.Due.{Due}
 use Rattle.oak_commit.specs.declared.stage.Stage.TheVariants as stage
 
@@ -82,12 +87,16 @@ not_marking : (c : Committing) (fs : List Met) → asks_undo (mark_due c fs) ≡
 not_marking c [] h = not_writing c c.writer.left h
 not_marking c (f ∷ fs) h = cc
 
+not_looking : (c : Committing) (k : Option Look) → asks_undo (look_due c k) ≡ true → ⊥
+not_looking c None h = not_marking c c.writer.due h
+not_looking c (Some k) h = cc
+
 some_undone : (c : Committing) (ps : List Path) → asks_undo (undo_due c ps) ≡ true → 0 < length ps
 some_undone c [] h = absurd (not_ended c c.ended h)
 some_undone c (p ∷ ps) h = omega arith
 
 some_due : (c : Committing) (o : Option CommitEnd) → asks_undo (due_by c o) ≡ true → 0 < length c.writer.written
-some_due c None h = absurd (not_marking c c.writer.due h)
+some_due c None h = absurd (not_looking c c.looking h)
 some_due c (Some (end.Committed r)) h = absurd (not_ended c c.ended h)
 some_due c (Some (end.Clash item o)) h = some_undone c c.writer.written h
 some_due c (Some end.Memory) h = some_undone c c.writer.written h
@@ -123,12 +132,23 @@ dues_roots (Some d) (f ∷ fs) = ap (λ (ps : List Path). root_in d f.other ∷ 
 
 -- ---- a committer as its fields say
 
-module _ (r : Revision) (base : RevVec) (plan : Planned) (written undone : ℕ) (outcome : Option CommitEnd) (ended : Bool) (dues : List Due) where
+-- a look is kept as the definition says
+looked_settled : (c : Committing) (p : Path) (d : Document) (ids : List DocId) → c.looking ≡ None → with_look c (looked_at c.base c.revision c.marks p d ids) ≡ looking_on c p d ids
+looked_settled c p d [] none =
+    ap {A = List Met} {B = Committing} (λ fs. record c { writer = record c.writer { due = fs }; roots = map (λ e. e.root) (dues_in (Some d) met) }) (dues_met (Some d) met (λ e. cc))
+    ∙ ap {A = List Path} {B = Committing} (λ ps. record c { writer = record c.writer { due = met }; roots = ps }) (dues_roots (Some d) met)
+    ∙ ap {A = Option Look} {B = Committing} (λ k. record c { writer = record c.writer { due = met }; roots = roots_in (Some d) met; looking = k }) none
+  where
+    met : List Met
+    met = found c.base c.revision p c.marks (Some d)
+looked_settled c p d (i ∷ is) none = refl
+
+module _ (r : Revision) (base : RevVec) (plan : Planned) (written undone : ℕ) (outcome : Option CommitEnd) (ended : Bool) (dues : List Due) (looking : Option Look) where
   abbrev paths : List Path
   paths = written_paths plan.marks
 
   abbrev c : Committing
-  c = shown r base plan written undone dues outcome ended
+  c = shown r base plan written undone dues looking outcome ended
 
   abbrev with_writer : List Path → List Path → List Met → List Path → Committing
   with_writer left ws fs roots = record c { writer = record c.writer { left = left; written = ws; due = fs }; roots = roots }
@@ -145,7 +165,7 @@ module _ (r : Revision) (base : RevVec) (plan : Planned) (written undone : ℕ) 
   pub undo_stage_shown : undone < written → written ≤ length paths → stage.Undo ≡ undo_stage c
   undo_stage_shown low high = rw (undone_first paths written undone low high) refl
 
-  pub count_shown : undone < written → written ≤ length paths → shown r base plan written (undone + 1) dues outcome ended ≡ with_undone c
+  pub count_shown : undone < written → written ≤ length paths → shown r base plan written (undone + 1) dues looking outcome ended ≡ with_undone c
   count_shown low high =
       ap {A = List Path} {B = Committing} (λ ps. record c { writer = record c.writer { written = ps } })
       (sym (ap (drop 1) (undone_first paths written undone low high)))
@@ -161,26 +181,76 @@ module _ (r : Revision) (base : RevVec) (plan : Planned) (written undone : ℕ) 
       by [] none = rw (left_first (written_ids plan.marks) written x at) refl
       by (d ∷ ds) none = absurd (omega arith)
 
-  -- a document is written
-  pub written_shown : (new : List Due) (before : Option Document) (x : DocId) → undone ≤ written → IsAt (written_ids plan.marks) written x → new ≡ dues_in before (found base r (names_of x) plan.marks before) → shown r base plan (written + 1) undone new outcome ended ≡ written_by c c.writer.left before
-  written_shown new before x low at is =
-      ap {A = List Path} {B = Committing} (λ ws. with_writer (drop (written + 1) paths) ws (map met_by new) (map (λ d. d.root) new)) (written_more (written_ids plan.marks) undone written x low at)
-      ∙ ap {A = List Met} {B = Committing} (λ fs. with_writer (drop (written + 1) paths) (c.writer.written ++ names_of x ∷ []) fs (map (λ d. d.root) new)) (ap (map met_by) is ∙ dues_met before met (none before refl))
-      ∙ ap {A = List Path} {B = Committing} (with_writer (drop (written + 1) paths) (c.writer.written ++ names_of x ∷ []) met) (ap (map (λ d. d.root)) is ∙ dues_roots before met)
+  abbrev next : Committing
+  next = shown r base plan (written + 1) undone dues looking outcome ended
+
+  -- one more document is written
+  wrote_shown : (x : DocId) → undone ≤ written → IsAt (written_ids plan.marks) written x → next ≡ wrote c (names_of x) (drop (written + 1) paths)
+  wrote_shown x low at = ap {A = List Path} {B = Committing} (λ ws. with_writer (drop (written + 1) paths) ws c.writer.due c.roots) (written_more (written_ids plan.marks) undone written x low at)
+
+  -- a look at it, as it was before
+  pub written_shown : (now : Looked) (before : Option Document) (x : DocId) → looking ≡ None → undone ≤ written → IsAt (written_ids plan.marks) written x → now ≡ looked_before base r plan.marks (names_of x) before → with_look next now ≡ written_by c c.writer.left before
+  written_shown now before x none low at is =
+      ap {A = Looked} {B = Committing} (with_look next) is
+      ∙ ap {A = Committing} {B = Committing} (λ d. with_look d (looked_before base r plan.marks (names_of x) before)) (wrote_shown x low at)
+      ∙ by before
       ∙ ap {A = List Path} {B = Committing} (λ left. written_by c left before) (sym (left_first (written_ids plan.marks) written x at))
     where
-      met : List Met
-      met = found base r (names_of x) plan.marks before
+      by : (b : Option Document) → with_look (wrote c (names_of x) (drop (written + 1) paths)) (looked_before base r plan.marks (names_of x) b) ≡ written_by c (names_of x ∷ drop (written + 1) paths) b
+      by None = ap {A = Option Look} {B = Committing} (λ k. record (meeting (wrote c (names_of x) (drop (written + 1) paths)) (names_of x) None) { looking = k }) none
+      by (Some d) = looked_settled (wrote c (names_of x) (drop (written + 1) paths)) (names_of x) d (listed (names_of x) d) none
 
-      none : (b : Option Document) → before ≡ b → before ≡ None → met ≡ []
-      none b is e = rw e refl
-
-  -- a document is written, but memory is wanted for what is found
-  pub wanting_shown : (before : Option Document) (x : DocId) → undone ≤ written → IsAt (written_ids plan.marks) written x → wanting (shown r base plan (written + 1) undone dues outcome ended) ≡ wanting (written_by c c.writer.left before)
+  -- it is written, but memory is wanted for the look
+  pub wanting_shown : (before : Option Document) (x : DocId) → undone ≤ written → IsAt (written_ids plan.marks) written x → wanting next ≡ wanting (written_by c c.writer.left before)
   wanting_shown before x low at =
-      ap {A = List Path} {B = Committing} (λ ws. wanting (with_writer (drop (written + 1) paths) ws [] [])) (written_more (written_ids plan.marks) undone written x low at)
+      ap {A = Committing} {B = Committing} wanting (wrote_shown x low at)
+      ∙ by before
       ∙ ap {A = List Path} {B = Committing} (λ left. wanting (written_by c left before)) (sym (left_first (written_ids plan.marks) written x at))
+    where
+      ends : (d : Document) (ids : List DocId) → wanting (wrote c (names_of x) (drop (written + 1) paths)) ≡ wanting (looking_on (wrote c (names_of x) (drop (written + 1) paths)) (names_of x) d ids)
+      ends d [] = refl
+      ends d (i ∷ is) = refl
 
--- the reply tells of a document that is written
-pub tells : (c : Committing) (before : Option Document) (p : Path) (ps : List Path) → c.outcome ≡ None → c.writer.due ≡ [] → c.writer.left ≡ p ∷ ps → tells_written c (reply.Updated before) ≡ true
-tells c before p ps going none left = rw (going, none, left) refl
+      by : (b : Option Document) → wanting (wrote c (names_of x) (drop (written + 1) paths)) ≡ wanting (written_by c (names_of x ∷ drop (written + 1) paths) b)
+      by None = refl
+      by (Some d) = ends d (listed (names_of x) d)
+
+-- the reply tells of a document that is looked at
+pub tells : (c : Committing) (before : Option Document) (p : Path) (ps : List Path) → c.outcome ≡ None → c.looking ≡ None → c.writer.due ≡ [] → c.writer.left ≡ p ∷ ps → looks_at c (reply.Updated before) ≡ true
+tells c before p ps going looked none left = rw (going, looked, none, left) refl
+
+pub tells_previous : (c : Committing) (k : Look) (previous : Option Document) → c.outcome ≡ None → c.looking ≡ Some k → looks_at c (reply.Found previous) ≡ true
+tells_previous c k previous going looking = rw (going, looking) refl
+
+-- ---- what a look has come to
+
+pub settles_ok : (l : Result Looked AllocError) (c d end_ : Committing) (m : Looked) (r : Result Unit AllocError) → Settles l c d r → IfOk l (λ k. k ≡ m) → with_look c m ≡ end_ → OnOk r (d ≡ end_)
+settles_ok (Ok k) c d end_ m (Ok u) h is comes = h ∙ ap {A = Looked} {B = Committing} (with_look c) is ∙ comes
+settles_ok (Ok k) c d end_ m (Err f) h is comes = tt
+settles_ok (Err e) c d end_ m (Ok u) h is comes = absurd h
+settles_ok (Err e) c d end_ m (Err f) h is comes = tt
+
+pub settles_err : (l : Result Looked AllocError) (c d end_ : Committing) (r : Result Unit AllocError) → Settles l c d r → wanting c ≡ end_ → OnErr r (d ≡ end_)
+settles_err (Ok k) c d end_ (Ok u) h comes = tt
+settles_err (Ok k) c d end_ (Err f) h comes = absurd h
+settles_err (Err e) c d end_ (Ok u) h comes = tt
+settles_err (Err e) c d end_ (Err f) h comes = h ∙ comes
+
+pub only_err : (r : Result Unit AllocError) (b : Bool) → b ≡ true → OnErr r (IsTrue b)
+only_err (Ok u) b h = tt
+only_err (Err e) b h = h
+
+-- a look goes on at a previous document
+pub look_goes : (c : Committing) (k : Look) (previous : Option Document) → c.looking ≡ None → with_look c (looked_at c.base c.revision c.marks (names_of k.first) (with_found k.document previous) k.rest) ≡ fed_look (record c { looking = Some k }) k (reply.Found previous)
+look_goes c k previous none = looked_settled c (names_of k.first) (with_found k.document previous) k.rest none ∙ by k.rest
+  where
+    by : (ids : List DocId) → looking_on c (names_of k.first) (with_found k.document previous) ids ≡ looking_on (record c { looking = Some k }) (names_of k.first) (with_found k.document previous) ids
+    by [] = refl
+    by (i ∷ is) = refl
+
+pub look_wants : (c : Committing) (k : Look) (previous : Option Document) → wanting c ≡ wanting (fed_look (record c { looking = Some k }) k (reply.Found previous))
+look_wants c k previous = by k.rest
+  where
+    by : (ids : List DocId) → wanting c ≡ wanting (looking_on (record c { looking = Some k }) (names_of k.first) (with_found k.document previous) ids)
+    by [] = refl
+    by (i ∷ is) = refl

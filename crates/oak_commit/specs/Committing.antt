@@ -18,21 +18,32 @@ use Rattle.oak_doc.specs.declared.asks.Reply.{Reply}
 use Rattle.oak_doc.specs.declared.asks.Reply.TheVariants as reply
 use Rattle.oak_doc.specs.declared.update.Kept.{Kept}
 use Rattle.oak_doc.specs.declared.update.Kept.TheVariants as kept
+use Rattle.oak_read.specs.Wanted.{listed}
 use Rattle.oak_commit.specs.Writing.{last_op, write_op, written_ids}
 use Rattle.oak_commit.specs.Clashing.{Met, Writer, found, mark_op}
+use Rattle.oak_commit.specs.Looking.{with_found}
 use Rattle.oak_commit.specs.Meeting.{root_in}
+use Rattle.oak_commit.specs.declared.look.Look.{Look}
 use Rattle.oak_commit.specs.declared.outcome.CommitEnd.{CommitEnd}
 use Rattle.oak_commit.specs.declared.outcome.CommitEnd.TheVariants as end
 
--- what a committer is to write, where it stands with that, the commit roots on which the marks to make go, in their order, how it ends, once that is settled, and whether it has ended
+-- a committer
 pub record Committing : Type 0 where
+  -- the revision that it commits, and its base
   pub revision : Revision
   pub base : RevVec
+  -- what it is to write
   pub edit : Edit
   pub marks : List MarkAt
+  -- where it stands with that
   pub writer : Writer
+  -- the commit roots on which the marks to make go, in their order
   pub roots : List Path
+  -- the look at the document that was written last, while a previous one is asked for
+  pub looking : Option Look
+  -- how it ends, once that is settled
   pub outcome : Option CommitEnd
+  -- whether the memory has ended it
   pub ended : Bool
 
 -- the paths of the marked nodes, in store order of their documents
@@ -48,6 +59,7 @@ begun r base edit ms = record {
   marks = ms;
   writer = record { paths = written_paths ms; left = written_paths ms; written = []; due = []; undoing = false; wants = false };
   roots = [];
+  looking = None;
   outcome = None;
   ended = false;
 }
@@ -74,6 +86,11 @@ module _ (c : Committing) where
   mark_due (f ∷ fs) = ask.Update (mark_op (first_path c.roots) f.other c.revision f.theirs)
   mark_due [] = write_due c.writer.left
 
+  -- first the previous documents of the one that was written
+  abbrev pub look_due : Option Look → Ask
+  look_due (Some k) = ask.Find k.first
+  look_due None = mark_due c.writer.due
+
   -- the first document that is written and not undone
   abbrev pub undo_due : List Path → Ask
   undo_due (p ∷ ps) = ask.Undo c.revision
@@ -81,7 +98,7 @@ module _ (c : Committing) where
 
   -- what is due, by how it ends
   abbrev pub due_by : Option CommitEnd → Ask
-  due_by None = mark_due c.writer.due
+  due_by None = look_due c.looking
   due_by (Some (end.Committed r)) = end_due
   due_by (Some (end.Clash item o)) = undo_due c.writer.written
   due_by (Some end.Memory) = undo_due c.writer.written
@@ -110,7 +127,7 @@ refused c item o = record c { writer = stopped c.writer; roots = []; outcome = S
 
 -- it undoes for want of memory
 abbrev pub wanting : Committing → Committing
-wanting c = record c { writer = record (stopped c.writer) { wants = true }; roots = []; outcome = Some end.Memory }
+wanting c = record c { writer = record (stopped c.writer) { wants = true }; roots = []; looking = None; outcome = Some end.Memory }
 
 -- memory is refused before the commit point: it undoes, if it doesn't yet
 abbrev pub without_memory : Committing → Committing
@@ -132,13 +149,32 @@ abbrev pub roots_in : Option Document → List Met → List Path
 roots_in None fs = []
 roots_in (Some d) fs = map (λ f. root_in d f.other) fs
 
+-- what is met in the document of the node at p is to be marked
+abbrev pub meeting : Committing → Path → Option Document → Committing
+meeting c p doc = record c {
+  writer = record c.writer { due = found c.base c.revision p c.marks doc };
+  roots = roots_in doc (found c.base c.revision p c.marks doc);
+  looking = None;
+}
+
+-- the document of the node at p, with what moved put back so far, is looked at once more: the next previous document is asked for, or behind all of them what is met is to be marked
+abbrev pub looking_on : Committing → Path → Document → List DocId → Committing
+looking_on c p d [] = meeting c p (Some d)
+looking_on c p d (i ∷ is) = record c { looking = Some (record { document = d; first = i; rest = is }) }
+
 module _ (c : Committing) where
-  -- the document of the node at p is written, and what is found in it, as it was before, is to be marked
+  -- the document of the node at p is written
+  abbrev pub wrote : Path → List Path → Committing
+  wrote p ps = record c { writer = record c.writer { left = ps; written = c.writer.written ++ p ∷ [] } }
+
+  -- it is written, and what is met in it, as it was before, is to be marked: no previous document is looked at
+  abbrev pub written_alone : Path → List Path → Option Document → Committing
+  written_alone p ps before = meeting (wrote p ps) p before
+
+  -- it is written, and what is met in it, as it was before, is to be marked, once the previous documents that it listed are looked at
   abbrev pub written : Path → List Path → Option Document → Committing
-  written p ps before = record c {
-    writer = record c.writer { left = ps; written = c.writer.written ++ p ∷ []; due = found c.base c.revision p c.marks before };
-    roots = roots_in before (found c.base c.revision p c.marks before);
-  }
+  written p ps None = written_alone p ps None
+  written p ps (Some d) = looking_on (wrote p ps) p d (listed p d)
 
   -- the next document is written, or the last write is made, which commits
   abbrev pub written_by : List Path → Option Document → Committing
@@ -170,12 +206,25 @@ module _ (c : Committing) where
       by_due (f ∷ fs) = refused c f.mine f.other
       by_due [] = by_left c.writer.left
 
+  -- the update that was due is answered
+  abbrev pub fed_update : Reply → Committing
+  fed_update (reply.Updated before) = advanced before
+  fed_update (reply.Unmet cond k) = blocked k
+  fed_update reply.NoMemory = wanting c
+  fed_update _ = c
+
+  -- a previous document is found, or it is gone, which is as if it were empty
+  abbrev pub fed_look : Look → Reply → Committing
+  fed_look k (reply.Found previous) = looking_on c (names_of k.first) (with_found k.document previous) k.rest
+  fed_look k _ = c
+
   -- before the commit point
+  abbrev pub going_by : Option Look → Reply → Committing
+  going_by None r = fed_update r
+  going_by (Some k) r = fed_look k r
+
   abbrev pub fed_going : Reply → Committing
-  fed_going (reply.Updated before) = advanced before
-  fed_going (reply.Unmet cond k) = blocked k
-  fed_going reply.NoMemory = wanting c
-  fed_going _ = c
+  fed_going r = going_by c.looking r
 
   -- all that was to be written or undone is
   abbrev pub fed_end : Reply → Committing
@@ -207,10 +256,11 @@ module _ (c : Committing) where
 abbrev pub fed : Committing → Reply → Committing
 fed c r = fed_by c c.outcome r
 
--- the reply tells that a document of the committer is written
-abbrev pub tells_written : Committing → Reply → Bool
-tells_written c r = by c.outcome c.writer.due c.writer.left r
+-- the reply tells of a document in which the committer looks for others: the one before its write, or a previous one
+abbrev pub looks_at : Committing → Reply → Bool
+looks_at c r = by c.outcome c.looking c.writer.due c.writer.left r
   where
-    by : Option CommitEnd → List Met → List Path → Reply → Bool
-    by None [] (p ∷ ps) (reply.Updated before) = true
-    by _ _ _ _ = false
+    by : Option CommitEnd → Option Look → List Met → List Path → Reply → Bool
+    by None None [] (p ∷ ps) (reply.Updated before) = true
+    by None (Some k) fs ps (reply.Found previous) = true
+    by _ _ _ _ _ = false

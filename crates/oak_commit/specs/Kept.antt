@@ -1,11 +1,15 @@
 -- What the fields of a committer mean.
-use Rattle.std.specs.Prelude.{ℕ, Bool, true, false, List, map, take, drop, Option, None, Some}
+use Rattle.std.specs.Prelude.{◌≡◌, ℕ, Bool, true, false, List, map, take, drop, Option, None, Some, Result, Ok, Err}
+use Rattle.std.specs.declared.alloc.AllocError.{AllocError}
 use Rattle.jr_path.specs.declared.path.Path.{Path}
 use Rattle.jr_rev.specs.declared.revision.Revision.{Revision}
 use Rattle.jr_rev.specs.declared.vector.RevVec.{RevVec}
 use Rattle.oak_commit.specs.Clashing.{Met, Writer}
-use Rattle.oak_commit.specs.Committing.{Committing, written_paths}
+use Rattle.oak_commit.specs.Committing.{Committing, wanting, written_paths}
 use Rattle.oak_commit.specs.Places.{Planned}
+use Rattle.oak_commit.specs.declared.look.Look.{Look}
+use Rattle.oak_commit.specs.declared.look.Looked.{Looked}
+use Rattle.oak_commit.specs.declared.look.Looked.TheVariants as looked
 use Rattle.oak_commit.specs.declared.met.Due.{Due}
 use Rattle.oak_commit.specs.declared.outcome.CommitEnd.{CommitEnd}
 use Rattle.oak_commit.specs.declared.outcome.CommitEnd.TheVariants as end
@@ -36,14 +40,28 @@ writer_of ps written undone dues outcome = record {
   wants = wants outcome;
 }
 
-abbrev pub shown : Revision → RevVec → Planned → ℕ → ℕ → List Due → Option CommitEnd → Bool → Committing
-shown r base plan written undone dues outcome ended = record {
+abbrev pub shown : Revision → RevVec → Planned → ℕ → ℕ → List Due → Option Look → Option CommitEnd → Bool → Committing
+shown r base plan written undone dues looking outcome ended = record {
   revision = r;
   base = base;
   edit = plan.edit;
   marks = plan.marks;
   writer = writer_of (written_paths plan.marks) written undone dues outcome;
   roots = map (λ d. d.root) dues;
+  looking = looking;
   outcome = outcome;
   ended = ended;
 }
+
+-- ---- a look
+
+-- these marks are to be made, or a previous document is to be asked for
+abbrev pub with_look : Committing → Looked → Committing
+with_look c (looked.Met dues) = record c { writer = record c.writer { due = map met_by dues }; roots = map (λ d. d.root) dues }
+with_look c (looked.More k) = record c { looking = Some k }
+
+-- what a look has come to is kept; or memory was refused for it, and the committer undoes
+abbrev pub Settles : Result Looked AllocError → Committing → Committing → Result Unit AllocError → Type 0
+Settles (Ok l) c d (Ok u) = d ≡ with_look c l
+Settles (Err e) c d (Err f) = d ≡ wanting c
+Settles _ c d _ = ⊥

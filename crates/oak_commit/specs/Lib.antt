@@ -1,7 +1,9 @@
 pub mod Writing
 pub mod Clashing
 pub mod Meeting
+pub mod Looking
 pub mod Places
 pub mod Committing
+pub mod Looks
 pub mod Stages
 pub mod Kept

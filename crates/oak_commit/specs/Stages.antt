@@ -3,6 +3,7 @@ use Rattle.std.specs.Prelude.{cond, List, [], ◌∷◌, Option, None, Some}
 use Rattle.jr_path.specs.declared.path.Path.{Path}
 use Rattle.oak_commit.specs.Clashing.{Met}
 use Rattle.oak_commit.specs.Committing.{Committing}
+use Rattle.oak_commit.specs.declared.look.Look.{Look}
 use Rattle.oak_commit.specs.declared.outcome.CommitEnd.{CommitEnd}
 use Rattle.oak_commit.specs.declared.outcome.CommitEnd.TheVariants as end
 use Rattle.oak_commit.specs.declared.stage.Stage.{Stage}
@@ -12,7 +13,7 @@ use Rattle.oak_commit.specs.declared.stage.Stage.TheVariants as stage
 abbrev pub end_stage : Committing → Stage
 end_stage c = cond c.ended stage.Done stage.Finish
 
--- before the commit point: first the marks, then the documents, then the last write
+-- an update is due: first the marks, then the documents, then the last write
 abbrev pub update_stage : Committing → Stage
 update_stage c = by c.writer.due c.writer.left
   where
@@ -20,6 +21,14 @@ update_stage c = by c.writer.due c.writer.left
     by (f ∷ fs) ps = stage.Mark
     by [] (p ∷ ps) = stage.Write
     by [] [] = stage.Last
+
+-- before the commit point: first the previous documents, then the updates
+abbrev pub going_stage : Committing → Stage
+going_stage c = by c.looking
+  where
+    by : Option Look → Stage
+    by (Some k) = stage.Look
+    by None = update_stage c
 
 -- while it undoes
 abbrev pub undo_stage : Committing → Stage
@@ -33,7 +42,7 @@ abbrev pub stage_of : Committing → Stage
 stage_of c = by c.outcome
   where
     by : Option CommitEnd → Stage
-    by None = update_stage c
+    by None = going_stage c
     by (Some (end.Committed r)) = end_stage c
     by (Some (end.Clash item o)) = undo_stage c
     by (Some end.Memory) = undo_stage c

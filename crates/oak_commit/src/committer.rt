@@ -3,15 +3,17 @@ ghost use Rattle.std.specs.Prelude.{◌≡◌, [], IfOk, IsTrue, None, OnErr, On
 ghost use Rattle.std.specs.Option.{option_copied, option_map};
 ghost use Rattle.jr_path.specs.Ids.{names_of};
 ghost use Rattle.oak_commit.specs.Clashing.{mark_op};
-ghost use Rattle.oak_commit.specs.Committing.{advanced, asks_undo, begun, blocked, due_by, due_of, end_due, ended_by, fed, fed_end, fed_going, fed_undoing, is_past, mark_due, refused, tells_written, undo_due, undo_id, wanting, with_undone, without_memory, written_by, written_paths};
-ghost use Rattle.oak_commit.specs.Stages.{end_stage, stage_of, undo_stage, update_stage};
+ghost use Rattle.oak_commit.specs.Committing.{advanced, asks_undo, begun, blocked, due_of, end_due, ended_by, fed, fed_end, fed_going, fed_look, fed_undoing, fed_update, is_past, look_due, looks_at, mark_due, refused, undo_due, undo_id, wanting, with_undone, without_memory, written_by, written_paths};
+ghost use Rattle.oak_commit.specs.Kept.{Settles};
+ghost use Rattle.oak_commit.specs.Stages.{end_stage, going_stage, stage_of, undo_stage, update_stage};
 ghost use Rattle.oak_doc.specs.declared.asks.Ask.TheVariants as ask;
 
+use crate::look::{Look, Looked, look_before};
 use crate::met::Due;
 use crate::ops::mark_op;
 use crate::plan::Plan;
 use crate::{CommitEnd, Stage};
-use jr_path::{DocId, Item, List};
+use jr_path::{DeepCopy, DocId, Item, List};
 use jr_rev::{RevVec, Revision};
 use jr_tree::Edit;
 use oak_clash::MarkAt;
@@ -20,11 +22,12 @@ use std::alloc::{AllocError, Global};
 use std::marker::Model;
 
 /// Commits an edit with its marks as a revision, one document at a time (Oak, DocumentNodeStore: commit). It writes
-/// each marked node's document, in store order, and looks at the document as it was before: each other revision
-/// that its base doesn't see, and that has a clashing mark there, gets a note of the collision on its own commit root,
-/// unless it is committed there. The last write, on the commit root, is the commit point. Where the other
-/// is committed, or where somebody noted a collision with this revision before its last write, it is refused; then,
-/// or where memory is refused before the commit point, it undoes what it wrote. It ends in its node's memory.
+/// each marked node's document, in store order, and looks at the document as it was before, and at the previous
+/// documents that it listed then, for which it asks one after another: each other revision that its base doesn't see,
+/// and that has a clashing mark there, gets a note of the collision on its own commit root, unless it is committed there.
+/// The last write, on the commit root, is the commit point. Where the other is committed, or where somebody noted a
+/// collision with this revision before its last write, it is refused; then, or where memory is refused before the commit
+/// point, it undoes what it wrote. It ends in its node's memory.
 #[derive(Drop)]
 pub struct Committer {
     alloc: Global,
@@ -37,6 +40,8 @@ pub struct Committer {
     undone: usize,
     // The marks to make before anything else is written.
     due: Vec<Due>,
+    // The document that was written last, as it was before, while previous documents of it are looked at.
+    looking: Option<Look>,
     // How it ends, once that is settled.
     outcome: Option<CommitEnd>,
     // Whether the node's memory has ended it.
@@ -50,7 +55,7 @@ impl Model for Committer {
 
     ghost Value = { Committing };
 
-    ghost view = { λ c. shown c.revision c.base c.plan c.written c.undone c.due.items c.outcome c.ended };
+    ghost view = { λ c. shown c.revision c.base c.plan c.written c.undone c.due.items c.looking c.outcome c.ended };
 
     ghost invariant = { λ c. (c.undone ≤ c.written) × (c.written ≤ length (written_paths c.plan.marks)) };
 }
@@ -74,6 +79,7 @@ impl Committer {
             written: 0,
             undone: 0,
             due: Vec::new(alloc),
+            looking: None,
             outcome: None,
             ended: false,
         })
@@ -84,7 +90,7 @@ impl Committer {
         ensures { result ≡ stage_of self.now }
     {
         match &self.outcome {
-            None => self.update_stage(),
+            None => self.going_stage(),
             Some(CommitEnd::Committed(_)) => self.end_stage(),
             Some(CommitEnd::Clash { .. } | CommitEnd::Memory) => self.undo_stage(),
         }
@@ -130,7 +136,7 @@ impl Committer {
         ensures going { OnErr result (self.now.outcome ≡ None) }
     {
         match &self.outcome {
-            None => Ok(Ask::Update(self.update_due()?)),
+            None => self.going_due(),
             Some(CommitEnd::Committed(_)) => Ok(self.end_due()),
             Some(CommitEnd::Clash { .. } | CommitEnd::Memory) => Ok(self.undo_due()),
         }
@@ -145,12 +151,12 @@ impl Committer {
     }
 
     /// Takes the reply to what is due. A reply of another kind, and one to Done, changes nothing. Memory is refused only
-    /// for what is found in a document that was just written: then the document counts as written, since it is to be
-    /// undone, and the committer undoes for want of memory.
+    /// for what is found in a document that was just written, or in a previous one: then the document counts as written,
+    /// since it is to be undone, and the committer undoes for want of memory.
     pub fn feed(&mut self, reply: Reply) -> Result<(), AllocError>
         ensures ok { OnOk result (self.new ≡ fed self.old reply) }
         ensures err { OnErr result (self.new ≡ wanting (fed self.old reply)) }
-        ensures only { OnErr result (IsTrue (tells_written self.old reply)) }
+        ensures only { OnErr result (IsTrue (looks_at self.old reply)) }
     {
         match &self.outcome {
             None => self.feed_going(reply),
@@ -187,6 +193,16 @@ impl Committer {
         }
     }
 
+    // Which kind is due before the commit point, or at it.
+    fn going_stage(&self) -> Stage
+        ensures { result ≡ going_stage self.now }
+    {
+        match &self.looking {
+            Some(_) => Stage::Look,
+            None => self.update_stage(),
+        }
+    }
+
     // Which kind of update is due before the commit point, or at it.
     fn update_stage(&self) -> Stage
         ensures { result ≡ update_stage self.now }
@@ -220,6 +236,16 @@ impl Committer {
             Stage::Undo
         } else {
             self.end_stage()
+        }
+    }
+
+    // What is due before the commit point, or at it.
+    fn going_due(&self) -> Result<Ask, AllocError>
+        ensures { IfOk result (λ ask. ask ≡ look_due self.now self.now.looking) }
+    {
+        match &self.looking {
+            Some(look) => Ok(Ask::Find(look.first.copy()?)),
+            None => Ok(Ask::Update(self.update_due()?)),
         }
     }
 
@@ -263,10 +289,73 @@ impl Committer {
         requires { self.old.outcome ≡ None }
         ensures ok { OnOk result (self.new ≡ fed_going self.old reply) }
         ensures err { OnErr result (self.new ≡ wanting (fed_going self.old reply)) }
-        ensures only { OnErr result (IsTrue (tells_written self.old reply)) }
+        ensures only { OnErr result (IsTrue (looks_at self.old reply)) }
+    {
+        match self.looking.take() {
+            Some(look) => self.feed_look(look, reply),
+            None => self.feed_update(reply),
+        }
+    }
+
+    // A reply to the question for a previous document, by how far the look was.
+    fn feed_look(&mut self, look: Look, reply: Reply) -> Result<(), AllocError>
+        requires going { self.old.outcome ≡ None }
+        requires looked { self.old.looking ≡ None }
+        ensures ok { OnOk result (self.new
+            ≡ fed_look (record self.old { looking = Some look }) look reply) }
+        ensures err { OnErr result (self.new
+            ≡ wanting (fed_look (record self.old { looking = Some look }) look reply)) }
+        ensures only { OnErr result
+            (IsTrue (looks_at (record self.old { looking = Some look }) reply)) }
     {
         match reply {
-            Reply::Updated(before) => self.advance(before.as_ref()),
+            Reply::Found(previous) => {
+                let looked = look.go_on(
+                    self.alloc,
+                    &self.plan,
+                    &self.base,
+                    self.revision,
+                    previous,
+                );
+                self.settle(looked)
+            }
+            _ => {
+                self.looking = Some(look);
+                Ok(())
+            }
+        }
+    }
+
+    // How far a look is now.
+    fn settle(&mut self, looked: Result<Looked, AllocError>) -> Result<(), AllocError>
+        ensures { Settles looked self.old self.new result }
+    {
+        match looked {
+            Ok(Looked::Met(due)) => {
+                self.due = due.into_inner();
+                Ok(())
+            }
+            Ok(Looked::More(look)) => {
+                self.looking = Some(look);
+                Ok(())
+            }
+            Err(error) => {
+                self.want();
+                Err(error)
+            }
+        }
+    }
+
+    // A reply to an update.
+    fn feed_update(&mut self, reply: Reply) -> Result<(), AllocError>
+        requires going { self.old.outcome ≡ None }
+        requires looked { self.old.looking ≡ None }
+        ensures ok { OnOk result (self.new ≡ fed_update self.old reply) }
+        ensures err { OnErr result (self.new ≡ wanting (fed_update self.old reply)) }
+        ensures only { OnErr result (IsTrue (looks_at self.old reply)) }
+    {
+        match reply {
+            Reply::Updated(before) => self.advance(before),
             Reply::Unmet(_, kept) => {
                 self.block(kept);
                 Ok(())
@@ -280,11 +369,12 @@ impl Committer {
     }
 
     // The update that was due is made.
-    fn advance(&mut self, before: Option<&Document>) -> Result<(), AllocError>
-        requires { self.old.outcome ≡ None }
-        ensures ok { OnOk result (self.new ≡ advanced self.old (option_copied before.entry)) }
-        ensures err { OnErr result (self.new ≡ wanting (advanced self.old (option_copied before.entry))) }
-        ensures only { OnErr result (IsTrue (tells_written self.old (Reply.Updated (option_copied before.entry)))) }
+    fn advance(&mut self, before: Option<Document>) -> Result<(), AllocError>
+        requires going { self.old.outcome ≡ None }
+        requires looked { self.old.looking ≡ None }
+        ensures ok { OnOk result (self.new ≡ advanced self.old before) }
+        ensures err { OnErr result (self.new ≡ wanting (advanced self.old before)) }
+        ensures only { OnErr result (IsTrue (looks_at self.old (Reply.Updated before))) }
     {
         if !self.due.is_empty() {
             self.due.remove(0);
@@ -294,29 +384,29 @@ impl Committer {
     }
 
     // A document is written, or the last write is made.
-    fn go_on(&mut self, before: Option<&Document>) -> Result<(), AllocError>
+    fn go_on(&mut self, before: Option<Document>) -> Result<(), AllocError>
         requires going { self.old.outcome ≡ None }
+        requires looked { self.old.looking ≡ None }
         requires marked { self.old.writer.due ≡ [] }
-        ensures ok { OnOk result (self.new ≡ written_by self.old self.old.writer.left (option_copied before.entry)) }
-        ensures err { OnErr result (self.new ≡ wanting (written_by self.old self.old.writer.left (option_copied before.entry))) }
-        ensures only { OnErr result (IsTrue (tells_written self.old (Reply.Updated (option_copied before.entry)))) }
+        ensures ok { OnOk result (self.new ≡ written_by self.old self.old.writer.left before) }
+        ensures err { OnErr result (self.new
+            ≡ wanting (written_by self.old self.old.writer.left before)) }
+        ensures only { OnErr result (IsTrue (looks_at self.old (Reply.Updated before))) }
     {
         let Some(id) = self.plan.ids().get(self.written) else {
             self.outcome = Some(CommitEnd::Committed(self.revision));
             return Ok(());
         };
-        let found = self.plan.found(&self.base, self.revision, id, before);
+        let looked = look_before(
+            self.alloc,
+            &self.plan,
+            &self.base,
+            self.revision,
+            id,
+            before,
+        );
         self.written += 1;
-        match found {
-            Ok(due) => {
-                self.due = due;
-                Ok(())
-            }
-            Err(error) => {
-                self.want();
-                Err(error)
-            }
-        }
+        self.settle(looked)
     }
 
     // The condition of the update that was due is false.
@@ -351,6 +441,7 @@ impl Committer {
         ensures { self.new ≡ wanting self.old }
     {
         self.due.clear();
+        self.looking = None;
         self.outcome = Some(CommitEnd::Memory);
     }
 

@@ -3,6 +3,8 @@
 #![tactic(auto)]
 
 mod committer;
+mod laws;
+mod look;
 mod met;
 mod ops;
 mod outcome;
@@ -11,5 +13,6 @@ mod plan;
 mod stage;
 
 pub use committer::Committer;
+pub use laws::looks_pass_previous_documents;
 pub use outcome::CommitEnd;
 pub use stage::Stage;

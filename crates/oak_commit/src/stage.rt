@@ -7,6 +7,8 @@ pub enum Stage {
     Mark,
     /// The write of a marked node's document.
     Write,
+    /// The reading of a previous document of the one that was written; this isn't counted.
+    Look,
     /// The last write, which is the commit point.
     Last,
     /// The undoing of a document.

@@ -14,6 +14,7 @@ use Rattle.oak_doc.specs.declared.document.Document.{Document}
 use Rattle.oak_doc.specs.declared.document.PrevEntry.{PrevEntry}
 use Rattle.oak_doc.specs.declared.update.Change.TheVariants as change
 use Rattle.oak_doc.specs.declared.update.Cond.TheVariants.{Unchanged}
+use Rattle.oak_doc.specs.declared.update.EntryKey.{EntryKey}
 use Rattle.oak_doc.specs.declared.update.Kept.TheVariants as kept
 use Rattle.oak_gc.proofs.Going.{gone_listed, gone_on}
 use Rattle.oak_gc.specs.Asking.{AskForGarbage, AsksForGarbage}
@@ -254,27 +255,25 @@ kept_all : (rs : List Reply) (c : Collector) → IsRight c → IsRight (after_re
 kept_all [] c right = right
 kept_all (r ∷ rs) c right = kept_all rs (fed c r) (goes_on c c.step r right)
 
--- there is garbage by its definition
-has_some : (c : Collector) → c.reading.garbage ≡ garbage_in c.bound.base c.bound.sweep c.reading.document → has_garbage_in c.bound c.reading ≡ true → has_garbage c.bound.base c.bound.sweep (found_in c.reading.previous) c.reading.document ≡ true
-has_some c garbage has = by (is_garbage_document c.bound.base c.bound.sweep c.reading.document) (subst (λ g. (not (length g == 0) || list_any (is_garbage_listed c.bound.base c.bound.sweep (found_in c.reading.previous) c.reading.document) c.reading.document.prev) ≡ true) garbage has)
+-- of a document that doesn't go whole, what is found to be garbage is what its definition says
+pub garbage_is : (bound : Pin) (r : Reading) → r.garbage ≡ garbage_in bound.base bound.sweep r.document → is_garbage_document bound.base bound.sweep r.document ≡ false → has_garbage bound.base bound.sweep (found_in r.previous) r.document ≡ has_garbage_in bound r
+garbage_is bound r garbage stays =
+    ap (λ b. (b || not (length (garbage_in bound.base bound.sweep r.document) == 0)) || not (length (garbage_listed bound.base bound.sweep (found_in r.previous) r.document) == 0)) stays
+    ∙ ap (λ (keys : List EntryKey). not (length keys == 0) || not (length (garbage_listed bound.base bound.sweep (found_in r.previous) r.document) == 0)) (sym garbage)
+    ∙ ap (λ b. not (length r.garbage == 0) || b) (sym (some_listed r.document.prev))
   where
-    some_listed : (es : List PrevEntry) → list_any (is_garbage_listed c.bound.base c.bound.sweep (found_in c.reading.previous) c.reading.document) es ≡ not (length (map (λ e. e.number) (filter (is_garbage_listed c.bound.base c.bound.sweep (found_in c.reading.previous) c.reading.document) es)) == 0)
+    some_listed : (es : List PrevEntry) → list_any (is_garbage_listed bound.base bound.sweep (found_in r.previous) r.document) es ≡ not (length (map (λ e. e.number) (filter (is_garbage_listed bound.base bound.sweep (found_in r.previous) r.document) es)) == 0)
     some_listed [] = refl
-    some_listed (e ∷ es) = at (is_garbage_listed c.bound.base c.bound.sweep (found_in c.reading.previous) c.reading.document e) (some_listed es)
+    some_listed (e ∷ es) = at (is_garbage_listed bound.base bound.sweep (found_in r.previous) r.document e) (some_listed es)
       where
-        at : (b : Bool) → list_any (is_garbage_listed c.bound.base c.bound.sweep (found_in c.reading.previous) c.reading.document) es ≡ not (length (map (λ e. e.number) (filter (is_garbage_listed c.bound.base c.bound.sweep (found_in c.reading.previous) c.reading.document) es)) == 0)
-            → (b || list_any (is_garbage_listed c.bound.base c.bound.sweep (found_in c.reading.previous) c.reading.document) es) ≡ not (length (map (λ e. e.number) (cond b (e ∷ filter (is_garbage_listed c.bound.base c.bound.sweep (found_in c.reading.previous) c.reading.document) es) (filter (is_garbage_listed c.bound.base c.bound.sweep (found_in c.reading.previous) c.reading.document) es))) == 0)
+        at : (b : Bool) → list_any (is_garbage_listed bound.base bound.sweep (found_in r.previous) r.document) es ≡ not (length (map (λ e. e.number) (filter (is_garbage_listed bound.base bound.sweep (found_in r.previous) r.document) es)) == 0)
+            → (b || list_any (is_garbage_listed bound.base bound.sweep (found_in r.previous) r.document) es) ≡ not (length (map (λ e. e.number) (cond b (e ∷ filter (is_garbage_listed bound.base bound.sweep (found_in r.previous) r.document) es) (filter (is_garbage_listed bound.base bound.sweep (found_in r.previous) r.document) es))) == 0)
         at true rest = grind arith
         at false rest = rest
 
-    by : (g : Bool) → (not (length (garbage_in c.bound.base c.bound.sweep c.reading.document) == 0) || list_any (is_garbage_listed c.bound.base c.bound.sweep (found_in c.reading.previous) c.reading.document) c.reading.document.prev) ≡ true
-        → ((g || not (length (garbage_in c.bound.base c.bound.sweep c.reading.document) == 0)) || not (length (garbage_listed c.bound.base c.bound.sweep (found_in c.reading.previous) c.reading.document) == 0)) ≡ true
-    by true h = refl
-    by false h = ap (λ b. not (length (garbage_in c.bound.base c.bound.sweep c.reading.document) == 0) || b) (sym (some_listed c.reading.document.prev)) ∙ h
-
 asks : (c : Collector) (s : Step) → IsRight (record c { step = s }) → AsksForGarbage (record c { step = s })
 asks c step.Remove right = (right.knows, refl)
-asks c step.Prune right = (right.knows.0, has_some (record c { step = step.Prune }) right.garbage right.knows.1, ap (λ keys. ask.Update (record { id = c.reading.document.id; create = false; cond = Some (Unchanged c.reading.document.mod_count); changes = change.Prune keys ∷ map change.Unlist (garbage_listed c.bound.base c.bound.sweep (found_in c.reading.previous) c.reading.document) })) right.garbage)
+asks c step.Prune right = (right.knows.0, garbage_is c.bound c.reading right.garbage right.knows.0 ∙ right.knows.1, ap (λ keys. ask.Update (record { id = c.reading.document.id; create = false; cond = Some (Unchanged c.reading.document.mod_count); changes = change.Prune keys ∷ map change.Unlist (garbage_listed c.bound.base c.bound.sweep (found_in c.reading.previous) c.reading.document) })) right.garbage)
 asks c step.Root right = tt
 asks c (step.Node k) right = tt
 asks c step.Settings right = tt

@@ -11,25 +11,25 @@ use Rattle.oak_gc.specs.Collecting.{begun, behind_node, fed}
 use Rattle.oak_gc.specs.declared.collector.Collector.{Collector}
 use Rattle.oak_gc.specs.declared.reading.Step.TheVariants as step
 
-fold-append : {A B : Type 0} (f : B → A → B) (b : B) (xs ys : List A) → fold f b (xs ++ ys) ≡ fold f (fold f b xs) ys
+pub fold-append : {A B : Type 0} (f : B → A → B) (b : B) (xs ys : List A) → fold f b (xs ++ ys) ≡ fold f (fold f b xs) ys
 fold-append f b [] ys = refl
 fold-append f b (x ∷ xs) ys = fold-append f (f b x) xs ys
 
 -- a collector that has asked so many cluster nodes, with a bound
-abbrev at_node : Global → ℕ → Pin → ℕ → Collector
+abbrev pub at_node : Global → ℕ → Pin → ℕ → Collector
 at_node a clusters bound k = record (begun a clusters) { bound = bound; step = behind_node (begun a clusters) k }
 
-abbrev pairs_of : List (Option Told) → List Pin
+abbrev pub pairs_of : List (Option Told) → List Pin
 pairs_of nodes = flat_map (λ n. n.head ∷ n.pins) (those_that_tell nodes)
 
-more_to_ask : (k n clusters : ℕ) → k + suc n ≡ clusters → nat_lt k clusters ≡ true
+pub more_to_ask : (k n clusters : ℕ) → k + suc n ≡ clusters → nat_lt k clusters ≡ true
 more_to_ask k n clusters is = grind arith
 
-none_to_ask : (k clusters : ℕ) → k + 0 ≡ clusters → nat_lt k clusters ≡ false
+pub none_to_ask : (k clusters : ℕ) → k + 0 ≡ clusters → nat_lt k clusters ≡ false
 none_to_ask k clusters is = grind arith
 
 module _ (a : Global) (clusters : ℕ) where
-  one_node : (bound : Pin) (n : Option Told) (k : ℕ) → nat_lt k clusters ≡ true → fed (at_node a clusters bound k) (node_reply n) ≡ at_node a clusters (fold lesser_pair bound (pairs_of (n ∷ []))) (k + 1)
+  pub one_node : (bound : Pin) (n : Option Told) (k : ℕ) → nat_lt k clusters ≡ true → fed (at_node a clusters bound k) (node_reply n) ≡ at_node a clusters (fold lesser_pair bound (pairs_of (n ∷ []))) (k + 1)
   one_node bound None k less = rw less refl
   one_node bound (Some n) k less = rw less (ap (λ ps. at_node a clusters (fold lesser_pair bound ps) (k + 1)) (joined (n.head ∷ n.pins)))
     where
@@ -37,7 +37,7 @@ module _ (a : Global) (clusters : ℕ) where
       joined [] = refl
       joined (p ∷ ps) = ap (λ qs. p ∷ qs) (joined ps)
 
-  pairs_more : (n : Option Told) (ns : List (Option Told)) (bound : Pin) → fold lesser_pair (fold lesser_pair bound (pairs_of (n ∷ []))) (pairs_of ns) ≡ fold lesser_pair bound (pairs_of (n ∷ ns))
+  pub pairs_more : (n : Option Told) (ns : List (Option Told)) (bound : Pin) → fold lesser_pair (fold lesser_pair bound (pairs_of (n ∷ []))) (pairs_of ns) ≡ fold lesser_pair bound (pairs_of (n ∷ ns))
   pairs_more None ns bound = refl
   pairs_more (Some n) ns bound =
       ap (λ b. fold lesser_pair b (pairs_of ns)) (fold-append lesser_pair bound (n.head ∷ n.pins) [])

@@ -12,6 +12,7 @@ use Rattle.jr_rev.specs.declared.vector.Pin.{Pin}
 use Rattle.jr_rev.specs.Vectors.{no_entries}
 use Rattle.oak_doc.specs.declared.asks.Ask.{Ask}
 use Rattle.oak_doc.specs.declared.asks.Ask.TheVariants as ask
+use Rattle.oak_doc.specs.declared.asks.Collected.{Collected}
 use Rattle.oak_doc.specs.declared.asks.MemoryAsk.TheVariants as memory
 use Rattle.oak_doc.specs.declared.asks.RemoveOut.TheVariants as removal
 use Rattle.oak_doc.specs.declared.asks.Reply.{Reply}
@@ -48,6 +49,10 @@ found_in previous id.Settings = None
 abbrev pub nothing_read : Reading
 nothing_read = record { at = []; document = document_of None id.Settings; garbage = []; listed = []; previous = [] }
 
+-- nothing is counted
+abbrev pub nothing_collected : Collected
+nothing_collected = record { entries = 0; documents = 0; skipped = [] }
+
 -- a collector of so many cluster nodes, before it has read anything
 abbrev pub begun : Global → ℕ → Collector
 begun a clusters = record {
@@ -55,7 +60,7 @@ begun a clusters = record {
   clusters = clusters;
   bound = no_pair;
   reading = nothing_read;
-  collected = record { entries = 0; documents = 0; skipped = [] };
+  collected = nothing_collected;
   step = step.Root;
 }
 
@@ -92,17 +97,29 @@ due c = due_at c.step
 abbrev pub plus : ℕ → ℕ → ℕ
 plus a b = min (a + b) (2 ^ 64 - 1)
 
--- so many entries were dropped from a document that stays
-abbrev pub with_entries : Collector → ℕ → Collector
-with_entries c n = record c { collected = record c.collected { entries = plus c.collected.entries n } }
+-- so many entries more were dropped from documents that stay
+abbrev pub more_entries : Collected → ℕ → Collected
+more_entries o n = record o { entries = plus o.entries n }
 
 -- one document more was removed
-abbrev pub with_document : Collector → Collector
-with_document c = record c { collected = record c.collected { documents = plus c.collected.documents 1 } }
+abbrev pub more_documents : Collected → Collected
+more_documents o = record o { documents = plus o.documents 1 }
 
--- a document was skipped, with the numbers read and found
+-- a document more was skipped, with the numbers read and found
+abbrev pub more_skips : Collected → DocId → ℕ → ℕ → Collected
+more_skips o x read found = record o { skipped = o.skipped ++ (x, read, found) ∷ [] }
+
+-- the collector counts so many entries more
+abbrev pub with_entries : Collector → ℕ → Collector
+with_entries c n = record c { collected = more_entries c.collected n }
+
+-- the collector counts one document more
+abbrev pub with_document : Collector → Collector
+with_document c = record c { collected = more_documents c.collected }
+
+-- the collector notes one skip more
 abbrev pub with_skip : Collector → DocId → ℕ → ℕ → Collector
-with_skip c x read found = record c { collected = record c.collected { skipped = c.collected.skipped ++ (x, read, found) ∷ [] } }
+with_skip c x read found = record c { collected = more_skips c.collected x read found }
 
 -- next the document behind the one that was read
 abbrev pub on_next : Collector → Collector

@@ -6,3 +6,5 @@ pub mod Stages
 pub mod Noting
 pub mod Bounding
 pub mod Asking
+pub mod Resting
+pub mod Left

@@ -11,7 +11,9 @@ ghost use Rattle.oak_gc.specs.Asking.{AskForGarbage};
 ghost use Rattle.oak_gc.specs.Bounding.{TakesTheLeast};
 ghost use Rattle.oak_gc.specs.Bounds.{kept_pairs, root_pair};
 ghost use Rattle.oak_gc.specs.Collecting.{begun, behind_node, due, fed, found_document, going_on, lowered, no_pair, on_next, removing, with_document, with_entries, with_previous, with_skip};
+ghost use Rattle.oak_gc.specs.Left.{LeavesNoGarbage};
 ghost use Rattle.oak_gc.specs.Noting.{reading_with};
+ghost use Rattle.oak_gc.specs.Resting.{CollectsByTheLeast, CollectsEach};
 ghost use Rattle.oak_gc.specs.declared.reading.Step.TheVariants as step;
 ghost use Rattle.oak_gc.specs.Stages.{stage_of};
 
@@ -42,11 +44,11 @@ pub struct Collector {
 }
 
 impl Collector {
-    /// Begins a collection over so many cluster nodes. It takes no memory.
-    pub fn new(alloc: Global, clusters: u32) -> Collector
-        ensures { result ≡ begun alloc clusters }
+    /// Begins a collection over so many cluster nodes, whose numbers are 1 and on.
+    pub fn new(alloc: Global, clusters: u32) -> Result<Collector, AllocError>
+        ensures { IfOk result (λ collector. collector ≡ begun alloc clusters) }
     {
-        Collector {
+        Ok(Collector {
             alloc,
             clusters,
             bound: no_pair(),
@@ -57,7 +59,7 @@ impl Collector {
                 skipped: List::new(alloc),
             },
             step: Step::Root,
-        }
+        })
     }
 
     /// The one operation that is due, or Done.
@@ -424,4 +426,17 @@ pub fn collectors_take_the_least()
 /// for an update only where there is garbage, and then for the one that drops just this.
 pub fn collectors_ask_for_garbage()
     ensures { AskForGarbage }
+{}
+
+/// In a store in which nobody else writes, a collector that has its bound goes over the documents in store order, drops of
+/// each what is garbage of the bound, counts just what the store dropped, and ends; so does one that takes as its bound the
+/// least of what the root, the cluster nodes and the settings tell.
+pub fn collectors_collect_each_document()
+    ensures each { CollectsEach }
+    ensures least { CollectsByTheLeast }
+{}
+
+/// The update that drops the garbage of a document leaves no entry there that is garbage of that bound.
+pub fn updates_leave_no_garbage()
+    ensures { LeavesNoGarbage }
 {}

@@ -10,5 +10,8 @@ mod garbage;
 mod reading;
 mod stage;
 
-pub use collector::{Collector, collectors_ask_for_garbage, collectors_take_the_least};
+pub use collector::{
+    Collector, collectors_ask_for_garbage, collectors_collect_each_document,
+    collectors_take_the_least, updates_leave_no_garbage,
+};
 pub use stage::Stage;

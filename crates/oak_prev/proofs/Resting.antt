@@ -118,6 +118,15 @@ number_is ds pin d e is = by (keys_of (revisions_of (moved_entries ds pin d))) r
     by [] is_r h = let no : None ≡ Some e = rw is_r at h in cc
     by (r ∷ rs) is_r h = let some : Some (entry_from d.mod_count r rs) ≡ Some e = rw is_r at h in cc
 
+-- a document that is found among documents under their ids has the id that was asked for
+pub named_found : (es : List (DocId × Document)) → AllByRecursion (λ e. e.1.id ≡ e.0) es → (x : DocId) (d : Document) → lookup (is_at (id_cmp x)) es ≡ Some d → d.id ≡ x
+named_found [] all x d h = cc
+named_found (e ∷ es) all x d h = by (eq_by_cmp id_cmp x e.0) refl h (λ h'. named_found es all.1 x d h')
+  where
+    by : (b : Bool) → eq_by_cmp id_cmp x e.0 ≡ b → cond b (Some e.1) (lookup (is_at (id_cmp x)) es) ≡ Some d → (lookup (is_at (id_cmp x)) es ≡ Some d → d.id ≡ x) → d.id ≡ x
+    by true is h' rest = let same : e.1 ≡ d = cc in sym (ap (λ d. d.id) same) ∙ all.0 ∙ sym (same_id x e.0 is)
+    by false is h' rest = rest h'
+
 -- ---- the steps of a splitter
 
 module _ (table : List (DocId × Document)) (a : Global) (pin : Pin) (p : Path) where
@@ -126,14 +135,6 @@ module _ (table : List (DocId × Document)) (a : Global) (pin : Pin) (p : Path) 
 
   abbrev ds : Documents
   ds = documents_in table
-
-  named : (es : List (DocId × Document)) → AllByRecursion (λ e. e.1.id ≡ e.0) es → (x : DocId) (d : Document) → lookup (is_at (id_cmp x)) es ≡ Some d → d.id ≡ x
-  named [] all x d h = cc
-  named (e ∷ es) all x d h = by (eq_by_cmp id_cmp x e.0) refl h (λ h'. named es all.1 x d h')
-    where
-      by : (b : Bool) → eq_by_cmp id_cmp x e.0 ≡ b → cond b (Some e.1) (lookup (is_at (id_cmp x)) es) ≡ Some d → (lookup (is_at (id_cmp x)) es ≡ Some d → d.id ≡ x) → d.id ≡ x
-      by true is h' rest = let same : e.1 ≡ d = cc in sym (ap (λ d. d.id) same) ∙ all.0 ∙ sym (same_id x e.0 is)
-      by false is h' rest = rest h'
 
   module _ (d : Document) (there : documents_in table (id.Node p) ≡ Some d) (own : d.id ≡ id.Node p) where
     -- a splitter that has read the document
@@ -265,4 +266,4 @@ splits_what_moves table a pin p is = ends_after table a pin p (begun a pin p) (s
     by : (o : Option Document) → documents_in table (id.Node p) ≡ o
         → EndsIn table (option_map_or (fed_read (begun a pin p)) o (record (begun a pin p) { step = step.Done (end.Split 0) })) (option_map_or (end_of (documents_in table) pin p) o (end.Split 0))
     by None none = (zero, refl)
-    by (Some d) there = read_end table a pin p d there (named table a pin p table (recursion_from_All _ table is.named) (id.Node p) d there)
+    by (Some d) there = read_end table a pin p d there (named_found table (recursion_from_All _ table is.named) (id.Node p) d there)

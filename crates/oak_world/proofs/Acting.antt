@@ -10,7 +10,7 @@ use Rattle.jr_path.specs.declared.path.DocId.TheVariants as id
 use Rattle.jr_rev.specs.declared.revision.Revision.{Revision}
 use Rattle.oak_clash.specs.declared.mark.MarkAt.{MarkAt}
 use Rattle.oak_commit.specs.Clashing.{Met}
-use Rattle.oak_commit.specs.Committing.{Committing, asks_undo, due_by, due_of, fed, mark_due, tells_written, undo_due, undo_id, wanting, write_due}
+use Rattle.oak_commit.specs.Committing.{Committing, asks_undo, due_by, due_of, fed, look_due, looks_at, mark_due, undo_due, undo_id, wanting, write_due}
 use Rattle.oak_commit.specs.Kept.{undoes}
 use Rattle.oak_commit.specs.Stages.{stage_of}
 use Rattle.oak_commit.specs.Writing.{last_op, write_op}
@@ -53,13 +53,13 @@ last_going c h = (last_stage c h).going
 -- ---- what is due
 
 due_mark : (c : Committing) → IsMarkStage c → due_of c ≡ ask.Update (op_due c)
-due_mark c m = ap (due_by c) m.going ∙ (ap (mark_due c) m.due ∙ ap ask.Update (sym (op_mark c m.going m.first m.rest m.due)))
+due_mark c m = ap (due_by c) m.going ∙ (ap (look_due c) m.looked ∙ (ap (mark_due c) m.due ∙ ap ask.Update (sym (op_mark c m.going m.looked m.first m.rest m.due))))
 
 due_write : (c : Committing) → IsWriteStage c → due_of c ≡ ask.Update (op_due c)
-due_write c m = ap (due_by c) m.going ∙ (ap (mark_due c) m.unmet ∙ (ap (write_due c) m.left ∙ ap ask.Update (sym (op_write c m.going m.first m.rest m.unmet m.left))))
+due_write c m = ap (due_by c) m.going ∙ (ap (look_due c) m.looked ∙ (ap (mark_due c) m.unmet ∙ (ap (write_due c) m.left ∙ ap ask.Update (sym (op_write c m.going m.looked m.first m.rest m.unmet m.left)))))
 
 due_last : (c : Committing) → IsLastStage c → due_of c ≡ ask.Update (op_due c)
-due_last c m = ap (due_by c) m.going ∙ (ap (mark_due c) m.unmet ∙ (ap (write_due c) m.none ∙ ap ask.Update (sym (op_last c m.going m.unmet m.none))))
+due_last c m = ap (due_by c) m.going ∙ (ap (look_due c) m.looked ∙ (ap (mark_due c) m.unmet ∙ (ap (write_due c) m.none ∙ ap ask.Update (sym (op_last c m.going m.looked m.unmet m.none)))))
 
 op_is : (c : Committing) (op : UpdateOp) → ask.Update op ≡ due_of c → due_of c ≡ ask.Update (op_due c) → op ≡ op_due c
 op_is c op asked due = let e : ask.Update op ≡ ask.Update (op_due c) = asked ∙ due in cc
@@ -117,13 +117,13 @@ last_by (Some d) r ms n f h = by (of_revision d.collisions r) h
 
 module _ (t u : Table) (c : Committing) (op : UpdateOp) (asked : ask.Update op ≡ due_of c) where
   pub mark_makes : stage_of c ≡ stage.Mark → Updates t u op (Err fault.Absent) → ⊥
-  mark_makes h up = let at : IsMarkStage c = mark_stage c h in found_op (found t op.id) op (next_number t) (ap (λ (x : UpdateOp). x.create) (op_is c op asked (due_mark c at) ∙ op_mark c at.going at.first at.rest at.due)) up.1
+  mark_makes h up = let at : IsMarkStage c = mark_stage c h in found_op (found t op.id) op (next_number t) (ap (λ (x : UpdateOp). x.create) (op_is c op asked (due_mark c at) ∙ op_mark c at.going at.looked at.first at.rest at.due)) up.1
 
   module _ (h : stage_of c ≡ stage.Write) where
     write_fails : (f : OpFault) → updated (found t op.id) op (next_number t) ≡ Err f → ⊥
     write_fails f told =
         let at : IsWriteStage c = write_stage c h in
-        let same : op ≡ write_op c.revision c.edit.writes c.marks at.first = op_is c op asked (due_write c at) ∙ op_write c at.going at.first at.rest at.unmet at.left in
+        let same : op ≡ write_op c.revision c.edit.writes c.marks at.first = op_is c op asked (due_write c at) ∙ op_write c at.going at.looked at.first at.rest at.unmet at.left in
         made_op (found t op.id) op (next_number t) f (ap (λ (x : UpdateOp). x.create) same) (ap (λ (x : UpdateOp). x.cond) same) told
 
     pub write_makes : Updates t u op (Err fault.Absent) → ⊥
@@ -136,7 +136,7 @@ module _ (t u : Table) (c : Committing) (op : UpdateOp) (asked : ask.Update op �
     last_told : (f : OpFault) → updated (found t op.id) op (next_number t) ≡ Err f → IsLastFault f
     last_told f told =
         let at : IsLastStage c = last_stage c h in
-        let same : op ≡ last_op c.revision c.marks = op_is c op asked (due_last c at) ∙ op_last c at.going at.unmet at.none in
+        let same : op ≡ last_op c.revision c.marks = op_is c op asked (due_last c at) ∙ op_last c at.going at.looked at.unmet at.none in
         last_by (found t op.id) c.revision c.marks (next_number t) f (subst (λ (x : UpdateOp). updated (found t op.id) x (next_number t) ≡ Err f) same told)
 
     -- a last write fails for want of memory, or for a collision
@@ -170,10 +170,10 @@ module _ (s : ℕ) (t u : Table) (es fs : List Event) (c d : Committing) (op : U
     unmet_is : (k : Cond) (x : Kept) → Updates t u op (Err (fault.Unmet k x)) → result_of t (op_due c) ≡ Err (fault.Unmet k x)
     unmet_is k x up = sym (ap (result_of t) (op_is c op asked due)) ∙ up.1
 
-  pub mark_made : stage_of c ≡ stage.Mark → (before : Option Document) → Updates t u op (Ok before) → fs ≡ es ++ event.Went s kind.Mark ∷ [] → (r : Result Unit AllocError) → OnOk r (d ≡ fed c (reply.Updated before)) → OnErr r (IsTrue (tells_written c (reply.Updated before))) → IsMarked s t u es fs c d
+  pub mark_made : stage_of c ≡ stage.Mark → (before : Option Document) → Updates t u op (Ok before) → fs ≡ es ++ event.Went s kind.Mark ∷ [] → (r : Result Unit AllocError) → OnOk r (d ≡ fed c (reply.Updated before)) → OnErr r (IsTrue (looks_at c (reply.Updated before))) → IsMarked s t u es fs c d
   mark_made h before up list r ok only = let due = mark_asks c h in inl (record { made = made due before up; list = list; committer = fed_marked r c d before h ok only ∙ fed_is due before up })
 
-  pub mark_refused : stage_of c ≡ stage.Mark → (k : Cond) (x : Kept) → Updates t u op (Err (fault.Unmet k x)) → (e : Event) → refusal_at c e → fs ≡ es ++ e ∷ [] → (r : Result Unit AllocError) → OnOk r (d ≡ fed c (reply.Unmet k x)) → OnErr r (IsTrue (tells_written c (reply.Unmet k x))) → IsMarked s t u es fs c d
+  pub mark_refused : stage_of c ≡ stage.Mark → (k : Cond) (x : Kept) → Updates t u op (Err (fault.Unmet k x)) → (e : Event) → refusal_at c e → fs ≡ es ++ e ∷ [] → (r : Result Unit AllocError) → OnOk r (d ≡ fed c (reply.Unmet k x)) → OnErr r (IsTrue (looks_at c (reply.Unmet k x))) → IsMarked s t u es fs c d
   mark_refused h k x up e told list r ok only = let due = mark_asks c h in inr (record { cause = k; thing = x; result = unmet_is due k x up; table = up.0; refusal = e; told = told; list = list; committer = fed_unmet r c d k x ok only })
 
   pub write_made : stage_of c ≡ stage.Write → (before : Option Document) → Updates t u op (Ok before) → fs ≡ es ++ event.Went s kind.Write ∷ [] → (r : Result Unit AllocError) → OnOk r (d ≡ fed c (reply.Updated before)) → OnErr r (d ≡ wanting (fed c (reply.Updated before))) → IsWritten s t u es fs c d
@@ -183,7 +183,7 @@ module _ (s : ℕ) (t u : Table) (es fs : List Event) (c d : Committing) (op : U
       by due (inl e) = inl (e ∙ fed_is due before up)
       by due (inr e) = inr (e ∙ ap wanting (fed_is due before up))
 
-  pub last_made : stage_of c ≡ stage.Last → (before : Option Document) → Updates t u op (Ok before) → fs ≡ es ++ event.Commit c.revision ∷ [] → (r : Result Unit AllocError) → OnOk r (d ≡ fed c (reply.Updated before)) → OnErr r (IsTrue (tells_written c (reply.Updated before))) → IsLast t u es fs c d
+  pub last_made : stage_of c ≡ stage.Last → (before : Option Document) → Updates t u op (Ok before) → fs ≡ es ++ event.Commit c.revision ∷ [] → (r : Result Unit AllocError) → OnOk r (d ≡ fed c (reply.Updated before)) → OnErr r (IsTrue (looks_at c (reply.Updated before))) → IsLast t u es fs c d
   last_made h before up list r ok only = let due = last_asks c h in inl (record { made = made due before up; list = list; committer = fed_lasted r c d before h ok only ∙ fed_is due before up })
 
   pub last_refused_by : stage_of c ≡ stage.Last → (f : OpFault) → Updates t u op (Err f) → IsRefusedBy f es fs c d → IsLast t u es fs c d
@@ -193,7 +193,7 @@ module _ (s : ℕ) (t u : Table) (es fs : List Event) (c d : Committing) (op : U
       inr (record { cause = m.cause; other = m.other; item = m.item; result = unmet_is due m.cause (kept.Entry m.other m.item) told; table = told.0; list = m.list; committer = m.committer })
 
 -- the commit is refused for a collision that was told
-pub refused_by : (es fs : List Event) (c d : Committing) (k : Cond) (o : Revision) (item : Item) → fs ≡ es ++ event.Refuse c.revision item o ∷ [] → (r : Result Unit AllocError) → OnOk r (d ≡ fed c (reply.Unmet k (kept.Entry o item))) → OnErr r (IsTrue (tells_written c (reply.Unmet k (kept.Entry o item)))) → IsRefusedBy (fault.Unmet k (kept.Entry o item)) es fs c d
+pub refused_by : (es fs : List Event) (c d : Committing) (k : Cond) (o : Revision) (item : Item) → fs ≡ es ++ event.Refuse c.revision item o ∷ [] → (r : Result Unit AllocError) → OnOk r (d ≡ fed c (reply.Unmet k (kept.Entry o item))) → OnErr r (IsTrue (looks_at c (reply.Unmet k (kept.Entry o item)))) → IsRefusedBy (fault.Unmet k (kept.Entry o item)) es fs c d
 refused_by es fs c d k o item list r ok only = record { cause = k; other = o; item = item; is = refl; list = list; committer = fed_unmet r c d k (kept.Entry o item) ok only }
 
 -- ---- undoing
@@ -210,7 +210,7 @@ undo_asks c h = by (undo_stage c h)
     by : IsUndoStage c → asks_undo (due_of c) ≡ true
     by m = ap asks_undo (undoing_due c c.outcome m.undoing ∙ ap (undo_due c) m.written)
 
-pub undo_made : (s : ℕ) (t u : Table) (es fs : List Event) (c d : Committing) (x : DocId) → stage_of c ≡ stage.Undo → undo_id c ≡ Some x → u ≡ after_undo t x c.revision → fs ≡ es ++ event.Went s kind.Undo ∷ [] → (r : Result Unit AllocError) → OnOk r (d ≡ fed c reply.Undone) → OnErr r (IsTrue (tells_written c reply.Undone)) → IsUndone s t u es fs c d
+pub undo_made : (s : ℕ) (t u : Table) (es fs : List Event) (c d : Committing) (x : DocId) → stage_of c ≡ stage.Undo → undo_id c ≡ Some x → u ≡ after_undo t x c.revision → fs ≡ es ++ event.Went s kind.Undo ∷ [] → (r : Result Unit AllocError) → OnOk r (d ≡ fed c reply.Undone) → OnErr r (IsTrue (looks_at c reply.Undone)) → IsUndone s t u es fs c d
 undo_made s t u es fs c d x h lent table list r ok only = by (undo_stage c h)
   where
     by : IsUndoStage c → IsUndone s t u es fs c d

@@ -20,7 +20,7 @@ use Rattle.jr_tree.specs.declared.edit.Edit.{Edit}
 use Rattle.oak_clash.specs.Clashes.{marked_paths}
 use Rattle.oak_clash.specs.declared.mark.MarkAt.{MarkAt}
 use Rattle.oak_commit.specs.Clashing.{Met, found}
-use Rattle.oak_commit.specs.Committing.{Committing, begun, refused, wanting, with_undone, written, written_paths}
+use Rattle.oak_commit.specs.Committing.{Committing, begun, refused, wanting, with_undone, written_alone, written_paths}
 use Rattle.oak_commit.specs.Kept.{undoes}
 use Rattle.oak_commit.specs.Stages.{stage_of}
 use Rattle.oak_commit.specs.declared.outcome.CommitEnd.{CommitEnd}
@@ -260,8 +260,8 @@ module _ (s : ℕ) (t u : State) (c : Committing) (x : Work) (going : c.outcome 
   turns_committed : (d : Committing) → x ≡ work.Commit d → d ≡ committed c → Turns c x
   turns_committed d is same = (committed c, end.Committed c.revision, is ∙ ap work.Commit same, refl, one_more (length c.writer.written))
 
-  turns_written : (p : Path) (rest : List Path) (d : Committing) → x ≡ work.Commit d → d ≡ wanting (written c p rest (nodes_in t.table p)) → Turns c x
-  turns_written p rest d is same = (wanting (written c p rest (nodes_in t.table p)), end.Memory, is ∙ ap work.Commit same, refl, appended c.writer.written p)
+  turns_written : (p : Path) (rest : List Path) (d : Committing) → x ≡ work.Commit d → d ≡ wanting (written_alone c p rest (nodes_in t.table p)) → Turns c x
+  turns_written p rest d is same = (wanting (written_alone c p rest (nodes_in t.table p)), end.Memory, is ∙ ap work.Commit same, refl, appended c.writer.written p)
 
   -- it doesn't undo, and it doesn't end
   undoes_not : undoes c.outcome ≡ true → ⊥
@@ -288,11 +288,11 @@ module _ (s : ℕ) (t u : State) (c : Committing) (x : Work) (going : c.outcome 
   marks_next o f rest due (inr (inr m)) = inr (turns_wanting m.3)
 
   -- the next document is due
-  writes_next : (o : StepOut) (p : Path) (rest : List Path) → c.writer.due ≡ [] → c.writer.left ≡ p ∷ rest → MakesCommit s t c u x o → ((u ≡ after_write t s (running_as s c) p rest) × (x ≡ work.Commit (written c p rest (nodes_in t.table p)))) ⊎ Turns c x
+  writes_next : (o : StepOut) (p : Path) (rest : List Path) → c.writer.due ≡ [] → c.writer.left ≡ p ∷ rest → MakesCommit s t c u x o → ((u ≡ after_write t s (running_as s c) p rest) × (x ≡ work.Commit (written_alone c p rest (nodes_in t.table p)))) ⊎ Turns c x
   writes_next o p rest due left (inl m) = by m.0 m.4
     where
       Next : Path → List Path → Type 0
-      Next p rest = ((u ≡ after_write t s (running_as s c) p rest) × (x ≡ work.Commit (written c p rest (nodes_in t.table p)))) ⊎ Turns c x
+      Next p rest = ((u ≡ after_write t s (running_as s c) p rest) × (x ≡ work.Commit (written_alone c p rest (nodes_in t.table p)))) ⊎ Turns c x
 
       by : (k : StepKind) → MakesUpdate s t c u m.2 k → Next p rest
       by kind.Mark g = absurd (none_cons c.writer.due g.0 g.1 due g.3)
@@ -327,8 +327,8 @@ marks_end s ps unmet (f ∷ fs) t c going due left =
 writes_end : (s : ℕ) (ps : List Path) (t : State) (c : Committing) → c.outcome ≡ None → c.writer.due ≡ [] → c.writer.left ≡ ps → Bounded s t c
 writes_end s [] t c going due left = turns_at_once s t c (λ u x o m. lasts_next s t u c x going o due left m)
 writes_end s (p ∷ ps) t c going due left =
-    goes_on s t c (after_write t s (running_as s c) p ps) (written c p ps (nodes_in t.table p)) (λ u x o m. writes_next s t u c x going o p ps due left m)
-    (marks_end s ps (λ t' d a b e. writes_end s ps t' d a b e) (found c.base c.revision p c.marks (nodes_in t.table p)) (after_write t s (running_as s c) p ps) (written c p ps (nodes_in t.table p)) going refl refl)
+    goes_on s t c (after_write t s (running_as s c) p ps) (written_alone c p ps (nodes_in t.table p)) (λ u x o m. writes_next s t u c x going o p ps due left m)
+    (marks_end s ps (λ t' d a b e. writes_end s ps t' d a b e) (found c.base c.revision p c.marks (nodes_in t.table p)) (after_write t s (running_as s c) p ps) (written_alone c p ps (nodes_in t.table p)) going refl refl)
 
 commit_ends : (w : State) (s : ℕ) (c : Committing) → (n : ℕ) × RestsIn s n w (work.Commit c)
 commit_ends w s c = by c.outcome refl

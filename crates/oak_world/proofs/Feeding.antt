@@ -4,11 +4,12 @@ use Rattle.jr_path.specs.declared.path.Path.{Path}
 use Rattle.jr_path.specs.declared.path.Item.{Item}
 use Rattle.jr_rev.specs.declared.revision.Revision.{Revision}
 use Rattle.oak_commit.specs.Clashing.{Met, mark_op}
-use Rattle.oak_commit.specs.Committing.{Committing, advanced_by, fed, fed_by, first_path, refused, wanting, with_undone, without_memory, written, written_by}
+use Rattle.oak_commit.specs.Committing.{Committing, advanced_by, fed, fed_by, first_path, going_by, refused, wanting, with_undone, without_memory, written, written_by}
 use Rattle.oak_commit.specs.Kept.{undoes}
 use Rattle.oak_commit.specs.Stages.{stage_of}
 use Rattle.oak_commit.specs.Writing.{last_op, write_op}
 use Rattle.oak_commit.specs.declared.stage.Stage.TheVariants as stage
+use Rattle.oak_commit.specs.declared.look.Look.{Look}
 use Rattle.oak_commit.specs.declared.outcome.CommitEnd.{CommitEnd}
 use Rattle.oak_commit.specs.declared.outcome.CommitEnd.TheVariants as end
 use Rattle.oak_doc.specs.declared.document.Document.{Document}
@@ -22,21 +23,38 @@ use Rattle.oak_world.specs.Worlds.{running_as}
 
 module _ (c : Committing) (going : c.outcome ≡ None) where
   -- before its commit point
-  at_going : c ≡ record c { outcome = None }
-  at_going = ap (λ (o : Option CommitEnd). record c { outcome = o }) going
+  at_outcome : c ≡ record c { outcome = None }
+  at_outcome = ap (λ (o : Option CommitEnd). record c { outcome = o }) going
 
   pub want_is : without_memory c ≡ wanting c
-  want_is = subst (λ (d : Committing). without_memory d ≡ wanting d) (sym at_going) refl
+  want_is = subst (λ (d : Committing). without_memory d ≡ wanting d) (sym at_outcome) refl
+
+  -- ---- the committer at work
+
+  abbrev pub running_going : ℕ → Running
+  running_going s = record {
+    draw = record { revision = c.revision; session = s; base = c.base; edit = c.edit; marks = c.marks };
+    writer = record c.writer { undoing = false; wants = false };
+    committed = false;
+  }
+
+  pub going_is : (s : ℕ) → running_as s c ≡ running_going s
+  going_is s = subst (λ (d : Committing). running_as s d ≡ record { draw = record { revision = d.revision; session = s; base = d.base; edit = d.edit; marks = d.marks }; writer = record d.writer { undoing = false; wants = false }; committed = false }) (sym at_outcome) refl
+
+module _ (c : Committing) (going : c.outcome ≡ None) (looked : c.looking ≡ None) where
+  -- before its commit point, where it looks at no previous document
+  at_going : c ≡ record c { outcome = None; looking = None }
+  at_going = ap (λ (o : Option CommitEnd). record c { outcome = o }) going ∙ ap (λ (k : Option Look). record c { outcome = None; looking = k }) looked
 
   -- the update that was due is made
   fed_going_is : (b : Option Document) → fed c (reply.Updated b) ≡ advanced_by c c.writer.due b
-  fed_going_is b = ap (λ (o : Option CommitEnd). fed_by c o (reply.Updated b)) going
+  fed_going_is b = ap (λ (o : Option CommitEnd). fed_by c o (reply.Updated b)) going ∙ ap (λ (k : Option Look). going_by c k (reply.Updated b)) looked
 
   -- ---- a mark is due
 
   module _ (f : Met) (rest : List Met) (due : c.writer.due ≡ f ∷ rest) where
-    at_mark : c ≡ record c { outcome = None; writer = record c.writer { due = f ∷ rest } }
-    at_mark = at_going ∙ ap (λ (ds : List Met). record c { outcome = None; writer = record c.writer { due = ds } }) due
+    at_mark : c ≡ record c { outcome = None; looking = None; writer = record c.writer { due = f ∷ rest } }
+    at_mark = at_going ∙ ap (λ (ds : List Met). record c { outcome = None; looking = None; writer = record c.writer { due = ds } }) due
 
     pub stage_mark : stage_of c ≡ stage.Mark
     stage_mark = subst (λ (d : Committing). stage_of d ≡ stage.Mark) (sym at_mark) refl
@@ -53,10 +71,10 @@ module _ (c : Committing) (going : c.outcome ≡ None) where
   -- ---- a document is to be written
 
   module _ (p : Path) (rest : List Path) (unmet : c.writer.due ≡ []) (left : c.writer.left ≡ p ∷ rest) where
-    at_write : c ≡ record c { outcome = None; writer = record c.writer { due = []; left = p ∷ rest } }
+    at_write : c ≡ record c { outcome = None; looking = None; writer = record c.writer { due = []; left = p ∷ rest } }
     at_write =
-        at_going ∙ (ap (λ (ds : List Met). record c { outcome = None; writer = record c.writer { due = ds } }) unmet
-        ∙ ap (λ (ps : List Path). record c { outcome = None; writer = record c.writer { due = []; left = ps } }) left)
+        at_going ∙ (ap (λ (ds : List Met). record c { outcome = None; looking = None; writer = record c.writer { due = ds } }) unmet
+        ∙ ap (λ (ps : List Path). record c { outcome = None; looking = None; writer = record c.writer { due = []; left = ps } }) left)
 
     pub stage_write : stage_of c ≡ stage.Write
     stage_write = subst (λ (d : Committing). stage_of d ≡ stage.Write) (sym at_write) refl
@@ -70,10 +88,10 @@ module _ (c : Committing) (going : c.outcome ≡ None) where
   -- ---- all is written
 
   module _ (unmet : c.writer.due ≡ []) (none : c.writer.left ≡ []) where
-    at_last : c ≡ record c { outcome = None; writer = record c.writer { due = []; left = [] } }
+    at_last : c ≡ record c { outcome = None; looking = None; writer = record c.writer { due = []; left = [] } }
     at_last =
-        at_going ∙ (ap (λ (ds : List Met). record c { outcome = None; writer = record c.writer { due = ds } }) unmet
-        ∙ ap (λ (ps : List Path). record c { outcome = None; writer = record c.writer { due = []; left = ps } }) none)
+        at_going ∙ (ap (λ (ds : List Met). record c { outcome = None; looking = None; writer = record c.writer { due = ds } }) unmet
+        ∙ ap (λ (ps : List Path). record c { outcome = None; looking = None; writer = record c.writer { due = []; left = ps } }) none)
 
     pub stage_last : stage_of c ≡ stage.Last
     stage_last = subst (λ (d : Committing). stage_of d ≡ stage.Last) (sym at_last) refl
@@ -86,18 +104,6 @@ module _ (c : Committing) (going : c.outcome ≡ None) where
 
     pub blocked_last : (k : Cond) (o : Revision) (item : Item) → fed c (reply.Unmet k (kept.Entry o item)) ≡ refused c item o
     blocked_last k o item = subst (λ (d : Committing). fed d (reply.Unmet k (kept.Entry o item)) ≡ refused d item o) (sym at_last) refl
-
-  -- ---- the committer at work
-
-  abbrev pub running_going : ℕ → Running
-  running_going s = record {
-    draw = record { revision = c.revision; session = s; base = c.base; edit = c.edit; marks = c.marks };
-    writer = record c.writer { undoing = false; wants = false };
-    committed = false;
-  }
-
-  pub going_is : (s : ℕ) → running_as s c ≡ running_going s
-  going_is s = subst (λ (d : Committing). running_as s d ≡ record { draw = record { revision = d.revision; session = s; base = d.base; edit = d.edit; marks = d.marks }; writer = record d.writer { undoing = false; wants = false }; committed = false }) (sym at_going) refl
 
 -- ---- while it undoes
 

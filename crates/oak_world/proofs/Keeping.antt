@@ -1,6 +1,6 @@
 -- What a world keeps after each call for one of its sessions, and what a port tells of it.
 use Rattle.jr_path.specs.declared.path.Path.{Path}
-use Rattle.oak_doc.specs.declared.document.Document.{Document}
+use Rattle.oak_doc.specs.declared.document.PrevEntry.{PrevEntry}
 use mathlib.Core.Bool.{false≢true}
 use Rattle.std.proofs.Common.{◌≡◌, ◌≢◌, ◌↔◌, cond, ℕ, zero, suc, ◌^◌, ◌<◌, ◌≤◌, Bool, true, false, ◌||◌, Option, Some, None, List, [], ◌∷◌, length, map, is_some, refl, sym, ap, subst, ◌∙◌, arith}
 use Rattle.std.specs.Prelude.{◌==◌, slice_get, slice_set, IsSome}
@@ -52,7 +52,7 @@ use Rattle.oak_world.specs.Seen.{no_seat, seat_of, shown_at, shown_by, shown_upk
 use Rattle.oak_world.specs.Steps.{Begins, CanBegin, HasCome, StepsIn, kind_due, kind_of}
 use Rattle.oak_world.specs.Worlds.{ActorState, Story, WorldOf, actor_in, live, node_in, reading_of, running_as, running_of, said_in, state_of, state_with, with_reply, with_work, work_in}
 use Rattle.oak_world.proofs.States.{actor_other, actor_set, session_same, session_set}
-use Rattle.oak_world.proofs.Stages.{done_stage}
+use Rattle.oak_world.proofs.Stages.{counted_stage, done_stage}
 use Rattle.oak_world.proofs.Staying.{may_last}
 use Rattle.oak_world.proofs.StepsOf.{IsStepOf}
 use Rattle.oak_world.proofs.Walking.{any_step}
@@ -155,6 +155,7 @@ idle_shown (work.Upkeep u) h = absurd (upkeep_shown u h)
 staged : (c : Committing) → c.ended ≡ false → (x : Stage) → stage_of c ≡ x → is_some (kind_of x) ≡ true
 staged c unended stage.Mark e = refl
 staged c unended stage.Write e = refl
+staged c unended stage.Look e = refl
 staged c unended stage.Last e = refl
 staged c unended stage.Undo e = refl
 staged c unended stage.Finish e = refl
@@ -230,7 +231,7 @@ module _ (starts : Starts) (says : Says) (proper : StartsProper starts) (last : 
   can_by work.Refresh busy at may places kept short = come_pinned may
   can_by (work.Read r) busy at may places kept short = tt
   can_by (work.Plan edit marks) busy at may places kept short = let t : known_time (memory_of (state_of w) s) ≤ length w.history.past = time_known starts says proper (state_of w) is.kept.sessions (node_in w.history s) node in omega arith
-  can_by (work.Commit c) busy at may places kept short = record { flying = flies_there starts says proper (state_of w) is.kept.sessions s (running_as s c) (ap (running_of s) at); unended = may.unended; kept = kept }
+  can_by (work.Commit c) busy at may places kept short = record { flying = flies_there starts says proper (state_of w) is.kept.sessions s (running_as s c) (ap (running_of s) at); unended = may.unended; counted = counted_stage c may.looked; kept = kept }
   can_by (work.Upkeep u) busy at may places kept short = can_keep_up u may.0
   can_by (work.Move r) busy at may places kept short = record { ended = moved_ended r may; pinned = come_pinned may.0; place = kept }
 
@@ -287,7 +288,7 @@ module _ (starts : Starts) (says : Says) (proper : StartsProper starts) (last : 
       table = table;
       few = subst (λ (h : History). length h.sessions ≤ 64) (sym grown) is.few;
       detached = λ q. subst (λ (h : History). is_attached h.past q ≡ false) (sym grown) (step_is.detached q (is.detached q));
-      unsplit = λ p. ap (λ (f : Path → List Document). f p) step_is.same ∙ is.unsplit p;
+      unsplit = λ p. ap (λ (f : Path → List PrevEntry). f p) step_is.same ∙ is.unsplit p;
       seats = ap length m.actors ∙ (length-set w.actors s _ ∙ (is.seats ∙ sym (ap (λ (h : History). length h.sessions) grown)));
       may = λ q. may_by q (q == s) refl;
     }

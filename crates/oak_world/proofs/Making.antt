@@ -1,6 +1,6 @@
 -- A step of a session on its parts is a step of the state.
 use Rattle.oak_doc.specs.declared.document.Document.{Document}
-use Rattle.core_world.specs.States.{moved_in}
+use Rattle.core_world.specs.States.{listed_at}
 use Rattle.core_world.proofs.Unsplit.{whole_alone}
 use Rattle.std.proofs.Common.{◌≡◌, ◌⊎◌, inl, inr, ℕ, ◌<◌, Bool, true, false, cond, Option, Some, None, List, [], ◌∷◌, ◌++◌, length, drop, sym, ap, subst, ◌∙◌}
 use Rattle.std.proofs.lemmas.List.{reverse-append, reverse-reverse}
@@ -12,7 +12,7 @@ use Rattle.jr_rev.specs.declared.revision.Revision.{Revision}
 use Rattle.jr_rev.specs.Revisions.{is_before}
 use Rattle.oak_clash.specs.Clashes.{commit_root}
 use Rattle.oak_commit.specs.Clashing.{Met, mark_op}
-use Rattle.oak_commit.specs.Committing.{Committing, fed, first_path, is_past, refused as refused_as, wanting, with_undone, written}
+use Rattle.oak_commit.specs.Committing.{Committing, fed, first_path, is_past, refused as refused_as, wanting, with_undone, written_alone}
 use Rattle.oak_commit.specs.Writing.{last_op, write_op}
 use Rattle.oak_doc.specs.declared.asks.Reply.TheVariants as reply
 use Rattle.oak_doc.specs.declared.update.UpdateOp.{UpdateOp}
@@ -142,7 +142,7 @@ module _ {L : Type 0} (w : WorldOf L) (s : ℕ) (there : s < length w.actors) wh
       op = mark_op (root_of w.history.past at.first.other) at.first.other c.revision at.first.theirs
 
       op_is : op_due c ≡ op
-      op_is = op_mark c at.going at.first at.rest at.due ∙ ap (λ (p : Path). mark_op p at.first.other c.revision at.first.theirs) roots
+      op_is = op_mark c at.going at.looked at.first at.rest at.due ∙ ap (λ (p : Path). mark_op p at.first.other c.revision at.first.theirs) roots
 
       refusal_is : (e : Event) → refusal_at c e → e ≡ event.Refuse c.revision at.first.mine at.first.other
       refusal_is e is = subst (λ (ds : List Met). refusal_at (record c { writer = record c.writer { due = ds } }) e) at.due is
@@ -151,12 +151,12 @@ module _ {L : Type 0} (w : WorldOf L) (s : ℕ) (there : s < length w.actors) wh
       marks_is (inl m) =
           update_is (event.Went s kind.Mark) (with_document w.table op.id m.made.document (next_number w.table)) (marked c at.rest) m.list
           (m.made.table ∙ ap (λ (o : UpdateOp). with_document w.table o.id m.made.document (next_number w.table)) op_is)
-          (m.committer ∙ fed_mark c at.going at.first at.rest at.due (found_in w.table (op_due c).id))
+          (m.committer ∙ fed_mark c at.going at.looked at.first at.rest at.due (found_in w.table (op_due c).id))
           ∙ sym (ap (marked_by (state_of w) s (running_as s c) at.first at.rest) (sym (ap (result_of w.table) op_is) ∙ m.made.result))
       marks_is (inr m) =
           update_is (event.Refuse c.revision at.first.mine at.first.other) w.table (refused_as c at.first.mine at.first.other)
           (m.list ∙ ap (λ (e : Event). reverse w.history.past ++ e ∷ []) (refusal_is m.refusal m.told)) m.table
-          (m.committer ∙ blocked_mark c at.going at.first at.rest at.due m.cause m.thing)
+          (m.committer ∙ blocked_mark c at.going at.looked at.first at.rest at.due m.cause m.thing)
           ∙ (ap (λ (x : Running). record (state_of w) { past = event.Refuse c.revision at.first.mine at.first.other ∷ w.history.past; running = with_session (state_of w).running s (Some (record { draw = x.draw; writer = record x.writer { due = []; undoing = true }; committed = x.committed })) }) (sym (going_is c at.going s))
           ∙ sym (ap (marked_by (state_of w) s (running_as s c) at.first at.rest) (sym (ap (result_of w.table) op_is) ∙ m.result)))
 
@@ -165,22 +165,22 @@ module _ {L : Type 0} (w : WorldOf L) (s : ℕ) (there : s < length w.actors) wh
         where
           by : IsMarked s w.table q.table (reverse w.history.past) q.list c d
               → ((now.past ≡ event.Went s kind.Mark ∷ w.history.past) × (d ≡ marked c at.rest)) ⊎ ((now.past ≡ event.Refuse c.revision at.first.mine at.first.other ∷ w.history.past) × (d ≡ refused_as c at.first.mine at.first.other))
-          by (inl m) = inl (told (event.Went s kind.Mark) m.list, m.committer ∙ fed_mark c at.going at.first at.rest at.due (found_in w.table (op_due c).id))
-          by (inr m) = inr (told (event.Refuse c.revision at.first.mine at.first.other) (m.list ∙ ap (λ (e : Event). reverse w.history.past ++ e ∷ []) (refusal_is m.refusal m.told)), m.committer ∙ blocked_mark c at.going at.first at.rest at.due m.cause m.thing)
+          by (inl m) = inl (told (event.Went s kind.Mark) m.list, m.committer ∙ fed_mark c at.going at.looked at.first at.rest at.due (found_in w.table (op_due c).id))
+          by (inr m) = inr (told (event.Refuse c.revision at.first.mine at.first.other) (m.list ∙ ap (λ (e : Event). reverse w.history.past ++ e ∷ []) (refusal_is m.refusal m.told)), m.committer ∙ blocked_mark c at.going at.looked at.first at.rest at.due m.cause m.thing)
 
     -- a document
     module _ (at : IsWriteStage c) where
       op_written : op_due c ≡ write_op c.revision c.edit.writes c.marks at.first
-      op_written = op_write c at.going at.first at.rest at.unmet at.left
+      op_written = op_write c at.going at.looked at.first at.rest at.unmet at.left
 
       table_written : IsMade w.table q.table (op_due c) → q.table ≡ after_update w.table (write_op c.revision c.edit.writes c.marks at.first)
       table_written m = m.table ∙ (sym (ap (with_result w.table (op_due c).id) m.result) ∙ ap (after_update w.table) op_written)
 
       abbrev stands : Committing
-      stands = written c at.first at.rest (nodes_in w.table at.first)
+      stands = written_alone c at.first at.rest (nodes_in w.table at.first)
 
-      fed_is : fed_made w.table c ≡ stands
-      fed_is = ap (λ (o : UpdateOp). fed c (reply.Updated (found_in w.table o.id))) op_written ∙ fed_write c at.going at.first at.rest at.unmet at.left (nodes_in w.table at.first)
+      fed_is : listed_at w.table at.first ≡ [] → fed_made w.table c ≡ stands
+      fed_is alone = ap (λ (o : UpdateOp). fed c (reply.Updated (found_in w.table o.id))) op_written ∙ fed_write c at.going at.looked at.first at.rest at.unmet at.left (nodes_in w.table at.first) ∙ looked_alone c at.first at.rest (nodes_in w.table at.first) alone
 
       -- the document is all that the committer looks at, where no previous one is listed
       seen_whole : Option Document → State
@@ -190,7 +190,7 @@ module _ {L : Type 0} (w : WorldOf L) (s : ℕ) (there : s < length w.actors) wh
         running = with_session (state_of w).running s (Some (record { draw = (running_as s c).draw; writer = record (running_as s c).writer { left = at.rest; written = c.writer.written ++ at.first ∷ []; due = Rattle.oak_commit.specs.Clashing.found c.base c.revision at.first c.marks o }; committed = (running_as s c).committed }));
       }
 
-      pub makes_write : moved_in w.table at.first ≡ [] → IsWritten s w.table q.table (reverse w.history.past) q.list c d → MakesUpdate s (state_of w) c now d kind.Write
+      pub makes_write : listed_at w.table at.first ≡ [] → IsWritten s w.table q.table (reverse w.history.past) q.list c d → MakesUpdate s (state_of w) c now d kind.Write
       unfolding seen_whole
       makes_write alone m = (at.first, at.rest, at.going, at.unmet, at.left, by m.committer)
         where
@@ -199,27 +199,27 @@ module _ {L : Type 0} (w : WorldOf L) (s : ℕ) (there : s < length w.actors) wh
 
           by : (d ≡ fed_made w.table c) ⊎ (d ≡ wanting (fed_made w.table c))
               → ((now ≡ after_write (state_of w) s (running_as s c) at.first at.rest) × (d ≡ stands)) ⊎ ((now ≡ after_write_in_want (state_of w) s (running_as s c) at.first at.rest) × (d ≡ wanting stands))
-          by (inl e) = inl (update_is (event.Went s kind.Write) (after_update w.table (write_op c.revision c.edit.writes c.marks at.first)) stands m.list (table_written m.made) (e ∙ fed_is) ∙ seen_alone, e ∙ fed_is)
+          by (inl e) = inl (update_is (event.Went s kind.Write) (after_update w.table (write_op c.revision c.edit.writes c.marks at.first)) stands m.list (table_written m.made) (e ∙ fed_is alone) ∙ seen_alone, e ∙ fed_is alone)
           by (inr e) = inr (
-            update_is (event.Went s kind.Write) (after_update w.table (write_op c.revision c.edit.writes c.marks at.first)) (wanting stands) m.list (table_written m.made) (e ∙ ap wanting fed_is)
+            update_is (event.Went s kind.Write) (after_update w.table (write_op c.revision c.edit.writes c.marks at.first)) (wanting stands) m.list (table_written m.made) (e ∙ ap wanting (fed_is alone))
                 ∙ ap (λ (b : Bool). record (state_of w) { past = event.Went s kind.Write ∷ w.history.past; table = after_update w.table (write_op c.revision c.edit.writes c.marks at.first); running = with_session (state_of w).running s (Some (record (running_as s (wanting stands)) { committed = b })) }) (sym (ap is_past at.going)),
-            e ∙ ap wanting fed_is,
+            e ∙ ap wanting (fed_is alone),
           )
 
     -- the last write
     module _ (at : IsLastStage c) where
       op_lasts : op_due c ≡ last_op c.revision c.marks
-      op_lasts = op_last c at.going at.unmet at.none
+      op_lasts = op_last c at.going at.looked at.unmet at.none
 
       lasts_is : IsLast w.table q.table (reverse w.history.past) q.list c d → now ≡ after_last (state_of w) s (running_as s c)
       lasts_is (inl m) =
           update_is (event.Commit c.revision) (with_document w.table (id.Node (commit_root c.marks)) m.made.document (next_number w.table)) (committed c) m.list
           (m.made.table ∙ ap (λ (o : UpdateOp). with_document w.table o.id m.made.document (next_number w.table)) op_lasts)
-          (m.committer ∙ fed_last c at.going at.unmet at.none (found_in w.table (op_due c).id))
+          (m.committer ∙ fed_last c at.going at.looked at.unmet at.none (found_in w.table (op_due c).id))
           ∙ (ap (λ (x : Running). record (state_of w) { past = event.Commit c.revision ∷ w.history.past; table = with_document w.table (id.Node (commit_root c.marks)) m.made.document (next_number w.table); running = with_session (state_of w).running s (Some (record { draw = x.draw; writer = x.writer; committed = true })) }) (sym (going_is c at.going s))
           ∙ sym (ap (lasted_by (state_of w) s (running_as s c)) (sym (ap (result_of w.table) op_lasts) ∙ m.made.result)))
       lasts_is (inr m) =
-          update_is (event.Refuse c.revision m.item m.other) w.table (refused_as c m.item m.other) m.list m.table (m.committer ∙ blocked_last c at.going at.unmet at.none m.cause m.other m.item)
+          update_is (event.Refuse c.revision m.item m.other) w.table (refused_as c m.item m.other) m.list m.table (m.committer ∙ blocked_last c at.going at.looked at.unmet at.none m.cause m.other m.item)
           ∙ (ap (λ (x : Running). record (state_of w) { past = event.Refuse c.revision m.item m.other ∷ w.history.past; running = with_session (state_of w).running s (Some (record { draw = x.draw; writer = record x.writer { due = []; undoing = true }; committed = x.committed })) }) (sym (going_is c at.going s))
           ∙ sym (ap (lasted_by (state_of w) s (running_as s c)) (sym (ap (result_of w.table) op_lasts) ∙ m.result)))
 
@@ -228,8 +228,8 @@ module _ {L : Type 0} (w : WorldOf L) (s : ℕ) (there : s < length w.actors) wh
         where
           by : IsLast w.table q.table (reverse w.history.past) q.list c d
               → ((now.past ≡ event.Commit c.revision ∷ w.history.past) × (d ≡ committed c)) ⊎ ((item : Item) × (o : Revision) × (now.past ≡ event.Refuse c.revision item o ∷ w.history.past) × (d ≡ refused_as c item o))
-          by (inl m) = inl (told (event.Commit c.revision) m.list, m.committer ∙ fed_last c at.going at.unmet at.none (found_in w.table (op_due c).id))
-          by (inr m) = inr (m.item, m.other, told (event.Refuse c.revision m.item m.other) m.list, m.committer ∙ blocked_last c at.going at.unmet at.none m.cause m.other m.item)
+          by (inl m) = inl (told (event.Commit c.revision) m.list, m.committer ∙ fed_last c at.going at.looked at.unmet at.none (found_in w.table (op_due c).id))
+          by (inr m) = inr (m.item, m.other, told (event.Refuse c.revision m.item m.other) m.list, m.committer ∙ blocked_last c at.going at.looked at.unmet at.none m.cause m.other m.item)
 
     -- an undoing
     module _ (at : IsUndoStage c) where

@@ -1,6 +1,6 @@
 -- The world before any step.
 use Rattle.jr_path.specs.declared.path.Path.{Path}
-use Rattle.core_world.proofs.Begun.{start_moved}
+use Rattle.core_world.proofs.Begun.{start_lists}
 use Rattle.std.proofs.Common.{◌≡◌, ℕ, zero, suc, ◌+◌, ◌-◌, ◌≤◌, List, [], ◌∷◌, ◌++◌, length, map, Option, Some, None, refl, sym, ap, subst, ◌∙◌, arith}
 use Rattle.std.specs.Prelude.{reverse, slice_get, sum_by}
 use Rattle.std.specs.List.{range_with_len}
@@ -10,6 +10,7 @@ use Rattle.std.specs.List.Sorted.{IsStrictlySortedBy}
 use Rattle.std.proofs.lemmas.List.{length-map}
 use Rattle.std.proofs.lemmas.List.Elements.{All-from_recursion}
 use Rattle.oak_doc.specs.declared.document.Document.{Document}
+use Rattle.oak_doc.specs.declared.document.PrevEntry.{PrevEntry}
 use Rattle.oak_machine.specs.Laws.{Says, Starts}
 use Rattle.oak_machine.specs.Runs.{AreNodes}
 use Rattle.jr_rev.specs.declared.revision.Revision.{Revision}
@@ -66,7 +67,7 @@ start_is_world starts says law clusters sessions few nodes = record {
   table = start_in_order clusters (length sessions);
   few = few;
   detached = λ s. refl;
-  unsplit = λ p. ap (λ (f : Path → List Document). f p) (start_moved clusters (length sessions));
+  unsplit = λ p. ap (λ (f : Path → List PrevEntry). f p) (start_lists clusters (length sessions));
   seats = length-map sessions (λ k. idle);
   may = λ s. subst (λ (v : Work). May starts (live (start_world law clusters sessions).history) s v) (sym (idle_works sessions s)) tt;
 }

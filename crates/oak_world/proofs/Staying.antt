@@ -89,6 +89,7 @@ module _ (starts : Starts) (says : Says) (last : StartsLast starts says) (h : St
     come = come_left (live h) q own others may.come;
     unended = may.unended;
     roots = may.roots ∙ sym (same_roots (λ f. root_of (own ++ h.past) f.other) (λ f. root_of h.past f.other) c.writer.due (λ f i. roots_last starts says h.clusters h.sessions nodes own h.past f.other now (drawn c refl f i)));
+    looked = may.looked;
   }
   may_last (work.Upkeep u) drawn may = (come_left (live h) q own others may.0, upkeep_lasts starts says h nodes q own now u may.1)
   may_last (work.Move r) drawn may = (come_left (live h) q own others may.0, ended_lasts r own h.past may.1, may.2)

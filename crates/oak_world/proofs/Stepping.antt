@@ -1,6 +1,6 @@
 -- A step of a session on its parts is, by what it does, one of the steps of the state.
 use Rattle.jr_path.specs.declared.path.Path.{Path}
-use Rattle.core_world.specs.States.{moved_in}
+use Rattle.core_world.specs.States.{listed_at}
 use Rattle.std.proofs.Common.{◌≡◌, inl, inr, ℕ, ◌<◌, Bool, Option, Some, None, List, [], ◌∷◌, ◌++◌, length, map, refl, sym, ap, ◌∙◌}
 use Rattle.std.proofs.lemmas.List.{reverse-reverse}
 use Rattle.std.specs.Prelude.{reverse}
@@ -46,7 +46,7 @@ use Rattle.oak_world.proofs.Stages.{IsMarkStage, last_stage, mark_stage, undo_st
 same_parts : (p q : Parts) → p.table ≡ q.table → p.memory ≡ q.memory → p.list ≡ q.list → p ≡ q
 same_parts p q t m es = ap (λ (x : Table). parts x p.memory p.list) t ∙ (ap (λ (x : NodeState). parts q.table x p.list) m ∙ ap (λ (x : List Event). parts q.table q.memory x) es)
 
-module _ {L : Type 0} (w : WorldOf L) (s : ℕ) (there : s < length w.actors) (q : Parts) (v : Work) (a : ActorState) (does : a.work ≡ v) (unsplit : (p : Path) → moved_in w.table p ≡ []) where
+module _ {L : Type 0} (w : WorldOf L) (s : ℕ) (there : s < length w.actors) (q : Parts) (v : Work) (a : ActorState) (does : a.work ≡ v) (unsplit : (p : Path) → listed_at w.table p ≡ []) where
   abbrev node : ℕ
   node = node_in w.history s
 

@@ -9,7 +9,7 @@ use Rattle.oak_machine.specs.Laws.{AreOthers, Says, Starts, after, is_event_of}
 use Rattle.oak_machine.specs.Sessions.{is_attached}
 use Rattle.oak_machine.specs.Steps.{is_kind, kind_number, where_test}
 use Rattle.core_world.specs.Kept.{IsKept}
-use Rattle.core_world.specs.States.{State, history_in, moved_in}
+use Rattle.core_world.specs.States.{State, history_in, listed_at}
 use Rattle.core_world.proofs.Flights.{number_itself, other_number, same_number}
 use Rattle.oak_port.specs.declared.task.StepOut.{StepOut}
 use Rattle.oak_port.specs.Ports.{AreOfStep, Makes as Tells, is_by_due}
@@ -26,7 +26,7 @@ pub record IsStepOf (starts : Starts) (says : Says) (s : ℕ) (w : State) (v : W
   pub may : May starts (after own (history_in w)) s x
   pub apart : (q : ℕ) → (q == s) ≡ false → AreOthers q own w.past
   pub detached : (q : ℕ) → is_attached w.past q ≡ false → is_attached (own ++ w.past) q ≡ false
-  pub same : moved_in u.table ≡ moved_in w.table
+  pub same : listed_at u.table ≡ listed_at w.table
   pub tells : Tells (history_in w) s (shown_work v) o own (shown_work x)
   pub of_step : AreOfStep (history_in w) s (shown_work v) o own
   pub as_due : is_by_due (kind_due v) own ≡ true

@@ -1,5 +1,5 @@
 -- The steps of background work and on the settings, from one state to the next.
-use Rattle.core_world.proofs.Unsplit.{back_moved, settings_moved}
+use Rattle.core_world.proofs.Unsplit.{back_lists, settings_lists}
 use Rattle.std.proofs.Common.{◌≡◌, ℕ, true, false, ◌&&◌, Option, Some, None, List, [], ◌∷◌, is_some, refl, sym, ap, subst, ◌∙◌}
 use Rattle.std.specs.Prelude.{◌==◌, IsSome, slice_get}
 use Rattle.std.specs.BTreeMap.{is_at}
@@ -124,7 +124,7 @@ module _ (starts : Starts) (says : Says) (proper : StartsProper starts) (w : Sta
         may = (record { login = come.login; stays = come.stays }, ((own.0, local_lasts starts says w.clusters w.sessions kept.sessions.nodes (event.Went s kind.Back ∷ []) w.past kept_then.sessions.run r r.cluster own.1), below));
         apart = apart_one w.past s (event.Went s kind.Back) (λ q m. flipped q s m);
         detached = λ q m. m;
-        same = back_moved w.table (names_of i) r;
+        same = back_lists w.table (names_of i) r;
         tells = subst (λ (y : Shows). Tells (history_in w) s y (answers.Went kind.Back) (event.Went s kind.Back ∷ []) (Publishing r)) (sym shown) (refl, refl, refl);
         of_step = kind_told kind.Back (s == s && true) (with_true (s == s) (number_itself s));
         as_due = refl;
@@ -141,7 +141,7 @@ module _ (starts : Starts) (says : Says) (proper : StartsProper starts) (w : Sta
         may = tt;
         apart = apart_one w.past s (event.Out (node_of w s) r) (λ q m. refl);
         detached = λ q m. m;
-        same = back_moved w.table [] r;
+        same = back_lists w.table [] r;
         tells = subst (λ (y : Shows). Tells (history_in w) s y (answers.Ready (ends.Published r)) (event.Out (node_of w s) r ∷ []) Idle) (sym shown) (node_of w s, on, refl, refl, refl);
         of_step = subst (λ (y : Shows). AreOfStep (history_in w) s y (answers.Ready (ends.Published r)) (event.Out (node_of w s) r ∷ [])) (sym shown) (kind_told kind.Back (is_on (history_in w) s (node_of w s)) is_mine);
         as_due = refl;
@@ -201,7 +201,7 @@ module _ (starts : Starts) (says : Says) (proper : StartsProper starts) (w : Sta
       may = tt;
       apart = apart_one w.past s (event.Checkpoint i pin.base) (λ q m. refl);
       detached = λ q m. m;
-      same = settings_moved w.table (change.Checkpoint i pin);
+      same = settings_lists w.table (change.Checkpoint i pin);
       tells = (pin.base, base_is starts says proper w kept.sessions s come.login come.stays detached ∙ ap (λ (o : Option Pin). Some (option_map_or (λ (p : Pin). p.base) o (memory_of w s).head)) has, refl, refl);
       of_step = refl;
       as_due = refl;
@@ -226,7 +226,7 @@ module _ (starts : Starts) (says : Says) (proper : StartsProper starts) (w : Sta
       may = tt;
       apart = apart_one w.past s (event.Release i) (λ q m. refl);
       detached = λ q m. m;
-      same = settings_moved w.table (change.Release i);
+      same = settings_lists w.table (change.Release i);
       tells = (refl, refl);
       of_step = refl;
       as_due = refl;
@@ -242,7 +242,7 @@ module _ (starts : Starts) (says : Says) (proper : StartsProper starts) (w : Sta
           may = tt;
           apart = apart_one w.past s (event.Went s kind.Settings) (λ q m. flipped q s m);
           detached = λ q m. m;
-          same = settings_moved w.table (change.Release i);
+          same = settings_lists w.table (change.Release i);
           tells = (gone, refl, refl);
           of_step = kind_told kind.Settings (s == s && true) (with_true (s == s) (number_itself s));
           as_due = refl;

@@ -1,6 +1,6 @@
 -- What a step of a session keeps, and what the session is told by it.
 use Rattle.core_world.specs.States.{moved_in}
-use Rattle.core_world.proofs.Unsplit.{last_moved, mark_moved, undoing_moved, want_moved, write_moved}
+use Rattle.core_world.proofs.Unsplit.{last_lists, mark_lists, undoing_lists, want_lists, write_lists}
 use Rattle.std.proofs.Common.{◌≡◌, ◌⊎◌, inl, inr, ℕ, Bool, true, false, cond, not, ◌&&◌, Option, Some, None, List, [], ◌∷◌, ◌++◌, map, drop, is_some, refl, sym, ap, subst, ◌∙◌}
 use Rattle.std.specs.Prelude.{◌==◌, slice_get, reverse}
 use Rattle.std.specs.List.{list_any}
@@ -19,7 +19,7 @@ use Rattle.jr_tree.specs.Trees.{Nodes, dated_children_of, initial_tree, node_at}
 use Rattle.oak_clash.specs.declared.mark.MarkAt.{MarkAt}
 use Rattle.oak_clash.specs.Clashes.{commit_root, marked_paths}
 use Rattle.oak_commit.specs.Clashing.{Met, found, mark_op}
-use Rattle.oak_commit.specs.Committing.{Committing, begun, is_past, refused, roots_in, wanting, with_undone, written}
+use Rattle.oak_commit.specs.Committing.{Committing, begun, is_past, refused, roots_in, wanting, with_undone, written_alone}
 use Rattle.oak_commit.specs.Kept.{undoes}
 use Rattle.oak_commit.specs.Stages.{stage_of}
 use Rattle.oak_commit.specs.declared.outcome.CommitEnd.{CommitEnd}
@@ -394,7 +394,7 @@ module _ (starts : Starts) (says : Says) (proper : StartsProper starts) (w : Sta
     own = event.Draw (draw_in w s edit marks) ∷ [];
     grown = refl;
     kept = draw_whole starts says proper w kept s edit marks (marked_paths marks) come.login come.stays apart_now idle lawful;
-    may = record { come = record { login = come.login; stays = come.stays }; unended = refl; roots = refl };
+    may = record { come = record { login = come.login; stays = come.stays }; unended = refl; roots = refl; looked = refl };
     apart = apart_one w.past s (event.Draw (draw_in w s edit marks)) (λ q k. flipped q s k);
     detached = λ q k. k;
     same = refl;
@@ -450,7 +450,7 @@ module _ (starts : Starts) (says : Says) (proper : StartsProper starts) (w : Sta
         own = [];
         grown = refl;
         kept = want_whole starts says proper w kept s x here uncommitted unundone;
-        may = record { come = at.come; unended = at.unended; roots = refl };
+        may = record { come = at.come; unended = at.unended; roots = refl; looked = refl };
         apart = λ q k. refl;
         detached = λ q k. k;
         same = refl;
@@ -476,13 +476,13 @@ module _ (starts : Starts) (says : Says) (proper : StartsProper starts) (w : Sta
           own = event.Went s kind.Mark ∷ [];
           grown = mark_grown (event.Went s kind.Mark ∷ []) past;
           kept = mark_kept;
-          may = record { come = record { login = at.come.login; stays = at.come.stays }; unended = at.unended; roots = ap (drop 1) at.roots ∙ ap (λ (fs : List Met). drop 1 (map (λ m. root_of w.past m.other) fs)) due_is };
+          may = record { come = record { login = at.come.login; stays = at.come.stays }; unended = at.unended; roots = ap (drop 1) at.roots ∙ ap (λ (fs : List Met). drop 1 (map (λ m. root_of w.past m.other) fs)) due_is; looked = at.looked };
           apart = apart_went kind.Mark;
           detached = λ q k. k;
-          same = mark_moved w s x f rest;
+          same = mark_lists w s x f rest;
           tells = writing (answers.Went kind.Mark) (event.Went s kind.Mark ∷ []) (shown_work (work.Commit (marked c rest))) (inr (inl (refl, refl, still_writing (marked c rest) refl refl)));
           of_step = kind_told kind.Mark (s == s && true) (with_true (s == s) (number_itself s));
-          as_due = ap (λ (y : Stage). is_due kind.Mark (kind_of y)) (stage_mark c going f rest due_is);
+          as_due = ap (λ (y : Stage). is_due kind.Mark (kind_of y)) (stage_mark c going at.looked f rest due_is);
         })
 
         pub mark_refused_step : (d : Committing) → (after_mark w s x f rest).past ≡ event.Refuse c.revision f.mine f.other ∷ w.past → d ≡ refused c f.mine f.other → StepOf (work.Commit c) (after_mark w s x f rest) (work.Commit d) (answers.Went kind.Mark)
@@ -490,10 +490,10 @@ module _ (starts : Starts) (says : Says) (proper : StartsProper starts) (w : Sta
           own = event.Refuse c.revision f.mine f.other ∷ [];
           grown = mark_grown (event.Refuse c.revision f.mine f.other ∷ []) past;
           kept = mark_kept;
-          may = record { come = record { login = at.come.login; stays = at.come.stays }; unended = at.unended; roots = refl };
+          may = record { come = record { login = at.come.login; stays = at.come.stays }; unended = at.unended; roots = refl; looked = at.looked };
           apart = apart_refusal f.mine f.other;
           detached = λ q k. k;
-          same = mark_moved w s x f rest;
+          same = mark_lists w s x f rest;
           tells = refusal_tells kind.Mark f.mine f.other (refused c f.mine f.other) refl;
           of_step = ap (λ t. list_any (is_kind kind.Mark) (where_test t (kind.Mark ∷ kind.Last ∷ []))) revision_mine;
           as_due = refl;
@@ -504,32 +504,32 @@ module _ (starts : Starts) (says : Says) (proper : StartsProper starts) (w : Sta
         abbrev met : List Met
         met = found c.base c.revision p c.marks (nodes_in w.table p)
 
-        pub wrote_step : StepOf (work.Commit c) (after_write w s x p rest) (work.Commit (written c p rest (nodes_in w.table p))) (answers.Went kind.Write)
+        pub wrote_step : StepOf (work.Commit c) (after_write w s x p rest) (work.Commit (written_alone c p rest (nodes_in w.table p))) (answers.Went kind.Write)
         wrote_step = record {
           own = event.Went s kind.Write ∷ [];
           grown = refl;
           kept = write_whole starts says proper w kept s x p rest here uncommitted unundone unmet left;
-          may = record { come = record { login = at.come.login; stays = at.come.stays }; unended = at.unended; roots = roots_met c.base c.revision p c.marks (root_of w.past) (nodes_in w.table p) (λ f i. met_here starts says proper w kept.sessions s x here p f i) };
+          may = record { come = record { login = at.come.login; stays = at.come.stays }; unended = at.unended; roots = roots_met c.base c.revision p c.marks (root_of w.past) (nodes_in w.table p) (λ f i. met_here starts says proper w kept.sessions s x here p f i); looked = refl };
           apart = apart_went kind.Write;
           detached = λ q k. k;
-          same = write_moved w s x p rest;
-          tells = writing (answers.Went kind.Write) (event.Went s kind.Write ∷ []) (shown_work (work.Commit (written c p rest (nodes_in w.table p)))) (inl (refl, refl, inl (still_writing (written c p rest (nodes_in w.table p)) refl refl)));
+          same = write_lists w s x p rest;
+          tells = writing (answers.Went kind.Write) (event.Went s kind.Write ∷ []) (shown_work (work.Commit (written_alone c p rest (nodes_in w.table p)))) (inl (refl, refl, inl (still_writing (written_alone c p rest (nodes_in w.table p)) refl refl)));
           of_step = kind_told kind.Write (s == s && true) (with_true (s == s) (number_itself s));
-          as_due = ap (λ (y : Stage). is_due kind.Write (kind_of y)) (stage_write c going p rest unmet left);
+          as_due = ap (λ (y : Stage). is_due kind.Write (kind_of y)) (stage_write c going at.looked p rest unmet left);
         }
 
-        pub wrote_in_want_step : StepOf (work.Commit c) (after_write_in_want w s x p rest) (work.Commit (wanting (written c p rest (nodes_in w.table p)))) (answers.Went kind.Write)
+        pub wrote_in_want_step : StepOf (work.Commit c) (after_write_in_want w s x p rest) (work.Commit (wanting (written_alone c p rest (nodes_in w.table p)))) (answers.Went kind.Write)
         wrote_in_want_step = record {
           own = event.Went s kind.Write ∷ [];
           grown = refl;
           kept = write_in_want_whole starts says proper w kept s x p rest here uncommitted unundone unmet left;
-          may = record { come = record { login = at.come.login; stays = at.come.stays }; unended = at.unended; roots = refl };
+          may = record { come = record { login = at.come.login; stays = at.come.stays }; unended = at.unended; roots = refl; looked = refl };
           apart = apart_went kind.Write;
           detached = λ q k. k;
-          same = want_moved w s x p rest;
-          tells = writing (answers.Went kind.Write) (event.Went s kind.Write ∷ []) (shown_work (work.Commit (wanting (written c p rest (nodes_in w.table p))))) (inl (refl, refl, inr refl));
+          same = want_lists w s x p rest;
+          tells = writing (answers.Went kind.Write) (event.Went s kind.Write ∷ []) (shown_work (work.Commit (wanting (written_alone c p rest (nodes_in w.table p))))) (inl (refl, refl, inr refl));
           of_step = kind_told kind.Write (s == s && true) (with_true (s == s) (number_itself s));
-          as_due = ap (λ (y : Stage). is_due kind.Write (kind_of y)) (stage_write c going p rest unmet left);
+          as_due = ap (λ (y : Stage). is_due kind.Write (kind_of y)) (stage_write c going at.looked p rest unmet left);
         }
 
       -- the last write
@@ -553,13 +553,13 @@ module _ (starts : Starts) (says : Says) (proper : StartsProper starts) (w : Sta
           own = event.Commit c.revision ∷ [];
           grown = last_grown (event.Commit c.revision ∷ []) past;
           kept = last_kept;
-          may = record { come = record { login = at.come.login; stays = at.come.stays }; unended = at.unended; roots = at.roots };
+          may = record { come = record { login = at.come.login; stays = at.come.stays }; unended = at.unended; roots = at.roots; looked = at.looked };
           apart = apart_one w.past s (event.Commit c.revision) (λ q k. its_session q false (flipped q s k));
           detached = λ q k. k;
-          same = last_moved w s x;
+          same = last_lists w s x;
           tells = writing (answers.Went kind.Last) (event.Commit c.revision ∷ []) (shown_work (work.Commit (committed c))) (inr (inr (inl (refl, refl, refl))));
           of_step = kind_told kind.Last (is_revision_of w.past s c.revision) revision_mine;
-          as_due = ap (λ (y : Stage). is_due kind.Last (kind_of y)) (stage_last c going unmet none_left);
+          as_due = ap (λ (y : Stage). is_due kind.Last (kind_of y)) (stage_last c going at.looked unmet none_left);
         })
 
         pub last_refused_step : (d : Committing) (item : Item) (o : Revision) → (after_last w s x).past ≡ event.Refuse c.revision item o ∷ w.past → d ≡ refused c item o → StepOf (work.Commit c) (after_last w s x) (work.Commit d) (answers.Went kind.Last)
@@ -567,10 +567,10 @@ module _ (starts : Starts) (says : Says) (proper : StartsProper starts) (w : Sta
           own = event.Refuse c.revision item o ∷ [];
           grown = last_grown (event.Refuse c.revision item o ∷ []) past;
           kept = last_kept;
-          may = record { come = record { login = at.come.login; stays = at.come.stays }; unended = at.unended; roots = refl };
+          may = record { come = record { login = at.come.login; stays = at.come.stays }; unended = at.unended; roots = refl; looked = at.looked };
           apart = apart_refusal item o;
           detached = λ q k. k;
-          same = last_moved w s x;
+          same = last_lists w s x;
           tells = refusal_tells kind.Last item o (refused c item o) refl;
           of_step = ap (λ t. list_any (is_kind kind.Last) (where_test t (kind.Mark ∷ kind.Last ∷ []))) revision_mine;
           as_due = refl;
@@ -583,10 +583,10 @@ module _ (starts : Starts) (says : Says) (proper : StartsProper starts) (w : Sta
       own = event.Went s kind.Undo ∷ [];
       grown = refl;
       kept = undo_whole starts says proper w kept s x p rest here (not_past c.outcome undoing) undoing next;
-      may = record { come = record { login = at.come.login; stays = at.come.stays }; unended = at.unended; roots = at.roots };
+      may = record { come = record { login = at.come.login; stays = at.come.stays }; unended = at.unended; roots = at.roots; looked = at.looked };
       apart = apart_went kind.Undo;
       detached = λ q k. k;
-      same = undoing_moved w s x p rest;
+      same = undoing_lists w s x p rest;
       tells = undoing_tells h s c.revision c.outcome undoing;
       of_step = kind_told kind.Undo (s == s && true) (with_true (s == s) (number_itself s));
       as_due = refl;
@@ -714,9 +714,9 @@ module _ (starts : Starts) (says : Says) (proper : StartsProper starts) (w : Sta
     write_any : MakesUpdate s w c u d kind.Write → StepOf (work.Commit c) u (work.Commit d) (answers.Went kind.Write)
     write_any g = by g.5
       where
-        by : ((u ≡ after_write w s (running_as s c) g.0 g.1) × (d ≡ written c g.0 g.1 (nodes_in w.table g.0))) ⊎ ((u ≡ after_write_in_want w s (running_as s c) g.0 g.1) × (d ≡ wanting (written c g.0 g.1 (nodes_in w.table g.0)))) → StepOf (work.Commit c) u (work.Commit d) (answers.Went kind.Write)
-        by (inl e) = at_both (work.Commit c) (answers.Went kind.Write) (after_write w s (running_as s c) g.0 g.1) (written c g.0 g.1 (nodes_in w.table g.0)) u d e.0 e.1 (wrote_step c here at g.2 g.0 g.1 g.3 g.4)
-        by (inr e) = at_both (work.Commit c) (answers.Went kind.Write) (after_write_in_want w s (running_as s c) g.0 g.1) (wanting (written c g.0 g.1 (nodes_in w.table g.0))) u d e.0 e.1 (wrote_in_want_step c here at g.2 g.0 g.1 g.3 g.4)
+        by : ((u ≡ after_write w s (running_as s c) g.0 g.1) × (d ≡ written_alone c g.0 g.1 (nodes_in w.table g.0))) ⊎ ((u ≡ after_write_in_want w s (running_as s c) g.0 g.1) × (d ≡ wanting (written_alone c g.0 g.1 (nodes_in w.table g.0)))) → StepOf (work.Commit c) u (work.Commit d) (answers.Went kind.Write)
+        by (inl e) = at_both (work.Commit c) (answers.Went kind.Write) (after_write w s (running_as s c) g.0 g.1) (written_alone c g.0 g.1 (nodes_in w.table g.0)) u d e.0 e.1 (wrote_step c here at g.2 g.0 g.1 g.3 g.4)
+        by (inr e) = at_both (work.Commit c) (answers.Went kind.Write) (after_write_in_want w s (running_as s c) g.0 g.1) (wanting (written_alone c g.0 g.1 (nodes_in w.table g.0))) u d e.0 e.1 (wrote_in_want_step c here at g.2 g.0 g.1 g.3 g.4)
 
     last_any : MakesUpdate s w c u d kind.Last → StepOf (work.Commit c) u (work.Commit d) (answers.Went kind.Last)
     last_any g = subst (λ (y : State). StepOf (work.Commit c) y (work.Commit d) (answers.Went kind.Last)) (sym g.3) (by g.4)

@@ -1,7 +1,7 @@
 -- What each world keeps.
 use Rattle.jr_path.specs.declared.path.Path.{Path}
-use Rattle.core_world.specs.States.{moved_in}
-use Rattle.std.specs.Prelude.{◌≡◌, ◌≤◌, ◌+◌, ℕ, false, cond, [], ◌∷◌, List, length, map, sum_by, slice_get, Some, is_some, IsTrue, IsFalse}
+use Rattle.core_world.specs.States.{listed_at}
+use Rattle.std.specs.Prelude.{◌≡◌, ◌≤◌, ◌+◌, ℕ, false, cond, [], ◌∷◌, List, length, map, sum_by, slice_get, None, Some, is_some, IsTrue, IsFalse}
 use Rattle.oak_commit.specs.Committing.{Committing}
 use Rattle.oak_machine.specs.History.{History}
 use Rattle.oak_machine.specs.Commits.{is_ended}
@@ -26,11 +26,12 @@ use Rattle.oak_world.specs.Parts.{needed}
 use Rattle.oak_world.specs.Worlds.{WorldOf, live, state_of, work_in}
 use Rattle.oak_world.specs.Steps.{HasCome}
 
--- the session has come, and the commit hasn't ended; it goes to the commit roots of those that it is to mark
+-- the session has come, and the commit hasn't ended; it goes to the commit roots of those that it is to mark, and looks at no previous document
 pub record IsAtWork (h : History) (s : ℕ) (c : Committing) : Type 0 where
   pub come : HasCome h s
   pub unended : c.ended ≡ false
   pub roots : c.roots ≡ map (λ f. root_of h.past f.other) c.writer.due
+  pub looked : c.looking ≡ None
 
 -- the revision is one of the session's cluster node, at most its local one
 abbrev pub IsOwn : History → ℕ → Revision → Type 0
@@ -66,7 +67,7 @@ pub record IsWorld (starts : Starts) (says : Says) {L : Type 0} (w : WorldOf L) 
   pub table : IsTable w.table.documents
   pub few : length w.history.sessions ≤ 64
   pub detached : (s : ℕ) → IsFalse (is_attached w.history.past s)
-  pub unsplit : (p : Path) → moved_in w.table p ≡ []
+  pub unsplit : (p : Path) → listed_at w.table p ≡ []
   pub seats : length w.actors ≡ length w.history.sessions
   pub may : (s : ℕ) → May starts (live w.history) s (work_in w.actors s)
 

@@ -240,6 +240,11 @@ IsUpdating stage.Last = Unit {0}
 IsUpdating stage.Undo = Unit {0}
 IsUpdating _ = ⊥
 
+-- no previous document is to be looked at
+abbrev pub IsCounted : Stage → Type 0
+IsCounted stage.Look = ⊥
+IsCounted _ = Unit {0}
+
 -- nothing is due but the end
 pub record IsOver (c : Committing) : Type 0 where
   pub finish : stage_of c ≡ stage.Finish
@@ -367,10 +372,11 @@ needed _ = 0
 
 -- ---- what a step takes
 
--- the revision is in flight by the memory, it hasn't ended, and places are kept
+-- the revision is in flight by the memory, it hasn't ended, no previous document is looked at, and places are kept
 pub record CanCommit (m : NodeState) (places : ℕ) (c : Committing) : Type 0 where
   pub flying : IsInFlight m c.revision
   pub unended : c.ended ≡ false
+  pub counted : IsCounted (stage_of c)
   pub kept : needed_by c ≤ places
 
 -- the revision has ended by the memory, the session is pinned, and a place is kept

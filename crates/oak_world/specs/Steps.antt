@@ -10,7 +10,7 @@ use Rattle.jr_rev.specs.declared.vector.Pin.{Pin}
 use Rattle.jr_rev.specs.Vectors.{sees}
 use Rattle.oak_clash.specs.Clashes.{marked_paths}
 use Rattle.oak_commit.specs.Clashing.{Met}
-use Rattle.oak_commit.specs.Committing.{Committing, begun, refused, wanting, with_undone, written}
+use Rattle.oak_commit.specs.Committing.{Committing, begun, refused, wanting, with_undone, written_alone}
 use Rattle.oak_commit.specs.Kept.{undoes}
 use Rattle.oak_commit.specs.Stages.{stage_of}
 use Rattle.oak_commit.specs.declared.outcome.CommitEnd.TheVariants as end
@@ -83,6 +83,7 @@ CanBegin pin _ = Unit {0}
 abbrev pub kind_of : Stage → Option StepKind
 kind_of stage.Mark = Some kind.Mark
 kind_of stage.Write = Some kind.Write
+kind_of stage.Look = Some kind.Read
 kind_of stage.Last = Some kind.Last
 kind_of stage.Undo = Some kind.Undo
 kind_of stage.Finish = Some kind.Finish
@@ -124,8 +125,8 @@ module _ (s : ℕ) (w : State) (c : Committing) (u : State) (d : Committing) whe
   MakesUpdate kind.Mark = (f : Met) × (rest : List Met) × (c.outcome ≡ None) × (c.writer.due ≡ f ∷ rest) × (u ≡ after_mark w s (running_as s c) f rest)
       × (((u.past ≡ event.Went s kind.Mark ∷ w.past) × (d ≡ marked c rest)) ⊎ ((u.past ≡ event.Refuse c.revision f.mine f.other ∷ w.past) × (d ≡ refused c f.mine f.other)))
   MakesUpdate kind.Write = (p : Path) × (rest : List Path) × (c.outcome ≡ None) × (c.writer.due ≡ []) × (c.writer.left ≡ p ∷ rest)
-      × (((u ≡ after_write w s (running_as s c) p rest) × (d ≡ written c p rest (nodes_in w.table p)))
-      ⊎ ((u ≡ after_write_in_want w s (running_as s c) p rest) × (d ≡ wanting (written c p rest (nodes_in w.table p)))))
+      × (((u ≡ after_write w s (running_as s c) p rest) × (d ≡ written_alone c p rest (nodes_in w.table p)))
+      ⊎ ((u ≡ after_write_in_want w s (running_as s c) p rest) × (d ≡ wanting (written_alone c p rest (nodes_in w.table p)))))
   MakesUpdate kind.Last = (c.outcome ≡ None) × (c.writer.due ≡ []) × (c.writer.left ≡ []) × (u ≡ after_last w s (running_as s c))
       × (((u.past ≡ event.Commit c.revision ∷ w.past) × (d ≡ committed c)) ⊎ ((item : Item) × (o : Revision) × (u.past ≡ event.Refuse c.revision item o ∷ w.past) × (d ≡ refused c item o)))
   MakesUpdate kind.Undo = (p : Path) × (rest : List Path) × IsTrue (undoes c.outcome) × (c.writer.written ≡ p ∷ rest) × (u ≡ after_undoing w s (running_as s c) p rest) × (d ≡ with_undone c)

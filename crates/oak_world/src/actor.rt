@@ -99,6 +99,7 @@ fn kind_of(stage: Stage) -> Option<StepKind>
     match stage {
         Stage::Mark => Some(StepKind::Mark),
         Stage::Write => Some(StepKind::Write),
+        Stage::Look => Some(StepKind::Read),
         Stage::Last => Some(StepKind::Last),
         Stage::Undo => Some(StepKind::Undo),
         Stage::Finish => Some(StepKind::Finish),

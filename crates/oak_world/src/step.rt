@@ -87,6 +87,8 @@ fn commit_on(
         Stage::Mark | Stage::Write | Stage::Last | Stage::Undo => {
             update_on(table, events, s, committer)
         }
+        // No document lists a previous one, so none is looked at.
+        Stage::Look => unreachable!(),
     }
 }
 
@@ -151,7 +153,7 @@ fn update(
             commit::undo(table, events, committer, s);
             Ok(StepKind::Undo)
         }
-        Stage::Finish | Stage::Done => unreachable!(),
+        Stage::Look | Stage::Finish | Stage::Done => unreachable!(),
     }
 }
 

@@ -2,7 +2,7 @@
 #![tactic(auto)]
 
 use jr_io::{StdSink, StdSource};
-use repo_top::repo_main;
+use repo_top::{Status, repo_main};
 use std::alloc::AllocError;
 use std::env::Env;
 use std::process::ExitCode;
@@ -26,7 +26,9 @@ fn main(rt: HostRuntime) -> ExitCode {
         Err(_) => Vec::new(rt.alloc()),
     };
     let mut source = StdSource::new(rt.reader());
-    let mut sink = StdSink::new(io::writer(&rt));
+    let Ok(mut sink) = StdSink::new(rt.alloc(), io::writer(&rt)) else {
+        return ExitCode::from(Status::Memory.code());
+    };
     let mut left = None;
     let status = repo_main(
         &rt,

@@ -6,22 +6,24 @@ mod replies;
 mod rows;
 mod scripts;
 
-use jr_io::{StdSink, StdSource, read_all, write_all};
+use jr_io::{Sink, StdSink, StdSource, read_all, write_all};
 use std::io;
 use std::process::ExitCode;
 
 fn main(rt: HostRuntime) -> ExitCode {
     let alloc = rt.alloc();
     let mut source = StdSource::new(rt.reader());
-    let mut sink = StdSink::new(io::writer(&rt));
+    let Ok(mut sink) = StdSink::new(alloc, io::writer(&rt)) else {
+        return ExitCode::from(5);
+    };
     let Ok(input) = read_all(alloc, &mut source, 1_000_000) else {
         return ExitCode::from(3);
     };
     let Ok(text) = rows::answers(alloc, input.as_slice()) else {
         return ExitCode::from(5);
     };
-    match write_all(&mut sink, text.as_bytes()) {
-        Ok(()) => ExitCode::from(0),
-        Err(_) => ExitCode::from(4),
+    if write_all(&mut sink, text.as_bytes()).is_err() || sink.flush().is_err() {
+        return ExitCode::from(4);
     }
+    ExitCode::from(0)
 }

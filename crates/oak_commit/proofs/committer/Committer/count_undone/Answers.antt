@@ -5,5 +5,5 @@ use Rattle.oak_commit.proofs.committer.Committer.count_undone.Goals as goal
 
 pub returns-then-self : goal.returns-then-self
 returns-then-self c =
-    count_shown c.self.inside.revision c.self.inside.base c.self.inside.plan c.self.inside.written c.self.inside.undone c.self.inside.outcome c.self.inside.ended c.self.inside.due.items c.if-self.true c.self.invariant.1
+    count_shown c.self.inside.revision c.self.inside.base c.self.inside.plan c.self.inside.written c.self.inside.undone c.self.inside.outcome c.self.inside.ended c.self.inside.due.items c.self.inside.looking c.if-self.true c.self.invariant.1
     ∙ ap with_undone c.self.view_is

@@ -1,33 +1,34 @@
-use Rattle.std.specs.Option.{option_copied}
-use Rattle.std.proofs.Common.{◌∙◌, ◌+◌, ap, sym, drop}
+use Rattle.std.proofs.Common.{◌∙◌, ◌+◌, ap, refl}
 use Rattle.jr_path.specs.Ids.{names_of}
-use Rattle.oak_commit.specs.Clashing.{found}
-use Rattle.oak_commit.specs.Meeting.{dues_in}
-use Rattle.oak_commit.specs.Committing.{wanting, written_by, written_paths}
+use Rattle.oak_commit.specs.Committing.{wanting, written_by}
+use Rattle.oak_commit.specs.Kept.{shown}
+use Rattle.oak_commit.specs.Looking.{looked_before}
 use Rattle.oak_commit.specs.Writing.{written_ids}
-use Rattle.oak_commit.proofs.Shown.{at_of, left_first, tells, wanting_shown, written_shown}
+use Rattle.oak_commit.proofs.Shown.{at_of, settles_err, settles_ok, wanting_shown, written_shown}
 use Rattle.oak_commit.proofs.committer.Committer.go_on.Goals as goal
 
-pub returns-in-Ok-clause-ok : goal.returns-in-Ok-clause-ok
-returns-in-Ok-clause-ok c =
+pub returns-clause-ok : goal.returns-clause-ok
+returns-clause-ok c =
     let h = c.in-Some.ensures.lookup in
-    written_shown c.self.inside.revision c.self.inside.base c.self.inside.plan c.self.inside.written c.self.inside.undone c.self.inside.outcome c.self.inside.ended c.self.inside.due.items c.in-Ok.due.items (option_copied c.args.before) c.in-Some.id.now c.self.invariant.0
+    settles_ok c.look_before-looked.result
+    (shown c.self.inside.revision c.self.inside.base c.self.inside.plan (c.self.inside.written + 1) c.self.inside.undone c.self.inside.due.items c.self.inside.looking c.self.inside.outcome c.self.inside.ended)
+    c.settle.new.self (written_by c.args.self.now c.args.self.now.writer.left c.args.before)
+    (looked_before c.self.inside.base c.self.inside.revision c.self.inside.plan.marks (names_of c.in-Some.id.now) c.args.before)
+    c.settle.result c.settle.ensures c.look_before-looked.ensures
+    (written_shown c.self.inside.revision c.self.inside.base c.self.inside.plan c.self.inside.written c.self.inside.undone c.self.inside.outcome c.self.inside.ended c.self.inside.due.items c.self.inside.looking
+    (looked_before c.self.inside.base c.self.inside.revision c.self.inside.plan.marks (names_of c.in-Some.id.now) c.args.before) c.args.before c.in-Some.id.now
+    (ap (λ v. v.looking) c.self.view_is ∙ c.requires.looked) c.self.invariant.0
     (at_of c.ids.result.now (written_ids c.self.inside.plan.marks) c.self.inside.written c.in-Some.id.now c.ids.ensures h.3.0 h.1)
-    c.in-Ok.ensures
-    ∙ ap (λ v. written_by v v.writer.left (option_copied c.args.before)) c.self.view_is
+    refl
+    ∙ ap (λ v. written_by v v.writer.left c.args.before) c.self.view_is)
 
-pub returns-in-Err-clause-err : goal.returns-in-Err-clause-err
-returns-in-Err-clause-err c =
+pub returns-clause-err : goal.returns-clause-err
+returns-clause-err c =
     let h = c.in-Some.ensures.lookup in
-    c.want.ensures
-    ∙ wanting_shown c.self.inside.revision c.self.inside.base c.self.inside.plan c.self.inside.written c.self.inside.undone c.self.inside.outcome c.self.inside.ended c.self.inside.due.items (option_copied c.args.before) c.in-Some.id.now c.self.invariant.0
+    settles_err c.look_before-looked.result
+    (shown c.self.inside.revision c.self.inside.base c.self.inside.plan (c.self.inside.written + 1) c.self.inside.undone c.self.inside.due.items c.self.inside.looking c.self.inside.outcome c.self.inside.ended)
+    c.settle.new.self (wanting (written_by c.args.self.now c.args.self.now.writer.left c.args.before)) c.settle.result c.settle.ensures
+    (wanting_shown c.self.inside.revision c.self.inside.base c.self.inside.plan c.self.inside.written c.self.inside.undone c.self.inside.outcome c.self.inside.ended c.self.inside.due.items c.self.inside.looking
+    c.args.before c.in-Some.id.now c.self.invariant.0
     (at_of c.ids.result.now (written_ids c.self.inside.plan.marks) c.self.inside.written c.in-Some.id.now c.ids.ensures h.3.0 h.1)
-    ∙ ap (λ v. wanting (written_by v v.writer.left (option_copied c.args.before))) c.self.view_is
-
-pub returns-in-Err-clause-only : goal.returns-in-Err-clause-only
-returns-in-Err-clause-only c =
-    let h = c.in-Some.ensures.lookup in
-    tells c.args.self.now (option_copied c.args.before) (names_of c.in-Some.id.now) (drop (c.self.inside.written + 1) (written_paths c.self.inside.plan.marks)) c.requires.going c.requires.marked
-    (sym (ap (λ v. v.writer.left) c.self.view_is)
-    ∙ left_first (written_ids c.self.inside.plan.marks) c.self.inside.written c.in-Some.id.now
-    (at_of c.ids.result.now (written_ids c.self.inside.plan.marks) c.self.inside.written c.in-Some.id.now c.ids.ensures h.3.0 h.1))
+    ∙ ap (λ v. wanting (written_by v v.writer.left c.args.before)) c.self.view_is)

@@ -6,7 +6,7 @@ use Rattle.oak_commit.proofs.committer.Committer.undo_id.Goals as goal
 pub returns : goal.returns
 returns c =
     let low : c.self.inside.undone < c.self.inside.written =
-    undoing_within c.self.inside.revision c.self.inside.base c.self.inside.plan c.self.inside.written c.self.inside.undone c.self.inside.outcome c.self.inside.ended c.self.inside.due.items
+    undoing_within c.self.inside.revision c.self.inside.base c.self.inside.plan c.self.inside.written c.self.inside.undone c.self.inside.outcome c.self.inside.ended c.self.inside.due.items c.self.inside.looking
     (subst (λ v. asks_undo (due_of v) ≡ true) (sym c.self.view_is) c.requires) in
     ap undo_id (sym c.self.view_is)
     ∙ lent c.self.inside.plan.marks c.self.inside.written c.self.inside.undone c.index-ids-self.result low c.self.invariant.1

@@ -7,4 +7,4 @@ use Rattle.oak_commit.proofs.committer.Committer.undo_stage.Goals as goal
 pub returns-then-self : goal.returns-then-self
 returns-then-self c =
     subst (λ v. stage.Undo ≡ undo_stage v) c.self.view_is
-    (undo_stage_shown c.self.inside.revision c.self.inside.base c.self.inside.plan c.self.inside.written c.self.inside.undone c.self.inside.outcome c.self.inside.ended c.self.inside.due.items c.if-self.true c.self.invariant.1)
+    (undo_stage_shown c.self.inside.revision c.self.inside.base c.self.inside.plan c.self.inside.written c.self.inside.undone c.self.inside.outcome c.self.inside.ended c.self.inside.due.items c.self.inside.looking c.if-self.true c.self.invariant.1)

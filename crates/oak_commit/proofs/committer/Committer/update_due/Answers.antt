@@ -14,7 +14,7 @@ returns-in-Some-get c =
     (λ op is.
     ap ask.Update is
     ∙ subst (λ v. ask.Update (write_op c.self.inside.revision c.self.inside.plan.edit.writes c.self.inside.plan.marks (names_of c.in-Some-get.id.now)) ≡ mark_due v v.writer.due) c.self.view_is
-    (write_shown c.self.inside.revision c.self.inside.base c.self.inside.plan c.self.inside.written c.self.inside.undone c.self.inside.outcome c.self.inside.ended c.self.inside.due.items c.in-Some-get.id.now
+    (write_shown c.self.inside.revision c.self.inside.base c.self.inside.plan c.self.inside.written c.self.inside.undone c.self.inside.outcome c.self.inside.ended c.self.inside.due.items c.self.inside.looking c.in-Some-get.id.now
     (subst (λ xs. length xs ≤ 0) c.deref.ensures.value c.in_default.ensures.item.3)
     (at_of c.ids.result.now (written_ids c.self.inside.plan.marks) c.self.inside.written c.in-Some-get.id.now c.ids.ensures h.3.0 h.1)))
     c.write.ensures
