@@ -3,6 +3,7 @@
 #![tactic(auto)]
 
 mod events;
+mod json;
 mod locks;
 mod references;
 mod rows;

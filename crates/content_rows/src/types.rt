@@ -1,6 +1,7 @@
 // Node types: definitions that come behind the built-in ones, and what a tree breaks of them.
+use crate::json::{items_of, json_of};
 use crate::rows::cut;
-use crate::shows::put_path;
+use crate::shows::{put_names, put_path};
 use crate::trees::{name_of, tree_of};
 use jr_path::{DeepCopy, Name, Path};
 use jr_tree::Tree;
@@ -17,29 +18,36 @@ pub(crate) fn add(
     out: &mut String,
 ) -> Result<(), AllocError> {
     let mut registry = Registry::builtin(alloc)?;
+    add_of_types(alloc, &mut registry, word, asked, given, out)
+}
+
+fn add_of_types(
+    alloc: Global,
+    registry: &mut Registry,
+    word: &str,
+    asked: &str,
+    given: &str,
+    out: &mut String,
+) -> Result<(), AllocError> {
     match word {
-        "added" => add_again(alloc, &registry, asked, out),
-        "is_a" => add_is_a(alloc, &registry, asked, out),
-        "subtypes" => {
-            let (name, definitions) = cut(asked);
-            if register(alloc, &mut registry, definitions, out)? {
-                return add_subtypes(alloc, &registry, name, out);
-            }
-            Ok(())
-        }
-        "type" => {
-            if register(alloc, &mut registry, asked, out)? {
-                return out.push_str("read");
-            }
-            Ok(())
-        }
-        _ => {
-            if register(alloc, &mut registry, asked, out)? {
-                return add_violation(alloc, &registry, given, out);
-            }
-            Ok(())
-        }
+        "added" => add_again(alloc, registry, asked, out),
+        "is_a" => add_is_a(alloc, registry, asked, out),
+        "subtypes" => add_subtypes(alloc, registry, asked, out),
+        "type" => add_type(alloc, registry, asked, out),
+        _ => add_violation(alloc, registry, asked, given, out),
     }
+}
+
+fn add_type(
+    alloc: Global,
+    registry: &mut Registry,
+    definitions: &str,
+    out: &mut String,
+) -> Result<(), AllocError> {
+    if register(alloc, registry, definitions, out)? {
+        return out.push_str("read");
+    }
+    Ok(())
 }
 
 // Registers the definitions of a list, and tells whether all are; puts the refusal of the first that isn't.
@@ -49,24 +57,21 @@ fn register(
     definitions: &str,
     out: &mut String,
 ) -> Result<bool, AllocError> {
-    match Json::from_str(alloc, definitions) {
-        Ok(Json::Array(items)) => register_all(alloc, registry, &items, out),
-        Ok(_) => refused(out, "no list"),
-        Err(error) => {
-            if error.is_memory() {
-                return Err(AllocError);
-            }
-            refused(out, "no list")
-        }
+    match json_of(alloc, definitions)? {
+        Some(json) => register_all(alloc, registry, items_of(&json), out),
+        None => refused(out, "no list"),
     }
 }
 
 fn register_all(
     alloc: Global,
     registry: &mut Registry,
-    items: &[Json],
+    items: Option<&[Json]>,
     out: &mut String,
 ) -> Result<bool, AllocError> {
+    let Some(items) = items else {
+        return refused(out, "no list");
+    };
     for item in items {
         if !register_one(alloc, registry, item, out)? {
             return Ok(false);
@@ -82,13 +87,13 @@ fn register_one(
     out: &mut String,
 ) -> Result<bool, AllocError> {
     match read_type(alloc, item) {
-        Ok(definition) => add_type(alloc, registry, definition, out),
+        Ok(definition) => register_type(alloc, registry, definition, out),
         Err(NoType::NoDefinition) => refused(out, "no definition"),
         Err(NoType::Memory) => Err(AllocError),
     }
 }
 
-fn add_type(
+fn register_type(
     alloc: Global,
     registry: &mut Registry,
     definition: TypeDef,
@@ -117,26 +122,48 @@ fn add_again(
     out: &mut String,
 ) -> Result<(), AllocError> {
     let mut registry = Registry::new(alloc)?;
-    for name in names.split(' ') {
-        if !add_known(alloc, builtin, &mut registry, name, out)? {
-            return Ok(());
-        }
+    if register_names(alloc, builtin, &mut registry, names, out)? {
+        return out.push_str("added");
     }
-    out.push_str("added")
+    Ok(())
 }
 
-fn add_known(
+fn register_names(
+    alloc: Global,
+    builtin: &Registry,
+    registry: &mut Registry,
+    names: &str,
+    out: &mut String,
+) -> Result<bool, AllocError> {
+    for name in names.split(' ') {
+        if !register_name(alloc, builtin, registry, name, out)? {
+            return Ok(false);
+        }
+    }
+    Ok(true)
+}
+
+fn register_name(
     alloc: Global,
     builtin: &Registry,
     registry: &mut Registry,
     name: &str,
     out: &mut String,
 ) -> Result<bool, AllocError> {
-    let Some(name) = name_of(alloc, name)? else {
-        return refused(out, "no name");
-    };
-    match builtin.get(&name) {
-        Some(definition) => add_type(alloc, registry, definition.copy()?, out),
+    match name_of(alloc, name)? {
+        Some(name) => register_copy(alloc, builtin.get(&name), registry, out),
+        None => refused(out, "no name"),
+    }
+}
+
+fn register_copy(
+    alloc: Global,
+    definition: Option<&TypeDef>,
+    registry: &mut Registry,
+    out: &mut String,
+) -> Result<bool, AllocError> {
+    match definition {
+        Some(definition) => register_type(alloc, registry, definition.copy()?, out),
         None => refused(out, "no type"),
     }
 }
@@ -160,31 +187,51 @@ fn truth(is: bool) -> &'static str {
 
 fn add_subtypes(
     alloc: Global,
+    registry: &mut Registry,
+    asked: &str,
+    out: &mut String,
+) -> Result<(), AllocError> {
+    let (name, definitions) = cut(asked);
+    if register(alloc, registry, definitions, out)? {
+        return add_subtypes_of(alloc, registry, name, out);
+    }
+    Ok(())
+}
+
+fn add_subtypes_of(
+    alloc: Global,
     registry: &Registry,
     name: &str,
     out: &mut String,
 ) -> Result<(), AllocError> {
     match name_of(alloc, name)? {
-        Some(name) => put_names(&registry.subtypes(&name)?, out),
+        Some(name) => put_some_names(&registry.subtypes(&name)?, out),
         None => out.push_str("no name"),
     }
 }
 
-fn put_names(names: &[Name], out: &mut String) -> Result<(), AllocError> {
+fn put_some_names(names: &[Name], out: &mut String) -> Result<(), AllocError> {
     if names.is_empty() {
         return out.push_str("nothing");
     }
-    let mut between = "";
-    for name in names {
-        out.push_str(between)?;
-        out.push_str(name.as_str())?;
-        between = " ";
-    }
-    Ok(())
+    put_names(names, out)
 }
 
 // What the tree breaks first, by path, by rule, and then by item.
 fn add_violation(
+    alloc: Global,
+    registry: &mut Registry,
+    definitions: &str,
+    given: &str,
+    out: &mut String,
+) -> Result<(), AllocError> {
+    if register(alloc, registry, definitions, out)? {
+        return check_given(alloc, registry, given, out);
+    }
+    Ok(())
+}
+
+fn check_given(
     alloc: Global,
     registry: &Registry,
     given: &str,
@@ -219,28 +266,21 @@ fn check_one(
     out: &mut String,
 ) -> Result<bool, AllocError> {
     if !tree.has(path) {
-        return Ok(true);
+        return refused(out, "no node");
     }
     match registry.check(tree, path) {
         Ok(()) => Ok(true),
-        Err(TypesOut::Violation { node, item, rule }) => {
-            put_violation(alloc, rule, &node, &item, out)?;
-            Ok(false)
-        }
-        Err(TypesOut::Memory) => Err(AllocError),
+        Err(fault) => put_violation(alloc, &fault, out),
     }
 }
 
-fn put_violation(
-    alloc: Global,
-    rule: u8,
-    node: &Path,
-    item: &Name,
-    out: &mut String,
-) -> Result<(), AllocError> {
+fn put_violation(alloc: Global, fault: &TypesOut, out: &mut String) -> Result<bool, AllocError> {
+    let TypesOut::Violation { node, item, rule } = fault else {
+        return Err(AllocError);
+    };
     out.push_str(rule.to_string(alloc)?.as_str())?;
     out.push(' ')?;
     put_path(node, out)?;
     out.push(' ')?;
-    out.push_str(item.as_str())
+    refused(out, item.as_str())
 }
