@@ -1,6 +1,7 @@
 // The built-in node types (JSR 283, 3.7.11 Standard Application Node Types), in their order.
-ghost use Rattle.std.specs.Prelude.{◌≡◌, ◌++◌, ◌∷◌, ◌<◌, [], IfOk, None, OnOk, Some, option_to_list, slice_get};
+ghost use Rattle.std.specs.Prelude.{◌≡◌, ◌++◌, ◌∷◌, ◌<◌, [], IfOk, IfSome, None, OnOk, Some, option_to_list, slice_get};
 ghost use Rattle.std.specs.Option.{option_copied, option_map};
+ghost use Rattle.jr_path.specs.Grammar.{IsName};
 ghost use Rattle.jr_value.specs.declared.value.Value.TheVariants.{Boolean};
 ghost use Rattle.jr_types.specs.Builtin.{builtin};
 ghost use Rattle.jr_types.specs.Rules.{type_fault};
@@ -119,7 +120,7 @@ fn base(alloc: Global) -> Result<TypeDef, AllocError>
     let children = List::new(alloc);
     let primary_item = optional_name(alloc, None)?;
     Ok(TypeDef {
-        name: name_of(alloc, "nt:base")?,
+        name: Name::of(alloc, "nt:base")?,
         supertypes,
         is_abstract: true,
         mixin: false,
@@ -161,7 +162,7 @@ fn unstructured(alloc: Global) -> Result<TypeDef, AllocError>
     )?;
     let primary_item = optional_name(alloc, None)?;
     Ok(TypeDef {
-        name: name_of(alloc, "nt:unstructured")?,
+        name: Name::of(alloc, "nt:unstructured")?,
         supertypes,
         is_abstract: false,
         mixin: false,
@@ -204,7 +205,7 @@ fn created(alloc: Global) -> Result<TypeDef, AllocError>
     let children = List::new(alloc);
     let primary_item = optional_name(alloc, None)?;
     Ok(TypeDef {
-        name: name_of(alloc, "mix:created")?,
+        name: Name::of(alloc, "mix:created")?,
         supertypes,
         is_abstract: false,
         mixin: true,
@@ -245,7 +246,7 @@ fn last_modified(alloc: Global) -> Result<TypeDef, AllocError>
     let children = List::new(alloc);
     let primary_item = optional_name(alloc, None)?;
     Ok(TypeDef {
-        name: name_of(alloc, "mix:lastModified")?,
+        name: Name::of(alloc, "mix:lastModified")?,
         supertypes,
         is_abstract: false,
         mixin: true,
@@ -280,7 +281,7 @@ fn mime_type(alloc: Global) -> Result<TypeDef, AllocError>
     let children = List::new(alloc);
     let primary_item = optional_name(alloc, None)?;
     Ok(TypeDef {
-        name: name_of(alloc, "mix:mimeType")?,
+        name: Name::of(alloc, "mix:mimeType")?,
         supertypes,
         is_abstract: false,
         mixin: true,
@@ -315,7 +316,7 @@ fn title(alloc: Global) -> Result<TypeDef, AllocError>
     let children = List::new(alloc);
     let primary_item = optional_name(alloc, None)?;
     Ok(TypeDef {
-        name: name_of(alloc, "mix:title")?,
+        name: Name::of(alloc, "mix:title")?,
         supertypes,
         is_abstract: false,
         mixin: true,
@@ -348,7 +349,7 @@ fn referenceable(alloc: Global) -> Result<TypeDef, AllocError>
     let children = List::new(alloc);
     let primary_item = optional_name(alloc, None)?;
     Ok(TypeDef {
-        name: name_of(alloc, "mix:referenceable")?,
+        name: Name::of(alloc, "mix:referenceable")?,
         supertypes,
         is_abstract: false,
         mixin: true,
@@ -391,7 +392,7 @@ fn lockable(alloc: Global) -> Result<TypeDef, AllocError>
     let children = List::new(alloc);
     let primary_item = optional_name(alloc, None)?;
     Ok(TypeDef {
-        name: name_of(alloc, "mix:lockable")?,
+        name: Name::of(alloc, "mix:lockable")?,
         supertypes,
         is_abstract: false,
         mixin: true,
@@ -424,7 +425,7 @@ fn simple_versionable(alloc: Global) -> Result<TypeDef, AllocError>
     let children = List::new(alloc);
     let primary_item = optional_name(alloc, None)?;
     Ok(TypeDef {
-        name: name_of(alloc, "mix:simpleVersionable")?,
+        name: Name::of(alloc, "mix:simpleVersionable")?,
         supertypes,
         is_abstract: false,
         mixin: true,
@@ -439,8 +440,8 @@ fn versionable(alloc: Global) -> Result<TypeDef, AllocError>
     ensures { IfOk result (λ d. Some d ≡ slice_get builtin 9) }
 {
     let mut supertypes = List::new(alloc);
-    supertypes.push(name_of(alloc, "mix:simpleVersionable")?)?;
-    supertypes.push(name_of(alloc, "mix:referenceable")?)?;
+    supertypes.push(Name::of(alloc, "mix:simpleVersionable")?)?;
+    supertypes.push(Name::of(alloc, "mix:referenceable")?)?;
     let mut props = List::new(alloc);
     add_prop(
         alloc,
@@ -485,7 +486,7 @@ fn versionable(alloc: Global) -> Result<TypeDef, AllocError>
     let children = List::new(alloc);
     let primary_item = optional_name(alloc, None)?;
     Ok(TypeDef {
-        name: name_of(alloc, "mix:versionable")?,
+        name: Name::of(alloc, "mix:versionable")?,
         supertypes,
         is_abstract: false,
         mixin: true,
@@ -500,12 +501,12 @@ fn hierarchy_node(alloc: Global) -> Result<TypeDef, AllocError>
     ensures { IfOk result (λ d. Some d ≡ slice_get builtin 10) }
 {
     let mut supertypes = List::new(alloc);
-    supertypes.push(name_of(alloc, "mix:created")?)?;
+    supertypes.push(Name::of(alloc, "mix:created")?)?;
     let props = List::new(alloc);
     let children = List::new(alloc);
     let primary_item = optional_name(alloc, None)?;
     Ok(TypeDef {
-        name: name_of(alloc, "nt:hierarchyNode")?,
+        name: Name::of(alloc, "nt:hierarchyNode")?,
         supertypes,
         is_abstract: true,
         mixin: false,
@@ -520,7 +521,7 @@ fn folder(alloc: Global) -> Result<TypeDef, AllocError>
     ensures { IfOk result (λ d. Some d ≡ slice_get builtin 11) }
 {
     let mut supertypes = List::new(alloc);
-    supertypes.push(name_of(alloc, "nt:hierarchyNode")?)?;
+    supertypes.push(Name::of(alloc, "nt:hierarchyNode")?)?;
     let props = List::new(alloc);
     let mut children = List::new(alloc);
     add_child(
@@ -536,7 +537,7 @@ fn folder(alloc: Global) -> Result<TypeDef, AllocError>
     )?;
     let primary_item = optional_name(alloc, None)?;
     Ok(TypeDef {
-        name: name_of(alloc, "nt:folder")?,
+        name: Name::of(alloc, "nt:folder")?,
         supertypes,
         is_abstract: false,
         mixin: false,
@@ -551,7 +552,7 @@ fn file(alloc: Global) -> Result<TypeDef, AllocError>
     ensures { IfOk result (λ d. Some d ≡ slice_get builtin 12) }
 {
     let mut supertypes = List::new(alloc);
-    supertypes.push(name_of(alloc, "nt:hierarchyNode")?)?;
+    supertypes.push(Name::of(alloc, "nt:hierarchyNode")?)?;
     let props = List::new(alloc);
     let mut children = List::new(alloc);
     add_child(
@@ -567,7 +568,7 @@ fn file(alloc: Global) -> Result<TypeDef, AllocError>
     )?;
     let primary_item = optional_name(alloc, Some("jcr:content"))?;
     Ok(TypeDef {
-        name: name_of(alloc, "nt:file")?,
+        name: Name::of(alloc, "nt:file")?,
         supertypes,
         is_abstract: false,
         mixin: false,
@@ -582,8 +583,8 @@ fn resource(alloc: Global) -> Result<TypeDef, AllocError>
     ensures { IfOk result (λ d. Some d ≡ slice_get builtin 13) }
 {
     let mut supertypes = List::new(alloc);
-    supertypes.push(name_of(alloc, "mix:mimeType")?)?;
-    supertypes.push(name_of(alloc, "mix:lastModified")?)?;
+    supertypes.push(Name::of(alloc, "mix:mimeType")?)?;
+    supertypes.push(Name::of(alloc, "mix:lastModified")?)?;
     let mut props = List::new(alloc);
     add_prop(
         alloc,
@@ -599,7 +600,7 @@ fn resource(alloc: Global) -> Result<TypeDef, AllocError>
     let children = List::new(alloc);
     let primary_item = optional_name(alloc, Some("jcr:data"))?;
     Ok(TypeDef {
-        name: name_of(alloc, "nt:resource")?,
+        name: Name::of(alloc, "nt:resource")?,
         supertypes,
         is_abstract: false,
         mixin: false,
@@ -686,7 +687,7 @@ fn frozen_node(alloc: Global) -> Result<TypeDef, AllocError>
     )?;
     let primary_item = optional_name(alloc, None)?;
     Ok(TypeDef {
-        name: name_of(alloc, "nt:frozenNode")?,
+        name: Name::of(alloc, "nt:frozenNode")?,
         supertypes,
         is_abstract: false,
         mixin: false,
@@ -701,7 +702,7 @@ fn version(alloc: Global) -> Result<TypeDef, AllocError>
     ensures { IfOk result (λ d. Some d ≡ slice_get builtin 15) }
 {
     let mut supertypes = List::new(alloc);
-    supertypes.push(name_of(alloc, "mix:referenceable")?)?;
+    supertypes.push(Name::of(alloc, "mix:referenceable")?)?;
     let mut props = List::new(alloc);
     add_prop(
         alloc,
@@ -752,7 +753,7 @@ fn version(alloc: Global) -> Result<TypeDef, AllocError>
     )?;
     let primary_item = optional_name(alloc, None)?;
     Ok(TypeDef {
-        name: name_of(alloc, "nt:version")?,
+        name: Name::of(alloc, "nt:version")?,
         supertypes,
         is_abstract: false,
         mixin: false,
@@ -782,7 +783,7 @@ fn version_labels(alloc: Global) -> Result<TypeDef, AllocError>
     let children = List::new(alloc);
     let primary_item = optional_name(alloc, None)?;
     Ok(TypeDef {
-        name: name_of(alloc, "nt:versionLabels")?,
+        name: Name::of(alloc, "nt:versionLabels")?,
         supertypes,
         is_abstract: false,
         mixin: false,
@@ -797,7 +798,7 @@ fn version_history(alloc: Global) -> Result<TypeDef, AllocError>
     ensures { IfOk result (λ d. Some d ≡ slice_get builtin 17) }
 {
     let mut supertypes = List::new(alloc);
-    supertypes.push(name_of(alloc, "mix:referenceable")?)?;
+    supertypes.push(Name::of(alloc, "mix:referenceable")?)?;
     let mut props = List::new(alloc);
     add_prop(
         alloc,
@@ -848,7 +849,7 @@ fn version_history(alloc: Global) -> Result<TypeDef, AllocError>
     )?;
     let primary_item = optional_name(alloc, None)?;
     Ok(TypeDef {
-        name: name_of(alloc, "nt:versionHistory")?,
+        name: Name::of(alloc, "nt:versionHistory")?,
         supertypes,
         is_abstract: false,
         mixin: false,
@@ -878,7 +879,7 @@ fn version_storage(alloc: Global) -> Result<TypeDef, AllocError>
     )?;
     let primary_item = optional_name(alloc, None)?;
     Ok(TypeDef {
-        name: name_of(alloc, "rep:versionStorage")?,
+        name: Name::of(alloc, "rep:versionStorage")?,
         supertypes,
         is_abstract: false,
         mixin: false,
@@ -909,7 +910,7 @@ fn system(alloc: Global) -> Result<TypeDef, AllocError>
     )?;
     let primary_item = optional_name(alloc, None)?;
     Ok(TypeDef {
-        name: name_of(alloc, "rep:system")?,
+        name: Name::of(alloc, "rep:system")?,
         supertypes,
         is_abstract: false,
         mixin: false,
@@ -920,7 +921,8 @@ fn system(alloc: Global) -> Result<TypeDef, AllocError>
     })
 }
 
-// Puts the definition of a property behind others; with no name it is of any other, with no kind of any kind.
+// Puts the definition of a property behind others; with no name it is of any other, with no kind of
+// any kind.
 fn add_prop(
     alloc: Global,
     props: &mut List<PropDef>,
@@ -929,7 +931,9 @@ fn add_prop(
     default: Option<bool>,
     flags: Flags,
 ) -> Result<(), AllocError>
-    ensures { OnOk result (props.new ≡ props.old ++ prop_of (option_copied name.entry) kind default flags ∷ []) }
+    requires { IfSome (option_copied name) IsName }
+    ensures { OnOk result (props.new
+        ≡ props.old ++ prop_of (option_copied name.entry) kind default flags ∷ []) }
 {
     let defaults = defaults_of(alloc, default)?;
     let name = optional_name(alloc, name)?;
@@ -965,10 +969,15 @@ fn add_child(
     default_type: Option<&str>,
     flags: Flags,
 ) -> Result<(), AllocError>
-    ensures { OnOk result (children.new ≡ children.old ++ child_of (option_copied name.entry) required.now (option_copied default_type.entry) flags ∷ []) }
+    requires name { IfSome (option_copied name) IsName }
+    requires required { IsName required.now }
+    requires default { IfSome (option_copied default_type) IsName }
+    ensures { OnOk result (children.new ≡ children.old
+        ++ child_of (option_copied name.entry) required.now (option_copied default_type.entry) flags
+        ∷ []) }
 {
     let mut types = List::new(alloc);
-    types.push(name_of(alloc, required)?)?;
+    types.push(Name::of(alloc, required)?)?;
     let default_type = optional_name(alloc, default_type)?;
     let name = optional_name(alloc, name)?;
     children.push(ChildDef {
@@ -983,20 +992,11 @@ fn add_child(
 }
 
 fn optional_name(alloc: Global, text: Option<&str>) -> Result<Option<Name>, AllocError>
+    requires { IfSome (option_copied text) IsName }
     ensures { IfOk result (λ name. name ≡ option_copied text.entry) }
 {
     match text {
-        Some(text) => Ok(Some(name_of(alloc, text)?)),
+        Some(text) => Ok(Some(Name::of(alloc, text)?)),
         None => Ok(None),
-    }
-}
-
-// A built-in name, which is in the grammar of names.
-fn name_of(alloc: Global, text: &str) -> Result<Name, AllocError>
-    ensures { IfOk result (λ name. name ≡ text.now) }
-{
-    match Name::parse(alloc, text) {
-        Ok(name) => Ok(name),
-        Err(_) => Err(AllocError),
     }
 }

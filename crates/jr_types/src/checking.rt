@@ -809,6 +809,6 @@ fn violation(path: &Path, broken: Break) -> TypesOut
             item: broken.item,
             rule: broken.rule,
         },
-        Err(_) => TypesOut::Memory,
+        Err(AllocError) => TypesOut::Memory,
     }
 }

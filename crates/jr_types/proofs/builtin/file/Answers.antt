@@ -1,0 +1,19 @@
+use Rattle.std.proofs.Common.{refl}
+use Rattle.std.specs.Prelude.{codes}
+use Rattle.jr_path.proofs.OwnNames.{prefixed_name}
+use Rattle.jr_types.proofs.builtin.file.Goals as goal
+
+pub of-requires : goal.of-requires
+of-requires c = prefixed_name (codes "nt") (codes "hierarchyNode") refl
+
+pub add_child-requires-clause-name : goal.add_child-requires-clause-name
+add_child-requires-clause-name c = prefixed_name (codes "jcr") (codes "content") refl
+
+pub add_child-requires-clause-required : goal.add_child-requires-clause-required
+add_child-requires-clause-required c = prefixed_name (codes "nt") (codes "base") refl
+
+pub optional_name-requires : goal.optional_name-requires
+optional_name-requires c = prefixed_name (codes "jcr") (codes "content") refl
+
+pub of-requires-2 : goal.of-requires-2
+of-requires-2 c = prefixed_name (codes "nt") (codes "file") refl

@@ -1,0 +1,10 @@
+use Rattle.std.proofs.Common.{refl}
+use Rattle.std.specs.Prelude.{codes}
+use Rattle.jr_path.proofs.OwnNames.{prefixed_name}
+use Rattle.jr_types.proofs.builtin.hierarchy_node.Goals as goal
+
+pub of-requires : goal.of-requires
+of-requires c = prefixed_name (codes "mix") (codes "created") refl
+
+pub of-requires-2 : goal.of-requires-2
+of-requires-2 c = prefixed_name (codes "nt") (codes "hierarchyNode") refl

@@ -1,0 +1,25 @@
+use Rattle.std.proofs.Common.{refl}
+use Rattle.std.specs.Prelude.{codes}
+use Rattle.jr_path.proofs.OwnNames.{prefixed_name}
+use Rattle.jr_types.proofs.builtin.version.Goals as goal
+
+pub of-requires : goal.of-requires
+of-requires c = prefixed_name (codes "mix") (codes "referenceable") refl
+
+pub add_prop-requires : goal.add_prop-requires
+add_prop-requires c = prefixed_name (codes "jcr") (codes "created") refl
+
+pub add_prop-requires-2 : goal.add_prop-requires-2
+add_prop-requires-2 c = prefixed_name (codes "jcr") (codes "predecessors") refl
+
+pub add_prop-requires-3 : goal.add_prop-requires-3
+add_prop-requires-3 c = prefixed_name (codes "jcr") (codes "successors") refl
+
+pub add_child-requires-clause-name : goal.add_child-requires-clause-name
+add_child-requires-clause-name c = prefixed_name (codes "jcr") (codes "frozenNode") refl
+
+pub add_child-requires-clause-required : goal.add_child-requires-clause-required
+add_child-requires-clause-required c = prefixed_name (codes "nt") (codes "frozenNode") refl
+
+pub of-requires-2 : goal.of-requires-2
+of-requires-2 c = prefixed_name (codes "nt") (codes "version") refl
