@@ -1,18 +1,18 @@
-"""Prints a row for content_rows over a tree that is checked node by node: types.py NODES WHAT.
+"""Prints a row for content_rows over a tree that is checked node by node: types.py NODES WHAT [QUESTION].
 
-WHAT is `plain` (NODES nodes of nt:unstructured with three properties, a hundred in a folder) or `files` (NODES files, each with
-its content). Each node breaks no rule, so all are looked at. The row `violation [] | {}` reads nothing: the difference to a row
-`locked_by / | TREE` over the same tree is the time of the check alone. As:
+WHAT is `plain` (NODES nodes of nt:unstructured with three properties, a hundred below each node of the root) or `files` (NODES
+nodes of nt:file, each with its content, a hundred in a folder). No node breaks a rule, so each is looked at and the answer is `ok`.
+QUESTION is `locked_by /`, which looks at the root alone: the difference to it is the time of the check. As:
 
     python3 bench/types.py 100000 plain > rows && time crates/content_rows/out/content_rows < rows
-    python3 bench/types.py 100000 plain locked_by > rows && time crates/content_rows/out/content_rows < rows
+    python3 bench/types.py 100000 plain locked_by / > rows && time crates/content_rows/out/content_rows < rows
 """
 import json
 import sys
 
 nodes = int(sys.argv[1])
 what = sys.argv[2]
-question = "locked_by /" if sys.argv[3:] else "violation []"
+question = " ".join(sys.argv[3:]) or "violation []"
 
 
 def node(kind, **more):
