@@ -34,6 +34,7 @@ abbrev pub IsThere : {X : Type 0} → (Data → X → Type 0) → Option Data �
 IsThere IsRead None x = ⊥
 IsThere IsRead (Some d) x = IsRead d x
 
+-- true or false, as JSON writes it
 abbrev pub IsFlagJson : Data → Bool → Type 0
 IsFlagJson d b = d ≡ boolean b
 
@@ -46,6 +47,7 @@ abbrev pub IsItemNameJson : Data → Option Name → Type 0
 IsItemNameJson d None = d ≡ string (codes "*")
 IsItemNameJson d (Some n) = IsNameJson d n
 
+-- a name that is given: no JSON stands for the want of one
 abbrev pub IsSomeNameJson : Data → Option Name → Type 0
 IsSomeNameJson d None = ⊥
 IsSomeNameJson d (Some n) = IsNameJson d n
@@ -60,6 +62,7 @@ AreRead IsRead no_items [] = Unit {0}
 AreRead IsRead (item d ds) (x ∷ xs) = IsRead d x × AreRead IsRead ds xs
 AreRead IsRead _ _ = ⊥
 
+-- an array, each item of which is read, in order
 abbrev pub IsListJson : {X : Type 0} → (Data → X → Type 0) → Data → List X → Type 0
 IsListJson IsRead (array ds) xs = AreRead IsRead ds xs
 IsListJson IsRead _ xs = ⊥
@@ -78,6 +81,7 @@ opv_text opv.Compute = codes "COMPUTE"
 opv_text opv.Ignore = codes "IGNORE"
 opv_text opv.Abort = codes "ABORT"
 
+-- the word of what a check-in of the parent does with an item
 abbrev pub IsOpvJson : Data → OnParentVersion → Type 0
 IsOpvJson d o = d ≡ string (opv_text o)
 
@@ -97,12 +101,15 @@ abbrev pub is_object_of : List (List ℕ) → Data → Bool
 is_object_of keys (object ms) = have_keys keys ms
 is_object_of keys _ = false
 
+-- the keys that the definition of a property may have
 abbrev pub prop_keys : List (List ℕ)
 prop_keys = codes "name" ∷ codes "type" ∷ codes "mandatory" ∷ codes "autocreated" ∷ codes "protected" ∷ codes "multiple" ∷ codes "defaults" ∷ codes "constraints" ∷ codes "opv" ∷ []
 
+-- the keys that the definition of a child may have
 abbrev pub child_keys : List (List ℕ)
 child_keys = codes "name" ∷ codes "types" ∷ codes "default" ∷ codes "mandatory" ∷ codes "autocreated" ∷ codes "protected" ∷ codes "opv" ∷ []
 
+-- the keys that the definition of a type may have
 abbrev pub type_keys : List (List ℕ)
 type_keys = codes "name" ∷ codes "supertypes" ∷ codes "abstract" ∷ codes "mixin" ∷ codes "orderable" ∷ codes "primaryItem" ∷ codes "props" ∷ codes "children" ∷ []
 

@@ -1,7 +1,7 @@
 -- A list that was sorted by keys is sorted by the orders that the keys are of.
 use Rattle.std.proofs.Common.{◌≡◌, ◌+◌, ◌<◌, Bool, true, false, cond, not, ◌&&◌, List, [], ◌∷◌, map, get_or, refl, sym, subst, ap, ◌∙◌, arith}
 use Rattle.std.specs.Prelude.{Option}
-use Rattle.std.specs.Ordering.{is_lt, ordering_then}
+use Rattle.std.specs.Ordering.{is_lt, on, ordering_then}
 use Rattle.std.specs.declared.cmp.Ordering.{Ordering}
 use Rattle.std.specs.Cmp.Lexicographic.{slice_cmp}
 use Rattle.std.specs.List.{All, filter}
@@ -18,6 +18,13 @@ use Rattle.sql_eval.specs.Conditions.{Tuple, operand_of}
 use Rattle.sql_eval.specs.Keys.{key_cmp, key_in, key_of, ranked_cmp, ranked_of}
 use Rattle.sql_eval.specs.Rows.{IsStablySorted, by_orders}
 use Rattle.sql_eval.specs.Values.{directed, missing_first}
+
+-- lists compare by what a function makes of their elements as the lists of these do
+pub mapped_cmp : {X Y : Type 0} (f : X → Y) (R : Y → Y → Ordering) (xs ys : List X) → slice_cmp (on f R) xs ys ≡ slice_cmp R (map f xs) (map f ys)
+mapped_cmp f R [] [] = refl
+mapped_cmp f R [] (y ∷ ys) = refl
+mapped_cmp f R (x ∷ xs) [] = refl
+mapped_cmp f R (x ∷ xs) (y ∷ ys) = ap (ordering_then (R (f x) (f y))) (mapped_cmp f R xs ys)
 
 -- keys compare as the orders that they are of
 keys_in : (way : Direction) (a b : Option Property) → key_cmp (key_in way a) (key_in way b) ≡ directed way missing_first a b

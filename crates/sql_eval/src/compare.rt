@@ -1,6 +1,5 @@
 // How values compare, and how the values of operands are ordered.
 ghost use Rattle.std.specs.Prelude.{◌≡◌, IfOk, List as Seq};
-ghost use Rattle.std.specs.Cmp.Lexicographic.{slice_cmp};
 ghost use Rattle.std.specs.List.{list_any};
 ghost use Rattle.std.specs.Option.{option_copied, option_map_or};
 ghost use Rattle.jr_value.specs.Values.{kind_number};
@@ -8,6 +7,7 @@ ghost use Rattle.sql_parse.specs.declared.query.Operator.TheVariants as op;
 ghost use Rattle.sql_eval.specs.Values.{compares, is_ordered, kinds_first, order_is, value_like, values_in, values_of};
 
 use crate::like::is_like;
+use crate::order::Ordered;
 use jr_value::{Kind, Property, Value};
 use sql_parse::Operator;
 use std::alloc::{AllocError, Global};
@@ -165,29 +165,12 @@ pub fn kinds_first(value: &Value, other: &Value) -> Ordering
     }
 }
 
-/// The order of two lists of values, in which a list that another begins with comes first.
-pub(crate) fn lists_cmp(values: &[Value], others: &[Value]) -> Ordering
-    ensures { result ≡ slice_cmp kinds_first values.now others.now }
-{
-    let mut left = values;
-    let mut right = others;
-    loop {
-        match left {
-            [] => match right {
-                [] => return Ordering::Equal,
-                [_, ..] => return Ordering::Less,
-            },
-            [value, rest @ ..] => match right {
-                [] => return Ordering::Greater,
-                [other, more @ ..] => {
-                    let order = kinds_first(value, other);
-                    if order.is_ne() {
-                        return order;
-                    }
-                    left = rest;
-                    right = more;
-                }
-            },
-        }
+impl Ordered for Value {
+    ghost use Rattle.sql_eval.specs.Values.{kinds_first};
+
+    ghost by = { kinds_first };
+
+    fn order(&self, other: &Value) -> Ordering {
+        kinds_first(self, other)
     }
 }

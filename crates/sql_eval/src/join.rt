@@ -208,10 +208,8 @@ fn add_pairs<'a>(
 ) -> Result<(), AllocError>
     ensures { OnOk result (tuples.new.items ≡ tuples.old.items ++ pairs on.now left.now (map deref_pair right.now)) }
 {
-    let mut rest = left;
-    while let [tuple, others @ ..] = rest {
+    for tuple in left {
         add_pairs_of(alloc, tuples, on, tuple, right)?;
-        rest = others;
     }
     Ok(())
 }
@@ -225,12 +223,10 @@ fn add_pairs_of<'a>(
 ) -> Result<(), AllocError>
     ensures { OnOk result (tuples.new.items ≡ tuples.old.items ++ filter (joins on.now) (map (with_spot left.now) (map deref_pair right.now))) }
 {
-    let mut rest = right;
-    while let [spot, others @ ..] = rest {
+    for spot in right {
         if joins(on, left, *spot) {
             tuples.push(left.with(alloc, Some(*spot))?)?;
         }
-        rest = others;
     }
     Ok(())
 }
@@ -244,12 +240,10 @@ fn add_lonely_tuples<'a>(
 ) -> Result<(), AllocError>
     ensures { OnOk result (tuples.new.items ≡ tuples.old.items ++ lonely_tuples on.now left.now (map deref_pair right.now)) }
 {
-    let mut rest = left;
-    while let [tuple, others @ ..] = rest {
+    for tuple in left {
         if is_lonely_tuple(on, tuple, right) {
             tuples.push(tuple.with(alloc, None)?)?;
         }
-        rest = others;
     }
     Ok(())
 }
@@ -283,12 +277,10 @@ fn add_lonely_spots<'a>(
 ) -> Result<(), AllocError>
     ensures { OnOk result (tuples.new.items ≡ tuples.old.items ++ lonely_spots on.now count left.now (map deref_pair right.now)) }
 {
-    let mut rest = right;
-    while let [spot, others @ ..] = rest {
+    for spot in right {
         if is_lonely_spot(on, left, *spot) {
             tuples.push(Tuple::behind(alloc, count, *spot)?)?;
         }
-        rest = others;
     }
     Ok(())
 }

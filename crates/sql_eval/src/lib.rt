@@ -11,6 +11,7 @@ mod key;
 mod laws;
 mod like;
 mod operand;
+mod order;
 mod row;
 mod sorting;
 mod text;

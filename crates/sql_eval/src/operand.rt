@@ -6,10 +6,11 @@ ghost use Rattle.jr_value.specs.declared.value.Value.TheVariants as value;
 ghost use Rattle.jr_value.specs.declared.value.Property.TheVariants.{Single};
 ghost use Rattle.sql_eval.specs.Conditions.{name_of, operand_of};
 ghost use Rattle.sql_eval.specs.Texts.{cased, in_case, lengths_of, local_part};
-ghost use Rattle.sql_eval.specs.Values.{missing_first, values_in};
+ghost use Rattle.sql_eval.specs.Values.{values_in};
 
 use crate::characters::{Case, in_case, lengths_of, local_part};
-use crate::compare::{lists_cmp, values_in, values_of};
+use crate::compare::{values_in, values_of};
+use crate::order::{Ordered, lists_cmp};
 use crate::tuple::{Spot, Tuple};
 use jr_path::{Path, Text};
 use jr_value::{Property, Value};
@@ -163,63 +164,17 @@ fn text(alloc: Global, text: &str) -> Result<Property, AllocError>
     Ok(Property::Single(Value::Str(text)))
 }
 
-impl<'a> PartialEq for Operated<'a> {
-    ghost use Rattle.std.specs.Ordering.{eq_by_cmp};
-    ghost use Rattle.std.specs.Cmp.{eq_by_cmp_equiv, partial_equiv_from_equiv};
+impl<'a> Ordered for Operated<'a> {
     ghost use Rattle.sql_eval.specs.Values.{missing_first};
-    ghost use Rattle.sql_eval.specs.Keys.{missing_first_total};
 
-    ghost eq = { eq_by_cmp missing_first };
+    ghost by = { missing_first };
 
-    ghost laws = { partial_equiv_from_equiv (eq_by_cmp_equiv missing_first_total) };
-
-    fn eq(&self, other: &Operated<'a>) -> bool {
-        self.cmp(other).is_eq()
-    }
-}
-
-impl<'a> Eq for Operated<'a> {
-    ghost use Rattle.std.specs.Cmp.{eq_by_cmp_equiv};
-    ghost use Rattle.sql_eval.specs.Keys.{missing_first_total};
-
-    ghost laws = { eq_by_cmp_equiv missing_first_total };
-}
-
-impl<'a> Ord for Operated<'a> {
-    ghost use Rattle.std.specs.Prelude.{refl};
-    ghost use Rattle.sql_eval.specs.Values.{missing_first};
-    ghost use Rattle.sql_eval.specs.Keys.{missing_first_total};
-
-    ghost cmp = { missing_first };
-
-    ghost total = { missing_first_total };
-
-    ghost matches_partial_cmp = { λ x y. refl };
-
-    ghost matches_eq = { λ x y. refl };
-
-    fn cmp(&self, other: &Operated<'a>) -> Ordering {
+    fn order(&self, other: &Operated<'a>) -> Ordering {
         match (self.property(), other.property()) {
             (None, None) => Ordering::Equal,
             (None, Some(_)) => Ordering::Less,
             (Some(_), None) => Ordering::Greater,
             (Some(own), Some(property)) => lists_cmp(values_of(own), values_of(property)),
         }
-    }
-}
-
-impl<'a> PartialOrd for Operated<'a> {
-    ghost use Rattle.std.specs.Prelude.{refl};
-    ghost use Rattle.std.specs.Ordering.{as_partial_cmp};
-    ghost use Rattle.std.specs.Cmp.{po};
-    ghost use Rattle.sql_eval.specs.Values.{missing_first};
-    ghost use Rattle.sql_eval.specs.Keys.{missing_first_total};
-
-    ghost partial_cmp = { as_partial_cmp missing_first };
-
-    ghost laws = { po missing_first_total (λ x y. refl) };
-
-    fn partial_cmp(&self, other: &Operated<'a>) -> Option<Ordering> {
-        Some(self.cmp(other))
     }
 }

@@ -3,8 +3,8 @@ ghost use Rattle.std.specs.Prelude.{◌≡◌, IfOk, OnOk, map};
 ghost use Rattle.sql_eval.specs.Keys.{ranked_of};
 ghost use Rattle.sql_eval.specs.Rows.{IsStablySorted, by_orders, by_paths};
 
-use crate::key::{Ranked, ranked_of};
-use crate::tuple::Tuple;
+use crate::key::{Ranked, keys_cmp, ranked_of};
+use crate::tuple::{Tuple, paths_cmp};
 use sql_parse::Order;
 use std::alloc::{AllocError, Global};
 
@@ -12,7 +12,7 @@ use std::alloc::{AllocError, Global};
 pub(crate) fn sort_by_paths(tuples: &mut Vec<Tuple<'_>>) -> Result<(), AllocError>
     ensures { OnOk result (IsStablySorted by_paths tuples.old.items tuples.new.items) }
 {
-    tuples.sort()?;
+    tuples.sort_by(|tuple, other| paths_cmp(tuple, other))?;
     Ok(())
 }
 
@@ -25,7 +25,7 @@ pub(crate) fn sorted_by_orders<'a>(
     ensures { IfOk result (λ sorted. IsStablySorted (by_orders orders.now) tuples.entry.items sorted.items) }
 {
     let mut ranked = ranked(alloc, orders, tuples)?;
-    ranked.sort()?;
+    ranked.sort_by(|one, other| keys_cmp(one, other))?;
     tuples_in(alloc, ranked)
 }
 

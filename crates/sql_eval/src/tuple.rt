@@ -1,13 +1,12 @@
 // Tuples of nodes: for each selector of a query, by its place, a node with its path, or none.
 ghost use Rattle.std.specs.Prelude.{◌≡◌, ◌∷◌, ◌++◌, [], None, Some, IfOk, length, map};
-ghost use Rattle.std.specs.Ordering.{on};
-ghost use Rattle.jr_path.specs.Names.{path_cmp};
 ghost use Rattle.std.specs.List.{repeat};
 ghost use Rattle.std.specs.Map.Iter.{deref_pair};
-ghost use Rattle.std.specs.Option.{option_cmp, option_copied, option_map};
+ghost use Rattle.std.specs.Option.{option_copied, option_map};
 ghost use Rattle.sql_eval.specs.Conditions.{property_in, property_of, spot_of};
 ghost use Rattle.sql_eval.specs.Rows.{by_paths};
 
+use crate::order::{Ordered, lists_cmp};
 use jr_path::{Name, Path};
 use jr_tree::Node;
 use jr_value::Property;
@@ -19,8 +18,7 @@ use std::marker::Model;
 /// A node of a tree with its path.
 pub type Spot<'a> = (&'a Path, &'a Node);
 
-/// For each selector its node, or none where an outer join has none. Ordered by the paths of the nodes in the order
-/// of the selectors, a missing node first.
+/// For each selector its node, or none where an outer join has none.
 #[derive(Drop)]
 pub struct Tuple<'a> {
     spots: Vec<Option<Spot<'a>>>,
@@ -106,97 +104,27 @@ pub fn property_in<'a>(spot: Option<Spot<'a>>, name: &Name) -> Option<&'a Proper
     }
 }
 
-// The order of two nodes by their paths, a missing one first.
-fn spot_cmp(spot: &Option<Spot<'_>>, other: &Option<Spot<'_>>) -> Ordering
-    ensures { result ≡ option_cmp (on (λ e. e.0) path_cmp) (option_map deref_pair spot.now) (option_map deref_pair other.now) }
-{
-    match (spot, other) {
-        (None, None) => Ordering::Equal,
-        (None, Some(_)) => Ordering::Less,
-        (Some(_), None) => Ordering::Greater,
-        (Some((path, _)), Some((other, _))) => path.cmp(other),
-    }
-}
+impl<'a> Ordered for Option<Spot<'a>> {
+    ghost use Rattle.std.specs.Map.Iter.{deref_pair};
+    ghost use Rattle.std.specs.Ordering.{on};
+    ghost use Rattle.std.specs.Option.{option_cmp, option_map};
+    ghost use Rattle.jr_path.specs.Names.{path_cmp};
 
-// The order of two lists of nodes by their paths.
-fn spots_cmp(spots: &[Option<Spot<'_>>], others: &[Option<Spot<'_>>]) -> Ordering
-    ensures { result ≡ by_paths (map (option_map deref_pair) spots.now) (map (option_map deref_pair) others.now) }
-{
-    let mut left = spots;
-    let mut right = others;
-    loop {
-        match left {
-            [] => match right {
-                [] => return Ordering::Equal,
-                [_, ..] => return Ordering::Less,
-            },
-            [spot, rest @ ..] => match right {
-                [] => return Ordering::Greater,
-                [other, more @ ..] => {
-                    let order = spot_cmp(spot, other);
-                    if order.is_ne() {
-                        return order;
-                    }
-                    left = rest;
-                    right = more;
-                }
-            },
+    ghost by = { on (option_map deref_pair) (option_cmp (on (λ e. e.0) path_cmp)) };
+
+    fn order(&self, other: &Option<Spot<'a>>) -> Ordering {
+        match (self, other) {
+            (None, None) => Ordering::Equal,
+            (None, Some(_)) => Ordering::Less,
+            (Some(_), None) => Ordering::Greater,
+            (Some((path, _)), Some((other, _))) => path.cmp(other),
         }
     }
 }
 
-impl<'a> PartialEq for Tuple<'a> {
-    ghost use Rattle.std.specs.Ordering.{eq_by_cmp};
-    ghost use Rattle.std.specs.Cmp.{eq_by_cmp_equiv, partial_equiv_from_equiv};
-    ghost use Rattle.sql_eval.specs.Rows.{by_paths};
-    ghost use Rattle.sql_eval.specs.Keys.{by_paths_total};
-
-    ghost eq = { eq_by_cmp by_paths };
-
-    ghost laws = { partial_equiv_from_equiv (eq_by_cmp_equiv by_paths_total) };
-
-    fn eq(&self, other: &Tuple<'a>) -> bool {
-        self.cmp(other).is_eq()
-    }
-}
-
-impl<'a> Eq for Tuple<'a> {
-    ghost use Rattle.std.specs.Cmp.{eq_by_cmp_equiv};
-    ghost use Rattle.sql_eval.specs.Keys.{by_paths_total};
-
-    ghost laws = { eq_by_cmp_equiv by_paths_total };
-}
-
-impl<'a> Ord for Tuple<'a> {
-    ghost use Rattle.std.specs.Prelude.{refl};
-    ghost use Rattle.sql_eval.specs.Rows.{by_paths};
-    ghost use Rattle.sql_eval.specs.Keys.{by_paths_total};
-
-    ghost cmp = { by_paths };
-
-    ghost total = { by_paths_total };
-
-    ghost matches_partial_cmp = { λ x y. refl };
-
-    ghost matches_eq = { λ x y. refl };
-
-    fn cmp(&self, other: &Tuple<'a>) -> Ordering {
-        spots_cmp(&self.spots, &other.spots)
-    }
-}
-
-impl<'a> PartialOrd for Tuple<'a> {
-    ghost use Rattle.std.specs.Prelude.{refl};
-    ghost use Rattle.std.specs.Ordering.{as_partial_cmp};
-    ghost use Rattle.std.specs.Cmp.{po};
-    ghost use Rattle.sql_eval.specs.Rows.{by_paths};
-    ghost use Rattle.sql_eval.specs.Keys.{by_paths_total};
-
-    ghost partial_cmp = { as_partial_cmp by_paths };
-
-    ghost laws = { po by_paths_total (λ x y. refl) };
-
-    fn partial_cmp(&self, other: &Tuple<'a>) -> Option<Ordering> {
-        Some(self.cmp(other))
-    }
+/// The order of two tuples by the paths of their nodes in the order of the selectors, a missing node first.
+pub(crate) fn paths_cmp(tuple: &Tuple<'_>, other: &Tuple<'_>) -> Ordering
+    ensures { result ≡ by_paths tuple.now other.now }
+{
+    lists_cmp(&tuple.spots, &other.spots)
 }

@@ -1,3 +1,4 @@
+pub mod Depths
 pub mod Grammar
 pub mod Leaves
 pub mod Pieces

@@ -1,16 +1,17 @@
 // What is asked of a row.
-ghost use Rattle.std.specs.Prelude.{◌≡◌, IfOk};
+ghost use Rattle.std.specs.Prelude.{◌≡◌, ◌≤◌, IfOk};
 ghost use Rattle.std.specs.Option.{option_map};
 ghost use Rattle.sql_parse.specs.Grammar.{and_with, filter_at, follows_name, grouped, negated, not_at, not_first, or_with, path_at, path_first, path_in, place_call, selector_before, selector_first, is_selector, test_at, tested};
 ghost use Rattle.sql_parse.specs.Reading.{Reads, ReadsAs};
+ghost use Rattle.sql_parse.specs.Depths.{tested_in};
 ghost use Rattle.sql_parse.specs.Trees.{look_of, test_of};
-ghost use Rattle.sql_parse.specs.Trees as tree;
 
 use crate::cursor::{Cursor, behind, sign_first, word_first};
+use crate::depth::{Nested, and, not, or};
 use crate::names::only_or;
 use crate::operands::operator_first;
 use crate::piece::{Placed, Says, Sign};
-use crate::{Condition, Operand, SqlFault};
+use crate::{Condition, DEEPEST, Operand, SqlFault};
 use jr_path::{DeepCopy, Name, Path};
 use std::alloc::{AllocError, Global};
 
@@ -154,7 +155,7 @@ impl<'a> Cursor<'a> {
             let (selector, path) = self.place_call(names)?;
             return Ok(Condition::Descendant(selector, path));
         }
-        let operand = self.operand(alloc, names, self.pieces)?;
+        let operand = self.operand(alloc, names, self.pieces, 0)?;
         let condition = self.tested(operand)?;
         Ok(condition)
     }
@@ -167,13 +168,15 @@ impl<'a> Cursor<'a> {
         alloc: Global,
         names: &[Name],
         room: &[Placed],
-    ) -> Result<Condition, SqlFault>
-        ensures { ReadsAs test_of result self.new (negated (not_at names.now room.now) self.old) }
+        level: usize,
+    ) -> Result<Nested, SqlFault>
+        requires { level ≤ DEEPEST }
+        ensures { ReadsAs tested_in result self.new (negated (not_at names.now room.now) self.old) }
     {
         self.advance();
-        let condition = self.negation(alloc, names, room)?;
-        let condition = Box::new(alloc, condition)?;
-        Ok(Condition::Not(condition))
+        let inner = self.negation(alloc, names, room, level + 1)?;
+        let nested = not(alloc, inner)?;
+        Ok(nested)
     }
 
     // ( or )
@@ -184,39 +187,48 @@ impl<'a> Cursor<'a> {
         alloc: Global,
         names: &[Name],
         room: &[Placed],
-    ) -> Result<Condition, SqlFault>
-        ensures { ReadsAs test_of result self.new (grouped (not_at names.now room.now) self.old) }
+        level: usize,
+    ) -> Result<Nested, SqlFault>
+        requires { level ≤ DEEPEST }
+        ensures { ReadsAs tested_in result self.new (grouped (not_at names.now room.now) self.old) }
     {
         self.advance();
-        let condition = self.condition(alloc, names, room)?;
+        let nested = self.condition(alloc, names, room, level + 1)?;
         self.sign(Sign::Close)?;
-        Ok(condition)
+        Ok(nested)
     }
 
     // not = NOT not | primary; primary = ( or ) | .. No more NOT and `(` stand inside one another than `room` has
-    // pieces.
+    // pieces; this stands inside so many as `level` says, and no more than DEEPEST have memory.
     #[cycle(condition)]
     fn negation(
         &mut self,
         alloc: Global,
         names: &[Name],
         room: &[Placed],
-    ) -> Result<Condition, SqlFault>
-        ensures { ReadsAs test_of result self.new (not_at names.now room.now self.old) }
+        level: usize,
+    ) -> Result<Nested, SqlFault>
+        ensures { ReadsAs tested_in result self.new (not_at names.now room.now self.old) }
     {
         let [_, room @ ..] = room else {
             return Err(self.fault());
         };
+        if level > DEEPEST {
+            return Err(SqlFault::Memory);
+        }
         if self.is_not() {
-            let condition = self.negated(alloc, names, room)?;
-            return Ok(condition);
+            let nested = self.negated(alloc, names, room, level)?;
+            return Ok(nested);
         }
         if self.is_sign(Sign::Open) {
-            let condition = self.grouped(alloc, names, room)?;
-            return Ok(condition);
+            let nested = self.grouped(alloc, names, room, level)?;
+            return Ok(nested);
         }
         let condition = self.test(alloc, names)?;
-        Ok(condition)
+        Ok(Nested {
+            condition,
+            depth: 0,
+        })
     }
 
     // and = not {AND not}
@@ -226,10 +238,11 @@ impl<'a> Cursor<'a> {
         alloc: Global,
         names: &[Name],
         room: &[Placed],
-    ) -> Result<Condition, SqlFault>
-        ensures { ReadsAs test_of result self.new (and_with (not_at names.now room.now) self.old) }
+        level: usize,
+    ) -> Result<Nested, SqlFault>
+        ensures { ReadsAs tested_in result self.new (and_with (not_at names.now room.now) self.old) }
     {
-        let mut left = self.negation(alloc, names, room)?;
+        let mut left = self.negation(alloc, names, room, level)?;
         let mut turns = self.pieces;
         while let [_, more @ ..] = turns {
             if !self.is_word("AND") {
@@ -237,7 +250,7 @@ impl<'a> Cursor<'a> {
             }
             turns = more;
             self.advance();
-            let right = self.negation(alloc, names, room)?;
+            let right = self.negation(alloc, names, room, level)?;
             left = and(alloc, left, right)?;
         }
         Ok(left)
@@ -250,10 +263,11 @@ impl<'a> Cursor<'a> {
         alloc: Global,
         names: &[Name],
         room: &[Placed],
-    ) -> Result<Condition, SqlFault>
-        ensures { ReadsAs test_of result self.new (or_with (not_at names.now room.now) self.old) }
+        level: usize,
+    ) -> Result<Nested, SqlFault>
+        ensures { ReadsAs tested_in result self.new (or_with (not_at names.now room.now) self.old) }
     {
-        let mut left = self.conjunction(alloc, names, room)?;
+        let mut left = self.conjunction(alloc, names, room, level)?;
         let mut turns = self.pieces;
         while let [_, more @ ..] = turns {
             if !self.is_word("OR") {
@@ -261,7 +275,7 @@ impl<'a> Cursor<'a> {
             }
             turns = more;
             self.advance();
-            let right = self.conjunction(alloc, names, room)?;
+            let right = self.conjunction(alloc, names, room, level)?;
             left = or(alloc, left, right)?;
         }
         Ok(left)
@@ -278,25 +292,9 @@ impl<'a> Cursor<'a> {
     {
         if self.is_word("WHERE") {
             self.advance();
-            let condition = self.condition(alloc, names, self.pieces)?;
-            return Ok(Some(condition));
+            let nested = self.condition(alloc, names, self.pieces, 0)?;
+            return Ok(Some(nested.condition));
         }
         Ok(None)
     }
-}
-
-fn and(alloc: Global, left: Condition, right: Condition) -> Result<Condition, AllocError>
-    ensures { IfOk result (λ c. test_of c ≡ tree.And (test_of left) (test_of right)) }
-{
-    let left = Box::new(alloc, left)?;
-    let right = Box::new(alloc, right)?;
-    Ok(Condition::And(left, right))
-}
-
-fn or(alloc: Global, left: Condition, right: Condition) -> Result<Condition, AllocError>
-    ensures { IfOk result (λ c. test_of c ≡ tree.Or (test_of left) (test_of right)) }
-{
-    let left = Box::new(alloc, left)?;
-    let right = Box::new(alloc, right)?;
-    Ok(Condition::Or(left, right))
 }

@@ -4,6 +4,7 @@
 mod columns;
 mod conditions;
 mod cursor;
+mod depth;
 mod fault;
 mod leaves;
 mod names;
@@ -18,5 +19,6 @@ mod sources;
 pub use fault::SqlFault;
 pub use parser::parse;
 pub use query::{
-    Column, Condition, Direction, Join, JoinKind, On, Operand, Operator, Order, PropertyOf, Query,
+    Column, Condition, DEEPEST, Direction, Join, JoinKind, On, Operand, Operator, Order,
+    PropertyOf, Query,
 };

@@ -8,7 +8,7 @@ use crate::cursor::Cursor;
 use crate::leaves::{is_a, kind_named};
 use crate::names::only_or;
 use crate::piece::{Placed, Says, Sign};
-use crate::{Operand, Operator, PropertyOf, SqlFault};
+use crate::{DEEPEST, Operand, Operator, PropertyOf, SqlFault};
 use jr_path::{DeepCopy, Name, Text};
 use jr_value::{Kind, Value};
 use std::alloc::{AllocError, Global};
@@ -171,22 +171,27 @@ impl<'a> Cursor<'a> {
     }
 
     // operand = property | LENGTH(property) | NAME([name]) | LOCALNAME([name]) | LOWER(operand) | UPPER(operand).
-    // No more operands stand inside one another than `room` has pieces.
+    // No more operands stand inside one another than `room` has pieces; this stands inside so many as `level` says, and
+    // no more than DEEPEST have memory.
     pub(crate) fn operand(
         &mut self,
         alloc: Global,
         names: &[Name],
         room: &[Placed],
+        level: usize,
     ) -> Result<Operand, SqlFault>
         ensures { ReadsAs look_of result self.new (operand_at names.now room.now self.old) }
     {
         let [_, room @ ..] = room else {
             return Err(self.fault());
         };
+        if level > DEEPEST {
+            return Err(SqlFault::Memory);
+        }
         if self.is_call("LOWER") {
             self.advance();
             self.sign(Sign::Open)?;
-            let operand = self.operand(alloc, names, room)?;
+            let operand = self.operand(alloc, names, room, level + 1)?;
             self.sign(Sign::Close)?;
             let operand = Box::new(alloc, operand)?;
             return Ok(Operand::Lower(operand));
@@ -194,7 +199,7 @@ impl<'a> Cursor<'a> {
         if self.is_call("UPPER") {
             self.advance();
             self.sign(Sign::Open)?;
-            let operand = self.operand(alloc, names, room)?;
+            let operand = self.operand(alloc, names, room, level + 1)?;
             self.sign(Sign::Close)?;
             let operand = Box::new(alloc, operand)?;
             return Ok(Operand::Upper(operand));

@@ -30,7 +30,7 @@ impl<'a> Cursor<'a> {
     fn order(&mut self, alloc: Global, names: &[Name]) -> Result<Order, SqlFault>
         ensures { ReadsAs by_of result self.new (order_at names.now self.old) }
     {
-        let operand = self.operand(alloc, names, self.pieces)?;
+        let operand = self.operand(alloc, names, self.pieces, 0)?;
         let direction = self.direction()?;
         Ok(Order { operand, direction })
     }

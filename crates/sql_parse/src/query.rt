@@ -2,6 +2,11 @@
 use jr_path::{List, Name, Path};
 use jr_value::Value;
 
+/// How many NOT, AND and OR stand inside one another in a condition at most, and how many LOWER and UPPER in an operand.
+/// Of a chain `a OR b OR c` the first stands inside all others. A deeper query has no memory, so a call that goes down
+/// a query, or lets one go, needs no more stack than for so many.
+pub const DEEPEST: usize = 1_000;
+
 /// A query of JCR-SQL2 (JSR 283, 6.7 Abstract Query Model). Selectors are named by their place in the query, from 0.
 #[derive(Drop)]
 pub struct Query {

@@ -125,25 +125,5 @@ fn key_cmp(key: &Key<'_>, other: &Key<'_>) -> Ordering
 fn names_cmp(names: &[Name], others: &[Name]) -> Ordering
     ensures { result ≡ slice_cmp name_cmp names.now others.now }
 {
-    let mut left = names;
-    let mut right = others;
-    loop {
-        match left {
-            [] => match right {
-                [] => return Ordering::Equal,
-                [_, ..] => return Ordering::Less,
-            },
-            [name, rest @ ..] => match right {
-                [] => return Ordering::Greater,
-                [other, more @ ..] => {
-                    let order = name.cmp(other);
-                    if order.is_ne() {
-                        return order;
-                    }
-                    left = rest;
-                    right = more;
-                }
-            },
-        }
-    }
+    names.cmp(others)
 }

@@ -14,7 +14,7 @@ fn main(rt: HostRuntime) -> ExitCode {
     let Ok(mut sink) = StdSink::new(alloc, io::writer(&rt)) else {
         return ExitCode::from(5);
     };
-    let Ok(input) = read_all(alloc, &mut source, 1_000_000) else {
+    let Ok(input) = read_all(alloc, &mut source, 4_000_000) else {
         return ExitCode::from(3);
     };
     let Ok(text) = rows::answers(alloc, input.as_slice()) else {

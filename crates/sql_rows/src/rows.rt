@@ -3,9 +3,10 @@ use jr_path::{DeepCopy, Name, Path};
 use jr_tree::{Node, Tree};
 use jr_value::{Kind, Property, Value};
 use serde_json::Value as Json;
-use sql_eval::{Cell, Row, rows};
+use sql_eval::{Cell, Row, rows, rows_text};
 use sql_lex::{LexFault, Token, TokenKind, lex};
 use sql_parse::{Condition, Operand, Query, SqlFault, parse};
+use sql_plan::rows_fast;
 use std::alloc::{AllocError, Global};
 
 pub(crate) fn answers(alloc: Global, input: &[u8]) -> Result<String, AllocError> {
@@ -35,6 +36,14 @@ fn add_answer(
         Some(("condition", text)) => add_condition(alloc, text, out),
         Some(("counts", text)) => add_counts(alloc, text, out),
         Some(("rows", text)) => add_rows(alloc, text, tree, out),
+        Some(("text", text)) => add_text(alloc, text, tree, out),
+        Some(("deep", text)) => add_deep(alloc, text, tree, out),
+        Some(("count", text)) => add_count(alloc, text, tree, out),
+        Some(("fast", text)) => add_fast_count(alloc, text, tree, out),
+        Some(("tree", _)) => {
+            *tree = Tree::new(alloc);
+            Ok(())
+        }
         _ => out.push('?'),
     }
 }
@@ -211,20 +220,105 @@ fn put(condition: &Condition, out: &mut String) -> Result<(), AllocError> {
 // rows QUERY: the cells, row by row.
 fn add_rows(alloc: Global, text: &str, tree: &Tree, out: &mut String) -> Result<(), AllocError> {
     match read(alloc, text) {
-        Ok(query) => add_found(alloc, &query, tree, out),
+        Ok(query) => add_cells_of(alloc, &query, tree, out),
         Err(fault) => add_fault(alloc, fault, out),
     }
 }
 
-fn add_found(
+fn add_cells_of(
     alloc: Global,
     query: &Query,
     tree: &Tree,
     out: &mut String,
 ) -> Result<(), AllocError> {
-    let sets = sets(alloc, query)?;
-    for row in &rows(alloc, query, sets.as_slice(), tree)? {
+    for row in &found(alloc, query, tree)? {
         add_cells(alloc, row, out)?;
+    }
+    Ok(())
+}
+
+// text QUERY: the text of the rows, and whether those by a plan have it too.
+fn add_text(alloc: Global, text: &str, tree: &Tree, out: &mut String) -> Result<(), AllocError> {
+    match read(alloc, text) {
+        Ok(query) => add_text_of(alloc, &query, tree, out),
+        Err(fault) => add_fault(alloc, fault, out),
+    }
+}
+
+fn add_text_of(
+    alloc: Global,
+    query: &Query,
+    tree: &Tree,
+    out: &mut String,
+) -> Result<(), AllocError> {
+    let plain = rows_text(alloc, &found(alloc, query, tree)?)?;
+    let fast = rows_text(alloc, &found_fast(alloc, query, tree)?)?;
+    if plain.as_str() != fast.as_str() {
+        out.push_str("not the rows of the plan: ")?;
+    }
+    out.push_str(plain.as_str())
+}
+
+// count QUERY: how many rows there are.
+fn add_count(alloc: Global, text: &str, tree: &Tree, out: &mut String) -> Result<(), AllocError> {
+    match read(alloc, text) {
+        Ok(query) => add_number(alloc, out, found(alloc, &query, tree)?.len()),
+        Err(fault) => add_fault(alloc, fault, out),
+    }
+}
+
+// fast QUERY: how many rows there are by a plan.
+fn add_fast_count(
+    alloc: Global,
+    text: &str,
+    tree: &Tree,
+    out: &mut String,
+) -> Result<(), AllocError> {
+    match read(alloc, text) {
+        Ok(query) => add_number(alloc, out, found_fast(alloc, &query, tree)?.len()),
+        Err(fault) => add_fault(alloc, fault, out),
+    }
+}
+
+fn found(alloc: Global, query: &Query, tree: &Tree) -> Result<Vec<Row>, AllocError> {
+    let sets = sets(alloc, query)?;
+    rows(alloc, query, sets.as_slice(), tree)
+}
+
+fn found_fast(alloc: Global, query: &Query, tree: &Tree) -> Result<Vec<Row>, AllocError> {
+    let sets = sets(alloc, query)?;
+    rows_fast(alloc, query, sets.as_slice(), tree)
+}
+
+// deep COUNT|BEFORE|OPEN|INSIDE|CLOSE|AFTER: as text, of BEFORE, so many OPEN, INSIDE, so many CLOSE, and AFTER.
+fn add_deep(alloc: Global, text: &str, tree: &Tree, out: &mut String) -> Result<(), AllocError> {
+    let query = deep_query(alloc, text)?;
+    add_text(alloc, query.as_str(), tree, out)
+}
+
+fn deep_query(alloc: Global, text: &str) -> Result<String, AllocError> {
+    let (count, rest) = cut(text);
+    let count: u32 = count.parse().unwrap_or(0);
+    let (before, rest) = cut(rest);
+    let (open, rest) = cut(rest);
+    let (inside, rest) = cut(rest);
+    let (close, after) = cut(rest);
+    let mut query = String::new(alloc);
+    query.push_str(before)?;
+    repeat(&mut query, count, open)?;
+    query.push_str(inside)?;
+    repeat(&mut query, count, close)?;
+    query.push_str(after)?;
+    Ok(query)
+}
+
+fn cut(text: &str) -> (&str, &str) {
+    text.split_once('|').unwrap_or((text, ""))
+}
+
+fn repeat(query: &mut String, count: u32, text: &str) -> Result<(), AllocError> {
+    for _ in 0..count {
+        query.push_str(text)?;
     }
     Ok(())
 }

@@ -2,7 +2,7 @@ use Rattle.std.proofs.Common.{◌≡◌, ◌+◌, ◌*◌, length}
 use Rattle.std.specs.Prelude.{codes}
 use Rattle.sql_parse.specs.Grammar.{and_more, not_at, or_more}
 use Rattle.sql_parse.specs.Reading.{many, word_first}
-use Rattle.sql_parse.specs.Trees.{test_of}
+use Rattle.sql_parse.specs.Depths.{tested_in}
 use Rattle.sql_parse.proofs.cursor.Cursor.+condition.Given as goal
 
 abbrev pub decreases-condition : goal.decreases-condition
@@ -22,16 +22,16 @@ decreases-negation l = 4 * length l.room.now
 
 abbrev pub invariant-condition-loop-turns : goal.invariant-condition-loop-turns
 invariant-condition-loop-turns l =
-    many (word_first (codes "OR")) (or_more (not_at l.names l.room)) l.turns (test_of l.left) l.self
-    ≡ many (word_first (codes "OR")) (or_more (not_at l.names l.room)) l.initial.turns (test_of l.initial.left) l.initial.self
+    many (word_first (codes "OR")) (or_more (not_at l.names l.room)) l.turns (tested_in l.left) l.self
+    ≡ many (word_first (codes "OR")) (or_more (not_at l.names l.room)) l.initial.turns (tested_in l.initial.left) l.initial.self
 
 abbrev pub decreases-condition-loop-turns : goal.decreases-condition-loop-turns
 decreases-condition-loop-turns l = length l.turns
 
 abbrev pub invariant-conjunction-loop-turns : goal.invariant-conjunction-loop-turns
 invariant-conjunction-loop-turns l =
-    many (word_first (codes "AND")) (and_more (not_at l.names l.room)) l.turns (test_of l.left) l.self
-    ≡ many (word_first (codes "AND")) (and_more (not_at l.names l.room)) l.initial.turns (test_of l.initial.left) l.initial.self
+    many (word_first (codes "AND")) (and_more (not_at l.names l.room)) l.turns (tested_in l.left) l.self
+    ≡ many (word_first (codes "AND")) (and_more (not_at l.names l.room)) l.initial.turns (tested_in l.initial.left) l.initial.self
 
 abbrev pub decreases-conjunction-loop-turns : goal.decreases-conjunction-loop-turns
 decreases-conjunction-loop-turns l = length l.turns
