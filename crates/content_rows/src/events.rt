@@ -1,5 +1,6 @@
 // Events of commits. The commits are JSON: a list for each, in which a list for each change has a sign, a path, and a property's
 // name where the change is of one: `+` is for what is added, `-` for what is removed, `~` for a property that is changed.
+use crate::json::{items_of, json_of};
 use crate::rows::{cut, number};
 use crate::trees::{name_of, path_of};
 use jcr_observe::{Filter, events, events_text};
@@ -46,21 +47,9 @@ fn filter_of(alloc: Global, asked: &str) -> Result<Option<Filter>, AllocError> {
 }
 
 fn commits_of(alloc: Global, text: &str) -> Result<Option<Vec<CommitChanges>>, AllocError> {
-    match Json::from_str(alloc, text) {
-        Ok(json) => commits_in(alloc, items_of(&json)),
-        Err(error) => {
-            if error.is_memory() {
-                return Err(AllocError);
-            }
-            Ok(None)
-        }
-    }
-}
-
-fn items_of(json: &Json) -> Option<&[Json]> {
-    match json {
-        Json::Array(items) => Some(items.as_slice()),
-        _ => None,
+    match json_of(alloc, text)? {
+        Some(json) => commits_in(alloc, items_of(&json)),
+        None => Ok(None),
     }
 }
 

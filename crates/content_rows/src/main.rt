@@ -3,11 +3,13 @@
 #![tactic(auto)]
 
 mod events;
+mod json;
 mod locks;
 mod references;
 mod rows;
 mod shows;
 mod trees;
+mod types;
 
 use jr_io::{Sink, StdSink, StdSource, read_all, write_all};
 use std::io;

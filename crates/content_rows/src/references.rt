@@ -1,10 +1,10 @@
 // Identifiers, references, and the histories of versions.
 use crate::rows::{cut, number};
-use crate::shows::{put_found, put_item, put_writes};
+use crate::shows::{put_found, put_item, put_names, put_writes};
 use jcr_ref::{
     HistoryWrites, by_id, dangling, history_writes, identifier, referrers, version_names,
 };
-use jr_path::{Item, Name, Path};
+use jr_path::{Item, Path};
 use jr_rev::RevVec;
 use jr_tree::{Tree, Who};
 use std::alloc::{AllocError, Global};
@@ -85,14 +85,4 @@ pub(crate) fn add_names(
     out: &mut String,
 ) -> Result<(), AllocError> {
     put_names(&version_names(alloc, tree, path)?, out)
-}
-
-fn put_names(names: &[Name], out: &mut String) -> Result<(), AllocError> {
-    let mut between = "";
-    for name in names {
-        out.push_str(between)?;
-        out.push_str(name.as_str())?;
-        between = " ";
-    }
-    Ok(())
 }

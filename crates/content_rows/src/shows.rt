@@ -1,6 +1,6 @@
 // Paths, items, writes and refusals as texts.
 use jcr_trans::refusal_text;
-use jr_path::{Item, Path};
+use jr_path::{Item, Name, Path};
 use jr_tree::{Refusal, Write};
 use std::alloc::{AllocError, Global};
 
@@ -22,6 +22,16 @@ pub(crate) fn put_item(item: &Item, out: &mut String) -> Result<(), AllocError> 
         Some(name) => put_path(&item.path.child(name)?, out),
         None => put_path(&item.path, out),
     }
+}
+
+pub(crate) fn put_names(names: &[Name], out: &mut String) -> Result<(), AllocError> {
+    let mut between = "";
+    for name in names {
+        out.push_str(between)?;
+        out.push_str(name.as_str())?;
+        between = " ";
+    }
+    Ok(())
 }
 
 // The writes, one behind another with a semicolon.

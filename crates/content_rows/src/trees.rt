@@ -1,4 +1,5 @@
 // A tree from JSON: an object with a member for each path, an object with a property for each name. `/` is always there.
+use crate::json::json_of;
 use jr_path::{DeepCopy, Name, Path, PathFault};
 use jr_tree::{Node, Tree};
 use jr_value::{Property, ValueFault};
@@ -6,15 +7,9 @@ use serde_json::{Map, Value as Json};
 use std::alloc::{AllocError, Global};
 
 pub(crate) fn tree_of(alloc: Global, text: &str) -> Result<Option<Tree>, AllocError> {
-    match Json::from_str(alloc, text) {
-        Ok(Json::Object(members)) => nodes_of(alloc, &members),
-        Ok(_) => Ok(None),
-        Err(error) => {
-            if error.is_memory() {
-                return Err(AllocError);
-            }
-            Ok(None)
-        }
+    match json_of(alloc, text)? {
+        Some(Json::Object(members)) => nodes_of(alloc, &members),
+        _ => Ok(None),
     }
 }
 
