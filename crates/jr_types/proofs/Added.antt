@@ -153,9 +153,9 @@ module _ (types : List TypeDef) (d : TypeDef) (new : type_named types d.name ≡
   same_fits : (c : Option Property) → is_primary_type types c ≡ true → (x : ChildDef) → fits_child more x c ≡ fits_child types x c
   same_fits c h x = by (one_name c) refl
     where
-      by : (m : Option Name) → one_name c ≡ m → option_map_or (λ n. list_any (is_a more n) x.types) m false ≡ option_map_or (λ n. list_any (is_a types n) x.types) m false
+      by : (m : Option Name) → one_name c ≡ m → option_map_or (λ n. list_all (is_a more n) x.types) m false ≡ option_map_or (λ n. list_all (is_a types n) x.types) m false
       by None e = refl
-      by (Some n) e = ap (λ (ds : List TypeDef). list_any (λ y. list_any (λ e. same_name e.name y) ds) x.types) (lineage-added n (primary_registered c h n e))
+      by (Some n) e = ap (λ (ds : List TypeDef). list_all (λ y. list_any (λ e. same_name e.name y) ds) x.types) (lineage-added n (primary_registered c h n e))
 
   none_fits : (c : Option Property) → is_primary_type types c ≡ true → (xs : List ChildDef) → list_all (λ x. not (fits_child more x c)) xs ≡ list_all (λ x. not (fits_child types x c)) xs
   none_fits c h [] = refl

@@ -1,6 +1,6 @@
 -- Registered types, and the definitions that count for an item.
 use Rattle.std.specs.Prelude.{Bool, true, false, cond, not, ◌&&◌, ◌||◌, ◌==◌, List, [], ◌∷◌, ◌++◌, Option, Some, is_none, map, reverse, option_to_list}
-use Rattle.std.specs.List.{filter, find, flat_map, list_any}
+use Rattle.std.specs.List.{filter, find, flat_map, list_all, list_any}
 use Rattle.std.specs.Option.{option_map_or, option_or}
 use Rattle.jr_path.specs.declared.name.Name.{Name}
 use Rattle.jr_value.specs.declared.value.Kind.TheVariants as kind
@@ -84,9 +84,9 @@ abbrev pub fits : PropDef → Property → Bool
 fits d (Single x) = not d.multiple && option_map_or (λ k. kind_number k == kind_number (kind_of x)) d.kind true
 fits d (Many k xs) = d.multiple && option_map_or (λ l. kind_number l == kind_number k) d.kind true
 
--- a child of that primary type is of one of the definition's required types
+-- a child of that primary type is of each of the definition's required types
 abbrev pub fits_child : List TypeDef → ChildDef → Option Property → Bool
-fits_child types d primary = option_map_or (λ n. list_any (is_a types n) d.types) (one_name primary) false
+fits_child types d primary = option_map_or (λ n. list_all (is_a types n) d.types) (one_name primary) false
 
 -- the definition of a property: the first that it fits, or else the first
 abbrev pub prop_def : List TypeDef → Name → Property → Option PropDef

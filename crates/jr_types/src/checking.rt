@@ -55,7 +55,7 @@ impl Registry {
     /// 5. one of these with no constraints, or with one for each of its values;
     /// 6. each mandatory property is there;
     /// 7. each child has a definition,
-    /// 8. one of whose required types its primary type is;
+    /// 8. one of whose required types its primary type is each;
     /// 9. each mandatory child is there.
     pub fn check(&self, tree: &Tree, path: &Path) -> Result<(), TypesOut>
         requires { IsTrue (is_some (node_at tree.now path.now)) }
@@ -213,7 +213,7 @@ impl Registry {
         Some(8)
     }
 
-    // Whether a child of that primary type is of a required type of one of these definitions.
+    // Whether a child of that primary type is of each required type of one of these definitions.
     fn is_fit_for(&self, counting: &[&ChildDef], primary: Option<&Property>) -> bool
         ensures { result ≡ list_any (λ d. fits_child self.now d.now (option_copied primary.entry)) counting.now }
     {
@@ -380,21 +380,21 @@ impl Registry {
         }
     }
 
-    // Whether a child of that primary type is of one of the definition's required types.
+    // Whether a child of that primary type is of each of the definition's required types.
     pub(crate) fn fits_child(&self, def: &ChildDef, primary: Option<&Property>) -> bool
         ensures { result ≡ fits_child self.now def.now (option_copied primary.entry) }
     {
         match one_name(primary) {
-            Some(name) => self.is_one_of(name, def.types.as_slice()),
+            Some(name) => self.is_each_of(name, def.types.as_slice()),
             None => false,
         }
     }
 
-    // Whether a type is one of these or below one.
-    fn is_one_of(&self, name: &Name, required: &[Name]) -> bool
-        ensures { result ≡ list_any (is_a self.now name.now) required.now }
+    // Whether a type is each of these or below it.
+    fn is_each_of(&self, name: &Name, required: &[Name]) -> bool
+        ensures { result ≡ list_all (is_a self.now name.now) required.now }
     {
-        required.iter().any(|of| self.is_a(name, of))
+        required.iter().all(|of| self.is_a(name, of))
     }
 }
 

@@ -67,7 +67,7 @@ impl Registry {
 }
 
 impl Registry {
-    // Those of the definitions of whose required types a child of that primary type is.
+    // Those of the definitions of whose required types a child of that primary type is each.
     fn fitting_children<'a>(
         &self,
         counting: &[&'a ChildDef],
