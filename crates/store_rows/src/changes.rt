@@ -87,29 +87,6 @@ fn change_of(alloc: Global, rest: &str) -> Result<Change, PathFault> {
     }
 }
 
-// ID NAME COUNT: so many values of a property, one change each, which are not told.
-pub(crate) fn fill(alloc: Global, rest: &str, table: &mut DocTable) -> Result<(), AllocError> {
-    let (id, rest) = cut(rest);
-    let (name, count) = cut(rest);
-    let mut untold = String::new(alloc);
-    for time in 1..number(count).saturating_add(1) {
-        put_value(alloc, id, name, time, table, &mut untold)?;
-    }
-    Ok(())
-}
-
-fn put_value(
-    alloc: Global,
-    id: &str,
-    name: &str,
-    time: u64,
-    table: &mut DocTable,
-    untold: &mut String,
-) -> Result<(), AllocError> {
-    let line = format!(in alloc; "{id} put {time} {name}")?;
-    make(alloc, line.as_str(), table, untold)
-}
-
 fn entry(number: u64, r: Revision) -> PrevEntry {
     PrevEntry {
         number,

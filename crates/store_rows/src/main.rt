@@ -1,13 +1,9 @@
 //! Rows of documents: each line of the input changes a document of a table, undoes or removes one, or reads a node or its
-//! children, or is of the memory of a cluster node, or runs an automaton of background work; each line of the output says what
-//! came of it.
+//! children, or is of the memory of a cluster node; each line of the output says what came of it.
 #![tactic(auto)]
 
-mod asks;
-mod background;
 mod changes;
 mod commits;
-mod moving;
 mod nodes;
 mod reading;
 mod rows;

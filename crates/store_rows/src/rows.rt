@@ -1,7 +1,7 @@
 // What comes of each line.
 ghost use Rattle.std.specs.Prelude.{◌≡◌};
 
-use crate::{background, changes, commits, moving, nodes, reading};
+use crate::{changes, commits, nodes, reading};
 use jr_path::{DeepCopy, DocId, List, Path, PathFault};
 use jr_rev::Revision;
 use oak_doc::{Ask, Collected, Document, RemoveOut, Reply};
@@ -50,34 +50,8 @@ fn add_answer(
         "memory" => nodes::add(alloc, out),
         "node" => reading::add_node(alloc, rest, table, out),
         "children" => reading::add_children(alloc, rest, table, out),
-        "fresh" => renew(alloc, rest, table),
-        "fill" => changes::fill(alloc, rest, table),
-        _ => add_work(alloc, word, rest, table, out),
-    }
-}
-
-fn add_work(
-    alloc: Global,
-    word: &str,
-    rest: &str,
-    table: &mut DocTable,
-    out: &mut String,
-) -> Result<(), AllocError> {
-    match word {
-        "back" => background::add_write(alloc, rest, table, out),
-        "learn" => background::add_read(alloc, rest, table, out),
-        "sweep" => background::add_sweep(alloc, rest, table, out),
-        "settings" => background::add_settings(alloc, rest, table, out),
-        "split" => moving::add_split(alloc, rest, table, out),
-        "collect" => moving::add_collection(alloc, rest, table, out),
         _ => out.push_str("no row"),
     }
-}
-
-// NUMBER: the table is empty, and that number was drawn last.
-fn renew(alloc: Global, rest: &str, table: &mut DocTable) -> Result<(), AllocError> {
-    *table = DocTable::of(alloc, Vec::new(alloc), number(rest))?;
-    Ok(())
 }
 
 // The text before the first space, and the text behind it.
@@ -144,7 +118,7 @@ fn put_found(
 }
 
 // ID NUMBER
-pub(crate) fn remove(
+fn remove(
     alloc: Global,
     rest: &str,
     table: &mut DocTable,
