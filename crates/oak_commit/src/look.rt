@@ -3,14 +3,14 @@ ghost use Rattle.std.specs.Prelude.{◌≡◌, IfOk, OnOk, fold, map};
 ghost use Rattle.jr_path.specs.Ids.{names_of};
 ghost use Rattle.jr_path.specs.declared.path.DocId.TheVariants.{Prev};
 ghost use Rattle.oak_commit.specs.Looking.{entries_in, looked_at, looked_before, with_all, with_found, with_properties};
-ghost use Rattle.oak_doc.specs.Updates.{changed, values_of_property, with_revision, with_values};
+ghost use Rattle.oak_doc.specs.Updates.{changed};
 
 use crate::met::Due;
 use crate::plan::Plan;
 use jr_path::{DeepCopy, DocId, Keyed, List, Name, Path};
 use jr_rev::{RevVec, Revision};
 use jr_value::Property;
-use oak_doc::{Document, PrevEntry};
+use oak_doc::{Document, PrevEntry, put_value};
 use std::alloc::{AllocError, Global};
 
 // The values of a property by revision.
@@ -180,26 +180,5 @@ fn put_values(
     for (r, value) in values.into_inner() {
         put_value(alloc, props, name, r, value)?;
     }
-    Ok(())
-}
-
-// Puts the value of a property at a revision.
-fn put_value(
-    alloc: Global,
-    props: &mut Keyed<Name, Values>,
-    name: &Name,
-    r: Revision,
-    value: Option<Property>,
-) -> Result<(), AllocError>
-    ensures { OnOk result (props.new ≡ with_values props.old name.now
-        (with_revision (values_of_property props.old name.now) r value)) }
-{
-    if let Some(values) = props.inner_mut().get_mut(name) {
-        values.put(r, value)?;
-        return Ok(());
-    }
-    let mut values = Keyed::new(alloc);
-    values.put(r, value)?;
-    props.put(name.copy()?, values)?;
     Ok(())
 }

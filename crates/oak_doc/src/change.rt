@@ -172,8 +172,10 @@ fn drop_entry(document: &mut Document, key: &EntryKey)
     }
 }
 
-// Puts a value of a property at a revision.
-fn put_value(
+/// Puts a value of a property at a revision; the property comes with its first value.
+///
+/// Oak, DocumentNodeStore: "Node Document", on the revisioned values of a property.
+pub fn put_value(
     alloc: Global,
     props: &mut Keyed<Name, Values>,
     name: &Name,

@@ -13,6 +13,7 @@ mod step;
 mod update;
 
 pub use asks::{Ask, Collected, MemoryAsk, Recovered, RemoveOut, Reply, SplitEnd};
+pub use change::put_value;
 pub use document::{Document, PrevEntry};
 pub use step::apply_op;
 pub use update::{Change, Cond, EntryKey, Field, Kept, OpFault, UpdateOp};

@@ -1,9 +1,9 @@
 // What a splitter knows: the document that it read, and the commit roots of its entries.
-ghost use Rattle.std.specs.Prelude.{◌≡◌, ◌++◌, ◌&&◌, IfOk, OnOk, map, option_to_list, take};
+ghost use Rattle.std.specs.Prelude.{◌≡◌, ◌++◌, ◌&&◌, IfOk, OnOk, map, option_to_list};
 ghost use Rattle.std.specs.List.{fold};
 ghost use Rattle.std.specs.Option.{option_copied, option_map};
 ghost use Rattle.jr_rev.specs.Vectors.{sees};
-ghost use Rattle.oak_read.specs.Meaning.{commit_root_of, is_committed, main_of, path_of};
+ghost use Rattle.oak_read.specs.Meaning.{commit_root_of, is_committed, path_of};
 ghost use Rattle.oak_prev.specs.Moving.{documents_known, entries_of, entry_of, moved_entries};
 ghost use Rattle.oak_prev.specs.Splits as splits;
 ghost use Rattle.oak_prev.specs.Splitting.{nothing_read};
@@ -14,6 +14,7 @@ use jr_path::{DeepCopy, DocId, Keyed, List, Name, Path};
 use jr_rev::{Pin, Revision};
 use jr_value::Property;
 use oak_doc::{Change, Cond, Document, PrevEntry, UpdateOp};
+use oak_read::commit_root_of;
 use std::alloc::{AllocError, Global};
 
 // The values of a property by revision.
@@ -79,38 +80,6 @@ fn is_asked(pin: &Pin, r: Revision) -> bool
     ensures { result ≡ is_asked pin.now r }
 {
     pin.base.sees(r) && !pin.sweep.sees(r)
-}
-
-// The commit root of a revision, as it stands in the document.
-fn commit_root_of(alloc: Global, document: &Document, r: Revision) -> Result<DocId, AllocError>
-    ensures { IfOk result (λ root. root ≡ commit_root_of document.now r) }
-{
-    match document.commit_root.get(&r) {
-        Some(depth) => Ok(DocId::Node(ancestor(alloc, &document.id, *depth)?)),
-        None => main_of(&document.id),
-    }
-}
-
-// Of a previous document the document of its node, else the document itself.
-fn main_of(id: &DocId) -> Result<DocId, AllocError>
-    ensures { IfOk result (λ main. main ≡ main_of id.now) }
-{
-    match id {
-        DocId::Node(path) | DocId::Prev(_, path) => Ok(DocId::Node(path.copy()?)),
-        DocId::Settings => Ok(DocId::Settings),
-    }
-}
-
-// The ancestor, of so many names, of the node whose document it is.
-fn ancestor(alloc: Global, id: &DocId, depth: u32) -> Result<Path, AllocError>
-    ensures { IfOk result (λ path. path ≡ take depth (path_of id.now)) }
-{
-    match id {
-        DocId::Node(path) | DocId::Prev(_, path) => {
-            Ok(path.prefix(path.depth().min(depth as usize))?)
-        }
-        DocId::Settings => Ok(Path::root(alloc)),
-    }
 }
 
 // The path of the node whose document it is.

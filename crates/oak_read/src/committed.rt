@@ -46,8 +46,11 @@ fn is_committed(
     }
 }
 
-// The commit root of a revision, as it stands in the document.
-pub(crate) fn commit_root_of(
+/// The commit root of a revision, as it stands in the document: the document of the ancestor that the entry names; where
+/// the document has no such entry, the document of its node.
+///
+/// Oak, DocumentNodeStore: "Node Document", `_commitRoot`.
+pub fn commit_root_of(
     alloc: Global,
     document: &Document,
     r: Revision,

@@ -12,5 +12,6 @@ mod reader;
 mod wanted;
 
 pub use children::{children_of_documents, find_children};
+pub use committed::commit_root_of;
 pub use node::find_node;
 pub use reader::{ReadOut, Reader, readers_end_in_what_documents_mean};
