@@ -1,7 +1,7 @@
 // The texts of asks, with the words for changes that rows have.
-use crate::texts::{put_id, put_number, put_path, put_pin, put_revision};
+use crate::texts::{put_id, put_number, put_pair, put_path, put_pin, put_revision};
 use jr_path::{DocId, Item, List, Name, Text};
-use jr_rev::{Pin, Revision};
+use jr_rev::{Pin, RevVec, Revision};
 use jr_value::{Property, Value};
 use oak_doc::{Ask, Change, Cond, EntryKey, Field, MemoryAsk, PrevEntry, UpdateOp};
 use std::alloc::{AllocError, Global};
@@ -38,21 +38,20 @@ fn put_removal(alloc: Global, id: &DocId, number: u64, out: &mut String) -> Resu
 fn put_memory(alloc: Global, ask: &MemoryAsk, out: &mut String) -> Result<(), AllocError> {
     match ask {
         MemoryAsk::Finish(r) => put_by("end ", *r, out),
-        MemoryAsk::Learn(base, sweep) => {
-            let learned = Pin {
-                base: *base,
-                sweep: *sweep,
-            };
-            put_learned(alloc, &learned, out)
-        }
+        MemoryAsk::Learn(head, sweep) => put_learned(alloc, head, sweep, out),
         MemoryAsk::Pins(cluster) => put_counted(alloc, "pins ", u64::from(*cluster), out),
         MemoryAsk::Recover(cluster) => put_counted(alloc, "recover ", u64::from(*cluster), out),
     }
 }
 
-fn put_learned(alloc: Global, learned: &Pin, out: &mut String) -> Result<(), AllocError> {
+fn put_learned(
+    alloc: Global,
+    head: &RevVec,
+    sweep: &RevVec,
+    out: &mut String,
+) -> Result<(), AllocError> {
     out.push_str("raise ")?;
-    put_pin(alloc, learned, out)
+    put_pair(alloc, head, sweep, out)
 }
 
 pub(crate) fn put_counted(
@@ -67,16 +66,20 @@ pub(crate) fn put_counted(
 
 // `make` where it makes a document that isn't there, and `change` where it doesn't.
 fn put_update(alloc: Global, op: &UpdateOp, out: &mut String) -> Result<(), AllocError> {
-    put_of(
-        alloc,
-        if op.create { "make " } else { "change " },
-        &op.id,
-        out,
-    )?;
-    if let Some(cond) = &op.cond {
-        put_condition(alloc, cond, out)?;
-    }
+    put_of(alloc, update_word(op.create), &op.id, out)?;
+    put_optional(alloc, &op.cond, out)?;
     put_changes(alloc, &op.changes, out)
+}
+
+fn update_word(create: bool) -> &'static str {
+    if create { "make " } else { "change " }
+}
+
+fn put_optional(alloc: Global, cond: &Option<Cond>, out: &mut String) -> Result<(), AllocError> {
+    match cond {
+        Some(cond) => put_condition(alloc, cond, out),
+        None => Ok(()),
+    }
 }
 
 fn put_condition(alloc: Global, cond: &Cond, out: &mut String) -> Result<(), AllocError> {
@@ -99,7 +102,7 @@ fn put_changes(alloc: Global, changes: &List<Change>, out: &mut String) -> Resul
 
 fn put_change(alloc: Global, change: &Change, out: &mut String) -> Result<(), AllocError> {
     match change {
-        Change::Deleted(r, gone) => put_at(if *gone { "gone" } else { "here" }, *r, out),
+        Change::Deleted(r, gone) => put_at(deleted_word(*gone), *r, out),
         Change::CommitRoot(r, depth) => put_root(alloc, *r, *depth, out),
         Change::Revisions(r) => put_at("rev", *r, out),
         Change::Collision(other, r, item) => put_hit(*other, *r, item, out),
@@ -117,6 +120,10 @@ fn put_change(alloc: Global, change: &Change, out: &mut String) -> Result<(), Al
         Change::Attach(session, id) => put_reader(alloc, *session, id, out),
         Change::Detach(session) => put_counted(alloc, "detach@", u64::from(*session), out),
     }
+}
+
+fn deleted_word(gone: bool) -> &'static str {
+    if gone { "gone" } else { "here" }
 }
 
 fn put_at(word: &str, r: Revision, out: &mut String) -> Result<(), AllocError> {

@@ -1,9 +1,9 @@
 // Background writes, background reads and sweeps.
 use crate::asks::put_by;
 use crate::replies::{Row, STEPS, begin, reply_to};
-use crate::texts::{cut, put_pin, revision, small};
+use crate::texts::{cut, put_pair, put_unread, revision, small};
 use jr_path::{List, Path, PathFault};
-use jr_rev::{Pin, RevVec};
+use jr_rev::RevVec;
 use oak_node::Pending;
 use oak_store::DocTable;
 use oak_sweep::Sweeper;
@@ -19,7 +19,7 @@ pub(crate) fn add_write(
     let (upto, paths) = cut(row.arguments, ' ');
     match paths_of(row.alloc, paths) {
         Ok(paths) => run_write(row, pending(paths, upto), table, out),
-        Err(_) => out.push_str("no path"),
+        Err(fault) => put_unread(fault, out),
     }
 }
 
@@ -153,11 +153,7 @@ fn put_learned(
     out: &mut String,
 ) -> Result<(), AllocError> {
     out.push_str("end ")?;
-    let pin = Pin {
-        base: learned.0,
-        sweep: learned.1,
-    };
-    put_pin(alloc, &pin, out)
+    put_pair(alloc, &learned.0, &learned.1, out)
 }
 
 // CLUSTER

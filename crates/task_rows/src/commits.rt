@@ -1,7 +1,7 @@
 // Commits, also over previous documents.
 use crate::asks::{put_by, put_item};
 use crate::replies::{Row, STEPS, begin, reply_to};
-use crate::texts::{cut, put_id, revision, vector};
+use crate::texts::{cut, put_id, put_unread, revision, vector};
 use jr_path::{DocId, Item, List, Name, Path, PathFault};
 use jr_rev::{RevVec, Revision};
 use jr_tree::{Edit, Write};
@@ -17,7 +17,7 @@ use std::alloc::{AllocError, Global};
 pub(crate) fn add(row: &Row<'_>, table: &mut DocTable, out: &mut String) -> Result<(), AllocError> {
     match committer_of(row.alloc, row.arguments) {
         Ok(committer) => run(row, committer, table, out),
-        Err(_) => out.push_str("no path"),
+        Err(fault) => put_unread(fault, out),
     }
 }
 
@@ -30,7 +30,11 @@ fn committer_of(alloc: Global, arguments: &str) -> Result<Committer, PathFault> 
 fn begun(alloc: Global, r: Revision, base: &RevVec, words: &str) -> Result<Committer, PathFault> {
     let writes = writes_of(alloc, words)?;
     let marks = marks_of(alloc, words)?;
-    Ok(Committer::new(alloc, r, base, Edit { writes }, marks)?)
+    let edit = Edit { writes };
+    match Committer::new(alloc, r, base, edit, marks) {
+        Ok(committer) => Ok(committer),
+        Err(_) => Err(PathFault::Memory),
+    }
 }
 
 fn writes_of(alloc: Global, words: &str) -> Result<List<Write>, PathFault> {
@@ -54,18 +58,24 @@ fn write_of(alloc: Global, text: &str) -> Result<Option<Write>, PathFault> {
     match word {
         "here" => Ok(Some(Write::Here(Path::parse(alloc, path)?))),
         "gone" => Ok(Some(Write::Gone(Path::parse(alloc, path)?))),
-        "put" => Ok(Some(put(Path::parse(alloc, path)?, Name::parse(alloc, name)?))),
-        "unset" => Ok(Some(unset(Path::parse(alloc, path)?, Name::parse(alloc, name)?))),
+        "put" => put(Path::parse(alloc, path)?, Name::parse(alloc, name)),
+        "unset" => unset(Path::parse(alloc, path)?, Name::parse(alloc, name)),
         _ => Ok(None),
     }
 }
 
-fn put(path: Path, name: Name) -> Write {
-    Write::Put(path, name, Property::Single(Value::Long(5)))
+fn put(path: Path, name: Result<Name, PathFault>) -> Result<Option<Write>, PathFault> {
+    match name {
+        Ok(name) => Ok(Some(Write::Put(path, name, Property::Single(Value::Long(5))))),
+        Err(fault) => Err(fault),
+    }
 }
 
-fn unset(path: Path, name: Name) -> Write {
-    Write::Unset(path, name)
+fn unset(path: Path, name: Result<Name, PathFault>) -> Result<Option<Write>, PathFault> {
+    match name {
+        Ok(name) => Ok(Some(Write::Unset(path, name))),
+        Err(fault) => Err(fault),
+    }
 }
 
 fn marks_of(alloc: Global, words: &str) -> Result<List<MarkAt>, PathFault> {
@@ -77,24 +87,28 @@ fn marks_of(alloc: Global, words: &str) -> Result<List<MarkAt>, PathFault> {
 }
 
 fn push_mark(alloc: Global, text: &str, marks: &mut List<MarkAt>) -> Result<(), PathFault> {
-    let (word, rest) = cut(text, '@');
-    let (path, name) = cut(rest, '=');
-    if let Some(mark) = mark_of(alloc, word, name)? {
-        marks.push(MarkAt {
-            path: Path::parse(alloc, path)?,
-            mark,
-        })?;
+    if let Some(mark) = mark_of(alloc, text)? {
+        marks.push(mark)?;
     }
     Ok(())
 }
 
-fn mark_of(alloc: Global, word: &str, name: &str) -> Result<Option<Mark>, PathFault> {
+fn mark_of(alloc: Global, text: &str) -> Result<Option<MarkAt>, PathFault> {
+    let (word, rest) = cut(text, '@');
+    let (path, name) = cut(rest, '=');
     match word {
-        "exists" => Ok(Some(Mark::Exists)),
-        "guard" => Ok(Some(Mark::Guard)),
-        "touch" => Ok(Some(Mark::Touch)),
-        "prop" => Ok(Some(Mark::Prop(Name::parse(alloc, name)?))),
+        "exists" => marked(alloc, path, Mark::Exists),
+        "guard" => marked(alloc, path, Mark::Guard),
+        "touch" => marked(alloc, path, Mark::Touch),
+        "prop" => marked(alloc, path, Mark::Prop(Name::parse(alloc, name)?)),
         _ => Ok(None),
+    }
+}
+
+fn marked(alloc: Global, path: &str, mark: Mark) -> Result<Option<MarkAt>, PathFault> {
+    match Path::parse(alloc, path) {
+        Ok(path) => Ok(Some(MarkAt { path, mark })),
+        Err(fault) => Err(fault),
     }
 }
 

@@ -1,8 +1,9 @@
 // What a table of documents at rest, and the memories of cluster nodes, answer to asks.
 use crate::asks::{put_ask, put_counted};
 use crate::changes;
-use crate::texts::{cut, pin, vector};
+use crate::texts::{cut, pin, put_unread};
 use jr_path::{DeepCopy, DocId, List};
+use jr_rev::Pin;
 use oak_doc::{Ask, Document, Kept, MemoryAsk, OpFault, RemoveOut, Reply, UpdateOp};
 use oak_store::DocTable;
 use std::alloc::{AllocError, Global};
@@ -30,7 +31,7 @@ pub(crate) fn begin(
     out.push(' ')?;
     match changes::make_at(row.alloc, row.meanwhile, step, table) {
         Ok(()) => Ok(()),
-        Err(_) => out.push_str("no change"),
+        Err(fault) => put_unread(fault, out),
     }
 }
 
@@ -108,18 +109,30 @@ fn kept(alloc: Global, node: &str) -> Result<Reply, AllocError> {
         return Ok(Reply::Gone);
     }
     let (own, pins) = cut(node, '+');
-    let (head, sweep) = cut(own, '/');
-    let mut list = List::new(alloc);
-    for text in pins.split('+') {
-        if !text.is_empty() {
-            list.push(pin(text))?;
-        }
+    Ok(keeping(pin(own), pins_of(alloc, pins)?))
+}
+
+fn keeping(own: Pin, pins: List<Pin>) -> Reply {
+    Reply::Pins {
+        head: own.base,
+        sweep: own.sweep,
+        pins,
     }
-    Ok(Reply::Pins {
-        head: vector(head),
-        sweep: vector(sweep),
-        pins: list,
-    })
+}
+
+fn pins_of(alloc: Global, texts: &str) -> Result<List<Pin>, AllocError> {
+    let mut pins = List::new(alloc);
+    for text in texts.split('+') {
+        push_pin(text, &mut pins)?;
+    }
+    Ok(pins)
+}
+
+fn push_pin(text: &str, pins: &mut List<Pin>) -> Result<(), AllocError> {
+    if text.is_empty() {
+        return Ok(());
+    }
+    pins.push(pin(text))
 }
 
 fn put_reply(alloc: Global, reply: &Reply, out: &mut String) -> Result<(), AllocError> {

@@ -1,6 +1,6 @@
 // What comes of each line.
 use crate::replies::Row;
-use crate::texts::{cut, number};
+use crate::texts::{cut, number, put_unread};
 use crate::{background, changes, collections, commits, settings, splits};
 use oak_store::DocTable;
 use std::alloc::{AllocError, Global};
@@ -45,7 +45,7 @@ fn add_row(
 ) -> Result<(), AllocError> {
     match changes::make_all(row.alloc, documents, table) {
         Ok(()) => add_answer(row, word, table, out),
-        Err(_) => out.push_str("no documents"),
+        Err(fault) => put_unread(fault, out),
     }
 }
 

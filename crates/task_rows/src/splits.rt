@@ -1,7 +1,7 @@
 // Splits.
 use crate::asks::put_counted;
 use crate::replies::{Row, STEPS, begin, reply_to};
-use crate::texts::{cut, pin};
+use crate::texts::{cut, pin, put_unread};
 use jr_path::Path;
 use oak_doc::SplitEnd;
 use oak_prev::{Splitter, Stage};
@@ -13,7 +13,7 @@ pub(crate) fn add(row: &Row<'_>, table: &mut DocTable, out: &mut String) -> Resu
     let (path, held) = cut(row.arguments, ' ');
     match Path::parse(row.alloc, path) {
         Ok(path) => run(row, &path, held, table, out),
-        Err(_) => out.push_str("no path"),
+        Err(fault) => put_unread(fault, out),
     }
 }
 

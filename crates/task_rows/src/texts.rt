@@ -8,6 +8,14 @@ pub(crate) fn cut(text: &str, mark: char) -> (&str, &str) {
     text.split_once(mark).unwrap_or((text, ""))
 }
 
+// A row that can't be read says so; where memory was refused, the program ends.
+pub(crate) fn put_unread(fault: PathFault, out: &mut String) -> Result<(), AllocError> {
+    match fault {
+        PathFault::Memory => Err(AllocError),
+        _ => out.push_str("unread"),
+    }
+}
+
 pub(crate) fn number(text: &str) -> u64 {
     text.parse().unwrap_or(0)
 }
@@ -70,11 +78,7 @@ pub(crate) fn put_revision(r: Revision, out: &mut String) -> Result<(), AllocErr
     out.push_str(r.text().as_str())
 }
 
-pub(crate) fn put_vector(
-    alloc: Global,
-    vector: &RevVec,
-    out: &mut String,
-) -> Result<(), AllocError> {
+fn put_vector(alloc: Global, vector: &RevVec, out: &mut String) -> Result<(), AllocError> {
     let mut bytes = Vec::new(alloc);
     vector.put_text(&mut bytes)?;
     put_bytes(bytes.as_slice(), out)
@@ -89,9 +93,18 @@ fn put_bytes(bytes: &[u8], out: &mut String) -> Result<(), AllocError> {
 
 // BASE/SWEEP
 pub(crate) fn put_pin(alloc: Global, pin: &Pin, out: &mut String) -> Result<(), AllocError> {
-    put_vector(alloc, &pin.base, out)?;
+    put_pair(alloc, &pin.base, &pin.sweep, out)
+}
+
+pub(crate) fn put_pair(
+    alloc: Global,
+    head: &RevVec,
+    sweep: &RevVec,
+    out: &mut String,
+) -> Result<(), AllocError> {
+    put_vector(alloc, head, out)?;
     out.push('/')?;
-    put_vector(alloc, &pin.sweep, out)
+    put_vector(alloc, sweep, out)
 }
 
 pub(crate) fn put_id(alloc: Global, id: &DocId, out: &mut String) -> Result<(), AllocError> {
