@@ -1,203 +1,130 @@
 // The texts of asks, with the words for changes that rows have.
-use crate::texts::{put_id, put_number, put_pair, put_path, put_pin, put_revision};
+use crate::texts::Out;
 use jr_path::{DocId, Item, List, Name, Text};
-use jr_rev::{Pin, RevVec, Revision};
+use jr_rev::{Pin, Revision};
 use jr_value::{Property, Value};
 use oak_doc::{Ask, Change, Cond, EntryKey, Field, MemoryAsk, PrevEntry, UpdateOp};
-use std::alloc::{AllocError, Global};
 
-pub(crate) fn put_ask(alloc: Global, ask: &Ask, out: &mut String) -> Result<(), AllocError> {
+pub(crate) fn put_ask(ask: &Ask, out: &mut Out) {
     match ask {
-        Ask::Find(id) => put_of(alloc, "find ", id, out),
-        Ask::NextAfter(Some(id)) => put_of(alloc, "next ", id, out),
-        Ask::NextAfter(None) => out.push_str("next"),
-        Ask::Update(op) => put_update(alloc, op, out),
-        Ask::Undo(r) => put_by("undo ", *r, out),
-        Ask::RemoveIf(id, number) => put_removal(alloc, id, *number, out),
-        Ask::Memory(ask) => put_memory(alloc, ask, out),
-        Ask::Done => out.push_str("done"),
+        Ask::Find(id) => out.put_id("find ", id),
+        Ask::NextAfter(Some(id)) => out.put_id("next ", id),
+        Ask::NextAfter(None) => out.put("next"),
+        Ask::Update(op) => put_update(op, out),
+        Ask::Undo(r) => out.put_revision("undo ", *r),
+        Ask::RemoveIf(id, number) => put_removal(id, *number, out),
+        Ask::Memory(ask) => put_memory(ask, out),
+        Ask::Done => out.put("done"),
     }
 }
 
-pub(crate) fn put_of(
-    alloc: Global,
-    word: &str,
-    id: &DocId,
-    out: &mut String,
-) -> Result<(), AllocError> {
-    out.push_str(word)?;
-    put_id(alloc, id, out)
+fn put_removal(id: &DocId, number: u64, out: &mut Out) {
+    out.put_id("remove ", id);
+    out.put_number(" if ", number);
 }
 
-fn put_removal(alloc: Global, id: &DocId, number: u64, out: &mut String) -> Result<(), AllocError> {
-    put_of(alloc, "remove ", id, out)?;
-    out.push_str(" if ")?;
-    put_number(alloc, number, out)
-}
-
-fn put_memory(alloc: Global, ask: &MemoryAsk, out: &mut String) -> Result<(), AllocError> {
+fn put_memory(ask: &MemoryAsk, out: &mut Out) {
     match ask {
-        MemoryAsk::Finish(r) => put_by("end ", *r, out),
-        MemoryAsk::Learn(head, sweep) => put_learned(alloc, head, sweep, out),
-        MemoryAsk::Pins(cluster) => put_counted(alloc, "pins ", u64::from(*cluster), out),
-        MemoryAsk::Recover(cluster) => put_counted(alloc, "recover ", u64::from(*cluster), out),
+        MemoryAsk::Finish(r) => out.put_revision("end ", *r),
+        MemoryAsk::Learn(head, sweep) => out.put_pin("raise ", head, sweep),
+        MemoryAsk::Pins(cluster) => out.put_number("pins ", u64::from(*cluster)),
+        MemoryAsk::Recover(cluster) => out.put_number("recover ", u64::from(*cluster)),
     }
-}
-
-fn put_learned(
-    alloc: Global,
-    head: &RevVec,
-    sweep: &RevVec,
-    out: &mut String,
-) -> Result<(), AllocError> {
-    out.push_str("raise ")?;
-    put_pair(alloc, head, sweep, out)
-}
-
-pub(crate) fn put_counted(
-    alloc: Global,
-    word: &str,
-    number: u64,
-    out: &mut String,
-) -> Result<(), AllocError> {
-    out.push_str(word)?;
-    put_number(alloc, number, out)
 }
 
 // `make` where it makes a document that isn't there, and `change` where it doesn't.
-fn put_update(alloc: Global, op: &UpdateOp, out: &mut String) -> Result<(), AllocError> {
-    put_of(alloc, update_word(op.create), &op.id, out)?;
-    put_optional(alloc, &op.cond, out)?;
-    put_changes(alloc, &op.changes, out)
+fn put_update(op: &UpdateOp, out: &mut Out) {
+    out.put_id(update_word(op.create), &op.id);
+    if let Some(cond) = &op.cond {
+        put_condition(cond, out);
+    }
+    for change in op.changes.inner() {
+        out.put(" ");
+        put_change(change, out);
+    }
 }
 
 fn update_word(create: bool) -> &'static str {
     if create { "make " } else { "change " }
 }
 
-fn put_optional(alloc: Global, cond: &Option<Cond>, out: &mut String) -> Result<(), AllocError> {
+fn put_condition(cond: &Cond, out: &mut Out) {
     match cond {
-        Some(cond) => put_condition(alloc, cond, out),
-        None => Ok(()),
+        Cond::NoCollision(r) => out.put_revision(" if unhit@", *r),
+        Cond::NotCommitted(r) => out.put_revision(" if uncommitted@", *r),
+        Cond::Unchanged(number) => out.put_number(" if ", *number),
+        Cond::Exists => out.put(" if there"),
+        Cond::Missing => out.put(" if missing"),
     }
 }
 
-fn put_condition(alloc: Global, cond: &Cond, out: &mut String) -> Result<(), AllocError> {
-    match cond {
-        Cond::NoCollision(r) => put_at(" if unhit", *r, out),
-        Cond::NotCommitted(r) => put_at(" if uncommitted", *r, out),
-        Cond::Unchanged(number) => put_counted(alloc, " if ", *number, out),
-        Cond::Exists => out.push_str(" if there"),
-        Cond::Missing => out.push_str(" if missing"),
-    }
-}
-
-fn put_changes(alloc: Global, changes: &List<Change>, out: &mut String) -> Result<(), AllocError> {
-    for change in changes.inner() {
-        out.push(' ')?;
-        put_change(alloc, change, out)?;
-    }
-    Ok(())
-}
-
-fn put_change(alloc: Global, change: &Change, out: &mut String) -> Result<(), AllocError> {
+fn put_change(change: &Change, out: &mut Out) {
     match change {
-        Change::Deleted(r, gone) => put_at(deleted_word(*gone), *r, out),
-        Change::CommitRoot(r, depth) => put_root(alloc, *r, *depth, out),
-        Change::Revisions(r) => put_at("rev", *r, out),
+        Change::Deleted(r, gone) => out.put_revision(deleted_word(*gone), *r),
+        Change::CommitRoot(r, depth) => put_root(*r, *depth, out),
+        Change::Revisions(r) => out.put_revision("rev@", *r),
         Change::Collision(other, r, item) => put_hit(*other, *r, item, out),
-        Change::Touched(r) => put_at("touch", *r, out),
-        Change::Guard(r) => put_at("guard", *r, out),
-        Change::Prop(name, r, value) => put_property(alloc, name, *r, value, out),
-        Change::Undo(r) => put_at("undo", *r, out),
+        Change::Touched(r) => out.put_revision("touch@", *r),
+        Change::Guard(r) => out.put_revision("guard@", *r),
+        Change::Prop(name, r, value) => put_property(name, *r, value, out),
+        Change::Undo(r) => out.put_revision("undo@", *r),
         Change::Prune(keys) => put_keys(keys, out),
-        Change::List(entry) => put_listed(alloc, entry, out),
-        Change::Unlist(number) => put_counted(alloc, "unlist@", *number, out),
-        Change::LastRev(r) => put_at("last", *r, out),
-        Change::SweepRev(r) => put_at("swept", *r, out),
-        Change::Checkpoint(id, pin) => put_checkpoint(alloc, id, pin, out),
-        Change::Release(id) => put_words("release@", id, out),
-        Change::Attach(session, id) => put_reader(alloc, *session, id, out),
-        Change::Detach(session) => put_counted(alloc, "detach@", u64::from(*session), out),
+        Change::List(entry) => put_listed(entry, out),
+        Change::Unlist(number) => out.put_number("unlist@", *number),
+        Change::LastRev(r) => out.put_revision("last@", *r),
+        Change::SweepRev(r) => out.put_revision("swept@", *r),
+        Change::Checkpoint(id, pin) => put_checkpoint(id, pin, out),
+        Change::Release(id) => put_release(id, out),
+        Change::Attach(session, id) => put_reader(*session, id, out),
+        Change::Detach(session) => out.put_number("detach@", u64::from(*session)),
     }
 }
 
 fn deleted_word(gone: bool) -> &'static str {
-    if gone { "gone" } else { "here" }
+    if gone { "gone@" } else { "here@" }
 }
 
-fn put_at(word: &str, r: Revision, out: &mut String) -> Result<(), AllocError> {
-    out.push_str(word)?;
-    put_by("@", r, out)
+fn put_root(r: Revision, depth: u32, out: &mut Out) {
+    out.put_revision("root@", r);
+    out.put_number("=", u64::from(depth));
 }
 
-pub(crate) fn put_by(word: &str, r: Revision, out: &mut String) -> Result<(), AllocError> {
-    out.push_str(word)?;
-    put_revision(r, out)
-}
-
-fn put_words(word: &str, text: &Text, out: &mut String) -> Result<(), AllocError> {
-    out.push_str(word)?;
-    out.push_str(text.as_str())
-}
-
-fn put_root(alloc: Global, r: Revision, depth: u32, out: &mut String) -> Result<(), AllocError> {
-    put_at("root", r, out)?;
-    put_counted(alloc, "=", u64::from(depth), out)
-}
-
-fn put_hit(other: Revision, r: Revision, item: &Item, out: &mut String) -> Result<(), AllocError> {
-    put_at("hit", other, out)?;
-    put_by("=", r, out)?;
-    put_item(item, out)
+fn put_hit(other: Revision, r: Revision, item: &Item, out: &mut Out) {
+    out.put_revision("hit@", other);
+    out.put_revision("=", r);
+    put_item(item, out);
 }
 
 // ` PATH`, or ` PATH NAME`
-pub(crate) fn put_item(item: &Item, out: &mut String) -> Result<(), AllocError> {
-    out.push(' ')?;
-    put_path(&item.path, out)?;
-    match &item.name {
-        Some(name) => put_name(name, out),
-        None => Ok(()),
+pub(crate) fn put_item(item: &Item, out: &mut Out) {
+    out.put(" ");
+    match item.path.text() {
+        Ok(text) => out.put(text.as_str()),
+        Err(_) => out.is_broken = true,
+    }
+    if let Some(name) = &item.name {
+        out.put(" ");
+        out.put(name.as_str());
     }
 }
 
-fn put_name(name: &Name, out: &mut String) -> Result<(), AllocError> {
-    out.push(' ')?;
-    out.push_str(name.as_str())
-}
-
-fn put_property(
-    alloc: Global,
-    name: &Name,
-    r: Revision,
-    value: &Option<Property>,
-    out: &mut String,
-) -> Result<(), AllocError> {
-    put_at(name.as_str(), r, out)?;
+fn put_property(name: &Name, r: Revision, value: &Option<Property>, out: &mut Out) {
+    out.put(name.as_str());
+    out.put_revision("@", r);
     match value {
-        Some(Property::Single(Value::Long(number))) => put_long(alloc, *number, out),
-        Some(_) => out.push_str("=?"),
-        None => Ok(()),
+        Some(Property::Single(Value::Long(number))) => out.put_number("=", number.unsigned_abs()),
+        Some(_) => out.put("=?"),
+        None => {}
     }
 }
 
-fn put_long(alloc: Global, number: i64, out: &mut String) -> Result<(), AllocError> {
-    out.push('=')?;
-    out.push_str(number.to_string(alloc)?.as_str())
-}
-
-fn put_keys(keys: &List<EntryKey>, out: &mut String) -> Result<(), AllocError> {
-    out.push_str("prune")?;
+fn put_keys(keys: &List<EntryKey>, out: &mut Out) {
+    out.put("prune");
     for key in keys.inner() {
-        put_key(key, out)?;
+        out.put(" ");
+        out.put(field_word(&key.field));
+        out.put_revision("@", key.revision);
     }
-    Ok(())
-}
-
-fn put_key(key: &EntryKey, out: &mut String) -> Result<(), AllocError> {
-    out.push(' ')?;
-    put_at(field_word(&key.field), key.revision, out)
 }
 
 fn field_word(field: &Field) -> &str {
@@ -212,24 +139,25 @@ fn field_word(field: &Field) -> &str {
     }
 }
 
-fn put_listed(alloc: Global, entry: &PrevEntry, out: &mut String) -> Result<(), AllocError> {
-    put_counted(alloc, "list@", entry.number, out)?;
-    put_by("=", entry.high, out)?;
-    put_by(",", entry.low, out)
+fn put_listed(entry: &PrevEntry, out: &mut Out) {
+    out.put_number("list@", entry.number);
+    out.put_revision("=", entry.high);
+    out.put_revision(",", entry.low);
 }
 
-pub(crate) fn put_checkpoint(
-    alloc: Global,
-    id: &Text,
-    pin: &Pin,
-    out: &mut String,
-) -> Result<(), AllocError> {
-    put_words("checkpoint@", id, out)?;
-    out.push('=')?;
-    put_pin(alloc, pin, out)
+pub(crate) fn put_checkpoint(id: &Text, pin: &Pin, out: &mut Out) {
+    out.put("checkpoint@");
+    out.put(id.as_str());
+    out.put_pin("=", &pin.base, &pin.sweep);
 }
 
-fn put_reader(alloc: Global, session: u32, id: &Text, out: &mut String) -> Result<(), AllocError> {
-    put_counted(alloc, "reader@", u64::from(session), out)?;
-    put_words("=", id, out)
+fn put_release(id: &Text, out: &mut Out) {
+    out.put("release@");
+    out.put(id.as_str());
+}
+
+fn put_reader(session: u32, id: &Text, out: &mut Out) {
+    out.put_number("reader@", u64::from(session));
+    out.put("=");
+    out.put(id.as_str());
 }

@@ -1,74 +1,45 @@
 // Background writes, background reads and sweeps.
-use crate::asks::put_by;
 use crate::replies::{Row, STEPS, begin, reply_to};
-use crate::texts::{cut, put_pair, put_unread, revision, small};
-use jr_path::{List, Path, PathFault};
-use jr_rev::RevVec;
+use crate::texts::{Out, cut, path, revision, small};
+use jr_path::List;
 use oak_node::Pending;
 use oak_store::DocTable;
 use oak_sweep::Sweeper;
 use oak_sync::{BackRead, BackWrite};
-use std::alloc::{AllocError, Global};
+use std::alloc::AllocError;
 
 // REVISION PATH ..: the pending paths are published up to the revision.
-pub(crate) fn add_write(
-    row: &Row<'_>,
-    table: &mut DocTable,
-    out: &mut String,
-) -> Result<(), AllocError> {
-    let (upto, paths) = cut(row.arguments, ' ');
-    match paths_of(row.alloc, paths) {
-        Ok(paths) => run_write(row, pending(paths, upto), table, out),
-        Err(fault) => put_unread(fault, out),
+pub(crate) fn add_write(row: &Row<'_>, table: &mut DocTable, out: &mut Out) {
+    match BackWrite::new(out.alloc, pending(row.arguments, out)) {
+        Ok(write) => run_write(row, write, table, out),
+        Err(_) => out.is_broken = true,
     }
 }
 
-fn pending(paths: List<Path>, upto: &str) -> Pending {
+fn pending(text: &str, out: &mut Out) -> Pending {
+    let (upto, words) = cut(text, ' ');
+    let mut paths = List::new(out.alloc);
+    for word in words.split(' ') {
+        if !word.is_empty() {
+            let put = paths.push(path(word, out));
+            out.note(put);
+        }
+    }
     Pending {
         paths,
         upto: revision(upto),
     }
 }
 
-fn paths_of(alloc: Global, words: &str) -> Result<List<Path>, PathFault> {
-    let mut paths = List::new(alloc);
-    for word in words.split(' ') {
-        push_path(alloc, word, &mut paths)?;
-    }
-    Ok(paths)
-}
-
-fn push_path(alloc: Global, word: &str, paths: &mut List<Path>) -> Result<(), PathFault> {
-    if !word.is_empty() {
-        paths.push(Path::parse(alloc, word)?)?;
-    }
-    Ok(())
-}
-
-fn run_write(
-    row: &Row<'_>,
-    pending: Pending,
-    table: &mut DocTable,
-    out: &mut String,
-) -> Result<(), AllocError> {
-    let mut write = BackWrite::new(row.alloc, pending)?;
-    write_steps(row, &mut write, table, out)?;
-    put_write(write, out)
-}
-
-fn write_steps(
-    row: &Row<'_>,
-    write: &mut BackWrite,
-    table: &mut DocTable,
-    out: &mut String,
-) -> Result<(), AllocError> {
+fn run_write(row: &Row<'_>, write: BackWrite, table: &mut DocTable, out: &mut Out) {
+    let mut write = write;
     for step in 1..STEPS {
-        if write.is_done() {
-            return Ok(());
+        if !write.is_done() {
+            let made = write_step(row, step, &mut write, table, out);
+            out.note(made);
         }
-        write_step(row, step, write, table, out)?;
     }
-    Ok(())
+    end_write(write, out);
 }
 
 fn write_step(
@@ -76,11 +47,11 @@ fn write_step(
     step: u64,
     write: &mut BackWrite,
     table: &mut DocTable,
-    out: &mut String,
+    out: &mut Out,
 ) -> Result<(), AllocError> {
-    begin(row, step, sync_word(write.stage()), table, out)?;
-    let reply = reply_to(row, &write.next()?, table, out)?;
-    write.feed(reply)
+    begin(row, step, sync_word(write.stage()), table, out);
+    let ask = write.next()?;
+    write.feed(reply_to(row, &ask, table, out))
 }
 
 fn sync_word(stage: oak_sync::Stage) -> &'static str {
@@ -93,38 +64,29 @@ fn sync_word(stage: oak_sync::Stage) -> &'static str {
     }
 }
 
-fn put_write(write: BackWrite, out: &mut String) -> Result<(), AllocError> {
+fn end_write(write: BackWrite, out: &mut Out) {
     if write.is_done() {
-        put_by("end ", write.end(), out)
-    } else {
-        out.push_str("not ended")
+        out.put_revision("end ", write.end());
     }
 }
 
 // CLUSTER
-pub(crate) fn add_read(
-    row: &Row<'_>,
-    table: &mut DocTable,
-    out: &mut String,
-) -> Result<(), AllocError> {
-    let mut read = BackRead::new(row.alloc, small(row.arguments))?;
-    read_steps(row, &mut read, table, out)?;
-    put_read(row.alloc, read, out)
+pub(crate) fn add_read(row: &Row<'_>, table: &mut DocTable, out: &mut Out) {
+    match BackRead::new(out.alloc, small(row.arguments)) {
+        Ok(read) => run_read(row, read, table, out),
+        Err(_) => out.is_broken = true,
+    }
 }
 
-fn read_steps(
-    row: &Row<'_>,
-    read: &mut BackRead,
-    table: &mut DocTable,
-    out: &mut String,
-) -> Result<(), AllocError> {
+fn run_read(row: &Row<'_>, read: BackRead, table: &mut DocTable, out: &mut Out) {
+    let mut read = read;
     for step in 1..STEPS {
-        if read.is_done() {
-            return Ok(());
+        if !read.is_done() {
+            let made = read_step(row, step, &mut read, table, out);
+            out.note(made);
         }
-        read_step(row, step, read, table, out)?;
     }
-    Ok(())
+    end_read(read, out);
 }
 
 fn read_step(
@@ -132,54 +94,37 @@ fn read_step(
     step: u64,
     read: &mut BackRead,
     table: &mut DocTable,
-    out: &mut String,
+    out: &mut Out,
 ) -> Result<(), AllocError> {
-    begin(row, step, sync_word(read.stage()), table, out)?;
-    let reply = reply_to(row, &read.next()?, table, out)?;
-    read.feed(reply)
+    begin(row, step, sync_word(read.stage()), table, out);
+    let ask = read.next()?;
+    read.feed(reply_to(row, &ask, table, out))
 }
 
-fn put_read(alloc: Global, read: BackRead, out: &mut String) -> Result<(), AllocError> {
+fn end_read(read: BackRead, out: &mut Out) {
     if read.is_done() {
-        put_learned(alloc, read.end(), out)
-    } else {
-        out.push_str("not ended")
+        let (last, sweep) = read.end();
+        out.put_pin("end ", &last, &sweep);
     }
-}
-
-fn put_learned(
-    alloc: Global,
-    learned: (RevVec, RevVec),
-    out: &mut String,
-) -> Result<(), AllocError> {
-    out.push_str("end ")?;
-    put_pair(alloc, &learned.0, &learned.1, out)
 }
 
 // CLUSTER
-pub(crate) fn add_sweep(
-    row: &Row<'_>,
-    table: &mut DocTable,
-    out: &mut String,
-) -> Result<(), AllocError> {
-    let mut sweeper = Sweeper::new(row.alloc, small(row.arguments))?;
-    sweep_steps(row, &mut sweeper, table, out)?;
-    put_sweep(sweeper, out)
+pub(crate) fn add_sweep(row: &Row<'_>, table: &mut DocTable, out: &mut Out) {
+    match Sweeper::new(out.alloc, small(row.arguments)) {
+        Ok(sweeper) => run_sweep(row, sweeper, table, out),
+        Err(_) => out.is_broken = true,
+    }
 }
 
-fn sweep_steps(
-    row: &Row<'_>,
-    sweeper: &mut Sweeper,
-    table: &mut DocTable,
-    out: &mut String,
-) -> Result<(), AllocError> {
+fn run_sweep(row: &Row<'_>, sweeper: Sweeper, table: &mut DocTable, out: &mut Out) {
+    let mut sweeper = sweeper;
     for step in 1..STEPS {
-        if sweeper.is_done() {
-            return Ok(());
+        if !sweeper.is_done() {
+            let made = sweep_step(row, step, &mut sweeper, table, out);
+            out.note(made);
         }
-        sweep_step(row, step, sweeper, table, out)?;
     }
-    Ok(())
+    end_sweep(sweeper, out);
 }
 
 fn sweep_step(
@@ -187,11 +132,11 @@ fn sweep_step(
     step: u64,
     sweeper: &mut Sweeper,
     table: &mut DocTable,
-    out: &mut String,
+    out: &mut Out,
 ) -> Result<(), AllocError> {
-    begin(row, step, sweep_word(sweeper.stage()), table, out)?;
-    let reply = reply_to(row, &sweeper.next()?, table, out)?;
-    sweeper.feed(reply)
+    begin(row, step, sweep_word(sweeper.stage()), table, out);
+    let ask = sweeper.next()?;
+    sweeper.feed(reply_to(row, &ask, table, out))
 }
 
 fn sweep_word(stage: oak_sweep::Stage) -> &'static str {
@@ -204,10 +149,8 @@ fn sweep_word(stage: oak_sweep::Stage) -> &'static str {
     }
 }
 
-fn put_sweep(sweeper: Sweeper, out: &mut String) -> Result<(), AllocError> {
+fn end_sweep(sweeper: Sweeper, out: &mut Out) {
     if sweeper.is_done() {
-        put_by("end ", sweeper.end(), out)
-    } else {
-        out.push_str("not ended")
+        out.put_revision("end ", sweeper.end());
     }
 }

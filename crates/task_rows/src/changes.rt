@@ -1,50 +1,42 @@
 // Changes of documents, as rows have them: WORD@KEY=VALUE, of which a part may be left out.
-use crate::texts::{cut, id_of, number, pin, revision, small};
-use jr_path::{DocId, Item, List, Name, Path, PathFault, Text};
+use crate::texts::{Out, cut, id, number, pin, revision, small};
+use jr_path::{DocId, Item, List, Name, Path, Text};
 use jr_rev::Revision;
 use jr_value::{Property, Value};
 use oak_doc::{Change, Document, PrevEntry, UpdateOp};
 use oak_store::DocTable;
-use std::alloc::Global;
+use std::alloc::AllocError;
 
 // ID CHANGE ..; ID CHANGE ..: each is made, in this order, in a document that is made where there is none.
-pub(crate) fn make_all(alloc: Global, text: &str, table: &mut DocTable) -> Result<(), PathFault> {
+pub(crate) fn make_all(text: &str, table: &mut DocTable, out: &mut Out) {
     for update in text.split(';') {
-        make(alloc, update.trim(), table)?;
+        make(update.trim(), table, out);
     }
-    Ok(())
 }
 
 // STEP ID CHANGE ..; STEP ID CHANGE ..: those of a step are made.
-pub(crate) fn make_at(
-    alloc: Global,
-    text: &str,
-    step: u64,
-    table: &mut DocTable,
-) -> Result<(), PathFault> {
+pub(crate) fn make_at(text: &str, step: u64, table: &mut DocTable, out: &mut Out) {
     for part in text.split(';') {
         let (at, update) = cut(part.trim(), ' ');
         if number(at) == step {
-            make(alloc, update, table)?;
+            make(update, table, out);
         }
     }
-    Ok(())
 }
 
 // ID CHANGE .., or `drop ID`, which removes the document.
-fn make(alloc: Global, text: &str, table: &mut DocTable) -> Result<(), PathFault> {
-    let (id, words) = cut(text, ' ');
-    match id {
-        "" => Ok(()),
-        "drop" => remove(&id_of(alloc, words)?, table),
-        _ => update(&update_of(alloc, id, words)?, table),
+fn make(text: &str, table: &mut DocTable, out: &mut Out) {
+    let (word, rest) = cut(text, ' ');
+    match word {
+        "" => {}
+        "drop" => remove(&id(rest, out), table),
+        _ => update(word, rest, table, out),
     }
 }
 
-fn remove(id: &DocId, table: &mut DocTable) -> Result<(), PathFault> {
+fn remove(id: &DocId, table: &mut DocTable) {
     let number = number_of(table.find(id));
     table.remove_if(id, number);
-    Ok(())
 }
 
 fn number_of(document: Option<&Document>) -> u64 {
@@ -54,61 +46,52 @@ fn number_of(document: Option<&Document>) -> u64 {
     }
 }
 
-fn update(op: &UpdateOp, table: &mut DocTable) -> Result<(), PathFault> {
-    match table.update(op) {
-        Ok(_) => Ok(()),
-        Err(_) => Err(PathFault::Memory),
-    }
-}
-
-fn update_of(alloc: Global, id: &str, words: &str) -> Result<UpdateOp, PathFault> {
-    let id = id_of(alloc, id)?;
-    Ok(UpdateOp {
-        id,
+fn update(document: &str, words: &str, table: &mut DocTable, out: &mut Out) {
+    let op = UpdateOp {
+        id: id(document, out),
         create: true,
         cond: None,
-        changes: changes_of(alloc, words)?,
-    })
+        changes: changes(words, out),
+    };
+    if table.update(&op).is_err() {
+        out.is_broken = true;
+    }
 }
 
-fn changes_of(alloc: Global, words: &str) -> Result<List<Change>, PathFault> {
-    let mut changes = List::new(alloc);
+fn changes(words: &str, out: &mut Out) -> List<Change> {
+    let mut changes = List::new(out.alloc);
     for word in words.split(' ') {
-        push_change(alloc, word, &mut changes)?;
+        if !word.is_empty() {
+            let put = changes.push(change(word, out));
+            out.note(put);
+        }
     }
-    Ok(changes)
+    changes
 }
 
-fn push_change(alloc: Global, text: &str, changes: &mut List<Change>) -> Result<(), PathFault> {
-    if !text.is_empty() {
-        changes.push(change_of(alloc, text)?)?;
-    }
-    Ok(())
-}
-
-fn change_of(alloc: Global, text: &str) -> Result<Change, PathFault> {
+fn change(text: &str, out: &mut Out) -> Change {
     let (word, rest) = cut(text, '@');
     let (key, value) = cut(rest, '=');
     let r = revision(key);
     match word {
-        "here" => Ok(Change::Deleted(r, false)),
-        "gone" => Ok(Change::Deleted(r, true)),
-        "root" => Ok(Change::CommitRoot(r, small(value))),
-        "rev" => Ok(Change::Revisions(r)),
-        "hit" => Ok(hit(alloc, r, value)),
-        "touch" => Ok(Change::Touched(r)),
-        "guard" => Ok(Change::Guard(r)),
-        "last" => Ok(Change::LastRev(r)),
-        "swept" => Ok(Change::SweepRev(r)),
-        "list" => Ok(listed(number(key), value)),
-        _ => large_change_of(alloc, word, key, value),
+        "here" => Change::Deleted(r, false),
+        "gone" => Change::Deleted(r, true),
+        "root" => Change::CommitRoot(r, small(value)),
+        "rev" => Change::Revisions(r),
+        "hit" => hit(r, value, out),
+        "touch" => Change::Touched(r),
+        "guard" => Change::Guard(r),
+        "last" => Change::LastRev(r),
+        "swept" => Change::SweepRev(r),
+        "list" => listed(number(key), value),
+        _ => large_change(word, key, value, out),
     }
 }
 
 // The collision with another revision, in the root.
-fn hit(alloc: Global, r: Revision, other: &str) -> Change {
+fn hit(r: Revision, other: &str, out: &Out) -> Change {
     let item = Item {
-        path: Path::root(alloc),
+        path: Path::root(out.alloc),
         name: None,
     };
     Change::Collision(r, revision(other), item)
@@ -124,18 +107,39 @@ fn listed(number: u64, text: &str) -> Change {
     })
 }
 
-fn large_change_of(alloc: Global, word: &str, key: &str, value: &str) -> Result<Change, PathFault> {
+fn large_change(word: &str, key: &str, value: &str, out: &mut Out) -> Change {
     match word {
-        "checkpoint" => Ok(Change::Checkpoint(Text::copy_of(alloc, key)?, pin(value))),
-        "reader" => Ok(Change::Attach(small(key), Text::copy_of(alloc, value)?)),
-        _ => Ok(Change::Prop(Name::parse(alloc, word)?, revision(key), property(value))),
+        "checkpoint" => Change::Checkpoint(text(Text::copy_of(out.alloc, key), out), pin(value)),
+        "reader" => Change::Attach(small(key), text(Text::copy_of(out.alloc, value), out)),
+        _ => put(word, revision(key), value, out),
     }
 }
 
-// A whole number; without one the property is removed.
+fn text(copied: Result<Text, AllocError>, out: &mut Out) -> Text {
+    match copied {
+        Ok(text) => text,
+        Err(_) => {
+            out.is_broken = true;
+            Text::new(out.alloc)
+        }
+    }
+}
+
+// The value of a property.
+fn put(name: &str, r: Revision, value: &str, out: &mut Out) -> Change {
+    match Name::parse(out.alloc, name) {
+        Ok(name) => Change::Prop(name, r, property(value)),
+        Err(_) => {
+            out.is_broken = true;
+            Change::Undo(r)
+        }
+    }
+}
+
+// A number from 0 on; without one the property is removed.
 fn property(text: &str) -> Option<Property> {
-    match text.parse() {
-        Ok(number) => Some(Property::Single(Value::Long(number))),
+    match text.parse::<u32>() {
+        Ok(number) => Some(Property::Single(Value::Long(i64::from(number)))),
         Err(_) => None,
     }
 }

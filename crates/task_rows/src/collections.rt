@@ -1,35 +1,30 @@
 // Collections.
-use crate::asks::{put_counted, put_of};
 use crate::replies::{Row, STEPS, begin, reply_to};
-use crate::texts::{cut, put_pin, small};
-use jr_path::{DocId, List};
+use crate::texts::{Out, cut, small};
 use jr_rev::Pin;
 use oak_doc::Collected;
 use oak_gc::{Collector, Stage};
 use oak_store::DocTable;
-use std::alloc::{AllocError, Global};
+use std::alloc::AllocError;
 
 // COUNT NODE ..: the cluster nodes, from 1 on; each has HEAD/SWEEP and then `+` before each pin, or is `gone`.
-pub(crate) fn add(row: &Row<'_>, table: &mut DocTable, out: &mut String) -> Result<(), AllocError> {
+pub(crate) fn add(row: &Row<'_>, table: &mut DocTable, out: &mut Out) {
     let (clusters, _) = cut(row.arguments, ' ');
-    let mut collector = Collector::new(row.alloc, small(clusters))?;
-    steps(row, &mut collector, table, out)?;
-    put_end(row.alloc, collector, out)
+    match Collector::new(out.alloc, small(clusters)) {
+        Ok(collector) => run(row, collector, table, out),
+        Err(_) => out.is_broken = true,
+    }
 }
 
-fn steps(
-    row: &Row<'_>,
-    collector: &mut Collector,
-    table: &mut DocTable,
-    out: &mut String,
-) -> Result<(), AllocError> {
+fn run(row: &Row<'_>, collector: Collector, table: &mut DocTable, out: &mut Out) {
+    let mut collector = collector;
     for step in 1..STEPS {
-        if collector.is_done() {
-            return put_bound(row.alloc, &collector.bound(), out);
+        if !collector.is_done() {
+            let made = make_step(row, step, &mut collector, table, out);
+            out.note(made);
         }
-        make_step(row, step, collector, table, out)?;
     }
-    Ok(())
+    end(collector, out);
 }
 
 fn make_step(
@@ -37,11 +32,11 @@ fn make_step(
     step: u64,
     collector: &mut Collector,
     table: &mut DocTable,
-    out: &mut String,
+    out: &mut Out,
 ) -> Result<(), AllocError> {
-    begin(row, step, word(collector.stage()), table, out)?;
-    let reply = reply_to(row, &collector.next()?, table, out)?;
-    collector.feed(reply)
+    begin(row, step, word(collector.stage()), table, out);
+    let ask = collector.next()?;
+    collector.feed(reply_to(row, &ask, table, out))
 }
 
 fn word(stage: Stage) -> &'static str {
@@ -53,44 +48,23 @@ fn word(stage: Stage) -> &'static str {
     }
 }
 
-fn put_bound(alloc: Global, bound: &Pin, out: &mut String) -> Result<(), AllocError> {
-    out.push_str("end bound ")?;
-    put_pin(alloc, bound, out)
-}
-
-fn put_end(alloc: Global, collector: Collector, out: &mut String) -> Result<(), AllocError> {
+fn end(collector: Collector, out: &mut Out) {
     if collector.is_done() {
-        put_collected(alloc, collector.end(), out)
-    } else {
-        out.push_str("not ended")
+        put_bound(&collector.bound(), out);
+        put_end(&collector.end(), out);
     }
 }
 
-fn put_collected(alloc: Global, collected: Collected, out: &mut String) -> Result<(), AllocError> {
-    put_counted(alloc, " entries ", collected.entries, out)?;
-    put_counted(alloc, " documents ", collected.documents, out)?;
-    put_skips(alloc, &collected.skipped, out)
+fn put_bound(bound: &Pin, out: &mut Out) {
+    out.put_pin("end bound ", &bound.base, &bound.sweep);
 }
 
-fn put_skips(
-    alloc: Global,
-    skipped: &List<(DocId, u64, u64)>,
-    out: &mut String,
-) -> Result<(), AllocError> {
-    for (id, read, found) in skipped.inner() {
-        put_skip(alloc, id, *read, *found, out)?;
+fn put_end(collected: &Collected, out: &mut Out) {
+    out.put_number(" entries ", collected.entries);
+    out.put_number(" documents ", collected.documents);
+    for (id, read, found) in collected.skipped.inner() {
+        out.put_id(" skipped ", id);
+        out.put_number(" ", *read);
+        out.put_number(" ", *found);
     }
-    Ok(())
-}
-
-fn put_skip(
-    alloc: Global,
-    id: &DocId,
-    read: u64,
-    found: u64,
-    out: &mut String,
-) -> Result<(), AllocError> {
-    put_of(alloc, " skipped ", id, out)?;
-    put_counted(alloc, " ", read, out)?;
-    put_counted(alloc, " ", found, out)
 }

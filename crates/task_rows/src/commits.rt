@@ -1,141 +1,124 @@
 // Commits, also over previous documents.
-use crate::asks::{put_by, put_item};
+use crate::asks::put_item;
 use crate::replies::{Row, STEPS, begin, reply_to};
-use crate::texts::{cut, put_id, put_unread, revision, vector};
-use jr_path::{DocId, Item, List, Name, Path, PathFault};
-use jr_rev::{RevVec, Revision};
+use crate::texts::{Out, cut, path, revision, vector};
+use jr_path::{DocId, List, Name, Path};
+use jr_rev::Revision;
 use jr_tree::{Edit, Write};
 use jr_value::{Property, Value};
 use oak_clash::{Mark, MarkAt};
 use oak_commit::{CommitEnd, Committer, Stage};
 use oak_doc::{Ask, Reply};
 use oak_store::DocTable;
-use std::alloc::{AllocError, Global};
+use std::alloc::AllocError;
 
-// REVISION BASE WORD ..: a commit of the revision with writes and marks; a base without entries is `-`. A word is WORD@PATH or
-// WORD@PATH=NAME; each value that is put is 5.
-pub(crate) fn add(row: &Row<'_>, table: &mut DocTable, out: &mut String) -> Result<(), AllocError> {
-    match committer_of(row.alloc, row.arguments) {
-        Ok(committer) => run(row, committer, table, out),
-        Err(fault) => put_unread(fault, out),
-    }
-}
-
-fn committer_of(alloc: Global, arguments: &str) -> Result<Committer, PathFault> {
-    let (r, rest) = cut(arguments, ' ');
+// REVISION BASE WORD ..: a commit of the revision with writes and marks. A word is WORD@PATH or WORD@PATH=NAME; each value that is
+// put is 5.
+pub(crate) fn add(row: &Row<'_>, table: &mut DocTable, out: &mut Out) {
+    let (r, rest) = cut(row.arguments, ' ');
     let (base, words) = cut(rest, ' ');
-    begun(alloc, revision(r), &vector(base), words)
-}
-
-fn begun(alloc: Global, r: Revision, base: &RevVec, words: &str) -> Result<Committer, PathFault> {
-    let writes = writes_of(alloc, words)?;
-    let marks = marks_of(alloc, words)?;
-    let edit = Edit { writes };
-    match Committer::new(alloc, r, base, edit, marks) {
-        Ok(committer) => Ok(committer),
-        Err(_) => Err(PathFault::Memory),
+    let edit = edit(words, out);
+    match Committer::new(
+        out.alloc,
+        revision(r),
+        &vector(base),
+        edit,
+        marks(words, out),
+    ) {
+        Ok(committer) => run(row, committer, table, out),
+        Err(_) => out.is_broken = true,
     }
 }
 
-fn writes_of(alloc: Global, words: &str) -> Result<List<Write>, PathFault> {
-    let mut writes = List::new(alloc);
+fn edit(words: &str, out: &mut Out) -> Edit {
+    let mut writes = List::new(out.alloc);
     for text in words.split(' ') {
-        push_write(alloc, text, &mut writes)?;
+        push_write(text, &mut writes, out);
     }
-    Ok(writes)
+    Edit { writes }
 }
 
-fn push_write(alloc: Global, text: &str, writes: &mut List<Write>) -> Result<(), PathFault> {
-    if let Some(write) = write_of(alloc, text)? {
-        writes.push(write)?;
-    }
-    Ok(())
-}
-
-fn write_of(alloc: Global, text: &str) -> Result<Option<Write>, PathFault> {
+fn push_write(text: &str, writes: &mut List<Write>, out: &mut Out) {
     let (word, rest) = cut(text, '@');
-    let (path, name) = cut(rest, '=');
-    match word {
-        "here" => Ok(Some(Write::Here(Path::parse(alloc, path)?))),
-        "gone" => Ok(Some(Write::Gone(Path::parse(alloc, path)?))),
-        "put" => put(Path::parse(alloc, path)?, Name::parse(alloc, name)),
-        "unset" => unset(Path::parse(alloc, path)?, Name::parse(alloc, name)),
-        _ => Ok(None),
-    }
+    let (at, name) = cut(rest, '=');
+    let put = match word {
+        "here" => writes.push(Write::Here(path(at, out))),
+        "gone" => writes.push(Write::Gone(path(at, out))),
+        "put" => put_write(path(at, out), name, writes, out),
+        "unset" => put_unset(path(at, out), name, writes, out),
+        _ => Ok(()),
+    };
+    out.note(put);
 }
 
-fn put(path: Path, name: Result<Name, PathFault>) -> Result<Option<Write>, PathFault> {
-    match name {
-        Ok(name) => Ok(Some(Write::Put(path, name, Property::Single(Value::Long(5))))),
-        Err(fault) => Err(fault),
-    }
-}
-
-fn unset(path: Path, name: Result<Name, PathFault>) -> Result<Option<Write>, PathFault> {
-    match name {
-        Ok(name) => Ok(Some(Write::Unset(path, name))),
-        Err(fault) => Err(fault),
-    }
-}
-
-fn marks_of(alloc: Global, words: &str) -> Result<List<MarkAt>, PathFault> {
-    let mut marks = List::new(alloc);
-    for text in words.split(' ') {
-        push_mark(alloc, text, &mut marks)?;
-    }
-    Ok(marks)
-}
-
-fn push_mark(alloc: Global, text: &str, marks: &mut List<MarkAt>) -> Result<(), PathFault> {
-    if let Some(mark) = mark_of(alloc, text)? {
-        marks.push(mark)?;
-    }
-    Ok(())
-}
-
-fn mark_of(alloc: Global, text: &str) -> Result<Option<MarkAt>, PathFault> {
-    let (word, rest) = cut(text, '@');
-    let (path, name) = cut(rest, '=');
-    match word {
-        "exists" => marked(alloc, path, Mark::Exists),
-        "guard" => marked(alloc, path, Mark::Guard),
-        "touch" => marked(alloc, path, Mark::Touch),
-        "prop" => marked(alloc, path, Mark::Prop(Name::parse(alloc, name)?)),
-        _ => Ok(None),
-    }
-}
-
-fn marked(alloc: Global, path: &str, mark: Mark) -> Result<Option<MarkAt>, PathFault> {
-    match Path::parse(alloc, path) {
-        Ok(path) => Ok(Some(MarkAt { path, mark })),
-        Err(fault) => Err(fault),
-    }
-}
-
-fn run(
-    row: &Row<'_>,
-    committer: Committer,
-    table: &mut DocTable,
-    out: &mut String,
+fn put_write(
+    at: Path,
+    name: &str,
+    writes: &mut List<Write>,
+    out: &mut Out,
 ) -> Result<(), AllocError> {
+    match Name::parse(out.alloc, name) {
+        Ok(name) => writes.push(Write::Put(at, name, Property::Single(Value::Long(5)))),
+        Err(_) => Err(AllocError),
+    }
+}
+
+fn put_unset(
+    at: Path,
+    name: &str,
+    writes: &mut List<Write>,
+    out: &mut Out,
+) -> Result<(), AllocError> {
+    match Name::parse(out.alloc, name) {
+        Ok(name) => writes.push(Write::Unset(at, name)),
+        Err(_) => Err(AllocError),
+    }
+}
+
+fn marks(words: &str, out: &mut Out) -> List<MarkAt> {
+    let mut marks = List::new(out.alloc);
+    for text in words.split(' ') {
+        push_mark(text, &mut marks, out);
+    }
+    marks
+}
+
+fn push_mark(text: &str, marks: &mut List<MarkAt>, out: &mut Out) {
+    let (word, rest) = cut(text, '@');
+    let (at, name) = cut(rest, '=');
+    if let Some(mark) = mark(word, name, out) {
+        let path = path(at, out);
+        let put = marks.push(MarkAt { path, mark });
+        out.note(put);
+    }
+}
+
+fn mark(word: &str, name: &str, out: &Out) -> Option<Mark> {
+    match word {
+        "exists" => Some(Mark::Exists),
+        "guard" => Some(Mark::Guard),
+        "touch" => Some(Mark::Touch),
+        "prop" => mark_of_property(name, out),
+        _ => None,
+    }
+}
+
+fn mark_of_property(name: &str, out: &Out) -> Option<Mark> {
+    match Name::parse(out.alloc, name) {
+        Ok(name) => Some(Mark::Prop(name)),
+        Err(_) => None,
+    }
+}
+
+fn run(row: &Row<'_>, committer: Committer, table: &mut DocTable, out: &mut Out) {
     let mut committer = committer;
-    steps(row, &mut committer, table, out)?;
-    put_end(committer, out)
-}
-
-fn steps(
-    row: &Row<'_>,
-    committer: &mut Committer,
-    table: &mut DocTable,
-    out: &mut String,
-) -> Result<(), AllocError> {
     for step in 1..STEPS {
-        if let Stage::Done = committer.stage() {
-            return Ok(());
+        if committer.stage() != Stage::Done {
+            let made = make_step(row, step, &mut committer, table, out);
+            out.note(made);
         }
-        make_step(row, step, committer, table, out)?;
     }
-    Ok(())
+    end(committer, out);
 }
 
 fn make_step(
@@ -143,36 +126,30 @@ fn make_step(
     step: u64,
     committer: &mut Committer,
     table: &mut DocTable,
-    out: &mut String,
+    out: &mut Out,
 ) -> Result<(), AllocError> {
-    begin(row, step, word(committer.stage()), table, out)?;
-    let reply = reply_of(row, committer, table, out)?;
+    begin(row, step, word(committer.stage()), table, out);
+    let reply = reply(row, committer, table, out)?;
     committer.feed(reply)
 }
 
-fn reply_of(
+fn reply(
     row: &Row<'_>,
     committer: &Committer,
     table: &mut DocTable,
-    out: &mut String,
+    out: &mut Out,
 ) -> Result<Reply, AllocError> {
     match committer.next()? {
-        Ask::Undo(r) => undone(row.alloc, committer.undo_id(), r, table, out),
-        ask => reply_to(row, &ask, table, out),
+        Ask::Undo(r) => Ok(undone(committer.undo_id(), r, table, out)),
+        ask => Ok(reply_to(row, &ask, table, out)),
     }
 }
 
-fn undone(
-    alloc: Global,
-    id: &DocId,
-    r: Revision,
-    table: &mut DocTable,
-    out: &mut String,
-) -> Result<Reply, AllocError> {
+fn undone(id: &DocId, r: Revision, table: &mut DocTable, out: &mut Out) -> Reply {
     table.undo(id, r);
-    put_id(alloc, id, out)?;
-    out.push_str("; ")?;
-    Ok(Reply::Undone)
+    out.put_id("", id);
+    out.put("; ");
+    Reply::Undone
 }
 
 fn word(stage: Stage) -> &'static str {
@@ -187,19 +164,20 @@ fn word(stage: Stage) -> &'static str {
     }
 }
 
-fn put_end(committer: Committer, out: &mut String) -> Result<(), AllocError> {
-    let Ask::Done = committer.next()? else {
-        return out.push_str("not ended");
-    };
-    match committer.end() {
-        CommitEnd::Committed(r) => put_by("end committed ", r, out),
-        CommitEnd::Clash { item, other } => put_refused(&item, other, out),
-        CommitEnd::Memory => out.push_str("end no memory"),
+fn end(committer: Committer, out: &mut Out) {
+    if let Ok(Ask::Done) = committer.next() {
+        put_end(&committer.end(), out);
     }
 }
 
-fn put_refused(item: &Item, other: Revision, out: &mut String) -> Result<(), AllocError> {
-    out.push_str("end refused")?;
-    put_item(item, out)?;
-    put_by(" for ", other, out)
+fn put_end(end: &CommitEnd, out: &mut Out) {
+    match end {
+        CommitEnd::Committed(r) => out.put_revision("end committed ", *r),
+        CommitEnd::Clash { item, other } => {
+            out.put("end refused");
+            put_item(item, out);
+            out.put_revision(" for ", *other);
+        }
+        CommitEnd::Memory => out.put("end no memory"),
+    }
 }

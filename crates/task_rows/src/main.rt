@@ -26,11 +26,9 @@ fn main(rt: HostRuntime) -> ExitCode {
     let Ok(input) = read_all(alloc, &mut source, 1_000_000) else {
         return ExitCode::from(3);
     };
-    let Ok(text) = rows::answers(alloc, input.as_slice()) else {
-        return ExitCode::from(5);
-    };
-    if write_all(&mut sink, text.as_bytes()).is_err() || sink.flush().is_err() {
+    let out = rows::answers(alloc, input.as_slice());
+    if write_all(&mut sink, out.text.as_bytes()).is_err() || sink.flush().is_err() {
         return ExitCode::from(4);
     }
-    ExitCode::from(0)
+    ExitCode::from(if out.is_broken { 5 } else { 0 })
 }

@@ -1,7 +1,7 @@
 // What a table of documents at rest, and the memories of cluster nodes, answer to asks.
-use crate::asks::{put_ask, put_counted};
+use crate::asks::put_ask;
 use crate::changes;
-use crate::texts::{cut, pin, put_unread};
+use crate::texts::{Out, cut, pin};
 use jr_path::{DeepCopy, DocId, List};
 use jr_rev::Pin;
 use oak_doc::{Ask, Document, Kept, MemoryAsk, OpFault, RemoveOut, Reply, UpdateOp};
@@ -11,7 +11,6 @@ use std::alloc::{AllocError, Global};
 // What a row says beside its documents: what the automaton is begun with, and which changes others make meanwhile.
 #[derive(Clone, Copy)]
 pub(crate) struct Row<'a> {
-    pub(crate) alloc: Global,
     pub(crate) arguments: &'a str,
     pub(crate) meanwhile: &'a str,
 }
@@ -20,56 +19,47 @@ pub(crate) struct Row<'a> {
 pub(crate) const STEPS: u64 = 1000;
 
 // Begins the text of a step, before which others make their changes.
-pub(crate) fn begin(
-    row: &Row<'_>,
-    step: u64,
-    stage: &str,
-    table: &mut DocTable,
-    out: &mut String,
-) -> Result<(), AllocError> {
-    out.push_str(stage)?;
-    out.push(' ')?;
-    match changes::make_at(row.alloc, row.meanwhile, step, table) {
-        Ok(()) => Ok(()),
-        Err(fault) => put_unread(fault, out),
-    }
+pub(crate) fn begin(row: &Row<'_>, step: u64, stage: &str, table: &mut DocTable, out: &mut Out) {
+    out.put(stage);
+    out.put(" ");
+    changes::make_at(row.meanwhile, step, table, out);
 }
 
 // Makes what is asked; the text of the ask, and of the reply where there is something to say.
-pub(crate) fn reply_to(
-    row: &Row<'_>,
-    ask: &Ask,
-    table: &mut DocTable,
-    out: &mut String,
-) -> Result<Reply, AllocError> {
-    put_ask(row.alloc, ask, out)?;
-    told(row.alloc, answer(row, ask, table)?, out)
+pub(crate) fn reply_to(row: &Row<'_>, ask: &Ask, table: &mut DocTable, out: &mut Out) -> Reply {
+    put_ask(ask, out);
+    let reply = answer(row, ask, table, out.alloc);
+    put_reply(&reply, out);
+    out.put("; ");
+    reply
 }
 
-fn told(alloc: Global, reply: Reply, out: &mut String) -> Result<Reply, AllocError> {
-    put_reply(alloc, &reply, out)?;
-    Ok(reply)
-}
-
-fn answer(row: &Row<'_>, ask: &Ask, table: &mut DocTable) -> Result<Reply, AllocError> {
+fn answer(row: &Row<'_>, ask: &Ask, table: &mut DocTable, alloc: Global) -> Reply {
     match ask {
         Ask::Find(id) => found(table.find(id)),
         Ask::NextAfter(id) => behind(id, table),
-        Ask::Update(op) => Ok(updated(op, table)),
-        Ask::RemoveIf(id, number) => Ok(Reply::Removed(table.remove_if(id, *number))),
-        Ask::Memory(ask) => remembered(row, ask),
-        Ask::Undo(_) | Ask::Done => Ok(Reply::Undone),
+        Ask::Update(op) => updated(op, table),
+        Ask::RemoveIf(id, number) => Reply::Removed(table.remove_if(id, *number)),
+        Ask::Memory(ask) => remembered(row, ask, alloc),
+        Ask::Undo(_) | Ask::Done => Reply::Undone,
     }
 }
 
-fn behind(id: &Option<DocId>, table: &DocTable) -> Result<Reply, AllocError> {
+fn behind(id: &Option<DocId>, table: &DocTable) -> Reply {
     found(table.next_after(id.as_ref()))
 }
 
-fn found(document: Option<&Document>) -> Result<Reply, AllocError> {
+fn found(document: Option<&Document>) -> Reply {
     match document {
-        Some(document) => Ok(Reply::Found(Some(document.copy()?))),
-        None => Ok(Reply::Found(None)),
+        Some(document) => copied(document),
+        None => Reply::Found(None),
+    }
+}
+
+fn copied(document: &Document) -> Reply {
+    match document.copy() {
+        Ok(copy) => Reply::Found(Some(copy)),
+        Err(_) => Reply::NoMemory,
     }
 }
 
@@ -82,12 +72,12 @@ fn updated(op: &UpdateOp, table: &mut DocTable) -> Reply {
     }
 }
 
-fn remembered(row: &Row<'_>, ask: &MemoryAsk) -> Result<Reply, AllocError> {
+fn remembered(row: &Row<'_>, ask: &MemoryAsk, alloc: Global) -> Reply {
     match ask {
-        MemoryAsk::Finish(_) => Ok(Reply::Finished),
-        MemoryAsk::Learn(_, _) => Ok(Reply::Learnt),
-        MemoryAsk::Pins(cluster) => kept(row.alloc, node_of(row.arguments, *cluster)),
-        MemoryAsk::Recover(_) => Ok(Reply::Recovered),
+        MemoryAsk::Finish(_) => Reply::Finished,
+        MemoryAsk::Learn(_, _) => Reply::Learnt,
+        MemoryAsk::Pins(cluster) => kept(node_of(row.arguments, *cluster), alloc),
+        MemoryAsk::Recover(_) => Reply::Recovered,
     }
 }
 
@@ -104,12 +94,15 @@ fn node_of(nodes: &str, cluster: u32) -> &str {
 }
 
 // HEAD/SWEEP+PIN+PIN, or `gone`
-fn kept(alloc: Global, node: &str) -> Result<Reply, AllocError> {
+fn kept(node: &str, alloc: Global) -> Reply {
     if node == "gone" {
-        return Ok(Reply::Gone);
+        return Reply::Gone;
     }
     let (own, pins) = cut(node, '+');
-    Ok(keeping(pin(own), pins_of(alloc, pins)?))
+    match pins_of(pins, alloc) {
+        Ok(pins) => keeping(pin(own), pins),
+        Err(_) => Reply::NoMemory,
+    }
 }
 
 fn keeping(own: Pin, pins: List<Pin>) -> Reply {
@@ -120,47 +113,27 @@ fn keeping(own: Pin, pins: List<Pin>) -> Reply {
     }
 }
 
-fn pins_of(alloc: Global, texts: &str) -> Result<List<Pin>, AllocError> {
+fn pins_of(texts: &str, alloc: Global) -> Result<List<Pin>, AllocError> {
     let mut pins = List::new(alloc);
     for text in texts.split('+') {
-        push_pin(text, &mut pins)?;
+        if !text.is_empty() {
+            pins.push(pin(text))?;
+        }
     }
     Ok(pins)
 }
 
-fn push_pin(text: &str, pins: &mut List<Pin>) -> Result<(), AllocError> {
-    if text.is_empty() {
-        return Ok(());
-    }
-    pins.push(pin(text))
-}
-
-fn put_reply(alloc: Global, reply: &Reply, out: &mut String) -> Result<(), AllocError> {
+fn put_reply(reply: &Reply, out: &mut Out) {
     match reply {
-        Reply::Found(None) => out.push_str(" none; "),
-        Reply::Updated(_) => out.push_str(" made; "),
-        Reply::Unmet(_, kept) => put_unmet(alloc, kept, out),
-        Reply::Absent => out.push_str(" absent; "),
-        Reply::NoMemory => out.push_str(" no memory; "),
-        Reply::Removed(removed) => put_removed(alloc, removed, out),
-        Reply::Gone => out.push_str(" gone; "),
-        _ => out.push_str("; "),
+        Reply::Found(None) => out.put(" none"),
+        Reply::Updated(_) => out.put(" made"),
+        Reply::Unmet(_, Kept::Number(number)) => out.put_number(" unmet ", *number),
+        Reply::Unmet(_, _) => out.put(" unmet"),
+        Reply::Absent | Reply::Removed(RemoveOut::Absent) => out.put(" absent"),
+        Reply::NoMemory => out.put(" no memory"),
+        Reply::Removed(RemoveOut::Removed) => out.put(" removed"),
+        Reply::Removed(RemoveOut::Changed(number)) => out.put_number(" changed ", *number),
+        Reply::Gone => out.put(" gone"),
+        _ => {}
     }
-}
-
-fn put_unmet(alloc: Global, kept: &Kept, out: &mut String) -> Result<(), AllocError> {
-    match kept {
-        Kept::Number(number) => put_counted(alloc, " unmet ", *number, out)?,
-        _ => out.push_str(" unmet")?,
-    }
-    out.push_str("; ")
-}
-
-fn put_removed(alloc: Global, removed: &RemoveOut, out: &mut String) -> Result<(), AllocError> {
-    match removed {
-        RemoveOut::Removed => out.push_str(" removed")?,
-        RemoveOut::Changed(number) => put_counted(alloc, " changed ", *number, out)?,
-        RemoveOut::Absent => out.push_str(" absent")?,
-    }
-    out.push_str("; ")
 }

@@ -1,62 +1,54 @@
 // What comes of each line.
+
 use crate::replies::Row;
-use crate::texts::{cut, number, put_unread};
+use crate::texts::{Out, cut, number};
 use crate::{background, changes, collections, commits, settings, splits};
 use oak_store::DocTable;
 use std::alloc::{AllocError, Global};
 
-pub(crate) fn answers(alloc: Global, input: &[u8]) -> Result<String, AllocError> {
-    let mut out = String::new(alloc);
-    if let Ok(text) = str::from_utf8(input) {
-        add_answers(alloc, text, &mut out)?;
+pub(crate) fn answers(alloc: Global, input: &[u8]) -> Out {
+    let mut out = Out {
+        alloc,
+        text: String::new(alloc),
+        is_broken: false,
+    };
+    for line in str::from_utf8(input).unwrap_or("").lines() {
+        add_line(line, &mut out);
+        out.put("\n");
     }
-    Ok(out)
-}
-
-fn add_answers(alloc: Global, text: &str, out: &mut String) -> Result<(), AllocError> {
-    for line in text.lines() {
-        add_line(alloc, line, out)?;
-        out.push('\n')?;
-    }
-    Ok(())
+    out
 }
 
 // WORD ARGUMENTS | NUMBER DOCUMENTS | MEANWHILE: of the documents, of which the first draws the number behind this one.
-fn add_line(alloc: Global, line: &str, out: &mut String) -> Result<(), AllocError> {
+fn add_line(line: &str, out: &mut Out) {
     let (task, rest) = cut(line, '|');
     let (documents, meanwhile) = cut(rest, '|');
     let (drawn, documents) = cut(documents.trim(), ' ');
     let (word, arguments) = cut(task.trim(), ' ');
     let row = Row {
-        alloc,
         arguments,
         meanwhile,
     };
-    let mut table = DocTable::of(alloc, Vec::new(alloc), number(drawn))?;
-    add_row(&row, word, documents, &mut table, out)
-}
-
-fn add_row(
-    row: &Row<'_>,
-    word: &str,
-    documents: &str,
-    table: &mut DocTable,
-    out: &mut String,
-) -> Result<(), AllocError> {
-    match changes::make_all(row.alloc, documents, table) {
-        Ok(()) => add_answer(row, word, table, out),
-        Err(fault) => put_unread(fault, out),
+    match table(number(drawn), out.alloc) {
+        Ok(table) => add_row(&row, word, documents, table, out),
+        Err(_) => out.is_broken = true,
     }
 }
 
-fn add_answer(
-    row: &Row<'_>,
-    word: &str,
-    table: &mut DocTable,
-    out: &mut String,
-) -> Result<(), AllocError> {
+// The empty table behind a number.
+fn table(drawn: u64, alloc: Global) -> Result<DocTable, AllocError> {
+    DocTable::of(alloc, Vec::new(alloc), drawn)
+}
+
+fn add_row(row: &Row<'_>, word: &str, documents: &str, table: DocTable, out: &mut Out) {
+    let mut table = table;
+    changes::make_all(documents, &mut table, out);
+    add_task(row, word, &mut table, out);
+}
+
+fn add_task(row: &Row<'_>, word: &str, table: &mut DocTable, out: &mut Out) {
     match word {
-        "#" => out.push_str(row.arguments),
+        "#" => out.put(row.arguments),
         "back" => background::add_write(row, table, out),
         "learn" => background::add_read(row, table, out),
         "sweep" => background::add_sweep(row, table, out),
@@ -64,6 +56,6 @@ fn add_answer(
         "collect" => collections::add(row, table, out),
         "commit" => commits::add(row, table, out),
         "settings" => settings::add(row, table, out),
-        _ => out.push_str("no row"),
+        _ => out.is_broken = true,
     }
 }

@@ -1,47 +1,29 @@
 // Splits.
-use crate::asks::put_counted;
 use crate::replies::{Row, STEPS, begin, reply_to};
-use crate::texts::{cut, pin, put_unread};
-use jr_path::Path;
+use crate::texts::{Out, cut, path, pin};
 use oak_doc::SplitEnd;
 use oak_prev::{Splitter, Stage};
 use oak_store::DocTable;
-use std::alloc::{AllocError, Global};
+use std::alloc::AllocError;
 
 // PATH BASE/SWEEP
-pub(crate) fn add(row: &Row<'_>, table: &mut DocTable, out: &mut String) -> Result<(), AllocError> {
-    let (path, held) = cut(row.arguments, ' ');
-    match Path::parse(row.alloc, path) {
-        Ok(path) => run(row, &path, held, table, out),
-        Err(fault) => put_unread(fault, out),
+pub(crate) fn add(row: &Row<'_>, table: &mut DocTable, out: &mut Out) {
+    let (at, held) = cut(row.arguments, ' ');
+    match Splitter::new(out.alloc, &path(at, out), &pin(held)) {
+        Ok(splitter) => run(row, splitter, table, out),
+        Err(_) => out.is_broken = true,
     }
 }
 
-fn run(
-    row: &Row<'_>,
-    path: &Path,
-    held: &str,
-    table: &mut DocTable,
-    out: &mut String,
-) -> Result<(), AllocError> {
-    let mut splitter = Splitter::new(row.alloc, path, &pin(held))?;
-    steps(row, &mut splitter, table, out)?;
-    put_end(row.alloc, splitter, out)
-}
-
-fn steps(
-    row: &Row<'_>,
-    splitter: &mut Splitter,
-    table: &mut DocTable,
-    out: &mut String,
-) -> Result<(), AllocError> {
+fn run(row: &Row<'_>, splitter: Splitter, table: &mut DocTable, out: &mut Out) {
+    let mut splitter = splitter;
     for step in 1..STEPS {
-        if splitter.is_done() {
-            return Ok(());
+        if !splitter.is_done() {
+            let made = make_step(row, step, &mut splitter, table, out);
+            out.note(made);
         }
-        make_step(row, step, splitter, table, out)?;
     }
-    Ok(())
+    end(splitter, out);
 }
 
 fn make_step(
@@ -49,11 +31,11 @@ fn make_step(
     step: u64,
     splitter: &mut Splitter,
     table: &mut DocTable,
-    out: &mut String,
+    out: &mut Out,
 ) -> Result<(), AllocError> {
-    begin(row, step, word(splitter.stage()), table, out)?;
-    let reply = reply_to(row, &splitter.next()?, table, out)?;
-    splitter.feed(reply)
+    begin(row, step, word(splitter.stage()), table, out);
+    let ask = splitter.next()?;
+    splitter.feed(reply_to(row, &ask, table, out))
 }
 
 fn word(stage: Stage) -> &'static str {
@@ -64,22 +46,18 @@ fn word(stage: Stage) -> &'static str {
     }
 }
 
-fn put_end(alloc: Global, splitter: Splitter, out: &mut String) -> Result<(), AllocError> {
+fn end(splitter: Splitter, out: &mut Out) {
     if splitter.is_done() {
-        put_count(alloc, splitter.end(), out)
-    } else {
-        out.push_str("not ended")
+        put_end(splitter.end(), out);
     }
 }
 
-fn put_count(alloc: Global, end: SplitEnd, out: &mut String) -> Result<(), AllocError> {
+fn put_end(end: SplitEnd, out: &mut Out) {
     match end {
-        SplitEnd::Split(moved) => put_counted(alloc, "end moved ", moved, out),
-        SplitEnd::Skipped(read, found) => put_skip(alloc, read, found, out),
+        SplitEnd::Split(moved) => out.put_number("end moved ", moved),
+        SplitEnd::Skipped(read, found) => {
+            out.put_number("end skipped ", read);
+            out.put_number(" ", found);
+        }
     }
-}
-
-fn put_skip(alloc: Global, read: u64, found: u64, out: &mut String) -> Result<(), AllocError> {
-    put_counted(alloc, "end skipped ", read, out)?;
-    put_counted(alloc, " ", found, out)
 }
