@@ -1,0 +1,70 @@
+// Collections.
+use crate::replies::{Row, STEPS, begin, reply_to};
+use crate::texts::{Out, cut, small};
+use jr_rev::Pin;
+use oak_doc::Collected;
+use oak_gc::{Collector, Stage};
+use oak_store::DocTable;
+use std::alloc::AllocError;
+
+// COUNT NODE ..: the cluster nodes, from 1 on; each has HEAD/SWEEP and then `+` before each pin, or is `gone`.
+pub(crate) fn add(row: &Row<'_>, table: &mut DocTable, out: &mut Out) {
+    let (clusters, _) = cut(row.arguments, ' ');
+    match Collector::new(out.alloc, small(clusters)) {
+        Ok(collector) => run(row, collector, table, out),
+        Err(_) => out.is_broken = true,
+    }
+}
+
+fn run(row: &Row<'_>, collector: Collector, table: &mut DocTable, out: &mut Out) {
+    let mut collector = collector;
+    for step in 1..STEPS {
+        if !collector.is_done() {
+            let made = make_step(row, step, &mut collector, table, out);
+            out.note(made);
+        }
+    }
+    end(collector, out);
+}
+
+fn make_step(
+    row: &Row<'_>,
+    step: u64,
+    collector: &mut Collector,
+    table: &mut DocTable,
+    out: &mut Out,
+) -> Result<(), AllocError> {
+    begin(row, step, word(collector.stage()), table, out);
+    let ask = collector.next()?;
+    collector.feed(reply_to(row, &ask, table, out))
+}
+
+fn word(stage: Stage) -> &'static str {
+    match stage {
+        Stage::Bound => "bound",
+        Stage::Collect => "collect",
+        Stage::Read => "read",
+        Stage::Done => "done",
+    }
+}
+
+fn end(collector: Collector, out: &mut Out) {
+    if collector.is_done() {
+        put_bound(&collector.bound(), out);
+        put_end(&collector.end(), out);
+    }
+}
+
+fn put_bound(bound: &Pin, out: &mut Out) {
+    out.put_pin("end bound ", &bound.base, &bound.sweep);
+}
+
+fn put_end(collected: &Collected, out: &mut Out) {
+    out.put_number(" entries ", collected.entries);
+    out.put_number(" documents ", collected.documents);
+    for (id, read, found) in collected.skipped.inner() {
+        out.put_id(" skipped ", id);
+        out.put_number(" ", *read);
+        out.put_number(" ", *found);
+    }
+}
