@@ -1,3 +1,4 @@
+pub mod ByWrite
 pub mod Marks
 pub mod Plans
 pub mod Refusals
