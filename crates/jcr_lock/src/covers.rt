@@ -89,7 +89,7 @@ pub(crate) fn covering_lock(
     ensures { IfOk result (λ found. found ≡ find (λ q. lock_covers tree.now q path.now) (upward path.now)) }
 {
     for at in &upward(alloc, path)? {
-        if covers(tree, names, at, path) {
+        if lock_covers(tree, names, at, path) {
             return Ok(Some(at.copy()?));
         }
     }
@@ -131,7 +131,7 @@ pub fn is_deep_lock(tree: &Tree, names: &LockNames, at: &Path) -> bool
 }
 
 /// Whether the first node holds a lock that covers the second: a shallow lock covers its node, a deep one the subtree.
-pub fn covers(tree: &Tree, names: &LockNames, at: &Path, path: &Path) -> bool
+pub fn lock_covers(tree: &Tree, names: &LockNames, at: &Path, path: &Path) -> bool
     requires { names.now ≡ lock_names }
     ensures { result ≡ lock_covers tree.now at.now path.now }
 {
@@ -174,5 +174,5 @@ fn bars(tree: &Tree, names: &LockNames, tokens: &[String], at: &Path, path: &Pat
     requires { names.now ≡ lock_names }
     ensures { result ≡ bars tree.now path.now (map string_bytes tokens.now) at.now }
 {
-    covers(tree, names, at, path) && !is_held(tree, names, tokens, at)
+    lock_covers(tree, names, at, path) && !is_held(tree, names, tokens, at)
 }

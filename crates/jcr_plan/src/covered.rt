@@ -6,7 +6,7 @@ ghost use Rattle.jr_items.specs.Items.{upward};
 ghost use Rattle.jcr_lock.specs.Names.{lock_names};
 ghost use Rattle.jcr_plan.specs.Marks.{are_same, is_covered_anew, is_deepened, is_frozen_anew, is_path, locks_anew, stays};
 
-use jcr_lock::{LockNames, covers, frozen_by, is_deep_lock};
+use jcr_lock::{LockNames, frozen_by, is_deep_lock, lock_covers};
 use jr_items::upward;
 use jr_path::Path;
 use jr_tree::Tree;
@@ -80,7 +80,7 @@ fn locks_anew(old: &Tree, new: &Tree, names: &LockNames, at: &Path, above: &Path
     requires { names.now ≡ lock_names }
     ensures { result ≡ locks_anew old.now new.now at.now above.now }
 {
-    covers(new, names, above, at) && !locked_alike(old, new, names, at, above)
+    lock_covers(new, names, above, at) && !locked_alike(old, new, names, at, above)
 }
 
 // Whether the lock covered the node before, with the same owner.
@@ -88,7 +88,7 @@ fn locked_alike(old: &Tree, new: &Tree, names: &LockNames, at: &Path, above: &Pa
     requires { names.now ≡ lock_names }
     ensures { not result ≡ not (lock_covers old.now above.now at.now && are_same (property_at old.now above.now lock_owner) (property_at new.now above.now lock_owner)) }
 {
-    covers(old, names, above, at)
+    lock_covers(old, names, above, at)
         && are_same(
             old.property(above, &names.owner),
             new.property(above, &names.owner),

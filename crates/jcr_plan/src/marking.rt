@@ -10,7 +10,7 @@ ghost use Rattle.jcr_ref.specs.References.{target_of};
 ghost use Rattle.oak_clash.specs.declared.mark.Mark.TheVariants.{Guard, Touch};
 ghost use Rattle.oak_machine.specs.Marks.{with_marks};
 ghost use Rattle.jcr_plan.specs.Marks.{is_type_name, mark_each, marks_of, new_references};
-ghost use Rattle.jcr_plan.specs.ByWrite.{covered_below, covers_by_name, is_cover_name, known_references, marks_by, moved_marks, retyped_marks};
+ghost use Rattle.jcr_plan.specs.ByWrite.{covered_below, is_cover_name, marks_by, moved_marks, references_added, references_in, retyped_marks, written_marks};
 
 use crate::covered::{is_newly_covered, stays};
 use crate::{note, note_node};

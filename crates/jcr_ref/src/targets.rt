@@ -1,6 +1,6 @@
 // The nodes that references name.
-ghost use Rattle.std.specs.Prelude.{◌≡◌, ◌++◌, Some, option_to_list, IfOk, OnOk};
-ghost use Rattle.std.specs.List.{filter_map};
+ghost use Rattle.std.specs.Prelude.{◌≡◌, ◌++◌, [], Some, IfOk, OnOk};
+ghost use Rattle.std.specs.List.{cons_option, filter_map};
 ghost use Rattle.std.specs.Option.{option_copied};
 ghost use Rattle.jcr_ref.specs.References.{target_of};
 ghost use Rattle.jcr_ref.specs.Targets.{FindsTargets, node_in, with_first};
@@ -45,13 +45,26 @@ fn push_node(
     index: &Keyed<Text, Path>,
     id: u128,
 ) -> Result<(), AllocError>
-    ensures { OnOk result (paths.new.items ≡ paths.old.items ++ option_to_list (node_in index.now id)) }
+    ensures { OnOk result (paths.new.items ≡ paths.old.items ++ cons_option (node_in index.now id) []) }
+{
+    match node_in(alloc, index, id)? {
+        Some(path) => {
+            paths.push(path.copy()?)?;
+            Ok(())
+        }
+        None => Ok(()),
+    }
+}
+
+fn node_in(
+    alloc: Global,
+    index: &Keyed<Text, Path>,
+    id: u128,
+) -> Result<Option<&Path>, AllocError>
+    ensures { IfOk result (λ found. option_copied found ≡ node_in index.now id) }
 {
     let text = Text::of(uuid_text(alloc, id)?);
-    if let Some(path) = index.get(&text) {
-        paths.push(path.copy()?)?;
-    }
-    Ok(())
+    Ok(index.get(&text))
 }
 
 // For the text of each identifier the first node that has it.
