@@ -1,4 +1,6 @@
 pub mod Accepted
+mod ByWrite
+mod Stirred
 mod MarkOrder
 pub mod Membership
 pub mod OfWrites

@@ -22,6 +22,13 @@ use Rattle.jcr_plan.specs.Marks.{mark_each, is_type_name, stays, is_covered_anew
 abbrev pub is_cover_name : Name → Bool
 is_cover_name n = same_name lock_owner n || same_name lock_is_deep n || same_name mixin_types n || same_name is_checked_out n
 
+-- the node whose covers a write may change, and those of what is below it
+abbrev pub covers_by : Write → List Path
+covers_by (Here p) = p ∷ []
+covers_by (Gone p) = p ∷ []
+covers_by (Put p n x) = cond (is_cover_name n) (p ∷ []) []
+covers_by (Unset p n) = cond (is_cover_name n) (p ∷ []) []
+
 -- the nodes at or below a path that stay and are covered anew
 abbrev pub covered_below : Nodes → Nodes → Path → List Path
 covered_below t u p = filter (λ q. stays t u q && is_covered_anew t u q) (keys_of (subtree_of u p))

@@ -1,8 +1,11 @@
 // Which nodes an edit brings under a lock or a checked-in node.
-ghost use Rattle.std.specs.Prelude.{◌≡◌, ◌&&◌, false, IfOk};
+ghost use Rattle.std.specs.Prelude.{◌≡◌, ◌&&◌, not, IfOk};
 ghost use Rattle.std.specs.List.{list_any};
-ghost use Rattle.std.specs.Option.{option_copied, option_map_or};
+ghost use Rattle.std.specs.Option.{option_copied};
+ghost use Rattle.jr_tree.specs.Trees.{property_at};
+ghost use Rattle.jr_items.specs.Names.{lock_owner};
 ghost use Rattle.jr_items.specs.Items.{upward};
+ghost use Rattle.jcr_lock.specs.Locks.{frozen_by, lock_covers};
 ghost use Rattle.jcr_lock.specs.Names.{lock_names};
 ghost use Rattle.jcr_plan.specs.Marks.{are_same, is_covered_anew, is_deepened, is_frozen_anew, is_path, locks_anew, stays};
 
@@ -86,7 +89,7 @@ fn locks_anew(old: &Tree, new: &Tree, names: &LockNames, at: &Path, above: &Path
 // Whether the lock covered the node before, with the same owner.
 fn locked_alike(old: &Tree, new: &Tree, names: &LockNames, at: &Path, above: &Path) -> bool
     requires { names.now ≡ lock_names }
-    ensures { not result ≡ not (lock_covers old.now above.now at.now && are_same (property_at old.now above.now lock_owner) (property_at new.now above.now lock_owner)) }
+    ensures { result ≡ (lock_covers old.now above.now at.now && are_same (property_at old.now above.now lock_owner) (property_at new.now above.now lock_owner)) }
 {
     lock_covers(old, names, above, at)
         && are_same(
@@ -123,7 +126,7 @@ fn is_frozen_by_another(
     ensures { IfOk result (λ answer. answer ≡ not (is_path (frozen_by tree.now at.now) cover.now)) }
 {
     match frozen_by(alloc, tree, at)? {
-        Some(before) => Ok(before != *cover),
+        Some(before) => Ok(*cover != before),
         None => Ok(true),
     }
 }

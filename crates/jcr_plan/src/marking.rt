@@ -1,10 +1,12 @@
 // The marks of an edit on a tree, found write by write.
-ghost use Rattle.std.specs.Prelude.{◌≡◌, ◌++◌, ◌∷◌, [], IfOk, OnOk, cond, map};
-ghost use Rattle.std.specs.List.{filter, filter_map, flat_map, fold, list_any};
-ghost use Rattle.std.specs.Map.{keys_of};
-ghost use Rattle.std.specs.Option.{option_copied};
+ghost use Rattle.std.specs.Prelude.{◌≡◌, ◌==◌, ◌++◌, ◌∷◌, [], false, IfOk, IsTrue, OnOk};
+ghost use Rattle.std.specs.List.{filter_map, flat_map, fold, list_any};
+ghost use Rattle.std.specs.FinMap.{is_sorted};
+ghost use Rattle.jr_path.specs.Names.{path_cmp};
+ghost use Rattle.std.specs.Option.{option_copied, option_map_or};
 ghost use Rattle.jr_tree.specs.Edits.{applied};
-ghost use Rattle.jr_items.specs.Items.{reference_in};
+ghost use Rattle.jr_items.specs.Items.{reference_in, same_name, values_in};
+ghost use Rattle.jr_items.specs.Own.{own_name};
 ghost use Rattle.jcr_lock.specs.Names.{lock_names};
 ghost use Rattle.jcr_ref.specs.References.{target_of};
 ghost use Rattle.oak_clash.specs.declared.mark.Mark.TheVariants.{Guard, Touch};
@@ -33,20 +35,22 @@ pub(crate) fn marks_between(
     requires { new.now ≡ applied None old.now writes.now }
     ensures { IfOk result (λ marks. marks ≡ marks_of old.now writes.now) }
 {
+    know_order(old);
     let mut found = Keyed::new(alloc);
     note_writes(&mut found, alloc, old, new, writes)?;
     note_targets(&mut found, alloc, old, new, writes)?;
-    keys(alloc, found)
-}
-
-fn keys(alloc: Global, found: Keyed<MarkAt, bool>) -> Result<List<MarkAt>, AllocError>
-    ensures { IfOk result (λ marks. marks ≡ keys_of found) }
-{
     let mut marks = List::new(alloc);
     for (mark, _) in found.into_inner() {
         marks.push(mark)?;
     }
     Ok(marks)
+}
+
+// The nodes stand in the order of their paths. It does nothing: callers learn the fact.
+fn know_order(tree: &Tree)
+    ensures { IsTrue (is_sorted path_cmp tree.now) }
+{
+    let _ = tree.len();
 }
 
 // Notes the marks for which each write is the cause, but for the targets of new references.
@@ -167,7 +171,13 @@ fn note_covered(
 fn is_type_name(name: &Name) -> bool
     ensures { result ≡ is_type_name name.now }
 {
-    OwnName::PrimaryType.is(name) || OwnName::MixinTypes.is(name)
+    is_one(name, OwnName::PrimaryType) || is_one(name, OwnName::MixinTypes)
+}
+
+fn is_one(name: &Name, own: OwnName) -> bool
+    ensures { result ≡ same_name name.now (own_name own) }
+{
+    own.is(name)
 }
 
 // Whether locks or checked-in nodes go by the property.
@@ -191,8 +201,8 @@ fn note_targets(
     ensures { OnOk result (found.new ≡ with_marks found.old (mark_each Touch (filter_map (target_of new.now) (flat_map (new_references old.now) writes.now)))) }
 {
     let ids = new_references(alloc, old, writes)?;
-    for target in targets_of(alloc, new, &ids)? {
-        note(found, target, Mark::Touch)?;
+    for target in &targets_of(alloc, new, &ids)? {
+        note(found, target.copy()?, Mark::Touch)?;
     }
     Ok(())
 }
