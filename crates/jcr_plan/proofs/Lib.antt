@@ -1,7 +1,8 @@
 pub mod Accepted
 mod ByWrite
-mod Stirred
 mod MarkOrder
 pub mod Membership
 pub mod OfWrites
+mod Refused
 mod Rows
+mod Stirred

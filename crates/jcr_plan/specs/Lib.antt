@@ -1,4 +1,5 @@
 pub mod ByWrite
+pub mod First
 pub mod Marks
 pub mod Plans
 pub mod Refusals

@@ -1,5 +1,5 @@
 // Why a plan is refused, cause by cause.
-ghost use Rattle.std.specs.Prelude.{◌≡◌, [], None, not, option_map, IfErr, IsTrue, OnOk, is_some, map};
+ghost use Rattle.std.specs.Prelude.{◌≡◌, [], None, codes, not, option_map, IfErr, IsTrue, OnOk, is_some, map};
 ghost use Rattle.std.specs.String.{string_bytes};
 ghost use Rattle.jr_tree.specs.Edits.{applied};
 ghost use Rattle.jr_tree.specs.Trees.{node_at};
@@ -38,7 +38,8 @@ pub(crate) fn check_plan(
     check_unlocked(alloc, old, writes, tokens)?;
     check_types(alloc, types, new)?;
     check_references(alloc, new)?;
-    check_size(alloc, new)
+    check_size(alloc, new)?;
+    Ok(())
 }
 
 // 8: a checked-in node covers a node that the writes change.

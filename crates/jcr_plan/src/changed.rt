@@ -1,8 +1,9 @@
 // The nodes that an edit changes, and the locks and checked-in nodes that cover them.
-ghost use Rattle.std.specs.Prelude.{◌≡◌, ◌++◌, [], false, option_map, option_to_list, IfOk, OnOk, cond, map};
-ghost use Rattle.std.specs.List.{filter_map, flat_map};
-ghost use Rattle.std.specs.Option.{option_copied, option_map_or};
+ghost use Rattle.std.specs.Prelude.{◌≡◌, ◌++◌, ◌∷◌, [], None, Some, not, option_to_list, IfOk, OnOk, map};
+ghost use Rattle.std.specs.List.{filter, filter_map, flat_map};
+ghost use Rattle.std.specs.Option.{option_copied};
 ghost use Rattle.std.specs.String.{string_bytes};
+ghost use Rattle.jr_path.specs.Names.{parent_of};
 ghost use Rattle.jr_tree.specs.Edits.{applied};
 ghost use Rattle.jr_tree.specs.Trees.{property_at};
 ghost use Rattle.jr_items.specs.Items.{first_of, in_path_order};
@@ -11,14 +12,14 @@ ghost use Rattle.jr_types.specs.Attributes.{child_passes, property_passes};
 ghost use Rattle.jr_types.specs.Rules.{child_at, node_types};
 ghost use Rattle.jr_types.specs.Types.{is_opv};
 ghost use Rattle.jcr_lock.specs.Locks.{frozen_by, locked_by};
-ghost use Rattle.jcr_plan.specs.Plans.{changed_by, heeded, is_ignored, is_ignored_child};
+ghost use Rattle.jcr_plan.specs.First.{sooner};
+ghost use Rattle.jcr_plan.specs.Plans.{changed_by, is_ignored, is_ignored_child};
 ghost use Rattle.jcr_plan.specs.Refusals.{frozen_over, locked_over};
 
 use jcr_lock::{frozen_by, locked_by};
 use jr_path::{DeepCopy, Name, Path};
 use jr_tree::{Tree, Write};
 use jr_types::{OnParentVersion, Registry};
-use jr_value::Property;
 use std::alloc::{AllocError, Global};
 
 // The first checked-in node, in path order, that covers a node that the writes change; items with IGNORE are passed over.
@@ -70,8 +71,7 @@ fn changed_heeded(
     new: &Tree,
     writes: &[Write],
 ) -> Result<Vec<Path>, AllocError>
-    requires { new.now ≡ applied None old.now writes.now }
-    ensures { IfOk result (λ paths. paths.items ≡ flat_map changed_by (heeded types.now old.now writes.now)) }
+    ensures { IfOk result (λ paths. paths.items ≡ flat_map changed_by (filter (λ w. not (is_ignored types.now old.now new.now w)) writes.now)) }
 {
     let mut paths = Vec::new(alloc);
     for write in writes {
@@ -237,10 +237,10 @@ fn is_ignored_property(
     }
 }
 
-fn is_ignore(opv: OnParentVersion) -> bool
-    ensures { result ≡ is_opv opv.Ignore opv }
+fn is_ignore(attribute: OnParentVersion) -> bool
+    ensures { result ≡ is_opv opv.Ignore attribute }
 {
-    match opv {
+    match attribute {
         OnParentVersion::Ignore => true,
         _ => false,
     }
