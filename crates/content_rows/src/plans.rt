@@ -5,7 +5,7 @@ use crate::rows::cut;
 use crate::shows::{put_path, put_refusal};
 use crate::trees::{add_nodes, name_of, path_of, property_of};
 use crate::types::register;
-use jcr_plan::{Plan, plan_of};
+use jcr_plan::{Plan, plan_of, plan_of_change};
 use jr_items::OwnName;
 use jr_path::{DeepCopy, List, Name, Path};
 use jr_tree::{Edit, Node, Refusal, Tree, Write};
@@ -69,9 +69,48 @@ fn add_plan(
     let (edit, tokens) = cut(asked);
     let tokens = words_of(alloc, tokens)?;
     match edit_of(alloc, tree, edit)? {
-        Some(edit) => put_plan(alloc, plan_of(alloc, types, tree, edit, &tokens), out),
+        Some(edit) => put_both(alloc, types, tree, edit, &tokens, out),
         None => out.push_str("no edit"),
     }
+}
+
+// The answer of both calls, which is the same.
+fn put_both(
+    alloc: Global,
+    types: &Registry,
+    tree: &Tree,
+    edit: Edit,
+    tokens: &[String],
+    out: &mut String,
+) -> Result<(), AllocError> {
+    let mut other = String::new(alloc);
+    put_change(alloc, types, tree, edit.copy()?, tokens, &mut other)?;
+    let begin = out.len();
+    put_plan(alloc, plan_of(alloc, types, tree, edit, tokens), out)?;
+    put_unless_same(begin, &other, out)
+}
+
+fn put_unless_same(begin: usize, other: &str, out: &mut String) -> Result<(), AllocError> {
+    if out.as_str().get(begin..) == Some(other) {
+        return Ok(());
+    }
+    out.push_str(" but of the change alone: ")?;
+    out.push_str(other)
+}
+
+fn put_change(
+    alloc: Global,
+    types: &Registry,
+    tree: &Tree,
+    edit: Edit,
+    tokens: &[String],
+    out: &mut String,
+) -> Result<(), AllocError> {
+    put_plan(
+        alloc,
+        plan_of_change(alloc, types, tree, edit, tokens),
+        out,
+    )
 }
 
 fn put_plan(

@@ -6,3 +6,4 @@ pub mod OfWrites
 mod Refused
 mod Rows
 mod Stirred
+pub mod Touching

@@ -15,16 +15,16 @@ use Rattle.jr_path.proofs.Maps.{path_total}
 use Rattle.jr_tree.specs.declared.shared.Refusal.{Refusal}
 use Rattle.jr_tree.specs.declared.tree.Node.{Node}
 use Rattle.jr_tree.specs.Trees.{Nodes, node_at}
-use Rattle.jr_tree.specs.declared.shared.Datum.TheVariants as datum
 use Rattle.jr_tree.specs.Edits.{IsProper, applied}
 use Rattle.jr_tree.specs.declared.edit.Write.{Write}
 use Rattle.jr_items.specs.Items.{first_of, first_some, in_path_order}
-use Rattle.jr_items.specs.Refusals.{IsTheRefusal, checked_in, dangling as dangling_refusal, locked, over_limit, refusal, refusal_at, when}
+use Rattle.jr_items.specs.Refusals.{IsTheRefusal, checked_in, dangling as dangling_refusal, locked, over_limit, when}
 use Rattle.jr_types.specs.declared.TypeDef.{TypeDef}
-use Rattle.jr_types.specs.Violations.{first_violation}
 use Rattle.jcr_ref.specs.References.{dangling}
 use Rattle.oak_clash.specs.declared.mark.MarkAt.{MarkAt}
+use Rattle.jcr_plan.specs.declared.causes.Look.{Look}
 use Rattle.jcr_plan.specs.First.{sooner}
+use Rattle.jcr_plan.specs.Looks.{refusal_between, refusal_by, violations_by}
 use Rattle.jcr_plan.specs.Marks.{marks_of}
 use Rattle.jcr_plan.specs.Plans.{PlanOk, has_few_nodes}
 use Rattle.jcr_plan.specs.Refusals.{frozen_over, locked_over, plan_refusal, type_refusal}
@@ -40,26 +40,16 @@ pub due_later : (a : Option Refusal) (rest : List (Option Refusal)) (r : Refusal
 due_later None rest r h due = due
 due_later (Some x) rest r h due = absurd (none-some x (sym h))
 
--- what a plan is refused for, with the tree after it
-abbrev refused_on : List TypeDef → (old new : Nodes) → List (List ℕ) → List Write → Option Refusal
-refused_on types old new tokens ws = first_some
-    (option_map (refusal_at 8) (first_of (frozen_over types old ws))
-    ∷ option_map (refusal_at 7) (first_of (locked_over old tokens ws))
-    ∷ option_map type_refusal (first_violation types new)
-    ∷ option_map (λ item. refusal 9 (datum.Item item ∷ [])) (dangling new)
-    ∷ when (not (has_few_nodes new)) (refusal 15 (datum.Text (codes "nodes") ∷ datum.Number 100000 ∷ []))
-    ∷ [])
-
-module _ (types : List TypeDef) (t u : Nodes) (tokens : List (List ℕ)) (ws : List Write) (is : u ≡ applied None t ws) (frozen : option_map checked_in (first_of (frozen_over types t ws)) ≡ None) (locks : option_map locked (first_of (locked_over t tokens ws)) ≡ None) (typed : option_map type_refusal (first_violation types u) ≡ None) where
-  carried : (r : Refusal) → IsTheRefusal (refused_on types t u tokens ws) r → IsTheRefusal (plan_refusal types t tokens ws) r
-  carried r = subst (λ (v : Nodes). IsTheRefusal (refused_on types t v tokens ws) r) is
+module _ (look : Look) (types : List TypeDef) (t u : Nodes) (tokens : List (List ℕ)) (ws : List Write) (is : u ≡ applied None t ws) (frozen : option_map checked_in (first_of (frozen_over types t ws)) ≡ None) (locks : option_map locked (first_of (locked_over t tokens ws)) ≡ None) (typed : option_map type_refusal (first_of (violations_by look types u ws)) ≡ None) where
+  carried : (r : Refusal) → IsTheRefusal (refusal_between look types t u tokens ws) r → IsTheRefusal (refusal_by look types t tokens ws) r
+  carried r = subst (λ (v : Nodes). IsTheRefusal (refusal_between look types t v tokens ws) r) is
 
   -- a reference that names no node, where nothing else comes first
-  pub by_reference : (r : Refusal) → IsTheRefusal (option_map dangling_refusal (dangling u)) r → IsTheRefusal (plan_refusal types t tokens ws) r
+  pub by_reference : (r : Refusal) → IsTheRefusal (option_map dangling_refusal (dangling u)) r → IsTheRefusal (refusal_by look types t tokens ws) r
   by_reference r due = carried r (due_later _ _ r frozen (due_later _ _ r locks (due_later _ _ r typed (due_here _ _ r due))))
 
   -- too many nodes, where nothing else comes first
-  pub by_size : option_map dangling_refusal (dangling u) ≡ None → (r : Refusal) → IsTheRefusal (when (not (has_few_nodes u)) (over_limit (codes "nodes") 100000)) r → IsTheRefusal (plan_refusal types t tokens ws) r
+  pub by_size : option_map dangling_refusal (dangling u) ≡ None → (r : Refusal) → IsTheRefusal (when (not (has_few_nodes u)) (over_limit (codes "nodes") 100000)) r → IsTheRefusal (refusal_by look types t tokens ws) r
   by_size referring r due = carried r (due_later _ _ r frozen (due_later _ _ r locks (due_later _ _ r typed (due_later _ _ r referring (due_here _ _ r due)))))
 
 -- what must come of the first part of a list of findings must come of the list

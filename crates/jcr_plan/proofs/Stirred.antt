@@ -33,12 +33,12 @@ use Rattle.jcr_plan.specs.ByWrite.{covers_by, is_cover_name}
 
 -- ---- booleans and lists
 
-or_false : (a b : Bool) → (a || b) ≡ false → (a ≡ false) × (b ≡ false)
+pub or_false : (a b : Bool) → (a || b) ≡ false → (a ≡ false) × (b ≡ false)
 or_false true b h = absurd (false≢true (sym h))
 or_false false b h = (refl, h)
 
 -- what fails of all writes fails of the last of each item
-none_last : (f : Write → Bool) (ws : List Write) → list_any f ws ≡ false → list_any f (last_writes ws) ≡ false
+pub none_last : (f : Write → Bool) (ws : List Write) → list_any f ws ≡ false → list_any f (last_writes ws) ≡ false
 none_last f [] h = refl
 none_last f (w ∷ ws) h = let parts = or_false (f w) (list_any f ws) h in by (list_any (is_same_item w) ws) parts.0 (none_last f ws parts.1)
   where
@@ -69,7 +69,7 @@ other_name n m cover p q here h = false_from_ne_true _ (λ e. by (is_cover_name 
     by true k l = false≢true (sym (apart p q l) ∙ here)
     by false k l = false≢true k
 
-removed_other : (n m : Name) → eq_by_cmp name_cmp n m ≡ false → (es : List (Name × Property)) → lookup (is_at (name_cmp n)) (remove_entry (is_at (name_cmp m)) es) ≡ lookup (is_at (name_cmp n)) es
+pub removed_other : (n m : Name) → eq_by_cmp name_cmp n m ≡ false → (es : List (Name × Property)) → lookup (is_at (name_cmp n)) (remove_entry (is_at (name_cmp m)) es) ≡ lookup (is_at (name_cmp n)) es
 removed_other n m h [] = refl
 removed_other n m h (e ∷ es) = by (is_at (name_cmp m) e.0) refl (removed_other n m h es)
   where
@@ -168,7 +168,7 @@ frozen_kept t u (q ∷ qs) all = ap (λ b. option_and_then (λ q. cond (is_check
     by true rest = ap (λ c. cond c (Some q) None) checked
     by false rest = rest
 
-path_self : (q : Path) → same_path q q ≡ true
+pub path_self : (q : Path) → same_path q q ≡ true
 path_self q = (eq_by_cmp_equiv path_total).refl q
 
 not_frozen : (t u : Nodes) (p : Path) → frozen_by u p ≡ frozen_by t p → is_frozen_anew t u p ≡ false

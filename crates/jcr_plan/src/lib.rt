@@ -11,12 +11,14 @@ mod plans;
 ghost use Rattle.std.specs.Prelude.{◌≡◌, [], ◌∷◌, IfOk, OnOk};
 ghost use Rattle.oak_machine.specs.Marks.{marks_for, marks_of_node, marks_of_write, with_marks};
 
-pub use causes::MAX_NODES;
+pub use causes::{Look, MAX_NODES};
 use jr_path::{DeepCopy, Keyed, List, Path};
 use jr_tree::{Edit, Write};
-pub use laws::{plans_are_proper, what_is_not_refused_is_a_plan};
+pub use laws::{
+    plans_are_proper, what_is_not_refused_is_a_plan, what_is_not_touched_keeps_the_rules,
+};
 use oak_clash::{Mark, MarkAt};
-pub use plans::{Plan, plan_of};
+pub use plans::{Plan, plan_of, plan_of_change};
 use std::alloc::{AllocError, Global};
 
 /// Those marks of an edit for which no tree is needed, each once, in path order and at one path in the order of marks: Exists

@@ -3,11 +3,13 @@ ghost use Rattle.std.specs.Prelude.{◌≡◌, None, IfErr, IfOk, map};
 ghost use Rattle.std.specs.String.{string_bytes};
 ghost use Rattle.jr_tree.specs.Edits.{IsProper, applied};
 ghost use Rattle.jr_items.specs.Refusals.{IsTheRefusal, out_of_memory};
+ghost use Rattle.jcr_plan.specs.declared.causes.Look.TheVariants.{Touched};
+ghost use Rattle.jcr_plan.specs.Looks.{refusal_by};
 ghost use Rattle.jcr_plan.specs.Marks.{marks_of};
 ghost use Rattle.jcr_plan.specs.Plans.{PlanOk};
 ghost use Rattle.jcr_plan.specs.Refusals.{plan_refusal};
 
-use crate::causes::check_plan;
+use crate::causes::{Look, check_plan};
 use crate::marking::marks_between;
 use jr_path::{DeepCopy, List};
 use jr_tree::{Edit, Refusal, Tree, Write};
@@ -42,7 +44,29 @@ pub fn plan_of(
     // what may start is a plan
     ensures plan { IfOk result (λ plan. IsProper tree.now edit.writes → PlanOk types.now tree.now (map string_bytes tokens.now) edit.writes plan.marks) }
 {
-    match planned_marks(alloc, types, tree, &edit, tokens) {
+    match planned_marks(alloc, types, tree, &edit, tokens, Look::Whole) {
+        Ok(marks) => Ok(Plan { edit, marks }),
+        Err(refusal) => Err(refusal),
+    }
+}
+
+/// The plan of an edit on a tree that is known to meet the rules of its types, as `plan_of` gives it: of the nodes of the tree
+/// after the edit only those are checked whose types, items, children or children's types it changes, so that it costs what
+/// the edit changes, beside what making that tree costs and going once over its references. A law of this crate says that
+/// both calls answer alike on such a tree.
+pub fn plan_of_change(
+    alloc: Global,
+    types: &Registry,
+    tree: &Tree,
+    edit: Edit,
+    tokens: &[String],
+) -> Result<Plan, Refusal>
+    ensures edit { IfOk result (λ plan. plan.edit ≡ edit) }
+    ensures marks { IfOk result (λ plan. plan.marks ≡ marks_of tree.now edit.writes) }
+    ensures accepted { IfOk result (λ plan. refusal_by Touched types.now tree.now (map string_bytes tokens.now) edit.writes ≡ None) }
+    ensures refused { IfErr result (IsTheRefusal (refusal_by Touched types.now tree.now (map string_bytes tokens.now) edit.writes)) }
+{
+    match planned_marks(alloc, types, tree, &edit, tokens, Look::Touched) {
         Ok(marks) => Ok(Plan { edit, marks }),
         Err(refusal) => Err(refusal),
     }
@@ -55,13 +79,14 @@ fn planned_marks(
     tree: &Tree,
     edit: &Edit,
     tokens: &[String],
+    look: Look,
 ) -> Result<List<MarkAt>, Refusal>
     ensures marks { IfOk result (λ marks. marks ≡ marks_of tree.now edit.now.writes) }
-    ensures ok { IfOk result (λ marks. plan_refusal types.now tree.now (map string_bytes tokens.now) edit.now.writes ≡ None) }
-    ensures err { IfErr result (IsTheRefusal (plan_refusal types.now tree.now (map string_bytes tokens.now) edit.now.writes)) }
+    ensures ok { IfOk result (λ marks. refusal_by look types.now tree.now (map string_bytes tokens.now) edit.now.writes ≡ None) }
+    ensures err { IfErr result (IsTheRefusal (refusal_by look types.now tree.now (map string_bytes tokens.now) edit.now.writes)) }
 {
     match tree_after(tree, edit) {
-        Ok(after) => checked_marks(alloc, types, tree, &after, edit, tokens),
+        Ok(after) => checked_marks(alloc, types, tree, &after, edit, tokens, look),
         Err(AllocError) => Err(Refusal::memory(alloc)),
     }
 }
@@ -82,14 +107,15 @@ fn checked_marks(
     new: &Tree,
     edit: &Edit,
     tokens: &[String],
+    look: Look,
 ) -> Result<List<MarkAt>, Refusal>
     requires { new.now ≡ applied None old.now edit.now.writes }
     ensures marks { IfOk result (λ marks. marks ≡ marks_of old.now edit.now.writes) }
-    ensures ok { IfOk result (λ marks. plan_refusal types.now old.now (map string_bytes tokens.now) edit.now.writes ≡ None) }
-    ensures err { IfErr result (IsTheRefusal (plan_refusal types.now old.now (map string_bytes tokens.now) edit.now.writes)) }
+    ensures ok { IfOk result (λ marks. refusal_by look types.now old.now (map string_bytes tokens.now) edit.now.writes ≡ None) }
+    ensures err { IfErr result (IsTheRefusal (refusal_by look types.now old.now (map string_bytes tokens.now) edit.now.writes)) }
 {
     let writes = edit.writes.as_slice();
-    check_plan(alloc, types, old, new, writes, tokens)?;
+    check_plan(alloc, types, old, new, writes, tokens, look)?;
     marks_or_memory(alloc, old, new, writes)
 }
 

@@ -3,7 +3,7 @@ use Rattle.std.specs.List.{flat_map, list_all}
 use Rattle.jr_tree.specs.Trees.{node_at}
 use Rattle.jr_items.specs.Items.{first_of}
 use Rattle.jr_types.specs.Violations.{first_violation, violations_at}
-use Rattle.jcr_plan.proofs.causes.check_types.Given as goal
+use Rattle.jcr_plan.proofs.causes.check_all.Given as goal
 
 -- what is left decides, and each node that is left stands in the tree
 abbrev pub invariant-loop-path : goal.invariant-loop-path

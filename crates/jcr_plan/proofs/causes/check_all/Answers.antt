@@ -4,7 +4,7 @@ use Rattle.jr_tree.specs.Trees.{Nodes, node_at}
 use Rattle.jr_items.specs.Items.{first_of}
 use Rattle.jr_types.specs.Violations.{violations_at}
 use Rattle.jcr_plan.proofs.Refused.{all_there}
-use Rattle.jcr_plan.proofs.causes.check_types.Goals as goal
+use Rattle.jcr_plan.proofs.causes.check_all.Goals as goal
 
 pub loop-path-init : goal.loop-path-init
 loop-path-init c =
