@@ -106,11 +106,7 @@ fn put_change(
     tokens: &[String],
     out: &mut String,
 ) -> Result<(), AllocError> {
-    put_plan(
-        alloc,
-        plan_of_change(alloc, types, tree, edit, tokens),
-        out,
-    )
+    put_plan(alloc, plan_of_change(alloc, types, tree, edit, tokens), out)
 }
 
 fn put_plan(

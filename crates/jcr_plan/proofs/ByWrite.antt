@@ -1,5 +1,5 @@
 -- The marks that are found write by write are those of the edit.
-use Rattle.std.proofs.Common.{◌≡◌, Bool, true, false, cond, ◌&&◌, ◌||◌, Option, None, Some, List, [], ◌∷◌, ◌++◌, map, refl, sym, ap, ◌∙◌, subst}
+use Rattle.std.proofs.Common.{◌≡◌, Bool, true, false, cond, ◌&&◌, ◌||◌, Option, None, Some, List, [], ◌∷◌, ◌++◌, refl, sym, ap, ◌∙◌, subst}
 use Rattle.std.proofs.lemmas.Bool.{and_parts}
 use Rattle.std.proofs.lemmas.List.Folds.{list_any-append}
 use Rattle.std.specs.Option.{option_map_or}
@@ -250,10 +250,10 @@ module _ (t u : Nodes) (q : MarkAt) where
 
   of_edit : (ws : List Write) → ((p : Path) → is_covered_anew t u p ≡ true → list_any (is_under p) (flat_map covers_by ws) ≡ true)
       → list_any (same q)
-        (mark_each Exists (flat_map moved_by ws)
-        ++ mark_each Guard (retyped t u ws ++ newly_covered t u)
-        ++ mark_each Touch (filter_map parent_of (flat_map moved_by ws ++ retyped t u ws) ++ filter_map (target_of u) (flat_map (new_references t) ws))
-        ++ flat_map prop_marks ws)
+      (mark_each Exists (flat_map moved_by ws)
+      ++ mark_each Guard (retyped t u ws ++ newly_covered t u)
+      ++ mark_each Touch (filter_map parent_of (flat_map moved_by ws ++ retyped t u ws) ++ filter_map (target_of u) (flat_map (new_references t) ws))
+      ++ flat_map prop_marks ws)
       ≡ (all_caused ws || list_any (same q) (mark_each Touch (filter_map (target_of u) (flat_map (new_references t) ws))))
   of_edit ws under =
       list_any-append (same q) (exists ++ guards ++ touches) (flat_map prop_marks ws)

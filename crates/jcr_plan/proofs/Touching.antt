@@ -13,7 +13,6 @@ use Rattle.jr_path.specs.declared.name.Name.{Name}
 use Rattle.jr_path.specs.declared.path.Path.{Path}
 use Rattle.jr_path.proofs.Maps.{lookup-insert_entry, path_total}
 use Rattle.jr_path.proofs.Parts.{parent_of-child}
-use Rattle.jr_value.specs.declared.value.Property.{Property}
 use Rattle.jr_tree.specs.declared.tree.Node.{Node}
 use Rattle.jr_tree.specs.declared.edit.Write.{Write}
 use Rattle.jr_tree.specs.declared.edit.Write.TheVariants.{Here, Gone, Put, Unset}
@@ -30,8 +29,8 @@ use Rattle.jcr_ref.specs.References.{dangling}
 use Rattle.jcr_plan.specs.Plans.{has_few_nodes}
 use Rattle.jr_types.specs.declared.TypeDef.{TypeDef}
 use Rattle.jr_types.specs.Rules.{TypesOk, child_at, child_faults, node_types, property_faults}
-use Rattle.jr_types.specs.Violations.{Violation, child_names, failing_at, property_names, violations, violations_at}
-use Rattle.jcr_plan.specs.declared.causes.Look.TheVariants.{Touched, Whole}
+use Rattle.jr_types.specs.Violations.{Violation, child_names, failing_at, property_names, violations_at}
+use Rattle.jcr_plan.specs.declared.causes.Look.TheVariants.{Touched}
 use Rattle.jcr_plan.specs.Looks.{above_typed, is_touched, refusal_by, touched_by, violations_where, with_paths}
 use Rattle.jcr_plan.specs.Refusals.{frozen_over, locked_over, plan_refusal, type_refusal}
 use Rattle.jcr_plan.proofs.Refused.{all_there}

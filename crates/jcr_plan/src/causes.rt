@@ -196,11 +196,7 @@ fn note_touched(set: &mut Keyed<Path, bool>, write: &Write) -> Result<(), AllocE
 }
 
 // Notes a node, and the one above it where that is asked.
-fn note_with_parent(
-    set: &mut Keyed<Path, bool>,
-    path: &Path,
-    above: bool,
-) -> Result<(), AllocError>
+fn note_with_parent(set: &mut Keyed<Path, bool>, path: &Path, above: bool) -> Result<(), AllocError>
     ensures { OnOk result (set.new ≡ with_paths set.old (path.now ∷ cond above (option_to_list (parent_of path.now)) [])) }
 {
     set.put(path.copy()?, true)?;
@@ -213,12 +209,7 @@ fn note_with_parent(
     }
 }
 
-fn check_node(
-    alloc: Global,
-    types: &Registry,
-    tree: &Tree,
-    path: &Path,
-) -> Result<(), Refusal>
+fn check_node(alloc: Global, types: &Registry, tree: &Tree, path: &Path) -> Result<(), Refusal>
     requires { IsTrue (is_some (node_at tree.now path.now)) }
     ensures ok { OnOk result (violations_at types.now tree.now path.now ≡ []) }
     ensures err { IfErr result (IsTheRefusal (option_map type_refusal (first_of (violations_at types.now tree.now path.now)))) }

@@ -164,25 +164,14 @@ fn earlier<'a>(path: &'a Path, known: Option<&'a Path>) -> &'a Path
     ensures { Some result.now ≡ sooner path.now (option_copied known.entry) }
 {
     match known {
-        Some(known) => {
-            if path.cmp(known).is_lt() {
-                path
-            } else {
-                known
-            }
-        }
+        Some(known) => { if path.cmp(known).is_lt() { path } else { known } }
         None => path,
     }
 }
 
 // Whether the definition of the written item has IGNORE: by the types after the edit for what comes, by those before for
 // what goes.
-fn is_ignored(
-    types: &Registry,
-    old: &Tree,
-    new: &Tree,
-    write: &Write,
-) -> Result<bool, AllocError>
+fn is_ignored(types: &Registry, old: &Tree, new: &Tree, write: &Write) -> Result<bool, AllocError>
     ensures { IfOk result (λ answer. answer ≡ is_ignored types.now old.now new.now write.now) }
 {
     match write {

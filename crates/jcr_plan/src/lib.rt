@@ -63,7 +63,11 @@ pub(crate) fn note_node(found: &mut Keyed<MarkAt, bool>, path: &Path) -> Result<
 }
 
 // Notes a mark.
-pub(crate) fn note(found: &mut Keyed<MarkAt, bool>, path: Path, mark: Mark) -> Result<(), AllocError>
+pub(crate) fn note(
+    found: &mut Keyed<MarkAt, bool>,
+    path: Path,
+    mark: Mark,
+) -> Result<(), AllocError>
     ensures { OnOk result (found.new ≡ with_marks found.old (record { path = path; mark = mark } ∷ [])) }
 {
     found.put(MarkAt { path, mark }, true)?;

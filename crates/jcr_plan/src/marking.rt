@@ -263,7 +263,9 @@ fn push_reference(
 ) -> Result<(), AllocError>
     ensures { OnOk result (ids.new.items ≡ ids.old.items ++ references_added (option_copied before.entry) (value.now ∷ [])) }
 {
-    if let Value::Reference(id) = value && !refers_to(before, *id) {
+    if let Value::Reference(id) = value
+        && !refers_to(before, *id)
+    {
         ids.push(*id)?;
     }
     Ok(())

@@ -25,11 +25,7 @@ pub fn targets_of(alloc: Global, tree: &Tree, ids: &[u128]) -> Result<Vec<Path>,
 }
 
 // The nodes that an index has for these references.
-fn nodes_in(
-    alloc: Global,
-    index: &Keyed<Text, Path>,
-    ids: &[u128],
-) -> Result<Vec<Path>, AllocError>
+fn nodes_in(alloc: Global, index: &Keyed<Text, Path>, ids: &[u128]) -> Result<Vec<Path>, AllocError>
     ensures { IfOk result (λ paths. paths.items ≡ filter_map (node_in index.now) ids.now) }
 {
     let mut paths = Vec::new(alloc);
@@ -56,11 +52,7 @@ fn push_node(
     }
 }
 
-fn node_in(
-    alloc: Global,
-    index: &Keyed<Text, Path>,
-    id: u128,
-) -> Result<Option<&Path>, AllocError>
+fn node_in(alloc: Global, index: &Keyed<Text, Path>, id: u128) -> Result<Option<&Path>, AllocError>
     ensures { IfOk result (λ found. option_copied found ≡ node_in index.now id) }
 {
     let text = Text::of(uuid_text(alloc, id)?);

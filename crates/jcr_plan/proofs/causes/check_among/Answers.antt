@@ -11,8 +11,7 @@ use Rattle.jcr_plan.proofs.causes.check_among.Goals as goal
 
 pub loop-path-init : goal.loop-path-init
 loop-path-init c =
-    let all : c.into_iter-path-iterator.result ≡ c.args.tree.now = search rules in
-    (
+    let all : c.into_iter-path-iterator.result ≡ c.args.tree.now = search rules in (
       ap (λ (es : Nodes). first_of (flat_map (λ e. cond (is_some (lookup (is_at (path_cmp e.0)) c.args.set.now)) (violations_at c.args.types.now c.args.tree.now e.0) []) es)) all,
       ap (λ (es : Nodes). list_all (λ e. is_some (node_at c.args.tree.now e.0)) es) all ∙ all_there c.args.tree.now,
     )
