@@ -71,7 +71,7 @@ fn put_edit(
     }
 }
 
-fn words_of(alloc: Global, text: &str) -> Result<Vec<String>, AllocError> {
+pub(crate) fn words_of(alloc: Global, text: &str) -> Result<Vec<String>, AllocError> {
     let mut words = Vec::new(alloc);
     for word in text.split(' ') {
         if !word.is_empty() {

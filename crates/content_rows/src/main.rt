@@ -5,6 +5,7 @@
 mod events;
 mod json;
 mod locks;
+mod plans;
 mod references;
 mod rows;
 mod shows;

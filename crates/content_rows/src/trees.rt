@@ -16,12 +16,24 @@ pub(crate) fn tree_of(alloc: Global, text: &str) -> Result<Option<Tree>, AllocEr
 fn nodes_of(alloc: Global, members: &Map<String, Json>) -> Result<Option<Tree>, AllocError> {
     let mut tree = Tree::new(alloc);
     tree.insert(Path::root(alloc), Node::new(alloc))?;
-    for (path, json) in members.iter() {
-        if !add_node(alloc, &mut tree, path.as_str(), json)? {
-            return Ok(None);
-        }
+    if !add_nodes(alloc, &mut tree, members)? {
+        return Ok(None);
     }
     Ok(Some(tree))
+}
+
+// Puts the nodes, and tells whether they are some.
+pub(crate) fn add_nodes(
+    alloc: Global,
+    tree: &mut Tree,
+    members: &Map<String, Json>,
+) -> Result<bool, AllocError> {
+    for (path, json) in members.iter() {
+        if !add_node(alloc, tree, path.as_str(), json)? {
+            return Ok(false);
+        }
+    }
+    Ok(true)
 }
 
 // Puts a node with its properties, and tells whether they are some.
@@ -66,7 +78,7 @@ pub(crate) fn name_of(alloc: Global, text: &str) -> Result<Option<Name>, AllocEr
     }
 }
 
-fn property_of(alloc: Global, json: &Json) -> Result<Option<Property>, AllocError> {
+pub(crate) fn property_of(alloc: Global, json: &Json) -> Result<Option<Property>, AllocError> {
     match Property::from_json(alloc, json) {
         Ok(property) => Ok(Some(property)),
         Err(ValueFault::Memory) => Err(AllocError),

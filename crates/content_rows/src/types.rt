@@ -51,7 +51,7 @@ fn add_type(
 }
 
 // Registers the definitions of a list, and tells whether all are; puts the refusal of the first that isn't.
-fn register(
+pub(crate) fn register(
     alloc: Global,
     registry: &mut Registry,
     definitions: &str,

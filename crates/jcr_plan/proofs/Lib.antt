@@ -1,5 +1,9 @@
 pub mod Accepted
+mod ByWrite
 mod MarkOrder
 pub mod Membership
 pub mod OfWrites
+mod Refused
 mod Rows
+mod Stirred
+pub mod Touching

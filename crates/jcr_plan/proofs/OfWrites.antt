@@ -32,10 +32,10 @@ use Rattle.jcr_plan.specs.Marks.{mark_each, moved_by, prop_marks, retyped, newly
 use Rattle.jr_tree.proofs.Entries.{same_lists, sorted_filter, sorted_insert}
 use Rattle.jcr_plan.proofs.Membership.{mark_at_exact}
 
-total : IsTotalOrder mark_at_cmp
+pub total : IsTotalOrder mark_at_cmp
 total = then_total (on_total (λ (m : MarkAt). m.path) path_total) (on_total (λ (m : MarkAt). m.mark) (then_total (on_total mark_rank nat_cmp_total) (on_total mark_name nat_list_cmp_total)))
 
-abbrev same : MarkAt → MarkAt → Bool
+abbrev pub same : MarkAt → MarkAt → Bool
 same = eq_by_cmp mark_at_cmp
 
 exactly : (o : Ordering) → is_eq o ≡ true → o ≡ Equal
@@ -48,16 +48,16 @@ same_mark a b h = mark_at_exact a b (exactly _ h)
 
 -- ---- a set of marks, as a map in order
 
-abbrev IsMap : Marked → Type 0
+abbrev pub IsMap : Marked → Type 0
 IsMap es = is_sorted mark_at_cmp es ≡ true
 
-abbrev at : MarkAt → Marked → Option Bool
+abbrev pub at : MarkAt → Marked → Option Bool
 at q es = lookup (is_at (mark_at_cmp q)) es
 
-abbrev with_all : Marked → List MarkAt → Marked
+abbrev pub with_all : Marked → List MarkAt → Marked
 with_all es ms = fold (λ es m. insert_entry mark_at_cmp es m true) es ms
 
-in_order_all : (es : Marked) (ms : List MarkAt) → IsMap es → IsMap (with_all es ms)
+pub in_order_all : (es : Marked) (ms : List MarkAt) → IsMap es → IsMap (with_all es ms)
 in_order_all es [] h = h
 in_order_all es (m ∷ ms) h = in_order_all (insert_entry mark_at_cmp es m true) ms (sorted_insert mark_at_cmp total m true es h)
 
@@ -67,7 +67,7 @@ or_cond true false o = refl
 or_cond false true o = refl
 or_cond false false o = refl
 
-at_all : (q : MarkAt) (es : Marked) (ms : List MarkAt) → at q (with_all es ms) ≡ cond (list_any (same q) ms) (Some true) (at q es)
+pub at_all : (q : MarkAt) (es : Marked) (ms : List MarkAt) → at q (with_all es ms) ≡ cond (list_any (same q) ms) (Some true) (at q es)
 at_all q es [] = refl
 at_all q es (m ∷ ms) =
     at_all q (insert_entry mark_at_cmp es m true) ms
@@ -123,7 +123,7 @@ same_items ms os each =
     by q true h = ap (λ o. cond (is_of_item q) o None) (at_all q [] ms ∙ (ap (λ b. cond b (Some true) None) (each q h) ∙ sym (at_all q [] os)))
     by q false h = ap (λ b. cond b (at q (with_all [] ms)) None) h ∙ sym (ap (λ b. cond b (at q (with_all [] os)) None) h)
 
-all_after : (es : Marked) (ms os : List MarkAt) → with_all es (ms ++ os) ≡ with_all (with_all es ms) os
+pub all_after : (es : Marked) (ms os : List MarkAt) → with_all es (ms ++ os) ≡ with_all (with_all es ms) os
 all_after es [] os = refl
 all_after es (m ∷ ms) os = all_after (insert_entry mark_at_cmp es m true) ms os
 

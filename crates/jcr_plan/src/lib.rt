@@ -1,19 +1,30 @@
 //! The plan of a commit: the marks that an edit makes, and when it may be committed on a tree.
 #![tactic(auto)]
 
+mod causes;
+mod changed;
+mod covered;
 mod laws;
+mod marking;
+mod plans;
 
 ghost use Rattle.std.specs.Prelude.{◌≡◌, [], ◌∷◌, IfOk, OnOk};
 ghost use Rattle.oak_machine.specs.Marks.{marks_for, marks_of_node, marks_of_write, with_marks};
 
+pub use causes::{Look, MAX_NODES};
 use jr_path::{DeepCopy, Keyed, List, Path};
 use jr_tree::{Edit, Write};
-pub use laws::{plans_are_proper, what_is_not_refused_is_a_plan};
+pub use laws::{
+    plans_are_proper, what_is_not_refused_is_a_plan, what_is_not_touched_keeps_the_rules,
+};
 use oak_clash::{Mark, MarkAt};
+pub use plans::{Plan, plan_of, plan_of_change};
 use std::alloc::{AllocError, Global};
 
-/// The marks of an edit, each once, in path order and at one path in the order of marks: Exists of a node that comes or
-/// goes and Touch of its parent, Prop of a property that is written.
+/// Those marks of an edit for which no tree is needed, each once, in path order and at one path in the order of marks: Exists
+/// of a node that comes or goes and Touch of its parent, Prop of a property that is written. It leaves out what `plan_of`
+/// gives beside these, Guard and the Touch of types and of references, and stands until sessions start their commits by
+/// `plan_of`.
 pub fn marks_of(alloc: Global, edit: &Edit) -> Result<List<MarkAt>, AllocError>
     ensures { IfOk result (λ marks. marks ≡ marks_for [] edit.now.writes) }
 {
@@ -41,7 +52,7 @@ fn note_write(found: &mut Keyed<MarkAt, bool>, write: &Write) -> Result<(), Allo
 }
 
 // Notes the marks of a node that comes or goes.
-fn note_node(found: &mut Keyed<MarkAt, bool>, path: &Path) -> Result<(), AllocError>
+pub(crate) fn note_node(found: &mut Keyed<MarkAt, bool>, path: &Path) -> Result<(), AllocError>
     ensures { OnOk result (found.new ≡ with_marks found.old (marks_of_node path.now)) }
 {
     note(found, path.copy()?, Mark::Exists)?;
@@ -52,7 +63,11 @@ fn note_node(found: &mut Keyed<MarkAt, bool>, path: &Path) -> Result<(), AllocEr
 }
 
 // Notes a mark.
-fn note(found: &mut Keyed<MarkAt, bool>, path: Path, mark: Mark) -> Result<(), AllocError>
+pub(crate) fn note(
+    found: &mut Keyed<MarkAt, bool>,
+    path: Path,
+    mark: Mark,
+) -> Result<(), AllocError>
     ensures { OnOk result (found.new ≡ with_marks found.old (record { path = path; mark = mark } ∷ [])) }
 {
     found.put(MarkAt { path, mark }, true)?;

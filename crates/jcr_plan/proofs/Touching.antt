@@ -1,0 +1,218 @@
+-- A node that an edit does not touch breaks no rule where it broke none before.
+use Rattle.std.proofs.Common.{◌≡◌, ℕ, Bool, true, false, cond, ◌||◌, Option, None, Some, is_some, List, [], ◌∷◌, ◌++◌, map, refl, sym, ap, ◌∙◌, subst}
+use Rattle.std.specs.Prelude.{◌==◌, codes, not, option_map, option_to_list}
+use Rattle.std.proofs.lemmas.Bool.{false≢true, and_parts, false_from_ne_true}
+use Rattle.std.proofs.lemmas.Cmp.{nat_list_cmp_total}
+use Rattle.std.specs.FinMap.{is_sorted}
+use Rattle.std.specs.List.{filter, flat_map, fold, list_all, list_any}
+use Rattle.std.specs.Map.{lookup, remove_entry}
+use Rattle.std.specs.BTreeMap.{is_at, insert_entry}
+use Rattle.std.specs.Ordering.{eq_by_cmp}
+use Rattle.jr_path.specs.Names.{name_cmp, parent_of, path_cmp}
+use Rattle.jr_path.specs.declared.name.Name.{Name}
+use Rattle.jr_path.specs.declared.path.Path.{Path}
+use Rattle.jr_path.proofs.Maps.{lookup-insert_entry, path_total}
+use Rattle.jr_path.proofs.Parts.{parent_of-child}
+use Rattle.jr_tree.specs.declared.tree.Node.{Node}
+use Rattle.jr_tree.specs.declared.edit.Write.{Write}
+use Rattle.jr_tree.specs.declared.edit.Write.TheVariants.{Here, Gone, Put, Unset}
+use Rattle.jr_tree.specs.Trees.{Nodes, node_at, property_at}
+use Rattle.jr_tree.specs.Edits.{applied, last_writes}
+use Rattle.jr_tree.proofs.AtPath.{come, filled, prop_of, props_of, node_at-applied}
+use Rattle.jr_tree.proofs.EditLaw.{fills_has}
+use Rattle.jr_tree.proofs.Pointwise.{same_path as path_same}
+use Rattle.jr_items.specs.Names.{mixin_types, primary_type}
+use Rattle.jr_items.specs.Items.{child_path, first_of, first_some, same_name, same_path}
+use Rattle.jr_items.specs.Refusals.{checked_in, dangling as dangling_refusal, locked, over_limit, when}
+use Rattle.jr_tree.specs.declared.shared.Refusal.{Refusal}
+use Rattle.jcr_ref.specs.References.{dangling}
+use Rattle.jcr_plan.specs.Plans.{has_few_nodes}
+use Rattle.jr_types.specs.declared.TypeDef.{TypeDef}
+use Rattle.jr_types.specs.Rules.{TypesOk, child_at, child_faults, node_types, property_faults}
+use Rattle.jr_types.specs.Violations.{Violation, child_names, failing_at, property_names, violations_at}
+use Rattle.jcr_plan.specs.declared.causes.Look.TheVariants.{Touched}
+use Rattle.jcr_plan.specs.Looks.{above_typed, is_touched, refusal_by, touched_by, violations_where, with_paths}
+use Rattle.jcr_plan.specs.Refusals.{frozen_over, locked_over, plan_refusal, type_refusal}
+use Rattle.jcr_plan.proofs.Refused.{all_there}
+use Rattle.jcr_plan.proofs.Stirred.{any_flat, none_last, or_false, path_self, removed_other}
+
+-- ---- a set of paths
+
+turned : (a b c : Bool) → (a || (b || c)) ≡ ((b || a) || c)
+turned true true c = refl
+turned true false c = refl
+turned false true c = refl
+turned false false c = refl
+
+with_found : (p : Path) (ps : List Path) (es : List (Path × Bool)) → is_some (lookup (is_at (path_cmp p)) (with_paths es ps)) ≡ (list_any (same_path p) ps || is_some (lookup (is_at (path_cmp p)) es))
+with_found p [] es = refl
+with_found p (q ∷ ps) es =
+    with_found p ps (insert_entry path_cmp es q true)
+    ∙ (ap (λ (o : Option Bool). list_any (same_path p) ps || is_some o) (lookup-insert_entry path_cmp path_total p q true es)
+    ∙ (ap (λ b. list_any (same_path p) ps || b) (by (same_path p q) (lookup (is_at (path_cmp p)) es)) ∙ turned (list_any (same_path p) ps) (same_path p q) (is_some (lookup (is_at (path_cmp p)) es))))
+  where
+    by : (b : Bool) (o : Option Bool) → is_some (cond b (Some true) o) ≡ (b || is_some o)
+    by true o = refl
+    by false o = refl
+
+or_none : (b : Bool) → (b || false) ≡ b
+or_none true = refl
+or_none false = refl
+
+-- what is asked of the set is what is asked of the writes
+pub set_asked : (types : List TypeDef) (u : Nodes) (ws : List Write) (set : List (Path × Bool)) → set ≡ with_paths [] (flat_map touched_by ws)
+    → violations_where (λ p. is_some (lookup (is_at (path_cmp p)) set)) types u ≡ violations_where (is_touched ws) types u
+set_asked types u ws set is =
+    ap (λ (es : List (Path × Bool)). violations_where (λ p. is_some (lookup (is_at (path_cmp p)) es)) types u) is
+    ∙ (λ i. violations_where (λ p. (with_found p (flat_map touched_by ws) [] ∙ or_none (list_any (same_path p) (flat_map touched_by ws))) i) types u)
+
+-- ---- a node that no write touches
+
+abbrev touches : Path → Write → Bool
+touches p w = list_any (same_path p) (touched_by w)
+
+not_first : (p q : Path) (rest : List Path) → list_any (same_path p) (q ∷ rest) ≡ false → eq_by_cmp path_cmp p q ≡ false
+not_first p q rest h = (or_false (same_path p q) (list_any (same_path p) rest) h).0
+
+come_still : (p : Path) (o : Option Node) (w : Write) → touches p w ≡ false → come None p o w ≡ o
+come_still p o (Here q) h = ap (λ b. cond b (Some (record { props = props_of o; born = None })) o) (not_first p q _ h)
+come_still p o (Gone q) h = ap (λ b. cond b None o) (not_first p q _ h)
+come_still p o (Put q m x) h = refl
+come_still p o (Unset q m) h = refl
+
+filled_still : (p : Path) (o : Option Node) (w : Write) → touches p w ≡ false → filled p o w ≡ o
+filled_still p o (Here q) h = refl
+filled_still p o (Gone q) h = refl
+filled_still p o (Put q m x) h = ap (λ b. cond b (option_map {T = Node} (λ node. record node { props = insert_entry name_cmp node.props m x }) o) o) (not_first p q _ h)
+filled_still p o (Unset q m) h = ap (λ b. cond b (option_map {T = Node} (λ node. record node { props = remove_entry (is_at (name_cmp m)) node.props }) o) o) (not_first p q _ h)
+
+comes_still : (p : Path) (o : Option Node) (ws : List Write) → list_any (touches p) ws ≡ false → fold (come None p) o ws ≡ o
+comes_still p o [] h = refl
+comes_still p o (w ∷ ws) h = let parts = or_false (touches p w) (list_any (touches p) ws) h in comes_still p (come None p o w) ws parts.1 ∙ come_still p o w parts.0
+
+fills_still : (p : Path) (o : Option Node) (ws : List Write) → list_any (touches p) ws ≡ false → fold (filled p) o ws ≡ o
+fills_still p o [] h = refl
+fills_still p o (w ∷ ws) h = let parts = or_false (touches p w) (list_any (touches p) ws) h in fills_still p (filled p o w) ws parts.1 ∙ filled_still p o w parts.0
+
+-- ---- its children
+
+-- a path with the node above it has that one among the two
+has_above : (p q : Path) → parent_of q ≡ Some p → list_any (same_path p) (option_to_list (parent_of q)) ≡ true
+has_above p q up = ap (λ (o : Option Path). list_any (same_path p) (option_to_list o)) up ∙ (or_none (same_path p p) ∙ path_self p)
+
+or_right : (a b : Bool) → b ≡ true → (a || b) ≡ true
+or_right true b h = refl
+or_right false b h = h
+
+module _ (p c : Path) (up : parent_of c ≡ Some p) where
+  up_of : (q : Path) → eq_by_cmp path_cmp c q ≡ true → parent_of q ≡ Some p
+  up_of q e = ap parent_of (sym (path_same c q e)) ∙ up
+
+  elsewhere : (q : Path) → list_any (same_path p) (q ∷ option_to_list (parent_of q)) ≡ false → eq_by_cmp path_cmp c q ≡ false
+  elsewhere q h = false_from_ne_true _ (λ e. false≢true (sym h ∙ or_right (same_path p q) _ (has_above p q (up_of q e))))
+
+  come_child : (o : Option Node) (w : Write) → touches p w ≡ false → come None c o w ≡ o
+  come_child o (Here q) h = ap (λ b. cond b (Some (record { props = props_of o; born = None })) o) (elsewhere q h)
+  come_child o (Gone q) h = ap (λ b. cond b None o) (elsewhere q h)
+  come_child o (Put q m x) h = refl
+  come_child o (Unset q m) h = refl
+
+  other : (q : Path) (m : Name) → eq_by_cmp path_cmp c q ≡ true → list_any (same_path p) (q ∷ above_typed q m) ≡ false → eq_by_cmp name_cmp primary_type m ≡ false
+  other q m e h = by (same_name primary_type m) (or_false (same_path p q) (list_any (same_path p) (above_typed q m)) h).1
+    where
+      by : (b : Bool) → list_any (same_path p) (cond b (option_to_list (parent_of q)) []) ≡ false → b ≡ false
+      by true k = absurd (false≢true (sym k ∙ has_above p q (up_of q e)))
+      by false k = refl
+
+  filled_child : (o : Option Node) (w : Write) → touches p w ≡ false → prop_of primary_type (filled c o w) ≡ prop_of primary_type o
+  filled_child o (Here q) h = refl
+  filled_child o (Gone q) h = refl
+  filled_child o (Put q m x) h = by (eq_by_cmp path_cmp c q) refl o
+    where
+      by : (b : Bool) → eq_by_cmp path_cmp c q ≡ b → (o : Option Node) → prop_of primary_type (cond b (option_map {T = Node} (λ node. record node { props = insert_entry name_cmp node.props m x }) o) o) ≡ prop_of primary_type o
+      by false e o = refl
+      by true e None = refl
+      by true e (Some node) = lookup-insert_entry name_cmp nat_list_cmp_total primary_type m x node.props ∙ ap (λ b. cond b (Some x) (lookup (is_at (name_cmp primary_type)) node.props)) (other q m e h)
+  filled_child o (Unset q m) h = by (eq_by_cmp path_cmp c q) refl o
+    where
+      by : (b : Bool) → eq_by_cmp path_cmp c q ≡ b → (o : Option Node) → prop_of primary_type (cond b (option_map {T = Node} (λ node. record node { props = remove_entry (is_at (name_cmp m)) node.props }) o) o) ≡ prop_of primary_type o
+      by false e o = refl
+      by true e None = refl
+      by true e (Some node) = removed_other primary_type m (other q m e h) node.props
+
+  comes_child : (o : Option Node) (ws : List Write) → list_any (touches p) ws ≡ false → fold (come None c) o ws ≡ o
+  comes_child o [] h = refl
+  comes_child o (w ∷ ws) h = let parts = or_false (touches p w) (list_any (touches p) ws) h in comes_child (come None c o w) ws parts.1 ∙ come_child o w parts.0
+
+  fills_child : (o : Option Node) (ws : List Write) → list_any (touches p) ws ≡ false → prop_of primary_type (fold (filled c) o ws) ≡ prop_of primary_type o
+  fills_child o [] h = refl
+  fills_child o (w ∷ ws) h = let parts = or_false (touches p w) (list_any (touches p) ws) h in fills_child (filled c o w) ws parts.1 ∙ filled_child o w parts.0
+
+-- ---- so its rules hold as before
+
+filter_never : {X : Type 0} (xs : List X) → filter (λ x. false) xs ≡ []
+filter_never [] = refl
+filter_never (x ∷ xs) = filter_never xs
+
+module _ (types : List TypeDef) (t : Nodes) (ws : List Write) (sorted : is_sorted path_cmp t ≡ true) (ok : TypesOk types t) where
+  abbrev u : Nodes
+  u = applied None t ws
+
+  node_kept : (p : Path) → list_any (touches p) ws ≡ false → node_at u p ≡ node_at t p
+  node_kept p none =
+      let last = none_last (touches p) ws none in
+      node_at-applied None p t ws sorted ∙ (fills_still p _ (last_writes ws) last ∙ comes_still p (node_at t p) (last_writes ws) last)
+
+  child_kept : (p : Path) (n : Name) → list_any (touches p) ws ≡ false → child_at u p n ≡ child_at t p n
+  child_kept p n none =
+      let last = none_last (touches p) ws none in
+      let c = child_path p n in
+      let up = parent_of-child p n in
+      let came = comes_child p c up (node_at t c) (last_writes ws) last in
+      let here : is_some (node_at u c) ≡ is_some (node_at t c) = ap is_some (node_at-applied None c t ws sorted) ∙ (fills_has c _ (last_writes ws) ∙ ap is_some came) in
+      let typed : property_at u c primary_type ≡ property_at t c primary_type = ap (prop_of primary_type) (node_at-applied None c t ws sorted) ∙ (fills_child p c up _ (last_writes ws) last ∙ ap (prop_of primary_type) came) in
+      λ i. cond (here i) (Some (typed i)) None
+
+  module _ (p : Path) (stands : is_some (node_at u p) ≡ true) (none : list_any (touches p) ws ≡ false) where
+    stood : is_some (node_at t p) ≡ true
+    stood = sym (ap is_some (node_kept p none)) ∙ stands
+
+    property_none : (n : Name) → property_faults types (node_types u p) n (property_at u p n) ≡ []
+    property_none n = subst (λ (o : Option Node). property_faults types (record { primary = prop_of primary_type o; mixins = prop_of mixin_types o }) n (prop_of n o) ≡ []) (sym (node_kept p none)) (ok.properties p n stood)
+
+    child_none : (n : Name) → child_faults types (node_types u p) n (child_at u p n) ≡ []
+    child_none n =
+        subst (λ (o : Option Node). child_faults types (record { primary = prop_of primary_type o; mixins = prop_of mixin_types o }) n (child_at u p n) ≡ []) (sym (node_kept p none))
+        (ap (child_faults types (node_types t p) n) (child_kept p n none) ∙ ok.children p n stood)
+
+    failing_none : (rule : ℕ) → failing_at types u p rule ≡ []
+    failing_none rule =
+        (λ i. filter (λ n. list_any (λ r. r == rule) (property_none n i)) (property_names types u p) ++ filter (λ n. list_any (λ r. r == rule) (child_none n i)) (child_names types u p))
+        ∙ (ap (λ (ns : List Name). ns ++ filter (λ n. false) (child_names types u p)) (filter_never (property_names types u p)) ∙ filter_never (child_names types u p))
+
+    none_at : violations_at types u p ≡ []
+    none_at = λ i. flat_map (λ rule. map (λ n. record { node = p; rule = rule; item = n }) (failing_none rule i)) (1 ∷ 2 ∷ 3 ∷ 4 ∷ 5 ∷ 6 ∷ 7 ∷ 8 ∷ 9 ∷ [])
+
+  each_alike : (es : Nodes) → list_all (λ e. is_some (node_at u e.0)) es ≡ true → flat_map (λ e. cond (is_touched ws e.0) (violations_at types u e.0) []) es ≡ flat_map (λ e. violations_at types u e.0) es
+  each_alike [] h = refl
+  each_alike (e ∷ es) h =
+      let parts = and_parts _ _ h in
+      ap (λ (vs : List Violation). vs ++ flat_map (λ e. cond (is_touched ws e.0) (violations_at types u e.0) []) es) (by (is_touched ws e.0) refl parts.0)
+      ∙ ap (λ (vs : List Violation). violations_at types u e.0 ++ vs) (each_alike es parts.1)
+    where
+      by : (b : Bool) → is_touched ws e.0 ≡ b → is_some (node_at u e.0) ≡ true → cond b (violations_at types u e.0) [] ≡ violations_at types u e.0
+      by true k stands = refl
+      by false k stands = sym (none_at e.0 stands (sym (any_flat (same_path e.0) touched_by ws) ∙ k))
+
+-- the refusal of a plan, by the violations that are found
+abbrev with_violations : List TypeDef → Nodes → List (List ℕ) → List Write → List Violation → Option Refusal
+with_violations types t tokens ws vs = first_some
+    (option_map checked_in (first_of (frozen_over types t ws))
+    ∷ option_map locked (first_of (locked_over t tokens ws))
+    ∷ option_map type_refusal (first_of vs)
+    ∷ option_map dangling_refusal (dangling (applied None t ws))
+    ∷ when (not (has_few_nodes (applied None t ws))) (over_limit (codes "nodes") 100000)
+    ∷ [])
+
+pub alike : (types : List TypeDef) (t : Nodes) (tokens : List (List ℕ)) (ws : List Write) → is_sorted path_cmp t ≡ true → TypesOk types t → refusal_by Touched types t tokens ws ≡ plan_refusal types t tokens ws
+alike types t tokens ws sorted ok = ap (with_violations types t tokens ws) (each_alike types t ws sorted ok (applied None t ws) (all_there (applied None t ws)))

@@ -1,0 +1,17 @@
+use Rattle.std.proofs.Common.{rules, ◌≡◌, [], cond, ap, ◌∙◌, is_some}
+use Rattle.std.specs.BTreeMap.{is_at}
+use Rattle.std.specs.List.{flat_map, list_all}
+use Rattle.std.specs.Map.{lookup}
+use Rattle.jr_path.specs.Names.{path_cmp}
+use Rattle.jr_tree.specs.Trees.{Nodes, node_at}
+use Rattle.jr_items.specs.Items.{first_of}
+use Rattle.jr_types.specs.Violations.{violations_at}
+use Rattle.jcr_plan.proofs.Refused.{all_there}
+use Rattle.jcr_plan.proofs.causes.check_among.Goals as goal
+
+pub loop-path-init : goal.loop-path-init
+loop-path-init c =
+    let all : c.into_iter-path-iterator.result ≡ c.args.tree.now = search rules in (
+      ap (λ (es : Nodes). first_of (flat_map (λ e. cond (is_some (lookup (is_at (path_cmp e.0)) c.args.set.now)) (violations_at c.args.types.now c.args.tree.now e.0) []) es)) all,
+      ap (λ (es : Nodes). list_all (λ e. is_some (node_at c.args.tree.now e.0)) es) all ∙ all_there c.args.tree.now,
+    )

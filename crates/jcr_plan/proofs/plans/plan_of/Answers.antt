@@ -1,0 +1,7 @@
+use Rattle.std.proofs.Common.{map}
+use Rattle.std.specs.String.{string_bytes}
+use Rattle.jcr_plan.proofs.Refused.{planned}
+use Rattle.jcr_plan.proofs.plans.plan_of.Goals as goal
+
+pub returns-in-Ok-clause-plan : goal.returns-in-Ok-clause-plan
+returns-in-Ok-clause-plan c = planned c.args.types.now c.args.tree.now (map string_bytes c.args.tokens.now) c.args.edit.writes c.in-Ok.marks c.in-Ok.ensures.marks c.in-Ok.ensures.ok

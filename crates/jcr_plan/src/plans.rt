@@ -1,0 +1,137 @@
+// The plan of an edit: the edit with all its marks, where it may be committed.
+ghost use Rattle.std.specs.Prelude.{◌≡◌, None, IfErr, IfOk, map};
+ghost use Rattle.std.specs.String.{string_bytes};
+ghost use Rattle.jr_tree.specs.Edits.{IsProper, applied};
+ghost use Rattle.jr_items.specs.Refusals.{IsTheRefusal, out_of_memory};
+ghost use Rattle.jcr_plan.specs.declared.causes.Look.TheVariants.{Touched};
+ghost use Rattle.jcr_plan.specs.Looks.{refusal_by};
+ghost use Rattle.jcr_plan.specs.Marks.{marks_of};
+ghost use Rattle.jcr_plan.specs.Plans.{PlanOk};
+ghost use Rattle.jcr_plan.specs.Refusals.{plan_refusal};
+
+use crate::causes::{Look, check_plan};
+use crate::marking::marks_between;
+use jr_path::{DeepCopy, List};
+use jr_tree::{Edit, Refusal, Tree, Write};
+use jr_types::Registry;
+use oak_clash::MarkAt;
+use std::alloc::{AllocError, Global};
+
+/// An edit that may be committed, and its marks, each once, in path order and at one path in the order of marks.
+#[derive(Drop)]
+pub struct Plan {
+    pub edit: Edit,
+    pub marks: List<MarkAt>,
+}
+
+/// The plan of an edit on a tree, by one who holds the tokens of locks: the edit with all its marks. Refused, in this order:
+/// 8 with the checked-in node that covers a changed node (JSR 283, 15 Versioning), items with IGNORE aside; 7 with the lock
+/// that does, whose owner is not among the tokens (17 Locking), of several the first in path order; 4 with the first rule of
+/// node types that the tree after the edit breaks, by path, rule and item (3.7 Node Types); 9 with the first REFERENCE that
+/// names no node of that tree, by path, then by name (3.8.2 Referential Integrity); 15 where that tree has more than 100,000
+/// nodes. Want of memory may come in place of each. It goes over the whole tree.
+pub fn plan_of(
+    alloc: Global,
+    types: &Registry,
+    tree: &Tree,
+    edit: Edit,
+    tokens: &[String],
+) -> Result<Plan, Refusal>
+    ensures edit { IfOk result (λ plan. plan.edit ≡ edit) }
+    ensures marks { IfOk result (λ plan. plan.marks ≡ marks_of tree.now edit.writes) }
+    ensures accepted { IfOk result (λ plan. plan_refusal types.now tree.now (map string_bytes tokens.now) edit.writes ≡ None) }
+    ensures refused { IfErr result (IsTheRefusal (plan_refusal types.now tree.now (map string_bytes tokens.now) edit.writes)) }
+    // what may start is a plan
+    ensures plan { IfOk result (λ plan. IsProper tree.now edit.writes → PlanOk types.now tree.now (map string_bytes tokens.now) edit.writes plan.marks) }
+{
+    match planned_marks(alloc, types, tree, &edit, tokens, Look::Whole) {
+        Ok(marks) => Ok(Plan { edit, marks }),
+        Err(refusal) => Err(refusal),
+    }
+}
+
+/// The plan of an edit on a tree that is known to meet the rules of its types, as `plan_of` gives it: of the nodes of the tree
+/// after the edit only those are checked whose types, items, children or children's types it changes, so that it costs what
+/// the edit changes, beside what making that tree costs and going once over its references. A law of this crate says that
+/// both calls answer alike on such a tree.
+pub fn plan_of_change(
+    alloc: Global,
+    types: &Registry,
+    tree: &Tree,
+    edit: Edit,
+    tokens: &[String],
+) -> Result<Plan, Refusal>
+    ensures edit { IfOk result (λ plan. plan.edit ≡ edit) }
+    ensures marks { IfOk result (λ plan. plan.marks ≡ marks_of tree.now edit.writes) }
+    ensures accepted { IfOk result (λ plan. refusal_by Touched types.now tree.now (map string_bytes tokens.now) edit.writes ≡ None) }
+    ensures refused { IfErr result (IsTheRefusal (refusal_by Touched types.now tree.now (map string_bytes tokens.now) edit.writes)) }
+{
+    match planned_marks(alloc, types, tree, &edit, tokens, Look::Touched) {
+        Ok(marks) => Ok(Plan { edit, marks }),
+        Err(refusal) => Err(refusal),
+    }
+}
+
+// The marks of an edit that may be committed.
+fn planned_marks(
+    alloc: Global,
+    types: &Registry,
+    tree: &Tree,
+    edit: &Edit,
+    tokens: &[String],
+    look: Look,
+) -> Result<List<MarkAt>, Refusal>
+    ensures marks { IfOk result (λ marks. marks ≡ marks_of tree.now edit.now.writes) }
+    ensures ok { IfOk result (λ marks. refusal_by look types.now tree.now (map string_bytes tokens.now) edit.now.writes ≡ None) }
+    ensures err { IfErr result (IsTheRefusal (refusal_by look types.now tree.now (map string_bytes tokens.now) edit.now.writes)) }
+{
+    match tree_after(tree, edit) {
+        Ok(after) => checked_marks(alloc, types, tree, &after, edit, tokens, look),
+        Err(AllocError) => Err(Refusal::memory(alloc)),
+    }
+}
+
+// The tree after an edit.
+fn tree_after(tree: &Tree, edit: &Edit) -> Result<Tree, AllocError>
+    ensures { IfOk result (λ after. after ≡ applied None tree.now edit.now.writes) }
+{
+    let mut after = tree.copy()?;
+    after.apply(edit, None)?;
+    Ok(after)
+}
+
+fn checked_marks(
+    alloc: Global,
+    types: &Registry,
+    old: &Tree,
+    new: &Tree,
+    edit: &Edit,
+    tokens: &[String],
+    look: Look,
+) -> Result<List<MarkAt>, Refusal>
+    requires { new.now ≡ applied None old.now edit.now.writes }
+    ensures marks { IfOk result (λ marks. marks ≡ marks_of old.now edit.now.writes) }
+    ensures ok { IfOk result (λ marks. refusal_by look types.now old.now (map string_bytes tokens.now) edit.now.writes ≡ None) }
+    ensures err { IfErr result (IsTheRefusal (refusal_by look types.now old.now (map string_bytes tokens.now) edit.now.writes)) }
+{
+    let writes = edit.writes.as_slice();
+    check_plan(alloc, types, old, new, writes, tokens, look)?;
+    marks_or_memory(alloc, old, new, writes)
+}
+
+// The marks, or want of memory as a refusal.
+fn marks_or_memory(
+    alloc: Global,
+    old: &Tree,
+    new: &Tree,
+    writes: &[Write],
+) -> Result<List<MarkAt>, Refusal>
+    requires { new.now ≡ applied None old.now writes.now }
+    ensures marks { IfOk result (λ marks. marks ≡ marks_of old.now writes.now) }
+    ensures err { IfErr result (λ r. r ≡ out_of_memory) }
+{
+    match marks_between(alloc, old, new, writes) {
+        Ok(marks) => Ok(marks),
+        Err(AllocError) => Err(Refusal::memory(alloc)),
+    }
+}
