@@ -1,0 +1,22 @@
+//! Type definitions as text: the notation of JSR 283, 25.2 Compact Node Type Definition Notation, in this profile.
+#![tactic(auto)]
+
+mod attributes;
+mod cnd;
+mod context;
+mod cursor;
+mod fault;
+mod file;
+mod items;
+mod lists;
+mod piece;
+mod pieces;
+mod printing;
+mod scan;
+mod types;
+mod words;
+
+pub use cnd::{Cnd, Prefix};
+pub use fault::NoCnd;
+pub use file::read_cnd;
+pub use printing::print_cnd;
