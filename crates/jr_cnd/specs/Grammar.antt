@@ -245,8 +245,12 @@ child_at s = do
 
 -- ---- types
 
+-- `-` begins a property, `+` a child
+abbrev pub begins_item : List Placed → Bool
+begins_item ps = sign_first sign.Minus ps || sign_first sign.Plus ps
+
 abbrev pub item_first : Items → List Placed → Bool
-item_first _ ps = sign_first sign.Minus ps || sign_first sign.Plus ps
+item_first _ ps = begins_item ps
 
 abbrev pub prop_more : Items → State → Read Items
 prop_more items s = do

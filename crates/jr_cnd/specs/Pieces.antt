@@ -1,5 +1,5 @@
 -- What each token of a text says.
-use Rattle.std.specs.Prelude.{◌≡◌, ℕ, ◌+◌, ◌-◌, Bool, true, false, ◌==◌, List, [], ◌∷◌, Option, None, Some, if◌then◌else◌, MatchOption, IsUtf8, length, take, drop}
+use Rattle.std.specs.Prelude.{◌≡◌, ℕ, ◌+◌, ◌-◌, Bool, true, false, ◌&&◌, ◌==◌, not, List, [], ◌∷◌, Option, None, Some, if◌then◌else◌, MatchOption, IsUtf8, length, take, drop}
 use Rattle.std.specs.Option.{option_map_or}
 use Rattle.jr_path.specs.Grammar.{IsName}
 use Rattle.jr_path.specs.declared.name.Name.{Name}
@@ -81,8 +81,7 @@ is_behind_less _ = false
 -- what is written in a text: without the backslash (92) before each quote and backslash
 abbrev pub unescaped : Bool → List ℕ → List ℕ
 unescaped escaped [] = []
-unescaped true (b ∷ bs) = b ∷ unescaped false bs
-unescaped false (b ∷ bs) = if b == 92 then unescaped true bs else b ∷ unescaped false bs
+unescaped escaped (b ∷ bs) = if not escaped && b == 92 then unescaped true bs else b ∷ unescaped false bs
 
 -- without the first and the last byte
 abbrev pub inner : List ℕ → List ℕ

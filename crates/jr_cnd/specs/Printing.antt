@@ -1,5 +1,6 @@
 -- The canonical text of type definitions.
 use Rattle.std.specs.Prelude.{ℕ, Bool, true, false, ◌&&◌, ◌||◌, ◌==◌, not, List, [], ◌∷◌, ◌++◌, Option, None, Some, if◌then◌else◌, codes, map}
+use Rattle.std.specs.Char.{encode_utf8}
 use Rattle.std.specs.Fmt.{signed_decimal}
 use Rattle.std.specs.List.{flat_map, list_all}
 use Rattle.base64.specs.Engines.{standard}
@@ -29,11 +30,15 @@ is_bare_name [] = false
 is_bare_name (b ∷ bs) = not (b == 45) && list_all is_bare (b ∷ bs)
 
 -- a quote (39) and a backslash (92) stand behind a backslash
-abbrev pub escaped_byte : ℕ → List ℕ
-escaped_byte b = if b == 39 || b == 92 then 92 ∷ b ∷ [] else b ∷ []
+abbrev pub escaped : ℕ → List ℕ
+escaped byte = if byte == 39 then codes "\\'" else (if byte == 92 then codes "\\\\" else byte ∷ [])
+
+-- the same of a character in UTF-8
+abbrev pub escaped_character : ℕ → List ℕ
+escaped_character c = if c == 39 then codes "\\'" else (if c == 92 then codes "\\\\" else encode_utf8 c)
 
 abbrev pub quoted : List ℕ → List ℕ
-quoted text = codes "'" ++ flat_map escaped_byte text ++ codes "'"
+quoted text = codes "'" ++ flat_map escaped text ++ codes "'"
 
 -- bare, where it can be
 abbrev pub name_text : Name → List ℕ

@@ -65,8 +65,9 @@ bare_from at (b ∷ bs) = if is_bare b then bare_from (at + 1) bs else at
 -- backslash, and nothing else.
 abbrev pub quote_from : Bool → ℕ → List ℕ → Option ℕ
 quote_from escaped at [] = None
-quote_from true at (b ∷ bs) = if b == 39 || b == 92 then quote_from false (at + 1) bs else None
-quote_from false at (b ∷ bs) = if b == 39 then Some (at + 1) else quote_from (b == 92) (at + 1) bs
+quote_from escaped at (b ∷ bs) =
+    if escaped then (if b == 39 || b == 92 then quote_from false (at + 1) bs else None)
+    else (if b == 39 then Some (at + 1) else quote_from (b == 92) (at + 1) bs)
 
 -- `<` 60, `>` 62, `=` 61, `,` 44, `(` 40, `)` 41, `[` 91, `]` 93, `-` 45, `+` 43, `*` 42, `!` 33
 abbrev pub sign_of : ℕ → Option Sign

@@ -1,5 +1,5 @@
 // A text cut into tokens, with what each says.
-ghost use Rattle.std.specs.Prelude.{◌≡◌, ◌==◌, ◌&&◌, ◌≤◌, IfOk, false, length};
+ghost use Rattle.std.specs.Prelude.{◌≡◌, ◌==◌, ◌&&◌, IfOk, false, not};
 ghost use Rattle.jr_cnd.specs.Pieces.{ArePieces, IsDefault, IsNameOrNone, IsReadAs, IsSaid, Means, content, inner, left_behind, place_behind, unescaped};
 
 use crate::context::Context;
@@ -19,6 +19,13 @@ fn inner(bytes: &[u8]) -> &[u8]
     }
 }
 
+// Whether the byte is a backslash before another byte.
+fn is_escape(escaped: bool, byte: u8) -> bool
+    ensures { result ≡ (not escaped && byte == 92) }
+{
+    !escaped && byte == b'\\'
+}
+
 // A text without the backslash before each quote and backslash.
 fn unescaped(alloc: Global, bytes: &[u8]) -> Result<Vec<u8>, AllocError>
     ensures { IfOk result (λ text. text.items ≡ unescaped false bytes.now) }
@@ -28,14 +35,12 @@ fn unescaped(alloc: Global, bytes: &[u8]) -> Result<Vec<u8>, AllocError>
     let mut escaped = false;
     while let [byte, more @ ..] = rest {
         rest = more;
-        if !escaped {
-            if *byte == b'\\' {
-                escaped = true;
-                continue;
-            }
+        if is_escape(escaped, *byte) {
+            escaped = true;
+            continue;
         }
-        escaped = false;
         text.push(*byte)?;
+        escaped = false;
     }
     Ok(text)
 }

@@ -2,9 +2,8 @@
 ghost use Rattle.std.specs.Prelude.{◌≡◌, ◌++◌, IfOk, OnOk, codes, map, string_bytes};
 ghost use Rattle.std.specs.Fmt.{signed_decimal};
 ghost use Rattle.std.specs.List.{flat_map, list_all};
-ghost use Rattle.std.specs.Str.{encode_utf8};
 ghost use Rattle.jr_value.specs.Json.{identifier_text};
-ghost use Rattle.jr_cnd.specs.Printing.{child_attributes, child_head, child_text, cnd_text, escaped_byte, is_bare_name, item_name_text, kind_word, list_behind, listed, name_behind, name_text, opv_part, prefix_text, prop_attributes, prop_head, prop_text, quoted, type_attributes, type_head, type_line, type_text, value_text, word_if};
+ghost use Rattle.jr_cnd.specs.Printing.{child_attributes, child_head, child_text, cnd_text, escaped, escaped_character, is_bare_name, item_name_text, kind_word, list_behind, listed, name_behind, name_text, opv_part, prefix_text, prop_attributes, prop_head, prop_text, quoted, type_attributes, type_head, type_line, type_text, value_text, word_if};
 ghost use Rattle.jr_cnd.specs.Tokens.{is_bare};
 
 use crate::scan::is_bare;
@@ -40,29 +39,32 @@ fn put_quoted(out: &mut Text, text: &str) -> Result<(), AllocError>
     ensures { OnOk result (out.new ≡ out.old ++ quoted text.now) }
 {
     out.push_str("'")?;
-    put_escaped(out, text)?;
+    put_escaped(out.inner_mut(), text)?;
     out.push_str("'")
 }
 
-fn put_escaped(out: &mut Text, text: &str) -> Result<(), AllocError>
-    ensures { OnOk result (out.new ≡ out.old ++ flat_map escaped_byte text.now) }
+fn put_escaped(out: &mut String, text: &str) -> Result<(), AllocError>
+    ensures { OnOk result (string_bytes out.new ≡ string_bytes out.old ++ flat_map escaped text.now) }
 {
     for c in text.chars() {
-        put_character(out.inner_mut(), c)?;
+        put_character(out, c)?;
     }
     Ok(())
 }
 
 fn put_character(out: &mut String, c: char) -> Result<(), AllocError>
-    ensures { OnOk result (string_bytes out.new ≡ string_bytes out.old ++ flat_map escaped_byte (encode_utf8 c)) }
+    ensures { OnOk result (string_bytes out.new ≡ string_bytes out.old ++ escaped_character c) }
 {
     if c == '\'' {
-        return out.push_str("\\'");
+        out.push_str("\\'")?;
+        return Ok(());
     }
     if c == '\\' {
-        return out.push_str("\\\\");
+        out.push_str("\\\\")?;
+        return Ok(());
     }
-    out.push(c)
+    out.push(c)?;
+    Ok(())
 }
 
 // A name, bare where it can be.
@@ -186,8 +188,8 @@ fn put_value(alloc: Global, out: &mut Text, value: &Value) -> Result<(), AllocEr
         Value::Boolean(truth) => put_quoted(out, if *truth { "true" } else { "false" }),
         Value::Name(name) => put_quoted(out, name.as_str()),
         Value::Path(path) => put_quoted(out, path.text()?.as_str()),
-        Value::Reference(id) => put_identifier(out, *id),
-        Value::WeakReference(id) => put_identifier(out, *id),
+        Value::Reference(id) => put_identifier(alloc, out, *id),
+        Value::WeakReference(id) => put_identifier(alloc, out, *id),
         Value::Uri(text) => put_quoted(out, text.as_str()),
     }
 }
@@ -206,12 +208,20 @@ fn put_number(alloc: Global, out: &mut Text, number: i64) -> Result<(), AllocErr
     put_quoted(out, text.as_str())
 }
 
-fn put_identifier(out: &mut Text, id: u128) -> Result<(), AllocError>
+fn put_identifier(alloc: Global, out: &mut Text, id: u128) -> Result<(), AllocError>
     ensures { OnOk result (out.new ≡ out.old ++ quoted (identifier_text id)) }
+{
+    let text = identifier_of(alloc, id)?;
+    put_quoted(out, text.as_str())
+}
+
+// The hyphenated text of an identifier, in lower case.
+fn identifier_of(alloc: Global, id: u128) -> Result<String, AllocError>
+    ensures { IfOk result (λ text. string_bytes text ≡ identifier_text id) }
 {
     let mut buffer = Uuid::encode_buffer();
     let text = Uuid::from_u128(id).hyphenated().encode_lower(&mut buffer);
-    put_quoted(out, text)
+    String::from_str(alloc, text)
 }
 
 // Values in quotes with commas between.

@@ -1,5 +1,5 @@
 // What stands at the front of some bytes: white space and comments, or a token.
-ghost use Rattle.std.specs.Prelude.{◌≡◌, ◌&&◌, ◌||◌, ◌==◌, ◌<◌, ◌≤◌, IfSome, false, length, not};
+ghost use Rattle.std.specs.Prelude.{◌≡◌, ◌&&◌, ◌||◌, ◌==◌, ◌+◌, ◌<◌, ◌≤◌, IfSome, false, length};
 ghost use Rattle.jr_cnd.specs.Tokens.{bare_from, begins_bare, first_token, gap_after, gap_end, gap_from, gap_size, gap_slash, is_bare, is_space, next_is, quote_from, sign_of};
 
 use crate::piece::{Sign, TokenKind};

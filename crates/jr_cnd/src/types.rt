@@ -3,7 +3,7 @@ ghost use Rattle.std.specs.Prelude.{◌≡◌, IfOk, not};
 ghost use Rattle.std.specs.List.{filter};
 ghost use Rattle.jr_items.specs.Items.{same_name};
 ghost use Rattle.jr_items.specs.Names.{base_type};
-ghost use Rattle.jr_cnd.specs.Grammar.{child_more, item_first, item_more, items_at, kept_supertypes, lacking, lacks, primary_item_at, prop_more, supertypes_at, type_at, type_attribute_more, type_attributes_at, type_name_at, type_word_first, type_word_in, with_type_word};
+ghost use Rattle.jr_cnd.specs.Grammar.{begins_item, child_more, item_more, items_at, kept_supertypes, lacking, lacks, primary_item_at, prop_more, supertypes_at, type_at, type_attribute_more, type_attributes_at, type_name_at, type_word_first, type_word_in, with_type_word};
 ghost use Rattle.jr_cnd.specs.Reading.{Reads};
 
 use crate::NoCnd;
@@ -223,7 +223,7 @@ impl<'a> Cursor<'a> {
     }
 
     fn begins_item(&self) -> bool
-        ensures { (items : _) → result ≡ item_first items self.now.pieces }
+        ensures { result ≡ begins_item self.now.pieces }
     {
         self.is_sign(Sign::Minus) || self.is_sign(Sign::Plus)
     }
