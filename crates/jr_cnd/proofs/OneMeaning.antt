@@ -102,7 +102,7 @@ abbrev Follows : Context → ℕ → List ℕ → Placed → List Placed → Opt
 Follows c at bs p ps o = MatchOption o
     ((p.says ≡ says.Nothing) × (ps ≡ []) × (bs ≡ [] → ⊥))
     (λ t. Means c t.0 (content t.0 (take t.1 bs)) p.says
-        × ArePieces (context_after c p.says) (place_behind at t.1 bs) (left_behind t.1 bs) ps)
+    × ArePieces (context_after c p.says) (place_behind at t.1 bs) (left_behind t.1 bs) ps)
 
 no_token : (c : Context) (at : ℕ) (p : Placed) (ps : List Placed) → Follows c at [] p ps (first_token (is_behind_less c) []) → ⊥
 no_token c at p ps h = h.2 refl

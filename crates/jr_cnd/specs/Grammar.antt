@@ -196,17 +196,20 @@ prop_at s = do
   d ← defaults_at k.1
   a ← item_attributes_at true d.1
   c ← constraints_at a.1
-  Ok (record {
-    name = n.0;
-    kind = k.0;
-    mandatory = a.0.mandatory;
-    autocreated = a.0.autocreated;
-    protected = a.0.protected;
-    multiple = a.0.multiple;
-    defaults = d.0;
-    constraints = c.0;
-    opv = opv_of a.0;
-  }, c.1)
+  Ok (
+    record {
+      name = n.0;
+      kind = k.0;
+      mandatory = a.0.mandatory;
+      autocreated = a.0.autocreated;
+      protected = a.0.protected;
+      multiple = a.0.multiple;
+      defaults = d.0;
+      constraints = c.0;
+      opv = opv_of a.0;
+    },
+    c.1,
+  )
 
 -- ---- children
 
@@ -233,15 +236,18 @@ child_at s = do
   t ← types_at n.1
   d ← default_type_at t.1
   a ← item_attributes_at false d.1
-  Ok (record {
-    name = n.0;
-    types = t.0;
-    default_type = d.0;
-    mandatory = a.0.mandatory;
-    autocreated = a.0.autocreated;
-    protected = a.0.protected;
-    opv = opv_of a.0;
-  }, a.1)
+  Ok (
+    record {
+      name = n.0;
+      types = t.0;
+      default_type = d.0;
+      mandatory = a.0.mandatory;
+      autocreated = a.0.autocreated;
+      protected = a.0.protected;
+      opv = opv_of a.0;
+    },
+    a.1,
+  )
 
 -- ---- types
 
@@ -340,16 +346,19 @@ type_at s = do
   u ← supertypes_at n.1
   a ← type_attributes_at u.1
   i ← items_at a.1
-  Ok (record {
-    name = n.0;
-    supertypes = kept_supertypes a.0.mixin u.0;
-    is_abstract = a.0.is_abstract;
-    mixin = a.0.mixin;
-    orderable = a.0.orderable;
-    primary_item = a.0.primary_item;
-    props = i.0.props;
-    children = i.0.children;
-  }, i.1)
+  Ok (
+    record {
+      name = n.0;
+      supertypes = kept_supertypes a.0.mixin u.0;
+      is_abstract = a.0.is_abstract;
+      mixin = a.0.mixin;
+      orderable = a.0.orderable;
+      primary_item = a.0.primary_item;
+      props = i.0.props;
+      children = i.0.children;
+    },
+    i.1,
+  )
 
 -- ---- the whole text
 

@@ -130,9 +130,9 @@ abbrev pub ArePieces : Context → ℕ → List ℕ → List Placed → Type 0
 ArePieces c at bs [] = bs ≡ []
 ArePieces c at bs (p ∷ ps) =
     (p.start ≡ at) × MatchOption (first_token (is_behind_less c) bs)
-        ((p.says ≡ says.Nothing) × (ps ≡ []) × (bs ≡ [] → ⊥))
-        (λ t. Means c t.0 (content t.0 (take t.1 bs)) p.says
-            × ArePieces (context_after c p.says) (place_behind at t.1 bs) (left_behind t.1 bs) ps)
+    ((p.says ≡ says.Nothing) × (ps ≡ []) × (bs ≡ [] → ⊥))
+    (λ t. Means c t.0 (content t.0 (take t.1 bs)) p.says
+    × ArePieces (context_after c p.says) (place_behind at t.1 bs) (left_behind t.1 bs) ps)
 
 -- what a text says, token by token
 abbrev pub IsReadAs : List ℕ → List Placed → Type 0

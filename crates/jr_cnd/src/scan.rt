@@ -73,10 +73,18 @@ impl Gap {
                 if byte == b'/' {
                     return gap_slash(at, rest);
                 }
-                if is_space(byte) { Some(Gap::Space) } else { None }
+                if is_space(byte) {
+                    Some(Gap::Space)
+                } else {
+                    None
+                }
             }
             Gap::Line => {
-                if byte == b'\n' { Some(Gap::Space) } else { Some(Gap::Line) }
+                if byte == b'\n' {
+                    Some(Gap::Space)
+                } else {
+                    Some(Gap::Line)
+                }
             }
             Gap::Opening(begun) => Some(Gap::Block(begun)),
             Gap::Block(begun) => {

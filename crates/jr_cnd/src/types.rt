@@ -47,7 +47,13 @@ fn lacking(attributes: &TypeAttributes, word: Option<TypeWord>) -> Option<TypeWo
     ensures { result ≡ lacking attributes.now word }
 {
     match word {
-        Some(word) => { if lacks(attributes, word) { Some(word) } else { None } }
+        Some(word) => {
+            if lacks(attributes, word) {
+                Some(word)
+            } else {
+                None
+            }
+        }
         None => None,
     }
 }
@@ -74,11 +80,7 @@ fn type_word_first(attributes: &TypeAttributes, pieces: &[Placed]) -> Option<Typ
 }
 
 // The supertypes that a definition keeps: without `nt:base`, unless it is a mixin's.
-fn kept_supertypes(
-    alloc: Global,
-    mixin: bool,
-    names: List<Name>,
-) -> Result<List<Name>, AllocError>
+fn kept_supertypes(alloc: Global, mixin: bool, names: List<Name>) -> Result<List<Name>, AllocError>
     ensures { IfOk result (λ kept. kept ≡ kept_supertypes mixin names) }
 {
     if mixin {
