@@ -6,7 +6,7 @@ ghost use Rattle.jr_value.specs.Values.{same_bytes};
 ghost use Rattle.jr_items.specs.Items.{has_mixin, is_flag, upward};
 ghost use Rattle.jr_items.specs.Names.{is_checked_out, mixin_types};
 ghost use Rattle.jr_tree.specs.Trees.{property_at};
-ghost use Rattle.jcr_lock.specs.Locks.{bars, frozen_by, is_held, is_lock, lock_covers, locked_by};
+ghost use Rattle.jcr_lock.specs.Locks.{bars, frozen_by, is_deep_lock, is_held, is_lock, lock_covers, locked_by};
 ghost use Rattle.jcr_lock.specs.Names.{lock_names};
 
 use jr_items::{OwnName, has_mixin, is_flag, is_same_text, one_text, upward};
@@ -89,22 +89,22 @@ pub(crate) fn covering_lock(
     ensures { IfOk result (λ found. found ≡ find (λ q. lock_covers tree.now q path.now) (upward path.now)) }
 {
     for at in &upward(alloc, path)? {
-        if covers(tree, names, at, path) {
+        if lock_covers(tree, names, at, path) {
             return Ok(Some(at.copy()?));
         }
     }
     Ok(None)
 }
 
-// The names of a lock's two properties.
+/// The names of a lock's two properties, which a caller makes once for many questions.
 #[derive(Drop)]
-pub(crate) struct LockNames {
-    pub(crate) owner: Name,
-    pub(crate) is_deep: Name,
+pub struct LockNames {
+    pub owner: Name,
+    pub is_deep: Name,
 }
 
 impl LockNames {
-    pub(crate) fn new(alloc: Global) -> Result<LockNames, AllocError>
+    pub fn new(alloc: Global) -> Result<LockNames, AllocError>
         ensures { IfOk result (λ names. names ≡ lock_names) }
     {
         Ok(LockNames {
@@ -122,8 +122,16 @@ pub(crate) fn is_lock(tree: &Tree, names: &LockNames, at: &Path) -> bool
     tree.property(at, &names.owner).is_some()
 }
 
-// Whether the lock of the one node covers the other.
-pub(crate) fn covers(tree: &Tree, names: &LockNames, at: &Path, path: &Path) -> bool
+/// Whether the node holds a lock that covers what is below it too.
+pub fn is_deep_lock(tree: &Tree, names: &LockNames, at: &Path) -> bool
+    requires { names.now ≡ lock_names }
+    ensures { result ≡ is_deep_lock tree.now at.now }
+{
+    is_lock(tree, names, at) && is_flag(true, tree.property(at, &names.is_deep))
+}
+
+/// Whether the first node holds a lock that covers the second: a shallow lock covers its node, a deep one the subtree.
+pub fn lock_covers(tree: &Tree, names: &LockNames, at: &Path, path: &Path) -> bool
     requires { names.now ≡ lock_names }
     ensures { result ≡ lock_covers tree.now at.now path.now }
 {
@@ -166,5 +174,5 @@ fn bars(tree: &Tree, names: &LockNames, tokens: &[String], at: &Path, path: &Pat
     requires { names.now ≡ lock_names }
     ensures { result ≡ bars tree.now path.now (map string_bytes tokens.now) at.now }
 {
-    covers(tree, names, at, path) && !is_held(tree, names, tokens, at)
+    lock_covers(tree, names, at, path) && !is_held(tree, names, tokens, at)
 }

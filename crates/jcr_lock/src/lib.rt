@@ -4,5 +4,5 @@
 mod covers;
 mod edits;
 
-pub use covers::{frozen_by, locked_by};
+pub use covers::{LockNames, frozen_by, is_deep_lock, lock_covers, locked_by};
 pub use edits::{lock_edit, unlock_edit};

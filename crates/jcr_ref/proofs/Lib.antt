@@ -3,3 +3,4 @@ mod UuidText
 mod PathNamed
 mod Index
 mod Pushed
+mod FirstNodes

@@ -10,15 +10,22 @@ use Rattle.jr_items.specs.Items.{first_of}
 use Rattle.jr_types.specs.Types.{NodeTypes, types_of, prop_def, child_def, child_defs}
 use Rattle.jr_types.specs.Rules.{Child}
 
--- the attribute of a property of a node of these types passes the test; a property without a definition passes none
-abbrev pub property_passes : (OnParentVersion → Bool) → List TypeDef → NodeTypes → Name → Option Property → Bool
-property_passes test types its n o = option_map_or (λ d. test d.opv) (option_and_then (prop_def (types_of types its) n) o) false
+-- the attribute of a property of a node of these types passes the test; a property without a
+-- definition passes none
+abbrev pub property_passes : (OnParentVersion → Bool) → List TypeDef → NodeTypes → Name
+    → Option Property → Bool
+property_passes test types its n o =
+    option_map_or (λ d. test d.opv) (option_and_then (prop_def (types_of types its) n) o) false
 
--- the attribute of a child of a node of these types passes the test; a child without a definition passes none
-abbrev pub child_passes : (OnParentVersion → Bool) → List TypeDef → NodeTypes → Name → Option Child → Bool
-child_passes test types its n o = option_map_or (λ d. test d.opv) (option_and_then (child_def types (types_of types its) n) o) false
+-- the attribute of a child of a node of these types passes the test; a child without a definition
+-- passes none
+abbrev pub child_passes : (OnParentVersion → Bool) → List TypeDef → NodeTypes → Name
+    → Option Child → Bool
+child_passes test types its n o = option_map_or (λ d. test d.opv)
+    (option_and_then (child_def types (types_of types its) n) o) false
 
--- the type of a child of that name that is added without a type: the first that a definition gives that counts for it
+-- the type of a child of that name that is added without a type: the first that a definition gives
+-- that counts for it
 abbrev pub default_type : List TypeDef → Name → Option Name
 default_type ds n = first_of (filter_map (λ d. d.default_type) (child_defs ds n))
 

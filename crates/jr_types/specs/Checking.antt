@@ -24,19 +24,25 @@ use Rattle.jr_types.specs.Violations.{Violation}
 
 -- what a node says of its types
 abbrev pub types_said : Node → NodeTypes
-types_said node = record { primary = property_of node primary_type; mixins = property_of node mixin_types }
+types_said node = record {
+  primary = property_of node primary_type;
+  mixins = property_of node mixin_types;
+}
 
 -- those of the definitions that count for a property of that name
 abbrev pub counting_props : List PropDef → Name → List PropDef
-counting_props all n = either_of (filter (λ d. is_named n d.name) all) (filter (λ d. is_none d.name) all)
+counting_props all n = either_of (filter (λ d. is_named n d.name) all)
+    (filter (λ d. is_none d.name) all)
 
 -- those of the definitions that count for a child of that name
 abbrev pub counting_children : List ChildDef → Name → List ChildDef
-counting_children all n = either_of (filter (λ d. is_named n d.name) all) (filter (λ d. is_none d.name) all)
+counting_children all n = either_of (filter (λ d. is_named n d.name) all)
+    (filter (λ d. is_none d.name) all)
 
 -- the first rule that a node breaks by its property of that name, or by having none
 abbrev pub property_rule : List TypeDef → Node → Name → Option ℕ
-property_rule types node n = first_of (property_faults types (types_said node) n (property_of node n))
+property_rule types node n = first_of
+    (property_faults types (types_said node) n (property_of node n))
 
 -- the first rule that a node breaks by its child of that name, or by having none
 abbrev pub child_rule : List TypeDef → Nodes → Path → Name → Option ℕ
@@ -46,7 +52,8 @@ child_rule types t p n = first_of (child_faults types (node_types t p) n (child_
 abbrev pub definition_rule : List PropDef → Property → Option ℕ
 definition_rule counting x =
     let fitting = filter (λ d. fits d x) counting in
-    cond (is_empty counting) (Some 3) (cond (is_empty fitting) (Some 4) (cond (list_any (λ d. admits d x) fitting) None (Some 5)))
+    cond (is_empty counting) (Some 3)
+    (cond (is_empty fitting) (Some 4) (cond (list_any (λ d. admits d x) fitting) None (Some 5)))
 
 -- breaks are ordered by rule, and then by item
 abbrev pub break_cmp : Break → Break → Ordering
@@ -56,7 +63,8 @@ break_cmp = then_cmp (on (λ b. b.rule) nat_cmp) (on (λ b. b.item) name_cmp)
 abbrev pub earlier : Option Break → Option ℕ → Name → Option Break
 earlier b None n = b
 earlier None (Some rule) n = Some (record { rule = rule; item = n })
-earlier (Some b) (Some rule) n = cond (is_lt (break_cmp (record { rule = rule; item = n }) b)) (Some (record { rule = rule; item = n })) (Some b)
+earlier (Some b) (Some rule) n = cond (is_lt (break_cmp (record { rule = rule; item = n }) b))
+    (Some (record { rule = rule; item = n })) (Some b)
 
 -- the first break at these items, by rule and then by item
 abbrev pub first_break : (Name → Option ℕ) → List Name → Option Break
@@ -65,7 +73,9 @@ first_break rule_of ns = fold (λ b n. earlier b (rule_of n) n) None ns
 -- no rule and item come before the break, or no rule fails at any item
 abbrev pub IsFirstBreak : (Name → Option ℕ) → Option Break → Type 0
 IsFirstBreak rule_of None = (n : Name) → rule_of n ≡ None
-IsFirstBreak rule_of (Some b) = (rule_of b.item ≡ Some b.rule) × ((n : Name) (rule : ℕ) → rule_of n ≡ Some rule → is_lt (break_cmp (record { rule = rule; item = n }) b) ≡ false)
+IsFirstBreak rule_of (Some b) = (rule_of b.item ≡ Some b.rule)
+    × ((n : Name) (rule : ℕ) → rule_of n ≡ Some rule
+    → is_lt (break_cmp (record { rule = rule; item = n }) b) ≡ false)
 
 -- what is told of a break at a node, unless memory was refused
 abbrev pub IsViolation : Path → Break → TypesOut → Type 0
@@ -74,5 +84,6 @@ IsViolation p b out.Memory = Unit {0}
 
 -- the first of the violations, or memory was refused
 abbrev pub IsFirstOf : List Violation → TypesOut → Type 0
-IsFirstOf violations (out.Violation node item rule) = first_of violations ≡ Some (record { node = node; rule = rule; item = item })
+IsFirstOf violations (out.Violation node item rule) =
+    first_of violations ≡ Some (record { node = node; rule = rule; item = item })
 IsFirstOf violations out.Memory = Unit {0}

@@ -29,7 +29,8 @@ is_in_64_bits z = int_le (negsuc (2 ^ 63 - 1)) z && int_le z (pos (2 ^ 63 - 1))
 
 -- a whole number of 64 bits, as digits behind an optional minus sign
 abbrev pub number_in : List ℕ → Option ℤ
-number_in bs = cond (are_digits (without_minus bs) && is_in_64_bits (signed_digits_value 10 bs)) (Some (signed_digits_value 10 bs)) None
+number_in bs = cond (are_digits (without_minus bs) && is_in_64_bits (signed_digits_value 10 bs))
+    (Some (signed_digits_value 10 bs)) None
 
 -- what stands at an end of a range: nothing, or a number
 abbrev pub bound_in : List ℕ → Option (Option ℤ)
@@ -40,15 +41,18 @@ bound_in (c ∷ cs) = option_map Some (number_in (c ∷ cs))
 abbrev pub range_between : Bool → List ℕ → Bool → Option Range
 range_between low_open inner high_open =
     option_and_then (λ comma.
-    option_and_then (λ low. option_map (λ high. record { low_open = low_open; low = low; high = high; high_open = high_open })
-    (bound_in (drop (comma + 1) inner))) (bound_in (take comma inner))) (position (λ c. c == 44) inner)
+    option_and_then (λ low. option_map
+    (λ high. record { low_open = low_open; low = low; high = high; high_open = high_open })
+    (bound_in (drop (comma + 1) inner))) (bound_in (take comma inner)))
+    (position (λ c. c == 44) inner)
 
 -- the range that a text is: `[` or `(`, an end, a comma, an end, `]` or `)`
 abbrev pub range_in : List ℕ → Option Range
 range_in bs =
     let first = slice_index bs 0 in
     let last = slice_index bs (length bs - 1) in
-    cond ((first == 91 || first == 40) && (last == 93 || last == 41)) (range_between (first == 40) (slice_range bs 1 (length bs - 1)) (last == 41)) None
+    cond ((first == 91 || first == 40) && (last == 93 || last == 41))
+    (range_between (first == 40) (slice_range bs 1 (length bs - 1)) (last == 41)) None
 
 -- the number stands in the range
 abbrev pub is_within : Range → ℤ → Bool
@@ -60,7 +64,8 @@ is_within r z =
 abbrev pub ranges_over : List ℕ → ℤ → Bool
 ranges_over c z = option_map_or (λ r. is_within r z) (range_in c) false
 
--- a value meets a constraint: a range for numbers and for a binary's length, the printed text for others, and none for references
+-- a value meets a constraint: a range for numbers and for a binary's length, the printed text for
+-- others, and none for references
 abbrev pub meets : Value → List ℕ → Bool
 meets (value.Long z) c = ranges_over c z
 meets (value.Date z) c = ranges_over c z
@@ -75,7 +80,8 @@ meets (value.WeakReference id) c = false
 
 -- the definition has no constraints, or each value meets one of them
 abbrev pub admits : PropDef → Property → Bool
-admits d x = is_empty d.constraints || list_all (λ v. list_any (meets v) d.constraints) (values_in x)
+admits d x = is_empty d.constraints
+    || list_all (λ v. list_any (meets v) d.constraints) (values_in x)
 
 -- a literal text has none of `. * + ? [ ] ( ) { } | ^ $ \`
 abbrev pub is_plain : List ℕ → Bool

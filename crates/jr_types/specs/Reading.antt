@@ -103,15 +103,18 @@ is_object_of keys _ = false
 
 -- the keys that the definition of a property may have
 abbrev pub prop_keys : List (List ℕ)
-prop_keys = codes "name" ∷ codes "type" ∷ codes "mandatory" ∷ codes "autocreated" ∷ codes "protected" ∷ codes "multiple" ∷ codes "defaults" ∷ codes "constraints" ∷ codes "opv" ∷ []
+prop_keys = codes "name" ∷ codes "type" ∷ codes "mandatory" ∷ codes "autocreated"
+    ∷ codes "protected" ∷ codes "multiple" ∷ codes "defaults" ∷ codes "constraints" ∷ codes "opv" ∷ []
 
 -- the keys that the definition of a child may have
 abbrev pub child_keys : List (List ℕ)
-child_keys = codes "name" ∷ codes "types" ∷ codes "default" ∷ codes "mandatory" ∷ codes "autocreated" ∷ codes "protected" ∷ codes "opv" ∷ []
+child_keys = codes "name" ∷ codes "types" ∷ codes "default" ∷ codes "mandatory"
+    ∷ codes "autocreated" ∷ codes "protected" ∷ codes "opv" ∷ []
 
 -- the keys that the definition of a type may have
 abbrev pub type_keys : List (List ℕ)
-type_keys = codes "name" ∷ codes "supertypes" ∷ codes "abstract" ∷ codes "mixin" ∷ codes "orderable" ∷ codes "primaryItem" ∷ codes "props" ∷ codes "children" ∷ []
+type_keys = codes "name" ∷ codes "supertypes" ∷ codes "abstract" ∷ codes "mixin" ∷ codes "orderable"
+    ∷ codes "primaryItem" ∷ codes "props" ∷ codes "children" ∷ []
 
 -- the JSON is the definition of a property
 pub record IsPropJson (json : Data) (p : PropDef) : Type 0 where

@@ -46,7 +46,8 @@ pub record AreAbove (types : List TypeDef) (names : List Name) (places : List �
 
 -- the new types are the old ones with the types of these names and all their supertypes behind them
 abbrev pub IsFurther : List TypeDef → List TypeDef → List Name → List TypeDef → Type 0
-IsFurther types old names new = (before : List Name) → IsAlike old (flat_map (lineage types) before) → IsAlike new (flat_map (lineage types) (before ++ names))
+IsFurther types old names new = (before : List Name) → IsAlike old (flat_map (lineage types) before)
+    → IsAlike new (flat_map (lineage types) (before ++ names))
 
 -- places with one more, unless it is among them
 abbrev pub with_place : List ℕ → ℕ → List ℕ
@@ -58,7 +59,8 @@ IsTypeFault broken (BadType rule) = broken ≡ Some rule
 IsTypeFault broken Memory = Unit {0}
 
 -- what the registry keeps: each type under its name with its line, and what each check asks for
-pub record IsKept (entries : List (String Global × Registered)) (primary mixins : Name) (order : PropDef) : Type 0 where
+pub record IsKept (entries : List (String Global × Registered)) (primary mixins : Name)
+    (order : PropDef) : Type 0 where
   pub types : All (IsRegistered (definitions entries)) entries
   pub primary_is : primary ≡ primary_type
   pub mixins_is : mixins ≡ mixin_types

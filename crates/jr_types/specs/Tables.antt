@@ -8,7 +8,8 @@ use Rattle.jr_types.specs.declared.PropDef.{PropDef}
 use Rattle.jr_types.specs.declared.ChildDef.{ChildDef}
 use Rattle.jr_types.specs.declared.builtin.Flags.{Flags}
 
--- a property of this name, or any other, of this kind, or any, with this truth value by default, or none
+-- a property of this name, or any other, of this kind, or any, with this truth value by default, or
+-- none
 abbrev pub prop_of : Option Name → Option Kind → Option Bool → Flags → PropDef
 prop_of name kind default flags = record {
   name = name;

@@ -23,10 +23,15 @@ type_named types n = find (λ d. same_name d.name n) types
 abbrev pub supertypes_of : TypeDef → List Name
 supertypes_of d = d.supertypes ++ cond d.mixin [] (base_type ∷ [])
 
--- a type and all its supertypes, among types from the last to the first: each stands behind its supertypes
+-- a type and all its supertypes, among types from the last to the first: each stands behind its
+-- supertypes
 abbrev pub lineage_among : List TypeDef → Name → List TypeDef
 lineage_among [] n = []
-lineage_among (d ∷ older) n = elim (same_name d.name n) [ true ↦ d ∷ flat_map (lineage_among older) (supertypes_of d) | false ↦ lineage_among older n ]
+lineage_among (d ∷ older) n = elim
+    (same_name d.name n) [
+      | true ↦ d ∷ flat_map (lineage_among older) (supertypes_of d)
+      | false ↦ lineage_among older n
+    ]
 
 -- a type and all its supertypes, each followed by its own
 abbrev pub lineage : List TypeDef → Name → List TypeDef
@@ -47,11 +52,23 @@ pub record NodeTypes : Type 0 where
 
 -- the types that count for a node: its primary type, its mixins and all their supertypes
 abbrev pub types_of : List TypeDef → NodeTypes → List TypeDef
-types_of types its = flat_map (lineage types) (option_to_list (one_name its.primary) ++ many_names its.mixins)
+types_of types its = flat_map (lineage types)
+    (option_to_list (one_name its.primary) ++ many_names its.mixins)
 
 -- the order of children, as each orderable type tells it without saying so
 abbrev pub order_def : PropDef
-order_def = record { name = Some child_order; kind = Some kind.Name; mandatory = false; autocreated = false; protected = true; multiple = true; defaults = []; constraints = []; opv = opv.Copy }
+order_def = record {
+  name = Some child_order;
+  kind = Some kind.Name;
+  mandatory = false;
+  autocreated = false;
+  protected = true;
+  multiple = true;
+  defaults = [];
+  constraints =
+      [];
+  opv = opv.Copy;
+}
 
 -- what a type says of properties: first the order of children, where it is orderable
 abbrev pub props_of : TypeDef → List PropDef
@@ -68,33 +85,40 @@ is_named n o = option_map_or (same_name n) o false
 
 -- the definitions that count for a property: those of its name, or else those of no name
 abbrev pub prop_defs : List TypeDef → Name → List PropDef
-prop_defs ds n = let all = flat_map props_of ds in either_of (filter (λ d. is_named n d.name) all) (filter (λ d. is_none d.name) all)
+prop_defs ds n = let all = flat_map props_of ds in
+    either_of (filter (λ d. is_named n d.name) all) (filter (λ d. is_none d.name) all)
 
 -- the definitions that count for a child: those of its name, or else those of no name
 abbrev pub child_defs : List TypeDef → Name → List ChildDef
-child_defs ds n = let all = flat_map (λ d. d.children) ds in either_of (filter (λ d. is_named n d.name) all) (filter (λ d. is_none d.name) all)
+child_defs ds n = let all = flat_map (λ d. d.children) ds in
+    either_of (filter (λ d. is_named n d.name) all) (filter (λ d. is_none d.name) all)
 
 -- a property has a list of values
 abbrev pub is_multiple : Property → Bool
 is_multiple (Single x) = false
 is_multiple (Many k xs) = true
 
--- a property has the definition's kind, where it requires one, and is single or multiple as it requires
+-- a property has the definition's kind, where it requires one, and is single or multiple as it
+-- requires
 abbrev pub fits : PropDef → Property → Bool
-fits d (Single x) = not d.multiple && option_map_or (λ k. kind_number k == kind_number (kind_of x)) d.kind true
+fits d (Single x) = not d.multiple
+    && option_map_or (λ k. kind_number k == kind_number (kind_of x)) d.kind true
 fits d (Many k xs) = d.multiple && option_map_or (λ l. kind_number l == kind_number k) d.kind true
 
 -- a child of that primary type is of each of the definition's required types
 abbrev pub fits_child : List TypeDef → ChildDef → Option Property → Bool
-fits_child types d primary = option_map_or (λ n. list_all (is_a types n) d.types) (one_name primary) false
+fits_child types d primary = option_map_or (λ n. list_all (is_a types n) d.types)
+    (one_name primary) false
 
 -- the definition of a property: the first that it fits, or else the first
 abbrev pub prop_def : List TypeDef → Name → Property → Option PropDef
-prop_def ds n x = let counting = prop_defs ds n in option_or (find (λ d. fits d x) counting) (first_of counting)
+prop_def ds n x = let counting =
+    prop_defs ds n in option_or (find (λ d. fits d x) counting) (first_of counting)
 
 -- the definition of a child: the first that it fits, or else the first
 abbrev pub child_def : List TypeDef → List TypeDef → Name → Option Property → Option ChildDef
-child_def types ds n primary = let counting = child_defs ds n in option_or (find (λ d. fits_child types d primary) counting) (first_of counting)
+child_def types ds n primary = let counting = child_defs ds n in
+    option_or (find (λ d. fits_child types d primary) counting) (first_of counting)
 
 -- the attribute is this one
 abbrev pub is_opv : OnParentVersion → OnParentVersion → Bool

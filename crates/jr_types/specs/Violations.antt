@@ -17,23 +17,31 @@ pub record Violation : Type 0 where
   pub rule : ℕ
   pub item : Name
 
--- the names of properties at which a rule may fail at a node: its own, those of its types, and the mandatory ones
+-- the names of properties at which a rule may fail at a node: its own, those of its types, and the
+-- mandatory ones
 abbrev pub property_names : List TypeDef → Nodes → Path → List Name
-property_names types t p = in_name_order (primary_type ∷ mixin_types ∷ map (λ e. e.0) (properties_at t p) ++ mandatory_props (types_of types (node_types t p)))
+property_names types t p = in_name_order
+    (primary_type ∷ mixin_types ∷ map (λ e. e.0) (properties_at t p)
+    ++ mandatory_props (types_of types (node_types t p)))
 
 -- the names of children at which a rule may fail at a node: its own, and the mandatory ones
 abbrev pub child_names : List TypeDef → Nodes → Path → List Name
-child_names types t p = in_name_order (children_of t p ++ mandatory_children (types_of types (node_types t p)))
+child_names types t p = in_name_order
+    (children_of t p ++ mandatory_children (types_of types (node_types t p)))
 
 -- the properties and the children of a node at which a rule fails, by name
 abbrev pub failing_at : List TypeDef → Nodes → Path → ℕ → List Name
 failing_at types t p rule =
-    filter (λ n. list_any (λ r. r == rule) (property_faults types (node_types t p) n (property_at t p n))) (property_names types t p)
-    ++ filter (λ n. list_any (λ r. r == rule) (child_faults types (node_types t p) n (child_at t p n))) (child_names types t p)
+    filter (λ n. list_any (λ r. r == rule)
+    (property_faults types (node_types t p) n (property_at t p n))) (property_names types t p)
+    ++ filter (λ n. list_any (λ r. r == rule)
+    (child_faults types (node_types t p) n (child_at t p n))) (child_names types t p)
 
 -- what fails at a node, by rule, then by item
 abbrev pub violations_at : List TypeDef → Nodes → Path → List Violation
-violations_at types t p = flat_map (λ rule. map (λ n. record { node = p; rule = rule; item = n }) (failing_at types t p rule)) (1 ∷ 2 ∷ 3 ∷ 4 ∷ 5 ∷ 6 ∷ 7 ∷ 8 ∷ 9 ∷ [])
+violations_at types t p = flat_map
+    (λ rule. map (λ n. record { node = p; rule = rule; item = n }) (failing_at types t p rule))
+    (1 ∷ 2 ∷ 3 ∷ 4 ∷ 5 ∷ 6 ∷ 7 ∷ 8 ∷ 9 ∷ [])
 
 -- what fails in a tree, in path order, then by rule, then by item
 abbrev pub violations : List TypeDef → Nodes → List Violation

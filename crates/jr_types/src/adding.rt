@@ -21,8 +21,9 @@ use thiserror::Error;
 /// Why a type isn't registered.
 #[derive(Clone, Copy, Debug, PartialEq, Eq, Drop, Error)]
 pub enum TypeFault {
-    /// The first of these rules that its definition breaks: 1 the name isn't registered, 2 each supertype is, 3 those of a
-    /// mixin are mixins, 4 its properties may have their constraints, 5 it doesn't define the order of children.
+    /// The first of these rules that its definition breaks: 1 the name isn't registered, 2 each
+    /// supertype is, 3 those of a mixin are mixins, 4 its properties may have their constraints, 5
+    /// it doesn't define the order of children.
     #[error("the definition breaks rule {0}")]
     BadType(u8),
     /// Memory was refused.
@@ -47,7 +48,8 @@ impl<T: Drop> From<AllocFailed<T>> for TypeFault {
 }
 
 impl Registry {
-    /// Registers a type behind the others (JSR 283, 19 Node Type Management). After a refusal the registry is as it was.
+    /// Registers a type behind the others (JSR 283, 19 Node Type Management). After a refusal the
+    /// registry is as it was.
     pub fn add(&mut self, definition: TypeDef) -> Result<(), TypeFault>
         ensures ok { OnOk result (self.new ≡ self.old ++ definition ∷ []) }
         ensures lawful { OnOk result (type_fault self.old definition ≡ None) }
@@ -94,7 +96,8 @@ impl Registry {
 
     // Whether a mixin has a supertype that is none.
     fn is_misplaced(&self, definition: &TypeDef) -> bool
-        ensures { result ≡ (definition.now.mixin && list_any (λ n. not (is_mixin self.now n)) definition.now.supertypes) }
+        ensures { result ≡ (definition.now.mixin
+            && list_any (λ n. not (is_mixin self.now n)) definition.now.supertypes) }
     {
         if !definition.mixin {
             return false;
@@ -111,7 +114,8 @@ impl Registry {
 
     // The places of a new type and of all its supertypes, each once.
     fn line_of(&self, definition: &TypeDef) -> Result<List<usize>, AllocError>
-        ensures { IfOk result (λ line. (above : _) × (line ≡ length self.now ∷ above) × AreAbove self.now (supertypes_of definition.now) above) }
+        ensures { IfOk result (λ line. (above : _) × (line ≡ length self.now ∷ above)
+            × AreAbove self.now (supertypes_of definition.now) above) }
     {
         let above = self.above(definition)?;
         let mut line = List::new(self.alloc);
@@ -139,7 +143,8 @@ impl Registry {
 
     // Puts the places of a type and its supertypes behind those that are there.
     fn add_places_of(&self, above: &mut List<usize>, name: &str) -> Result<(), AllocError>
-        ensures { OnOk result ((names : _) → AreAbove self.now names above.old → AreAbove self.now (names ++ name.now ∷ []) above.new) }
+        ensures { OnOk result ((names : _) → AreAbove self.now names above.old
+            → AreAbove self.now (names ++ name.now ∷ []) above.new) }
     {
         add_places(above, self.line(name))
     }
@@ -172,7 +177,8 @@ fn has_place(line: &[usize], place: usize) -> bool
 
 // Whether a property may not have one of its constraints.
 fn has_bad_constraint(props: &[PropDef]) -> bool
-    ensures { result ≡ list_any (λ p. list_any (λ c. not (is_constraint p.kind c)) p.constraints) props.now }
+    ensures { result ≡ list_any (λ p.
+        list_any (λ c. not (is_constraint p.kind c)) p.constraints) props.now }
 {
     props.iter().any(|prop| is_badly_constrained(prop))
 }
@@ -203,13 +209,15 @@ fn defines_order(definition: &TypeDef) -> bool
 }
 
 fn is_order_among(props: &[PropDef]) -> bool
-    ensures { result ≡ list_any (λ p. option_map_or (same_name child_order) p.name false) props.now }
+    ensures { result ≡ list_any (λ p.
+        option_map_or (same_name child_order) p.name false) props.now }
 {
     props.iter().any(|prop| is_order(&prop.name))
 }
 
 fn is_order_below(children: &[ChildDef]) -> bool
-    ensures { result ≡ list_any (λ c. option_map_or (same_name child_order) c.name false) children.now }
+    ensures { result ≡ list_any (λ c. option_map_or (same_name child_order) c.name false)
+        children.now }
 {
     children.iter().any(|child| is_order(&child.name))
 }

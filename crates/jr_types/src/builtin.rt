@@ -1,8 +1,10 @@
 // The built-in node types (JSR 283, 3.7.11 Standard Application Node Types), in their order.
-ghost use Rattle.std.specs.Prelude.{◌≡◌, ◌++◌, ◌∷◌, ◌<◌, [], IfOk, IfSome, None, OnOk, Some, option_to_list, slice_get};
+ghost use Rattle.std.specs.Prelude.{◌≡◌, ◌++◌, ◌∷◌, ◌≤◌, ◌<◌, [], IfOk, IfSome, None, OnOk, Some, option_to_list, slice_get, true};
 ghost use Rattle.std.specs.Option.{option_copied, option_map};
 ghost use Rattle.jr_path.specs.Grammar.{IsName};
+ghost use Rattle.jr_value.specs.declared.value.Kind.TheVariants as kind;
 ghost use Rattle.jr_value.specs.declared.value.Value.TheVariants.{Boolean};
+ghost use Rattle.jr_types.specs.Builtin as table;
 ghost use Rattle.jr_types.specs.Builtin.{builtin};
 ghost use Rattle.jr_types.specs.Rules.{type_fault};
 ghost use Rattle.jr_types.specs.Tables.{child_of, prop_of};
@@ -11,6 +13,8 @@ use crate::{ChildDef, OnParentVersion, PropDef, Registry, TypeDef, TypeFault};
 use jr_path::{List, Name};
 use jr_value::{Kind, Value};
 use std::alloc::{AllocError, Global};
+
+type Made = Result<TypeDef, AllocError>;
 
 // What a definition asks of an item.
 #[derive(Clone, Copy)]
@@ -29,6 +33,84 @@ const PLAIN: Flags = Flags {
     protected: false,
     multiple: false,
     opv: OnParentVersion::Copy,
+};
+
+const LIST: Flags = Flags {
+    multiple: true,
+    ..PLAIN
+};
+
+const VERSIONED: Flags = Flags {
+    opv: OnParentVersion::Version,
+    ..PLAIN
+};
+
+const MANDATORY: Flags = Flags {
+    mandatory: true,
+    ..PLAIN
+};
+
+const AUTOCREATED: Flags = Flags {
+    autocreated: true,
+    ..PLAIN
+};
+
+const PROTECTED: Flags = Flags {
+    protected: true,
+    ..PLAIN
+};
+
+const PROTECTED_LIST: Flags = Flags {
+    multiple: true,
+    ..PROTECTED
+};
+
+const RECORDED: Flags = Flags {
+    autocreated: true,
+    ..PROTECTED
+};
+
+const FIXED: Flags = Flags {
+    mandatory: true,
+    ..PROTECTED
+};
+
+const IDENTIFIER: Flags = Flags {
+    autocreated: true,
+    opv: OnParentVersion::Initialize,
+    ..FIXED
+};
+
+const COMPUTED: Flags = Flags {
+    autocreated: true,
+    opv: OnParentVersion::Compute,
+    ..FIXED
+};
+
+const COMPUTED_LIST: Flags = Flags {
+    opv: OnParentVersion::Compute,
+    ..PROTECTED_LIST
+};
+
+// Of the lock or the state of a node, which a version leaves out.
+const STATE: Flags = Flags {
+    opv: OnParentVersion::Ignore,
+    ..PROTECTED
+};
+
+const FIXED_STATE: Flags = Flags {
+    mandatory: true,
+    ..STATE
+};
+
+const FIRST_STATE: Flags = Flags {
+    autocreated: true,
+    ..FIXED_STATE
+};
+
+const FIXED_STATE_LIST: Flags = Flags {
+    multiple: true,
+    ..FIXED_STATE
 };
 
 impl Registry {
@@ -57,868 +139,268 @@ fn add_next(registry: &mut Registry, definition: TypeDef) -> Result<(), AllocErr
 }
 
 // A built-in type, by its place in their order.
-fn at(alloc: Global, place: usize) -> Result<TypeDef, AllocError>
+fn at(alloc: Global, place: usize) -> Made
     requires { place < 20 }
     ensures { IfOk result (λ d. Some d ≡ slice_get builtin place) }
 {
     match place {
-        0 => base(alloc),
-        1 => unstructured(alloc),
-        2 => created(alloc),
-        3 => last_modified(alloc),
-        4 => mime_type(alloc),
-        5 => title(alloc),
-        6 => referenceable(alloc),
-        7 => lockable(alloc),
-        8 => simple_versionable(alloc),
-        9 => versionable(alloc),
-        10 => hierarchy_node(alloc),
-        11 => folder(alloc),
-        12 => file(alloc),
-        13 => resource(alloc),
-        14 => frozen_node(alloc),
-        15 => version(alloc),
-        16 => version_labels(alloc),
-        17 => version_history(alloc),
-        18 => version_storage(alloc),
-        _ => system(alloc),
+        0..=1 => of_nodes(alloc, place),
+        2..=5 => of_contents(alloc, place),
+        6..=9 => of_states(alloc, place),
+        10..=13 => of_files(alloc, place),
+        14..=16 => of_versions(alloc, place),
+        _ => of_histories(alloc, place),
     }
 }
 
-fn base(alloc: Global) -> Result<TypeDef, AllocError>
-    ensures { IfOk result (λ d. Some d ≡ slice_get builtin 0) }
+fn of_nodes(alloc: Global, place: usize) -> Made
+    requires before { place < 2 }
+    ensures { IfOk result (λ d. Some d ≡ slice_get builtin place) }
 {
-    let supertypes = List::new(alloc);
-    let mut props = List::new(alloc);
-    add_prop(
-        alloc,
-        &mut props,
-        Some("jcr:primaryType"),
-        Some(Kind::Name),
-        None,
-        Flags {
-            mandatory: true,
-            autocreated: true,
-            protected: true,
-            opv: OnParentVersion::Compute,
-            ..PLAIN
-        },
-    )?;
-    add_prop(
-        alloc,
-        &mut props,
-        Some("jcr:mixinTypes"),
-        Some(Kind::Name),
-        None,
-        Flags {
-            protected: true,
-            multiple: true,
-            opv: OnParentVersion::Compute,
-            ..PLAIN
-        },
-    )?;
-    let children = List::new(alloc);
-    let primary_item = optional_name(alloc, None)?;
-    Ok(TypeDef {
-        name: Name::of(alloc, "nt:base")?,
-        supertypes,
-        is_abstract: true,
-        mixin: false,
-        orderable: false,
-        primary_item,
-        props,
-        children,
-    })
+    match place {
+        0 => primary(alloc, "nt:base")?
+            .as_abstract()
+            .prop(alloc, "jcr:primaryType", Kind::Name, COMPUTED)?
+            .prop(alloc, "jcr:mixinTypes", Kind::Name, COMPUTED_LIST),
+        1 => primary(alloc, "nt:unstructured")?
+            .ordered()
+            .any_prop(alloc, None, LIST)?
+            .any_prop(alloc, None, PLAIN)?
+            .any_child(alloc, "nt:base", Some("nt:unstructured"), VERSIONED),
+        _ => unreachable!(),
+    }
 }
 
-fn unstructured(alloc: Global) -> Result<TypeDef, AllocError>
-    ensures { IfOk result (λ d. Some d ≡ slice_get builtin 1) }
+fn of_contents(alloc: Global, place: usize) -> Made
+    requires from { 2 ≤ place }
+    requires before { place < 6 }
+    ensures { IfOk result (λ d. Some d ≡ slice_get builtin place) }
 {
-    let supertypes = List::new(alloc);
-    let mut props = List::new(alloc);
-    add_prop(
-        alloc,
-        &mut props,
-        None,
-        None,
-        None,
-        Flags {
-            multiple: true,
-            ..PLAIN
-        },
-    )?;
-    add_prop(alloc, &mut props, None, None, None, PLAIN)?;
-    let mut children = List::new(alloc);
-    add_child(
-        alloc,
-        &mut children,
-        None,
-        "nt:base",
-        Some("nt:unstructured"),
-        Flags {
-            opv: OnParentVersion::Version,
-            ..PLAIN
-        },
-    )?;
-    let primary_item = optional_name(alloc, None)?;
-    Ok(TypeDef {
-        name: Name::of(alloc, "nt:unstructured")?,
-        supertypes,
-        is_abstract: false,
-        mixin: false,
-        orderable: true,
-        primary_item,
-        props,
-        children,
-    })
+    match place {
+        2 => mixin(alloc, "mix:created")?
+            .prop(alloc, "jcr:created", Kind::Date, RECORDED)?
+            .prop(alloc, "jcr:createdBy", Kind::Str, RECORDED),
+        3 => mixin(alloc, "mix:lastModified")?
+            .prop(alloc, "jcr:lastModified", Kind::Date, AUTOCREATED)?
+            .prop(alloc, "jcr:lastModifiedBy", Kind::Str, AUTOCREATED),
+        4 => mixin(alloc, "mix:mimeType")?
+            .prop(alloc, "jcr:mimeType", Kind::Str, PLAIN)?
+            .prop(alloc, "jcr:encoding", Kind::Str, PLAIN),
+        5 => mixin(alloc, "mix:title")?
+            .prop(alloc, "jcr:title", Kind::Str, PLAIN)?
+            .prop(alloc, "jcr:description", Kind::Str, PLAIN),
+        _ => unreachable!(),
+    }
 }
 
-fn created(alloc: Global) -> Result<TypeDef, AllocError>
-    ensures { IfOk result (λ d. Some d ≡ slice_get builtin 2) }
+fn of_states(alloc: Global, place: usize) -> Made
+    requires from { 6 ≤ place }
+    requires before { place < 10 }
+    ensures { IfOk result (λ d. Some d ≡ slice_get builtin place) }
 {
-    let supertypes = List::new(alloc);
-    let mut props = List::new(alloc);
-    add_prop(
-        alloc,
-        &mut props,
-        Some("jcr:created"),
-        Some(Kind::Date),
-        None,
-        Flags {
-            autocreated: true,
-            protected: true,
-            ..PLAIN
-        },
-    )?;
-    add_prop(
-        alloc,
-        &mut props,
-        Some("jcr:createdBy"),
-        Some(Kind::Str),
-        None,
-        Flags {
-            autocreated: true,
-            protected: true,
-            ..PLAIN
-        },
-    )?;
-    let children = List::new(alloc);
-    let primary_item = optional_name(alloc, None)?;
-    Ok(TypeDef {
-        name: Name::of(alloc, "mix:created")?,
-        supertypes,
-        is_abstract: false,
-        mixin: true,
-        orderable: false,
-        primary_item,
-        props,
-        children,
-    })
+    match place {
+        6 => mixin(alloc, "mix:referenceable")?.prop(alloc, "jcr:uuid", Kind::Str, IDENTIFIER),
+        7 => mixin(alloc, "mix:lockable")?
+            .prop(alloc, "jcr:lockOwner", Kind::Str, STATE)?
+            .prop(alloc, "jcr:lockIsDeep", Kind::Boolean, STATE),
+        8 => mixin(alloc, "mix:simpleVersionable")?.switch(alloc, "jcr:isCheckedOut", FIRST_STATE),
+        9 => mixin(alloc, "mix:versionable")?
+            .above(alloc, "mix:simpleVersionable")?
+            .above(alloc, "mix:referenceable")?
+            .prop(alloc, "jcr:versionHistory", Kind::Reference, FIXED_STATE)?
+            .prop(alloc, "jcr:baseVersion", Kind::Reference, FIXED_STATE)?
+            .prop(alloc, "jcr:predecessors", Kind::Reference, FIXED_STATE_LIST),
+        _ => unreachable!(),
+    }
 }
 
-fn last_modified(alloc: Global) -> Result<TypeDef, AllocError>
-    ensures { IfOk result (λ d. Some d ≡ slice_get builtin 3) }
+fn of_files(alloc: Global, place: usize) -> Made
+    requires from { 10 ≤ place }
+    requires before { place < 14 }
+    ensures { IfOk result (λ d. Some d ≡ slice_get builtin place) }
 {
-    let supertypes = List::new(alloc);
-    let mut props = List::new(alloc);
-    add_prop(
-        alloc,
-        &mut props,
-        Some("jcr:lastModified"),
-        Some(Kind::Date),
-        None,
-        Flags {
-            autocreated: true,
-            ..PLAIN
-        },
-    )?;
-    add_prop(
-        alloc,
-        &mut props,
-        Some("jcr:lastModifiedBy"),
-        Some(Kind::Str),
-        None,
-        Flags {
-            autocreated: true,
-            ..PLAIN
-        },
-    )?;
-    let children = List::new(alloc);
-    let primary_item = optional_name(alloc, None)?;
-    Ok(TypeDef {
-        name: Name::of(alloc, "mix:lastModified")?,
-        supertypes,
-        is_abstract: false,
-        mixin: true,
-        orderable: false,
-        primary_item,
-        props,
-        children,
-    })
+    match place {
+        10 => primary(alloc, "nt:hierarchyNode")?
+            .as_abstract()
+            .above(alloc, "mix:created"),
+        11 => primary(alloc, "nt:folder")?
+            .above(alloc, "nt:hierarchyNode")?
+            .any_child(alloc, "nt:hierarchyNode", None, VERSIONED),
+        12 => primary(alloc, "nt:file")?
+            .above(alloc, "nt:hierarchyNode")?
+            .child(alloc, "jcr:content", "nt:base", MANDATORY)?
+            .main_item(alloc, "jcr:content"),
+        13 => primary(alloc, "nt:resource")?
+            .above(alloc, "mix:mimeType")?
+            .above(alloc, "mix:lastModified")?
+            .prop(alloc, "jcr:data", Kind::Binary, MANDATORY)?
+            .main_item(alloc, "jcr:data"),
+        _ => unreachable!(),
+    }
 }
 
-fn mime_type(alloc: Global) -> Result<TypeDef, AllocError>
-    ensures { IfOk result (λ d. Some d ≡ slice_get builtin 4) }
+fn of_versions(alloc: Global, place: usize) -> Made
+    requires from { 14 ≤ place }
+    requires before { place < 17 }
+    ensures { IfOk result (λ d. Some d ≡ slice_get builtin place) }
 {
-    let supertypes = List::new(alloc);
-    let mut props = List::new(alloc);
-    add_prop(
-        alloc,
-        &mut props,
-        Some("jcr:mimeType"),
-        Some(Kind::Str),
-        None,
-        PLAIN,
-    )?;
-    add_prop(
-        alloc,
-        &mut props,
-        Some("jcr:encoding"),
-        Some(Kind::Str),
-        None,
-        PLAIN,
-    )?;
-    let children = List::new(alloc);
-    let primary_item = optional_name(alloc, None)?;
-    Ok(TypeDef {
-        name: Name::of(alloc, "mix:mimeType")?,
-        supertypes,
-        is_abstract: false,
-        mixin: true,
-        orderable: false,
-        primary_item,
-        props,
-        children,
-    })
+    match place {
+        14 => primary(alloc, "nt:frozenNode")?
+            .prop(alloc, "jcr:frozenPrimaryType", Kind::Name, PROTECTED)?
+            .prop(alloc, "jcr:frozenMixinTypes", Kind::Name, PROTECTED_LIST)?
+            .prop(alloc, "jcr:frozenUuid", Kind::Str, PROTECTED)?
+            .any_prop(alloc, None, PROTECTED_LIST)?
+            .any_prop(alloc, None, PROTECTED)?
+            .any_child(alloc, "nt:frozenNode", None, PROTECTED),
+        15 => primary(alloc, "nt:version")?
+            .above(alloc, "mix:referenceable")?
+            .prop(alloc, "jcr:created", Kind::Date, PROTECTED)?
+            .prop(alloc, "jcr:predecessors", Kind::Reference, PROTECTED_LIST)?
+            .prop(alloc, "jcr:successors", Kind::Reference, PROTECTED_LIST)?
+            .child(alloc, "jcr:frozenNode", "nt:frozenNode", PROTECTED),
+        16 => primary(alloc, "nt:versionLabels")?.any_prop(alloc, Some(Kind::Reference), PROTECTED),
+        _ => unreachable!(),
+    }
 }
 
-fn title(alloc: Global) -> Result<TypeDef, AllocError>
-    ensures { IfOk result (λ d. Some d ≡ slice_get builtin 5) }
+fn of_histories(alloc: Global, place: usize) -> Made
+    requires from { 17 ≤ place }
+    requires before { place < 20 }
+    ensures { IfOk result (λ d. Some d ≡ slice_get builtin place) }
 {
-    let supertypes = List::new(alloc);
-    let mut props = List::new(alloc);
-    add_prop(
-        alloc,
-        &mut props,
-        Some("jcr:title"),
-        Some(Kind::Str),
-        None,
-        PLAIN,
-    )?;
-    add_prop(
-        alloc,
-        &mut props,
-        Some("jcr:description"),
-        Some(Kind::Str),
-        None,
-        PLAIN,
-    )?;
-    let children = List::new(alloc);
-    let primary_item = optional_name(alloc, None)?;
-    Ok(TypeDef {
-        name: Name::of(alloc, "mix:title")?,
-        supertypes,
-        is_abstract: false,
-        mixin: true,
-        orderable: false,
-        primary_item,
-        props,
-        children,
-    })
+    match place {
+        17 => primary(alloc, "nt:versionHistory")?
+            .above(alloc, "mix:referenceable")?
+            .prop(alloc, "jcr:versionableUuid", Kind::Str, PROTECTED)?
+            .child(alloc, "jcr:rootVersion", "nt:version", FIXED)?
+            .child(alloc, "jcr:versionLabels", "nt:versionLabels", FIXED)?
+            .any_child(alloc, "nt:version", None, PROTECTED),
+        18 => {
+            let storage = primary(alloc, "rep:versionStorage")?;
+            storage.any_child(alloc, "nt:versionHistory", None, PROTECTED)
+        }
+        19 => {
+            let system = primary(alloc, "rep:system")?;
+            system.child(alloc, "jcr:versionStorage", "rep:versionStorage", FIXED)
+        }
+        _ => unreachable!(),
+    }
 }
 
-fn referenceable(alloc: Global) -> Result<TypeDef, AllocError>
-    ensures { IfOk result (λ d. Some d ≡ slice_get builtin 6) }
+// A type that nodes may have as primary type, with nothing in it yet.
+fn primary(alloc: Global, name: &str) -> Made
+    requires { IsName name.now }
+    ensures { IfOk result (λ d. d ≡ table.primary name.now [] [] []) }
 {
-    let supertypes = List::new(alloc);
-    let mut props = List::new(alloc);
-    add_prop(
-        alloc,
-        &mut props,
-        Some("jcr:uuid"),
-        Some(Kind::Str),
-        None,
-        Flags {
-            mandatory: true,
-            autocreated: true,
-            protected: true,
-            opv: OnParentVersion::Initialize,
-            ..PLAIN
-        },
-    )?;
-    let children = List::new(alloc);
-    let primary_item = optional_name(alloc, None)?;
     Ok(TypeDef {
-        name: Name::of(alloc, "mix:referenceable")?,
-        supertypes,
-        is_abstract: false,
-        mixin: true,
-        orderable: false,
-        primary_item,
-        props,
-        children,
-    })
-}
-
-fn lockable(alloc: Global) -> Result<TypeDef, AllocError>
-    ensures { IfOk result (λ d. Some d ≡ slice_get builtin 7) }
-{
-    let supertypes = List::new(alloc);
-    let mut props = List::new(alloc);
-    add_prop(
-        alloc,
-        &mut props,
-        Some("jcr:lockOwner"),
-        Some(Kind::Str),
-        None,
-        Flags {
-            protected: true,
-            opv: OnParentVersion::Ignore,
-            ..PLAIN
-        },
-    )?;
-    add_prop(
-        alloc,
-        &mut props,
-        Some("jcr:lockIsDeep"),
-        Some(Kind::Boolean),
-        None,
-        Flags {
-            protected: true,
-            opv: OnParentVersion::Ignore,
-            ..PLAIN
-        },
-    )?;
-    let children = List::new(alloc);
-    let primary_item = optional_name(alloc, None)?;
-    Ok(TypeDef {
-        name: Name::of(alloc, "mix:lockable")?,
-        supertypes,
-        is_abstract: false,
-        mixin: true,
-        orderable: false,
-        primary_item,
-        props,
-        children,
-    })
-}
-
-fn simple_versionable(alloc: Global) -> Result<TypeDef, AllocError>
-    ensures { IfOk result (λ d. Some d ≡ slice_get builtin 8) }
-{
-    let supertypes = List::new(alloc);
-    let mut props = List::new(alloc);
-    add_prop(
-        alloc,
-        &mut props,
-        Some("jcr:isCheckedOut"),
-        Some(Kind::Boolean),
-        Some(true),
-        Flags {
-            mandatory: true,
-            autocreated: true,
-            protected: true,
-            opv: OnParentVersion::Ignore,
-            ..PLAIN
-        },
-    )?;
-    let children = List::new(alloc);
-    let primary_item = optional_name(alloc, None)?;
-    Ok(TypeDef {
-        name: Name::of(alloc, "mix:simpleVersionable")?,
-        supertypes,
-        is_abstract: false,
-        mixin: true,
-        orderable: false,
-        primary_item,
-        props,
-        children,
-    })
-}
-
-fn versionable(alloc: Global) -> Result<TypeDef, AllocError>
-    ensures { IfOk result (λ d. Some d ≡ slice_get builtin 9) }
-{
-    let mut supertypes = List::new(alloc);
-    supertypes.push(Name::of(alloc, "mix:simpleVersionable")?)?;
-    supertypes.push(Name::of(alloc, "mix:referenceable")?)?;
-    let mut props = List::new(alloc);
-    add_prop(
-        alloc,
-        &mut props,
-        Some("jcr:versionHistory"),
-        Some(Kind::Reference),
-        None,
-        Flags {
-            mandatory: true,
-            protected: true,
-            opv: OnParentVersion::Ignore,
-            ..PLAIN
-        },
-    )?;
-    add_prop(
-        alloc,
-        &mut props,
-        Some("jcr:baseVersion"),
-        Some(Kind::Reference),
-        None,
-        Flags {
-            mandatory: true,
-            protected: true,
-            opv: OnParentVersion::Ignore,
-            ..PLAIN
-        },
-    )?;
-    add_prop(
-        alloc,
-        &mut props,
-        Some("jcr:predecessors"),
-        Some(Kind::Reference),
-        None,
-        Flags {
-            mandatory: true,
-            protected: true,
-            multiple: true,
-            opv: OnParentVersion::Ignore,
-            ..PLAIN
-        },
-    )?;
-    let children = List::new(alloc);
-    let primary_item = optional_name(alloc, None)?;
-    Ok(TypeDef {
-        name: Name::of(alloc, "mix:versionable")?,
-        supertypes,
-        is_abstract: false,
-        mixin: true,
-        orderable: false,
-        primary_item,
-        props,
-        children,
-    })
-}
-
-fn hierarchy_node(alloc: Global) -> Result<TypeDef, AllocError>
-    ensures { IfOk result (λ d. Some d ≡ slice_get builtin 10) }
-{
-    let mut supertypes = List::new(alloc);
-    supertypes.push(Name::of(alloc, "mix:created")?)?;
-    let props = List::new(alloc);
-    let children = List::new(alloc);
-    let primary_item = optional_name(alloc, None)?;
-    Ok(TypeDef {
-        name: Name::of(alloc, "nt:hierarchyNode")?,
-        supertypes,
-        is_abstract: true,
-        mixin: false,
-        orderable: false,
-        primary_item,
-        props,
-        children,
-    })
-}
-
-fn folder(alloc: Global) -> Result<TypeDef, AllocError>
-    ensures { IfOk result (λ d. Some d ≡ slice_get builtin 11) }
-{
-    let mut supertypes = List::new(alloc);
-    supertypes.push(Name::of(alloc, "nt:hierarchyNode")?)?;
-    let props = List::new(alloc);
-    let mut children = List::new(alloc);
-    add_child(
-        alloc,
-        &mut children,
-        None,
-        "nt:hierarchyNode",
-        None,
-        Flags {
-            opv: OnParentVersion::Version,
-            ..PLAIN
-        },
-    )?;
-    let primary_item = optional_name(alloc, None)?;
-    Ok(TypeDef {
-        name: Name::of(alloc, "nt:folder")?,
-        supertypes,
+        name: Name::of(alloc, name)?,
+        supertypes: List::new(alloc),
         is_abstract: false,
         mixin: false,
         orderable: false,
-        primary_item,
-        props,
-        children,
+        primary_item: None,
+        props: List::new(alloc),
+        children: List::new(alloc),
     })
 }
 
-fn file(alloc: Global) -> Result<TypeDef, AllocError>
-    ensures { IfOk result (λ d. Some d ≡ slice_get builtin 12) }
+// A type that nodes may have beside it, with nothing in it yet.
+fn mixin(alloc: Global, name: &str) -> Made
+    requires { IsName name.now }
+    ensures { IfOk result (λ d. d ≡ table.mixin name.now [] []) }
 {
-    let mut supertypes = List::new(alloc);
-    supertypes.push(Name::of(alloc, "nt:hierarchyNode")?)?;
-    let props = List::new(alloc);
-    let mut children = List::new(alloc);
-    add_child(
-        alloc,
-        &mut children,
-        Some("jcr:content"),
-        "nt:base",
-        None,
-        Flags {
-            mandatory: true,
-            ..PLAIN
-        },
-    )?;
-    let primary_item = optional_name(alloc, Some("jcr:content"))?;
-    Ok(TypeDef {
-        name: Name::of(alloc, "nt:file")?,
-        supertypes,
-        is_abstract: false,
-        mixin: false,
-        orderable: false,
-        primary_item,
-        props,
-        children,
-    })
+    let mut definition = primary(alloc, name)?;
+    definition.mixin = true;
+    Ok(definition)
 }
 
-fn resource(alloc: Global) -> Result<TypeDef, AllocError>
-    ensures { IfOk result (λ d. Some d ≡ slice_get builtin 13) }
-{
-    let mut supertypes = List::new(alloc);
-    supertypes.push(Name::of(alloc, "mix:mimeType")?)?;
-    supertypes.push(Name::of(alloc, "mix:lastModified")?)?;
-    let mut props = List::new(alloc);
-    add_prop(
-        alloc,
-        &mut props,
-        Some("jcr:data"),
-        Some(Kind::Binary),
-        None,
-        Flags {
-            mandatory: true,
-            ..PLAIN
-        },
-    )?;
-    let children = List::new(alloc);
-    let primary_item = optional_name(alloc, Some("jcr:data"))?;
-    Ok(TypeDef {
-        name: Name::of(alloc, "nt:resource")?,
-        supertypes,
-        is_abstract: false,
-        mixin: false,
-        orderable: false,
-        primary_item,
-        props,
-        children,
-    })
-}
+// The words in which the types stand above.
+impl TypeDef {
+    fn as_abstract(mut self) -> TypeDef
+        ensures { result ≡ record self { is_abstract = true } }
+    {
+        self.is_abstract = true;
+        self
+    }
 
-fn frozen_node(alloc: Global) -> Result<TypeDef, AllocError>
-    ensures { IfOk result (λ d. Some d ≡ slice_get builtin 14) }
-{
-    let supertypes = List::new(alloc);
-    let mut props = List::new(alloc);
-    add_prop(
-        alloc,
-        &mut props,
-        Some("jcr:frozenPrimaryType"),
-        Some(Kind::Name),
-        None,
-        Flags {
-            protected: true,
-            ..PLAIN
-        },
-    )?;
-    add_prop(
-        alloc,
-        &mut props,
-        Some("jcr:frozenMixinTypes"),
-        Some(Kind::Name),
-        None,
-        Flags {
-            protected: true,
-            multiple: true,
-            ..PLAIN
-        },
-    )?;
-    add_prop(
-        alloc,
-        &mut props,
-        Some("jcr:frozenUuid"),
-        Some(Kind::Str),
-        None,
-        Flags {
-            protected: true,
-            ..PLAIN
-        },
-    )?;
-    add_prop(
-        alloc,
-        &mut props,
-        None,
-        None,
-        None,
-        Flags {
-            protected: true,
-            multiple: true,
-            ..PLAIN
-        },
-    )?;
-    add_prop(
-        alloc,
-        &mut props,
-        None,
-        None,
-        None,
-        Flags {
-            protected: true,
-            ..PLAIN
-        },
-    )?;
-    let mut children = List::new(alloc);
-    add_child(
-        alloc,
-        &mut children,
-        None,
-        "nt:frozenNode",
-        None,
-        Flags {
-            protected: true,
-            ..PLAIN
-        },
-    )?;
-    let primary_item = optional_name(alloc, None)?;
-    Ok(TypeDef {
-        name: Name::of(alloc, "nt:frozenNode")?,
-        supertypes,
-        is_abstract: false,
-        mixin: false,
-        orderable: false,
-        primary_item,
-        props,
-        children,
-    })
-}
+    fn ordered(mut self) -> TypeDef
+        ensures { result ≡ record self { orderable = true } }
+    {
+        self.orderable = true;
+        self
+    }
 
-fn version(alloc: Global) -> Result<TypeDef, AllocError>
-    ensures { IfOk result (λ d. Some d ≡ slice_get builtin 15) }
-{
-    let mut supertypes = List::new(alloc);
-    supertypes.push(Name::of(alloc, "mix:referenceable")?)?;
-    let mut props = List::new(alloc);
-    add_prop(
-        alloc,
-        &mut props,
-        Some("jcr:created"),
-        Some(Kind::Date),
-        None,
-        Flags {
-            protected: true,
-            ..PLAIN
-        },
-    )?;
-    add_prop(
-        alloc,
-        &mut props,
-        Some("jcr:predecessors"),
-        Some(Kind::Reference),
-        None,
-        Flags {
-            protected: true,
-            multiple: true,
-            ..PLAIN
-        },
-    )?;
-    add_prop(
-        alloc,
-        &mut props,
-        Some("jcr:successors"),
-        Some(Kind::Reference),
-        None,
-        Flags {
-            protected: true,
-            multiple: true,
-            ..PLAIN
-        },
-    )?;
-    let mut children = List::new(alloc);
-    add_child(
-        alloc,
-        &mut children,
-        Some("jcr:frozenNode"),
-        "nt:frozenNode",
-        None,
-        Flags {
-            protected: true,
-            ..PLAIN
-        },
-    )?;
-    let primary_item = optional_name(alloc, None)?;
-    Ok(TypeDef {
-        name: Name::of(alloc, "nt:version")?,
-        supertypes,
-        is_abstract: false,
-        mixin: false,
-        orderable: false,
-        primary_item,
-        props,
-        children,
-    })
-}
+    fn main_item(mut self, alloc: Global, item: &str) -> Made
+        requires { IsName item.now }
+        ensures { IfOk result (λ d. d ≡ record self { primary_item = Some item.now }) }
+    {
+        self.primary_item = Some(Name::of(alloc, item)?);
+        Ok(self)
+    }
 
-fn version_labels(alloc: Global) -> Result<TypeDef, AllocError>
-    ensures { IfOk result (λ d. Some d ≡ slice_get builtin 16) }
-{
-    let supertypes = List::new(alloc);
-    let mut props = List::new(alloc);
-    add_prop(
-        alloc,
-        &mut props,
-        None,
-        Some(Kind::Reference),
-        None,
-        Flags {
-            protected: true,
-            ..PLAIN
-        },
-    )?;
-    let children = List::new(alloc);
-    let primary_item = optional_name(alloc, None)?;
-    Ok(TypeDef {
-        name: Name::of(alloc, "nt:versionLabels")?,
-        supertypes,
-        is_abstract: false,
-        mixin: false,
-        orderable: false,
-        primary_item,
-        props,
-        children,
-    })
-}
+    fn above(mut self, alloc: Global, name: &str) -> Made
+        requires { IsName name.now }
+        ensures { IfOk result (λ d. d
+            ≡ record self { supertypes = self.supertypes ++ name.now ∷ [] }) }
+    {
+        self.supertypes.push(Name::of(alloc, name)?)?;
+        Ok(self)
+    }
 
-fn version_history(alloc: Global) -> Result<TypeDef, AllocError>
-    ensures { IfOk result (λ d. Some d ≡ slice_get builtin 17) }
-{
-    let mut supertypes = List::new(alloc);
-    supertypes.push(Name::of(alloc, "mix:referenceable")?)?;
-    let mut props = List::new(alloc);
-    add_prop(
-        alloc,
-        &mut props,
-        Some("jcr:versionableUuid"),
-        Some(Kind::Str),
-        None,
-        Flags {
-            protected: true,
-            ..PLAIN
-        },
-    )?;
-    let mut children = List::new(alloc);
-    add_child(
-        alloc,
-        &mut children,
-        Some("jcr:rootVersion"),
-        "nt:version",
-        None,
-        Flags {
-            mandatory: true,
-            protected: true,
-            ..PLAIN
-        },
-    )?;
-    add_child(
-        alloc,
-        &mut children,
-        Some("jcr:versionLabels"),
-        "nt:versionLabels",
-        None,
-        Flags {
-            mandatory: true,
-            protected: true,
-            ..PLAIN
-        },
-    )?;
-    add_child(
-        alloc,
-        &mut children,
-        None,
-        "nt:version",
-        None,
-        Flags {
-            protected: true,
-            ..PLAIN
-        },
-    )?;
-    let primary_item = optional_name(alloc, None)?;
-    Ok(TypeDef {
-        name: Name::of(alloc, "nt:versionHistory")?,
-        supertypes,
-        is_abstract: false,
-        mixin: false,
-        orderable: false,
-        primary_item,
-        props,
-        children,
-    })
-}
+    fn prop(mut self, alloc: Global, name: &str, kind: Kind, flags: Flags) -> Made
+        requires { IsName name.now }
+        ensures { IfOk result (λ d. d ≡ record self {
+          props = self.props ++ prop_of (Some name.now) (Some kind) None flags ∷ [];
+        }) }
+    {
+        add_prop(alloc, &mut self.props, Some(name), Some(kind), None, flags)?;
+        Ok(self)
+    }
 
-fn version_storage(alloc: Global) -> Result<TypeDef, AllocError>
-    ensures { IfOk result (λ d. Some d ≡ slice_get builtin 18) }
-{
-    let supertypes = List::new(alloc);
-    let props = List::new(alloc);
-    let mut children = List::new(alloc);
-    add_child(
-        alloc,
-        &mut children,
-        None,
-        "nt:versionHistory",
-        None,
-        Flags {
-            protected: true,
-            ..PLAIN
-        },
-    )?;
-    let primary_item = optional_name(alloc, None)?;
-    Ok(TypeDef {
-        name: Name::of(alloc, "rep:versionStorage")?,
-        supertypes,
-        is_abstract: false,
-        mixin: false,
-        orderable: false,
-        primary_item,
-        props,
-        children,
-    })
-}
+    // A truth value, true by default.
+    fn switch(mut self, alloc: Global, name: &str, flags: Flags) -> Made
+        requires { IsName name.now }
+        ensures { IfOk result (λ d. d ≡ record self {
+          props = self.props
+              ++ prop_of (Some name.now) (Some kind.Boolean) (Some true) flags ∷ [];
+        }) }
+    {
+        let kind = Some(Kind::Boolean);
+        add_prop(alloc, &mut self.props, Some(name), kind, Some(true), flags)?;
+        Ok(self)
+    }
 
-fn system(alloc: Global) -> Result<TypeDef, AllocError>
-    ensures { IfOk result (λ d. Some d ≡ slice_get builtin 19) }
-{
-    let supertypes = List::new(alloc);
-    let props = List::new(alloc);
-    let mut children = List::new(alloc);
-    add_child(
-        alloc,
-        &mut children,
-        Some("jcr:versionStorage"),
-        "rep:versionStorage",
-        None,
-        Flags {
-            mandatory: true,
-            protected: true,
-            ..PLAIN
-        },
-    )?;
-    let primary_item = optional_name(alloc, None)?;
-    Ok(TypeDef {
-        name: Name::of(alloc, "rep:system")?,
-        supertypes,
-        is_abstract: false,
-        mixin: false,
-        orderable: false,
-        primary_item,
-        props,
-        children,
-    })
+    fn any_prop(mut self, alloc: Global, kind: Option<Kind>, flags: Flags) -> Made
+        ensures { IfOk result (λ d. d ≡ record self {
+          props = self.props ++ prop_of None kind None flags ∷ [];
+        }) }
+    {
+        add_prop(alloc, &mut self.props, None, kind, None, flags)?;
+        Ok(self)
+    }
+
+    fn child(mut self, alloc: Global, name: &str, required: &str, flags: Flags) -> Made
+        requires name { IsName name.now }
+        requires required { IsName required.now }
+        ensures { IfOk result (λ d. d ≡ record self {
+          children = self.children ++ child_of (Some name.now) required.now None flags ∷ [];
+        }) }
+    {
+        add_child(alloc, &mut self.children, Some(name), required, None, flags)?;
+        Ok(self)
+    }
+
+    fn any_child(mut self, alloc: Global, of: &str, default: Option<&str>, flags: Flags) -> Made
+        requires required { IsName of.now }
+        requires default { IfSome (option_copied default) IsName }
+        ensures { IfOk result (λ d. d ≡ record self {
+          children = self.children
+              ++ child_of None of.now (option_copied default.entry) flags ∷ [];
+        }) }
+    {
+        add_child(alloc, &mut self.children, None, of, default, flags)?;
+        Ok(self)
+    }
 }
 
 // Puts the definition of a property behind others; with no name it is of any other, with no kind of

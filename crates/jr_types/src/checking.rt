@@ -46,7 +46,8 @@ impl<T: Drop> From<AllocFailed<T>> for TypesOut {
 }
 
 impl Registry {
-    /// The first rule that the node at a path breaks, by rule and then by item (JSR 283, 3.7 Node Types). The rules are
+    /// The first rule that the node at a path breaks, by rule and then by item (JSR 283, 3.7 Node
+    /// Types). The rules are
     ///
     /// 1. `jcr:primaryType` is one NAME of a registered type that is neither a mixin nor abstract;
     /// 2. `jcr:mixinTypes`, where it is there, is a list of distinct NAMEs of registered mixins;
@@ -92,8 +93,10 @@ impl Registry {
         props: &[&PropDef],
         names: &[&Name],
     ) -> Result<Option<Break>, AllocError>
-        requires { IsAlike (map (λ d. d.now) props.now) (flat_map props_of (types_of self.now (types_said node.now))) }
-        ensures { IfOk result (λ broken. broken ≡ first_break (property_rule self.now node.now) (map (λ n. n.now) names.now)) }
+        requires { IsAlike (map (λ d. d.now) props.now)
+            (flat_map props_of (types_of self.now (types_said node.now))) }
+        ensures { IfOk result (λ broken. broken
+            ≡ first_break (property_rule self.now node.now) (map (λ n. n.now) names.now)) }
     {
         let mut first = None;
         for name in names {
@@ -109,7 +112,8 @@ impl Registry {
         props: &[&PropDef],
         name: &Name,
     ) -> Result<Option<u8>, AllocError>
-        requires { IsAlike (map (λ d. d.now) props.now) (flat_map props_of (types_of self.now (types_said node.now))) }
+        requires { IsAlike (map (λ d. d.now) props.now)
+            (flat_map props_of (types_of self.now (types_said node.now))) }
         ensures { IfOk result (λ rule. rule ≡ property_rule self.now node.now name.now) }
     {
         let property = node.props.get(name);
@@ -129,13 +133,16 @@ impl Registry {
         }
     }
 
-    // The names of the two properties that tell the types, of the node's own ones, and of the mandatory ones.
+    // The names of the two properties that tell the types, of the node's own ones, and of the
+    // mandatory ones.
     fn property_names<'a>(
         &'a self,
         node: &'a Node,
         props: &[&'a PropDef],
     ) -> Result<Vec<&'a Name>, AllocError>
-        ensures { IfOk result (λ names. map (λ n. n.now) names.items ≡ primary_type ∷ mixin_types ∷ keys_of node.now.props ++ filter_map (λ d. cond d.mandatory d.name None) (map (λ d. d.now) props.now)) }
+        ensures { IfOk result (λ names. map (λ n. n.now) names.items
+            ≡ primary_type ∷ mixin_types ∷ keys_of node.now.props
+            ++ filter_map (λ d. cond d.mandatory d.name None) (map (λ d. d.now) props.now)) }
     {
         let mut names = Vec::new(self.alloc);
         names.push(&self.primary_type)?;
@@ -154,7 +161,8 @@ impl Registry {
         path: &Path,
         types: &[&TypeDef],
     ) -> Result<Option<Break>, AllocError>
-        requires { IsAlike (map (λ d. d.now) types.now) (types_of self.now (node_types tree.now path.now)) }
+        requires { IsAlike (map (λ d. d.now) types.now)
+            (types_of self.now (node_types tree.now path.now)) }
         ensures { IfOk result (IsFirstBreak (child_rule self.now tree.now path.now)) }
     {
         let defs = children_of(self.alloc, types)?;
@@ -171,8 +179,10 @@ impl Registry {
         defs: &[&ChildDef],
         names: &[&Name],
     ) -> Result<Option<Break>, AllocError>
-        requires { IsAlike (map (λ d. d.now) defs.now) (flat_map (λ d. d.children) (types_of self.now (node_types tree.now path.now))) }
-        ensures { IfOk result (λ broken. broken ≡ first_break (child_rule self.now tree.now path.now) (map (λ n. n.now) names.now)) }
+        requires { IsAlike (map (λ d. d.now) defs.now)
+            (flat_map (λ d. d.children) (types_of self.now (node_types tree.now path.now))) }
+        ensures { IfOk result (λ broken. broken
+            ≡ first_break (child_rule self.now tree.now path.now) (map (λ n. n.now) names.now)) }
     {
         let mut first = None;
         for name in names {
@@ -189,7 +199,8 @@ impl Registry {
         defs: &[&ChildDef],
         name: &Name,
     ) -> Result<Option<u8>, AllocError>
-        requires { IsAlike (map (λ d. d.now) defs.now) (flat_map (λ d. d.children) (types_of self.now (node_types tree.now path.now))) }
+        requires { IsAlike (map (λ d. d.now) defs.now)
+            (flat_map (λ d. d.children) (types_of self.now (node_types tree.now path.now))) }
         ensures { IfOk result (λ rule. rule ≡ child_rule self.now tree.now path.now name.now) }
     {
         let child = path.child(name)?;
@@ -202,7 +213,9 @@ impl Registry {
 
     // Rules 7 and 8, for a child of that primary type with these definitions.
     fn type_fault_of(&self, counting: &[&ChildDef], primary: Option<&Property>) -> Option<u8>
-        ensures { result ≡ cond (is_empty counting.now) (Some 7) (cond (list_any (λ d. fits_child self.now d.now (option_copied primary.entry)) counting.now) None (Some 8)) }
+        ensures { result ≡ cond (is_empty counting.now) (Some 7)
+            (cond (list_any (λ d. fits_child self.now d.now (option_copied primary.entry))
+            counting.now) None (Some 8)) }
     {
         if counting.is_empty() {
             return Some(7);
@@ -215,14 +228,16 @@ impl Registry {
 
     // Whether a child of that primary type is of each required type of one of these definitions.
     fn is_fit_for(&self, counting: &[&ChildDef], primary: Option<&Property>) -> bool
-        ensures { result ≡ list_any (λ d. fits_child self.now d.now (option_copied primary.entry)) counting.now }
+        ensures { result ≡ list_any (λ d. fits_child self.now d.now (option_copied primary.entry))
+            counting.now }
     {
         counting.iter().any(|def| self.fits_child(def, primary))
     }
 
     // The types of a node: its primary type, its mixins and all their supertypes.
     pub(crate) fn types_of<'a>(&'a self, node: &Node) -> Result<Vec<&'a TypeDef>, AllocError>
-        ensures { IfOk result (λ types. IsAlike (map (λ d. d.now) types.items) (types_of self.now (types_said node.now))) }
+        ensures { IfOk result (λ types.
+            IsAlike (map (λ d. d.now) types.items) (types_of self.now (types_said node.now))) }
     {
         let mut types = Vec::new(self.alloc);
         if let Some(name) = one_name(self.primary_of(node)) {
@@ -238,7 +253,8 @@ impl Registry {
         types: &mut Vec<&'a TypeDef>,
         values: &[Value],
     ) -> Result<(), AllocError>
-        ensures { OnOk result (IsFurther self.now (map (λ d. d.now) types.old.items) (filter_map name_in values.now) (map (λ d. d.now) types.new.items)) }
+        ensures { OnOk result (IsFurther self.now (map (λ d. d.now) types.old.items)
+            (filter_map name_in values.now) (map (λ d. d.now) types.new.items)) }
     {
         for value in values {
             if let Some(name) = name_in(value) {
@@ -250,7 +266,8 @@ impl Registry {
 
     // Puts a type and all its supertypes behind others.
     fn add_line<'a>(&'a self, types: &mut Vec<&'a TypeDef>, name: &Name) -> Result<(), AllocError>
-        ensures { OnOk result (IsFurther self.now (map (λ d. d.now) types.old.items) (name.now ∷ []) (map (λ d. d.now) types.new.items)) }
+        ensures { OnOk result (IsFurther self.now (map (λ d. d.now) types.old.items) (name.now ∷ [])
+            (map (λ d. d.now) types.new.items)) }
     {
         self.add_at(types, self.line(name.as_str()))
     }
@@ -261,7 +278,8 @@ impl Registry {
         types: &mut Vec<&'a TypeDef>,
         places: &[usize],
     ) -> Result<(), AllocError>
-        ensures { OnOk result (map (λ d. d.now) types.new.items ≡ map (λ d. d.now) types.old.items ++ types_at self.now places.now) }
+        ensures { OnOk result (map (λ d. d.now) types.new.items
+            ≡ map (λ d. d.now) types.old.items ++ types_at self.now places.now) }
     {
         for place in places {
             if let Some(definition) = self.at(*place) {
@@ -290,7 +308,8 @@ impl Registry {
         &'a self,
         types: &[&'a TypeDef],
     ) -> Result<Vec<&'a PropDef>, AllocError>
-        ensures { IfOk result (λ props. map (λ d. d.now) props.items ≡ flat_map props_of (map (λ d. d.now) types.now)) }
+        ensures { IfOk result (λ props. map (λ d. d.now) props.items
+            ≡ flat_map props_of (map (λ d. d.now) types.now)) }
     {
         let mut props = Vec::new(self.alloc);
         for definition in types {
@@ -305,7 +324,8 @@ impl Registry {
         props: &mut Vec<&'a PropDef>,
         definition: &'a TypeDef,
     ) -> Result<(), AllocError>
-        ensures { OnOk result (map (λ d. d.now) props.new.items ≡ map (λ d. d.now) props.old.items ++ props_of definition.now) }
+        ensures { OnOk result (map (λ d. d.now) props.new.items
+            ≡ map (λ d. d.now) props.old.items ++ props_of definition.now) }
     {
         if definition.orderable {
             props.push(&self.order)?;
@@ -315,7 +335,8 @@ impl Registry {
 
     // Rule 1: the property is the primary type, and none that nodes may have.
     fn has_bad_primary(&self, name: &Name, property: Option<&Property>) -> bool
-        ensures { result ≡ (same_name name.now primary_type && not (is_primary_type self.now (option_copied property.entry))) }
+        ensures { result ≡ (same_name name.now primary_type
+            && not (is_primary_type self.now (option_copied property.entry))) }
     {
         if *name == self.primary_type {
             return !self.is_primary_type(property);
@@ -334,7 +355,8 @@ impl Registry {
     }
 
     fn may_be_primary(&self, name: &Name) -> bool
-        ensures { result ≡ option_map_or (λ d. not d.mixin && not d.is_abstract) (type_named self.now name.now) false }
+        ensures { result ≡ option_map_or (λ d. not d.mixin && not d.is_abstract)
+            (type_named self.now name.now) false }
     {
         match self.get(name) {
             Some(definition) => !definition.mixin && !definition.is_abstract,
@@ -342,9 +364,11 @@ impl Registry {
         }
     }
 
-    // Rule 2: the property is the list of mixins, and no list of distinct NAMEs of registered mixins.
+    // Rule 2: the property is the list of mixins, and no list of distinct NAMEs of registered
+    // mixins.
     fn has_bad_mixins(&self, name: &Name, property: Option<&Property>) -> bool
-        ensures { result ≡ (same_name name.now mixin_types && not (are_mixins self.now (option_copied property.entry))) }
+        ensures { result ≡ (same_name name.now mixin_types
+            && not (are_mixins self.now (option_copied property.entry))) }
     {
         if *name == self.mixin_types {
             return !self.are_mixins(property);
@@ -366,7 +390,8 @@ impl Registry {
 
     // Whether each value is the NAME of a registered mixin.
     fn are_all_mixins(&self, values: &[Value]) -> bool
-        ensures { result ≡ list_all (λ x. option_map_or (is_mixin self.now) (name_in x) false) values.now }
+        ensures { result ≡ list_all (λ x. option_map_or (is_mixin self.now) (name_in x) false)
+            values.now }
     {
         values.iter().all(|value| self.is_mixin_name(value))
     }
@@ -399,7 +424,8 @@ impl Registry {
 }
 
 impl PropDef {
-    /// Whether a property has the definition's kind, where it requires one, and is single or multiple as it requires.
+    /// Whether a property has the definition's kind, where it requires one, and is single or
+    /// multiple as it requires.
     pub fn fits(&self, property: &Property) -> bool
         ensures { result ≡ fits self.now property.now }
     {
@@ -453,7 +479,9 @@ fn are_distinct(values: &[Value]) -> bool
 
 // Whether the value is a NAME that is among the others.
 fn is_among(others: &[Value], value: &Value) -> bool
-    ensures { result ≡ option_map_or (λ n. list_any (λ x. option_map_or (same_name n) (name_in x) false) others.now) (name_in value.now) false }
+    ensures { result ≡ option_map_or
+        (λ n. list_any (λ x. option_map_or (same_name n) (name_in x) false) others.now)
+        (name_in value.now) false }
 {
     match name_in(value) {
         Some(name) => is_name_among(others, name),
@@ -462,7 +490,8 @@ fn is_among(others: &[Value], value: &Value) -> bool
 }
 
 fn is_name_among(others: &[Value], name: &Name) -> bool
-    ensures { result ≡ list_any (λ x. option_map_or (same_name name.now) (name_in x) false) others.now }
+    ensures { result ≡ list_any (λ x. option_map_or (same_name name.now) (name_in x) false)
+        others.now }
 {
     others.iter().any(|other| is_the_name(other, name))
 }
@@ -482,7 +511,8 @@ pub(crate) fn counting_props<'a>(
     props: &[&'a PropDef],
     name: &Name,
 ) -> Result<Vec<&'a PropDef>, AllocError>
-    ensures { IfOk result (λ counting. map (λ d. d.now) counting.items ≡ counting_props (map (λ d. d.now) props.now) name.now) }
+    ensures { IfOk result (λ counting. map (λ d. d.now) counting.items
+        ≡ counting_props (map (λ d. d.now) props.now) name.now) }
 {
     let named = props_named(alloc, props, name)?;
     if named.is_empty() {
@@ -497,7 +527,8 @@ fn props_named<'a>(
     props: &[&'a PropDef],
     name: &Name,
 ) -> Result<Vec<&'a PropDef>, AllocError>
-    ensures { IfOk result (λ named. map (λ d. d.now) named.items ≡ filter (λ d. is_named name.now d.name) (map (λ d. d.now) props.now)) }
+    ensures { IfOk result (λ named. map (λ d. d.now) named.items
+        ≡ filter (λ d. is_named name.now d.name) (map (λ d. d.now) props.now)) }
 {
     let mut named = Vec::new(alloc);
     for def in props {
@@ -510,7 +541,8 @@ fn props_named<'a>(
 
 // The definitions of no name.
 fn residual_props<'a>(alloc: Global, props: &[&'a PropDef]) -> Result<Vec<&'a PropDef>, AllocError>
-    ensures { IfOk result (λ residual. map (λ d. d.now) residual.items ≡ filter (λ d. is_none d.name) (map (λ d. d.now) props.now)) }
+    ensures { IfOk result (λ residual. map (λ d. d.now) residual.items
+        ≡ filter (λ d. is_none d.name) (map (λ d. d.now) props.now)) }
 {
     let mut residual = Vec::new(alloc);
     for def in props {
@@ -527,7 +559,8 @@ pub(crate) fn counting_children<'a>(
     children: &[&'a ChildDef],
     name: &Name,
 ) -> Result<Vec<&'a ChildDef>, AllocError>
-    ensures { IfOk result (λ counting. map (λ d. d.now) counting.items ≡ counting_children (map (λ d. d.now) children.now) name.now) }
+    ensures { IfOk result (λ counting. map (λ d. d.now) counting.items
+        ≡ counting_children (map (λ d. d.now) children.now) name.now) }
 {
     let named = children_named(alloc, children, name)?;
     if named.is_empty() {
@@ -542,7 +575,8 @@ fn children_named<'a>(
     children: &[&'a ChildDef],
     name: &Name,
 ) -> Result<Vec<&'a ChildDef>, AllocError>
-    ensures { IfOk result (λ named. map (λ d. d.now) named.items ≡ filter (λ d. is_named name.now d.name) (map (λ d. d.now) children.now)) }
+    ensures { IfOk result (λ named. map (λ d. d.now) named.items
+        ≡ filter (λ d. is_named name.now d.name) (map (λ d. d.now) children.now)) }
 {
     let mut named = Vec::new(alloc);
     for def in children {
@@ -558,7 +592,8 @@ fn residual_children<'a>(
     alloc: Global,
     children: &[&'a ChildDef],
 ) -> Result<Vec<&'a ChildDef>, AllocError>
-    ensures { IfOk result (λ residual. map (λ d. d.now) residual.items ≡ filter (λ d. is_none d.name) (map (λ d. d.now) children.now)) }
+    ensures { IfOk result (λ residual. map (λ d. d.now) residual.items
+        ≡ filter (λ d. is_none d.name) (map (λ d. d.now) children.now)) }
 {
     let mut residual = Vec::new(alloc);
     for def in children {
@@ -583,7 +618,8 @@ pub(crate) fn children_of<'a>(
     alloc: Global,
     types: &[&'a TypeDef],
 ) -> Result<Vec<&'a ChildDef>, AllocError>
-    ensures { IfOk result (λ children. map (λ d. d.now) children.items ≡ flat_map (λ d. d.children) (map (λ d. d.now) types.now)) }
+    ensures { IfOk result (λ children. map (λ d. d.now) children.items
+        ≡ flat_map (λ d. d.children) (map (λ d. d.now) types.now)) }
 {
     let mut children = Vec::new(alloc);
     for definition in types {
@@ -597,7 +633,8 @@ fn add_children<'a>(
     list: &mut Vec<&'a ChildDef>,
     children: &'a [ChildDef],
 ) -> Result<(), AllocError>
-    ensures { OnOk result (map (λ d. d.now) list.new.items ≡ map (λ d. d.now) list.old.items ++ children.now) }
+    ensures { OnOk result (map (λ d. d.now) list.new.items
+        ≡ map (λ d. d.now) list.old.items ++ children.now) }
 {
     for child in children {
         list.push(child)?;
@@ -607,7 +644,8 @@ fn add_children<'a>(
 
 // Puts definitions behind others.
 fn add_props<'a>(list: &mut Vec<&'a PropDef>, props: &'a [PropDef]) -> Result<(), AllocError>
-    ensures { OnOk result (map (λ d. d.now) list.new.items ≡ map (λ d. d.now) list.old.items ++ props.now) }
+    ensures { OnOk result (map (λ d. d.now) list.new.items
+        ≡ map (λ d. d.now) list.old.items ++ props.now) }
 {
     for prop in props {
         list.push(prop)?;
@@ -621,7 +659,8 @@ pub(crate) fn fitting_props<'a>(
     counting: &[&'a PropDef],
     property: &Property,
 ) -> Result<Vec<&'a PropDef>, AllocError>
-    ensures { IfOk result (λ fitting. map (λ d. d.now) fitting.items ≡ filter (λ d. fits d property.now) (map (λ d. d.now) counting.now)) }
+    ensures { IfOk result (λ fitting. map (λ d. d.now) fitting.items
+        ≡ filter (λ d. fits d property.now) (map (λ d. d.now) counting.now)) }
 {
     let mut fitting = Vec::new(alloc);
     for def in counting {
@@ -638,7 +677,8 @@ fn definition_fault(
     counting: &[&PropDef],
     property: &Property,
 ) -> Result<Option<u8>, AllocError>
-    ensures { IfOk result (λ rule. rule ≡ definition_rule (map (λ d. d.now) counting.now) property.now) }
+    ensures { IfOk result (λ rule. rule
+        ≡ definition_rule (map (λ d. d.now) counting.now) property.now) }
 {
     if counting.is_empty() {
         return Ok(Some(3));
@@ -649,7 +689,8 @@ fn definition_fault(
 
 // Rules 4 and 5, for a property that fits these definitions.
 fn constraint_fault(fitting: &[&PropDef], property: &Property) -> Option<u8>
-    ensures { result ≡ cond (is_empty fitting.now) (Some 4) (cond (list_any (λ d. admits d.now property.now) fitting.now) None (Some 5)) }
+    ensures { result ≡ cond (is_empty fitting.now) (Some 4)
+        (cond (list_any (λ d. admits d.now property.now) fitting.now) None (Some 5)) }
 {
     if fitting.is_empty() {
         return Some(4);
@@ -668,7 +709,8 @@ fn is_admitted(fitting: &[&PropDef], property: &Property) -> bool
 
 // Rule 6, for a property that is missing.
 fn missing_property(props: &[&PropDef], name: &Name) -> Option<u8>
-    ensures { result ≡ cond (list_any (λ d. d.now.mandatory && is_named name.now d.now.name) props.now) (Some 6) None }
+    ensures { result ≡ cond (list_any
+        (λ d. d.now.mandatory && is_named name.now d.now.name) props.now) (Some 6) None }
 {
     if is_wanted_among(props, name) {
         return Some(6);
@@ -690,7 +732,8 @@ fn is_wanted_prop(def: &PropDef, name: &Name) -> bool
 
 // Rule 9, for a child that is missing.
 fn missing_child(defs: &[&ChildDef], name: &Name) -> Option<u8>
-    ensures { result ≡ cond (list_any (λ d. d.now.mandatory && is_named name.now d.now.name) defs.now) (Some 9) None }
+    ensures { result ≡ cond (list_any
+        (λ d. d.now.mandatory && is_named name.now d.now.name) defs.now) (Some 9) None }
 {
     if is_wanted_below(defs, name) {
         return Some(9);
@@ -715,7 +758,9 @@ fn add_mandatory_props<'a>(
     names: &mut Vec<&'a Name>,
     props: &[&'a PropDef],
 ) -> Result<(), AllocError>
-    ensures { OnOk result (map (λ n. n.now) names.new.items ≡ map (λ n. n.now) names.old.items ++ filter_map (λ d. cond d.mandatory d.name None) (map (λ d. d.now) props.now)) }
+    ensures { OnOk result (map (λ n. n.now) names.new.items
+        ≡ map (λ n. n.now) names.old.items
+        ++ filter_map (λ d. cond d.mandatory d.name None) (map (λ d. d.now) props.now)) }
 {
     for def in props {
         if let Some(name) = wanted(def.mandatory, &def.name) {
@@ -731,7 +776,8 @@ fn child_names<'a>(
     own: &'a [Name],
     defs: &[&'a ChildDef],
 ) -> Result<Vec<&'a Name>, AllocError>
-    ensures { IfOk result (λ names. map (λ n. n.now) names.items ≡ own.now ++ filter_map (λ d. cond d.mandatory d.name None) (map (λ d. d.now) defs.now)) }
+    ensures { IfOk result (λ names. map (λ n. n.now) names.items
+        ≡ own.now ++ filter_map (λ d. cond d.mandatory d.name None) (map (λ d. d.now) defs.now)) }
 {
     let mut names = Vec::new(alloc);
     for name in own {
@@ -746,7 +792,9 @@ fn add_mandatory_children<'a>(
     names: &mut Vec<&'a Name>,
     defs: &[&'a ChildDef],
 ) -> Result<(), AllocError>
-    ensures { OnOk result (map (λ n. n.now) names.new.items ≡ map (λ n. n.now) names.old.items ++ filter_map (λ d. cond d.mandatory d.name None) (map (λ d. d.now) defs.now)) }
+    ensures { OnOk result (map (λ n. n.now) names.new.items
+        ≡ map (λ n. n.now) names.old.items
+        ++ filter_map (λ d. cond d.mandatory d.name None) (map (λ d. d.now) defs.now)) }
 {
     for def in defs {
         if let Some(name) = wanted(def.mandatory, &def.name) {

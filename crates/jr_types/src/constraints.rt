@@ -32,7 +32,8 @@ impl Range {
     }
 
     fn is_above_low(self, number: i64) -> bool
-        ensures { result ≡ option_map_or (λ low. cond self.low_open (int_lt low number) (int_le low number)) self.low true }
+        ensures { result ≡ option_map_or
+            (λ low. cond self.low_open (int_lt low number) (int_le low number)) self.low true }
     {
         match self.low {
             Some(low) => {
@@ -47,7 +48,8 @@ impl Range {
     }
 
     fn is_below_high(self, number: i64) -> bool
-        ensures { result ≡ option_map_or (λ high. cond self.high_open (int_lt number high) (int_le number high)) self.high true }
+        ensures { result ≡ option_map_or
+            (λ high. cond self.high_open (int_lt number high) (int_le number high)) self.high true }
     {
         match self.high {
             Some(high) => {
@@ -97,8 +99,8 @@ fn meets_one(value: &Value, constraints: &[Text]) -> bool
         .any(|constraint| meets(value, constraint.as_str()))
 }
 
-// Whether a value meets a constraint: a range for numbers and for a binary's length, the printed text for others, and none
-// for references.
+// Whether a value meets a constraint: a range for numbers and for a binary's length, the printed
+// text for others, and none for references.
 fn meets(value: &Value, constraint: &str) -> bool
     ensures { result ≡ meets value.now constraint.now }
 {
@@ -207,7 +209,9 @@ fn with_ends(
     high: Option<Option<i64>>,
     high_open: bool,
 ) -> Option<Range>
-    ensures { result ≡ option_and_then (λ low. option_map (λ high. record { low_open = low_open; low = low; high = high; high_open = high_open }) high) low }
+    ensures { result ≡ option_and_then
+        (λ low. option_map (λ high. record
+        { low_open = low_open; low = low; high = high; high_open = high_open }) high) low }
 {
     match (low, high) {
         (Some(low), Some(high)) => Some(Range {
@@ -252,7 +256,8 @@ fn within_64_bits(number: i128) -> Option<i64>
 
 // The number that decimal digits write, or one beyond 64 bits in place of a greater one.
 fn size_of(digits: &[u8]) -> Option<i128>
-    ensures { result ≡ cond (are_digits digits.now) (Some (pos (min (2 ^ 64) (digits_value 10 digits.now)))) None }
+    ensures { result ≡ cond (are_digits digits.now)
+        (Some (pos (min (2 ^ 64) (digits_value 10 digits.now)))) None }
 {
     if digits.is_empty() {
         return None;

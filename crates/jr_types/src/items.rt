@@ -16,15 +16,16 @@ use jr_value::Property;
 use std::alloc::{AllocError, Global};
 
 impl Registry {
-    /// The definition that a property of a node goes by: the first that it fits of those that count for it, or else the first
-    /// (JSR 283, 3.7.3 Property Definitions).
+    /// The definition that a property of a node goes by: the first that it fits of those that count
+    /// for it, or else the first (JSR 283, 3.7.3 Property Definitions).
     pub fn prop_def(
         &self,
         node: &Node,
         name: &Name,
         property: &Property,
     ) -> Result<Option<&PropDef>, AllocError>
-        ensures { IfOk result (λ def. option_copied def ≡ prop_def (types_of self.now (types_said node.now)) name.now property.now) }
+        ensures { IfOk result (λ def. option_copied def
+            ≡ prop_def (types_of self.now (types_said node.now)) name.now property.now) }
     {
         let types = self.types_of(node)?;
         let counting = counting_props(self.alloc, &self.props_of(&types)?, name)?;
@@ -32,15 +33,17 @@ impl Registry {
         Ok(first_def(&fitting).or(first_def(&counting)))
     }
 
-    /// The definition that a child of a node goes by: the first that it fits of those that count for it, or else the first
-    /// (JSR 283, 3.7.4 Child Node Definitions).
+    /// The definition that a child of a node goes by: the first that it fits of those that count
+    /// for it, or else the first (JSR 283, 3.7.4 Child Node Definitions).
     pub fn child_def(
         &self,
         node: &Node,
         name: &Name,
         child: &Node,
     ) -> Result<Option<&ChildDef>, AllocError>
-        ensures { IfOk result (λ def. option_copied def ≡ child_def self.now (types_of self.now (types_said node.now)) name.now (property_of child.now primary_type)) }
+        ensures { IfOk result (λ def. option_copied def
+            ≡ child_def self.now (types_of self.now (types_said node.now)) name.now
+            (property_of child.now primary_type)) }
     {
         let types = self.types_of(node)?;
         let counting = counting_children(self.alloc, &children_of(self.alloc, &types)?, name)?;
@@ -48,9 +51,11 @@ impl Registry {
         Ok(first_def(&fitting).or(first_def(&counting)))
     }
 
-    /// The type of a new child of that name that is added without a type: the first that a definition gives that counts for it.
+    /// The type of a new child of that name that is added without a type: the first that a
+    /// definition gives that counts for it.
     pub fn default_type(&self, node: &Node, name: &Name) -> Result<Option<&Name>, AllocError>
-        ensures { IfOk result (λ type. option_copied type ≡ default_type (types_of self.now (types_said node.now)) name.now) }
+        ensures { IfOk result (λ type. option_copied type
+            ≡ default_type (types_of self.now (types_said node.now)) name.now) }
     {
         let types = self.types_of(node)?;
         let counting = counting_children(self.alloc, &children_of(self.alloc, &types)?, name)?;
@@ -58,9 +63,11 @@ impl Registry {
         Ok(default_of(first_def(&telling)))
     }
 
-    /// Whether the children of a node keep the order that they are put in (JSR 283, 23 Orderable Child Nodes).
+    /// Whether the children of a node keep the order that they are put in (JSR 283, 23 Orderable
+    /// Child Nodes).
     pub fn are_ordered(&self, node: &Node) -> Result<bool, AllocError>
-        ensures { IfOk result (λ ordered. ordered ≡ are_ordered (types_of self.now (types_said node.now))) }
+        ensures { IfOk result (λ ordered. ordered
+            ≡ are_ordered (types_of self.now (types_said node.now))) }
     {
         Ok(is_one_ordered(&self.types_of(node)?))
     }
@@ -73,7 +80,9 @@ impl Registry {
         counting: &[&'a ChildDef],
         primary: Option<&Property>,
     ) -> Result<Vec<&'a ChildDef>, AllocError>
-        ensures { IfOk result (λ fitting. map (λ d. d.now) fitting.items ≡ filter (λ d. fits_child self.now d (option_copied primary.entry)) (map (λ d. d.now) counting.now)) }
+        ensures { IfOk result (λ fitting. map (λ d. d.now) fitting.items
+            ≡ filter (λ d. fits_child self.now d (option_copied primary.entry))
+            (map (λ d. d.now) counting.now)) }
     {
         let mut fitting = Vec::new(self.alloc);
         for def in counting {
@@ -90,7 +99,8 @@ fn telling_children<'a>(
     alloc: Global,
     counting: &[&'a ChildDef],
 ) -> Result<Vec<&'a ChildDef>, AllocError>
-    ensures { IfOk result (λ telling. map (λ d. d.now) telling.items ≡ filter (λ d. is_some d.default_type) (map (λ d. d.now) counting.now)) }
+    ensures { IfOk result (λ telling. map (λ d. d.now) telling.items
+        ≡ filter (λ d. is_some d.default_type) (map (λ d. d.now) counting.now)) }
 {
     let mut telling = Vec::new(alloc);
     for def in counting {
@@ -103,7 +113,8 @@ fn telling_children<'a>(
 
 // The default type that a definition gives.
 fn default_of(def: Option<&ChildDef>) -> Option<&Name>
-    ensures { option_copied result ≡ option_and_then (λ d. d.default_type) (option_copied def.entry) }
+    ensures { option_copied result ≡ option_and_then (λ d. d.default_type)
+        (option_copied def.entry) }
 {
     match def {
         Some(def) => def.default_type.as_ref(),

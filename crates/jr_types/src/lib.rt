@@ -60,8 +60,8 @@ pub struct ChildDef {
     pub opv: OnParentVersion,
 }
 
-/// A node type. One that is no mixin has `nt:base` as supertype besides those that it names, and an orderable one keeps the
-/// order of its children in the property `rep:childOrder`.
+/// A node type. One that is no mixin has `nt:base` as supertype besides those that it names, and an
+/// orderable one keeps the order of its children in the property `rep:childOrder`.
 #[derive(Drop)]
 pub struct TypeDef {
     pub name: Name,

@@ -62,11 +62,13 @@ impl OnParentVersion {
     }
 }
 
-/// Reads the definition of a node type: an object with `name`, and whichever it wants of `supertypes`, `abstract`, `mixin`,
-/// `orderable`, `primaryItem`, `props` and `children`. What is left out is false, none or the empty list. A property's
-/// definition has `name`, or `*` for any other, and of `type`, `mandatory`, `autocreated`, `protected`, `multiple`,
-/// `defaults`, `constraints` and `opv` what it wants; a child's `name`, `types`, `default`, `mandatory`, `autocreated`,
-/// `protected` and `opv`. Left out, `type` is `undefined`, `types` is `nt:base` alone, and `opv` is `COPY`.
+/// Reads the definition of a node type: an object with `name`, and whichever it wants of
+/// `supertypes`, `abstract`, `mixin`, `orderable`, `primaryItem`, `props` and `children`. What is
+/// left out is false, none or the empty list. A property's definition has `name`, or `*` for any
+/// other, and of `type`, `mandatory`, `autocreated`, `protected`, `multiple`, `defaults`,
+/// `constraints` and `opv` what it wants; a child's `name`, `types`, `default`, `mandatory`,
+/// `autocreated`, `protected` and `opv`. Left out, `type` is `undefined`, `types` is `nt:base`
+/// alone, and `opv` is `COPY`.
 pub fn read_type(alloc: Global, json: &Json) -> Result<TypeDef, NoType>
     ensures { Reads (IsTypeJson (view json.now)) result }
 {
@@ -114,7 +116,8 @@ fn is_object_of(json: &Json, keys: &[&str]) -> Result<(), NoType>
 }
 
 fn are_keys(keys: &[&str], members: &Map<String, Json>) -> Result<(), NoType>
-    ensures { Reads (λ u. have_keys (map (λ k. k.now) keys.now) (members_view members.now.entries) ≡ true) result }
+    ensures { Reads (λ u. have_keys (map (λ k. k.now) keys.now) (members_view members.now.entries)
+        ≡ true) result }
 {
     if have_keys(keys, members) {
         return Ok(());
@@ -243,7 +246,8 @@ fn prop_list_of(alloc: Global, items: &[Json]) -> Result<List<PropDef>, NoType>
 }
 
 fn children_at(alloc: Global, json: &Json) -> Result<List<ChildDef>, NoType>
-    ensures { Reads (IsOr [] (IsListJson IsChildJson) (get (codes "children") (view json.now))) result }
+    ensures { Reads (IsOr [] (IsListJson IsChildJson)
+        (get (codes "children") (view json.now))) result }
 {
     match json.get("children") {
         Some(json) => child_list(alloc, json),
@@ -299,7 +303,8 @@ fn name_list_of(alloc: Global, items: &[Json]) -> Result<List<Name>, NoType>
 }
 
 fn texts_at(alloc: Global, json: &Json) -> Result<List<Text>, NoType>
-    ensures { Reads (IsOr [] (IsListJson IsTextJson) (get (codes "constraints") (view json.now))) result }
+    ensures { Reads (IsOr [] (IsListJson IsTextJson)
+        (get (codes "constraints") (view json.now))) result }
 {
     match json.get("constraints") {
         Some(json) => text_list(alloc, json),
@@ -328,7 +333,8 @@ fn text_list_of(alloc: Global, items: &[Json]) -> Result<List<Text>, NoType>
 
 // The required types of a child: `nt:base` where they are left out.
 fn types_at(alloc: Global, json: &Json) -> Result<List<Name>, NoType>
-    ensures { Reads (IsOr (base_type ∷ []) (IsListJson IsNameJson) (get (codes "types") (view json.now))) result }
+    ensures { Reads (IsOr (base_type ∷ []) (IsListJson IsNameJson)
+        (get (codes "types") (view json.now))) result }
 {
     match json.get("types") {
         Some(json) => name_list(alloc, json),
@@ -453,7 +459,8 @@ fn item_name_in(alloc: Global, json: &Json) -> Result<Option<Name>, NoType>
 }
 
 fn is_star(json: &Json) -> bool
-    ensures { result ≡ option_map_or (λ text. bytes_eq text (codes "*")) (as_str (view json.now)) false }
+    ensures { result ≡ option_map_or (λ text. bytes_eq text (codes "*"))
+        (as_str (view json.now)) false }
 {
     match json.as_str() {
         Some(text) => text == "*",

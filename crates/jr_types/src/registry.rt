@@ -15,14 +15,16 @@ use jr_value::Kind;
 use std::alloc::{AllocError, Global};
 use std::marker::Model;
 
-/// A registered type: its definition, and the places of itself and of all its supertypes among the registered ones, each once.
+/// A registered type: its definition, and the places of itself and of all its supertypes among the
+/// registered ones, each once.
 #[derive(Drop)]
 pub struct Registered {
     pub(crate) definition: TypeDef,
     pub(crate) line: List<usize>,
 }
 
-/// The registered node types (JSR 283, 3.7.7 Node Type Registry), seen as the list of their definitions in order.
+/// The registered node types (JSR 283, 3.7.7 Node Type Registry), seen as the list of their
+/// definitions in order.
 #[derive(Drop)]
 pub struct Registry {
     pub(crate) alloc: Global,
@@ -83,7 +85,8 @@ impl Registry {
         }
     }
 
-    /// Whether the first type is the second or below it; an unregistered one is below none, not even itself.
+    /// Whether the first type is the second or below it; an unregistered one is below none, not
+    /// even itself.
     pub fn is_a(&self, name: &Name, of: &Name) -> bool
         ensures { result ≡ is_a self.now name.now of.now }
     {
@@ -92,7 +95,9 @@ impl Registry {
 
     // Whether a type at one of the places has the name.
     fn has_named(&self, places: &[usize], name: &Name) -> bool
-        ensures { result ≡ list_any (λ k. option_map_or (λ d. same_name d.name name.now) (slice_get self.now k) false) places.now }
+        ensures { result ≡ list_any (λ k.
+            option_map_or (λ d. same_name d.name name.now) (slice_get self.now k) false)
+            places.now }
     {
         places.iter().any(|place| self.is_named(*place, name))
     }
@@ -138,7 +143,8 @@ impl Registry {
 
     // Whether the type at a place has the name.
     fn is_named(&self, place: usize, name: &Name) -> bool
-        ensures { result ≡ option_map_or (λ d. same_name d.name name.now) (slice_get self.now place) false }
+        ensures { result ≡ option_map_or (λ d. same_name d.name name.now)
+            (slice_get self.now place) false }
     {
         match self.at(place) {
             Some(definition) => definition.name == *name,

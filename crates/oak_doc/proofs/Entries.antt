@@ -1,5 +1,5 @@
 -- Entries of a map in the order of their keys, and the values of properties.
-use Rattle.std.proofs.Common.{◌≡◌, ℕ, Bool, true, false, cond, not, nat_eq, List, [], ◌∷◌, length, refl, sym, ap, ◌∙◌, Option, Some, None, filter, map, arith}
+use Rattle.std.proofs.Common.{◌≡◌, Bool, true, false, cond, not, nat_eq, List, [], ◌∷◌, length, refl, sym, ap, ◌∙◌, Option, Some, None, filter, map, arith}
 use Rattle.std.proofs.lemmas.Bool.Decides.{nat_tests}
 use Rattle.std.proofs.lemmas.Cmp.{nat_list_cmp_total}
 use Rattle.std.proofs.lemmas.Map.{NonePasses, lookup-none, none_passes_from_lookup}

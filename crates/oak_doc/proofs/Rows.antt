@@ -5,7 +5,7 @@ use Rattle.jr_value.specs.declared.value.Property.{Property}
 use Rattle.jr_value.specs.declared.value.Property.TheVariants.{Single}
 use Rattle.jr_value.specs.declared.value.Value.TheVariants.{Long}
 use Rattle.jr_rev.specs.declared.revision.Revision.{Revision}
-use Rattle.jr_rev.specs.Vectors.{start, with_entry}
+use Rattle.jr_rev.specs.Vectors.{start}
 use Rattle.oak_doc.specs.declared.document.Document.{Document}
 use Rattle.oak_doc.specs.declared.update.UpdateOp.{UpdateOp}
 use Rattle.oak_doc.specs.declared.update.Cond.TheVariants.{NoCollision}

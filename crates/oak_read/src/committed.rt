@@ -50,11 +50,7 @@ fn is_committed(
 /// the document has no such entry, the document of its node.
 ///
 /// Oak, DocumentNodeStore: "Node Document", `_commitRoot`.
-pub fn commit_root_of(
-    alloc: Global,
-    document: &Document,
-    r: Revision,
-) -> Result<DocId, AllocError>
+pub fn commit_root_of(alloc: Global, document: &Document, r: Revision) -> Result<DocId, AllocError>
     ensures { IfOk result (λ root. root ≡ commit_root_of document.now r) }
 {
     match document.commit_root.get(&r) {
