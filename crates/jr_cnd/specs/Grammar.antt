@@ -31,11 +31,13 @@ use Rattle.jr_cnd.specs.declared.file.File.{File}
 
 -- ---- lists of names and of texts
 
+-- a further name, behind its comma
 abbrev pub name_more : List Name → State → Read (List Name)
 name_more names s = do
   n ← name_at (after s)
   Ok (names ++ n.0 ∷ [], n.1)
 
+-- the first of names
 abbrev pub first_name : State → Read (List Name)
 first_name s = do
   n ← name_at s
@@ -51,11 +53,13 @@ names_at s = do
   n ← first_name s
   many comma_first name_more n.1.pieces n.0 n.1
 
+-- a further text, behind its comma
 abbrev pub text_more : List (List ℕ) → State → Read (List (List ℕ))
 text_more texts s = do
   t ← text_at (after s)
   Ok (texts ++ t.0 ∷ [], t.1)
 
+-- the first of texts
 abbrev pub first_text : State → Read (List (List ℕ))
 first_text s = do
   t ← text_at s
@@ -90,6 +94,7 @@ may_add of_property a item.Protected = not a.protected
 may_add of_property a item.Multiple = of_property && not a.multiple
 may_add of_property a (item.Opv o) = is_none a.opv
 
+-- with this attribute besides
 abbrev pub with_item_word : ItemAttributes → ItemWord → ItemAttributes
 with_item_word a item.Mandatory = record a { mandatory = true }
 with_item_word a item.Autocreated = record a { autocreated = true }
@@ -97,6 +102,7 @@ with_item_word a item.Protected = record a { protected = true }
 with_item_word a item.Multiple = record a { multiple = true }
 with_item_word a (item.Opv o) = record a { opv = Some o }
 
+-- the attribute, where it may stand behind those that were read
 abbrev pub addable : Bool → ItemAttributes → Option ItemWord → Option ItemWord
 addable of_property a None = None
 addable of_property a (Some w) = if may_add of_property a w then Some w else None
@@ -106,20 +112,31 @@ abbrev pub item_word_first : Bool → ItemAttributes → List Placed → Option 
 item_word_first of_property a [] = None
 item_word_first of_property a (p ∷ ps) = addable of_property a (item_word_in p.says)
 
+-- a further attribute comes next
 abbrev pub item_attribute_first : Bool → ItemAttributes → List Placed → Bool
 item_attribute_first of_property a ps = is_some (item_word_first of_property a ps)
 
+-- a further attribute
 abbrev pub item_attribute_more : Bool → ItemAttributes → State → Read ItemAttributes
 item_attribute_more of_property a s = do
   w ← required (item_word_first of_property a s.pieces) (place s)
   Ok (with_item_word a w, after s)
 
+-- before any attribute of an item
 abbrev pub no_item_attributes : ItemAttributes
-no_item_attributes = record { mandatory = false; autocreated = false; protected = false; multiple = false; opv = None }
+no_item_attributes = record {
+  mandatory = false;
+  autocreated = false;
+  protected = false;
+  multiple = false;
+  opv = None;
+}
 
 -- {pattr}, {cattr}
 abbrev pub item_attributes_at : Bool → State → Read ItemAttributes
-item_attributes_at of_property s = many (item_attribute_first of_property) (item_attribute_more of_property) s.pieces no_item_attributes s
+item_attributes_at of_property s =
+    many (item_attribute_first of_property) (item_attribute_more of_property) s.pieces
+    no_item_attributes s
 
 -- the attribute of what a check-in of the parent does; where none stands, COPY
 abbrev pub opv_of : ItemAttributes → OnParentVersion
@@ -133,10 +150,12 @@ kind_in (says.Name word) = kind_named word
 kind_in (says.Sign sign.Star) = Some None
 kind_in _ = None
 
+-- the kind that the next token is
 abbrev pub kind_first : List Placed → Option (Option Kind)
 kind_first [] = None
 kind_first (p ∷ ps) = kind_in p.says
 
+-- kind ), behind `(`
 abbrev pub kind_inside : State → Read (Option Kind)
 kind_inside s = do
   k ← required (kind_first s.pieces) (place s)
@@ -152,25 +171,30 @@ abbrev pub value_in : Says → Option Value
 value_in (says.Quoted text name value) = value
 value_in _ = None
 
+-- the value that the next token is
 abbrev pub value_first : List Placed → Option Value
 value_first [] = None
 value_first (p ∷ ps) = value_in p.says
 
+-- a default
 abbrev pub value_at : State → Read Value
 value_at s = do
   v ← required (value_first s.pieces) (place s)
   Ok (v, after s)
 
+-- a further default, behind its comma
 abbrev pub value_more : List Value → State → Read (List Value)
 value_more values s = do
   v ← value_at (after s)
   Ok (values ++ v.0 ∷ [], v.1)
 
+-- the first of defaults
 abbrev pub first_value : State → Read (List Value)
 first_value s = do
   v ← value_at s
   Ok (v.0 ∷ [], v.1)
 
+-- text {, text}, as defaults
 abbrev pub values_at : State → Read (List Value)
 values_at s = do
   v ← first_value s
@@ -213,6 +237,7 @@ prop_at s = do
 
 -- ---- children
 
+-- name {, name} ), behind `(`
 abbrev pub types_inside : State → Read (List Name)
 types_inside s = do
   n ← names_at s
@@ -255,19 +280,23 @@ child_at s = do
 abbrev pub begins_item : List Placed → Bool
 begins_item ps = sign_first sign.Minus ps || sign_first sign.Plus ps
 
+-- a further item comes next
 abbrev pub item_first : Items → List Placed → Bool
 item_first _ ps = begins_item ps
 
+-- a further property
 abbrev pub prop_more : Items → State → Read Items
 prop_more items s = do
   p ← prop_at (after s)
   Ok (record { props = items.props ++ p.0 ∷ []; children = items.children }, p.1)
 
+-- a further child
 abbrev pub child_more : Items → State → Read Items
 child_more items s = do
   c ← child_at (after s)
   Ok (record { props = items.props; children = items.children ++ c.0 ∷ [] }, c.1)
 
+-- a further property or child
 abbrev pub item_more : Items → State → Read Items
 item_more items s = if sign_first sign.Minus s.pieces then prop_more items s else child_more items s
 
@@ -288,6 +317,7 @@ lacks a type.Abstract = not a.is_abstract
 lacks a type.Orderable = not a.orderable
 lacks a type.PrimaryItem = is_none a.primary_item
 
+-- the attribute, where it is not among those that were read
 abbrev pub lacking : TypeAttributes → Option TypeWord → Option TypeWord
 lacking a None = None
 lacking a (Some w) = if lacks a w then Some w else None
@@ -297,25 +327,30 @@ abbrev pub type_word_first : TypeAttributes → List Placed → Option TypeWord
 type_word_first a [] = None
 type_word_first a (p ∷ ps) = lacking a (type_word_in p.says)
 
+-- a further attribute of the type comes next
 abbrev pub type_attribute_first : TypeAttributes → List Placed → Bool
 type_attribute_first a ps = is_some (type_word_first a ps)
 
+-- the name behind `primaryitem` or `!`
 abbrev pub primary_item_at : TypeAttributes → State → Read TypeAttributes
 primary_item_at a s = do
   n ← name_at s
   Ok (record a { primary_item = Some n.0 }, n.1)
 
+-- with this attribute besides, and the name behind it where it has one
 abbrev pub with_type_word : TypeAttributes → TypeWord → State → Read TypeAttributes
 with_type_word a type.Mixin s = Ok (record a { mixin = true }, s)
 with_type_word a type.Abstract s = Ok (record a { is_abstract = true }, s)
 with_type_word a type.Orderable s = Ok (record a { orderable = true }, s)
 with_type_word a type.PrimaryItem s = primary_item_at a s
 
+-- a further attribute of the type
 abbrev pub type_attribute_more : TypeAttributes → State → Read TypeAttributes
 type_attribute_more a s = do
   w ← required (type_word_first a s.pieces) (place s)
   with_type_word a w (after s)
 
+-- before any attribute of a type
 abbrev pub no_type_attributes : TypeAttributes
 no_type_attributes = record { mixin = false; is_abstract = false; orderable = false; primary_item = None }
 
@@ -362,10 +397,12 @@ type_at s = do
 
 -- ---- the whole text
 
+-- the bare token, where it is a prefix
 abbrev pub prefix_token : Option (List ℕ) → Option (List ℕ)
 prefix_token None = None
 prefix_token (Some t) = if is_prefix t then Some t else None
 
+-- a prefix
 abbrev pub prefix_name_at : State → Read (List ℕ)
 prefix_name_at s = do
   p ← required (prefix_token (bare_first s.pieces)) (place s)
@@ -380,16 +417,25 @@ prefix_at s = do
   c ← sign_at sign.Greater u.1
   Ok (record { prefix = p.0; uri = u.0 }, c.1)
 
+-- a further prefix
 abbrev pub prefix_more : File → State → Read File
 prefix_more file s = do
   p ← prefix_at (after s)
   Ok (record { prefixes = file.prefixes ++ p.0 ∷ []; types = file.types }, p.1)
 
+-- a further type, with the offset of its `[`
 abbrev pub type_more : File → State → Read File
 type_more file s = do
   t ← type_at s
-  Ok (record { prefixes = file.prefixes; types = file.types ++ record { start = place s; definition = t.0 } ∷ [] }, t.1)
+  Ok (
+    record {
+      prefixes = file.prefixes;
+      types = file.types ++ record { start = place s; definition = t.0 } ∷ [];
+    },
+    t.1,
+  )
 
+-- a further prefix or type
 abbrev pub file_more : File → State → Read File
 file_more file s = if sign_first sign.Less s.pieces then prefix_more file s else type_more file s
 

@@ -22,8 +22,10 @@ first_bad types (d ∷ ds) =
 
 -- what registering a definition is answered, and what it makes of the types
 abbrev pub IsRegistering : List TypeDef → PlacedType → List TypeDef → Result (Unit {0}) NoCnd → Type 0
-IsRegistering old d new (Ok u) = (type_fault old d.definition ≡ None) × (new ≡ old ++ d.definition ∷ [])
-IsRegistering old d new (Err (no.BadDef start)) = (is_some (type_fault old d.definition) ≡ true) × (start ≡ d.start)
+IsRegistering old d new (Ok u) =
+    (type_fault old d.definition ≡ None) × (new ≡ old ++ d.definition ∷ [])
+IsRegistering old d new (Err (no.BadDef start)) =
+    (is_some (type_fault old d.definition) ≡ true) × (start ≡ d.start)
 IsRegistering old d new (Err no.Memory) = Unit {0}
 IsRegistering old d new (Err (no.Syntax offset)) = ⊥
 
@@ -40,11 +42,17 @@ cnd_of file = record { prefixes = file.prefixes; definitions = map (λ d. d.defi
 
 -- what a file of the grammar means: its definitions keep the rules, over the built-in types; or the first that doesn't
 abbrev pub judged : File → Result Cnd NoCnd
-judged file = elim (first_bad builtin file.types) [ None ↦ Ok (cnd_of file) | Some start ↦ Err (no.BadDef start) ]
+judged file = elim (first_bad builtin file.types) [
+  | None ↦ Ok (cnd_of file)
+  | Some start ↦ Err (no.BadDef start)
+]
 
 -- what pieces mean, in a text of a length: faults of the grammar come before those of the definitions
 abbrev pub meaning : List Placed → ℕ → Result Cnd NoCnd
-meaning pieces stop = elim (file_at (record { pieces = pieces; stop = stop })) [ Ok r ↦ judged r.0 | Err offset ↦ Err (no.Syntax offset) ]
+meaning pieces stop = elim (file_at (record { pieces = pieces; stop = stop })) [
+  | Ok r ↦ judged r.0
+  | Err offset ↦ Err (no.Syntax offset)
+]
 
 -- the answer is what is meant, unless memory is refused
 abbrev pub Answers : Result Cnd NoCnd → Result Cnd NoCnd → Type 0
@@ -53,7 +61,8 @@ Answers result meant = meant ≡ result
 
 -- what a text means
 abbrev pub IsMeaning : List ℕ → Result Cnd NoCnd → Type 0
-IsMeaning text result = (pieces : List Placed) × IsReadAs text pieces × (meaning pieces (length text) ≡ result)
+IsMeaning text result =
+    (pieces : List Placed) × IsReadAs text pieces × (meaning pieces (length text) ≡ result)
 
 -- what a text is answered: what it means, unless memory is refused
 abbrev pub IsAnswer : List ℕ → Result Cnd NoCnd → Type 0

@@ -26,6 +26,7 @@ abbrev pub default_kind : Option Kind → Kind
 default_kind None = kind.Str
 default_kind (Some k) = k
 
+-- behind a word in brackets that names a kind, or none
 abbrev pub named_in : Option (Option Kind) → Context
 named_in None = context.Elsewhere
 named_in (Some k) = context.Named (default_kind k)
@@ -72,6 +73,7 @@ context_after c (says.Sign sign.Comma) = after_comma c
 context_after c (says.Sign sign.Star) = after_star c
 context_after c _ = context.Elsewhere
 
+-- a prefix may stand here
 abbrev pub is_behind_less : Context → Bool
 is_behind_less context.BehindLess = true
 is_behind_less _ = false

@@ -37,6 +37,7 @@ escaped byte = if byte == 39 then codes "\\'" else (if byte == 92 then codes "\\
 abbrev pub escaped_character : ℕ → List ℕ
 escaped_character c = if c == 39 then codes "\\'" else (if c == 92 then codes "\\\\" else encode_utf8 c)
 
+-- a text in quotes
 abbrev pub quoted : List ℕ → List ℕ
 quoted text = codes "'" ++ flat_map escaped text ++ codes "'"
 
@@ -44,10 +45,14 @@ quoted text = codes "'" ++ flat_map escaped text ++ codes "'"
 abbrev pub name_text : Name → List ℕ
 name_text n = if is_bare_name n then n else quoted n
 
+-- each behind a comma and a space
+abbrev pub continued : List (List ℕ) → List ℕ
+continued ts = flat_map (λ t. codes ", " ++ t) ts
+
 -- one behind another, with a comma and a space between
 abbrev pub listed : List (List ℕ) → List ℕ
 listed [] = []
-listed (t ∷ ts) = t ++ flat_map (λ u. codes ", " ++ u) ts
+listed (t ∷ ts) = t ++ continued ts
 
 -- a list behind a sign, or nothing
 abbrev pub list_behind : List ℕ → List (List ℕ) → List ℕ
@@ -89,6 +94,11 @@ value_text (value.Reference id) = identifier_text id
 value_text (value.WeakReference id) = identifier_text id
 value_text (value.Uri t) = t
 
+-- the texts of defaults, each in quotes
+abbrev pub default_texts : List Value → List (List ℕ)
+default_texts values = map (λ v. quoted (value_text v)) values
+
+-- the name of an item, `*` for any other
 abbrev pub item_name_text : Option Name → List ℕ
 item_name_text None = codes "*"
 item_name_text (Some n) = name_text n
@@ -102,6 +112,7 @@ opv_part o = codes " " ++ opv_text o
 abbrev pub prop_head : PropDef → List ℕ
 prop_head p = codes "- " ++ item_name_text p.name ++ codes " (" ++ kind_word p.kind ++ codes ")"
 
+-- the attributes of a property
 abbrev pub prop_attributes : PropDef → List ℕ
 prop_attributes p =
     word_if p.mandatory (codes " mandatory")
@@ -114,7 +125,7 @@ prop_attributes p =
 abbrev pub prop_text : PropDef → List ℕ
 prop_text p =
     prop_head p
-    ++ list_behind (codes " = ") (map (λ v. quoted (value_text v)) p.defaults)
+    ++ list_behind (codes " = ") (default_texts p.defaults)
     ++ prop_attributes p
     ++ list_behind (codes " < ") (map quoted p.constraints)
     ++ codes "\n"
@@ -126,8 +137,11 @@ name_behind word (Some n) = word ++ name_text n
 
 -- + name (types)
 abbrev pub child_head : ChildDef → List ℕ
-child_head c = codes "+ " ++ item_name_text c.name ++ codes " (" ++ listed (map name_text c.types) ++ codes ")"
+child_head c =
+    codes "+ " ++ item_name_text c.name
+    ++ codes " (" ++ listed (map name_text c.types) ++ codes ")"
 
+-- the attributes of a child
 abbrev pub child_attributes : ChildDef → List ℕ
 child_attributes c =
     word_if c.mandatory (codes " mandatory")
@@ -137,14 +151,18 @@ child_attributes c =
 
 -- + name (types) = default attributes
 abbrev pub child_text : ChildDef → List ℕ
-child_text c = child_head c ++ name_behind (codes " = ") c.default_type ++ child_attributes c ++ codes "\n"
+child_text c =
+    child_head c ++ name_behind (codes " = ") c.default_type ++ child_attributes c ++ codes "\n"
 
 -- ---- types and prefixes
 
 -- [name] > supertypes
 abbrev pub type_head : TypeDef → List ℕ
-type_head d = codes "[" ++ name_text d.name ++ codes "]" ++ list_behind (codes " > ") (map name_text d.supertypes)
+type_head d =
+    codes "[" ++ name_text d.name ++ codes "]"
+    ++ list_behind (codes " > ") (map name_text d.supertypes)
 
+-- the attributes of a type
 abbrev pub type_attributes : TypeDef → List ℕ
 type_attributes d =
     word_if d.mixin (codes " mixin")

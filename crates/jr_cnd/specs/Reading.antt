@@ -14,6 +14,7 @@ pub record State : Type 0 where
   pub pieces : List Placed
   pub stop : ℕ
 
+-- what was read and what is left, or the offset where reading fails
 abbrev pub Read : Type 0 → Type 0
 Read X = Result (X × State) ℕ
 
@@ -32,10 +33,12 @@ Reads (Err (no.BadDef offset)) s read = ⊥
 
 -- ---- what stands at the front
 
+-- all tokens but the first
 abbrev pub behind : List Placed → List Placed
 behind [] = []
 behind (p ∷ ps) = ps
 
+-- where the first token begins; where there is none, the offset behind the last
 abbrev pub first_start : List Placed → ℕ → ℕ
 first_start [] stop = stop
 first_start (p ∷ ps) stop = p.start
@@ -48,6 +51,7 @@ place s = first_start s.pieces s.stop
 abbrev pub after : State → State
 after s = record { pieces = behind s.pieces; stop = s.stop }
 
+-- each sign has a number of its own
 abbrev pub sign_number : Sign → ℕ
 sign_number sign.Less = 0
 sign_number sign.Greater = 1
@@ -62,9 +66,11 @@ sign_number sign.Plus = 9
 sign_number sign.Star = 10
 sign_number sign.Bang = 11
 
+-- both are one sign
 abbrev pub same_sign : Sign → Sign → Bool
 same_sign a b = sign_number a == sign_number b
 
+-- the token is this sign
 abbrev pub is_sign : Sign → Says → Bool
 is_sign wanted (says.Sign s) = same_sign s wanted
 is_sign wanted _ = false
@@ -80,6 +86,7 @@ name_in (says.Name name) = Some name
 name_in (says.Quoted text name value) = name
 name_in _ = None
 
+-- the name that the next token is
 abbrev pub name_first : List Placed → Option Name
 name_first [] = None
 name_first (p ∷ ps) = name_in p.says
@@ -89,6 +96,7 @@ abbrev pub text_in : Says → Option (List ℕ)
 text_in (says.Quoted text name value) = Some text
 text_in _ = None
 
+-- the text that the next token is
 abbrev pub text_first : List Placed → Option (List ℕ)
 text_first [] = None
 text_first (p ∷ ps) = text_in p.says
@@ -99,6 +107,7 @@ bare_in (says.Name name) = Some name
 bare_in (says.Bare text) = Some text
 bare_in _ = None
 
+-- the bare token that comes next
 abbrev pub bare_first : List Placed → Option (List ℕ)
 bare_first [] = None
 bare_first (p ∷ ps) = bare_in p.says
@@ -110,18 +119,22 @@ no_pieces (_ ∷ _) = false
 
 -- ---- reading one token
 
+-- the thing, or a failure at the offset
 abbrev pub required : {X : Type 0} → Option X → ℕ → Result X ℕ
 required (Some x) at = Ok x
 required None at = Err at
 
+-- this sign
 abbrev pub sign_at : Sign → State → Read (Unit {0})
 sign_at wanted s = if sign_first wanted s.pieces then Ok (tt, after s) else Err (place s)
 
+-- a name, bare or as a text
 abbrev pub name_at : State → Read Name
 name_at s = do
   name ← required (name_first s.pieces) (place s)
   Ok (name, after s)
 
+-- a text
 abbrev pub text_at : State → Read (List ℕ)
 text_at s = do
   text ← required (text_first s.pieces) (place s)

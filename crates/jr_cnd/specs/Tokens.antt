@@ -17,6 +17,7 @@ is_space b = b == 32 || b == 9 || b == 13 || b == 10
 abbrev pub is_bare : ℕ → Bool
 is_bare b = is_ascii_alphanumeric b || list_any (λ d. b == d) (codes "_-.:")
 
+-- the first byte is this one
 abbrev pub next_is : ℕ → List ℕ → Bool
 next_is c [] = false
 next_is c (b ∷ bs) = b == c

@@ -32,6 +32,7 @@ kind_named word =
 abbrev pub all_opvs : List OnParentVersion
 all_opvs = opv.Copy ∷ opv.Version ∷ opv.Initialize ∷ opv.Compute ∷ opv.Ignore ∷ opv.Abort ∷ []
 
+-- the one of these that a word names
 abbrev pub opv_named : List ℕ → Option OnParentVersion
 opv_named word = find (λ o. is_a (opv_text o) word) all_opvs
 

@@ -3,7 +3,7 @@ ghost use Rattle.std.specs.Prelude.{◌≡◌, ◌++◌, IfOk, OnOk, codes, map,
 ghost use Rattle.std.specs.Fmt.{signed_decimal};
 ghost use Rattle.std.specs.List.{flat_map, list_all};
 ghost use Rattle.jr_value.specs.Json.{identifier_text};
-ghost use Rattle.jr_cnd.specs.Printing.{child_attributes, child_head, child_text, cnd_text, escaped, escaped_character, is_bare_name, item_name_text, kind_word, list_behind, listed, name_behind, name_text, opv_part, prefix_text, prop_attributes, prop_head, prop_text, quoted, type_attributes, type_head, type_line, type_text, value_text, word_if};
+ghost use Rattle.jr_cnd.specs.Printing.{child_attributes, child_head, child_text, cnd_text, continued, default_texts, escaped, escaped_character, is_bare_name, item_name_text, kind_word, list_behind, listed, name_behind, name_text, opv_part, prefix_text, prop_attributes, prop_head, prop_text, quoted, type_attributes, type_head, type_line, type_text, value_text, word_if};
 ghost use Rattle.jr_cnd.specs.Tokens.{is_bare};
 
 use crate::scan::is_bare;
@@ -44,7 +44,8 @@ fn put_quoted(out: &mut Text, text: &str) -> Result<(), AllocError>
 }
 
 fn put_escaped(out: &mut String, text: &str) -> Result<(), AllocError>
-    ensures { OnOk result (string_bytes out.new ≡ string_bytes out.old ++ flat_map escaped text.now) }
+    ensures { OnOk result
+        (string_bytes out.new ≡ string_bytes out.old ++ flat_map escaped text.now) }
 {
     for c in text.chars() {
         put_character(out, c)?;
@@ -91,7 +92,7 @@ fn put_names(out: &mut Text, names: &[Name]) -> Result<(), AllocError>
 }
 
 fn put_more_names(out: &mut Text, names: &[Name]) -> Result<(), AllocError>
-    ensures { OnOk result (out.new ≡ out.old ++ flat_map (λ u. codes ", " ++ u) (map name_text names.now)) }
+    ensures { OnOk result (out.new ≡ out.old ++ continued (map name_text names.now)) }
 {
     for name in names {
         put_one_more_name(out, name)?;
@@ -120,7 +121,7 @@ fn put_texts(out: &mut Text, texts: &[Text]) -> Result<(), AllocError>
 }
 
 fn put_more_texts(out: &mut Text, texts: &[Text]) -> Result<(), AllocError>
-    ensures { OnOk result (out.new ≡ out.old ++ flat_map (λ u. codes ", " ++ u) (map quoted texts.now)) }
+    ensures { OnOk result (out.new ≡ out.old ++ continued (map quoted texts.now)) }
 {
     for text in texts {
         put_one_more_text(out, text)?;
@@ -226,7 +227,7 @@ fn identifier_of(alloc: Global, id: u128) -> Result<String, AllocError>
 
 // Values in quotes with commas between.
 fn put_values(alloc: Global, out: &mut Text, values: &[Value]) -> Result<(), AllocError>
-    ensures { OnOk result (out.new ≡ out.old ++ listed (map (λ v. quoted (value_text v)) values.now)) }
+    ensures { OnOk result (out.new ≡ out.old ++ listed (default_texts values.now)) }
 {
     match values {
         [] => Ok(()),
@@ -238,7 +239,7 @@ fn put_values(alloc: Global, out: &mut Text, values: &[Value]) -> Result<(), All
 }
 
 fn put_more_values(alloc: Global, out: &mut Text, values: &[Value]) -> Result<(), AllocError>
-    ensures { OnOk result (out.new ≡ out.old ++ flat_map (λ u. codes ", " ++ u) (map (λ v. quoted (value_text v)) values.now)) }
+    ensures { OnOk result (out.new ≡ out.old ++ continued (default_texts values.now)) }
 {
     for value in values {
         put_one_more_value(alloc, out, value)?;
@@ -255,7 +256,8 @@ fn put_one_more_value(alloc: Global, out: &mut Text, value: &Value) -> Result<()
 
 // The defaults of a property behind ` = `, or nothing.
 fn put_defaults(alloc: Global, out: &mut Text, values: &[Value]) -> Result<(), AllocError>
-    ensures { OnOk result (out.new ≡ out.old ++ list_behind (codes " = ") (map (λ v. quoted (value_text v)) values.now)) }
+    ensures { OnOk result
+        (out.new ≡ out.old ++ list_behind (codes " = ") (default_texts values.now)) }
 {
     if values.is_empty() {
         return Ok(());
@@ -373,7 +375,8 @@ fn put_type_head(out: &mut Text, definition: &TypeDef) -> Result<(), AllocError>
 }
 
 fn put_supertypes(out: &mut Text, names: &[Name]) -> Result<(), AllocError>
-    ensures { OnOk result (out.new ≡ out.old ++ list_behind (codes " > ") (map name_text names.now)) }
+    ensures { OnOk result
+        (out.new ≡ out.old ++ list_behind (codes " > ") (map name_text names.now)) }
 {
     if names.is_empty() {
         return Ok(());
