@@ -62,6 +62,11 @@ abbrev pub bare_from : ℕ → List ℕ → ℕ
 bare_from at [] = at
 bare_from at (b ∷ bs) = if is_bare b then bare_from (at + 1) bs else at
 
+-- a bare token goes on with the first byte
+abbrev pub goes_on_bare : List ℕ → Bool
+goes_on_bare [] = false
+goes_on_bare (b ∷ bs) = is_bare b
+
 -- Up to the quote (39) that closes a text and with it, behind so many bytes. Behind a backslash (92) stands a quote or a
 -- backslash, and nothing else.
 abbrev pub quote_from : Bool → ℕ → List ℕ → Option ℕ

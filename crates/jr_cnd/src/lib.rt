@@ -20,5 +20,8 @@ mod words;
 pub use cnd::{Cnd, Prefix};
 pub use fault::NoCnd;
 pub use file::read_cnd;
-pub use laws::{equal_meanings_print_alike, one_meaning};
+pub use laws::{
+    bare_names_are_tokens, equal_meanings_print_alike, one_meaning, printed_texts_are_tokens,
+    printed_values_are_read_back,
+};
 pub use printing::print_cnd;
