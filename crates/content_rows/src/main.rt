@@ -2,6 +2,7 @@
 //! the output is the answer.
 #![tactic(auto)]
 
+mod definitions;
 mod events;
 mod json;
 mod locks;

@@ -1,5 +1,5 @@
 // What comes of each line.
-use crate::{events, locks, plans, references, trees, types};
+use crate::{definitions, events, locks, plans, references, trees, types};
 use jr_path::{Path, PathFault};
 use jr_tree::Tree;
 use std::alloc::{AllocError, Global};
@@ -35,6 +35,9 @@ fn add_line(
     }
     if let ("added" | "is_a" | "subtypes" | "type" | "violation", asked) = cut(question) {
         return types::add(alloc, cut(question).0, asked, given, out);
+    }
+    if let ("definitions" | "printed", asked) = cut(question) {
+        return definitions::add(alloc, cut(question).0, asked, given, out);
     }
     match trees::tree_of(alloc, given)? {
         Some(tree) => add_answer(alloc, &tree, question, out),

@@ -1,0 +1,5 @@
+mod Answered
+mod Escapes
+mod OneMeaning
+mod Tokens
+mod Values

@@ -1,0 +1,7 @@
+pub mod Tokens
+pub mod Words
+pub mod Pieces
+pub mod Reading
+pub mod Grammar
+pub mod Meaning
+pub mod Printing

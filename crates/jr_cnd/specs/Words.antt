@@ -1,0 +1,58 @@
+-- What words mean by themselves, in any case of their letters.
+use Rattle.std.specs.Prelude.{ℕ, Bool, ◌&&◌, ◌||◌, ◌==◌, not, List, [], ◌∷◌, Option, None, Some, option_map, if◌then◌else◌, find, codes, true, false}
+use Rattle.std.specs.List.{list_all}
+use Rattle.std.specs.Str.{str_eq_ignore_ascii_case}
+use Rattle.jr_path.specs.Grammar.{is_prefix_character}
+use Rattle.jr_value.specs.Json.{kind_text}
+use Rattle.jr_value.specs.Reading.{all_kinds}
+use Rattle.jr_value.specs.declared.value.Kind.{Kind}
+use Rattle.jr_types.specs.Reading.{opv_text}
+use Rattle.jr_types.specs.declared.OnParentVersion.{OnParentVersion}
+use Rattle.jr_types.specs.declared.OnParentVersion.TheVariants as opv
+use Rattle.jr_cnd.specs.declared.words.TypeWord.{TypeWord}
+use Rattle.jr_cnd.specs.declared.words.TypeWord.TheVariants as type
+use Rattle.jr_cnd.specs.declared.words.ItemWord.{ItemWord}
+use Rattle.jr_cnd.specs.declared.words.ItemWord.TheVariants as item
+
+-- the same word, in any case
+abbrev pub is_a : List ℕ → List ℕ → Bool
+is_a = str_eq_ignore_ascii_case
+
+-- the word, or its one letter
+abbrev pub is_either : List ℕ → List ℕ → List ℕ → Bool
+is_either whole short word = is_a whole word || is_a short word
+
+-- the kind that a word names; `undefined` is none
+abbrev pub kind_named : List ℕ → Option (Option Kind)
+kind_named word =
+    if is_a (codes "undefined") word then Some None
+    else option_map Some (find (λ k. is_a (kind_text k) word) all_kinds)
+
+-- the attributes of what a check-in of the parent does
+abbrev pub all_opvs : List OnParentVersion
+all_opvs = opv.Copy ∷ opv.Version ∷ opv.Initialize ∷ opv.Compute ∷ opv.Ignore ∷ opv.Abort ∷ []
+
+-- the one of these that a word names
+abbrev pub opv_named : List ℕ → Option OnParentVersion
+opv_named word = find (λ o. is_a (opv_text o) word) all_opvs
+
+-- the attribute of a type that a word names
+abbrev pub type_word : List ℕ → Option TypeWord
+type_word word =
+    if is_either (codes "mixin") (codes "m") word then Some type.Mixin
+    else (if is_either (codes "abstract") (codes "a") word then Some type.Abstract
+    else (if is_either (codes "orderable") (codes "o") word then Some type.Orderable
+    else (if is_a (codes "primaryitem") word then Some type.PrimaryItem else None)))
+
+-- the attribute of an item that a word names
+abbrev pub item_word : List ℕ → Option ItemWord
+item_word word =
+    if is_either (codes "mandatory") (codes "m") word then Some item.Mandatory
+    else (if is_either (codes "autocreated") (codes "a") word then Some item.Autocreated
+    else (if is_either (codes "protected") (codes "p") word then Some item.Protected
+    else (if is_a (codes "multiple") word then Some item.Multiple
+    else option_map item.Opv (opv_named word))))
+
+-- letters, digits, `_`, `-` and `.`
+abbrev pub is_prefix : List ℕ → Bool
+is_prefix = list_all is_prefix_character
