@@ -33,7 +33,7 @@ fn put_memory(ask: &MemoryAsk, out: &mut Out) {
 }
 
 // `make` where it makes a document that isn't there, and `change` where it doesn't.
-fn put_update(op: &UpdateOp, out: &mut Out) {
+pub(crate) fn put_update(op: &UpdateOp, out: &mut Out) {
     out.put_id(update_word(op.create), &op.id);
     if let Some(cond) = &op.cond {
         put_condition(cond, out);

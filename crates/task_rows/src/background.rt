@@ -2,6 +2,7 @@
 use crate::replies::{Row, STEPS, begin, reply_to};
 use crate::texts::{Out, cut, path, revision, small};
 use jr_path::List;
+use jr_rev::{RevVec, Revision};
 use oak_node::Pending;
 use oak_store::DocTable;
 use oak_sweep::Sweeper;
@@ -39,7 +40,7 @@ fn run_write(row: &Row<'_>, write: BackWrite, table: &mut DocTable, out: &mut Ou
             out.note(made);
         }
     }
-    end_write(write, out);
+    put_write(&end_write(write), out);
 }
 
 fn write_step(
@@ -51,7 +52,7 @@ fn write_step(
 ) -> Result<(), AllocError> {
     begin(row, step, sync_word(write.stage()), table, out);
     let ask = write.next()?;
-    write.feed(reply_to(row, &ask, table, out))
+    write.feed(reply_to(row, ask, table, out))
 }
 
 fn sync_word(stage: oak_sync::Stage) -> &'static str {
@@ -64,9 +65,17 @@ fn sync_word(stage: oak_sync::Stage) -> &'static str {
     }
 }
 
-fn end_write(write: BackWrite, out: &mut Out) {
+fn end_write(write: BackWrite) -> Result<Revision, BackWrite> {
     if write.is_done() {
-        out.put_revision("end ", write.end());
+        Ok(write.end())
+    } else {
+        Err(write)
+    }
+}
+
+fn put_write(ended: &Result<Revision, BackWrite>, out: &mut Out) {
+    if let Ok(r) = ended {
+        out.put_revision("end ", *r);
     }
 }
 
@@ -86,7 +95,7 @@ fn run_read(row: &Row<'_>, read: BackRead, table: &mut DocTable, out: &mut Out) 
             out.note(made);
         }
     }
-    end_read(read, out);
+    put_read(&end_read(read), out);
 }
 
 fn read_step(
@@ -98,13 +107,20 @@ fn read_step(
 ) -> Result<(), AllocError> {
     begin(row, step, sync_word(read.stage()), table, out);
     let ask = read.next()?;
-    read.feed(reply_to(row, &ask, table, out))
+    read.feed(reply_to(row, ask, table, out))
 }
 
-fn end_read(read: BackRead, out: &mut Out) {
+fn end_read(read: BackRead) -> Result<(RevVec, RevVec), BackRead> {
     if read.is_done() {
-        let (last, sweep) = read.end();
-        out.put_pin("end ", &last, &sweep);
+        Ok(read.end())
+    } else {
+        Err(read)
+    }
+}
+
+fn put_read(ended: &Result<(RevVec, RevVec), BackRead>, out: &mut Out) {
+    if let Ok((last, sweep)) = ended {
+        out.put_pin("end ", last, sweep);
     }
 }
 
@@ -124,7 +140,7 @@ fn run_sweep(row: &Row<'_>, sweeper: Sweeper, table: &mut DocTable, out: &mut Ou
             out.note(made);
         }
     }
-    end_sweep(sweeper, out);
+    put_sweep(&end_sweep(sweeper), out);
 }
 
 fn sweep_step(
@@ -136,7 +152,7 @@ fn sweep_step(
 ) -> Result<(), AllocError> {
     begin(row, step, sweep_word(sweeper.stage()), table, out);
     let ask = sweeper.next()?;
-    sweeper.feed(reply_to(row, &ask, table, out))
+    sweeper.feed(reply_to(row, ask, table, out))
 }
 
 fn sweep_word(stage: oak_sweep::Stage) -> &'static str {
@@ -149,8 +165,16 @@ fn sweep_word(stage: oak_sweep::Stage) -> &'static str {
     }
 }
 
-fn end_sweep(sweeper: Sweeper, out: &mut Out) {
+fn end_sweep(sweeper: Sweeper) -> Result<Revision, Sweeper> {
     if sweeper.is_done() {
-        out.put_revision("end ", sweeper.end());
+        Ok(sweeper.end())
+    } else {
+        Err(sweeper)
+    }
+}
+
+fn put_sweep(ended: &Result<Revision, Sweeper>, out: &mut Out) {
+    if let Ok(r) = ended {
+        out.put_revision("end ", *r);
     }
 }

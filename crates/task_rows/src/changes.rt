@@ -53,9 +53,13 @@ fn update(document: &str, words: &str, table: &mut DocTable, out: &mut Out) {
         cond: None,
         changes: changes(words, out),
     };
-    if table.update(&op).is_err() {
+    if !is_made(&op, table) {
         out.is_broken = true;
     }
+}
+
+fn is_made(op: &UpdateOp, table: &mut DocTable) -> bool {
+    table.update(op).is_ok()
 }
 
 fn changes(words: &str, out: &mut Out) -> List<Change> {

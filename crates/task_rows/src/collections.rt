@@ -24,7 +24,8 @@ fn run(row: &Row<'_>, collector: Collector, table: &mut DocTable, out: &mut Out)
             out.note(made);
         }
     }
-    end(collector, out);
+    put_bound(&collector.bound(), out);
+    put_ended(&end(collector), out);
 }
 
 fn make_step(
@@ -36,7 +37,7 @@ fn make_step(
 ) -> Result<(), AllocError> {
     begin(row, step, word(collector.stage()), table, out);
     let ask = collector.next()?;
-    collector.feed(reply_to(row, &ask, table, out))
+    collector.feed(reply_to(row, ask, table, out))
 }
 
 fn word(stage: Stage) -> &'static str {
@@ -48,10 +49,17 @@ fn word(stage: Stage) -> &'static str {
     }
 }
 
-fn end(collector: Collector, out: &mut Out) {
+fn end(collector: Collector) -> Result<Collected, Collector> {
     if collector.is_done() {
-        put_bound(&collector.bound(), out);
-        put_end(&collector.end(), out);
+        Ok(collector.end())
+    } else {
+        Err(collector)
+    }
+}
+
+fn put_ended(ended: &Result<Collected, Collector>, out: &mut Out) {
+    if let Ok(collected) = ended {
+        put_end(collected, out);
     }
 }
 

@@ -1,4 +1,8 @@
 // Commits, also over previous documents.
+ghost use Rattle.std.specs.Prelude.{◌≡◌, IsTrue};
+ghost use Rattle.oak_commit.specs.Committing.{due_of};
+ghost use Rattle.oak_doc.specs.declared.asks.Ask.TheVariants as ask;
+
 use crate::asks::put_item;
 use crate::replies::{Row, STEPS, begin, reply_to};
 use crate::texts::{Out, cut, path, revision, vector};
@@ -118,7 +122,7 @@ fn run(row: &Row<'_>, committer: Committer, table: &mut DocTable, out: &mut Out)
             out.note(made);
         }
     }
-    end(committer, out);
+    put_ended(&end(committer), out);
 }
 
 fn make_step(
@@ -141,7 +145,7 @@ fn reply(
 ) -> Result<Reply, AllocError> {
     match committer.next()? {
         Ask::Undo(r) => Ok(undone(committer.undo_id(), r, table, out)),
-        ask => Ok(reply_to(row, &ask, table, out)),
+        ask => Ok(reply_to(row, ask, table, out)),
     }
 }
 
@@ -164,9 +168,23 @@ fn word(stage: Stage) -> &'static str {
     }
 }
 
-fn end(committer: Committer, out: &mut Out) {
-    if let Ok(Ask::Done) = committer.next() {
-        put_end(&committer.end(), out);
+fn end(committer: Committer) -> Result<CommitEnd, Committer> {
+    if is_done(&committer) {
+        Ok(committer.end())
+    } else {
+        Err(committer)
+    }
+}
+
+fn is_done(committer: &Committer) -> bool
+    ensures { IsTrue result → due_of committer.now ≡ ask.Done }
+{
+    matches!(committer.next(), Ok(Ask::Done))
+}
+
+fn put_ended(ended: &Result<CommitEnd, Committer>, out: &mut Out) {
+    if let Ok(end) = ended {
+        put_end(end, out);
     }
 }
 

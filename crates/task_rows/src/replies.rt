@@ -26,9 +26,9 @@ pub(crate) fn begin(row: &Row<'_>, step: u64, stage: &str, table: &mut DocTable,
 }
 
 // Makes what is asked; the text of the ask, and of the reply where there is something to say.
-pub(crate) fn reply_to(row: &Row<'_>, ask: &Ask, table: &mut DocTable, out: &mut Out) -> Reply {
-    put_ask(ask, out);
-    let reply = answer(row, ask, table, out.alloc);
+pub(crate) fn reply_to(row: &Row<'_>, ask: Ask, table: &mut DocTable, out: &mut Out) -> Reply {
+    put_ask(&ask, out);
+    let reply = answer(row, &ask, table, out.alloc);
     put_reply(&reply, out);
     out.put("; ");
     reply
@@ -63,7 +63,7 @@ fn copied(document: &Document) -> Reply {
     }
 }
 
-fn updated(op: &UpdateOp, table: &mut DocTable) -> Reply {
+pub(crate) fn updated(op: &UpdateOp, table: &mut DocTable) -> Reply {
     match table.update(op) {
         Ok(before) => Reply::Updated(before),
         Err(OpFault::Unmet(cond, kept)) => Reply::Unmet(cond, kept),
@@ -123,7 +123,7 @@ fn pins_of(texts: &str, alloc: Global) -> Result<List<Pin>, AllocError> {
     Ok(pins)
 }
 
-fn put_reply(reply: &Reply, out: &mut Out) {
+pub(crate) fn put_reply(reply: &Reply, out: &mut Out) {
     match reply {
         Reply::Found(None) => out.put(" none"),
         Reply::Updated(_) => out.put(" made"),

@@ -1,35 +1,37 @@
 // Checkpoints and attached readers.
-use crate::asks::put_checkpoint;
-use crate::replies::{Row, reply_to};
+use crate::asks::{put_checkpoint, put_update};
+use crate::replies::{Row, put_reply, updated};
 use crate::texts::{Out, cut, pin, small};
 use jr_path::DocId;
 use oak_checkpoint::{attach, create, detach, drop_readers, found, release};
-use oak_doc::{Ask, Document, UpdateOp};
+use oak_doc::{Document, UpdateOp};
 use oak_store::DocTable;
 use std::alloc::{AllocError, Global};
 
 // WORD ..: each is an update, or the question for a checkpoint; then what the settings keep.
 pub(crate) fn add(row: &Row<'_>, table: &mut DocTable, out: &mut Out) {
     for text in row.arguments.split(' ') {
-        add_word(row, text, table, out);
+        add_word(text, table, out);
     }
     put_kept(table.find(&DocId::Settings), out);
 }
 
-fn add_word(row: &Row<'_>, text: &str, table: &mut DocTable, out: &mut Out) {
+fn add_word(text: &str, table: &mut DocTable, out: &mut Out) {
     let (word, rest) = cut(text, '@');
     let (key, value) = cut(rest, '=');
     if word == "found" {
         return put_found(table.find(&DocId::Settings), key, out);
     }
     match op(word, key, value, out.alloc) {
-        Ok(op) => update(row, op, table, out),
+        Ok(op) => update(&op, table, out),
         Err(_) => out.is_broken = true,
     }
 }
 
-fn update(row: &Row<'_>, op: UpdateOp, table: &mut DocTable, out: &mut Out) {
-    let _ = reply_to(row, &Ask::Update(op), table, out);
+fn update(op: &UpdateOp, table: &mut DocTable, out: &mut Out) {
+    put_update(op, out);
+    put_reply(&updated(op, table), out);
+    out.put("; ");
 }
 
 // create@ID=PIN, attach@SESSION=ID, detach@SESSION, release@ID, or drop@SESSION,SESSION

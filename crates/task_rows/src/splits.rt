@@ -23,7 +23,7 @@ fn run(row: &Row<'_>, splitter: Splitter, table: &mut DocTable, out: &mut Out) {
             out.note(made);
         }
     }
-    end(splitter, out);
+    put_ended(&end(splitter), out);
 }
 
 fn make_step(
@@ -35,7 +35,7 @@ fn make_step(
 ) -> Result<(), AllocError> {
     begin(row, step, word(splitter.stage()), table, out);
     let ask = splitter.next()?;
-    splitter.feed(reply_to(row, &ask, table, out))
+    splitter.feed(reply_to(row, ask, table, out))
 }
 
 fn word(stage: Stage) -> &'static str {
@@ -46,9 +46,17 @@ fn word(stage: Stage) -> &'static str {
     }
 }
 
-fn end(splitter: Splitter, out: &mut Out) {
+fn end(splitter: Splitter) -> Result<SplitEnd, Splitter> {
     if splitter.is_done() {
-        put_end(splitter.end(), out);
+        Ok(splitter.end())
+    } else {
+        Err(splitter)
+    }
+}
+
+fn put_ended(ended: &Result<SplitEnd, Splitter>, out: &mut Out) {
+    if let Ok(end) = ended {
+        put_end(*end, out);
     }
 }
 
