@@ -4,20 +4,18 @@ use Rattle.std.specs.Prelude.{MatchOption, IsUtf8}
 use Rattle.std.specs.Str.{is_utf8}
 use Rattle.std.proofs.lemmas.Bool.{true≢false}
 use Rattle.std.proofs.lemmas.Str.{IsUtf8-from_is_utf8, is_utf8-from_IsUtf8}
-use Rattle.jr_path.specs.Grammar.{IsName}
 use Rattle.jr_path.specs.declared.name.Name.{Name}
 use Rattle.jr_value.specs.declared.value.Kind.{Kind}
 use Rattle.jr_value.specs.declared.value.Kind.TheVariants as kind
 use Rattle.jr_value.specs.declared.value.Value.{Value}
 use Rattle.jr_value.specs.declared.value.Value.TheVariants as value
-use Rattle.jr_value.specs.declared.value.Property.{Property}
 use Rattle.jr_value.specs.declared.value.Property.TheVariants.{Single}
 use Rattle.jr_value.specs.Json.{kind_text, tagged, value_data}
-use Rattle.jr_value.specs.Reading.{IsFound, IsPropertyJson}
+use Rattle.jr_value.specs.Reading.{IsFound}
 use Rattle.jr_value.specs.Texts.{IsText}
 use Rattle.jr_value.proofs.Unique.{property_one}
 use Rattle.jr_cnd.specs.Meaning.{IsMeaning, meaning}
-use Rattle.jr_cnd.specs.Pieces.{ArePieces, IsDefault, IsNameOrNone, IsReadAs, IsSaid, Means, content, context_after, is_behind_less, left_behind, place_behind}
+use Rattle.jr_cnd.specs.Pieces.{ArePieces, IsDefault, IsNameOrNone, IsSaid, Means, content, context_after, is_behind_less, left_behind, place_behind}
 use Rattle.jr_cnd.specs.Tokens.{first_token, gap_size}
 use Rattle.jr_cnd.specs.declared.cnd.Cnd.{Cnd}
 use Rattle.jr_cnd.specs.declared.context.Context.{Context}

@@ -1,5 +1,5 @@
 -- The text that is printed of a value is that value again.
-use Rattle.std.proofs.Common.{◌≡◌, ◌∙◌, ℕ, suc, ◌<◌, ◌≤◌, ◌^◌, ◌==◌, Bool, true, false, List, [], ◌∷◌, ap, arith, eq-eqb, eqb-true, length, pos, negsuc, ℤ, refl, subst, sym}
+use Rattle.std.proofs.Common.{◌≡◌, ◌∙◌, ℕ, suc, ◌<◌, ◌≤◌, ◌^◌, ◌==◌, Bool, true, false, List, [], ◌∷◌, ap, arith, eq-eqb, eqb-true, pos, negsuc, ℤ, refl, subst, sym}
 use Rattle.std.specs.Prelude.{FitsSigned, neg_ℤ, slice_index}
 use Rattle.std.specs.Char.{digit_value}
 use Rattle.std.specs.Fmt.{decimal, signed_decimal}

@@ -1,5 +1,5 @@
 -- The grammar of type definitions, part by part: what each reads, and where it fails.
-use Rattle.std.specs.Prelude.{◌≡◌, ℕ, Bool, true, false, ◌&&◌, ◌||◌, not, List, [], ◌∷◌, ◌++◌, Option, None, Some, is_some, is_none, option_map, option_and_then, unwrap_or, Result, Ok, Err, if◌then◌else◌}
+use Rattle.std.specs.Prelude.{ℕ, Bool, true, false, ◌&&◌, ◌||◌, not, List, [], ◌∷◌, ◌++◌, Option, None, Some, is_some, is_none, unwrap_or, Ok, if◌then◌else◌}
 use Rattle.std.specs.List.{filter}
 use Rattle.jr_path.specs.declared.name.Name.{Name}
 use Rattle.jr_value.specs.declared.value.Kind.{Kind}
@@ -12,7 +12,7 @@ use Rattle.jr_types.specs.declared.OnParentVersion.TheVariants as opv
 use Rattle.jr_types.specs.declared.PropDef.{PropDef}
 use Rattle.jr_types.specs.declared.ChildDef.{ChildDef}
 use Rattle.jr_types.specs.declared.TypeDef.{TypeDef}
-use Rattle.jr_cnd.specs.Reading.{◌>>=◌, State, Read, after, bare_first, behind, many, name_at, name_first, no_pieces, place, required, sign_at, sign_first, text_at}
+use Rattle.jr_cnd.specs.Reading.{◌>>=◌, State, Read, after, bare_first, behind, many, name_at, no_pieces, place, required, sign_at, sign_first, text_at}
 use Rattle.jr_cnd.specs.Words.{is_prefix, item_word, kind_named, type_word}
 use Rattle.jr_cnd.specs.declared.piece.Placed.{Placed}
 use Rattle.jr_cnd.specs.declared.piece.Says.{Says}
@@ -26,7 +26,6 @@ use Rattle.jr_cnd.specs.declared.types.TypeAttributes.{TypeAttributes}
 use Rattle.jr_cnd.specs.declared.types.Items.{Items}
 use Rattle.jr_cnd.specs.declared.attributes.ItemAttributes.{ItemAttributes}
 use Rattle.jr_cnd.specs.declared.cnd.Prefix.{Prefix}
-use Rattle.jr_cnd.specs.declared.file.PlacedType.{PlacedType}
 use Rattle.jr_cnd.specs.declared.file.File.{File}
 
 -- ---- lists of names and of texts

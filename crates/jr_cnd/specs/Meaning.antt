@@ -5,7 +5,6 @@ use Rattle.jr_types.specs.Rules.{type_fault}
 use Rattle.jr_types.specs.declared.TypeDef.{TypeDef}
 use Rattle.jr_cnd.specs.Grammar.{file_at}
 use Rattle.jr_cnd.specs.Pieces.{IsReadAs}
-use Rattle.jr_cnd.specs.Reading.{State}
 use Rattle.jr_cnd.specs.declared.cnd.Cnd.{Cnd}
 use Rattle.jr_cnd.specs.declared.fault.NoCnd.{NoCnd}
 use Rattle.jr_cnd.specs.declared.fault.NoCnd.TheVariants as no

@@ -1,6 +1,5 @@
 -- What each token of a text says.
 use Rattle.std.specs.Prelude.{◌≡◌, ℕ, ◌+◌, ◌-◌, Bool, true, false, ◌&&◌, ◌==◌, not, List, [], ◌∷◌, Option, None, Some, if◌then◌else◌, MatchOption, IsUtf8, length, take, drop}
-use Rattle.std.specs.Option.{option_map_or}
 use Rattle.jr_path.specs.Grammar.{IsName}
 use Rattle.jr_path.specs.declared.name.Name.{Name}
 use Rattle.jr_value.specs.Reading.{IsFound}

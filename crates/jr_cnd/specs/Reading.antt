@@ -1,5 +1,5 @@
 -- What reading is: from what is left of a text to a thing and what is left then, or to the offset where it fails.
-use Rattle.std.specs.Prelude.{◌≡◌, ℕ, Bool, true, false, ◌==◌, List, [], ◌∷◌, Option, None, Some, is_some, Result, Ok, Err, if◌then◌else◌}
+use Rattle.std.specs.Prelude.{◌≡◌, ℕ, Bool, true, false, ◌==◌, List, [], ◌∷◌, Option, None, Some, Result, Ok, Err, if◌then◌else◌}
 use Rattle.jr_path.specs.declared.name.Name.{Name}
 use Rattle.jr_cnd.specs.declared.fault.NoCnd.{NoCnd}
 use Rattle.jr_cnd.specs.declared.fault.NoCnd.TheVariants as no

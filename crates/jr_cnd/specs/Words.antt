@@ -1,5 +1,5 @@
 -- What words mean by themselves, in any case of their letters.
-use Rattle.std.specs.Prelude.{ℕ, Bool, ◌&&◌, ◌||◌, ◌==◌, not, List, [], ◌∷◌, Option, None, Some, option_map, if◌then◌else◌, find, codes, true, false}
+use Rattle.std.specs.Prelude.{ℕ, Bool, ◌||◌, List, [], ◌∷◌, Option, None, Some, option_map, if◌then◌else◌, find, codes}
 use Rattle.std.specs.List.{list_all}
 use Rattle.std.specs.Str.{str_eq_ignore_ascii_case}
 use Rattle.jr_path.specs.Grammar.{is_prefix_character}

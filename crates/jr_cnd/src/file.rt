@@ -137,6 +137,14 @@ fn judge(registry: &mut Registry, types: &[PlacedType]) -> Result<(), NoCnd>
     Ok(())
 }
 
+// The definitions keep the rules of the registry, over the built-in types and those before them.
+fn keep_rules(alloc: Global, types: &[PlacedType]) -> Result<(), NoCnd>
+    ensures { IsJudged (first_bad builtin types.now) result }
+{
+    let mut registry = Registry::builtin(alloc)?;
+    judge(&mut registry, types)
+}
+
 // The definitions without their places.
 fn definitions_of(alloc: Global, types: List<PlacedType>) -> Result<List<TypeDef>, AllocError>
     ensures { IfOk result (λ definitions. definitions ≡ map (λ d. d.definition) types) }
@@ -152,8 +160,7 @@ fn definitions_of(alloc: Global, types: List<PlacedType>) -> Result<List<TypeDef
 fn judged(alloc: Global, file: File) -> Result<Cnd, NoCnd>
     ensures { Answers result (judged file) }
 {
-    let mut registry = Registry::builtin(alloc)?;
-    judge(&mut registry, file.types.as_slice())?;
+    keep_rules(alloc, file.types.as_slice())?;
     let definitions = definitions_of(alloc, file.types)?;
     Ok(Cnd {
         prefixes: file.prefixes,

@@ -1,4 +1,4 @@
-use Rattle.std.proofs.Common.{◌≡◌, ◌∙◌, Ok, ap, sym}
+use Rattle.std.proofs.Common.{◌∙◌, Ok, ap}
 use Rattle.jr_cnd.specs.Printing.{cnd_text}
 use Rattle.jr_cnd.proofs.OneMeaning.{one_meaning, ok_same}
 use Rattle.jr_cnd.proofs.laws.equal_meanings_print_alike.Goals as goal

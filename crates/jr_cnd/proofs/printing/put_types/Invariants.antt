@@ -1,4 +1,4 @@
-use Rattle.std.proofs.Common.{◌≡◌, ◌++◌, map, take}
+use Rattle.std.proofs.Common.{◌≡◌, ◌++◌, take}
 use Rattle.std.specs.List.{flat_map}
 use Rattle.jr_cnd.specs.Printing.{type_text}
 use Rattle.jr_cnd.proofs.printing.put_types.Given as goal
