@@ -1,5 +1,5 @@
 // What comes of each line.
-use crate::{events, locks, references, trees, types};
+use crate::{events, locks, references, trees, types, versions};
 use jr_path::{Path, PathFault};
 use jr_tree::Tree;
 use std::alloc::{AllocError, Global};
@@ -29,6 +29,9 @@ fn add_line(
 ) -> Result<(), AllocError> {
     if let ("events", asked) = cut(question) {
         return events::add(alloc, asked, given, out);
+    }
+    if let ("versions", steps) = cut(question) {
+        return versions::add(alloc, steps, given, out);
     }
     if let ("added" | "is_a" | "subtypes" | "type" | "violation", asked) = cut(question) {
         return types::add(alloc, cut(question).0, asked, given, out);

@@ -66,7 +66,7 @@ pub(crate) fn name_of(alloc: Global, text: &str) -> Result<Option<Name>, AllocEr
     }
 }
 
-fn property_of(alloc: Global, json: &Json) -> Result<Option<Property>, AllocError> {
+pub(crate) fn property_of(alloc: Global, json: &Json) -> Result<Option<Property>, AllocError> {
     match Property::from_json(alloc, json) {
         Ok(property) => Ok(Some(property)),
         Err(ValueFault::Memory) => Err(AllocError),

@@ -1,0 +1,94 @@
+// What becomes of the nodes below a node that is brought to a frozen node.
+ghost use Rattle.std.specs.Prelude.{◌≡◌, IfOk};
+ghost use Rattle.jcr_restore.specs.Restored.{fate_below, is_brought, is_kept_back, is_staying};
+
+use jcr_version::is_frozen_along;
+use jr_path::{Name, Path};
+use jr_tree::Tree;
+use jr_types::Registry;
+use std::alloc::{AllocError, Global};
+
+/// What becomes of a node.
+#[derive(Clone, Copy, Debug, PartialEq, Eq)]
+pub(crate) enum Fate {
+    /// It stays as it is.
+    Stays,
+    /// It goes, with all below it that doesn't stay.
+    Goes,
+    /// It is brought to its frozen node.
+    Brought,
+}
+
+impl Fate {
+    pub(crate) fn is_staying(self) -> bool
+        ensures { result ≡ is_staying self }
+    {
+        matches!(self, Fate::Stays)
+    }
+
+    pub(crate) fn is_brought(self) -> bool
+        ensures { result ≡ is_brought self }
+    {
+        matches!(self, Fate::Brought)
+    }
+}
+
+/// The fate of the node by these names below one that is brought to a frozen node.
+pub(crate) fn fate_below(
+    alloc: Global,
+    types: &Registry,
+    tree: &Tree,
+    here: &Path,
+    there: &Path,
+    names: &[Name],
+) -> Result<Fate, AllocError>
+    ensures { IfOk result (λ fate. fate ≡ fate_below types.now tree.now here.now there.now names.now) }
+{
+    match names {
+        [] => Ok(Fate::Brought),
+        [first, rest @ ..] => fate_from(
+            alloc,
+            types,
+            tree,
+            &here.child(first)?,
+            &there.child(first)?,
+            rest,
+        ),
+    }
+}
+
+// The fate of the node by these names at or below a node whose place above is brought.
+fn fate_from(
+    alloc: Global,
+    types: &Registry,
+    tree: &Tree,
+    here: &Path,
+    there: &Path,
+    names: &[Name],
+) -> Result<Fate, AllocError>
+    ensures { IfOk result (λ fate. fate ≡ fate_from types.now tree.now here.now there.now names.now) }
+{
+    if is_kept_back(alloc, types, tree, here)? {
+        return Ok(Fate::Stays);
+    }
+    if tree.has(there) {
+        fate_below(alloc, types, tree, here, there, names)
+    } else {
+        Ok(Fate::Goes)
+    }
+}
+
+// Whether the node is there and isn't frozen with the node above.
+fn is_kept_back(
+    alloc: Global,
+    types: &Registry,
+    tree: &Tree,
+    path: &Path,
+) -> Result<bool, AllocError>
+    ensures { IfOk result (λ answer. answer ≡ is_kept_back types.now tree.now path.now) }
+{
+    if !tree.has(path) {
+        return Ok(false);
+    }
+    Ok(!is_frozen_along(alloc, types, tree, path)?)
+}

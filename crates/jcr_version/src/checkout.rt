@@ -1,0 +1,70 @@
+// The edit that checks a node out.
+ghost use Rattle.std.specs.Prelude.{◌≡◌, [], cond, filter, IfErr, IfOk};
+ghost use Rattle.jr_items.specs.Items.{is_checked_in};
+ghost use Rattle.jcr_lock.specs.Locks.{IsDue, IsDueRefusal};
+ghost use Rattle.jcr_lock.specs.Needed.{is_needed};
+ghost use Rattle.jcr_version.specs.Edits.{checkout_edit, checkout_writes};
+
+use crate::checkin::{is_checked_in, push_references};
+use crate::histories::{find_history, one_reference};
+use crate::writes::{needed, push_property};
+use jr_items::OwnName;
+use jr_path::{List, Path};
+use jr_tree::{Edit, Refusal, Tree, Write};
+use jr_value::{Property, Value};
+use std::alloc::{AllocError, Global};
+
+/// The edit that checks a node out (JSR 283, 15.3 Check-Out): its base version is then its one predecessor. Of a node that
+/// isn't checked in the edit is empty. Refused, in this order: the path, as every version command; 12 where the node isn't
+/// versionable.
+pub fn checkout_edit(alloc: Global, tree: &Tree, path: &Path) -> Result<Edit, Refusal>
+    ensures ok { IfOk result (IsDue (checkout_edit tree.now path.now)) }
+    ensures err { IfErr result (IsDueRefusal (checkout_edit tree.now path.now)) }
+{
+    find_history(alloc, "checkout", tree, path)?;
+    match checkout_writes(alloc, tree, path) {
+        Ok(edit) => Ok(edit),
+        Err(AllocError) => Err(Refusal::memory(alloc)),
+    }
+}
+
+// The writes that change something, none where the node isn't checked in.
+fn checkout_writes(alloc: Global, tree: &Tree, path: &Path) -> Result<Edit, AllocError>
+    ensures { IfOk result (λ edit. edit.writes ≡ cond (is_checked_in tree.now path.now) (filter (is_needed tree.now) (checkout_writes tree.now path.now)) []) }
+{
+    let mut writes = List::new(alloc);
+    if is_checked_in(alloc, tree, path)? {
+        push_checked_out(&mut writes, alloc, tree, path)?;
+        return needed(alloc, tree, writes);
+    }
+    Ok(Edit { writes })
+}
+
+fn push_checked_out(
+    writes: &mut List<Write>,
+    alloc: Global,
+    tree: &Tree,
+    path: &Path,
+) -> Result<(), AllocError>
+    ensures { OnOk result (writes.new ≡ writes.old ++ checkout_writes tree.now path.now) }
+{
+    let flag = Property::Single(Value::Boolean(true));
+    push_property(writes, alloc, path, OwnName::IsCheckedOut, flag)?;
+    push_predecessor(writes, alloc, tree, path)
+}
+
+// The base version is the one predecessor.
+fn push_predecessor(
+    writes: &mut List<Write>,
+    alloc: Global,
+    tree: &Tree,
+    path: &Path,
+) -> Result<(), AllocError>
+    ensures { OnOk result (writes.new ≡ writes.old ++ Put path.now predecessors (Many kind.Reference (map value.Reference (option_to_list (one_reference (property_at tree.now path.now base_version))))) ∷ []) }
+{
+    let base = OwnName::BaseVersion.name(alloc)?;
+    match one_reference(tree.property(path, &base)) {
+        Some(number) => push_references(writes, alloc, path, OwnName::Predecessors, &[number]),
+        None => push_references(writes, alloc, path, OwnName::Predecessors, &[]),
+    }
+}
