@@ -4,6 +4,7 @@ use crate::shows::{put_names, put_path, put_refusal, put_word, put_writes};
 use crate::trees::{name_of, path_of, property_of, tree_of};
 use crate::types::register_one;
 use jcr_ref::{HistoryWrites, history_writes, version_names};
+use jcr_restore::restore_edit;
 use jcr_version::{
     checked_in_version, checkin_edit, checkout_edit, find_history, label_edit, unlabel_edit,
 };
@@ -15,12 +16,13 @@ use jr_value::Property;
 use serde_json::Value as Json;
 use std::alloc::{AllocError, Global};
 
-// What the steps work on; whether one has told its answer.
+// What the steps work on: the types, the tree, who runs the steps, the last edit, and whether a step has told its answer.
 #[derive(Drop)]
 struct Site {
     types: Registry,
     tree: Tree,
     who: Who,
+    last: Edit,
     told: bool,
 }
 
@@ -48,6 +50,9 @@ fn add_all(
         types,
         tree,
         who: first_who(),
+        last: Edit {
+            writes: List::new(alloc),
+        },
         told: false,
     };
     add_steps(alloc, &mut site, steps.unwrap_or(&[]), out)
@@ -96,6 +101,14 @@ fn add_step(
             site.who.session = session.as_u64().unwrap_or(0) as u32;
             site.who.earlier = earlier.as_u64().unwrap_or(0) as u32;
             Ok(())
+        }
+        ("drawn", []) => {
+            tell_behind(site, out)?;
+            out.push_str(site.who.ids.to_string(alloc)?.as_str())
+        }
+        ("writes", []) => {
+            tell_behind(site, out)?;
+            put_writes(alloc, site.last.writes.as_slice(), out)
         }
         ("base", [Json::String(vector)]) => set_base(&mut site.who, vector.as_str(), out),
         (_, [Json::String(path), rest @ ..]) => {
@@ -255,7 +268,7 @@ fn tell(
 ) -> Result<(), AllocError> {
     match (word, rest) {
         ("checkin", []) => tell_checkin(alloc, site, path, out),
-        ("checkout", []) => tell_checkout(alloc, &mut site.tree, path, out),
+        ("checkout", []) => tell_checkout(alloc, site, path, out),
         ("label", [Json::String(version), Json::String(label), Json::Bool(take)]) => tell_label(
             alloc,
             site,
@@ -265,79 +278,93 @@ fn tell(
             out,
         ),
         ("unlabel", [Json::String(label)]) => tell_unlabel(alloc, site, path, label.as_str(), out),
+        ("restore", [Json::String(version)]) => {
+            tell_restore(alloc, site, path, version.as_str(), out)
+        }
         ("versions", []) => tell_versions(alloc, &site.tree, path, out),
         ("get", [Json::String(name)]) => tell_property(alloc, &site.tree, path, name.as_str(), out),
+        ("list", []) => tell_children(&site.tree, path, out),
         ("show", []) => show(alloc, &site.tree, path, out),
         _ => out.push_str("no step"),
     }
 }
 
-// The name of the version first, then the edit.
+// A check-in that answers writes answers the version's name.
 fn tell_checkin(
     alloc: Global,
     site: &mut Site,
     path: &Path,
     out: &mut String,
 ) -> Result<(), AllocError> {
-    put_version(alloc, &site.tree, path, out)?;
-    let edit = checkin_edit(alloc, &site.types, &site.tree, path, &mut site.who);
-    tell_edit(alloc, &mut site.tree, edit, out)?;
-    out.push_str(" ids ")?;
-    out.push_str(site.who.ids.to_string(alloc)?.as_str())
-}
-
-fn tell_checkout(
-    alloc: Global,
-    tree: &mut Tree,
-    path: &Path,
-    out: &mut String,
-) -> Result<(), AllocError> {
-    let edit = checkout_edit(alloc, tree, path);
-    tell_edit(alloc, tree, edit, out)
-}
-
-fn put_version(
-    alloc: Global,
-    tree: &Tree,
-    path: &Path,
-    out: &mut String,
-) -> Result<(), AllocError> {
-    match find_history(alloc, "checkin", tree, path) {
-        Ok(history) => put_name(checked_in_version(alloc, tree, path, &history)?.as_ref(), out),
-        Err(_) => Ok(()),
-    }
-}
-
-fn put_name(name: Option<&Name>, out: &mut String) -> Result<(), AllocError> {
-    match name {
-        Some(name) => {
-            out.push_str(name.as_str())?;
-            out.push_str(": ")
-        }
-        None => out.push_str("none: "),
-    }
-}
-
-fn tell_edit(
-    alloc: Global,
-    tree: &mut Tree,
-    edit: Result<Edit, Refusal>,
-    out: &mut String,
-) -> Result<(), AllocError> {
-    match edit {
+    let name = version_after(alloc, &site.tree, path)?;
+    match checkin_edit(alloc, &site.types, &site.tree, path, &mut site.who) {
         Ok(edit) => {
-            put_edit(alloc, &edit, out)?;
-            tree.apply(&edit, None)
+            put_name(name.as_ref(), out)?;
+            apply(site, edit)
         }
         Err(refusal) => put_refusal(alloc, &refusal, out),
     }
 }
 
-fn put_edit(alloc: Global, edit: &Edit, out: &mut String) -> Result<(), AllocError> {
-    if edit.writes.as_slice().is_empty() {
-        return out.push_str("nothing");
+fn version_after(alloc: Global, tree: &Tree, path: &Path) -> Result<Option<Name>, AllocError> {
+    match find_history(alloc, "checkin", tree, path) {
+        Ok(history) => checked_in_version(alloc, tree, path, &history),
+        Err(_) => Ok(None),
     }
-    put_writes(alloc, edit.writes.as_slice(), out)
+}
+
+fn put_name(name: Option<&Name>, out: &mut String) -> Result<(), AllocError> {
+    match name {
+        Some(name) => out.push_str(name.as_str()),
+        None => out.push_str("none"),
+    }
+}
+
+fn tell_checkout(
+    alloc: Global,
+    site: &mut Site,
+    path: &Path,
+    out: &mut String,
+) -> Result<(), AllocError> {
+    let edit = checkout_edit(alloc, &site.tree, path);
+    tell_edit(alloc, site, edit, out)
+}
+
+fn tell_restore(
+    alloc: Global,
+    site: &mut Site,
+    path: &Path,
+    version: &str,
+    out: &mut String,
+) -> Result<(), AllocError> {
+    let edit = restore_edit(alloc, &site.types, &site.tree, path, version);
+    tell_edit(alloc, site, edit, out)
+}
+
+// `null` where nothing is written.
+fn tell_edit(
+    alloc: Global,
+    site: &mut Site,
+    edit: Result<Edit, Refusal>,
+    out: &mut String,
+) -> Result<(), AllocError> {
+    match edit {
+        Ok(edit) => {
+            out.push_str(if edit.writes.as_slice().is_empty() {
+                "null"
+            } else {
+                "ok"
+            })?;
+            apply(site, edit)
+        }
+        Err(refusal) => put_refusal(alloc, &refusal, out),
+    }
+}
+
+fn apply(site: &mut Site, edit: Edit) -> Result<(), AllocError> {
+    site.tree.apply(&edit, None)?;
+    site.last = edit;
+    Ok(())
 }
 
 fn tell_label(
@@ -351,7 +378,7 @@ fn tell_label(
     match name_of(alloc, label.0)? {
         Some(name) => {
             let edit = label_edit(alloc, &site.tree, path, version, &name, label.1);
-            tell_edit(alloc, &mut site.tree, edit, out)
+            tell_edit(alloc, site, edit, out)
         }
         None => out.push_str("no name"),
     }
@@ -367,10 +394,14 @@ fn tell_unlabel(
     match name_of(alloc, label)? {
         Some(name) => {
             let edit = unlabel_edit(alloc, &site.tree, path, &name);
-            tell_edit(alloc, &mut site.tree, edit, out)
+            tell_edit(alloc, site, edit, out)
         }
         None => out.push_str("no name"),
     }
+}
+
+fn tell_children(tree: &Tree, path: &Path, out: &mut String) -> Result<(), AllocError> {
+    put_names(&tree.children(path)?, out)
 }
 
 fn tell_versions(

@@ -1,14 +1,13 @@
 // Identifiers of nodes that a restore makes, which another node has.
-ghost use Rattle.std.specs.Prelude.{◌≡◌, ◌&&◌, [], IfOk, OnOk, not};
-ghost use Rattle.std.specs.List.{fold, find};
+ghost use Rattle.std.specs.Prelude.{◌≡◌, IfOk, OnOk};
 ghost use Rattle.std.specs.Option.{option_copied};
-ghost use Rattle.jr_tree.specs.Trees.{subtree_of};
-ghost use Rattle.jcr_restore.specs.Edits.{has_one_of, in_conflict, made_id, made_ids, with_id};
+ghost use Rattle.jr_items.specs.Names.{frozen_uuid, uuid};
+ghost use Rattle.jcr_restore.specs.Edits.{first_taken, in_conflict, is_made, is_one_of, is_taken, made_id, made_ids, with_id};
 
 use crate::restored::Bringing;
 use jr_items::{OwnName, one_text};
 use jr_path::{DeepCopy, Keyed, Name, Path, Text};
-use jr_tree::{Node, Tree};
+use jr_tree::Node;
 use std::alloc::{AllocError, Global};
 
 type Ids = Keyed<Text, bool>;
@@ -20,7 +19,7 @@ impl Bringing<'_> {
         ensures { IfOk result (λ found. found ≡ in_conflict self.now.types.now self.now.tree.now self.now.path.now self.now.frozen.now) }
     {
         let ids = self.made_ids()?;
-        self.first_outside(&ids)
+        self.first_taken(&ids)
     }
 
     // The identifiers of the nodes that are made.
@@ -63,29 +62,29 @@ impl Bringing<'_> {
     }
 
     // The first node outside that has one of the identifiers.
-    fn first_outside(&self, ids: &Ids) -> Result<Option<Path>, AllocError>
-        ensures { IfOk result (λ found. found ≡ first_outside ids.now self.now.tree.now self.now.path.now) }
+    fn first_taken(&self, ids: &Ids) -> Result<Option<Path>, AllocError>
+        ensures { IfOk result (λ found. found ≡ first_taken ids.now self.now.tree.now self.now.path.now) }
     {
         if ids.is_empty() {
             return Ok(None);
         }
         let uuid = OwnName::Uuid.name(self.alloc)?;
         for (at, _) in self.tree.iter() {
-            if self.is_outside(ids, &uuid, at)? {
+            if self.is_taken(ids, &uuid, at)? {
                 return Ok(Some(at.copy()?));
             }
         }
         Ok(None)
     }
 
-    fn is_outside(&self, ids: &Ids, uuid: &Name, at: &Path) -> Result<bool, AllocError>
+    fn is_taken(&self, ids: &Ids, uuid: &Name, at: &Path) -> Result<bool, AllocError>
         requires { uuid.now ≡ uuid }
-        ensures { IfOk result (λ answer. answer ≡ (not (is_under at.now self.now.path.now) && has_one_of ids.now self.now.tree.now at.now)) }
+        ensures { IfOk result (λ answer. answer ≡ is_taken ids.now self.now.tree.now self.now.path.now at.now) }
     {
         if at.is_under(self.path) {
             return Ok(false);
         }
-        has_one_of(self.alloc, ids, one_text(self.tree.property(at, uuid)))
+        is_one_of(self.alloc, ids, one_text(self.tree.property(at, uuid)))
     }
 }
 
@@ -100,8 +99,8 @@ fn note_id(ids: &mut Ids, alloc: Global, id: Option<&str>) -> Result<(), AllocEr
 }
 
 // Whether the identifier, if there is one, is among these.
-fn has_one_of(alloc: Global, ids: &Ids, id: Option<&str>) -> Result<bool, AllocError>
-    ensures { IfOk result (λ answer. answer ≡ is_among ids.now (option_copied id.entry)) }
+fn is_one_of(alloc: Global, ids: &Ids, id: Option<&str>) -> Result<bool, AllocError>
+    ensures { IfOk result (λ answer. answer ≡ is_one_of ids.now (option_copied id.entry)) }
 {
     match id {
         Some(id) => Ok(ids.contains(&Text::copy_of(alloc, id)?)),

@@ -1,18 +1,20 @@
 // The edit that restores a node to one of its versions.
 ghost use Rattle.std.specs.Prelude.{◌≡◌, IfErr, IfOk, None, OnOk, option_map};
-ghost use Rattle.jr_tree.specs.Edits.{changes};
+ghost use Rattle.std.specs.List.{fold};
+ghost use Rattle.jr_tree.specs.Edits.{changes, with_property_write};
+ghost use Rattle.jcr_version.specs.Edits.{checked_in_writes};
 ghost use Rattle.jr_tree.specs.Trees.{subtree_of};
-ghost use Rattle.jr_items.specs.Items.{child_path};
 ghost use Rattle.jr_items.specs.Refusals.{IsTheRefusal, taken};
 ghost use Rattle.jcr_lock.specs.Locks.{IsDue, IsDueRefusal};
-ghost use Rattle.jcr_restore.specs.Edits.{after_restore, frozen_of, in_conflict, restore_edit, restore_own, restore_refusal, unfrozen};
+ghost use Rattle.jcr_restore.specs.Edits.{after_restore, frozen_of, frozen_there, in_conflict, restore_edit, restore_own, restore_to, unfrozen};
 
 use crate::restored::Bringing;
-use jcr_version::{checked_in_writes, find_history, find_version};
-use jr_items::{OwnName, checked_in, taken};
-use jr_path::Path;
+use jcr_version::{find_history, find_version, number_at, own_child};
+use jr_items::{OwnName, checked_in, is_same_text, taken};
+use jr_path::{List, Path};
 use jr_tree::{Edit, Refusal, Tree, changes};
 use jr_types::Registry;
+use jr_value::{Kind, Property, Value};
 use std::alloc::{AllocError, Global};
 
 /// The edit that restores a node to one of its versions (JSR 283, 15.7 Restore): the changes to the tree after it, in
@@ -51,4 +53,113 @@ fn restore_from(
 {
     let at = find_version(alloc, tree, history, version)?;
     restore_to(alloc, types, tree, path, version, &at)
+}
+
+fn restore_to(
+    alloc: Global,
+    types: &Registry,
+    tree: &Tree,
+    path: &Path,
+    version: &str,
+    at: &Path,
+) -> Result<Edit, Refusal>
+    ensures ok { IfOk result (IsDue (restore_to types.now tree.now path.now at.now version.now)) }
+    ensures err { IfErr result (IsDueRefusal (restore_to types.now tree.now path.now at.now version.now)) }
+{
+    let frozen = find_frozen(alloc, tree, version, at)?;
+    let bringing = Bringing {
+        alloc,
+        types,
+        tree,
+        path,
+        frozen: &frozen,
+    };
+    bringing.check_free()?;
+    match restore_changes(&bringing, at) {
+        Ok(edit) => Ok(edit),
+        Err(AllocError) => Err(Refusal::memory(alloc)),
+    }
+}
+
+// The frozen node of a version; the root version has none.
+fn find_frozen(alloc: Global, tree: &Tree, version: &str, at: &Path) -> Result<Path, Refusal>
+    ensures frozen { IfOk result (λ path. path ≡ frozen_of at.now) }
+    ensures ok { OnOk result (unfrozen tree.now at.now version.now ≡ None) }
+    ensures err { IfErr result (IsTheRefusal (unfrozen tree.now at.now version.now)) }
+{
+    match frozen_there(alloc, tree, version, at) {
+        Ok(Some(frozen)) => Ok(frozen),
+        Ok(None) => Err(checked_in(alloc, at)),
+        Err(AllocError) => Err(Refusal::memory(alloc)),
+    }
+}
+
+fn frozen_there(
+    alloc: Global,
+    tree: &Tree,
+    version: &str,
+    at: &Path,
+) -> Result<Option<Path>, AllocError>
+    ensures { IfOk result (λ found. found ≡ frozen_there tree.now at.now version.now) }
+{
+    if is_same_text(OwnName::RootVersion.as_str(), version) {
+        return Ok(None);
+    }
+    let frozen = own_child(alloc, at, OwnName::FrozenNode)?;
+    if tree.has(&frozen) {
+        Ok(Some(frozen))
+    } else {
+        Ok(None)
+    }
+}
+
+impl Bringing<'_> {
+    // No node outside has the identifier of a node that is made.
+    fn check_free(&self) -> Result<(), Refusal>
+        ensures ok { OnOk result (in_conflict self.now.types.now self.now.tree.now self.now.path.now self.now.frozen.now ≡ None) }
+        ensures err { IfErr result (IsTheRefusal (option_map taken (in_conflict self.now.types.now self.now.tree.now self.now.path.now self.now.frozen.now))) }
+    {
+        match self.in_conflict() {
+            Ok(Some(at)) => Err(taken(self.alloc, &at)),
+            Ok(None) => Ok(()),
+            Err(AllocError) => Err(Refusal::memory(self.alloc)),
+        }
+    }
+}
+
+// The changes to the tree after the restore.
+fn restore_changes(bringing: &Bringing, version: &Path) -> Result<Edit, AllocError>
+    requires { bringing.now.frozen.now ≡ frozen_of version.now }
+    ensures { IfOk result (λ edit. edit.writes ≡ changes (subtree_of bringing.now.tree.now bringing.now.path.now) (after_restore bringing.now.types.now bringing.now.tree.now bringing.now.path.now version.now)) }
+{
+    let old = bringing.tree.subtree(bringing.path)?;
+    let new = after_restore(bringing, version)?;
+    changes(&old, &new)
+}
+
+fn after_restore(bringing: &Bringing, version: &Path) -> Result<Tree, AllocError>
+    requires { bringing.now.frozen.now ≡ frozen_of version.now }
+    ensures { IfOk result (λ tree. tree ≡ after_restore bringing.now.types.now bringing.now.tree.now bringing.now.path.now version.now) }
+{
+    let mut tree = bringing.restored()?;
+    let number = number_at(bringing.alloc, bringing.tree, version)?;
+    put_checked_in(&mut tree, bringing.alloc, bringing.path, number)?;
+    Ok(tree)
+}
+
+// The node is checked in, the version with that identifier is its base, and it has no predecessors.
+fn put_checked_in(
+    tree: &mut Tree,
+    alloc: Global,
+    path: &Path,
+    id: u128,
+) -> Result<(), AllocError>
+    ensures { OnOk result (tree.new ≡ fold with_property_write tree.old (checked_in_writes path.now id)) }
+{
+    let flag = Property::Single(Value::Boolean(false));
+    tree.put(path, OwnName::IsCheckedOut.name(alloc)?, flag)?;
+    let base = Property::Single(Value::Reference(id));
+    tree.put(path, OwnName::BaseVersion.name(alloc)?, base)?;
+    let none = Property::Many(Kind::Reference, List::new(alloc));
+    tree.put(path, OwnName::Predecessors.name(alloc)?, none)
 }

@@ -1,8 +1,9 @@
 // The tree after a node is brought to a frozen node.
-ghost use Rattle.std.specs.Prelude.{◌≡◌, [], IfOk, OnOk};
+ghost use Rattle.std.specs.Prelude.{◌≡◌, IfOk, OnOk, drop, length};
 ghost use Rattle.std.specs.List.{fold};
-ghost use Rattle.jr_tree.specs.Trees.{born_at, subtree_of};
-ghost use Rattle.jcr_restore.specs.Restored.{brought, place_of, restored, with_brought, with_staying};
+ghost use Rattle.std.specs.Option.{option_copied};
+ghost use Rattle.jr_tree.specs.Trees.{born_of, subtree_of};
+ghost use Rattle.jcr_restore.specs.Restored.{brought, fate_below, is_brought, is_staying, place_of, restored, with_brought, with_staying};
 
 use crate::fates::fate_below;
 use crate::properties::brought_props;

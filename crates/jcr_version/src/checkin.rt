@@ -1,16 +1,26 @@
 // The edit that checks a node in.
-ghost use Rattle.std.specs.Prelude.{◌≡◌, ◌++◌, ◌+◌, ◌∷◌, [], ◌<◌, codes, filter, length, map, IfErr, IfOk, None, OnErr, OnOk, Some};
-ghost use Rattle.std.specs.Option.{option_copied};
+ghost use Rattle.std.specs.Prelude.{◌≡◌, ◌++◌, ◌+◌, ◌∷◌, [], ◌<◌, filter, length, map, option_to_list, IfErr, IfOk, None, OnErr, OnOk};
+ghost use Rattle.std.specs.BTreeMap.{insert_entry};
+ghost use Rattle.std.specs.List.{find};
+ghost use Rattle.std.specs.String.{string_bytes};
+ghost use Rattle.jr_path.specs.Names.{name_cmp};
+ghost use Rattle.jr_value.specs.declared.value.Kind.TheVariants as kind;
+ghost use Rattle.jr_value.specs.declared.value.Property.TheVariants.{Many, Single};
+ghost use Rattle.jr_value.specs.declared.value.Value.TheVariants as value;
+ghost use Rattle.jr_tree.specs.declared.edit.Write.TheVariants.{Put};
+ghost use Rattle.jr_tree.specs.declared.shared.Datum.TheVariants as datum;
 ghost use Rattle.jr_tree.specs.Trees.{property_at};
-ghost use Rattle.jr_items.specs.Items.{adding, child_path, is_checked_in, many_references};
-ghost use Rattle.jr_items.specs.Names.{frozen_node, predecessors, successors, uuid};
+ghost use Rattle.jr_items.specs.Items.{adding, child_path, is_checked_in, many_references, one_reference};
+ghost use Rattle.jr_items.specs.Names.{base_version, frozen_node, predecessors, uuid};
+ghost use Rattle.jr_items.specs.Own.{own_name};
 ghost use Rattle.jr_items.specs.Refusals.{IsOrMemory, IsTheRefusal, refusal};
 ghost use Rattle.jcr_lock.specs.Locks.{IsDue, IsDueRefusal};
 ghost use Rattle.jcr_lock.specs.Needed.{is_needed};
-ghost use Rattle.jcr_ref.specs.Histories.{history_of, number_by};
+ghost use Rattle.jcr_ref.specs.Histories.{history_of, number_by, version_names};
 ghost use Rattle.jcr_ref.specs.References.{uuid_text};
-ghost use Rattle.jcr_version.specs.Edits.{aborted, checked_in_version, checkin_drawn, checkin_edit, checkin_own, checkin_refusal, checkin_writes, having_drawn, new_version, succeed, too_many_ids, version_nodes};
-ghost use Rattle.jcr_version.specs.Histories.{is_named, version_name, versions_of};
+ghost use Rattle.jcr_version.specs.Edits.{aborted, checked_in_version, checked_in_writes, checkin_drawn, checkin_edit, checkin_own, checkin_refusal, checkin_writes, having_drawn, new_version, next_version, succeed, too_many_ids, version_nodes, version_props};
+ghost use Rattle.jcr_version.specs.Frozen.{frozen_tree};
+ghost use Rattle.jcr_version.specs.Histories.{is_named, version_name};
 
 use crate::frozen::{first_aborting, is_versionable, push_frozen, put_property, put_text};
 use crate::histories::{

@@ -1,6 +1,12 @@
 // The edit that checks a node out.
-ghost use Rattle.std.specs.Prelude.{◌≡◌, [], cond, filter, IfErr, IfOk};
-ghost use Rattle.jr_items.specs.Items.{is_checked_in};
+ghost use Rattle.std.specs.Prelude.{◌≡◌, ◌++◌, ◌∷◌, [], cond, filter, map, option_to_list, IfErr, IfOk, OnOk};
+ghost use Rattle.jr_value.specs.declared.value.Kind.TheVariants as kind;
+ghost use Rattle.jr_value.specs.declared.value.Property.TheVariants.{Many};
+ghost use Rattle.jr_value.specs.declared.value.Value.TheVariants as value;
+ghost use Rattle.jr_tree.specs.declared.edit.Write.TheVariants.{Put};
+ghost use Rattle.jr_tree.specs.Trees.{property_at};
+ghost use Rattle.jr_items.specs.Items.{is_checked_in, one_reference};
+ghost use Rattle.jr_items.specs.Names.{base_version, predecessors};
 ghost use Rattle.jcr_lock.specs.Locks.{IsDue, IsDueRefusal};
 ghost use Rattle.jcr_lock.specs.Needed.{is_needed};
 ghost use Rattle.jcr_version.specs.Edits.{checkout_edit, checkout_writes};

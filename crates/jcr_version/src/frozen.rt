@@ -1,5 +1,5 @@
 // Frozen nodes: what a version keeps of a node, and what forbids its check-in.
-ghost use Rattle.std.specs.Prelude.{◌≡◌, ◌++◌, ◌&&◌, [], false, IfOk, OnOk, drop, length};
+ghost use Rattle.std.specs.Prelude.{◌≡◌, ◌++◌, ◌∷◌, [], cond, false, IfOk, None, OnOk, Some, drop, length};
 ghost use Rattle.std.specs.BTreeMap.{insert_entry};
 ghost use Rattle.std.specs.List.{fold};
 ghost use Rattle.std.specs.Option.{option_copied, option_map_or};
@@ -56,24 +56,28 @@ fn is_frozen_down(
 {
     match names {
         [] => Ok(true),
-        [first, rest @ ..] => is_frozen_from(alloc, types, tree, &path.child(first)?, rest),
+        [first, rest @ ..] => match frozen_child(alloc, types, tree, path, first)? {
+            Some(child) => is_frozen_down(alloc, types, tree, &child, rest),
+            None => Ok(false),
+        },
     }
 }
 
-// Whether the node is frozen with the node above, and each node further down.
-fn is_frozen_from(
+// The path of a child, where it is frozen with the node.
+fn frozen_child(
     alloc: Global,
     types: &Registry,
     tree: &Tree,
     path: &Path,
-    names: &[Name],
-) -> Result<bool, AllocError>
-    ensures { IfOk result (λ answer. answer ≡ (is_frozen_along types.now tree.now path.now && is_frozen_down types.now tree.now path.now names.now)) }
+    name: &Name,
+) -> Result<Option<Path>, AllocError>
+    ensures { IfOk result (λ found. found ≡ cond (is_frozen_along types.now tree.now (path.now ++ name.now ∷ [])) (Some (path.now ++ name.now ∷ [])) None) }
 {
-    if is_frozen_along(alloc, types, tree, path)? {
-        is_frozen_down(alloc, types, tree, path, names)
+    let child = path.child(name)?;
+    if is_frozen_along(alloc, types, tree, &child)? {
+        Ok(Some(child))
     } else {
-        Ok(false)
+        Ok(None)
     }
 }
 
@@ -90,8 +94,8 @@ fn is_frozen_with(
     is_frozen_down(alloc, types, tree, path, names_below(path, at))
 }
 
-// The names of the second path behind as many as the first has.
-fn names_below<'a>(path: &Path, at: &'a Path) -> &'a [Name]
+/// The names of the second path behind as many as the first has.
+pub fn names_below<'a>(path: &Path, at: &'a Path) -> &'a [Name]
     ensures { result.now ≡ drop (length path.now) at.now }
 {
     match at.names().get(path.depth()..) {
@@ -100,9 +104,9 @@ fn names_below<'a>(path: &Path, at: &'a Path) -> &'a [Name]
     }
 }
 
-// The path behind the first by these names.
-fn onto(path: &Path, names: &[Name]) -> Result<Path, AllocError>
-    ensures { IfOk result (λ path2. path2 ≡ path.now ++ names.now) }
+/// The path that these names lead to from another.
+pub fn onto(path: &Path, names: &[Name]) -> Result<Path, AllocError>
+    ensures { IfOk result (λ led. led ≡ path.now ++ names.now) }
 {
     let mut onto = path.copy()?;
     for name in names {
@@ -222,8 +226,8 @@ fn put_own(
     put_identifier(props, alloc, node)
 }
 
-// A property of the node, if it has it, under another name.
-fn put_told(
+/// Puts a property of the node, if it has it, under another name.
+pub fn put_told(
     props: &mut Keyed<Name, Property>,
     alloc: Global,
     node: &Node,

@@ -1,17 +1,18 @@
 // Version histories and their versions.
-ghost use Rattle.std.specs.Prelude.{◌≡◌, ◌++◌, ◌∷◌, [], ◌×◌, ◌≤◌, IfErr, IfOk, IsTrue, None, OnOk, filter, is_some, map};
-ghost use Rattle.std.specs.List.{list_any};
+ghost use Rattle.std.specs.Prelude.{◌≡◌, ◌≤◌, ◌==◌, IfErr, IfOk, None, OnOk, cond};
+ghost use Rattle.std.specs.List.{filter_map, list_any};
 ghost use Rattle.std.specs.Option.{option_copied, option_map_or};
 ghost use Rattle.std.specs.String.{string_bytes};
 ghost use Rattle.jr_path.specs.Grammar.{IsName};
+ghost use Rattle.jr_rev.specs.Vectors.{entry};
 ghost use Rattle.jr_tree.specs.Trees.{node_at};
-ghost use Rattle.jr_items.specs.Items.{child_path, many_references, one_reference};
+ghost use Rattle.jr_items.specs.Items.{child_path, is_versionable, many_references, one_reference, reference_in};
 ghost use Rattle.jr_items.specs.Names.{uuid, version_storage};
 ghost use Rattle.jr_items.specs.Own.{own_name};
 ghost use Rattle.jr_items.specs.Refusals.{IsTheRefusal};
 ghost use Rattle.jcr_ref.specs.References.{identifier_of};
-ghost use Rattle.jcr_ref.specs.Histories.{history_of};
-ghost use Rattle.jcr_version.specs.Histories.{child_there, is_named, latest_among, no_version, no_versions, number_of, unversioned, version_name, version_there, versions_of};
+ghost use Rattle.jcr_ref.specs.Histories.{history_of, number_at};
+ghost use Rattle.jcr_version.specs.Histories.{child_there, is_named, latest_among, latest_date, no_version, no_versions, number_of, unversioned, version_name, version_there, versions_of};
 
 use crate::frozen::is_versionable;
 use jcr_ref::version_names;
@@ -90,7 +91,7 @@ fn storage(alloc: Global) -> Result<Path, AllocError>
 }
 
 /// The path of a child with a name of the repository's own.
-pub(crate) fn own_child(alloc: Global, path: &Path, name: OwnName) -> Result<Path, AllocError>
+pub fn own_child(alloc: Global, path: &Path, name: OwnName) -> Result<Path, AllocError>
     ensures { IfOk result (λ child. child ≡ child_path path.now (own_name name)) }
 {
     let name = name.name(alloc)?;
@@ -230,22 +231,30 @@ pub(crate) fn one_reference(property: Option<&Property>) -> Option<u128>
 }
 
 /// The number of the identifier of the node at a path. The name `jcr:uuid` is lent by the caller.
-pub(crate) fn number_of(tree: &Tree, uuid: &Name, path: &Path) -> Option<u128>
-    requires { uuid.now ≡ uuid }
+pub(crate) fn number_of(tree: &Tree, key: &Name, path: &Path) -> Option<u128>
+    requires { key.now ≡ uuid }
     ensures { result ≡ number_of tree.now path.now }
 {
-    match one_text(tree.property(path, uuid)) {
+    match one_text(tree.property(path, key)) {
         Some(text) => identifier_named(text),
         None => None,
     }
 }
 
+/// The number of the node's identifier, 0 where it has none of that form.
+pub fn number_at(alloc: Global, tree: &Tree, path: &Path) -> Result<u128, AllocError>
+    ensures { IfOk result (λ number. number ≡ number_at tree.now path.now) }
+{
+    let uuid = OwnName::Uuid.name(alloc)?;
+    Ok(number_of(tree, &uuid, path).unwrap_or(0))
+}
+
 /// Whether one of the references names the node at a path. The name `jcr:uuid` is lent by the caller.
-pub(crate) fn is_named(tree: &Tree, uuid: &Name, references: &[u128], path: &Path) -> bool
-    requires { uuid.now ≡ uuid }
+pub(crate) fn is_named(tree: &Tree, key: &Name, references: &[u128], path: &Path) -> bool
+    requires { key.now ≡ uuid }
     ensures { result ≡ is_named references.now tree.now path.now }
 {
-    match number_of(tree, uuid, path) {
+    match number_of(tree, key, path) {
         Some(number) => is_among(number, references),
         None => false,
     }

@@ -7,7 +7,7 @@ ghost use Rattle.jcr_lock.specs.Needed.{is_needed};
 ghost use Rattle.jcr_lock.specs.Locks.{IsDue, IsDueRefusal};
 ghost use Rattle.jcr_version.specs.Edits.{is_used, label_edit, label_in_use, label_own, label_path, no_label, unlabel_edit, unlabel_own};
 
-use crate::histories::{find_history, find_version, number_of, own_child};
+use crate::histories::{find_history, find_version, number_at, own_child};
 use crate::writes::needed;
 use jr_items::{OwnName, checked_in, no_item};
 use jr_path::{DeepCopy, List, Name, Path};
@@ -109,14 +109,6 @@ fn label_writes(
     let number = number_at(alloc, tree, version)?;
     let named = Property::Single(Value::Reference(number));
     one_needed(alloc, tree, Write::Put(labels, label.copy()?, named))
-}
-
-// The number of the node's identifier, 0 where it has none of that form.
-fn number_at(alloc: Global, tree: &Tree, path: &Path) -> Result<u128, AllocError>
-    ensures { IfOk result (λ number. number ≡ number_at tree.now path.now) }
-{
-    let uuid = OwnName::Uuid.name(alloc)?;
-    Ok(number_of(tree, &uuid, path).unwrap_or(0))
 }
 
 // The write, where it changes something.
