@@ -1,2 +1,4 @@
+mod Due
+mod Identifiers
 mod Refused
 mod VersionNames

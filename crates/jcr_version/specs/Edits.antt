@@ -1,5 +1,5 @@
 -- The edits of check-in, check-out and labels.
-use Rattle.std.specs.Prelude.{ℕ, ◌+◌, ◌++◌, Bool, true, false, not, ◌&&◌, cond, nat_lt, List, [], ◌∷◌, Option, None, Some, is_some, option_map, option_to_list, map, codes, length, Result, Ok, Err}
+use Rattle.std.specs.Prelude.{ℕ, ℤ, ◌+◌, ◌++◌, Bool, true, false, not, ◌&&◌, cond, nat_lt, List, [], ◌∷◌, Option, None, Some, is_some, option_and_then, option_map, option_to_list, map, codes, length, Result, Ok, Err}
 use Rattle.std.specs.List.{filter, find}
 use Rattle.std.specs.BTreeMap.{insert_entry}
 use Rattle.jr_path.specs.Names.{name_cmp}
@@ -21,10 +21,9 @@ use Rattle.jr_items.specs.Items.{adding, child_path, first_some, is_checked_in, 
 use Rattle.jr_items.specs.Refusals.{checked_in, no_item, or_else, over_limit, refusal, when}
 use Rattle.jr_types.specs.declared.TypeDef.{TypeDef}
 use Rattle.jcr_lock.specs.Needed.{is_needed}
-use Rattle.jcr_ref.specs.References.{uuid_text}
 use Rattle.jcr_ref.specs.Histories.{history_of, labels_of, number_at, number_by, reference_to, version_names}
 use Rattle.jcr_version.specs.Frozen.{aborting, frozen_tree, with_property}
-use Rattle.jcr_version.specs.Histories.{is_named, latest_date, no_version, no_versions, predecessors_of, version_name}
+use Rattle.jcr_version.specs.Histories.{drawn_id, is_numbered, latest_date, no_version, no_versions, predecessors_of, version_name}
 
 -- an item stands in the way of a check-in
 abbrev pub aborted : List TypeDef → Nodes → Path → Option Refusal
@@ -39,24 +38,22 @@ abbrev pub checkin_refusal : List TypeDef → Nodes → Path → Who → Option 
 checkin_refusal types t p who = first_some (aborted types t p ∷ too_many_ids who ∷ [])
 
 -- the type, identifier and date of a new version
-abbrev pub version_props : Who → (id : ℕ) → List (Name × Property)
-version_props who id =
+abbrev pub version_props : (id : List ℕ) → (date : ℤ) → List (Name × Property)
+version_props id date =
     let typed = insert_entry name_cmp [] primary_type (Single (value.Name version_type)) in
-    insert_entry name_cmp (insert_entry name_cmp typed uuid (Single (value.Str (uuid_text id)))) created (Single (value.Date (latest_date who.base)))
+    insert_entry name_cmp (insert_entry name_cmp typed uuid (Single (value.Str id))) created (Single (value.Date date))
 
 -- a new version with that identifier, which takes the node's predecessors
-abbrev pub new_version : Nodes → Path → Who → (id : ℕ) → Node
-new_version t p who id = record { props = with_property (version_props who id) predecessors (property_at t p predecessors); born = None }
+abbrev pub new_version : Nodes → Path → (id : List ℕ) → (date : ℤ) → Node
+new_version t p id date = record { props = with_property (version_props id date) predecessors (property_at t p predecessors); born = None }
 
 -- the path of the version that a check-in makes
 abbrev pub next_version : Nodes → (history : Path) → Path
 next_version t h = child_path h (version_name (length (version_names t h)))
 
 -- what a check-in adds: a version, and the node's frozen node below it
-abbrev pub version_nodes : List TypeDef → Nodes → Path → Who → (id : ℕ) → Nodes
-version_nodes types t p who id =
-    let version = next_version t (history_of t p) in
-    (version, new_version t p who id) ∷ frozen_tree types t p (child_path version frozen_node)
+abbrev pub version_nodes : List TypeDef → Nodes → Path → (version : Path) → (id : List ℕ) → (date : ℤ) → Nodes
+version_nodes types t p version id date = (version, new_version t p id date) ∷ frozen_tree types t p (child_path version frozen_node)
 
 -- a version has one successor more
 abbrev pub succeed : Nodes → (id : ℕ) → Path → Write
@@ -74,12 +71,16 @@ checked_in_writes p id =
 abbrev pub checkin_writes : List TypeDef → Nodes → Path → Who → List Write
 checkin_writes types t p who =
     let id = number_by who (who.ids + 1) in
-    adding (version_nodes types t p who id) ++ (map (succeed t id) (predecessors_of t p) ++ checked_in_writes p id)
+    adding (version_nodes types t p (next_version t (history_of t p)) (drawn_id who) (latest_date who.base))
+    ++ (map (succeed t id) (predecessors_of t p) ++ checked_in_writes p id)
+
+-- the edit that checks in a node that is checked out
+abbrev pub checkin_due : List TypeDef → Nodes → Path → Who → Result (List Write) Refusal
+checkin_due types t p who = or_else (checkin_refusal types t p who) (filter (is_needed t) (checkin_writes types t p who))
 
 -- the edit that checks a versionable node in; of a node that is checked in none
 abbrev pub checkin_own : List TypeDef → Nodes → Path → Who → Result (List Write) Refusal
-checkin_own types t p who =
-    cond (is_checked_in t p) (Ok []) (or_else (checkin_refusal types t p who) (filter (is_needed t) (checkin_writes types t p who)))
+checkin_own types t p who = cond (is_checked_in t p) (Ok []) (checkin_due types t p who)
 
 -- refused, or else this
 abbrev pub unless_refused : {A : Type 0} → Option Refusal → Result A Refusal → Result A Refusal
@@ -98,11 +99,15 @@ checkin_drawn t p = cond (is_checked_in t p) 0 1
 abbrev pub having_drawn : Who → ℕ → Who
 having_drawn who more = record who { ids = who.ids + more }
 
+-- the name of the version that is the node's base
+abbrev pub base_name : Nodes → Path → (history : Path) → Option Name
+base_name t p h = option_and_then (λ k. find (λ n. is_numbered k t (child_path h n)) (version_names t h)) (one_reference (property_at t p base_version))
+
 -- the version that a check-in makes, or the base of a node that is checked in
 abbrev pub checked_in_version : Nodes → Path → Option Name
 checked_in_version t p =
     cond (is_checked_in t p)
-    (find (λ n. is_named (option_to_list (one_reference (property_at t p base_version))) t (child_path (history_of t p) n)) (version_names t (history_of t p)))
+    (base_name t p (history_of t p))
     (Some (version_name (length (version_names t (history_of t p)))))
 
 -- a check-out: the base version is the one predecessor
@@ -132,9 +137,13 @@ label_in_use t h label take = when (not take && is_used t h label) (checked_in (
 abbrev pub label_write : Nodes → (history : Path) → (version label : Name) → Write
 label_write t h version label = Put (labels_of h) label (reference_to (number_at t (child_path h version)))
 
+-- why a version of a history can't have a label
+abbrev pub label_refusal : Nodes → (history : Path) → (version label : Name) → (take : Bool) → Option Refusal
+label_refusal t h version label take = first_some (no_version t h version ∷ label_in_use t h label take ∷ [])
+
 -- the edit that gives a version of a history a label
 abbrev pub label_own : Nodes → (history : Path) → (version label : Name) → (take : Bool) → Result (List Write) Refusal
-label_own t h version label take = or_else (first_some (no_version t h version ∷ label_in_use t h label take ∷ [])) (filter (is_needed t) (label_write t h version label ∷ []))
+label_own t h version label take = or_else (label_refusal t h version label take) (filter (is_needed t) (label_write t h version label ∷ []))
 
 -- the edit that gives a version of a node a label, and takes it from the version that had it
 abbrev pub label_edit : Nodes → Path → (version label : Name) → (take : Bool) → Result (List Write) Refusal

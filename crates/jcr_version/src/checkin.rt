@@ -1,5 +1,5 @@
 // The edit that checks a node in.
-ghost use Rattle.std.specs.Prelude.{◌≡◌, ◌++◌, ◌+◌, ◌∷◌, [], ◌<◌, filter, length, map, option_to_list, IfErr, IfOk, None, OnErr, OnOk};
+ghost use Rattle.std.specs.Prelude.{◌≡◌, ◌++◌, ◌+◌, ◌%◌, ◌^◌, ◌∷◌, [], ◌<◌, filter, length, map, IfErr, IfOk, None, OnErr, OnOk};
 ghost use Rattle.std.specs.BTreeMap.{insert_entry};
 ghost use Rattle.std.specs.List.{find};
 ghost use Rattle.std.specs.String.{string_bytes};
@@ -10,27 +10,25 @@ ghost use Rattle.jr_value.specs.declared.value.Value.TheVariants as value;
 ghost use Rattle.jr_tree.specs.declared.edit.Write.TheVariants.{Put};
 ghost use Rattle.jr_tree.specs.declared.shared.Datum.TheVariants as datum;
 ghost use Rattle.jr_tree.specs.Trees.{property_at};
-ghost use Rattle.jr_items.specs.Items.{adding, child_path, is_checked_in, many_references, one_reference};
-ghost use Rattle.jr_items.specs.Names.{base_version, frozen_node, predecessors, uuid};
+ghost use Rattle.jr_items.specs.Items.{adding, child_path, is_checked_in, many_references};
+ghost use Rattle.jr_items.specs.Names.{predecessors, uuid};
 ghost use Rattle.jr_items.specs.Own.{own_name};
-ghost use Rattle.jr_items.specs.Refusals.{IsOrMemory, IsTheRefusal, refusal};
+ghost use Rattle.jr_items.specs.Refusals.{IsOrMemory, IsTheRefusal, out_of_memory, refusal};
 ghost use Rattle.jcr_lock.specs.Locks.{IsDue, IsDueRefusal};
 ghost use Rattle.jcr_lock.specs.Needed.{is_needed};
 ghost use Rattle.jcr_ref.specs.Histories.{history_of, number_by, version_names};
-ghost use Rattle.jcr_ref.specs.References.{uuid_text};
-ghost use Rattle.jcr_version.specs.Edits.{aborted, checked_in_version, checked_in_writes, checkin_drawn, checkin_edit, checkin_own, checkin_refusal, checkin_writes, having_drawn, new_version, next_version, succeed, too_many_ids, version_nodes, version_props};
-ghost use Rattle.jcr_version.specs.Frozen.{frozen_tree};
-ghost use Rattle.jcr_version.specs.Histories.{is_named, version_name};
+ghost use Rattle.jcr_version.specs.Edits.{aborted, base_name, checked_in_version, checked_in_writes, checkin_drawn, checkin_due, checkin_edit, checkin_own, checkin_refusal, checkin_writes, having_drawn, new_version, next_version, succeed, too_many_ids, version_nodes, version_props};
+ghost use Rattle.jcr_version.specs.Histories.{drawn_id, is_named, is_numbered, latest_date, version_name};
 
-use crate::frozen::{first_aborting, is_versionable, push_frozen, put_property, put_text};
+use crate::frozen::{first_aborting, is_versionable, push_frozen, put_property};
 use crate::histories::{
-    find_history, is_named, latest_date, one_reference, own_child, references_in, version_name,
+    find_history, is_named, is_numbered, latest_date, one_reference, own_child, references_in, version_name,
     versions_of,
 };
 use crate::writes::{needed, push_adding, push_property};
 use jcr_ref::{identifier, identifier_number, identifiers_are_uuids, version_names};
 use jr_items::{OwnName, is_flag, over_limit};
-use jr_path::{DeepCopy, Item, Keyed, List, Name, Path};
+use jr_path::{DeepCopy, Item, Keyed, List, Name, Path, Text};
 use jr_tree::{Datum, Edit, Node, Refusal, Tree, Who, Write};
 use jr_types::Registry;
 use jr_value::{Kind, Property, Value};
@@ -46,6 +44,7 @@ const MAX_IDS: u32 = 16_777_215;
 /// is empty, and nothing is drawn. Refused, in this order: the path, as every version command; 12 where the node isn't
 /// versionable; 8 with the first item whose attribute is ABORT, in path order; 15 where the session has drawn 16,777,215
 /// identifiers. After a refusal nothing is drawn.
+#[tactic(auto, using(crate::proofs::Due::own_due, crate::proofs::Due::own_refused, crate::proofs::Due::first_refused))]
 pub fn checkin_edit(
     alloc: Global,
     types: &Registry,
@@ -58,8 +57,10 @@ pub fn checkin_edit(
     ensures drawn { OnOk result (who.new ≡ having_drawn who.old (checkin_drawn tree.now path.now)) }
     ensures kept { OnErr result (who.new ≡ who.old) }
 {
-    let history = find_history(alloc, "checkin", tree, path)?;
-    checkin_of(alloc, types, tree, path, &history, who)
+    match find_history(alloc, "checkin", tree, path) {
+        Ok(history) => checkin_of(alloc, types, tree, path, &history, who),
+        Err(refusal) => Err(refusal),
+    }
 }
 
 // The edit of a versionable node.
@@ -98,7 +99,8 @@ pub(crate) fn is_checked_in(alloc: Global, tree: &Tree, path: &Path) -> Result<b
     }
 }
 
-// The edit of a node that isn't checked in, and one identifier more.
+// The edit of a node that isn't checked in.
+#[tactic(auto, using(crate::proofs::Due::due_else, crate::proofs::Due::else_refused, crate::proofs::Due::else_memory))]
 fn check_in(
     alloc: Global,
     types: &Registry,
@@ -108,12 +110,33 @@ fn check_in(
     who: &mut Who,
 ) -> Result<Edit, Refusal>
     requires { history.now ≡ history_of tree.now path.now }
-    ensures ok { IfOk result (λ edit. (checkin_refusal types.now tree.now path.now who.old ≡ None) × (edit.writes ≡ filter (is_needed tree.now) (checkin_writes types.now tree.now path.now who.old))) }
-    ensures err { IfErr result (IsTheRefusal (checkin_refusal types.now tree.now path.now who.old)) }
+    ensures ok { IfOk result (IsDue (checkin_due types.now tree.now path.now who.old)) }
+    ensures err { IfErr result (IsDueRefusal (checkin_due types.now tree.now path.now who.old)) }
     ensures drawn { OnOk result (who.new ≡ having_drawn who.old 1) }
     ensures kept { OnErr result (who.new ≡ who.old) }
 {
-    check_checkin(alloc, types, tree, path, who)?;
+    match check_checkin(alloc, types, tree, path, who) {
+        Ok(()) => draw(alloc, types, tree, path, history, who),
+        Err(refusal) => Err(refusal),
+    }
+}
+
+// The edit of a node that may be checked in, and one identifier more.
+fn draw(
+    alloc: Global,
+    types: &Registry,
+    tree: &Tree,
+    path: &Path,
+    history: &Path,
+    who: &mut Who,
+) -> Result<Edit, Refusal>
+    requires history { history.now ≡ history_of tree.now path.now }
+    requires more { who.old.ids < 16777215 }
+    ensures ok { IfOk result (λ edit. edit.writes ≡ filter (is_needed tree.now) (checkin_writes types.now tree.now path.now who.old)) }
+    ensures err { IfErr result (λ refusal. refusal ≡ out_of_memory) }
+    ensures drawn { OnOk result (who.new ≡ having_drawn who.old 1) }
+    ensures kept { OnErr result (who.new ≡ who.old) }
+{
     match checkin_writes(alloc, types, tree, path, history, who) {
         Ok(edit) => {
             who.ids += 1;
@@ -135,8 +158,10 @@ fn check_checkin(
     ensures err { IfErr result (IsTheRefusal (checkin_refusal types.now tree.now path.now who.now)) }
     ensures more { OnOk result (who.now.ids < 16777215) }
 {
-    check_aborting(alloc, types, tree, path)?;
-    check_ids(alloc, who)
+    match check_aborting(alloc, types, tree, path) {
+        Ok(()) => check_ids(alloc, who),
+        Err(refusal) => Err(refusal),
+    }
 }
 
 fn check_aborting(
@@ -225,14 +250,15 @@ fn push_version(
     history: &Path,
     who: &Who,
 ) -> Result<(), AllocError>
-    requires history { history.now ≡ history_of tree.now path.now }
-    requires more { who.now.ids < 16777215 }
-    ensures { OnOk result (writes.new ≡ writes.old ++ adding (version_nodes types.now tree.now path.now who.now (number_by who.now (who.now.ids + 1)))) }
+    requires { who.now.ids < 16777215 }
+    ensures { OnOk result (writes.new ≡ writes.old ++ adding (version_nodes types.now tree.now path.now (next_version tree.now history.now) (drawn_id who.now) (latest_date who.now.base))) }
 {
     let version = next_version(alloc, tree, history)?;
+    let id = drawn_id(alloc, who)?;
+    let date = latest_date(&who.base);
     push_adding(
         writes,
-        version_nodes(alloc, types, tree, path, &version, who)?,
+        version_nodes(alloc, types, tree, path, &version, id, date)?,
     )
 }
 
@@ -257,25 +283,33 @@ fn version_nodes(
     tree: &Tree,
     path: &Path,
     version: &Path,
-    who: &Who,
+    id: Text,
+    date: i64,
 ) -> Result<Vec<(Path, Node)>, AllocError>
-    requires { who.now.ids < 16777215 }
-    ensures { IfOk result (λ nodes. nodes.items ≡ (version.now, new_version tree.now path.now who.now (number_by who.now (who.now.ids + 1))) ∷ frozen_tree types.now tree.now path.now (child_path version.now frozen_node)) }
+    ensures { IfOk result (λ nodes. nodes.items ≡ version_nodes types.now tree.now path.now version.now id date) }
 {
     let mut nodes = Vec::new(alloc);
-    nodes.push((version.copy()?, new_version(alloc, tree, path, who)?))?;
+    nodes.push((
+        version.copy()?,
+        new_version(alloc, tree, path, id, date)?,
+    ))?;
     let place = own_child(alloc, version, OwnName::FrozenNode)?;
     push_frozen(&mut nodes, alloc, types, tree, path, &place)?;
     Ok(nodes)
 }
 
 // The node of a new version, which takes the node's predecessors.
-fn new_version(alloc: Global, tree: &Tree, path: &Path, who: &Who) -> Result<Node, AllocError>
-    requires { who.now.ids < 16777215 }
-    ensures { IfOk result (λ node. node ≡ new_version tree.now path.now who.now (number_by who.now (who.now.ids + 1))) }
+fn new_version(
+    alloc: Global,
+    tree: &Tree,
+    path: &Path,
+    id: Text,
+    date: i64,
+) -> Result<Node, AllocError>
+    ensures { IfOk result (λ node. node ≡ new_version tree.now path.now id date) }
 {
     let predecessors = OwnName::Predecessors.name(alloc)?;
-    let mut props = dated_props(alloc, who)?;
+    let mut props = version_props(alloc, id, date)?;
     put_property(
         &mut props,
         alloc,
@@ -286,16 +320,18 @@ fn new_version(alloc: Global, tree: &Tree, path: &Path, who: &Who) -> Result<Nod
 }
 
 // The type, identifier and date of a new version.
-fn dated_props(alloc: Global, who: &Who) -> Result<Keyed<Name, Property>, AllocError>
-    requires { who.now.ids < 16777215 }
-    ensures { IfOk result (λ props. props ≡ version_props who.now (number_by who.now (who.now.ids + 1))) }
+fn version_props(
+    alloc: Global,
+    id: Text,
+    date: i64,
+) -> Result<Keyed<Name, Property>, AllocError>
+    ensures { IfOk result (λ props. props ≡ version_props id date) }
 {
     let mut props = Keyed::new(alloc);
     let own = Value::Name(OwnName::VersionType.name(alloc)?);
     put_value(&mut props, alloc, OwnName::PrimaryType, own)?;
-    put_identifier(&mut props, alloc, who)?;
-    let date = Value::Date(latest_date(&who.base));
-    put_value(&mut props, alloc, OwnName::Created, date)?;
+    put_value(&mut props, alloc, OwnName::Uuid, Value::Str(id))?;
+    put_value(&mut props, alloc, OwnName::Created, Value::Date(date))?;
     Ok(props)
 }
 
@@ -311,24 +347,26 @@ fn put_value(
 }
 
 // The text of the session's next identifier.
-fn put_identifier(
-    props: &mut Keyed<Name, Property>,
-    alloc: Global,
-    who: &Who,
-) -> Result<(), AllocError>
+fn drawn_id(alloc: Global, who: &Who) -> Result<Text, AllocError>
     requires { who.now.ids < 16777215 }
-    ensures { OnOk result (props.new ≡ insert_entry name_cmp props.old uuid (Single (value.Str (uuid_text (number_by who.now (who.now.ids + 1)))))) }
+    ensures { IfOk result (λ text. text ≡ drawn_id who.now) }
 {
-    let text = drawn_text(alloc, who)?;
-    put_text(props, alloc, OwnName::Uuid, text.as_str())
+    Ok(Text::of(drawn_text(alloc, who)?))
 }
 
 fn drawn_text(alloc: Global, who: &Who) -> Result<String, AllocError>
     requires { who.now.ids < 16777215 }
-    ensures { IfOk result (λ text. string_bytes text ≡ uuid_text (number_by who.now (who.now.ids + 1))) }
+    ensures { IfOk result (λ text. string_bytes text ≡ drawn_id who.now) }
 {
     identifiers_are_uuids();
-    identifier(alloc, who.session.wrapping_add(who.earlier), who.ids + 1)
+    identifier(alloc, session_of(who), who.ids + 1)
+}
+
+// The number of the session, of which identifiers have the last 24 bits.
+fn session_of(who: &Who) -> u32
+    ensures { result % 2 ^ 24 ≡ (who.now.session + who.now.earlier) % 2 ^ 24 }
+{
+    who.session.wrapping_add(who.earlier)
 }
 
 // The number of the session's next identifier.
@@ -454,7 +492,7 @@ fn base_name(
     path: &Path,
     history: &Path,
 ) -> Result<Option<Name>, AllocError>
-    ensures { IfOk result (λ name. name ≡ find (λ n. is_named (option_to_list (one_reference (property_at tree.now path.now base_version))) tree.now (child_path history.now n)) (version_names tree.now history.now)) }
+    ensures { IfOk result (λ name. name ≡ base_name tree.now path.now history.now) }
 {
     let base = OwnName::BaseVersion.name(alloc)?;
     match one_reference(tree.property(path, &base)) {
@@ -470,13 +508,28 @@ fn name_of(
     history: &Path,
     number: u128,
 ) -> Result<Option<Name>, AllocError>
-    ensures { IfOk result (λ name. name ≡ find (λ n. is_named (number ∷ []) tree.now (child_path history.now n)) (version_names tree.now history.now)) }
+    ensures { IfOk result (λ name. name ≡ find (λ n. is_numbered number tree.now (child_path history.now n)) (version_names tree.now history.now)) }
 {
     let uuid = OwnName::Uuid.name(alloc)?;
     for name in &version_names(alloc, tree, history)? {
-        if is_named(tree, &uuid, &[number], &history.child(name)?) {
+        if is_child_numbered(tree, &uuid, history, name, number)? {
             return Ok(Some(name.copy()?));
         }
     }
     Ok(None)
+}
+
+// Whether the child of that name has the identifier of that number.
+fn is_child_numbered(
+    tree: &Tree,
+    key: &Name,
+    path: &Path,
+    name: &Name,
+    number: u128,
+) -> Result<bool, AllocError>
+    requires { key.now ≡ uuid }
+    ensures { IfOk result (λ answer. answer ≡ is_numbered number tree.now (child_path path.now name.now)) }
+{
+    let child = path.child(name)?;
+    Ok(is_numbered(tree, key, number, &child))
 }

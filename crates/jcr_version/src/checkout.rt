@@ -7,6 +7,7 @@ ghost use Rattle.jr_tree.specs.declared.edit.Write.TheVariants.{Put};
 ghost use Rattle.jr_tree.specs.Trees.{property_at};
 ghost use Rattle.jr_items.specs.Items.{is_checked_in, one_reference};
 ghost use Rattle.jr_items.specs.Names.{base_version, predecessors};
+ghost use Rattle.jr_items.specs.Refusals.{out_of_memory};
 ghost use Rattle.jcr_lock.specs.Locks.{IsDue, IsDueRefusal};
 ghost use Rattle.jcr_lock.specs.Needed.{is_needed};
 ghost use Rattle.jcr_version.specs.Edits.{checkout_edit, checkout_writes};
@@ -23,11 +24,22 @@ use std::alloc::{AllocError, Global};
 /// The edit that checks a node out (JSR 283, 15.3 Check-Out): its base version is then its one predecessor. Of a node that
 /// isn't checked in the edit is empty. Refused, in this order: the path, as every version command; 12 where the node isn't
 /// versionable.
+#[tactic(auto, using(crate::proofs::Due::due_else, crate::proofs::Due::else_refused, crate::proofs::Due::else_memory))]
 pub fn checkout_edit(alloc: Global, tree: &Tree, path: &Path) -> Result<Edit, Refusal>
     ensures ok { IfOk result (IsDue (checkout_edit tree.now path.now)) }
     ensures err { IfErr result (IsDueRefusal (checkout_edit tree.now path.now)) }
 {
-    find_history(alloc, "checkout", tree, path)?;
+    match find_history(alloc, "checkout", tree, path) {
+        Ok(_) => checked_out(alloc, tree, path),
+        Err(refusal) => Err(refusal),
+    }
+}
+
+// The edit of a versionable node.
+fn checked_out(alloc: Global, tree: &Tree, path: &Path) -> Result<Edit, Refusal>
+    ensures ok { IfOk result (λ edit. edit.writes ≡ cond (is_checked_in tree.now path.now) (filter (is_needed tree.now) (checkout_writes tree.now path.now)) []) }
+    ensures err { IfErr result (λ refusal. refusal ≡ out_of_memory) }
+{
     match checkout_writes(alloc, tree, path) {
         Ok(edit) => Ok(edit),
         Err(AllocError) => Err(Refusal::memory(alloc)),

@@ -1,5 +1,5 @@
 // Frozen nodes: what a version keeps of a node, and what forbids its check-in.
-ghost use Rattle.std.specs.Prelude.{◌≡◌, ◌++◌, ◌∷◌, [], cond, false, IfOk, None, OnOk, Some, drop, length};
+ghost use Rattle.std.specs.Prelude.{◌≡◌, ◌++◌, [], false, IfOk, OnOk, drop, length};
 ghost use Rattle.std.specs.BTreeMap.{insert_entry};
 ghost use Rattle.std.specs.List.{fold};
 ghost use Rattle.std.specs.Option.{option_copied, option_map_or};
@@ -56,28 +56,14 @@ fn is_frozen_down(
 {
     match names {
         [] => Ok(true),
-        [first, rest @ ..] => match frozen_child(alloc, types, tree, path, first)? {
-            Some(child) => is_frozen_down(alloc, types, tree, &child, rest),
-            None => Ok(false),
-        },
-    }
-}
-
-// The path of a child, where it is frozen with the node.
-fn frozen_child(
-    alloc: Global,
-    types: &Registry,
-    tree: &Tree,
-    path: &Path,
-    name: &Name,
-) -> Result<Option<Path>, AllocError>
-    ensures { IfOk result (λ found. found ≡ cond (is_frozen_along types.now tree.now (path.now ++ name.now ∷ [])) (Some (path.now ++ name.now ∷ [])) None) }
-{
-    let child = path.child(name)?;
-    if is_frozen_along(alloc, types, tree, &child)? {
-        Ok(Some(child))
-    } else {
-        Ok(None)
+        [first, rest @ ..] => {
+            let child = path.child(first)?;
+            if is_frozen_along(alloc, types, tree, &child)? {
+                is_frozen_down(alloc, types, tree, &child, rest)
+            } else {
+                Ok(false)
+            }
+        }
     }
 }
 
@@ -270,8 +256,8 @@ fn put_identifier(
     }
 }
 
-/// Puts a text.
-pub(crate) fn put_text(
+// Puts a text.
+fn put_text(
     props: &mut Keyed<Name, Property>,
     alloc: Global,
     name: OwnName,

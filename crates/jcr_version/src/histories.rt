@@ -1,18 +1,18 @@
 // Version histories and their versions.
-ghost use Rattle.std.specs.Prelude.{◌≡◌, ◌≤◌, ◌==◌, IfErr, IfOk, None, OnOk, cond};
+ghost use Rattle.std.specs.Prelude.{◌≡◌, ◌≤◌, ◌==◌, IfErr, IfOk, None, OnOk};
 ghost use Rattle.std.specs.List.{filter_map, list_any};
 ghost use Rattle.std.specs.Option.{option_copied, option_map_or};
 ghost use Rattle.std.specs.String.{string_bytes};
 ghost use Rattle.jr_path.specs.Grammar.{IsName};
 ghost use Rattle.jr_rev.specs.Vectors.{entry};
 ghost use Rattle.jr_tree.specs.Trees.{node_at};
-ghost use Rattle.jr_items.specs.Items.{child_path, is_versionable, many_references, one_reference, reference_in};
+ghost use Rattle.jr_items.specs.Items.{child_path, many_references, one_reference, reference_in};
 ghost use Rattle.jr_items.specs.Names.{uuid, version_storage};
 ghost use Rattle.jr_items.specs.Own.{own_name};
 ghost use Rattle.jr_items.specs.Refusals.{IsTheRefusal};
 ghost use Rattle.jcr_ref.specs.References.{identifier_of};
 ghost use Rattle.jcr_ref.specs.Histories.{history_of, number_at};
-ghost use Rattle.jcr_version.specs.Histories.{child_there, is_named, latest_among, latest_date, no_version, no_versions, number_of, unversioned, version_name, version_there, versions_of};
+ghost use Rattle.jcr_version.specs.Histories.{child_there, history_there, is_named, is_numbered, latest_among, latest_date, no_version, no_versions, number_of, unversioned, version_name, version_there, versions_of};
 
 use crate::frozen::is_versionable;
 use jcr_ref::version_names;
@@ -36,10 +36,13 @@ pub fn find_history(
     ensures ok { OnOk result (no_versions command.now tree.now path.now ≡ None) }
     ensures err { IfErr result (IsTheRefusal (no_versions command.now tree.now path.now)) }
 {
-    check_place(alloc, tree, path)?;
-    versioned(alloc, command, tree, path)
+    match check_place(alloc, tree, path) {
+        Ok(()) => versioned(alloc, command, tree, path),
+        Err(refusal) => Err(refusal),
+    }
 }
 
+#[tactic(auto, using(crate::proofs::Due::some_of, crate::proofs::Due::none_of))]
 fn versioned(alloc: Global, command: &str, tree: &Tree, path: &Path) -> Result<Path, Refusal>
     ensures history { IfOk result (λ history. history ≡ history_of tree.now path.now) }
     ensures ok { OnOk result (unversioned command.now tree.now path.now ≡ None) }
@@ -53,8 +56,9 @@ fn versioned(alloc: Global, command: &str, tree: &Tree, path: &Path) -> Result<P
 }
 
 // The history of a node, where it is versionable and has one.
+#[tactic(auto, unfolding(crate::specs::Histories::has_versions))]
 fn history_there(alloc: Global, tree: &Tree, path: &Path) -> Result<Option<Path>, AllocError>
-    ensures { IfOk result (λ found. found ≡ cond (is_versionable tree.now path.now) (child_there tree.now version_storage (identifier_of tree.now path.now)) None) }
+    ensures { IfOk result (λ found. found ≡ history_there tree.now path.now) }
 {
     if is_versionable(alloc, tree, path)? {
         history_at(alloc, tree, path)
@@ -110,10 +114,11 @@ fn child_there(
     match Name::parse(alloc, name) {
         Ok(name) => child_named(tree, path, &name),
         Err(PathFault::Memory) => Err(AllocError),
-        Err(_) => {
+        Err(PathFault::BadName(_)) => {
             know_absent(tree, path, name);
             Ok(None)
         }
+        Err(_) => unreachable!(),
     }
 }
 
@@ -129,6 +134,7 @@ fn child_named(tree: &Tree, path: &Path, name: &Name) -> Result<Option<Path>, Al
 }
 
 // No node has a text as its name that isn't in the grammar of names. It changes nothing: callers learn the fact.
+#[tactic(auto, using(crate::proofs::VersionNames::passed_over))]
 fn know_absent(tree: &Tree, path: &Path, name: &str)
     requires { ¬ (IsName name.now) }
     ensures { node_at tree.now (child_path path.now name.now) ≡ None }
@@ -139,6 +145,7 @@ fn know_absent(tree: &Tree, path: &Path, name: &str)
 }
 
 /// A version of a history, by its name. Refused: 6 with the name where the history has no such version.
+#[tactic(auto, using(crate::proofs::Due::some_of, crate::proofs::Due::none_of))]
 pub fn find_version(
     alloc: Global,
     tree: &Tree,
@@ -157,6 +164,7 @@ pub fn find_version(
 }
 
 // The version of that name, where the history has it; the node of the labels is none.
+#[tactic(auto, unfolding(crate::specs::Histories::has_version))]
 fn version_there(
     alloc: Global,
     tree: &Tree,
@@ -188,6 +196,7 @@ pub(crate) fn versions_of(
 }
 
 /// The name of the version that comes behind so many.
+#[tactic(auto, using(crate::proofs::VersionNames::version_named))]
 pub(crate) fn version_name(alloc: Global, count: usize) -> Result<Name, AllocError>
     ensures { IfOk result (λ name. name ≡ version_name count) }
 {
@@ -231,6 +240,7 @@ pub(crate) fn one_reference(property: Option<&Property>) -> Option<u128>
 }
 
 /// The number of the identifier of the node at a path. The name `jcr:uuid` is lent by the caller.
+#[tactic(auto, unfolding(crate::specs::Histories::number_of))]
 pub(crate) fn number_of(tree: &Tree, key: &Name, path: &Path) -> Option<u128>
     requires { key.now ≡ uuid }
     ensures { result ≡ number_of tree.now path.now }
@@ -242,6 +252,7 @@ pub(crate) fn number_of(tree: &Tree, key: &Name, path: &Path) -> Option<u128>
 }
 
 /// The number of the node's identifier, 0 where it has none of that form.
+#[tactic(auto, unfolding(crate::specs::Histories::number_of))]
 pub fn number_at(alloc: Global, tree: &Tree, path: &Path) -> Result<u128, AllocError>
     ensures { IfOk result (λ number. number ≡ number_at tree.now path.now) }
 {
@@ -256,6 +267,17 @@ pub(crate) fn is_named(tree: &Tree, key: &Name, references: &[u128], path: &Path
 {
     match number_of(tree, key, path) {
         Some(number) => is_among(number, references),
+        None => false,
+    }
+}
+
+/// Whether the node at a path has the identifier of that number. The name `jcr:uuid` is lent by the caller.
+pub(crate) fn is_numbered(tree: &Tree, key: &Name, number: u128, path: &Path) -> bool
+    requires { key.now ≡ uuid }
+    ensures { result ≡ is_numbered number tree.now path.now }
+{
+    match number_of(tree, key, path) {
+        Some(own) => own == number,
         None => false,
     }
 }

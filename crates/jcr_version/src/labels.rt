@@ -1,11 +1,12 @@
 // The edits that give and take the labels of versions.
 ghost use Rattle.std.specs.Prelude.{◌≡◌, ◌∷◌, [], filter, IfErr, IfOk, None, OnOk};
 ghost use Rattle.jr_tree.specs.declared.edit.Write.TheVariants.{Put, Unset};
-ghost use Rattle.jr_items.specs.Refusals.{IsOrMemory, IsTheRefusal, checked_in, no_item};
+ghost use Rattle.jr_items.specs.Items.{child_path};
+ghost use Rattle.jr_items.specs.Refusals.{IsOrMemory, IsTheRefusal, checked_in, no_item, out_of_memory};
 ghost use Rattle.jcr_ref.specs.Histories.{labels_of, number_at, reference_to};
 ghost use Rattle.jcr_lock.specs.Needed.{is_needed};
 ghost use Rattle.jcr_lock.specs.Locks.{IsDue, IsDueRefusal};
-ghost use Rattle.jcr_version.specs.Edits.{is_used, label_edit, label_in_use, label_own, label_path, no_label, unlabel_edit, unlabel_own};
+ghost use Rattle.jcr_version.specs.Edits.{is_used, label_edit, label_in_use, label_own, label_path, label_refusal, no_label, unlabel_edit, unlabel_own};
 
 use crate::histories::{find_history, find_version, number_at, own_child};
 use crate::writes::needed;
@@ -19,6 +20,7 @@ use std::alloc::{AllocError, Global};
 /// where the version has it. Refused, in this order: the path, as every version command; 12 where the node isn't
 /// versionable; 6 with the version's name where the history has no such version; 8 with the label's path where a version
 /// has the label, this one too, and `take` is false.
+#[tactic(auto, using(crate::proofs::Due::own_due, crate::proofs::Due::own_refused, crate::proofs::Due::first_refused))]
 pub fn label_edit(
     alloc: Global,
     tree: &Tree,
@@ -30,10 +32,13 @@ pub fn label_edit(
     ensures ok { IfOk result (IsDue (label_edit tree.now path.now version.now label.now take)) }
     ensures err { IfErr result (IsDueRefusal (label_edit tree.now path.now version.now label.now take)) }
 {
-    let history = find_history(alloc, "label", tree, path)?;
-    label_in(alloc, tree, &history, version, label, take)
+    match find_history(alloc, "label", tree, path) {
+        Ok(history) => label_in(alloc, tree, &history, version, label, take),
+        Err(refusal) => Err(refusal),
+    }
 }
 
+#[tactic(auto, using(crate::proofs::Due::due_else, crate::proofs::Due::else_refused, crate::proofs::Due::else_memory))]
 fn label_in(
     alloc: Global,
     tree: &Tree,
@@ -45,9 +50,63 @@ fn label_in(
     ensures ok { IfOk result (IsDue (label_own tree.now history.now version.now label.now take)) }
     ensures err { IfErr result (IsDueRefusal (label_own tree.now history.now version.now label.now take)) }
 {
-    let version = find_version(alloc, tree, history, version)?;
-    check_free(alloc, tree, history, label, take)?;
-    match label_writes(alloc, tree, history, &version, label) {
+    match find_free(alloc, tree, history, version, label, take) {
+        Ok(version) => labelled(alloc, tree, history, &version, label),
+        Err(refusal) => Err(refusal),
+    }
+}
+
+// The version, where it may have the label.
+#[tactic(auto, using(crate::proofs::Refused::first_of_two, crate::proofs::Refused::second_of_two, crate::proofs::Refused::none_of_two))]
+fn find_free(
+    alloc: Global,
+    tree: &Tree,
+    history: &Path,
+    version: &str,
+    label: &Name,
+    take: bool,
+) -> Result<Path, Refusal>
+    ensures version { IfOk result (λ path. path ≡ child_path history.now version.now) }
+    ensures ok { OnOk result (label_refusal tree.now history.now version.now label.now take ≡ None) }
+    ensures err { IfErr result (IsTheRefusal (label_refusal tree.now history.now version.now label.now take)) }
+{
+    match find_version(alloc, tree, history, version) {
+        Ok(version) => free_for(alloc, tree, history, version, label, take),
+        Err(refusal) => Err(refusal),
+    }
+}
+
+// The version itself, where no version has the label or it may be taken.
+fn free_for(
+    alloc: Global,
+    tree: &Tree,
+    history: &Path,
+    version: Path,
+    label: &Name,
+    take: bool,
+) -> Result<Path, Refusal>
+    ensures version { IfOk result (λ path. path ≡ version) }
+    ensures ok { OnOk result (label_in_use tree.now history.now label.now take ≡ None) }
+    ensures err { IfErr result (IsTheRefusal (label_in_use tree.now history.now label.now take)) }
+{
+    match check_free(alloc, tree, history, label, take) {
+        Ok(()) => Ok(version),
+        Err(refusal) => Err(refusal),
+    }
+}
+
+// The edit that gives a version a label.
+fn labelled(
+    alloc: Global,
+    tree: &Tree,
+    history: &Path,
+    version: &Path,
+    label: &Name,
+) -> Result<Edit, Refusal>
+    ensures ok { IfOk result (λ edit. edit.writes ≡ filter (is_needed tree.now) (Put (labels_of history.now) label.now (reference_to (number_at tree.now version.now)) ∷ [])) }
+    ensures err { IfErr result (λ refusal. refusal ≡ out_of_memory) }
+{
+    match label_writes(alloc, tree, history, version, label) {
         Ok(edit) => Ok(edit),
         Err(AllocError) => Err(Refusal::memory(alloc)),
     }
@@ -122,6 +181,7 @@ fn one_needed(alloc: Global, tree: &Tree, write: Write) -> Result<Edit, AllocErr
 
 /// The edit that takes a label away (JSR 283, 15.4 Version Labels). Refused, in this order: the path, as every version
 /// command; 12 where the node isn't versionable; 1 with the label's path where no version has the label.
+#[tactic(auto, using(crate::proofs::Due::own_due, crate::proofs::Due::own_refused, crate::proofs::Due::first_refused))]
 pub fn unlabel_edit(
     alloc: Global,
     tree: &Tree,
@@ -131,10 +191,13 @@ pub fn unlabel_edit(
     ensures ok { IfOk result (IsDue (unlabel_edit tree.now path.now label.now)) }
     ensures err { IfErr result (IsDueRefusal (unlabel_edit tree.now path.now label.now)) }
 {
-    let history = find_history(alloc, "unlabel", tree, path)?;
-    unlabel_in(alloc, tree, &history, label)
+    match find_history(alloc, "unlabel", tree, path) {
+        Ok(history) => unlabel_in(alloc, tree, &history, label),
+        Err(refusal) => Err(refusal),
+    }
 }
 
+#[tactic(auto, using(crate::proofs::Due::due_else, crate::proofs::Due::else_refused, crate::proofs::Due::else_memory))]
 fn unlabel_in(
     alloc: Global,
     tree: &Tree,
@@ -144,7 +207,22 @@ fn unlabel_in(
     ensures ok { IfOk result (IsDue (unlabel_own tree.now history.now label.now)) }
     ensures err { IfErr result (IsDueRefusal (unlabel_own tree.now history.now label.now)) }
 {
-    check_used(alloc, tree, history, label)?;
+    match check_used(alloc, tree, history, label) {
+        Ok(()) => unlabelled(alloc, tree, history, label),
+        Err(refusal) => Err(refusal),
+    }
+}
+
+// The edit that takes a label away.
+fn unlabelled(
+    alloc: Global,
+    tree: &Tree,
+    history: &Path,
+    label: &Name,
+) -> Result<Edit, Refusal>
+    ensures ok { IfOk result (λ edit. edit.writes ≡ filter (is_needed tree.now) (Unset (labels_of history.now) label.now ∷ [])) }
+    ensures err { IfErr result (λ refusal. refusal ≡ out_of_memory) }
+{
     match unlabel_writes(alloc, tree, history, label) {
         Ok(edit) => Ok(edit),
         Err(AllocError) => Err(Refusal::memory(alloc)),
