@@ -18,20 +18,24 @@ use Rattle.jr_items.specs.Refusals.{checked_in, or_else, taken, when}
 use Rattle.jr_types.specs.declared.TypeDef.{TypeDef}
 use Rattle.jcr_ref.specs.Histories.{history_of, number_at}
 use Rattle.jcr_version.specs.Edits.{checked_in_writes, unless_refused}
-use Rattle.jcr_version.specs.Histories.{child_there, no_version, no_versions}
+use Rattle.jcr_version.specs.Histories.{no_version, no_versions}
 use Rattle.jcr_restore.specs.Restored.{fate_below, is_brought, place_of, restored}
 
 -- the frozen node of a version
 abbrev pub frozen_of : (version : Path) → Path
 frozen_of v = child_path v frozen_node
 
--- the frozen node of a version of that name; the root version has none
+-- the version of that name has a frozen node; the root version has none
+unfoldable pub has_frozen : Nodes → (version : Path) → (name : Name) → Bool
+has_frozen t v n = not (same_name root_version n) && is_some (node_at t (frozen_of v))
+
+-- the frozen node of the version of that name, if it has one
 abbrev pub frozen_there : Nodes → (version : Path) → (name : Name) → Option Path
-frozen_there t v n = cond (same_name root_version n) None (child_there t v frozen_node)
+frozen_there t v n = cond (has_frozen t v n) (Some (frozen_of v)) None
 
 -- the root version keeps nothing
 abbrev pub unfrozen : Nodes → (version : Path) → (name : Name) → Option Refusal
-unfrozen t v n = when (is_none (frozen_there t v n)) (checked_in v)
+unfrozen t v n = when (not (has_frozen t v n)) (checked_in v)
 
 -- the node of the frozen node at g isn't there, and is made
 abbrev pub is_made : List TypeDef → Nodes → (p f : Path) → Path → Bool

@@ -77,14 +77,14 @@ impl Bringing<'_> {
         Ok(None)
     }
 
-    fn is_taken(&self, ids: &Ids, uuid: &Name, at: &Path) -> Result<bool, AllocError>
-        requires { uuid.now ≡ uuid }
+    fn is_taken(&self, ids: &Ids, key: &Name, at: &Path) -> Result<bool, AllocError>
+        requires { key.now ≡ uuid }
         ensures { IfOk result (λ answer. answer ≡ is_taken ids.now self.now.tree.now self.now.path.now at.now) }
     {
         if at.is_under(self.path) {
             return Ok(false);
         }
-        is_one_of(self.alloc, ids, one_text(self.tree.property(at, uuid)))
+        is_one_of(self.alloc, ids, one_text(self.tree.property(at, key)))
     }
 }
 

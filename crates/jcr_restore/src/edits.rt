@@ -4,9 +4,9 @@ ghost use Rattle.std.specs.List.{fold};
 ghost use Rattle.jr_tree.specs.Edits.{changes, with_property_write};
 ghost use Rattle.jcr_version.specs.Edits.{checked_in_writes};
 ghost use Rattle.jr_tree.specs.Trees.{subtree_of};
-ghost use Rattle.jr_items.specs.Refusals.{IsTheRefusal, taken};
+ghost use Rattle.jr_items.specs.Refusals.{IsTheRefusal, out_of_memory, taken};
 ghost use Rattle.jcr_lock.specs.Locks.{IsDue, IsDueRefusal};
-ghost use Rattle.jcr_restore.specs.Edits.{after_restore, frozen_of, frozen_there, in_conflict, restore_edit, restore_own, restore_to, unfrozen};
+ghost use Rattle.jcr_restore.specs.Edits.{after_restore, bringing_refusal, frozen_of, frozen_there, in_conflict, restore_edit, restore_own, restore_to, unfrozen};
 
 use crate::restored::Bringing;
 use jcr_version::{find_history, find_version, number_at, own_child};
@@ -36,8 +36,10 @@ pub fn restore_edit(
     ensures ok { IfOk result (IsDue (restore_edit types.now tree.now path.now version.now)) }
     ensures err { IfErr result (IsDueRefusal (restore_edit types.now tree.now path.now version.now)) }
 {
-    let history = find_history(alloc, "restore", tree, path)?;
-    restore_from(alloc, types, tree, path, &history, version)
+    match find_history(alloc, "restore", tree, path) {
+        Ok(history) => restore_from(alloc, types, tree, path, &history, version),
+        Err(refusal) => Err(refusal),
+    }
 }
 
 fn restore_from(
@@ -51,8 +53,10 @@ fn restore_from(
     ensures ok { IfOk result (IsDue (restore_own types.now tree.now path.now history.now version.now)) }
     ensures err { IfErr result (IsDueRefusal (restore_own types.now tree.now path.now history.now version.now)) }
 {
-    let at = find_version(alloc, tree, history, version)?;
-    restore_to(alloc, types, tree, path, version, &at)
+    match find_version(alloc, tree, history, version) {
+        Ok(at) => restore_to(alloc, types, tree, path, &at, version),
+        Err(refusal) => Err(refusal),
+    }
 }
 
 fn restore_to(
@@ -60,21 +64,100 @@ fn restore_to(
     types: &Registry,
     tree: &Tree,
     path: &Path,
-    version: &str,
     at: &Path,
+    version: &str,
 ) -> Result<Edit, Refusal>
     ensures ok { IfOk result (IsDue (restore_to types.now tree.now path.now at.now version.now)) }
     ensures err { IfErr result (IsDueRefusal (restore_to types.now tree.now path.now at.now version.now)) }
 {
-    let frozen = find_frozen(alloc, tree, version, at)?;
+    match find_free(alloc, types, tree, path, at, version) {
+        Ok(frozen) => bring(alloc, types, tree, path, at, &frozen),
+        Err(refusal) => Err(refusal),
+    }
+}
+
+// The frozen node of a version, where no node outside has the identifier of a node that is made.
+#[tactic(auto, using(crate::proofs::Free::first_of_two, crate::proofs::Free::second_of_two, crate::proofs::Free::none_of_two))]
+fn find_free(
+    alloc: Global,
+    types: &Registry,
+    tree: &Tree,
+    path: &Path,
+    at: &Path,
+    version: &str,
+) -> Result<Path, Refusal>
+    ensures frozen { IfOk result (λ frozen. frozen ≡ frozen_of at.now) }
+    ensures ok { OnOk result (bringing_refusal types.now tree.now path.now at.now version.now ≡ None) }
+    ensures err { IfErr result (IsTheRefusal (bringing_refusal types.now tree.now path.now at.now version.now)) }
+{
+    match find_frozen(alloc, tree, at, version) {
+        Ok(frozen) => free_for(alloc, types, tree, path, frozen),
+        Err(refusal) => Err(refusal),
+    }
+}
+
+// The frozen node itself, where no node outside has the identifier of a node that is made.
+fn free_for(
+    alloc: Global,
+    types: &Registry,
+    tree: &Tree,
+    path: &Path,
+    frozen: Path,
+) -> Result<Path, Refusal>
+    ensures frozen { IfOk result (λ path. path ≡ frozen) }
+    ensures ok { OnOk result (option_map taken (in_conflict types.now tree.now path.now frozen) ≡ None) }
+    ensures err { IfErr result (IsTheRefusal (option_map taken (in_conflict types.now tree.now path.now frozen))) }
+{
+    match check_free(alloc, types, tree, path, &frozen) {
+        Ok(()) => Ok(frozen),
+        Err(refusal) => Err(refusal),
+    }
+}
+
+fn check_free(
+    alloc: Global,
+    types: &Registry,
+    tree: &Tree,
+    path: &Path,
+    frozen: &Path,
+) -> Result<(), Refusal>
+    ensures ok { OnOk result (option_map taken (in_conflict types.now tree.now path.now frozen.now) ≡ None) }
+    ensures err { IfErr result (IsTheRefusal (option_map taken (in_conflict types.now tree.now path.now frozen.now))) }
+{
     let bringing = Bringing {
         alloc,
         types,
         tree,
         path,
-        frozen: &frozen,
+        frozen,
     };
-    bringing.check_free()?;
+    match bringing.in_conflict() {
+        Ok(Some(at)) => Err(taken(alloc, &at)),
+        Ok(None) => Ok(()),
+        Err(AllocError) => Err(Refusal::memory(alloc)),
+    }
+}
+
+// The edit that brings a node to the frozen node of a version.
+fn bring(
+    alloc: Global,
+    types: &Registry,
+    tree: &Tree,
+    path: &Path,
+    at: &Path,
+    frozen: &Path,
+) -> Result<Edit, Refusal>
+    requires { frozen.now ≡ frozen_of at.now }
+    ensures ok { IfOk result (λ edit. edit.writes ≡ changes (subtree_of tree.now path.now) (after_restore types.now tree.now path.now at.now)) }
+    ensures err { IfErr result (λ refusal. refusal ≡ out_of_memory) }
+{
+    let bringing = Bringing {
+        alloc,
+        types,
+        tree,
+        path,
+        frozen,
+    };
     match restore_changes(&bringing, at) {
         Ok(edit) => Ok(edit),
         Err(AllocError) => Err(Refusal::memory(alloc)),
@@ -82,23 +165,25 @@ fn restore_to(
 }
 
 // The frozen node of a version; the root version has none.
-fn find_frozen(alloc: Global, tree: &Tree, version: &str, at: &Path) -> Result<Path, Refusal>
+#[tactic(auto, using(crate::proofs::Free::some_of, crate::proofs::Free::none_of))]
+fn find_frozen(alloc: Global, tree: &Tree, at: &Path, version: &str) -> Result<Path, Refusal>
     ensures frozen { IfOk result (λ path. path ≡ frozen_of at.now) }
     ensures ok { OnOk result (unfrozen tree.now at.now version.now ≡ None) }
     ensures err { IfErr result (IsTheRefusal (unfrozen tree.now at.now version.now)) }
 {
-    match frozen_there(alloc, tree, version, at) {
+    match frozen_there(alloc, tree, at, version) {
         Ok(Some(frozen)) => Ok(frozen),
         Ok(None) => Err(checked_in(alloc, at)),
         Err(AllocError) => Err(Refusal::memory(alloc)),
     }
 }
 
+#[tactic(auto, unfolding(crate::specs::Edits::has_frozen))]
 fn frozen_there(
     alloc: Global,
     tree: &Tree,
-    version: &str,
     at: &Path,
+    version: &str,
 ) -> Result<Option<Path>, AllocError>
     ensures { IfOk result (λ found. found ≡ frozen_there tree.now at.now version.now) }
 {
@@ -110,20 +195,6 @@ fn frozen_there(
         Ok(Some(frozen))
     } else {
         Ok(None)
-    }
-}
-
-impl Bringing<'_> {
-    // No node outside has the identifier of a node that is made.
-    fn check_free(&self) -> Result<(), Refusal>
-        ensures ok { OnOk result (in_conflict self.now.types.now self.now.tree.now self.now.path.now self.now.frozen.now ≡ None) }
-        ensures err { IfErr result (IsTheRefusal (option_map taken (in_conflict self.now.types.now self.now.tree.now self.now.path.now self.now.frozen.now))) }
-    {
-        match self.in_conflict() {
-            Ok(Some(at)) => Err(taken(self.alloc, &at)),
-            Ok(None) => Ok(()),
-            Err(AllocError) => Err(Refusal::memory(self.alloc)),
-        }
     }
 }
 

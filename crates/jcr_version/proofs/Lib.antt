@@ -1,4 +1,4 @@
-mod Due
+pub mod Due
 mod Identifiers
-mod Refused
+pub mod Refused
 mod VersionNames
