@@ -22,22 +22,13 @@ use Rattle.jcr_restore.specs.declared.fates.Fate.TheVariants as fate
 abbrev pub is_kept_back : List TypeDef → Nodes → Path → Bool
 is_kept_back types t q = is_some (node_at t q) && not (is_frozen_along types t q)
 
--- what becomes of a node below one that is brought, where `there` is its frozen node: it stays where it isn't frozen with the
--- node above, goes where it has no frozen node, and else is brought to it
-abbrev pub fate_of : List TypeDef → Nodes → (here : Path) → (there : Path) → Fate
-fate_of types t here there = cond (is_kept_back types t here) fate.Stays (cond (is_some (node_at t there)) fate.Brought fate.Goes)
-
--- a node that is brought decides nothing of those below it
-abbrev pub fate_then : Fate → Fate → Fate
-fate_then fate.Brought below = below
-fate_then above below = above
-
--- what becomes of the node by these names below `here`, which is brought to the frozen node `there`: the first node on the
--- way down that isn't brought decides
+-- what becomes of the node by these names below `here`, which is brought to the frozen node `there`: it stays where it or a
+-- node above isn't frozen with its parent, goes where it or a node above has no frozen node, and else is brought to its own
 abbrev pub fate_below : List TypeDef → Nodes → (here : Path) → (there : Path) → List Name → Fate
 fate_below types t here there [] = fate.Brought
 fate_below types t here there (n ∷ ns) =
-    fate_then (fate_of types t (child_path here n) (child_path there n)) (fate_below types t (child_path here n) (child_path there n) ns)
+    cond (is_kept_back types t (child_path here n)) fate.Stays
+    (cond (is_some (node_at t (child_path there n))) (fate_below types t (child_path here n) (child_path there n) ns) fate.Goes)
 
 -- the fate is to stay
 abbrev pub is_staying : Fate → Bool

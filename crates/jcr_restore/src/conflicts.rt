@@ -62,6 +62,7 @@ impl Bringing<'_> {
     }
 
     // The first node outside that has one of the identifiers.
+    #[tactic(auto, using(crate::proofs::Taken::none_taken))]
     fn first_taken(&self, ids: &Ids) -> Result<Option<Path>, AllocError>
         ensures { IfOk result (λ found. found ≡ first_taken ids.now self.now.tree.now self.now.path.now) }
     {

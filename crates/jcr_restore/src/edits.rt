@@ -26,6 +26,7 @@ use std::alloc::{AllocError, Global};
 /// the version's path for the root version; 2 with the first node outside the restored one that has the identifier of a
 /// node that would be made. That the node is checked out is no matter here. It looks at the two subtrees, and through the
 /// tree only where a node with an identifier is made.
+#[tactic(auto, using(crate::proofs::Free::own_due, crate::proofs::Free::own_refused, crate::proofs::Free::first_refused))]
 pub fn restore_edit(
     alloc: Global,
     types: &Registry,
@@ -42,6 +43,7 @@ pub fn restore_edit(
     }
 }
 
+#[tactic(auto, using(crate::proofs::Free::own_due, crate::proofs::Free::own_refused, crate::proofs::Free::first_refused))]
 fn restore_from(
     alloc: Global,
     types: &Registry,
@@ -59,6 +61,7 @@ fn restore_from(
     }
 }
 
+#[tactic(auto, using(crate::proofs::Free::due_else, crate::proofs::Free::else_refused, crate::proofs::Free::else_memory))]
 fn restore_to(
     alloc: Global,
     types: &Registry,

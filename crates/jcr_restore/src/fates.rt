@@ -1,6 +1,6 @@
 // What becomes of the nodes below a node that is brought to a frozen node.
 ghost use Rattle.std.specs.Prelude.{◌≡◌, IfOk};
-ghost use Rattle.jcr_restore.specs.Restored.{fate_below, fate_of, is_brought, is_kept_back, is_staying};
+ghost use Rattle.jcr_restore.specs.Restored.{fate_below, is_brought, is_kept_back, is_staying};
 
 use jcr_version::is_frozen_along;
 use jr_path::{Name, Path};
@@ -48,31 +48,15 @@ pub(crate) fn fate_below(
         [] => Ok(Fate::Brought),
         [first, rest @ ..] => {
             let (here, there) = (here.child(first)?, there.child(first)?);
-            match fate_of(alloc, types, tree, &here, &there)? {
-                Fate::Brought => fate_below(alloc, types, tree, &here, &there, rest),
-                fate => Ok(fate),
+            if is_kept_back(alloc, types, tree, &here)? {
+                return Ok(Fate::Stays);
+            }
+            if tree.has(&there) {
+                fate_below(alloc, types, tree, &here, &there, rest)
+            } else {
+                Ok(Fate::Goes)
             }
         }
-    }
-}
-
-// The fate of a node below one that is brought, where `there` is its frozen node if it has one.
-fn fate_of(
-    alloc: Global,
-    types: &Registry,
-    tree: &Tree,
-    here: &Path,
-    there: &Path,
-) -> Result<Fate, AllocError>
-    ensures { IfOk result (λ f. f ≡ fate_of types.now tree.now here.now there.now) }
-{
-    if is_kept_back(alloc, types, tree, here)? {
-        return Ok(Fate::Stays);
-    }
-    if tree.has(there) {
-        Ok(Fate::Brought)
-    } else {
-        Ok(Fate::Goes)
     }
 }
 

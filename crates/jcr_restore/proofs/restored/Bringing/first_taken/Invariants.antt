@@ -2,7 +2,7 @@ use Rattle.std.proofs.Common.{◌≡◌}
 use Rattle.std.specs.List.{find}
 use Rattle.std.specs.Map.{keys_of}
 use Rattle.jcr_restore.specs.Edits.{first_taken, is_taken}
-use Rattle.jcr_restore.proofs.conflicts.Bringing.first_taken.Given as goal
+use Rattle.jcr_restore.proofs.restored.Bringing.first_taken.Given as goal
 
 -- what is left decides
 abbrev pub invariant-loop-at : goal.invariant-loop-at

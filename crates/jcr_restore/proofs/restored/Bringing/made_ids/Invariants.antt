@@ -2,7 +2,7 @@ use Rattle.std.proofs.Common.{◌≡◌, drop, map}
 use Rattle.std.specs.List.{fold}
 use Rattle.std.specs.Map.Iter.{deref_pair}
 use Rattle.jcr_restore.specs.Edits.{made_id, made_ids, with_id}
-use Rattle.jcr_restore.proofs.conflicts.Bringing.made_ids.Given as goal
+use Rattle.jcr_restore.proofs.restored.Bringing.made_ids.Given as goal
 
 -- what is left leads there
 abbrev pub invariant-loop-from : goal.invariant-loop-from
