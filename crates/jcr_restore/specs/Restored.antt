@@ -19,7 +19,7 @@ use Rattle.jcr_restore.specs.declared.fates.Fate.{Fate}
 use Rattle.jcr_restore.specs.declared.fates.Fate.TheVariants as fate
 
 -- a node that is there and isn't frozen with the node above stays
-abbrev pub is_kept_back : List TypeDef → Nodes → Path → Bool
+unfoldable pub is_kept_back : List TypeDef → Nodes → Path → Bool
 is_kept_back types t q = is_some (node_at t q) && not (is_frozen_along types t q)
 
 -- what becomes of the node by these names below `here`, which is brought to the frozen node `there`: it stays where it or a

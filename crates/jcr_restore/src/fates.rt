@@ -34,6 +34,7 @@ impl Fate {
 }
 
 /// The fate of the node by these names below one that is brought to a frozen node.
+#[tactic(auto, using(crate::proofs::Fates::stays, crate::proofs::Fates::goes, crate::proofs::Fates::further))]
 pub(crate) fn fate_below(
     alloc: Global,
     types: &Registry,
@@ -47,12 +48,12 @@ pub(crate) fn fate_below(
     match names {
         [] => Ok(Fate::Brought),
         [first, rest @ ..] => {
-            let (here, there) = (here.child(first)?, there.child(first)?);
-            if is_kept_back(alloc, types, tree, &here)? {
-                return Ok(Fate::Stays);
-            }
-            if tree.has(&there) {
-                fate_below(alloc, types, tree, &here, &there, rest)
+            let below = here.child(first)?;
+            let frozen = there.child(first)?;
+            if is_kept_back(alloc, types, tree, &below)? {
+                Ok(Fate::Stays)
+            } else if tree.has(&frozen) {
+                fate_below(alloc, types, tree, &below, &frozen, rest)
             } else {
                 Ok(Fate::Goes)
             }
@@ -61,6 +62,7 @@ pub(crate) fn fate_below(
 }
 
 // Whether the node is there and isn't frozen with the node above.
+#[tactic(auto, unfolding(crate::specs::Restored::is_kept_back))]
 fn is_kept_back(
     alloc: Global,
     types: &Registry,
