@@ -12,6 +12,7 @@ mod rows;
 mod shows;
 mod trees;
 mod types;
+mod versions;
 
 use jr_io::{Sink, StdSink, StdSource, read_all, write_all};
 use std::io;

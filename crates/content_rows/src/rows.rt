@@ -1,5 +1,5 @@
 // What comes of each line.
-use crate::{definitions, events, locks, plans, references, trees, types};
+use crate::{definitions, events, locks, plans, references, trees, types, versions};
 use jr_path::{Path, PathFault};
 use jr_tree::Tree;
 use std::alloc::{AllocError, Global};
@@ -27,18 +27,25 @@ fn add_line(
     given: &str,
     out: &mut String,
 ) -> Result<(), AllocError> {
-    if let ("events", asked) = cut(question) {
-        return events::add(alloc, asked, given, out);
+    let (word, asked) = cut(question);
+    match word {
+        "events" => events::add(alloc, asked, given, out),
+        "plan" => plans::add(alloc, asked, given, out),
+        "versions" => versions::add(alloc, asked, given, out),
+        "added" | "is_a" | "subtypes" | "type" | "violation" => {
+            types::add(alloc, word, asked, given, out)
+        }
+        "definitions" | "printed" => definitions::add(alloc, word, asked, given, out),
+        _ => add_of_tree(alloc, question, given, out),
     }
-    if let ("plan", asked) = cut(question) {
-        return plans::add(alloc, asked, given, out);
-    }
-    if let ("added" | "is_a" | "subtypes" | "type" | "violation", asked) = cut(question) {
-        return types::add(alloc, cut(question).0, asked, given, out);
-    }
-    if let ("definitions" | "printed", asked) = cut(question) {
-        return definitions::add(alloc, cut(question).0, asked, given, out);
-    }
+}
+
+fn add_of_tree(
+    alloc: Global,
+    question: &str,
+    given: &str,
+    out: &mut String,
+) -> Result<(), AllocError> {
     match trees::tree_of(alloc, given)? {
         Some(tree) => add_answer(alloc, &tree, question, out),
         None => out.push_str("no tree"),

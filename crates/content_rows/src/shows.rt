@@ -71,7 +71,7 @@ fn put_rest(alloc: Global, write: &Write, out: &mut String) -> Result<(), AllocE
     }
 }
 
-fn put_word(word: &str, out: &mut String) -> Result<(), AllocError> {
+pub(crate) fn put_word(word: &str, out: &mut String) -> Result<(), AllocError> {
     out.push(' ')?;
     out.push_str(word)
 }

@@ -80,7 +80,7 @@ fn register_all(
     Ok(true)
 }
 
-fn register_one(
+pub(crate) fn register_one(
     alloc: Global,
     registry: &mut Registry,
     item: &Json,

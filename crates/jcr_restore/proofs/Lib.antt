@@ -1,0 +1,3 @@
+mod Fates
+mod Free
+mod Taken

@@ -1,0 +1,10 @@
+//! Restoring a node to one of its versions (JSR 283, 15.7 Restore).
+#![tactic(auto)]
+
+mod conflicts;
+mod edits;
+mod fates;
+mod properties;
+mod restored;
+
+pub use edits::restore_edit;

@@ -1,0 +1,146 @@
+// The properties of a node that is brought to a frozen node.
+ghost use Rattle.std.specs.Prelude.{◌≡◌, ◌&&◌, [], IfOk, OnOk, not};
+ghost use Rattle.std.specs.List.{fold};
+ghost use Rattle.std.specs.Option.{option_copied};
+ghost use Rattle.jcr_version.specs.declared.attributes.Asked.TheVariants as asked;
+ghost use Rattle.jcr_version.specs.Attributes.{property_has};
+ghost use Rattle.jcr_restore.specs.Restored.{brought_props, is_type_name, left_props, with_frozen, with_identifier, with_left, with_types};
+
+use jcr_version::{Asked, is_frozen_name, property_has, put_told};
+use jr_items::OwnName;
+use jr_path::{DeepCopy, Keyed, Name};
+use jr_tree::Node;
+use jr_types::Registry;
+use jr_value::Property;
+use std::alloc::{AllocError, Global};
+
+/// The properties of a node, if it is there, brought to a frozen node.
+pub(crate) fn brought_props(
+    alloc: Global,
+    types: &Registry,
+    old: Option<&Node>,
+    frozen: &Node,
+) -> Result<Keyed<Name, Property>, AllocError>
+    ensures { IfOk result (λ props. props ≡ brought_props types.now (option_copied old.entry) frozen.now) }
+{
+    let mut props = left_props(alloc, types, old)?;
+    put_frozen(&mut props, frozen)?;
+    put_types(&mut props, alloc, frozen)?;
+    put_identifier(&mut props, alloc, frozen, old)?;
+    Ok(props)
+}
+
+// The properties that a restore leaves to a node.
+fn left_props(
+    alloc: Global,
+    types: &Registry,
+    old: Option<&Node>,
+) -> Result<Keyed<Name, Property>, AllocError>
+    ensures { IfOk result (λ props. props ≡ left_props types.now (option_copied old.entry)) }
+{
+    match old {
+        Some(node) => left_of(alloc, types, node),
+        None => Ok(Keyed::new(alloc)),
+    }
+}
+
+fn left_of(
+    alloc: Global,
+    types: &Registry,
+    node: &Node,
+) -> Result<Keyed<Name, Property>, AllocError>
+    ensures { IfOk result (λ props. props ≡ fold (with_left types.now node.now) [] node.now.props) }
+{
+    let mut props = Keyed::new(alloc);
+    for (name, property) in node.props.iter() {
+        put_left(&mut props, types, node, name, property)?;
+    }
+    Ok(props)
+}
+
+fn put_left(
+    props: &mut Keyed<Name, Property>,
+    types: &Registry,
+    node: &Node,
+    name: &Name,
+    property: &Property,
+) -> Result<(), AllocError>
+    ensures { OnOk result (props.new ≡ with_left types.now node.now props.old (name.now, property.now)) }
+{
+    if is_left(types, node, name, property)? {
+        props.put(name.copy()?, property.copy()?)?;
+    }
+    Ok(())
+}
+
+// Whether a restore leaves the property: a version doesn't keep it, and it isn't the node's types.
+fn is_left(
+    types: &Registry,
+    node: &Node,
+    name: &Name,
+    property: &Property,
+) -> Result<bool, AllocError>
+    ensures { IfOk result (λ answer. answer ≡ (not (is_type_name name.now) && not (property_has asked.Kept types.now node.now name.now property.now))) }
+{
+    if is_type_name(name) {
+        return Ok(false);
+    }
+    Ok(!property_has(Asked::Kept, types, node, name, property)?)
+}
+
+fn is_type_name(name: &Name) -> bool
+    ensures { result ≡ is_type_name name.now }
+{
+    OwnName::PrimaryType.is(name) || OwnName::MixinTypes.is(name)
+}
+
+// The properties of the frozen node, but for those that it has for itself.
+fn put_frozen(props: &mut Keyed<Name, Property>, frozen: &Node) -> Result<(), AllocError>
+    ensures { OnOk result (props.new ≡ fold with_frozen props.old frozen.now.props) }
+{
+    for (name, property) in frozen.props.iter() {
+        if !is_frozen_name(name) {
+            props.put(name.copy()?, property.copy()?)?;
+        }
+    }
+    Ok(())
+}
+
+// The type and the mixins that the frozen node tells of.
+fn put_types(
+    props: &mut Keyed<Name, Property>,
+    alloc: Global,
+    frozen: &Node,
+) -> Result<(), AllocError>
+    ensures { OnOk result (props.new ≡ with_types frozen.now props.old) }
+{
+    put_told(
+        props,
+        alloc,
+        frozen,
+        OwnName::FrozenPrimaryType,
+        OwnName::PrimaryType,
+    )?;
+    put_told(
+        props,
+        alloc,
+        frozen,
+        OwnName::FrozenMixinTypes,
+        OwnName::MixinTypes,
+    )
+}
+
+// A node that is made has the identifier that the frozen node tells of.
+fn put_identifier(
+    props: &mut Keyed<Name, Property>,
+    alloc: Global,
+    frozen: &Node,
+    old: Option<&Node>,
+) -> Result<(), AllocError>
+    ensures { OnOk result (props.new ≡ with_identifier frozen.now (option_copied old.entry) props.old) }
+{
+    match old {
+        Some(_) => Ok(()),
+        None => put_told(props, alloc, frozen, OwnName::FrozenUuid, OwnName::Uuid),
+    }
+}

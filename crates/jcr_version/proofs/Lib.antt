@@ -1,0 +1,4 @@
+pub mod Due
+mod Identifiers
+pub mod Refused
+mod VersionNames

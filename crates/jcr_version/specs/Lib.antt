@@ -1,0 +1,4 @@
+pub mod Attributes
+pub mod Edits
+pub mod Frozen
+pub mod Histories
