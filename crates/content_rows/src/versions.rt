@@ -240,12 +240,7 @@ fn remove(alloc: Global, tree: &mut Tree, path: &Path) -> Result<(), AllocError>
 }
 
 // What the node writes for its history, once it has its identifier.
-fn begin(
-    alloc: Global,
-    site: &mut Site,
-    path: &Path,
-    out: &mut String,
-) -> Result<(), AllocError> {
+fn begin(alloc: Global, site: &mut Site, path: &Path, out: &mut String) -> Result<(), AllocError> {
     match history_writes(alloc, &site.tree, path, &site.who)? {
         Some(history) => begun(site, history),
         None => out.push_str("no name"),
