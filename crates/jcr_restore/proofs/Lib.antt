@@ -1,3 +1,3 @@
-mod Fates
+mod Ways
 mod Free
 mod Taken

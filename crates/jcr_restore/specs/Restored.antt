@@ -18,6 +18,10 @@ use Rattle.jcr_version.specs.Frozen.{is_frozen_along, is_frozen_name, with_prope
 use Rattle.jcr_restore.specs.declared.fates.Fate.{Fate}
 use Rattle.jcr_restore.specs.declared.fates.Fate.TheVariants as fate
 
+-- there is a node at the path
+unfoldable pub is_there : Nodes → Path → Bool
+is_there t p = is_some (node_at t p)
+
 -- a node that is there and isn't frozen with the node above stays
 unfoldable pub is_kept_back : List TypeDef → Nodes → Path → Bool
 is_kept_back types t q = is_some (node_at t q) && not (is_frozen_along types t q)
@@ -28,7 +32,7 @@ abbrev pub fate_below : List TypeDef → Nodes → (here : Path) → (there : Pa
 fate_below types t here there [] = fate.Brought
 fate_below types t here there (n ∷ ns) =
     cond (is_kept_back types t (child_path here n)) fate.Stays
-    (cond (is_some (node_at t (child_path there n))) (fate_below types t (child_path here n) (child_path there n) ns) fate.Goes)
+    (cond (is_there t (child_path there n)) (fate_below types t (child_path here n) (child_path there n) ns) fate.Goes)
 
 -- the fate is to stay
 abbrev pub is_staying : Fate → Bool

@@ -222,12 +222,7 @@ fn after_restore(bringing: &Bringing, version: &Path) -> Result<Tree, AllocError
 }
 
 // The node is checked in, the version with that identifier is its base, and it has no predecessors.
-fn put_checked_in(
-    tree: &mut Tree,
-    alloc: Global,
-    path: &Path,
-    id: u128,
-) -> Result<(), AllocError>
+fn put_checked_in(tree: &mut Tree, alloc: Global, path: &Path, id: u128) -> Result<(), AllocError>
     ensures { OnOk result (tree.new ≡ fold with_property_write tree.old (checked_in_writes path.now id)) }
 {
     let flag = Property::Single(Value::Boolean(false));

@@ -1,6 +1,6 @@
 // What becomes of the nodes below a node that is brought to a frozen node.
 ghost use Rattle.std.specs.Prelude.{◌≡◌, IfOk};
-ghost use Rattle.jcr_restore.specs.Restored.{fate_below, is_brought, is_kept_back, is_staying};
+ghost use Rattle.jcr_restore.specs.Restored.{fate_below, is_brought, is_kept_back, is_staying, is_there};
 
 use jcr_version::is_frozen_along;
 use jr_path::{Name, Path};
@@ -34,7 +34,7 @@ impl Fate {
 }
 
 /// The fate of the node by these names below one that is brought to a frozen node.
-#[tactic(auto, using(crate::proofs::Fates::stays, crate::proofs::Fates::goes, crate::proofs::Fates::further))]
+#[tactic(auto, using(crate::proofs::Ways::stays, crate::proofs::Ways::goes, crate::proofs::Ways::further))]
 pub(crate) fn fate_below(
     alloc: Global,
     types: &Registry,
@@ -52,13 +52,21 @@ pub(crate) fn fate_below(
             let frozen = there.child(first)?;
             if is_kept_back(alloc, types, tree, &below)? {
                 Ok(Fate::Stays)
-            } else if tree.has(&frozen) {
+            } else if is_there(tree, &frozen) {
                 fate_below(alloc, types, tree, &below, &frozen, rest)
             } else {
                 Ok(Fate::Goes)
             }
         }
     }
+}
+
+// Whether there is a node at the path.
+#[tactic(auto, unfolding(crate::specs::Restored::is_there))]
+fn is_there(tree: &Tree, path: &Path) -> bool
+    ensures { result ≡ is_there tree.now path.now }
+{
+    tree.has(path)
 }
 
 // Whether the node is there and isn't frozen with the node above.

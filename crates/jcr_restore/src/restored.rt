@@ -59,7 +59,15 @@ impl Bringing<'_> {
         ensures { IfOk result (λ answer. answer ≡ is_staying (fate_below self.now.types.now self.now.tree.now self.now.path.now self.now.frozen.now (drop (length self.now.path.now) at.now))) }
     {
         let names = names_below(self.path, at);
-        Ok(fate_below(self.alloc, self.types, self.tree, self.path, self.frozen, names)?.is_staying())
+        Ok(fate_below(
+            self.alloc,
+            self.types,
+            self.tree,
+            self.path,
+            self.frozen,
+            names,
+        )?
+        .is_staying())
     }
 
     // The nodes that are brought to a frozen node at or below the one.
@@ -88,7 +96,15 @@ impl Bringing<'_> {
         ensures { IfOk result (λ answer. answer ≡ is_brought (fate_below self.now.types.now self.now.tree.now self.now.path.now self.now.frozen.now (drop (length self.now.frozen.now) from.now))) }
     {
         let names = names_below(self.frozen, from);
-        Ok(fate_below(self.alloc, self.types, self.tree, self.path, self.frozen, names)?.is_brought())
+        Ok(fate_below(
+            self.alloc,
+            self.types,
+            self.tree,
+            self.path,
+            self.frozen,
+            names,
+        )?
+        .is_brought())
     }
 
     /// Where the node of a frozen node stands.

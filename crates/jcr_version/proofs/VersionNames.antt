@@ -66,10 +66,10 @@ short k h = grind (arith, nat_tests)
 pub version_named : (n : ℕ) → n < 2 ^ 64 → IsName (version_name n)
 version_named n h = plain_name (version_name n)
     (and_from _ _
-        (and_from (list_all visible (version_name n)) _ (digits_pass visible (ten visible refl refl refl refl refl refl refl refl refl refl) n h)
-            (and_from (all_scalars (version_name n)) _ (are_scalars n h)
-                (short (length (decimal n)) (length-decimal-le 20 n (omega arith) (omega arith) h))))
-        (digits_pass is_plain (ten is_plain refl refl refl refl refl refl refl refl refl refl) n h))
+    (and_from (list_all visible (version_name n)) _ (digits_pass visible (ten visible refl refl refl refl refl refl refl refl refl refl) n h)
+    (and_from (all_scalars (version_name n)) _ (are_scalars n h)
+    (short (length (decimal n)) (length-decimal-le 20 n (omega arith) (omega arith) h))))
+    (digits_pass is_plain (ten is_plain refl refl refl refl refl refl refl refl refl refl) n h))
 
 -- the last name of a path of names is a name
 last_named : (p : Path) (n : Name) → All IsName (p ++ n ∷ []) → IsName n

@@ -90,10 +90,7 @@ fn has_asked(asked: Asked, attribute: OnParentVersion) -> bool
     ensures { result ≡ has_asked asked attribute }
 {
     match asked {
-        Asked::Kept => matches!(
-            attribute,
-            OnParentVersion::Copy | OnParentVersion::Version
-        ),
+        Asked::Kept => matches!(attribute, OnParentVersion::Copy | OnParentVersion::Version),
         Asked::Aborts => matches!(attribute, OnParentVersion::Abort),
     }
 }

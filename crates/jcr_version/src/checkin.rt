@@ -22,8 +22,8 @@ ghost use Rattle.jcr_version.specs.Histories.{drawn_id, is_named, is_numbered, l
 
 use crate::frozen::{first_aborting, is_versionable, push_frozen, put_property};
 use crate::histories::{
-    find_history, is_named, is_numbered, latest_date, one_reference, own_child, references_in, version_name,
-    versions_of,
+    find_history, is_named, is_numbered, latest_date, one_reference, own_child, references_in,
+    version_name, versions_of,
 };
 use crate::writes::{needed, push_adding, push_property};
 use jcr_ref::{identifier, identifier_number, identifiers_are_uuids, version_names};
@@ -164,12 +164,7 @@ fn check_checkin(
     }
 }
 
-fn check_aborting(
-    alloc: Global,
-    types: &Registry,
-    tree: &Tree,
-    path: &Path,
-) -> Result<(), Refusal>
+fn check_aborting(alloc: Global, types: &Registry, tree: &Tree, path: &Path) -> Result<(), Refusal>
     ensures ok { OnOk result (aborted types.now tree.now path.now ≡ None) }
     ensures err { IfErr result (IsTheRefusal (aborted types.now tree.now path.now)) }
 {
@@ -289,10 +284,7 @@ fn version_nodes(
     ensures { IfOk result (λ nodes. nodes.items ≡ version_nodes types.now tree.now path.now version.now id date) }
 {
     let mut nodes = Vec::new(alloc);
-    nodes.push((
-        version.copy()?,
-        new_version(alloc, tree, path, id, date)?,
-    ))?;
+    nodes.push((version.copy()?, new_version(alloc, tree, path, id, date)?))?;
     let place = own_child(alloc, version, OwnName::FrozenNode)?;
     push_frozen(&mut nodes, alloc, types, tree, path, &place)?;
     Ok(nodes)
@@ -320,11 +312,7 @@ fn new_version(
 }
 
 // The type, identifier and date of a new version.
-fn version_props(
-    alloc: Global,
-    id: Text,
-    date: i64,
-) -> Result<Keyed<Name, Property>, AllocError>
+fn version_props(alloc: Global, id: Text, date: i64) -> Result<Keyed<Name, Property>, AllocError>
     ensures { IfOk result (λ props. props ≡ version_props id date) }
 {
     let mut props = Keyed::new(alloc);

@@ -186,11 +186,7 @@ pub fn is_frozen_name(name: &Name) -> bool
 }
 
 // The frozen node's own type, and the node's type, mixins and identifier under other names.
-fn put_own(
-    props: &mut Keyed<Name, Property>,
-    alloc: Global,
-    node: &Node,
-) -> Result<(), AllocError>
+fn put_own(props: &mut Keyed<Name, Property>, alloc: Global, node: &Node) -> Result<(), AllocError>
     ensures { OnOk result (props.new ≡ with_own node.now props.old) }
 {
     let own = Property::Single(Value::Name(OwnName::FrozenType.name(alloc)?));
@@ -347,11 +343,7 @@ fn is_below_frozen(
 }
 
 // The first property of a node that forbids the check-in.
-fn aborting_property(
-    types: &Registry,
-    at: &Path,
-    node: &Node,
-) -> Result<Option<Item>, AllocError>
+fn aborting_property(types: &Registry, at: &Path, node: &Node) -> Result<Option<Item>, AllocError>
     ensures { IfOk result (λ found. found ≡ aborting_property types.now at.now node.now) }
 {
     for (name, property) in node.props.iter() {

@@ -143,12 +143,7 @@ fn in_use(alloc: Global, history: &Path, label: &Name) -> Refusal
 }
 
 // Whether a version has the label.
-fn is_used(
-    alloc: Global,
-    tree: &Tree,
-    history: &Path,
-    label: &Name,
-) -> Result<bool, AllocError>
+fn is_used(alloc: Global, tree: &Tree, history: &Path, label: &Name) -> Result<bool, AllocError>
     ensures { IfOk result (λ answer. answer ≡ is_used tree.now history.now label.now) }
 {
     let labels = own_child(alloc, history, OwnName::VersionLabels)?;
@@ -182,12 +177,7 @@ fn one_needed(alloc: Global, tree: &Tree, write: Write) -> Result<Edit, AllocErr
 /// The edit that takes a label away (JSR 283, 15.4 Version Labels). Refused, in this order: the path, as every version
 /// command; 12 where the node isn't versionable; 1 with the label's path where no version has the label.
 #[tactic(auto, using(crate::proofs::Due::own_due, crate::proofs::Due::own_refused, crate::proofs::Due::first_refused))]
-pub fn unlabel_edit(
-    alloc: Global,
-    tree: &Tree,
-    path: &Path,
-    label: &Name,
-) -> Result<Edit, Refusal>
+pub fn unlabel_edit(alloc: Global, tree: &Tree, path: &Path, label: &Name) -> Result<Edit, Refusal>
     ensures ok { IfOk result (IsDue (unlabel_edit tree.now path.now label.now)) }
     ensures err { IfErr result (IsDueRefusal (unlabel_edit tree.now path.now label.now)) }
 {
@@ -198,12 +188,7 @@ pub fn unlabel_edit(
 }
 
 #[tactic(auto, using(crate::proofs::Due::due_else, crate::proofs::Due::else_refused, crate::proofs::Due::else_memory))]
-fn unlabel_in(
-    alloc: Global,
-    tree: &Tree,
-    history: &Path,
-    label: &Name,
-) -> Result<Edit, Refusal>
+fn unlabel_in(alloc: Global, tree: &Tree, history: &Path, label: &Name) -> Result<Edit, Refusal>
     ensures ok { IfOk result (IsDue (unlabel_own tree.now history.now label.now)) }
     ensures err { IfErr result (IsDueRefusal (unlabel_own tree.now history.now label.now)) }
 {
@@ -214,12 +199,7 @@ fn unlabel_in(
 }
 
 // The edit that takes a label away.
-fn unlabelled(
-    alloc: Global,
-    tree: &Tree,
-    history: &Path,
-    label: &Name,
-) -> Result<Edit, Refusal>
+fn unlabelled(alloc: Global, tree: &Tree, history: &Path, label: &Name) -> Result<Edit, Refusal>
     ensures ok { IfOk result (λ edit. edit.writes ≡ filter (is_needed tree.now) (Unset (labels_of history.now) label.now ∷ [])) }
     ensures err { IfErr result (λ refusal. refusal ≡ out_of_memory) }
 {
