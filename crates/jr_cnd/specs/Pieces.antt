@@ -112,7 +112,8 @@ IsSaid c token.Quoted t (says.Quoted text name value) = (text ≡ t) × IsNameOr
 IsSaid c (token.Sign s) t (says.Sign u) = u ≡ s
 IsSaid _ _ _ _ = ⊥
 
--- The same of bytes. (What is written in a token of a text in UTF-8 is in UTF-8.)
+-- Bytes that are written in a token say what their text says, and bytes that are no text nothing. (What is written in a token
+-- of a text in UTF-8 is in UTF-8.)
 pub record Means (c : Context) (kind : TokenKind) (t : List ℕ) (s : Says) : Type 0 where
   pub said : IsUtf8 t → IsSaid c kind t s
   pub no_text : ¬ IsUtf8 t → s ≡ says.Nothing

@@ -33,7 +33,7 @@ is_bare_name (b ∷ bs) = not (b == 45) && list_all is_bare (b ∷ bs)
 abbrev pub escaped : ℕ → List ℕ
 escaped byte = if byte == 39 then codes "\\'" else (if byte == 92 then codes "\\\\" else byte ∷ [])
 
--- the same of a character in UTF-8
+-- a character in UTF-8, so written
 abbrev pub escaped_character : ℕ → List ℕ
 escaped_character c = if c == 39 then codes "\\'" else (if c == 92 then codes "\\\\" else encode_utf8 c)
 

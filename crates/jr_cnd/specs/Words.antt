@@ -14,7 +14,7 @@ use Rattle.jr_cnd.specs.declared.words.TypeWord.TheVariants as type
 use Rattle.jr_cnd.specs.declared.words.ItemWord.{ItemWord}
 use Rattle.jr_cnd.specs.declared.words.ItemWord.TheVariants as item
 
--- the same word, in any case
+-- two words that differ at most in the case of their letters
 abbrev pub is_a : List ℕ → List ℕ → Bool
 is_a = str_eq_ignore_ascii_case
 
