@@ -2,12 +2,12 @@
 use crate::replies::{Row, STEPS, begin, reply_to};
 use crate::texts::{Out, cut, path, revision, small};
 use jr_path::List;
-use jr_rev::{RevVec, Revision};
 use oak_node::Pending;
 use oak_store::DocTable;
 use oak_sweep::Sweeper;
 use oak_sync::{BackRead, BackWrite};
 use std::alloc::AllocError;
+use std::mem;
 
 // REVISION PATH ..: the pending paths are published up to the revision.
 pub(crate) fn add_write(row: &Row<'_>, table: &mut DocTable, out: &mut Out) {
@@ -40,7 +40,7 @@ fn run_write(row: &Row<'_>, write: BackWrite, table: &mut DocTable, out: &mut Ou
             out.note(made);
         }
     }
-    put_write(&end_write(write), out);
+    end_write(write, out);
 }
 
 fn write_step(
@@ -65,17 +65,11 @@ fn sync_word(stage: oak_sync::Stage) -> &'static str {
     }
 }
 
-fn end_write(write: BackWrite) -> Result<Revision, BackWrite> {
+fn end_write(write: BackWrite, out: &mut Out) {
     if write.is_done() {
-        Ok(write.end())
+        out.put_revision("end ", write.end());
     } else {
-        Err(write)
-    }
-}
-
-fn put_write(ended: &Result<Revision, BackWrite>, out: &mut Out) {
-    if let Ok(r) = ended {
-        out.put_revision("end ", *r);
+        mem::forget(write);
     }
 }
 
@@ -95,7 +89,7 @@ fn run_read(row: &Row<'_>, read: BackRead, table: &mut DocTable, out: &mut Out) 
             out.note(made);
         }
     }
-    put_read(&end_read(read), out);
+    end_read(read, out);
 }
 
 fn read_step(
@@ -110,17 +104,12 @@ fn read_step(
     read.feed(reply_to(row, ask, table, out))
 }
 
-fn end_read(read: BackRead) -> Result<(RevVec, RevVec), BackRead> {
+fn end_read(read: BackRead, out: &mut Out) {
     if read.is_done() {
-        Ok(read.end())
+        let (last, sweep) = read.end();
+        out.put_pin("end ", &last, &sweep);
     } else {
-        Err(read)
-    }
-}
-
-fn put_read(ended: &Result<(RevVec, RevVec), BackRead>, out: &mut Out) {
-    if let Ok((last, sweep)) = ended {
-        out.put_pin("end ", last, sweep);
+        mem::forget(read);
     }
 }
 
@@ -140,7 +129,7 @@ fn run_sweep(row: &Row<'_>, sweeper: Sweeper, table: &mut DocTable, out: &mut Ou
             out.note(made);
         }
     }
-    put_sweep(&end_sweep(sweeper), out);
+    end_sweep(sweeper, out);
 }
 
 fn sweep_step(
@@ -165,16 +154,10 @@ fn sweep_word(stage: oak_sweep::Stage) -> &'static str {
     }
 }
 
-fn end_sweep(sweeper: Sweeper) -> Result<Revision, Sweeper> {
+fn end_sweep(sweeper: Sweeper, out: &mut Out) {
     if sweeper.is_done() {
-        Ok(sweeper.end())
+        out.put_revision("end ", sweeper.end());
     } else {
-        Err(sweeper)
-    }
-}
-
-fn put_sweep(ended: &Result<Revision, Sweeper>, out: &mut Out) {
-    if let Ok(r) = ended {
-        out.put_revision("end ", *r);
+        mem::forget(sweeper);
     }
 }

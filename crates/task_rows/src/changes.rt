@@ -1,4 +1,5 @@
 // Changes of documents, as rows have them: WORD@KEY=VALUE, of which a part may be left out.
+use crate::replies::word_of;
 use crate::texts::{Out, cut, id, number, pin, revision, small};
 use jr_path::{DocId, Item, List, Name, Path, Text};
 use jr_rev::Revision;
@@ -53,13 +54,9 @@ fn update(document: &str, words: &str, table: &mut DocTable, out: &mut Out) {
         cond: None,
         changes: changes(words, out),
     };
-    if !is_made(&op, table) {
+    if word_of(&op, table) != " made" {
         out.is_broken = true;
     }
-}
-
-fn is_made(op: &UpdateOp, table: &mut DocTable) -> bool {
-    table.update(op).is_ok()
 }
 
 fn changes(words: &str, out: &mut Out) -> List<Change> {

@@ -6,6 +6,7 @@ use oak_doc::Collected;
 use oak_gc::{Collector, Stage};
 use oak_store::DocTable;
 use std::alloc::AllocError;
+use std::mem;
 
 // COUNT NODE ..: the cluster nodes, from 1 on; each has HEAD/SWEEP and then `+` before each pin, or is `gone`.
 pub(crate) fn add(row: &Row<'_>, table: &mut DocTable, out: &mut Out) {
@@ -25,7 +26,7 @@ fn run(row: &Row<'_>, collector: Collector, table: &mut DocTable, out: &mut Out)
         }
     }
     put_bound(&collector.bound(), out);
-    put_ended(&end(collector), out);
+    end(collector, out);
 }
 
 fn make_step(
@@ -49,17 +50,11 @@ fn word(stage: Stage) -> &'static str {
     }
 }
 
-fn end(collector: Collector) -> Result<Collected, Collector> {
+fn end(collector: Collector, out: &mut Out) {
     if collector.is_done() {
-        Ok(collector.end())
+        put_end(&collector.end(), out);
     } else {
-        Err(collector)
-    }
-}
-
-fn put_ended(ended: &Result<Collected, Collector>, out: &mut Out) {
-    if let Ok(collected) = ended {
-        put_end(collected, out);
+        mem::forget(collector);
     }
 }
 

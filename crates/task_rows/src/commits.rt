@@ -15,6 +15,7 @@ use oak_commit::{CommitEnd, Committer, Stage};
 use oak_doc::{Ask, Reply};
 use oak_store::DocTable;
 use std::alloc::AllocError;
+use std::mem;
 
 // REVISION BASE WORD ..: a commit of the revision with writes and marks. A word is WORD@PATH or WORD@PATH=NAME; each value that is
 // put is 5.
@@ -122,7 +123,7 @@ fn run(row: &Row<'_>, committer: Committer, table: &mut DocTable, out: &mut Out)
             out.note(made);
         }
     }
-    put_ended(&end(committer), out);
+    end(committer, out);
 }
 
 fn make_step(
@@ -168,11 +169,11 @@ fn word(stage: Stage) -> &'static str {
     }
 }
 
-fn end(committer: Committer) -> Result<CommitEnd, Committer> {
+fn end(committer: Committer, out: &mut Out) {
     if is_done(&committer) {
-        Ok(committer.end())
+        put_end(&committer.end(), out);
     } else {
-        Err(committer)
+        mem::forget(committer);
     }
 }
 
@@ -180,12 +181,6 @@ fn is_done(committer: &Committer) -> bool
     ensures { IsTrue result → due_of committer.now ≡ ask.Done }
 {
     matches!(committer.next(), Ok(Ask::Done))
-}
-
-fn put_ended(ended: &Result<CommitEnd, Committer>, out: &mut Out) {
-    if let Ok(end) = ended {
-        put_end(end, out);
-    }
 }
 
 fn put_end(end: &CommitEnd, out: &mut Out) {

@@ -15,7 +15,7 @@ pub(crate) struct Row<'a> {
     pub(crate) meanwhile: &'a str,
 }
 
-// How many steps an automaton may take.
+// How many steps an automaton may take; one that goes on is let be, since to drop it would be dear to prove.
 pub(crate) const STEPS: u64 = 1000;
 
 // Begins the text of a step, before which others make their changes.
@@ -63,12 +63,21 @@ fn copied(document: &Document) -> Reply {
     }
 }
 
-pub(crate) fn updated(op: &UpdateOp, table: &mut DocTable) -> Reply {
+fn updated(op: &UpdateOp, table: &mut DocTable) -> Reply {
     match table.update(op) {
         Ok(before) => Reply::Updated(before),
         Err(OpFault::Unmet(cond, kept)) => Reply::Unmet(cond, kept),
         Err(OpFault::Absent) => Reply::Absent,
         Err(OpFault::Memory) => Reply::NoMemory,
+    }
+}
+
+// The word for what comes of an update.
+pub(crate) fn word_of(op: &UpdateOp, table: &mut DocTable) -> &'static str {
+    match &table.update(op) {
+        Ok(_) => " made",
+        Err(OpFault::Absent) => " absent",
+        Err(_) => " refused",
     }
 }
 
@@ -123,7 +132,7 @@ fn pins_of(texts: &str, alloc: Global) -> Result<List<Pin>, AllocError> {
     Ok(pins)
 }
 
-pub(crate) fn put_reply(reply: &Reply, out: &mut Out) {
+fn put_reply(reply: &Reply, out: &mut Out) {
     match reply {
         Reply::Found(None) => out.put(" none"),
         Reply::Updated(_) => out.put(" made"),

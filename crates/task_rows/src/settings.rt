@@ -1,6 +1,6 @@
 // Checkpoints and attached readers.
 use crate::asks::{put_checkpoint, put_update};
-use crate::replies::{Row, put_reply, updated};
+use crate::replies::{Row, word_of};
 use crate::texts::{Out, cut, pin, small};
 use jr_path::DocId;
 use oak_checkpoint::{attach, create, detach, drop_readers, found, release};
@@ -30,7 +30,7 @@ fn add_word(text: &str, table: &mut DocTable, out: &mut Out) {
 
 fn update(op: &UpdateOp, table: &mut DocTable, out: &mut Out) {
     put_update(op, out);
-    put_reply(&updated(op, table), out);
+    out.put(word_of(op, table));
     out.put("; ");
 }
 

@@ -5,6 +5,7 @@ use oak_doc::SplitEnd;
 use oak_prev::{Splitter, Stage};
 use oak_store::DocTable;
 use std::alloc::AllocError;
+use std::mem;
 
 // PATH BASE/SWEEP
 pub(crate) fn add(row: &Row<'_>, table: &mut DocTable, out: &mut Out) {
@@ -23,7 +24,7 @@ fn run(row: &Row<'_>, splitter: Splitter, table: &mut DocTable, out: &mut Out) {
             out.note(made);
         }
     }
-    put_ended(&end(splitter), out);
+    end(splitter, out);
 }
 
 fn make_step(
@@ -46,17 +47,11 @@ fn word(stage: Stage) -> &'static str {
     }
 }
 
-fn end(splitter: Splitter) -> Result<SplitEnd, Splitter> {
+fn end(splitter: Splitter, out: &mut Out) {
     if splitter.is_done() {
-        Ok(splitter.end())
+        put_end(splitter.end(), out);
     } else {
-        Err(splitter)
-    }
-}
-
-fn put_ended(ended: &Result<SplitEnd, Splitter>, out: &mut Out) {
-    if let Ok(end) = ended {
-        put_end(*end, out);
+        mem::forget(splitter);
     }
 }
 
