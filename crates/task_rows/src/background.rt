@@ -2,6 +2,7 @@
 use crate::replies::{Row, STEPS, begin, reply_to};
 use crate::texts::{Out, cut, path, revision, small};
 use jr_path::List;
+use jr_rev::RevVec;
 use oak_node::Pending;
 use oak_store::DocTable;
 use oak_sweep::Sweeper;
@@ -106,11 +107,14 @@ fn read_step(
 
 fn end_read(read: BackRead, out: &mut Out) {
     if read.is_done() {
-        let (last, sweep) = read.end();
-        out.put_pin("end ", &last, &sweep);
+        put_pair(&read.end(), out);
     } else {
         mem::forget(read);
     }
+}
+
+fn put_pair(learned: &(RevVec, RevVec), out: &mut Out) {
+    out.put_pin("end ", &learned.0, &learned.1);
 }
 
 // CLUSTER

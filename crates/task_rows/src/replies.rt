@@ -74,7 +74,11 @@ fn updated(op: &UpdateOp, table: &mut DocTable) -> Reply {
 
 // The word for what comes of an update.
 pub(crate) fn word_of(op: &UpdateOp, table: &mut DocTable) -> &'static str {
-    match &table.update(op) {
+    word(&table.update(op))
+}
+
+fn word(made: &Result<Option<Document>, OpFault>) -> &'static str {
+    match made {
         Ok(_) => " made",
         Err(OpFault::Absent) => " absent",
         Err(_) => " refused",
