@@ -1,5 +1,5 @@
 -- No documents are a table's, whatever number was drawn last.
-use Rattle.std.proofs.Common.{◌≤◌, ℕ, List, []}
+use Rattle.std.proofs.Common.{◌≤◌, ℕ, []}
 use Rattle.std.specs.List.Sorted.{IsStrictlySortedBy}
 use Rattle.std.proofs.lemmas.List.Elements.{All-from_recursion}
 use Rattle.oak_doc.specs.declared.document.Document.{Document}

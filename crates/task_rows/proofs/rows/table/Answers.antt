@@ -1,4 +1,3 @@
-use Rattle.std.proofs.Common.{◌≡◌}
 use Rattle.task_rows.proofs.Empty.{nothing_stored}
 use Rattle.task_rows.proofs.rows.table.Goals as goal
 
