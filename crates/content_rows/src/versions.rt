@@ -94,12 +94,12 @@ fn add_step(
     match (word, rest) {
         ("type", [definition]) => add_type(alloc, &mut site.types, definition, out),
         ("ids", [count]) => {
-            site.who.ids = count.as_u64().unwrap_or(0) as u32;
+            site.who.ids = small(count);
             Ok(())
         }
         ("who", [session, earlier]) => {
-            site.who.session = session.as_u64().unwrap_or(0) as u32;
-            site.who.earlier = earlier.as_u64().unwrap_or(0) as u32;
+            site.who.session = small(session);
+            site.who.earlier = small(earlier);
             Ok(())
         }
         ("drawn", []) => {
@@ -116,6 +116,10 @@ fn add_step(
         }
         _ => out.push_str("no step"),
     }
+}
+
+fn small(number: &Json) -> u32 {
+    u32::try_from(number.as_u64().unwrap_or(0)).unwrap_or(0)
 }
 
 fn add_type(
