@@ -13,7 +13,7 @@ import sys
 nodes = int(sys.argv[1])
 what = sys.argv[2]
 edits = {
-    "save": [["put", "/f0/n0", "title", "another title"]],
+    "save": [["put", "/f0/n0", "title", "another"]],
     "lock": [["put", "/f0", "jcr:lockIsDeep", True], ["put", "/f0", "jcr:lockOwner", "t"]],
     "none": ["none"],
 }
