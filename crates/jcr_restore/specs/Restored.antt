@@ -48,9 +48,13 @@ is_brought _ = false
 abbrev pub is_type_name : Name → Bool
 is_type_name n = same_name primary_type n || same_name mixin_types n
 
--- one property of the node more, if a restore leaves it: a version doesn't keep it, and it isn't the node's types
+-- a restore leaves the property of the node: a version doesn't keep it, and it isn't the node's types
+abbrev pub is_left : List TypeDef → Node → Name → Property → Bool
+is_left types node n x = not (is_type_name n) && not (property_has asked.Kept types node n x)
+
+-- one property of the node more, if a restore leaves it
 abbrev pub with_left : List TypeDef → Node → List (Name × Property) → Name × Property → List (Name × Property)
-with_left types node props x = cond (not (is_type_name x.0) && not (property_has asked.Kept types node x.0 x.1)) (insert_entry name_cmp props x.0 x.1) props
+with_left types node props x = cond (is_left types node x.0 x.1) (insert_entry name_cmp props x.0 x.1) props
 
 -- the properties that a restore leaves to the node, of a node that isn't there none
 abbrev pub left_props : List TypeDef → Option Node → List (Name × Property)
