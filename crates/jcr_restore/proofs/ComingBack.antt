@@ -1,5 +1,5 @@
 -- A restore brings back what a version keeps, and leaves the rest.
-use Rattle.std.proofs.Common.{◌≡◌, Bool, true, false, cond, ◌++◌, Some, None, Option, List, [], ◌∷◌, refl, sym, ap, ◌∙◌, subst}
+use Rattle.std.proofs.Common.{◌≡◌, Bool, true, false, cond, ◌++◌, Some, None, Option, List, [], ◌∷◌, refl, sym, ap, ◌∙◌}
 use Rattle.std.specs.Prelude.{ℕ, ◌&&◌, ◌||◌, is_some}
 use Rattle.std.specs.Cmp.{IsEquivalence}
 use Rattle.std.specs.Ordering.{eq_by_cmp}
@@ -7,7 +7,6 @@ use Rattle.std.specs.List.{fold}
 use Rattle.std.specs.Option.{option_and_then, option_map, option_or}
 use Rattle.std.specs.Map.{lookup}
 use Rattle.std.specs.BTreeMap.{insert_entry, is_at}
-use Rattle.std.specs.FinMap.{is_sorted}
 use Rattle.std.proofs.lemmas.Bool.{false≢true, or_parts, true≢false}
 use Rattle.std.proofs.lemmas.Cmp.{eq_by_cmp_equiv}
 use Rattle.std.proofs.lemmas.List.{append-nil}
@@ -23,7 +22,7 @@ use Rattle.jr_value.specs.declared.value.Property.{Property}
 use Rattle.jr_value.specs.declared.value.Property.TheVariants.{Single, Many}
 use Rattle.jr_value.specs.declared.value.Value.TheVariants as value
 use Rattle.jr_tree.specs.declared.tree.Node.{Node}
-use Rattle.jr_tree.specs.Trees.{Nodes, node_at, property_at, subtree_of, undated}
+use Rattle.jr_tree.specs.Trees.{Nodes, node_at, property_at, subtree_of}
 use Rattle.jr_tree.specs.declared.edit.Write.TheVariants.{Put}
 use Rattle.jr_tree.specs.Edits.{with_property_write}
 use Rattle.jr_tree.proofs.AtPath.{node_at-fills}
@@ -35,13 +34,12 @@ use Rattle.jr_items.specs.Items.{property_of, same_name, same_path}
 use Rattle.jr_types.specs.declared.TypeDef.{TypeDef}
 use Rattle.jcr_version.specs.Frozen.{frozen_copy, frozen_props, is_frozen_down}
 use Rattle.jcr_restore.specs.declared.fates.Fate.{Fate}
-use Rattle.jcr_restore.specs.declared.fates.Fate.TheVariants as fate
 use Rattle.jcr_restore.specs.Restored.{brought, brought_props, fate_below, is_brought, is_staying, restored}
 use Rattle.jcr_restore.specs.BroughtBack.{CanComeBack, ComesBack, IsBack, is_checking_in, left_out}
 use Rattle.jcr_ref.specs.Histories.{number_at, reference_to}
 use Rattle.jcr_version.specs.Edits.{checked_in_writes}
 use Rattle.jcr_restore.specs.Edits.{after_restore, frozen_of}
-use Rattle.jcr_restore.specs.BroughtBack.ComesBack.{kept, primary, mixins, left, made}
+use Rattle.jcr_restore.specs.BroughtBack.ComesBack.{kept, primary, mixins, unkept, made}
 use Rattle.jcr_restore.proofs.PropertiesBack.{OneNode, identifier_back, kept_back, left_back, mixins_back, primary_back}
 use Rattle.jcr_restore.proofs.Standing.{frozen_below, node_below, restored_below, same_front}
 use Rattle.jcr_restore.proofs.OnTheWay.{IsFrozenAs, brought_down, never_stays, none_either, stays_down}
@@ -156,7 +154,7 @@ module _ (types : List TypeDef) (old new : Nodes) (p f : Path) (can : CanComeBac
   property_back was frozen found one _ (kept n x is has plain) = kept_back types was found frozen one n x plain is has
   property_back was frozen found one _ primary = primary_back types was found frozen one
   property_back was frozen found one _ mixins = mixins_back types was found frozen one
-  property_back was frozen found one _ (left n unkept same) = left_back types was found frozen one n same unkept
+  property_back was frozen found one _ (unkept n before same) = left_back types was found frozen one n same before
   property_back was frozen found one _ (made id none is) = identifier_back types was found frozen one id none is
 
   properties_back : (ns : List Name) (was : Node) (n : Name) → is_frozen_down types old p ns ≡ true → node_at old (p ++ ns) ≡ Some was → ComesBack types was (node_at new (p ++ ns)) n

@@ -1,5 +1,5 @@
 -- On the way down to a node: what a version keeps is brought back, and what it leaves out stays.
-use Rattle.std.proofs.Common.{◌≡◌, Bool, true, false, cond, ◌++◌, Some, None, Option, List, [], ◌∷◌, refl, sym, ap, ◌∙◌, subst, append_assoc}
+use Rattle.std.proofs.Common.{◌≡◌, Bool, true, false, cond, ◌++◌, None, Option, List, [], ◌∷◌, refl, sym, ap, ◌∙◌, append_assoc}
 use Rattle.std.specs.Prelude.{◌&&◌, is_some, not}
 use Rattle.std.proofs.lemmas.Bool.{and_parts, false≢true, true≢false}
 use Rattle.basics.proofs.Bools.{and_never}
@@ -11,7 +11,6 @@ use Rattle.jr_tree.specs.Trees.{IsTree, Nodes, node_at}
 use Rattle.jr_items.specs.Items.{child_path}
 use Rattle.jr_types.specs.declared.TypeDef.{TypeDef}
 use Rattle.jcr_version.specs.Frozen.{is_frozen_along, is_frozen_down}
-use Rattle.jcr_restore.specs.declared.fates.Fate.{Fate}
 use Rattle.jcr_restore.specs.declared.fates.Fate.TheVariants as fate
 use Rattle.jcr_restore.specs.Restored.{fate_below, is_kept_back, is_staying, is_there}
 use Rattle.jcr_restore.specs.BroughtBack.{left_out}

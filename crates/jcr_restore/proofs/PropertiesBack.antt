@@ -1,6 +1,6 @@
 -- The properties of a frozen node, and of a node that is brought to it.
 use Rattle.std.proofs.Common.{◌≡◌, ℕ, Bool, true, false, cond, Some, None, Option, List, [], ◌∷◌, refl, sym, ap, ◌∙◌, subst}
-use Rattle.std.specs.Prelude.{◌||◌, ◌&&◌, is_some, not}
+use Rattle.std.specs.Prelude.{◌&&◌, is_some, not}
 use Rattle.std.specs.Ordering.{eq_by_cmp}
 use Rattle.std.specs.Option.{option_and_then, option_map, option_or}
 use Rattle.std.specs.List.{fold, list_all}
@@ -23,11 +23,11 @@ use Rattle.jr_items.specs.Items.{one_text, property_of, same_name}
 use Rattle.jr_types.specs.declared.TypeDef.{TypeDef}
 use Rattle.jcr_version.specs.declared.attributes.Asked.TheVariants as asked
 use Rattle.jcr_version.specs.Attributes.{property_has}
-use Rattle.jcr_version.specs.Frozen.{frozen_copy, frozen_identifier, frozen_props, is_copied, is_frozen_name, with_copied, with_own, with_property}
+use Rattle.jcr_version.specs.Frozen.{frozen_copy, frozen_identifier, frozen_props, is_copied, is_frozen_name, with_copied, with_property}
 use Rattle.basics.proofs.Orders.{equal_of}
 use Rattle.basics.proofs.Options.{where_some}
-use Rattle.jcr_restore.specs.Restored.{brought_props, is_left, is_type_name, left_props, with_frozen, with_identifier, with_types}
-use Rattle.jcr_restore.specs.BroughtBack.{left_property}
+use Rattle.jcr_restore.specs.Restored.{brought_props, is_unkept, is_type_name, left_props, with_frozen, with_identifier, with_types}
+use Rattle.jcr_restore.specs.BroughtBack.{unkept_property}
 use Rattle.jcr_restore.proofs.Folded.{found_folded, if_passed}
 
 abbrev Props : Type 0
@@ -155,9 +155,9 @@ turned false x y = refl
 
 -- what a restore leaves of a node
 left_is : (types : List TypeDef) (o : Option Node) (n : Name) → ((node : Node) → o ≡ Some node → is_sorted name_cmp node.props ≡ true)
-    → at (left_props types o) n ≡ option_and_then (left_property types n) o
+    → at (left_props types o) n ≡ option_and_then (unkept_property types n) o
 left_is types None n sorted = refl
-left_is types (Some node) n sorted = passed (λ e. is_left types node e.0 e.1) n node.props [] (sorted node refl) ∙ or_none _
+left_is types (Some node) n sorted = passed (λ e. is_unkept types node e.0 e.1) n node.props [] (sorted node refl) ∙ or_none _
 
 -- the properties of the frozen node stand before those that are left
 put_frozen : (frozen : Node) (u : Props) (n : Name) → is_sorted name_cmp frozen.props ≡ true
@@ -190,7 +190,7 @@ brought_at : (types : List TypeDef) (o : Option Node) (frozen : Node) (n : Name)
     ≡ option_or (made_uuid o n frozen)
     (option_or (cond (same_name n mixin_types) (property_of frozen frozen_mixin_types) None)
     (option_or (cond (same_name n primary_type) (property_of frozen frozen_primary_type) None)
-    (option_or (if_passed (λ e. not (is_frozen_name e.0)) (λ e. e.1) n (property_of frozen n)) (option_and_then (left_property types n) o))))
+    (option_or (if_passed (λ e. not (is_frozen_name e.0)) (λ e. e.1) n (property_of frozen n)) (option_and_then (unkept_property types n) o))))
 brought_at types o frozen n sorted sorted' =
     identifier_at frozen o _ n
     ∙ ap (option_or (made_uuid o n frozen))
@@ -233,13 +233,13 @@ module _ (types : List TypeDef) (was : Node) (o : Option Node) (frozen : Node) (
   -- a property of an ordinary name stands as it was copied, or else as it is left
   ordinary_back : (n : Name) → is_frozen_name n ≡ false
       → at (brought_props types o frozen) n
-      ≡ option_or (made_uuid o n frozen) (option_or (if_passed (λ e. is_copied types was e.0 e.1) (λ e. e.1) n (property_of was n)) (option_and_then (left_property types n) o))
+      ≡ option_or (made_uuid o n frozen) (option_or (if_passed (λ e. is_copied types was e.0 e.1) (λ e. e.1) n (property_of was n)) (option_and_then (unkept_property types n) o))
   ordinary_back n h =
       let names = ordinary n h in
       let other : property_of frozen n ≡ if_passed (λ e. is_copied types was e.0 e.1) (λ e. e.1) n (property_of was n) = same_at n ∙ frozen_other types was n one.was_sorted h in
       brought_at types o frozen n one.found_sorted one.frozen_sorted
       ∙ (rw (names.mixins, names.primary) refl
-      ∙ ap (λ (r : Option Property). option_or (made_uuid o n frozen) (option_or r (option_and_then (left_property types n) o)))
+      ∙ ap (λ (r : Option Property). option_or (made_uuid o n frozen) (option_or r (option_and_then (unkept_property types n) o)))
       (through (property_of frozen n) ∙ other))
     where
       through : (r : Option Property) → if_passed (λ e. not (is_frozen_name e.0)) (λ e. e.1) n r ≡ r
@@ -271,20 +271,20 @@ module _ (types : List TypeDef) (was : Node) (o : Option Node) (frozen : Node) (
       → at (brought_props types o frozen) n ≡ property_of was n
   kept_back n x h is kept = ordinary_back n h ∙ (ap (option_or (made_uuid o n frozen)) inner ∙ made_back n)
     where
-      inner : option_or (if_passed (λ e. is_copied types was e.0 e.1) (λ e. e.1) n (property_of was n)) (option_and_then (left_property types n) o) ≡ property_of was n
+      inner : option_or (if_passed (λ e. is_copied types was e.0 e.1) (λ e. e.1) n (property_of was n)) (option_and_then (unkept_property types n) o) ≡ property_of was n
       inner =
-          ap (λ (r : Option Property). option_or (if_passed (λ e. is_copied types was e.0 e.1) (λ e. e.1) n r) (option_and_then (left_property types n) o)) is
-          ∙ (ap (λ b. option_or (cond b (Some x) None) (option_and_then (left_property types n) o)) (and_from _ _ (not_from_false _ h) kept) ∙ sym is)
+          ap (λ (r : Option Property). option_or (if_passed (λ e. is_copied types was e.0 e.1) (λ e. e.1) n r) (option_and_then (unkept_property types n) o)) is
+          ∙ (ap (λ b. option_or (cond b (Some x) None) (option_and_then (unkept_property types n) o)) (and_from _ _ (not_from_false _ h) kept) ∙ sym is)
 
   -- nothing but the types is brought to the names of types
-  no_types : (n : Name) → is_type_name n ≡ true → option_and_then (left_property types n) o ≡ None
+  no_types : (n : Name) → is_type_name n ≡ true → option_and_then (unkept_property types n) o ≡ None
   no_types n h = by o
     where
-      none : (node : Node) (r : Option Property) → option_and_then (λ x. cond (is_left types node n x) (Some x) None) r ≡ None
+      none : (node : Node) (r : Option Property) → option_and_then (λ x. cond (is_unkept types node n x) (Some x) None) r ≡ None
       none node None = refl
       none node (Some x) = ap (λ b. cond (not b && not (property_has asked.Kept types node n x)) (Some x) None) h
 
-      by : (o : Option Node) → option_and_then (left_property types n) o ≡ None
+      by : (o : Option Node) → option_and_then (unkept_property types n) o ≡ None
       by None = refl
       by (Some node) = none node (property_of node n)
 
@@ -301,9 +301,9 @@ module _ (types : List TypeDef) (was : Node) (o : Option Node) (frozen : Node) (
 
   -- under the name of a type stands what the frozen node tells
   type_back : (n : Name) (r : Option Property) → is_type_name n ≡ true → is_frozen_name n ≡ true
-      → option_or r (option_or (if_passed (λ e. not (is_frozen_name e.0)) (λ e. e.1) n (property_of frozen n)) (option_and_then (left_property types n) o)) ≡ r
+      → option_or r (option_or (if_passed (λ e. not (is_frozen_name e.0)) (λ e. e.1) n (property_of frozen n)) (option_and_then (unkept_property types n) o)) ≡ r
   type_back n r h k =
-      ap (λ (s : Option Property). option_or r (option_or s (option_and_then (left_property types n) o))) (hidden n (property_of frozen n) k)
+      ap (λ (s : Option Property). option_or r (option_or s (option_and_then (unkept_property types n) o))) (hidden n (property_of frozen n) k)
       ∙ (ap (option_or r) (no_types n h) ∙ or_none r)
 
   -- the primary type is as it was
@@ -334,27 +334,27 @@ module _ (types : List TypeDef) (was : Node) (o : Option Node) (frozen : Node) (
           ∙ (same_at frozen_uuid ∙ (frozen_id types was one.was_sorted ∙ ap (option_map (λ id. Single (value.Str id))) is))
 
   -- a property that the version doesn't keep, and that is left as it was, is as it was
-  pub left_back : (n : Name) → option_and_then (left_property types n) o ≡ property_of was n → property_of was n ≡ left_property types n was
+  pub left_back : (n : Name) → option_and_then (unkept_property types n) o ≡ property_of was n → property_of was n ≡ unkept_property types n was
       → at (brought_props types o frozen) n ≡ property_of was n
   left_back n left unkept = by (same_name primary_type n) (same_name mixin_types n) refl refl
     where
       -- nothing of the name is copied
-      none_copied : (r : Option Property) → r ≡ option_and_then (λ x. cond (is_left types was n x) (Some x) None) r → if_passed (λ e. is_copied types was e.0 e.1) (λ e. e.1) n r ≡ None
+      none_copied : (r : Option Property) → r ≡ option_and_then (λ x. cond (is_unkept types was n x) (Some x) None) r → if_passed (λ e. is_copied types was e.0 e.1) (λ e. e.1) n r ≡ None
       none_copied None h = refl
       none_copied (Some x) h =
-          let passes : is_left types was n x ≡ true = where_some _ x (sym (ap is_some h)) in
+          let passes : is_unkept types was n x ≡ true = where_some _ x (sym (ap is_some h)) in
           let lost : property_has asked.Kept types was n x ≡ false = false_from_not _ (and_parts _ _ passes).1 in
           ap (λ b. cond b (Some x) None) (and_right (not (is_frozen_name n)) _ lost)
 
       other : (b : Bool) → is_frozen_name n ≡ b → same_name primary_type n ≡ false → same_name mixin_types n ≡ false → at (brought_props types o frozen) n ≡ property_of was n
       other false h p m =
           ordinary_back n h
-          ∙ (ap (λ (r : Option Property). option_or (made_uuid o n frozen) (option_or r (option_and_then (left_property types n) o))) (none_copied (property_of was n) unkept)
+          ∙ (ap (λ (r : Option Property). option_or (made_uuid o n frozen) (option_or r (option_and_then (unkept_property types n) o))) (none_copied (property_of was n) unkept)
           ∙ (ap (option_or (made_uuid o n frozen)) left ∙ made_back n))
       other true h p m =
           brought_at types o frozen n one.found_sorted one.frozen_sorted
           ∙ (rw (apart n mixin_types m, apart n primary_type p) refl
-          ∙ (ap (λ (r : Option Property). option_or (made_uuid o n frozen) (option_or r (option_and_then (left_property types n) o))) (hidden n (property_of frozen n) h)
+          ∙ (ap (λ (r : Option Property). option_or (made_uuid o n frozen) (option_or r (option_and_then (unkept_property types n) o))) (hidden n (property_of frozen n) h)
           ∙ (ap (option_or (made_uuid o n frozen)) left ∙ made_back n)))
 
       by : (p m : Bool) → same_name primary_type n ≡ p → same_name mixin_types n ≡ m → at (brought_props types o frozen) n ≡ property_of was n

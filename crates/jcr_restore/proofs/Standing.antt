@@ -1,36 +1,26 @@
 -- Which nodes stand at and below a path after a restore, and what they come from.
-use Rattle.std.proofs.Common.{◌≡◌, ℕ, Bool, true, false, cond, ◌++◌, Some, None, Option, List, [], ◌∷◌, drop, length, refl, sym, ap, ◌∙◌, subst, append_assoc, append-nil}
-use Rattle.std.specs.Prelude.{◌&&◌, is_some, not}
-use Rattle.std.specs.declared.cmp.Ordering.{Ordering}
-use Rattle.std.specs.declared.cmp.Ordering.TheVariants.{Equal}
+use Rattle.std.proofs.Common.{◌≡◌, Bool, true, false, cond, ◌++◌, Some, None, Option, List, [], ◌∷◌, drop, length, refl, sym, ap, ◌∙◌, subst, append_assoc, append-nil}
+use Rattle.std.specs.Prelude.{is_some}
 use Rattle.std.specs.Ordering.{eq_by_cmp, is_eq, ordering_then}
-use Rattle.std.specs.Option.{option_and_then, option_map, option_map_or, option_or}
-use Rattle.std.specs.List.{filter, fold, list_all}
-use Rattle.std.specs.Map.{lookup}
-use Rattle.std.specs.BTreeMap.{is_at, insert_entry}
-use Rattle.std.specs.FinMap.{is_sorted}
+use Rattle.std.specs.Option.{option_and_then, option_map_or, option_or}
+use Rattle.std.specs.List.{fold, list_all}
+use Rattle.std.specs.BTreeMap.{is_at}
 use Rattle.std.proofs.Math.Seq.{drop-append_seam}
 use Rattle.std.proofs.lemmas.Bool.{and_from, and_parts, false≢true}
-use Rattle.std.proofs.lemmas.Cmp.{eq_by_cmp_equiv, nat_list_cmp_total, tied_itself}
+use Rattle.std.proofs.lemmas.Cmp.{nat_list_cmp_total, tied_itself}
 use Rattle.std.proofs.lemmas.Map.Entries.{lookup-filter-keys}
-use Rattle.basics.proofs.Bools.{number_itself}
-use Rattle.basics.proofs.Orders.{equal_of}
-use Rattle.jr_path.specs.Names.{is_under, name_cmp, parent_of, path_cmp}
+use Rattle.jr_path.specs.Names.{is_under, path_cmp}
 use Rattle.jr_path.specs.declared.name.Name.{Name}
 use Rattle.jr_path.specs.declared.path.Path.{Path}
-use Rattle.jr_path.proofs.Maps.{name_exact, path_exact, path_total}
+use Rattle.jr_path.proofs.Maps.{path_exact, path_total}
 use Rattle.jr_path.proofs.Parts.{below_is_prefix, parent_of-child}
 use Rattle.jr_tree.specs.declared.tree.Node.{Node}
-use Rattle.jr_tree.specs.Trees.{IsTree, Nodes, has_parent, node_at, subtree_of, undated}
+use Rattle.jr_tree.specs.Trees.{IsTree, Nodes, has_parent, node_at, subtree_of}
 use Rattle.jr_tree.proofs.Entries.{sorted_filter}
 use Rattle.jr_tree.proofs.Pointwise.{same_path}
-use Rattle.jr_tree.proofs.Undated.{node_at-undated, undate}
-use Rattle.jr_items.specs.Items.{child_path}
 use Rattle.jr_types.specs.declared.TypeDef.{TypeDef}
-use Rattle.jcr_version.specs.Frozen.{frozen_copy, frozen_tree, is_frozen_along, is_frozen_down, is_frozen_with}
-use Rattle.jcr_restore.specs.declared.fates.Fate.{Fate}
-use Rattle.jcr_restore.specs.declared.fates.Fate.TheVariants as fate
-use Rattle.jcr_restore.specs.Restored.{brought, fate_below, is_brought, is_kept_back, is_staying, is_there, place_of, restored, with_brought, with_staying}
+use Rattle.jcr_version.specs.Frozen.{frozen_copy, frozen_tree, is_frozen_down, is_frozen_with}
+use Rattle.jcr_restore.specs.Restored.{brought, fate_below, is_brought, is_staying, place_of, restored, with_staying}
 use Rattle.jcr_restore.proofs.Folded.{found_folded, found_mapped, if_passed}
 use Rattle.jcr_restore.proofs.PropertiesBack.{or_none}
 

@@ -13,16 +13,16 @@ use Rattle.jcr_version.specs.declared.attributes.Asked.TheVariants as asked
 use Rattle.jcr_version.specs.Attributes.{property_has}
 use Rattle.jcr_version.specs.Frozen.{frozen_tree, is_frozen_down, is_frozen_name}
 use Rattle.jcr_restore.specs.Edits.{after_restore}
-use Rattle.jcr_restore.specs.Restored.{is_left}
+use Rattle.jcr_restore.specs.Restored.{is_unkept}
 
 -- the node by these names below p, where a version of p leaves it out
 abbrev pub left_out : List TypeDef → Nodes → (p : Path) → List Name → Option Node
 left_out types t p ns = cond (is_frozen_down types t p ns) None (node_at t (p ++ ns))
 
--- the node's property of that name, where a restore leaves it
-abbrev pub left_property : List TypeDef → Name → Node → Option Property
-left_property types n node =
-    option_and_then (λ x. cond (is_left types node n x) (Some x) None) (property_of node n)
+-- the node's property of that name, where a restore leaves it as it is
+abbrev pub unkept_property : List TypeDef → Name → Node → Option Property
+unkept_property types n node =
+    option_and_then (λ x. cond (is_unkept types node n x) (Some x) None) (property_of node n)
 
 -- the node at p, which was so in an older tree, can be brought back from the frozen node at f
 pub record CanComeBack (types : List TypeDef) (old new : Nodes) (p f : Path) : Type 0 where
@@ -47,8 +47,8 @@ pub data ComesBack (types : List TypeDef) (was : Node) (found : Option Node) : N
   -- it is the mixins
   mixins : ComesBack types was found mixin_types
   -- the version doesn't keep it, or the node had none, and the restore finds and leaves it so
-  left : (n : Name) → property_of was n ≡ left_property types n was
-      → option_and_then (left_property types n) found ≡ property_of was n
+  unkept : (n : Name) → property_of was n ≡ unkept_property types n was
+      → option_and_then (unkept_property types n) found ≡ property_of was n
       → ComesBack types was found n
   -- it is the identifier of a node that was removed
   made : (id : List ℕ) → found ≡ None → one_text (property_of was uuid) ≡ Some id
@@ -64,7 +64,8 @@ is_checking_in p q n =
 pub record IsBack (types : List TypeDef) (old new : Nodes) (p v : Path) : Type 0 where
   -- the same nodes are there
   pub nodes : (ns : List Name)
-      → is_some (node_at (after_restore types new p v) (p ++ ns)) ≡ is_some (node_at old (p ++ ns))
+      → is_some (node_at (after_restore types new p v) (p ++ ns))
+      ≡ is_some (node_at old (p ++ ns))
   -- a node that a version leaves out is the same
   pub others : (ns : List Name) → IsFalse (is_frozen_down types old p ns)
       → node_at (after_restore types new p v) (p ++ ns) ≡ node_at old (p ++ ns)
