@@ -1,3 +1,8 @@
-mod Ways
+mod ComingBack
+mod Folded
 mod Free
+mod OnTheWay
+mod PropertiesBack
+mod Standing
 mod Taken
+mod Ways

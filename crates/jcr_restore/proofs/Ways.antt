@@ -15,7 +15,7 @@ pub stays : (types : List TypeDef) (t : Nodes) (here there : Path) (n : Name) (n
 stays types t here there n ns h = sym (ap (λ b. cond b fate.Stays (cond (is_there t (child_path there n)) (fate_below types t (child_path here n) (child_path there n) ns) fate.Goes)) h)
 
 -- the node is brought where it isn't kept back and has a frozen node
-then : (types : List TypeDef) (t : Nodes) (here there : Path) (n : Name) (ns : List Name) (b : Bool) → is_kept_back types t (child_path here n) ≡ false → is_there t (child_path there n) ≡ b
+pub then : (types : List TypeDef) (t : Nodes) (here there : Path) (n : Name) (ns : List Name) (b : Bool) → is_kept_back types t (child_path here n) ≡ false → is_there t (child_path there n) ≡ b
     → cond b (fate_below types t (child_path here n) (child_path there n) ns) fate.Goes ≡ fate_below types t here there (n ∷ ns)
 then types t here there n ns b h k =
     sym (ap (λ c. cond c fate.Stays (cond (is_there t (child_path there n)) (fate_below types t (child_path here n) (child_path there n) ns) fate.Goes)) h

@@ -1,2 +1,3 @@
+pub mod BroughtBack
 pub mod Edits
 pub mod Restored

@@ -1,5 +1,5 @@
 -- The tree after a node is brought to a frozen node.
-use Rattle.std.specs.Prelude.{◌++◌, Bool, true, false, not, ◌&&◌, ◌||◌, cond, List, [], ◌∷◌, length, drop, Option, None, Some, is_some, is_none}
+use Rattle.std.specs.Prelude.{◌++◌, Bool, true, false, not, ◌&&◌, ◌||◌, cond, List, [], ◌∷◌, length, drop, Option, None, Some, is_some}
 use Rattle.std.specs.BTreeMap.{insert_entry}
 use Rattle.std.specs.List.{fold}
 use Rattle.jr_path.specs.Names.{name_cmp, path_cmp}
@@ -7,7 +7,6 @@ use Rattle.jr_path.specs.declared.name.Name.{Name}
 use Rattle.jr_path.specs.declared.path.Path.{Path}
 use Rattle.jr_value.specs.declared.value.Property.{Property}
 use Rattle.jr_tree.specs.declared.tree.Node.{Node}
-use Rattle.jr_tree.specs.Edits.{properties_at}
 use Rattle.jr_tree.specs.Trees.{Nodes, born_at, node_at, subtree_of}
 use Rattle.jr_items.specs.Names.{frozen_mixin_types, frozen_primary_type, frozen_uuid, mixin_types, primary_type, uuid}
 use Rattle.jr_items.specs.Items.{child_path, property_of, same_name}
@@ -48,9 +47,13 @@ is_brought _ = false
 abbrev pub is_type_name : Name → Bool
 is_type_name n = same_name primary_type n || same_name mixin_types n
 
--- one property of the node more, if a restore leaves it: a version doesn't keep it, and it isn't the node's types
+-- a version doesn't keep the property of the node, and it isn't the node's types: a restore leaves it
+abbrev pub is_unkept : List TypeDef → Node → Name → Property → Bool
+is_unkept types node n x = not (is_type_name n) && not (property_has asked.Kept types node n x)
+
+-- one property of the node more, if a restore leaves it
 abbrev pub with_left : List TypeDef → Node → List (Name × Property) → Name × Property → List (Name × Property)
-with_left types node props x = cond (not (is_type_name x.0) && not (property_has asked.Kept types node x.0 x.1)) (insert_entry name_cmp props x.0 x.1) props
+with_left types node props x = cond (is_unkept types node x.0 x.1) (insert_entry name_cmp props x.0 x.1) props
 
 -- the properties that a restore leaves to the node, of a node that isn't there none
 abbrev pub left_props : List TypeDef → Option Node → List (Name × Property)

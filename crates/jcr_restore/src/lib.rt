@@ -4,7 +4,9 @@
 mod conflicts;
 mod edits;
 mod fates;
+mod laws;
 mod properties;
 mod restored;
 
 pub use edits::restore_edit;
+pub use laws::restores_bring_nodes_back;

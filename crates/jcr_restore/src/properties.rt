@@ -1,10 +1,8 @@
 // The properties of a node that is brought to a frozen node.
-ghost use Rattle.std.specs.Prelude.{◌≡◌, ◌&&◌, [], IfOk, OnOk, not};
+ghost use Rattle.std.specs.Prelude.{◌≡◌, [], IfOk, OnOk};
 ghost use Rattle.std.specs.List.{fold};
 ghost use Rattle.std.specs.Option.{option_copied};
-ghost use Rattle.jcr_version.specs.declared.attributes.Asked.TheVariants as asked;
-ghost use Rattle.jcr_version.specs.Attributes.{property_has};
-ghost use Rattle.jcr_restore.specs.Restored.{brought_props, is_type_name, left_props, with_frozen, with_identifier, with_left, with_types};
+ghost use Rattle.jcr_restore.specs.Restored.{brought_props, is_type_name, is_unkept, left_props, with_frozen, with_identifier, with_left, with_types};
 
 use jcr_version::{Asked, is_frozen_name, property_has, put_told};
 use jr_items::OwnName;
@@ -80,7 +78,7 @@ fn is_left(
     name: &Name,
     property: &Property,
 ) -> Result<bool, AllocError>
-    ensures { IfOk result (λ answer. answer ≡ (not (is_type_name name.now) && not (property_has asked.Kept types.now node.now name.now property.now))) }
+    ensures { IfOk result (λ answer. answer ≡ is_unkept types.now node.now name.now property.now) }
 {
     if is_type_name(name) {
         return Ok(false);
