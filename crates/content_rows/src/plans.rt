@@ -133,7 +133,15 @@ fn put_both(
 ) -> Result<(), AllocError> {
     let mut other = String::new(alloc);
     let referring = dangling(alloc, tree)?.is_none();
-    put_change(alloc, types, tree, edit.copy()?, tokens, referring, &mut other)?;
+    put_change(
+        alloc,
+        types,
+        tree,
+        edit.copy()?,
+        tokens,
+        referring,
+        &mut other,
+    )?;
     let begin = out.len();
     put_plan(alloc, plan_of(alloc, types, tree, edit, tokens), out)?;
     put_unless_same(begin, &other, out)

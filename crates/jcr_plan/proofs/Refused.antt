@@ -1,8 +1,8 @@
 -- The first of several causes, and the first in a list of findings.
-use Rattle.std.proofs.Common.{◌≡◌, ℕ, Bool, true, false, cond, not, Option, None, Some, is_some, List, [], ◌∷◌, ◌++◌, map, refl, sym, ap, ◌∙◌, subst}
+use Rattle.std.proofs.Common.{Result, Ok, Err, ◌≡◌, ℕ, Bool, true, false, cond, not, Option, None, Some, is_some, List, [], ◌∷◌, ◌++◌, map, refl, sym, ap, ◌∙◌, subst}
 use Rattle.std.proofs.lemmas.Bool.{and_from}
 use Rattle.std.proofs.lemmas.Option.{none-some}
-use Rattle.std.specs.Prelude.{codes, option_map}
+use Rattle.std.specs.Prelude.{IfOk, codes, option_map}
 use Rattle.std.specs.Cmp.{eq_by_cmp_equiv}
 use Rattle.std.specs.List.{list_all}
 use Rattle.std.specs.Map.{keys_of}
@@ -107,6 +107,11 @@ first_more p ps = by (in_path_order ps)
         order Less = refl
         order Equal = refl
         order Greater = refl
+
+-- what holds anyway holds where there is an answer
+pub if_ok : {X E P : Type 0} (result : Result X E) → P → IfOk result (λ x. P)
+if_ok (Ok x) h = h
+if_ok (Err e) h = tt
 
 -- ---- a plan
 

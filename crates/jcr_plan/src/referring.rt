@@ -78,13 +78,7 @@ fn has_identifier(tree: &Tree, names: &ReferenceNames, at: &Path) -> bool
 }
 
 // Whether the property is an identifier, or the primary type of an `nt:frozenNode`.
-fn is_identity(
-    old: &Tree,
-    new: &Tree,
-    names: &ReferenceNames,
-    at: &Path,
-    name: &Name,
-) -> bool
+fn is_identity(old: &Tree, new: &Tree, names: &ReferenceNames, at: &Path, name: &Name) -> bool
     requires { names.now ≡ reference_names }
     ensures { result ≡ is_identity old.now new.now at.now name.now }
 {
