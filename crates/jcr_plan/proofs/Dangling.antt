@@ -31,6 +31,7 @@ use Rattle.jr_tree.proofs.Pointwise.{same_path as path_same}
 use Rattle.jr_items.specs.Names.{frozen_type, primary_type, uuid}
 use Rattle.jr_items.specs.Items.{first_of, is_empty, is_of_type, one_name, one_text, reference_in, same_name, values_in}
 use Rattle.jcr_ref.specs.References.{ReferencesOk, dangling, is_dangling, is_target, items_at, references_at, target_of, uuid_text}
+use Rattle.jcr_plan.specs.ByWrite.{references_in}
 use Rattle.jcr_plan.specs.Checked.{has_reference, is_ever_frozen, is_identity, may_dangle}
 use Rattle.jcr_plan.proofs.Stirred.{or_false}
 
@@ -78,9 +79,6 @@ last_of {X = X} P test f begin each (w ∷ ws) h = let parts = or_false (test w)
     by (Some x) past here = past
 
 -- ---- references
-
-abbrev references_in : Option Property → List ℕ
-references_in o = option_map_or (λ x. filter_map reference_in (values_in x)) o []
 
 no_references : (xs : List Value) → list_any (λ v. is_some (reference_in v)) xs ≡ false → filter_map reference_in xs ≡ []
 no_references [] h = refl

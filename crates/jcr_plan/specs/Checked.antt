@@ -83,7 +83,7 @@ are_passed_over assured old new ws = assured.referring && not (list_any (may_dan
 abbrev pub dangling_by : Assured → (old new : Nodes) → List Write → Option Item
 dangling_by assured old new ws = cond (are_passed_over assured old new ws) None (dangling new)
 
--- the first refusal of an edit that leads from one tree to another, as far as is checked
+-- the first refusal of an edit that leads from one tree to another, by what is checked
 abbrev pub refusal_between : Assured → List TypeDef → (old new : Nodes) → List (List ℕ) → List Write → Option Refusal
 refusal_between assured types t u tokens ws = first_some
     (option_map checked_in (first_of (frozen_over types t ws))
@@ -93,6 +93,7 @@ refusal_between assured types t u tokens ws = first_some
     ∷ when (not (has_few_nodes u)) (over_limit (codes "nodes") 100000)
     ∷ [])
 
+-- the first refusal of an edit on a tree, by what is checked
 abbrev pub refusal_by : Assured → List TypeDef → Nodes → List (List ℕ) → List Write → Option Refusal
 refusal_by assured types t tokens ws = refusal_between assured types t (applied None t ws) tokens ws
 
