@@ -1,11 +1,12 @@
 // Plans of edits.
 use crate::json::{items_of, json_of};
 use crate::locks::words_of;
-use crate::rows::cut;
+use crate::rows::{cut, number};
 use crate::shows::{put_path, put_refusal};
 use crate::trees::{add_nodes, name_of, path_of, property_of};
 use crate::types::register;
-use jcr_plan::{Plan, plan_of, plan_of_change};
+use jcr_plan::{Assured, Plan, plan_of, plan_of_change};
+use jcr_ref::dangling;
 use jr_items::OwnName;
 use jr_path::{DeepCopy, List, Name, Path};
 use jr_tree::{Edit, Node, Refusal, Tree, Write};
@@ -16,9 +17,27 @@ use serde_json::Value as Json;
 use std::alloc::{AllocError, Global};
 
 // DEFINITIONS EDIT TOKENS: the marks of the plan, or its refusal. The tree has the initial nodes too, and a node for which no
-// type is given is an nt:unstructured.
+// type is given is an nt:unstructured. `plan` asks both calls, the second one assured that the types are met, and that no
+// reference dangles where that is so; `whole_plan` asks the first alone; `change_plan` the second alone, assured of both
+// though it may not be so; `crowd` N is `plan` with N nodes more below the root.
 pub(crate) fn add(
     alloc: Global,
+    word: &str,
+    asked: &str,
+    given: &str,
+    out: &mut String,
+) -> Result<(), AllocError> {
+    if word == "crowd" {
+        let (count, asked) = cut(asked);
+        return add_among(alloc, word, number(count), asked, given, out);
+    }
+    add_among(alloc, word, 0, asked, given, out)
+}
+
+fn add_among(
+    alloc: Global,
+    word: &str,
+    count: u32,
     asked: &str,
     given: &str,
     out: &mut String,
@@ -28,14 +47,17 @@ pub(crate) fn add(
     if !register(alloc, &mut types, definitions, out)? {
         return Ok(());
     }
-    match typed_tree(alloc, given)? {
-        Some(tree) => add_plan(alloc, &types, &tree, asked, out),
+    match typed_tree(alloc, given, count)? {
+        Some(tree) => add_plan(alloc, word, &types, &tree, asked, out),
         None => out.push_str("no tree"),
     }
 }
 
-fn typed_tree(alloc: Global, given: &str) -> Result<Option<Tree>, AllocError> {
+fn typed_tree(alloc: Global, given: &str, count: u32) -> Result<Option<Tree>, AllocError> {
     let mut tree = Tree::initial(alloc)?;
+    for at in 0..count {
+        add_numbered(alloc, &mut tree, at)?;
+    }
     match json_of(alloc, given)? {
         Some(Json::Object(members)) => {
             if !add_nodes(alloc, &mut tree, &members)? {
@@ -44,6 +66,15 @@ fn typed_tree(alloc: Global, given: &str) -> Result<Option<Tree>, AllocError> {
             Ok(Some(with_types(alloc, &tree)?))
         }
         _ => Ok(None),
+    }
+}
+
+// Puts the node `nN` below the root.
+fn add_numbered(alloc: Global, tree: &mut Tree, at: u32) -> Result<(), AllocError> {
+    let text = format!(in alloc; "/n{at}")?;
+    match path_of(alloc, text.as_str())? {
+        Some(path) => tree.insert(path, Node::new(alloc)),
+        None => Ok(()),
     }
 }
 
@@ -61,6 +92,7 @@ fn with_types(alloc: Global, tree: &Tree) -> Result<Tree, AllocError> {
 
 fn add_plan(
     alloc: Global,
+    word: &str,
     types: &Registry,
     tree: &Tree,
     asked: &str,
@@ -69,8 +101,24 @@ fn add_plan(
     let (edit, tokens) = cut(asked);
     let tokens = words_of(alloc, tokens)?;
     match edit_of(alloc, tree, edit)? {
-        Some(edit) => put_both(alloc, types, tree, edit, &tokens, out),
+        Some(edit) => put_asked(alloc, word, types, tree, edit, &tokens, out),
         None => out.push_str("no edit"),
+    }
+}
+
+fn put_asked(
+    alloc: Global,
+    word: &str,
+    types: &Registry,
+    tree: &Tree,
+    edit: Edit,
+    tokens: &[String],
+    out: &mut String,
+) -> Result<(), AllocError> {
+    match word {
+        "whole_plan" => put_plan(alloc, plan_of(alloc, types, tree, edit, tokens), out),
+        "change_plan" => put_change(alloc, types, tree, edit, tokens, true, out),
+        _ => put_both(alloc, types, tree, edit, tokens, out),
     }
 }
 
@@ -84,7 +132,16 @@ fn put_both(
     out: &mut String,
 ) -> Result<(), AllocError> {
     let mut other = String::new(alloc);
-    put_change(alloc, types, tree, edit.copy()?, tokens, &mut other)?;
+    let referring = dangling(alloc, tree)?.is_none();
+    put_change(
+        alloc,
+        types,
+        tree,
+        edit.copy()?,
+        tokens,
+        referring,
+        &mut other,
+    )?;
     let begin = out.len();
     put_plan(alloc, plan_of(alloc, types, tree, edit, tokens), out)?;
     put_unless_same(begin, &other, out)
@@ -104,9 +161,15 @@ fn put_change(
     tree: &Tree,
     edit: Edit,
     tokens: &[String],
+    referring: bool,
     out: &mut String,
 ) -> Result<(), AllocError> {
-    put_plan(alloc, plan_of_change(alloc, types, tree, edit, tokens), out)
+    let assured = Assured {
+        typed: true,
+        referring,
+    };
+    let plan = plan_of_change(alloc, types, tree, edit, tokens, assured);
+    put_plan(alloc, plan, out)
 }
 
 fn put_plan(

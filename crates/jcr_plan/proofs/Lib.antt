@@ -1,5 +1,6 @@
 pub mod Accepted
 mod ByWrite
+mod Dangling
 mod MarkOrder
 pub mod Membership
 pub mod OfWrites

@@ -1,8 +1,8 @@
 -- The first of several causes, and the first in a list of findings.
-use Rattle.std.proofs.Common.{◌≡◌, ℕ, Bool, true, false, cond, not, Option, None, Some, is_some, List, [], ◌∷◌, ◌++◌, map, refl, sym, ap, ◌∙◌, subst}
+use Rattle.std.proofs.Common.{Result, Ok, Err, ◌≡◌, ℕ, Bool, true, false, cond, not, Option, None, Some, is_some, List, [], ◌∷◌, ◌++◌, map, refl, sym, ap, ◌∙◌, subst}
 use Rattle.std.proofs.lemmas.Bool.{and_from}
 use Rattle.std.proofs.lemmas.Option.{none-some}
-use Rattle.std.specs.Prelude.{codes, option_map}
+use Rattle.std.specs.Prelude.{IfOk, codes, option_map}
 use Rattle.std.specs.Cmp.{eq_by_cmp_equiv}
 use Rattle.std.specs.List.{list_all}
 use Rattle.std.specs.Map.{keys_of}
@@ -20,11 +20,10 @@ use Rattle.jr_tree.specs.declared.edit.Write.{Write}
 use Rattle.jr_items.specs.Items.{first_of, first_some, in_path_order}
 use Rattle.jr_items.specs.Refusals.{IsTheRefusal, checked_in, dangling as dangling_refusal, locked, over_limit, when}
 use Rattle.jr_types.specs.declared.TypeDef.{TypeDef}
-use Rattle.jcr_ref.specs.References.{dangling}
 use Rattle.oak_clash.specs.declared.mark.MarkAt.{MarkAt}
-use Rattle.jcr_plan.specs.declared.causes.Look.{Look}
+use Rattle.jcr_plan.specs.declared.causes.Assured.{Assured}
 use Rattle.jcr_plan.specs.First.{sooner}
-use Rattle.jcr_plan.specs.Looks.{refusal_between, refusal_by, violations_by}
+use Rattle.jcr_plan.specs.Checked.{dangling_by, refusal_between, refusal_by, violations_by}
 use Rattle.jcr_plan.specs.Marks.{marks_of}
 use Rattle.jcr_plan.specs.Plans.{PlanOk, has_few_nodes}
 use Rattle.jcr_plan.specs.Refusals.{frozen_over, locked_over, plan_refusal, type_refusal}
@@ -40,17 +39,32 @@ pub due_later : (a : Option Refusal) (rest : List (Option Refusal)) (r : Refusal
 due_later None rest r h due = due
 due_later (Some x) rest r h due = absurd (none-some x (sym h))
 
-module _ (look : Look) (types : List TypeDef) (t u : Nodes) (tokens : List (List ℕ)) (ws : List Write) (is : u ≡ applied None t ws) (frozen : option_map checked_in (first_of (frozen_over types t ws)) ≡ None) (locks : option_map locked (first_of (locked_over t tokens ws)) ≡ None) (typed : option_map type_refusal (first_of (violations_by look types u ws)) ≡ None) where
-  carried : (r : Refusal) → IsTheRefusal (refusal_between look types t u tokens ws) r → IsTheRefusal (refusal_by look types t tokens ws) r
-  carried r = subst (λ (v : Nodes). IsTheRefusal (refusal_between look types t v tokens ws) r) is
+-- nothing comes of several causes, where nothing comes of the first and nothing of the others
+none_here : (a : Option Refusal) (rest : List (Option Refusal)) → a ≡ None → first_some rest ≡ None → first_some (a ∷ rest) ≡ None
+none_here None rest h k = k
+none_here (Some x) rest h k = absurd (none-some x (sym h))
+
+module _ (assured : Assured) (types : List TypeDef) (t u : Nodes) (tokens : List (List ℕ)) (ws : List Write) (is : u ≡ applied None t ws) (frozen : option_map checked_in (first_of (frozen_over types t ws)) ≡ None) (locks : option_map locked (first_of (locked_over t tokens ws)) ≡ None) (typed : option_map type_refusal (first_of (violations_by assured types u ws)) ≡ None) where
+  carried : (r : Refusal) → IsTheRefusal (refusal_between assured types t u tokens ws) r → IsTheRefusal (refusal_by assured types t tokens ws) r
+  carried r = subst (λ (v : Nodes). IsTheRefusal (refusal_between assured types t v tokens ws) r) is
+
+  -- nothing comes where no cause does
+  pub by_none : option_map dangling_refusal (dangling_by assured t u ws) ≡ None → when (not (has_few_nodes u)) (over_limit (codes "nodes") 100000) ≡ None → refusal_by assured types t tokens ws ≡ None
+  by_none referring few = subst (λ (v : Nodes). refusal_between assured types t v tokens ws ≡ None) is (none_here _ _ frozen (none_here _ _ locks (none_here _ _ typed (none_here _ _ referring (none_here _ [] few refl)))))
 
   -- a reference that names no node, where nothing else comes first
-  pub by_reference : (r : Refusal) → IsTheRefusal (option_map dangling_refusal (dangling u)) r → IsTheRefusal (refusal_by look types t tokens ws) r
+  pub by_reference : (r : Refusal) → IsTheRefusal (option_map dangling_refusal (dangling_by assured t u ws)) r → IsTheRefusal (refusal_by assured types t tokens ws) r
   by_reference r due = carried r (due_later _ _ r frozen (due_later _ _ r locks (due_later _ _ r typed (due_here _ _ r due))))
 
   -- too many nodes, where nothing else comes first
-  pub by_size : option_map dangling_refusal (dangling u) ≡ None → (r : Refusal) → IsTheRefusal (when (not (has_few_nodes u)) (over_limit (codes "nodes") 100000)) r → IsTheRefusal (refusal_by look types t tokens ws) r
+  pub by_size : option_map dangling_refusal (dangling_by assured t u ws) ≡ None → (r : Refusal) → IsTheRefusal (when (not (has_few_nodes u)) (over_limit (codes "nodes") 100000)) r → IsTheRefusal (refusal_by assured types t tokens ws) r
   by_size referring r due = carried r (due_later _ _ r frozen (due_later _ _ r locks (due_later _ _ r typed (due_later _ _ r referring (due_here _ _ r due)))))
+
+-- a node that breaks a rule of its types, where nothing else comes first
+pub by_types : (assured : Assured) (types : List TypeDef) (t u : Nodes) (tokens : List (List ℕ)) (ws : List Write) → u ≡ applied None t ws → option_map checked_in (first_of (frozen_over types t ws)) ≡ None → option_map locked (first_of (locked_over t tokens ws)) ≡ None
+    → (r : Refusal) → IsTheRefusal (option_map type_refusal (first_of (violations_by assured types u ws))) r → IsTheRefusal (refusal_by assured types t tokens ws) r
+by_types assured types t u tokens ws is frozen locks r due =
+    subst (λ (v : Nodes). IsTheRefusal (refusal_between assured types t v tokens ws) r) is (due_later _ _ r frozen (due_later _ _ r locks (due_here _ _ r due)))
 
 -- what must come of the first part of a list of findings must come of the list
 pub first_here : {X : Type 0} (refused : X → Refusal) (xs ys : List X) (r : Refusal) → IsTheRefusal (option_map refused (first_of xs)) r → IsTheRefusal (option_map refused (first_of (xs ++ ys))) r
@@ -93,6 +107,11 @@ first_more p ps = by (in_path_order ps)
         order Less = refl
         order Equal = refl
         order Greater = refl
+
+-- what holds anyway holds where there is an answer
+pub if_ok : {X E P : Type 0} (result : Result X E) → P → IfOk result (λ x. P)
+if_ok (Ok x) h = h
+if_ok (Err e) h = tt
 
 -- ---- a plan
 

@@ -1,5 +1,5 @@
 -- A node that an edit does not touch breaks no rule where it broke none before.
-use Rattle.std.proofs.Common.{◌≡◌, ℕ, Bool, true, false, cond, ◌||◌, Option, None, Some, is_some, List, [], ◌∷◌, ◌++◌, map, refl, sym, ap, ◌∙◌, subst}
+use Rattle.std.proofs.Common.{◌≡◌, ℕ, Bool, true, false, cond, ◌&&◌, ◌||◌, Option, None, Some, is_some, List, [], ◌∷◌, ◌++◌, map, refl, sym, ap, ◌∙◌, subst}
 use Rattle.std.specs.Prelude.{◌==◌, codes, not, option_map, option_to_list}
 use Rattle.std.proofs.lemmas.Bool.{false≢true, and_parts, false_from_ne_true}
 use Rattle.std.proofs.lemmas.Cmp.{nat_list_cmp_total}
@@ -10,14 +10,15 @@ use Rattle.std.specs.BTreeMap.{is_at, insert_entry}
 use Rattle.std.specs.Ordering.{eq_by_cmp}
 use Rattle.jr_path.specs.Names.{name_cmp, parent_of, path_cmp}
 use Rattle.jr_path.specs.declared.name.Name.{Name}
+use Rattle.jr_path.specs.declared.path.Item.{Item}
 use Rattle.jr_path.specs.declared.path.Path.{Path}
 use Rattle.jr_path.proofs.Maps.{lookup-insert_entry, path_total}
 use Rattle.jr_path.proofs.Parts.{parent_of-child}
 use Rattle.jr_tree.specs.declared.tree.Node.{Node}
 use Rattle.jr_tree.specs.declared.edit.Write.{Write}
 use Rattle.jr_tree.specs.declared.edit.Write.TheVariants.{Here, Gone, Put, Unset}
-use Rattle.jr_tree.specs.Trees.{Nodes, node_at, property_at}
-use Rattle.jr_tree.specs.Edits.{applied, last_writes}
+use Rattle.jr_tree.specs.Trees.{IsTree, Nodes, node_at, property_at}
+use Rattle.jr_tree.specs.Edits.{IsProper, applied, last_writes}
 use Rattle.jr_tree.proofs.AtPath.{come, filled, prop_of, props_of, node_at-applied}
 use Rattle.jr_tree.proofs.EditLaw.{fills_has}
 use Rattle.jr_tree.proofs.Pointwise.{same_path as path_same}
@@ -26,14 +27,17 @@ use Rattle.jr_items.specs.Items.{child_path, first_of, first_some, same_name, sa
 use Rattle.jr_items.specs.Refusals.{checked_in, dangling as dangling_refusal, locked, over_limit, when}
 use Rattle.jr_tree.specs.declared.shared.Refusal.{Refusal}
 use Rattle.jcr_ref.specs.References.{dangling}
-use Rattle.jcr_plan.specs.Plans.{has_few_nodes}
+use Rattle.oak_clash.specs.declared.mark.MarkAt.{MarkAt}
+use Rattle.jcr_plan.specs.Marks.{marks_of}
+use Rattle.jcr_plan.specs.Plans.{PlanOk, has_few_nodes}
 use Rattle.jr_types.specs.declared.TypeDef.{TypeDef}
 use Rattle.jr_types.specs.Rules.{TypesOk, child_at, child_faults, node_types, property_faults}
-use Rattle.jr_types.specs.Violations.{Violation, child_names, failing_at, property_names, violations_at}
-use Rattle.jcr_plan.specs.declared.causes.Look.TheVariants.{Touched}
-use Rattle.jcr_plan.specs.Looks.{above_typed, is_touched, refusal_by, touched_by, violations_where, with_paths}
+use Rattle.jr_types.specs.Violations.{Violation, violations, child_names, failing_at, property_names, violations_at}
+use Rattle.jcr_plan.specs.declared.causes.Assured.{Assured}
+use Rattle.jcr_plan.specs.Checked.{IsAsAssured, above_typed, dangling_by, is_touched, may_dangle, refusal_by, touched_by, violations_by, violations_where, with_paths}
 use Rattle.jcr_plan.specs.Refusals.{frozen_over, locked_over, plan_refusal, type_refusal}
-use Rattle.jcr_plan.proofs.Refused.{all_there}
+use Rattle.jcr_plan.proofs.Dangling.{dangles_not}
+use Rattle.jcr_plan.proofs.Refused.{all_there, planned}
 use Rattle.jcr_plan.proofs.Stirred.{any_flat, none_last, or_false, path_self, removed_other}
 
 -- ---- a set of paths
@@ -204,15 +208,45 @@ module _ (types : List TypeDef) (t : Nodes) (ws : List Write) (sorted : is_sorte
       by true k stands = refl
       by false k stands = sym (none_at e.0 stands (sym (any_flat (same_path e.0) touched_by ws) ∙ k))
 
--- the refusal of a plan, by the violations that are found
-abbrev with_violations : List TypeDef → Nodes → List (List ℕ) → List Write → List Violation → Option Refusal
-with_violations types t tokens ws vs = first_some
+-- the refusal of a plan, by the violations that are found and the reference without a node
+abbrev with_findings : List TypeDef → Nodes → List (List ℕ) → List Write → List Violation → Option Item → Option Refusal
+with_findings types t tokens ws vs item = first_some
     (option_map checked_in (first_of (frozen_over types t ws))
     ∷ option_map locked (first_of (locked_over t tokens ws))
     ∷ option_map type_refusal (first_of vs)
-    ∷ option_map dangling_refusal (dangling (applied None t ws))
+    ∷ option_map dangling_refusal item
     ∷ when (not (has_few_nodes (applied None t ws))) (over_limit (codes "nodes") 100000)
     ∷ [])
 
-pub alike : (types : List TypeDef) (t : Nodes) (tokens : List (List ℕ)) (ws : List Write) → is_sorted path_cmp t ≡ true → TypesOk types t → refusal_by Touched types t tokens ws ≡ plan_refusal types t tokens ws
-alike types t tokens ws sorted ok = ap (with_violations types t tokens ws) (each_alike types t ws sorted ok (applied None t ws) (all_there (applied None t ws)))
+touched_alike : (types : List TypeDef) (t : Nodes) (ws : List Write) → is_sorted path_cmp t ≡ true → TypesOk types t → violations_where (is_touched ws) types (applied None t ws) ≡ violations types (applied None t ws)
+touched_alike types t ws sorted ok = each_alike types t ws sorted ok (applied None t ws) (all_there (applied None t ws))
+
+pub alike : (types : List TypeDef) (t : Nodes) (tokens : List (List ℕ)) (ws : List Write) → is_sorted path_cmp t ≡ true → TypesOk types t → refusal_by (record { typed = true; referring = false }) types t tokens ws ≡ plan_refusal types t tokens ws
+alike types t tokens ws sorted ok = ap (λ (vs : List Violation). with_findings types t tokens ws vs (dangling (applied None t ws))) (touched_alike types t ws sorted ok)
+
+-- ---- what the caller is assured of
+
+violations_alike : (assured : Assured) (types : List TypeDef) (t : Nodes) (ws : List Write) → is_sorted path_cmp t ≡ true → IsAsAssured assured types t → violations_by assured types (applied None t ws) ws ≡ violations types (applied None t ws)
+violations_alike assured types t ws sorted is = by assured.typed refl
+  where
+    by : (b : Bool) → assured.typed ≡ b → cond b (violations_where (is_touched ws) types (applied None t ws)) (violations types (applied None t ws)) ≡ violations types (applied None t ws)
+    by true h = touched_alike types t ws sorted (is.typed h)
+    by false h = refl
+
+dangling_alike : (assured : Assured) (types : List TypeDef) (t : Nodes) (ws : List Write) → IsTree t → IsAsAssured assured types t → dangling_by assured t (applied None t ws) ws ≡ dangling (applied None t ws)
+dangling_alike assured types t ws tree is = by assured.referring (list_any (may_dangle t (applied None t ws)) ws) refl refl
+  where
+    by : (a b : Bool) → assured.referring ≡ a → list_any (may_dangle t (applied None t ws)) ws ≡ b → cond (a && not b) None (dangling (applied None t ws)) ≡ dangling (applied None t ws)
+    by true false h none = sym (dangles_not t ws tree (is.referring h) none)
+    by true true h any = refl
+    by false b h k = refl
+
+pub as_assured : (assured : Assured) (types : List TypeDef) (t : Nodes) (tokens : List (List ℕ)) (ws : List Write) → IsTree t → IsAsAssured assured types t → refusal_by assured types t tokens ws ≡ plan_refusal types t tokens ws
+as_assured assured types t tokens ws tree is =
+    ap (λ (vs : List Violation). with_findings types t tokens ws vs (dangling_by assured t (applied None t ws) ws)) (violations_alike assured types t ws tree.paths is)
+    ∙ ap (with_findings types t tokens ws (violations types (applied None t ws))) (dangling_alike assured types t ws tree is)
+
+-- what is not refused on a tree that is as the caller is assured is a plan
+pub planned_as_assured : (assured : Assured) (types : List TypeDef) (t : Nodes) (tokens : List (List ℕ)) (ws : List Write) (marks : List MarkAt) → marks ≡ marks_of t ws → refusal_by assured types t tokens ws ≡ None
+    → IsTree t → IsAsAssured assured types t → IsProper t ws → PlanOk types t tokens ws marks
+planned_as_assured assured types t tokens ws marks is free tree so proper = planned types t tokens ws marks is (sym (as_assured assured types t tokens ws tree so) ∙ free) proper

@@ -1,6 +1,6 @@
 pub mod ByWrite
+pub mod Checked
 pub mod First
-pub mod Looks
 pub mod Marks
 pub mod Plans
 pub mod Refusals

@@ -10,15 +10,15 @@ ghost use Rattle.jr_tree.specs.Trees.{node_at};
 ghost use Rattle.jr_items.specs.Items.{first_of};
 ghost use Rattle.jr_items.specs.Refusals.{IsTheRefusal, checked_in, dangling as dangling_refusal, locked, over_limit, when};
 ghost use Rattle.jr_types.specs.Violations.{first_violation, violations_at};
-ghost use Rattle.jcr_ref.specs.References.{dangling};
-ghost use Rattle.jcr_plan.specs.Looks.{is_touched, refusal_by, touched_by, violations_by, violations_where, with_paths};
+ghost use Rattle.jcr_plan.specs.Checked.{are_passed_over, dangling_by, is_touched, refusal_by, touched_by, violations_by, violations_where, with_paths};
 ghost use Rattle.jcr_plan.specs.Plans.{has_few_nodes};
 ghost use Rattle.jcr_plan.specs.Refusals.{frozen_over, locked_over, type_refusal};
 
 use crate::changed::{first_frozen, first_locked};
+use crate::referring::may_dangle;
 use jcr_ref::dangling;
 use jr_items::{OwnName, breaks_rule, checked_in, locked, over_limit};
-use jr_path::{DeepCopy, Keyed, Path};
+use jr_path::{DeepCopy, Item, Keyed, Path};
 use jr_tree::{Refusal, Tree, Write};
 use jr_types::{Registry, TypesOut};
 use std::alloc::{AllocError, Global};
@@ -26,11 +26,14 @@ use std::alloc::{AllocError, Global};
 /// The most nodes of the tree after an edit.
 pub const MAX_NODES: usize = 100_000;
 
-/// Which nodes are checked against their types: all of the tree after an edit, or those that it touches.
+/// What the caller is assured of, of the tree before an edit: of the tree after it only that is checked which the edit
+/// touches.
 #[derive(Clone, Copy, Debug, PartialEq, Eq)]
-pub enum Look {
-    Whole,
-    Touched,
+pub struct Assured {
+    /// Each node meets the rules of its types.
+    pub typed: bool,
+    /// Each REFERENCE names a node, but for those of an `nt:frozenNode`.
+    pub referring: bool,
 }
 
 // The first cause, in the order 8, 7, 4, 9, 15.
@@ -41,16 +44,16 @@ pub(crate) fn check_plan(
     new: &Tree,
     writes: &[Write],
     tokens: &[String],
-    look: Look,
+    assured: Assured,
 ) -> Result<(), Refusal>
     requires { new.now ≡ applied None old.now writes.now }
-    ensures ok { OnOk result (refusal_by look types.now old.now (map string_bytes tokens.now) writes.now ≡ None) }
-    ensures err { IfErr result (IsTheRefusal (refusal_by look types.now old.now (map string_bytes tokens.now) writes.now)) }
+    ensures ok { OnOk result (refusal_by assured types.now old.now (map string_bytes tokens.now) writes.now ≡ None) }
+    ensures err { IfErr result (IsTheRefusal (refusal_by assured types.now old.now (map string_bytes tokens.now) writes.now)) }
 {
     check_checked_out(alloc, types, old, new, writes)?;
     check_unlocked(alloc, old, writes, tokens)?;
-    check_types(alloc, types, new, writes, look)?;
-    check_references(alloc, new)?;
+    check_types(alloc, types, new, writes, assured)?;
+    check_references(alloc, old, new, writes, assured)?;
     check_size(alloc, new)?;
     Ok(())
 }
@@ -97,15 +100,15 @@ fn check_types(
     types: &Registry,
     tree: &Tree,
     writes: &[Write],
-    look: Look,
+    assured: Assured,
 ) -> Result<(), Refusal>
-    ensures ok { OnOk result (option_map type_refusal (first_of (violations_by look types.now tree.now writes.now)) ≡ None) }
-    ensures err { IfErr result (IsTheRefusal (option_map type_refusal (first_of (violations_by look types.now tree.now writes.now)))) }
+    ensures ok { OnOk result (option_map type_refusal (first_of (violations_by assured types.now tree.now writes.now)) ≡ None) }
+    ensures err { IfErr result (IsTheRefusal (option_map type_refusal (first_of (violations_by assured types.now tree.now writes.now)))) }
 {
-    match look {
-        Look::Whole => check_all(alloc, types, tree),
-        Look::Touched => check_touched(alloc, types, tree, writes),
+    if assured.typed {
+        return check_touched(alloc, types, tree, writes);
     }
+    check_all(alloc, types, tree)
 }
 
 fn check_all(alloc: Global, types: &Registry, tree: &Tree) -> Result<(), Refusal>
@@ -224,15 +227,53 @@ fn check_node(alloc: Global, types: &Registry, tree: &Tree, path: &Path) -> Resu
 }
 
 // 9: a reference names no node.
-fn check_references(alloc: Global, tree: &Tree) -> Result<(), Refusal>
-    ensures ok { OnOk result (option_map dangling_refusal (dangling tree.now) ≡ None) }
-    ensures err { IfErr result (IsTheRefusal (option_map dangling_refusal (dangling tree.now))) }
+fn check_references(
+    alloc: Global,
+    old: &Tree,
+    new: &Tree,
+    writes: &[Write],
+    assured: Assured,
+) -> Result<(), Refusal>
+    ensures ok { OnOk result (option_map dangling_refusal (dangling_by assured old.now new.now writes.now) ≡ None) }
+    ensures err { IfErr result (IsTheRefusal (option_map dangling_refusal (dangling_by assured old.now new.now writes.now))) }
 {
-    match dangling(alloc, tree) {
+    match first_dangling(alloc, old, new, writes, assured) {
         Ok(Some(item)) => Err(jr_items::dangling(alloc, &item)),
         Ok(None) => Ok(()),
         Err(AllocError) => Err(Refusal::memory(alloc)),
     }
+}
+
+// The first reference that names no node, where the references are gone over.
+fn first_dangling(
+    alloc: Global,
+    old: &Tree,
+    new: &Tree,
+    writes: &[Write],
+    assured: Assured,
+) -> Result<Option<Item>, AllocError>
+    ensures { IfOk result (λ item. item ≡ dangling_by assured old.now new.now writes.now) }
+{
+    if are_passed_over(alloc, old, new, writes, assured)? {
+        return Ok(None);
+    }
+    dangling(alloc, new)
+}
+
+// Whether the references need not be gone over.
+fn are_passed_over(
+    alloc: Global,
+    old: &Tree,
+    new: &Tree,
+    writes: &[Write],
+    assured: Assured,
+) -> Result<bool, AllocError>
+    ensures { IfOk result (λ answer. answer ≡ are_passed_over assured old.now new.now writes.now) }
+{
+    if !assured.referring {
+        return Ok(false);
+    }
+    Ok(!may_dangle(alloc, old, new, writes)?)
 }
 
 // 15: there are too many nodes.

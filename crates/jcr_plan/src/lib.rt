@@ -7,15 +7,17 @@ mod covered;
 mod laws;
 mod marking;
 mod plans;
+mod referring;
 
 ghost use Rattle.std.specs.Prelude.{◌≡◌, [], ◌∷◌, IfOk, OnOk};
 ghost use Rattle.oak_machine.specs.Marks.{marks_for, marks_of_node, marks_of_write, with_marks};
 
-pub use causes::{Look, MAX_NODES};
+pub use causes::{Assured, MAX_NODES};
 use jr_path::{DeepCopy, Keyed, List, Path};
 use jr_tree::{Edit, Write};
 pub use laws::{
-    plans_are_proper, what_is_not_refused_is_a_plan, what_is_not_touched_keeps_the_rules,
+    plans_are_proper, what_is_assured_is_not_checked, what_is_not_refused_is_a_plan,
+    what_is_not_touched_keeps_the_rules, what_no_write_changes_dangles_not,
 };
 use oak_clash::{Mark, MarkAt};
 pub use plans::{Plan, plan_of, plan_of_change};

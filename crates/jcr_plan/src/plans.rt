@@ -2,14 +2,14 @@
 ghost use Rattle.std.specs.Prelude.{◌≡◌, None, IfErr, IfOk, map};
 ghost use Rattle.std.specs.String.{string_bytes};
 ghost use Rattle.jr_tree.specs.Edits.{IsProper, applied};
+ghost use Rattle.jr_tree.specs.Trees.{IsTree};
 ghost use Rattle.jr_items.specs.Refusals.{IsTheRefusal, out_of_memory};
-ghost use Rattle.jcr_plan.specs.declared.causes.Look.TheVariants.{Touched};
-ghost use Rattle.jcr_plan.specs.Looks.{refusal_by};
+ghost use Rattle.jcr_plan.specs.Checked.{IsAsAssured, refusal_by};
 ghost use Rattle.jcr_plan.specs.Marks.{marks_of};
 ghost use Rattle.jcr_plan.specs.Plans.{PlanOk};
 ghost use Rattle.jcr_plan.specs.Refusals.{plan_refusal};
 
-use crate::causes::{Look, check_plan};
+use crate::causes::{Assured, check_plan};
 use crate::marking::marks_between;
 use jr_path::{DeepCopy, List};
 use jr_tree::{Edit, Refusal, Tree, Write};
@@ -44,29 +44,38 @@ pub fn plan_of(
     // what may start is a plan
     ensures plan { IfOk result (λ plan. IsProper tree.now edit.writes → PlanOk types.now tree.now (map string_bytes tokens.now) edit.writes plan.marks) }
 {
-    match planned_marks(alloc, types, tree, &edit, tokens, Look::Whole) {
+    let assured = Assured {
+        typed: false,
+        referring: false,
+    };
+    match planned_marks(alloc, types, tree, &edit, tokens, assured) {
         Ok(marks) => Ok(Plan { edit, marks }),
         Err(refusal) => Err(refusal),
     }
 }
 
-/// The plan of an edit on a tree that is known to meet the rules of its types, as `plan_of` gives it: of the nodes of the tree
-/// after the edit only those are checked whose types, items, children or children's types it changes, so that it costs what
-/// the edit changes, beside what making that tree costs and going once over its references. A law of this crate says that
-/// both calls answer alike on such a tree.
+/// The plan of an edit as `plan_of` gives it, by a caller that is assured of something of the tree before. Where the tree
+/// meets the rules of its types, of the nodes of the tree after the edit only those are checked whose types, items, children
+/// or children's types it changes. Where each REFERENCE names a node, the references are not gone over, unless the edit
+/// removes a node with an identifier or writes an identifier, a REFERENCE or the primary type of an `nt:frozenNode`. So it
+/// costs what the edit changes, beside what making the tree after it costs. A law of this crate says that both calls answer
+/// alike on a tree that is as the caller is assured.
 pub fn plan_of_change(
     alloc: Global,
     types: &Registry,
     tree: &Tree,
     edit: Edit,
     tokens: &[String],
+    assured: Assured,
 ) -> Result<Plan, Refusal>
     ensures edit { IfOk result (λ plan. plan.edit ≡ edit) }
     ensures marks { IfOk result (λ plan. plan.marks ≡ marks_of tree.now edit.writes) }
-    ensures accepted { IfOk result (λ plan. refusal_by Touched types.now tree.now (map string_bytes tokens.now) edit.writes ≡ None) }
-    ensures refused { IfErr result (IsTheRefusal (refusal_by Touched types.now tree.now (map string_bytes tokens.now) edit.writes)) }
+    ensures accepted { IfOk result (λ plan. refusal_by assured types.now tree.now (map string_bytes tokens.now) edit.writes ≡ None) }
+    ensures refused { IfErr result (IsTheRefusal (refusal_by assured types.now tree.now (map string_bytes tokens.now) edit.writes)) }
+    // what may start on a tree that is as the caller is assured is a plan
+    ensures plan { IfOk result (λ plan. IsTree tree.now → IsAsAssured assured types.now tree.now → IsProper tree.now edit.writes → PlanOk types.now tree.now (map string_bytes tokens.now) edit.writes plan.marks) }
 {
-    match planned_marks(alloc, types, tree, &edit, tokens, Look::Touched) {
+    match planned_marks(alloc, types, tree, &edit, tokens, assured) {
         Ok(marks) => Ok(Plan { edit, marks }),
         Err(refusal) => Err(refusal),
     }
@@ -79,14 +88,14 @@ fn planned_marks(
     tree: &Tree,
     edit: &Edit,
     tokens: &[String],
-    look: Look,
+    assured: Assured,
 ) -> Result<List<MarkAt>, Refusal>
     ensures marks { IfOk result (λ marks. marks ≡ marks_of tree.now edit.now.writes) }
-    ensures ok { IfOk result (λ marks. refusal_by look types.now tree.now (map string_bytes tokens.now) edit.now.writes ≡ None) }
-    ensures err { IfErr result (IsTheRefusal (refusal_by look types.now tree.now (map string_bytes tokens.now) edit.now.writes)) }
+    ensures ok { IfOk result (λ marks. refusal_by assured types.now tree.now (map string_bytes tokens.now) edit.now.writes ≡ None) }
+    ensures err { IfErr result (IsTheRefusal (refusal_by assured types.now tree.now (map string_bytes tokens.now) edit.now.writes)) }
 {
     match tree_after(tree, edit) {
-        Ok(after) => checked_marks(alloc, types, tree, &after, edit, tokens, look),
+        Ok(after) => checked_marks(alloc, types, tree, &after, edit, tokens, assured),
         Err(AllocError) => Err(Refusal::memory(alloc)),
     }
 }
@@ -107,15 +116,15 @@ fn checked_marks(
     new: &Tree,
     edit: &Edit,
     tokens: &[String],
-    look: Look,
+    assured: Assured,
 ) -> Result<List<MarkAt>, Refusal>
     requires { new.now ≡ applied None old.now edit.now.writes }
     ensures marks { IfOk result (λ marks. marks ≡ marks_of old.now edit.now.writes) }
-    ensures ok { IfOk result (λ marks. refusal_by look types.now old.now (map string_bytes tokens.now) edit.now.writes ≡ None) }
-    ensures err { IfErr result (IsTheRefusal (refusal_by look types.now old.now (map string_bytes tokens.now) edit.now.writes)) }
+    ensures ok { IfOk result (λ marks. refusal_by assured types.now old.now (map string_bytes tokens.now) edit.now.writes ≡ None) }
+    ensures err { IfErr result (IsTheRefusal (refusal_by assured types.now old.now (map string_bytes tokens.now) edit.now.writes)) }
 {
     let writes = edit.writes.as_slice();
-    check_plan(alloc, types, old, new, writes, tokens, look)?;
+    check_plan(alloc, types, old, new, writes, tokens, assured)?;
     marks_or_memory(alloc, old, new, writes)
 }
 

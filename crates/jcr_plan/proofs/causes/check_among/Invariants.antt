@@ -6,7 +6,7 @@ use Rattle.jr_path.specs.Names.{path_cmp}
 use Rattle.jr_tree.specs.Trees.{node_at}
 use Rattle.jr_items.specs.Items.{first_of}
 use Rattle.jr_types.specs.Violations.{violations_at}
-use Rattle.jcr_plan.specs.Looks.{violations_where}
+use Rattle.jcr_plan.specs.Checked.{violations_where}
 use Rattle.jcr_plan.proofs.causes.check_among.Given as goal
 
 -- what is left decides, and each node that is left stands in the tree

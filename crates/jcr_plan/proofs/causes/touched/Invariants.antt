@@ -1,6 +1,6 @@
 use Rattle.std.proofs.Common.{◌≡◌, [], drop}
 use Rattle.std.specs.List.{flat_map}
-use Rattle.jcr_plan.specs.Looks.{touched_by, with_paths}
+use Rattle.jcr_plan.specs.Checked.{touched_by, with_paths}
 use Rattle.jcr_plan.proofs.causes.touched.Given as goal
 
 -- what is left leads there
