@@ -1,5 +1,14 @@
 mod Answered
 mod Escapes
+mod Follows
+mod Listed
 mod OneMeaning
+mod ReadAttributes
+mod ReadBack
+mod ReadItems
+mod ReadLists
+mod ReadTypes
+mod Steps
 mod Tokens
+mod Turns
 mod Values

@@ -6,6 +6,7 @@ ghost use Rattle.jr_value.specs.Values.{kind_of};
 ghost use Rattle.jr_value.specs.declared.value.Value.{Value};
 ghost use Rattle.jr_cnd.specs.Meaning.{IsMeaning};
 ghost use Rattle.jr_cnd.specs.Pieces.{content};
+ghost use Rattle.jr_cnd.specs.Printable.{IsPrintable};
 ghost use Rattle.jr_cnd.specs.Printing.{cnd_text, is_bare_name, quoted, value_text};
 ghost use Rattle.jr_cnd.specs.Tokens.{goes_on_bare, first_token};
 ghost use Rattle.jr_cnd.specs.declared.piece.TokenKind.TheVariants as token;
@@ -42,4 +43,10 @@ pub fn bare_names_are_tokens()
 /// The text that is printed of a value is read as the value again.
 pub fn printed_values_are_read_back()
     ensures { (value : Value) → IsReadable value → IsText (kind_of value) (value_text value) value }
+{}
+
+/// The canonical text of prefixes and node types that a text can say means just these.
+pub fn canonical_texts_are_read_back()
+    ensures { (cnd : Cnd) (meant : Result Cnd NoCnd)
+        → IsPrintable cnd → IsMeaning (cnd_text cnd) meant → meant ≡ Ok cnd }
 {}
