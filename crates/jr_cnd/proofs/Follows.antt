@@ -1,6 +1,6 @@
 -- What stands behind the parts of a line: no comma, `=` or `>`, and at its end a further line, or nothing.
 use Rattle.std.proofs.Common.{◌≡◌, ◌∙◌, ℕ, ◌⊎◌, inl, inr, Bool, true, false, List, [], ◌∷◌, ◌++◌, Option, None, Some, ap, append_assoc, arith, refl, subst, sym}
-use Rattle.std.specs.Prelude.{IfSome, codes, is_some, map}
+use Rattle.std.specs.Prelude.{codes, is_some, map}
 use Rattle.jr_path.proofs.OwnNames.{plain_name}
 use Rattle.jr_path.specs.Grammar.{IsName}
 use Rattle.jr_path.specs.declared.name.Name.{Name}
@@ -20,8 +20,8 @@ use Rattle.jr_cnd.specs.declared.piece.Sign.{Sign}
 use Rattle.jr_cnd.specs.declared.piece.Sign.TheVariants as sign
 use Rattle.jr_cnd.specs.declared.piece.TokenKind.TheVariants as token
 use Rattle.jr_cnd.specs.declared.types.TypeAttributes.{TypeAttributes}
-use Rattle.jr_cnd.proofs.ReadAttributes.{attributes_then, bare_attributes, bare_if, bare_opv, bare_primary, behind_protected, type_attributes_then}
-use Rattle.jr_cnd.proofs.Steps.{Behind, Ready, bare_name_starts, sign_step, spaced, word_step}
+use Rattle.jr_cnd.proofs.ReadAttributes.{attributes_then, bare_if, bare_opv, bare_primary, behind_protected, type_attributes_then}
+use Rattle.jr_cnd.proofs.Steps.{Ready, bare_name_starts, sign_step, spaced, word_step}
 
 -- ---- the end of a line
 

@@ -1,5 +1,5 @@
 -- Lists of names, of texts and of values are read back.
-use Rattle.std.proofs.Common.{◌≡◌, ◌∙◌, ℕ, ◌+◌, ◌≤◌, Bool, true, false, List, [], ◌∷◌, ◌++◌, Option, None, Some, Ok, ap, arith, drop, length, refl, subst, sym}
+use Rattle.std.proofs.Common.{◌≡◌, ◌∙◌, ℕ, false, List, ◌∷◌, ◌++◌, Option, None, Some, Ok, ap, arith, drop, length, refl, subst}
 use Rattle.std.specs.Prelude.{IsUtf8}
 use Rattle.jr_path.specs.Grammar.{IsName}
 use Rattle.jr_path.specs.declared.name.Name.{Name}
@@ -11,7 +11,7 @@ use Rattle.jr_cnd.specs.Grammar.{value_at, value_in}
 use Rattle.jr_cnd.specs.Pieces.{after_comma, is_behind_less}
 use Rattle.jr_cnd.specs.Printable.{IsPrintableValue}
 use Rattle.jr_cnd.specs.Printing.{name_text, quoted, value_text}
-use Rattle.jr_cnd.specs.Reading.{State, name_at, text_at, text_in}
+use Rattle.jr_cnd.specs.Reading.{name_at, text_at, text_in}
 use Rattle.jr_cnd.specs.Tokens.{gap_size, goes_on_bare}
 use Rattle.jr_cnd.specs.declared.context.Context.{Context}
 use Rattle.jr_cnd.specs.declared.context.Context.TheVariants as context

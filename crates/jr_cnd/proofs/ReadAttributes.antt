@@ -1,15 +1,14 @@
 -- The attributes of items and of types are read back.
-use Rattle.std.proofs.Common.{◌≡◌, ◌∙◌, ℕ, ◌+◌, ◌≤◌, Bool, true, false, List, [], ◌∷◌, ◌++◌, Option, None, Some, Ok, Result, ap, append_assoc, arith, length, refl, subst, sym}
+use Rattle.std.proofs.Common.{◌≡◌, ◌∙◌, ℕ, ◌+◌, ◌≤◌, Bool, true, false, List, ◌∷◌, ◌++◌, Option, None, Some, Ok, ap, append_assoc, arith, length, refl, subst}
 use Rattle.std.specs.Prelude.{if◌then◌else◌, codes, is_some, unwrap_or, IfSome}
 use Rattle.jr_path.proofs.OwnNames.{plain_name}
 use Rattle.jr_path.specs.Grammar.{IsName}
 use Rattle.jr_path.specs.declared.name.Name.{Name}
 use Rattle.jr_types.specs.declared.OnParentVersion.{OnParentVersion}
 use Rattle.jr_types.specs.declared.OnParentVersion.TheVariants as opv
-use Rattle.jr_types.specs.declared.TypeDef.{TypeDef}
-use Rattle.jr_cnd.specs.Grammar.{addable, item_attribute_first, item_attribute_more, item_attributes_at, item_word_first, item_word_in, lacking, lacks, may_add, no_item_attributes, no_type_attributes, type_attribute_first, type_attribute_more, type_attributes_at, type_word_first, type_word_in, with_item_word, with_type_word}
-use Rattle.jr_cnd.specs.Printing.{is_bare_name, name_behind, name_text, opv_part, type_attributes, word_if}
-use Rattle.jr_cnd.specs.Reading.{◌>>=◌, State, Read, name_at, required}
+use Rattle.jr_cnd.specs.Grammar.{addable, item_attribute_first, item_attribute_more, item_attributes_at, item_word_first, item_word_in, lacking, lacks, may_add, type_attribute_first, type_attribute_more, type_attributes_at, type_word_first, type_word_in, with_item_word, with_type_word}
+use Rattle.jr_cnd.specs.Printing.{is_bare_name, name_behind, name_text, opv_part, word_if}
+use Rattle.jr_cnd.specs.Reading.{State, name_at}
 use Rattle.jr_cnd.specs.Tokens.{goes_on_bare}
 use Rattle.jr_cnd.specs.Words.{item_word, type_word}
 use Rattle.jr_cnd.specs.declared.attributes.ItemAttributes.{ItemAttributes}

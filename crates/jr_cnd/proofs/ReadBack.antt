@@ -1,14 +1,11 @@
 -- The canonical text of what can be printed is read back.
-use Rattle.std.proofs.Common.{◌≡◌, ◌∙◌, ℕ, ◌+◌, ◌≤◌, ◌⊎◌, inl, inr, Bool, true, false, List, [], ◌∷◌, ◌++◌, Option, None, Some, Ok, Err, Result, ap, append_assoc, append-nil, arith, length, refl, subst, sym}
+use Rattle.std.proofs.Common.{◌≡◌, ◌∙◌, ℕ, ◌+◌, ◌≤◌, ◌⊎◌, inl, inr, true, false, List, [], ◌∷◌, ◌++◌, None, Some, Ok, Err, Result, ap, append_assoc, append-nil, arith, length, refl, subst, sym}
 use Rattle.std.specs.Prelude.{codes, map}
 use Rattle.std.specs.List.{AllByRecursion, flat_map}
-use Rattle.jr_path.specs.Grammar.{OneOrMore, is_prefix_character}
 use Rattle.jr_types.specs.Builtin.{builtin}
-use Rattle.jr_types.specs.Rules.{type_fault}
 use Rattle.jr_types.specs.declared.TypeDef.{TypeDef}
 use Rattle.jr_cnd.specs.Grammar.{file_at, file_more, goes_on, prefix_at, type_at, type_more}
-use Rattle.jr_cnd.specs.Meaning.{IsMeaning, cnd_of, first_bad, judged, meaning}
-use Rattle.jr_cnd.specs.Pieces.{IsReadAs}
+use Rattle.jr_cnd.specs.Meaning.{IsAnswer, IsMeaning, cnd_of, first_bad, judged, meaning}
 use Rattle.jr_cnd.specs.Printable.{IsPrintable, IsPrintablePrefix, IsPrintableType, KeepRules}
 use Rattle.jr_cnd.specs.Printing.{cnd_text, prefix_text, quoted, type_text}
 use Rattle.jr_cnd.specs.Reading.{State, bare_in, is_sign, many, place, sign_first, text_in}
@@ -18,6 +15,7 @@ use Rattle.jr_cnd.specs.declared.cnd.Cnd.{Cnd}
 use Rattle.jr_cnd.specs.declared.cnd.Prefix.{Prefix}
 use Rattle.jr_cnd.specs.declared.context.Context.TheVariants as context
 use Rattle.jr_cnd.specs.declared.fault.NoCnd.{NoCnd}
+use Rattle.jr_cnd.specs.declared.fault.NoCnd.TheVariants as no
 use Rattle.jr_cnd.specs.declared.file.File.{File}
 use Rattle.jr_cnd.specs.declared.file.PlacedType.{PlacedType}
 use Rattle.jr_cnd.specs.declared.piece.Placed.{Placed}
@@ -27,8 +25,8 @@ use Rattle.jr_cnd.proofs.Follows.{at_end}
 use Rattle.jr_cnd.proofs.ReadItems.{five}
 use Rattle.jr_cnd.proofs.ReadLists.{IsRead, stopped, turned}
 use Rattle.jr_cnd.proofs.ReadTypes.{BeginsType, type_lines, type_read, type_then}
-use Rattle.jr_cnd.proofs.Steps.{Behind, Ready, calm_text, left_of, prefix_step, sign_step, text_step}
-use Rattle.jr_cnd.proofs.Turns.{Turned, ended, one_turn, then_turned, unturned}
+use Rattle.jr_cnd.proofs.Steps.{Behind, Ready, left_of, prefix_step, sign_step, text_step}
+use Rattle.jr_cnd.proofs.Turns.{Turned, one_turn, then_turned, unturned}
 
 -- ---- a prefix
 
@@ -135,8 +133,8 @@ types_turned [] prefixes types turns ps stop good enough h =
       read = [];
       are = refl;
       all = ap (λ (q : List Placed). many goes_on file_more turns (record { prefixes = prefixes; types = types }) (left_of q stop)) none
-      ∙ stopped goes_on file_more turns (record { prefixes = prefixes; types = types }) (left_of [] stop) refl
-      ∙ ap (λ (l : List PlacedType). Ok (record { prefixes = prefixes; types = l }, left_of [] stop)) (sym (append-nil types));
+          ∙ stopped goes_on file_more turns (record { prefixes = prefixes; types = types }) (left_of [] stop) refl
+          ∙ ap (λ (l : List PlacedType). Ok (record { prefixes = prefixes; types = l }, left_of [] stop)) (sym (append-nil types));
     }
 types_turned (d ∷ ds) prefixes types [] ps stop good enough h =
     let at = subst (λ (t : List ℕ). Ready t ps) (type_lines d (flat_map type_text ds)) h in
@@ -157,9 +155,9 @@ types_turned (d ∷ ds) prefixes types (t ∷ turns) ps stop good enough h =
       read = placed ∷ s.read;
       are = ap (λ (l : List TypeDef). d ∷ l) s.are;
       all = ap (λ (q : List Placed). many goes_on file_more (t ∷ turns) (record { prefixes = prefixes; types = types }) (left_of q stop)) o.is
-      ∙ turned goes_on file_more t turns (record { prefixes = prefixes; types = types }) (record { prefixes = prefixes; types = types ++ placed ∷ [] }) (left_of (o.first ∷ o.more) stop) (left_of r.more stop) refl got
-      ∙ s.all
-      ∙ ap (λ (l : List PlacedType). Ok (record { prefixes = prefixes; types = l }, left_of [] stop)) (append_assoc types (placed ∷ []) s.read);
+          ∙ turned goes_on file_more t turns (record { prefixes = prefixes; types = types }) (record { prefixes = prefixes; types = types ++ placed ∷ [] }) (left_of (o.first ∷ o.more) stop) (left_of r.more stop) refl got
+          ∙ s.all
+          ∙ ap (λ (l : List PlacedType). Ok (record { prefixes = prefixes; types = l }, left_of [] stop)) (append_assoc types (placed ∷ []) s.read);
     }
 
 -- ---- the whole text
@@ -185,3 +183,10 @@ read_back c m good h =
     let file : file_at (left_of h.0 (length text)) ≡ Ok (f, left_of [] (length text)) = p.goes (length text) ∙ t.all in
     let rules = no_bad builtin t.read (subst (λ (l : List TypeDef). KeepRules builtin l) (sym t.are) good.rules) in
     sym h.2 ∙ meant h.0 (length text) f (left_of [] (length text)) file ∙ kept f rules ∙ ap (λ (l : List TypeDef). Ok (record { prefixes = c.prefixes; definitions = l })) t.are
+
+-- what the canonical text is answered, by whatever answers what texts mean
+pub answered_back : (c : Cnd) (r : Result Cnd NoCnd) → IsPrintable c → IsAnswer (cnd_text c) r → (r ≡ Ok c) ⊎ (r ≡ Err no.Memory)
+answered_back c (Ok x) good h = inl (read_back c (Ok x) good h)
+answered_back c (Err (no.Syntax offset)) good h = inl (read_back c (Err (no.Syntax offset)) good h)
+answered_back c (Err (no.BadDef start)) good h = inl (read_back c (Err (no.BadDef start)) good h)
+answered_back c (Err no.Memory) good h = inr refl

@@ -1,6 +1,6 @@
 -- The lines of properties and of children are read back.
-use Rattle.std.proofs.Common.{◌≡◌, ◌≢◌, ◌∙◌, ℕ, ◌+◌, ◌≤◌, Bool, true, false, List, [], ◌∷◌, ◌++◌, Option, None, Some, Ok, Result, ap, append_assoc, arith, length, refl, subst, sym}
-use Rattle.std.specs.Prelude.{◌&&◌, if◌then◌else◌, IfSome, IsUtf8, codes, is_none, map, unwrap_or}
+use Rattle.std.proofs.Common.{◌≡◌, ◌≢◌, ◌∙◌, ℕ, ◌+◌, ◌≤◌, true, false, List, [], ◌∷◌, ◌++◌, Option, None, Some, Ok, ap, append_assoc, arith, length, refl, subst, sym}
+use Rattle.std.specs.Prelude.{IfSome, IsUtf8, codes, map}
 use Rattle.std.specs.List.{AllByRecursion}
 use Rattle.jr_path.proofs.OwnNames.{plain_name}
 use Rattle.jr_path.specs.Grammar.{IsName}
@@ -10,12 +10,11 @@ use Rattle.jr_value.specs.declared.value.Kind.TheVariants as kind
 use Rattle.jr_value.specs.declared.value.Value.{Value}
 use Rattle.jr_types.specs.declared.ChildDef.{ChildDef}
 use Rattle.jr_types.specs.declared.OnParentVersion.{OnParentVersion}
-use Rattle.jr_types.specs.declared.OnParentVersion.TheVariants as opv
 use Rattle.jr_types.specs.declared.PropDef.{PropDef}
 use Rattle.jr_cnd.specs.Grammar.{child_at, comma_first, constraints_at, default_type_at, defaults_at, item_attributes_at, item_name_at, kind_at, kind_in, opv_of, prop_at, types_at, types_inside}
-use Rattle.jr_cnd.specs.Pieces.{after_close, after_equal, after_star, after_text, default_kind, is_behind_less, named_in}
+use Rattle.jr_cnd.specs.Pieces.{after_close, after_equal, after_star, default_kind, is_behind_less, named_in}
 use Rattle.jr_cnd.specs.Printable.{IsPrintableChild, IsPrintableProp, IsPrintableValue}
-use Rattle.jr_cnd.specs.Printing.{child_attributes, child_head, child_text, continued, default_texts, is_bare_name, item_name_text, kind_word, list_behind, listed, name_behind, name_text, opv_part, prop_attributes, prop_head, prop_text, quoted, value_text, word_if}
+use Rattle.jr_cnd.specs.Printing.{child_attributes, child_head, child_text, continued, default_texts, is_bare_name, item_name_text, kind_word, list_behind, listed, name_behind, name_text, opv_part, prop_attributes, prop_head, prop_text, quoted, word_if}
 use Rattle.jr_cnd.specs.Reading.{State, bare_in, is_sign, name_at, name_in, sign_first}
 use Rattle.jr_cnd.specs.Tokens.{goes_on_bare}
 use Rattle.jr_cnd.specs.Words.{kind_named}
@@ -25,10 +24,10 @@ use Rattle.jr_cnd.specs.declared.context.Context.TheVariants as context
 use Rattle.jr_cnd.specs.declared.piece.Placed.{Placed}
 use Rattle.jr_cnd.specs.declared.piece.Says.TheVariants as says
 use Rattle.jr_cnd.specs.declared.piece.Sign.TheVariants as sign
-use Rattle.jr_cnd.proofs.Follows.{AtConstraints, AtLine, BeginsLine, Parted, at_constraints, at_line, attributes_parted, bare_constraints, constraints_no_attribute, constraints_parted, constraints_then, line_no_attribute, line_no_sign, line_parted}
-use Rattle.jr_cnd.proofs.Listed.{Somewhere, name_read, names, texts, values}
+use Rattle.jr_cnd.proofs.Follows.{BeginsLine, Parted, at_constraints, at_line, attributes_parted, bare_constraints, constraints_no_attribute, constraints_parted, constraints_then, line_no_attribute, line_no_sign, line_parted}
+use Rattle.jr_cnd.proofs.Listed.{name_read, names, texts, values}
 use Rattle.jr_cnd.proofs.ReadAttributes.{attributes, attributes_then, bare_attributes, item_attributes_read, opv_back, written_opv}
-use Rattle.jr_cnd.proofs.ReadLists.{IsRead, list_of, listed_read, name_got}
+use Rattle.jr_cnd.proofs.ReadLists.{IsRead, list_of, listed_read}
 use Rattle.jr_cnd.proofs.Steps.{Behind, Ready, bare_name_starts, left_of, name_starts, name_step, sign_step, spaced, starts, text_step, unspaced, word_step}
 
 -- ---- texts behind one another
@@ -190,7 +189,7 @@ constraints_read (t ∷ ts) bs ps good line h =
     record {
       more = r.more;
       reads = λ stop. ap (λ (m : List Placed). constraints_at (left_of m stop)) is
-      ∙ some_constraints e.first q.first q.more r.more (t ∷ ts) stop e.said (ap bare_in q.said) (ap (λ (m : List Placed). list_of texts.one (left_of m stop)) (sym q.is) ∙ r.reads stop);
+          ∙ some_constraints e.first q.first q.more r.more (t ∷ ts) stop e.said (ap bare_in q.said) (ap (λ (m : List Placed). list_of texts.one (left_of m stop)) (sym q.is) ∙ r.reads stop);
       fewer = omega arith;
       left = r.left;
     }
@@ -232,8 +231,8 @@ prop_read p bs ps good line h =
     record {
       more = c.more;
       reads = λ stop.
-      prop_got p.name p.kind p.defaults (attributes p.mandatory p.autocreated p.protected p.multiple (written_opv p.opv)) p.constraints (left_of ps stop) (left_of n.more stop) (left_of k.more stop) (left_of d.more stop) (left_of a.more stop) (left_of c.more stop) (n.reads stop) (k.reads stop) (d.reads stop) (a.reads stop) (c.reads stop)
-      ∙ ap (λ (o : OnParentVersion). Ok (record { name = p.name; kind = p.kind; mandatory = p.mandatory; autocreated = p.autocreated; protected = p.protected; multiple = p.multiple; defaults = p.defaults; constraints = p.constraints; opv = o }, left_of c.more stop)) (opv_back p.opv);
+          prop_got p.name p.kind p.defaults (attributes p.mandatory p.autocreated p.protected p.multiple (written_opv p.opv)) p.constraints (left_of ps stop) (left_of n.more stop) (left_of k.more stop) (left_of d.more stop) (left_of a.more stop) (left_of c.more stop) (n.reads stop) (k.reads stop) (d.reads stop) (a.reads stop) (c.reads stop)
+          ∙ ap (λ (o : OnParentVersion). Ok (record { name = p.name; kind = p.kind; mandatory = p.mandatory; autocreated = p.autocreated; protected = p.protected; multiple = p.multiple; defaults = p.defaults; constraints = p.constraints; opv = o }, left_of c.more stop)) (opv_back p.opv);
       fewer = omega arith;
       left = c.left;
     }
@@ -270,7 +269,7 @@ types_read n ns bs ps good h =
     record {
       more = c.more;
       reads = λ stop. ap (λ (q : List Placed). types_at (left_of q stop)) o.is
-      ∙ types_got o.first c.first o.more c.more (n ∷ ns) stop o.said (r.reads stop ∙ ap (λ (q : List Placed). Ok (n ∷ ns, left_of q stop)) c.is) c.said;
+          ∙ types_got o.first c.first o.more c.more (n ∷ ns) stop o.said (r.reads stop ∙ ap (λ (q : List Placed). Ok (n ∷ ns, left_of q stop)) c.is) c.said;
       fewer = omega arith;
       left = record { context = _; calm = calm_close r.left.context; behind = c.left };
     }
@@ -338,8 +337,8 @@ child_read c bs ps good line h =
     record {
       more = a.more;
       reads = λ stop.
-      child_got c.name c.types c.default_type (attributes c.mandatory c.autocreated c.protected false (written_opv c.opv)) (left_of ps stop) (left_of n.more stop) (left_of t.more stop) (left_of d.more stop) (left_of a.more stop) (n.reads stop) (t.reads stop) (d.reads stop) (a.reads stop)
-      ∙ ap (λ (o : OnParentVersion). Ok (record { name = c.name; types = c.types; default_type = c.default_type; mandatory = c.mandatory; autocreated = c.autocreated; protected = c.protected; opv = o }, left_of a.more stop)) (opv_back c.opv);
+          child_got c.name c.types c.default_type (attributes c.mandatory c.autocreated c.protected false (written_opv c.opv)) (left_of ps stop) (left_of n.more stop) (left_of t.more stop) (left_of d.more stop) (left_of a.more stop) (n.reads stop) (t.reads stop) (d.reads stop) (a.reads stop)
+          ∙ ap (λ (o : OnParentVersion). Ok (record { name = c.name; types = c.types; default_type = c.default_type; mandatory = c.mandatory; autocreated = c.autocreated; protected = c.protected; opv = o }, left_of a.more stop)) (opv_back c.opv);
       fewer = omega arith;
       left = a.left;
     }

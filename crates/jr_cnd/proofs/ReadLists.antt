@@ -1,21 +1,16 @@
 -- How reading goes on from what is printed: one token, and lists with commas between.
-use Rattle.std.proofs.Common.{◌≡◌, ◌∙◌, ℕ, ◌+◌, ◌≤◌, Bool, true, false, List, [], ◌∷◌, ◌++◌, Option, None, Some, Ok, Result, ap, append_assoc, append-nil, arith, drop, length, refl, subst, sym, map}
-use Rattle.std.specs.Prelude.{if◌then◌else◌, IsUtf8, codes}
+use Rattle.std.proofs.Common.{◌≡◌, ◌∙◌, ℕ, ◌+◌, ◌≤◌, Bool, true, false, List, [], ◌∷◌, ◌++◌, Some, Ok, ap, append_assoc, append-nil, arith, drop, length, refl, sym, map}
 use Rattle.std.specs.List.{AllByRecursion}
-use Rattle.jr_path.specs.Grammar.{IsName}
 use Rattle.jr_path.specs.declared.name.Name.{Name}
 use Rattle.jr_cnd.specs.Grammar.{comma_first}
-use Rattle.jr_cnd.specs.Pieces.{after_comma, is_behind_less}
-use Rattle.jr_cnd.specs.Printing.{continued, listed, name_text}
+use Rattle.jr_cnd.specs.Printing.{continued, listed}
 use Rattle.jr_cnd.specs.Reading.{◌>>=◌, State, Read, after, is_sign, many, name_at, name_in, sign_at, text_at, text_in}
 use Rattle.jr_cnd.specs.Tokens.{gap_size, goes_on_bare}
-use Rattle.jr_cnd.specs.declared.context.Context.{Context}
-use Rattle.jr_cnd.specs.declared.context.Context.TheVariants as context
 use Rattle.jr_cnd.specs.declared.piece.Placed.{Placed}
 use Rattle.jr_cnd.specs.declared.piece.Sign.{Sign}
 use Rattle.jr_cnd.specs.declared.piece.Sign.TheVariants as sign
 use Rattle.jr_cnd.specs.declared.piece.Says.TheVariants as says
-use Rattle.jr_cnd.proofs.Steps.{Behind, Ready, left_of, starts, spaced}
+use Rattle.jr_cnd.proofs.Steps.{left_of, starts, spaced}
 
 -- Of these pieces the thing is read, with so many at least, and what is left has this.
 pub record IsRead {X : Type 0} (read : State → Read X) (x : X) (used : ℕ) (ps : List Placed) (Left : List Placed → Type 0) : Type 0 where
@@ -120,10 +115,10 @@ more_read L (x ∷ xs) old bs (t ∷ turns) ps good bare ends enough h =
     record {
       more = all.more;
       reads = λ stop.
-      ap (λ (q : List Placed). many comma_first (more_of L.one) (t ∷ turns) old (left_of q stop)) r.is
-      ∙ turned comma_first (more_of L.one) t turns old (old ++ x ∷ []) (left_of (r.first ∷ r.more) stop) (left_of s.more stop) (comma_got old r.first r.more r.said) (more_got L.one old x r.first r.more s.more stop (s.reads stop))
-      ∙ all.reads stop
-      ∙ ap (λ v. Ok (v, left_of all.more stop)) (append_assoc old (x ∷ []) xs);
+          ap (λ (q : List Placed). many comma_first (more_of L.one) (t ∷ turns) old (left_of q stop)) r.is
+          ∙ turned comma_first (more_of L.one) t turns old (old ++ x ∷ []) (left_of (r.first ∷ r.more) stop) (left_of s.more stop) (comma_got old r.first r.more r.said) (more_got L.one old x r.first r.more s.more stop (s.reads stop))
+          ∙ all.reads stop
+          ∙ ap (λ v. Ok (v, left_of all.more stop)) (append_assoc old (x ∷ []) xs);
       fewer = omega arith;
       left = all.left;
     }

@@ -1,6 +1,6 @@
 -- Types, with their lines of properties and children, are read back.
-use Rattle.std.proofs.Common.{◌≡◌, ◌∙◌, ℕ, ◌+◌, ◌≤◌, ◌⊎◌, inl, inr, Bool, true, false, List, [], ◌∷◌, ◌++◌, Option, None, Some, Ok, Result, ap, append_assoc, append-nil, arith, drop, length, refl, subst, sym}
-use Rattle.std.specs.Prelude.{◌||◌, IfSome, codes, map, not}
+use Rattle.std.proofs.Common.{◌≡◌, ◌∙◌, ℕ, ◌+◌, ◌≤◌, ◌⊎◌, inl, inr, Bool, true, false, List, [], ◌∷◌, ◌++◌, Some, Ok, ap, append_assoc, append-nil, arith, drop, length, refl, subst, sym}
+use Rattle.std.specs.Prelude.{◌||◌, codes, map, not}
 use Rattle.std.specs.List.{AllByRecursion, filter, flat_map}
 use Rattle.jr_path.specs.Grammar.{IsName}
 use Rattle.jr_path.specs.declared.name.Name.{Name}
@@ -9,12 +9,11 @@ use Rattle.jr_items.specs.Names.{base_type}
 use Rattle.jr_types.specs.declared.ChildDef.{ChildDef}
 use Rattle.jr_types.specs.declared.PropDef.{PropDef}
 use Rattle.jr_types.specs.declared.TypeDef.{TypeDef}
-use Rattle.jr_cnd.specs.Grammar.{child_at, comma_first, item_first, item_more, items_at, kept_supertypes, prop_at, supertypes_at, type_at, type_attributes_at, type_name_at}
+use Rattle.jr_cnd.specs.Grammar.{child_at, item_first, item_more, items_at, kept_supertypes, prop_at, supertypes_at, type_at, type_attributes_at, type_name_at}
 use Rattle.jr_cnd.specs.Printable.{IsPrintableChild, IsPrintableProp, IsPrintableType}
 use Rattle.jr_cnd.specs.Printing.{child_text, continued, list_behind, listed, name_behind, name_text, prop_text, type_attributes, type_head, type_line, type_text, word_if}
 use Rattle.jr_cnd.specs.Reading.{State, is_sign, name_in, sign_first}
 use Rattle.jr_cnd.specs.Tokens.{gap_size, goes_on_bare}
-use Rattle.jr_cnd.specs.declared.context.Context.{Context}
 use Rattle.jr_cnd.specs.declared.context.Context.TheVariants as context
 use Rattle.jr_cnd.specs.declared.piece.Placed.{Placed}
 use Rattle.jr_cnd.specs.declared.piece.Says.TheVariants as says
@@ -26,7 +25,7 @@ use Rattle.jr_cnd.proofs.Listed.{names}
 use Rattle.jr_cnd.proofs.ReadAttributes.{attributes_of_type, bare_type_attributes, type_attributes_read, type_attributes_then}
 use Rattle.jr_cnd.proofs.ReadItems.{child_line, child_read, child_then, four, prop_line, prop_read, prop_then, three}
 use Rattle.jr_cnd.proofs.ReadLists.{IsRead, list_of, listed_read}
-use Rattle.jr_cnd.proofs.Steps.{Behind, Ready, left_of, name_starts, name_step, sign_step, spaced, unspaced}
+use Rattle.jr_cnd.proofs.Steps.{Ready, left_of, name_starts, name_step, sign_step, spaced, unspaced}
 use Rattle.jr_cnd.proofs.Turns.{Turned, ended, one_turn, then_turned, unturned}
 
 -- ---- lines of items
@@ -197,8 +196,8 @@ type_read d bs ps good begun h =
     record {
       more = i.more;
       reads = λ stop.
-      type_got d.name d.supertypes (attributes_of_type d.mixin d.is_abstract d.orderable d.primary_item) (record { props = d.props; children = d.children }) (left_of ps stop) (left_of n.more stop) (left_of u.more stop) (left_of a.more stop) (left_of i.more stop) (n.reads stop) (u.reads stop) (a.reads stop) (i.reads stop)
-      ∙ ap (λ (l : List Name). Ok (record { name = d.name; supertypes = l; is_abstract = d.is_abstract; mixin = d.mixin; orderable = d.orderable; primary_item = d.primary_item; props = d.props; children = d.children }, left_of i.more stop)) (all_kept d.mixin d.supertypes good.no_base);
+          type_got d.name d.supertypes (attributes_of_type d.mixin d.is_abstract d.orderable d.primary_item) (record { props = d.props; children = d.children }) (left_of ps stop) (left_of n.more stop) (left_of u.more stop) (left_of a.more stop) (left_of i.more stop) (n.reads stop) (u.reads stop) (a.reads stop) (i.reads stop)
+          ∙ ap (λ (l : List Name). Ok (record { name = d.name; supertypes = l; is_abstract = d.is_abstract; mixin = d.mixin; orderable = d.orderable; primary_item = d.primary_item; props = d.props; children = d.children }, left_of i.more stop)) (all_kept d.mixin d.supertypes good.no_base);
       fewer = omega arith;
       left = i.left;
     }

@@ -1,5 +1,5 @@
 -- How a printed token is read: what it says, and what is left behind it.
-use Rattle.std.proofs.Common.{◌≡◌, ◌≢◌, ◌∙◌, All, ℕ, ◌+◌, ◌<◌, ◌==◌, Bool, true, false, List, [], ◌∷◌, ◌++◌, Option, None, Some, Ok, ap, arith, drop, eqb-true, length, refl, subst, sym, take}
+use Rattle.std.proofs.Common.{◌≡◌, ◌≢◌, ◌∙◌, All, ℕ, ◌<◌, ◌==◌, Bool, true, false, List, [], ◌∷◌, ◌++◌, Option, None, Some, ap, arith, drop, eqb-true, length, refl, subst, sym}
 use Rattle.std.specs.Prelude.{if◌then◌else◌, not, ◌&&◌, IsUtf8}
 use Rattle.std.specs.List.{list_all}
 use Rattle.std.proofs.Math.Seq.{drop-append_seam, take-append_seam}
@@ -108,7 +108,7 @@ sign_said : (c : Context) (s : Sign) (t : List ℕ) (u : Says) → IsSaid c (tok
 sign_said c s t (says.Sign x) h = ap says.Sign h
 sign_said c s t u h = absurd h
 
-ascii : (b : ℕ) → b < 128 → IsUtf8 (b ∷ [])
+pub ascii : (b : ℕ) → b < 128 → IsUtf8 (b ∷ [])
 ascii b low = IsUtf8-from_ascii (b ∷ []) (IsAscii-from_all (b ∷ []) (All-cons (λ x. x < 128) b [] low (All-nil (λ x. x < 128))))
 
 pub sign_step : (c : Context) (b : ℕ) (s : Sign) (all bs : List ℕ) (ps : List Placed) → first_token (is_behind_less c) (b ∷ bs) ≡ Some (token.Sign s, 1) → b < 128 → drop (gap_size all) all ≡ b ∷ bs → Behind c all ps → SignRead c s bs ps
@@ -171,7 +171,7 @@ word_said c w (says.Name x) name h = ap says.Name h.1
 word_said c w (says.Bare x) name h = absurd (h.0 name)
 word_said c w u name h = absurd h
 
-name_utf8 : (n : List ℕ) → IsName n → IsUtf8 n
+pub name_utf8 : (n : List ℕ) → IsName n → IsUtf8 n
 name_utf8 n h = (h.characters, (h.scalar, sym h.spelled))
 
 pub word_step : (c : Context) (w all bs : List ℕ) (ps : List Placed) → IsName w → is_bare_name w ≡ true → goes_on_bare bs ≡ false → drop (gap_size all) all ≡ w ++ bs → Behind c all ps → WordRead c w bs ps

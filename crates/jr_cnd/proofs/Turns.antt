@@ -1,5 +1,5 @@
 -- How a repetition goes on, turn by turn.
-use Rattle.std.proofs.Common.{◌≡◌, ◌∙◌, ℕ, ◌+◌, ◌≤◌, Bool, true, false, List, [], ◌∷◌, Ok, ap, arith, length, refl}
+use Rattle.std.proofs.Common.{◌≡◌, ◌∙◌, ℕ, ◌≤◌, Bool, true, false, List, [], ◌∷◌, Ok, ap, arith, length, refl}
 use Rattle.jr_cnd.specs.Reading.{State, Read, many}
 use Rattle.jr_cnd.specs.declared.piece.Placed.{Placed}
 use Rattle.jr_cnd.proofs.ReadLists.{IsRead, stopped, turned}

@@ -1,5 +1,5 @@
 -- What texts of the grammar can say, and so what is printed as one.
-use Rattle.std.specs.Prelude.{◌≡◌, ◌≢◌, Bool, false, List, [], ◌∷◌, ◌++◌, Option, None, IfSome, IsUtf8}
+use Rattle.std.specs.Prelude.{◌≡◌, ◌≢◌, false, List, [], ◌∷◌, ◌++◌, None, IfSome, IsUtf8}
 use Rattle.std.specs.List.{AllByRecursion}
 use Rattle.jr_path.specs.Grammar.{IsName, OneOrMore, is_prefix_character}
 use Rattle.jr_value.specs.Reading.{IsReadable}
@@ -42,7 +42,7 @@ pub record IsPrintableChild (c : ChildDef) : Type 0 where
   pub types : AllByRecursion IsName c.types
   pub default_type : IfSome c.default_type IsName
 
--- names alone, with `nt:base` among the supertypes of no type but a mixin
+-- names, with `nt:base` among the supertypes of no type but a mixin, and properties and children that can be printed
 pub record IsPrintableType (d : TypeDef) : Type 0 where
   pub name : IsName d.name
   pub supertypes : AllByRecursion IsName d.supertypes
@@ -56,7 +56,7 @@ abbrev pub KeepRules : List TypeDef → List TypeDef → Type 0
 KeepRules types [] = Unit {0}
 KeepRules types (d ∷ ds) = (type_fault types d ≡ None) × KeepRules (types ++ d ∷ []) ds
 
--- some text of the grammar has this meaning
+-- prefixes and definitions as a text of the grammar can say them, which keep the rules of the registry
 pub record IsPrintable (c : Cnd) : Type 0 where
   pub prefixes : AllByRecursion IsPrintablePrefix c.prefixes
   pub definitions : AllByRecursion IsPrintableType c.definitions
