@@ -31,7 +31,7 @@ single : (x y : Value) → Single x ≡ Single y → x ≡ y
 single x y e = cc
 
 -- a text is at most one value of a kind
-text_one : (k : Kind) (t : List ℕ) (x y : Value) → IsText k t x → IsText k t y → x ≡ y
+pub text_one : (k : Kind) (t : List ℕ) (x y : Value) → IsText k t x → IsText k t y → x ≡ y
 text_one kind.Str t x y h g = h ∙ sym g
 text_one kind.Long t x y h g = h.2 ∙ ap value.Long (h.1.is ∙ sym g.1.is) ∙ sym g.2
 text_one kind.Date t x y h g = h.2 ∙ ap value.Date (h.1.is ∙ sym g.1.is) ∙ sym g.2

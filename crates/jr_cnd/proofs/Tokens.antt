@@ -1,5 +1,5 @@
 -- What is printed of a text or of a name is one token, that says it.
-use Rattle.std.proofs.Common.{◌≡◌, ◌∙◌, ℕ, ◌+◌, ◌-◌, ◌==◌, Bool, true, false, List, [], ◌∷◌, ◌++◌, Some, ap, append_assoc, arith, eqb-true, length, length-append, refl, subst, sym, take}
+use Rattle.std.proofs.Common.{◌≡◌, ◌≢◌, ◌∙◌, ℕ, ◌+◌, ◌-◌, ◌==◌, Bool, true, false, List, [], ◌∷◌, ◌++◌, Some, ap, append_assoc, arith, eqb-true, length, length-append, refl, subst, sym, take}
 use Rattle.std.specs.Prelude.{not, option_map, ◌&&◌}
 use Rattle.std.proofs.Math.Seq.{take-append_seam}
 use Rattle.std.proofs.lemmas.Bool.{true≢false}
@@ -80,3 +80,14 @@ name_token behind_less (b ∷ n) rest h stop =
     let parts = both (not (b == 45)) (list_all is_bare (b ∷ n)) h in
     let bare = both (is_bare b) (list_all is_bare n) parts.1 in
     rw (begins behind_less b bare.0 parts.0) (ap (λ k. Some (token.Bare, k)) (all_bare n rest 1 bare.1 stop ∙ omega arith))
+
+-- ---- prefixes, behind `<`
+
+begins_behind : (b : ℕ) → is_bare b ≡ true → begins_bare true b ≡ true
+begins_behind b h = rw h refl
+
+pub prefix_token : (n rest : List ℕ) → n ≢ [] → list_all is_bare n ≡ true → goes_on_bare rest ≡ false → first_token true (n ++ rest) ≡ Some (token.Bare, length n)
+prefix_token [] rest some h stop = absurd (some refl)
+prefix_token (b ∷ n) rest some h stop =
+    let bare = both (is_bare b) (list_all is_bare n) h in
+    rw (begins_behind b bare.0) (ap (λ k. Some (token.Bare, k)) (all_bare n rest 1 bare.1 stop ∙ omega arith))

@@ -4,4 +4,5 @@ pub mod Pieces
 pub mod Reading
 pub mod Grammar
 pub mod Meaning
+pub mod Printable
 pub mod Printing

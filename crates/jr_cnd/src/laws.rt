@@ -1,11 +1,12 @@
 // What holds of texts of type definitions and their meanings.
-ghost use Rattle.std.specs.Prelude.{◌≡◌, ◌++◌, ℕ, Bool, List, Ok, Result, Some, false, length, true};
+ghost use Rattle.std.specs.Prelude.{◌≡◌, ◌++◌, ◌⊎◌, ℕ, Bool, Err, List, Ok, Result, Some, false, length, true};
 ghost use Rattle.jr_value.specs.Reading.{IsReadable};
 ghost use Rattle.jr_value.specs.Texts.{IsText};
 ghost use Rattle.jr_value.specs.Values.{kind_of};
 ghost use Rattle.jr_value.specs.declared.value.Value.{Value};
-ghost use Rattle.jr_cnd.specs.Meaning.{IsMeaning};
+ghost use Rattle.jr_cnd.specs.Meaning.{IsAnswer, IsMeaning};
 ghost use Rattle.jr_cnd.specs.Pieces.{content};
+ghost use Rattle.jr_cnd.specs.Printable.{IsPrintable};
 ghost use Rattle.jr_cnd.specs.Printing.{cnd_text, is_bare_name, quoted, value_text};
 ghost use Rattle.jr_cnd.specs.Tokens.{goes_on_bare, first_token};
 ghost use Rattle.jr_cnd.specs.declared.piece.TokenKind.TheVariants as token;
@@ -42,4 +43,18 @@ pub fn bare_names_are_tokens()
 /// The text that is printed of a value is read as the value again.
 pub fn printed_values_are_read_back()
     ensures { (value : Value) → IsReadable value → IsText (kind_of value) (value_text value) value }
+{}
+
+/// What a text means can be printed.
+pub fn meanings_can_be_printed()
+    ensures { (text : List ℕ) (cnd : Cnd) → IsMeaning text (Ok cnd) → IsPrintable cnd }
+{}
+
+/// The canonical text of what can be printed means just that; and who reads it is answered that, unless memory is refused.
+pub fn canonical_texts_are_read_back()
+    ensures means { (cnd : Cnd) (meant : Result Cnd NoCnd)
+        → IsPrintable cnd → IsMeaning (cnd_text cnd) meant → meant ≡ Ok cnd }
+    ensures answered { (cnd : Cnd) (answer : Result Cnd NoCnd)
+        → IsPrintable cnd → IsAnswer (cnd_text cnd) answer
+        → (answer ≡ Ok cnd) ⊎ (answer ≡ Err NoCnd.Memory) }
 {}

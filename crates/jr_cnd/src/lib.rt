@@ -21,7 +21,7 @@ pub use cnd::{Cnd, Prefix};
 pub use fault::NoCnd;
 pub use file::read_cnd;
 pub use laws::{
-    bare_names_are_tokens, equal_meanings_print_alike, one_meaning, printed_texts_are_tokens,
-    printed_values_are_read_back,
+    bare_names_are_tokens, canonical_texts_are_read_back, equal_meanings_print_alike,
+    meanings_can_be_printed, one_meaning, printed_texts_are_tokens, printed_values_are_read_back,
 };
 pub use printing::print_cnd;
