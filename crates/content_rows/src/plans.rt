@@ -1,7 +1,7 @@
 // Plans of edits.
 use crate::json::{items_of, json_of};
 use crate::locks::words_of;
-use crate::rows::{cut, number};
+use crate::rows::cut;
 use crate::shows::{put_path, put_refusal};
 use crate::trees::{add_nodes, name_of, path_of, property_of};
 use crate::types::register;
@@ -19,25 +19,10 @@ use std::alloc::{AllocError, Global};
 // DEFINITIONS EDIT TOKENS: the marks of the plan, or its refusal. The tree has the initial nodes too, and a node for which no
 // type is given is an nt:unstructured. `plan` asks both calls, the second one assured that the types are met, and that no
 // reference dangles where that is so; `whole_plan` asks the first alone; `change_plan` the second alone, assured of both
-// though it may not be so; `crowd` N is `plan` with N nodes more below the root.
+// though it may not be so.
 pub(crate) fn add(
     alloc: Global,
     word: &str,
-    asked: &str,
-    given: &str,
-    out: &mut String,
-) -> Result<(), AllocError> {
-    if word == "crowd" {
-        let (count, asked) = cut(asked);
-        return add_among(alloc, word, number(count), asked, given, out);
-    }
-    add_among(alloc, word, 0, asked, given, out)
-}
-
-fn add_among(
-    alloc: Global,
-    word: &str,
-    count: u32,
     asked: &str,
     given: &str,
     out: &mut String,
@@ -47,17 +32,14 @@ fn add_among(
     if !register(alloc, &mut types, definitions, out)? {
         return Ok(());
     }
-    match typed_tree(alloc, given, count)? {
+    match typed_tree(alloc, given)? {
         Some(tree) => add_plan(alloc, word, &types, &tree, asked, out),
         None => out.push_str("no tree"),
     }
 }
 
-fn typed_tree(alloc: Global, given: &str, count: u32) -> Result<Option<Tree>, AllocError> {
+fn typed_tree(alloc: Global, given: &str) -> Result<Option<Tree>, AllocError> {
     let mut tree = Tree::initial(alloc)?;
-    for at in 0..count {
-        add_numbered(alloc, &mut tree, at)?;
-    }
     match json_of(alloc, given)? {
         Some(Json::Object(members)) => {
             if !add_nodes(alloc, &mut tree, &members)? {
@@ -66,15 +48,6 @@ fn typed_tree(alloc: Global, given: &str, count: u32) -> Result<Option<Tree>, Al
             Ok(Some(with_types(alloc, &tree)?))
         }
         _ => Ok(None),
-    }
-}
-
-// Puts the node `nN` below the root.
-fn add_numbered(alloc: Global, tree: &mut Tree, at: u32) -> Result<(), AllocError> {
-    let text = format!(in alloc; "/n{at}")?;
-    match path_of(alloc, text.as_str())? {
-        Some(path) => tree.insert(path, Node::new(alloc)),
-        None => Ok(()),
     }
 }
 

@@ -30,9 +30,7 @@ fn add_line(
     let (word, asked) = cut(question);
     match word {
         "events" => events::add(alloc, asked, given, out),
-        "plan" | "whole_plan" | "change_plan" | "crowd" => {
-            plans::add(alloc, word, asked, given, out)
-        }
+        "plan" | "whole_plan" | "change_plan" => plans::add(alloc, word, asked, given, out),
         "versions" => versions::add(alloc, asked, given, out),
         "added" | "is_a" | "subtypes" | "type" | "violation" => {
             types::add(alloc, word, asked, given, out)

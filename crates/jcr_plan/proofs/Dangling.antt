@@ -23,7 +23,7 @@ use Rattle.jr_tree.specs.declared.edit.Write.{Write}
 use Rattle.jr_tree.specs.declared.edit.Write.TheVariants.{Here, Gone, Put, Unset}
 use Rattle.jr_tree.specs.Trees.{IsTree, Nodes, node_at, property_at}
 use Rattle.jr_tree.specs.Edits.{applied}
-use Rattle.jr_tree.specs.Items.{has_after, here_of, property_after, put_of, written}
+use Rattle.jr_tree.specs.Items.{has_after, here_of, put_of, written}
 use Rattle.jr_tree.proofs.AtPath.{order-applied, prop_of}
 use Rattle.jr_tree.proofs.EditLaw.{IsOrderly, Orderly-all, Orderly-applied, property_applied}
 use Rattle.jr_tree.proofs.Entries.{exactly, none_below}
@@ -32,7 +32,7 @@ use Rattle.jr_items.specs.Names.{frozen_type, primary_type, uuid}
 use Rattle.jr_items.specs.Items.{first_of, is_empty, is_of_type, one_name, one_text, reference_in, same_name, values_in}
 use Rattle.jcr_ref.specs.References.{ReferencesOk, dangling, is_dangling, is_target, items_at, references_at, target_of, uuid_text}
 use Rattle.jcr_plan.specs.ByWrite.{references_in}
-use Rattle.jcr_plan.specs.Checked.{has_reference, is_ever_frozen, is_identity, may_dangle}
+use Rattle.jcr_plan.specs.Checked.{has_reference, is_identity, may_dangle}
 use Rattle.jcr_plan.proofs.Stirred.{or_false}
 
 -- ---- lists
