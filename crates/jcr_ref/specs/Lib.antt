@@ -1,3 +1,4 @@
+pub mod Drawn
 pub mod Histories
 pub mod References
 pub mod Targets

@@ -21,21 +21,18 @@ use Rattle.jr_items.specs.Items.{adding, child_path, first_some, is_checked_in, 
 use Rattle.jr_items.specs.Refusals.{checked_in, no_item, or_else, over_limit, refusal, when}
 use Rattle.jr_types.specs.declared.TypeDef.{TypeDef}
 use Rattle.jcr_lock.specs.Needed.{is_needed}
+use Rattle.jcr_ref.specs.Drawn.{latest_date, too_many_ids}
 use Rattle.jcr_ref.specs.Histories.{history_of, labels_of, number_at, number_by, reference_to, version_names}
 use Rattle.jcr_version.specs.Frozen.{aborting, frozen_tree, with_property}
-use Rattle.jcr_version.specs.Histories.{drawn_id, is_numbered, latest_date, no_version, no_versions, predecessors_of, version_name}
+use Rattle.jcr_version.specs.Histories.{drawn_id, is_numbered, no_version, no_versions, predecessors_of, version_name}
 
 -- an item stands in the way of a check-in
 abbrev pub aborted : List TypeDef → Nodes → Path → Option Refusal
 aborted types t p = option_map (λ item. refusal 8 (datum.Item item ∷ [])) (aborting types t p)
 
--- a session draws at most 16,777,215 identifiers
-abbrev pub too_many_ids : Who → Option Refusal
-too_many_ids who = when (nat_lt 16777215 (who.ids + 1)) (over_limit (codes "ids") 16777215)
-
 -- why a node that isn't checked in can't be checked in
 abbrev pub checkin_refusal : List TypeDef → Nodes → Path → Who → Option Refusal
-checkin_refusal types t p who = first_some (aborted types t p ∷ too_many_ids who ∷ [])
+checkin_refusal types t p who = first_some (aborted types t p ∷ too_many_ids (who.ids + 1) ∷ [])
 
 -- the type, identifier and date of a new version
 abbrev pub version_props : (id : List ℕ) → (date : ℤ) → List (Name × Property)

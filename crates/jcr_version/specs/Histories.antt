@@ -5,8 +5,6 @@ use Rattle.std.specs.Option.{option_map_or}
 use Rattle.std.specs.Fmt.{decimal}
 use Rattle.jr_path.specs.declared.name.Name.{Name}
 use Rattle.jr_path.specs.declared.path.Path.{Path}
-use Rattle.jr_rev.specs.declared.revision.Revision.{Revision}
-use Rattle.jr_rev.specs.Vectors.{Entries, entry}
 use Rattle.jr_value.specs.Reading.{identifier_named}
 use Rattle.jr_tree.specs.declared.shared.Refusal.{Refusal}
 use Rattle.jr_tree.specs.declared.shared.Who.{Who}
@@ -56,15 +54,6 @@ predecessors_of t p = filter (is_named (many_references (property_at t p predece
 -- the text of the session's next identifier
 unfoldable pub drawn_id : Who → List ℕ
 drawn_id who = uuid_text (number_by who (who.ids + 1))
-
--- the greatest time of the entries of the first cluster nodes, so many of them
-abbrev pub latest_among : Entries → ℕ → ℕ
-latest_among v zero = 0
-latest_among v (suc k) = max (latest_among v k) (option_map_or (λ r. r.time) (entry v (suc k)) 0)
-
--- the greatest time of a vector, as a date
-abbrev pub latest_date : Entries → ℤ
-latest_date v = pos (min (latest_among v 8) (2 ^ 63 - 1))
 
 -- the node is versionable, and has a history
 unfoldable pub has_versions : Nodes → Path → Bool

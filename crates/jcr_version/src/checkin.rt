@@ -17,25 +17,23 @@ ghost use Rattle.jr_items.specs.Refusals.{IsOrMemory, IsTheRefusal, out_of_memor
 ghost use Rattle.jcr_lock.specs.Locks.{IsDue, IsDueRefusal};
 ghost use Rattle.jcr_lock.specs.Needed.{is_needed};
 ghost use Rattle.jcr_ref.specs.Histories.{history_of, number_by, version_names};
-ghost use Rattle.jcr_version.specs.Edits.{aborted, base_name, checked_in_version, checked_in_writes, checkin_drawn, checkin_due, checkin_edit, checkin_own, checkin_refusal, checkin_writes, having_drawn, new_version, next_version, succeed, too_many_ids, version_nodes, version_props};
-ghost use Rattle.jcr_version.specs.Histories.{drawn_id, is_named, is_numbered, latest_date, version_name};
+ghost use Rattle.jcr_version.specs.Edits.{aborted, base_name, checked_in_version, checked_in_writes, checkin_drawn, checkin_due, checkin_edit, checkin_own, checkin_refusal, checkin_writes, having_drawn, new_version, next_version, succeed, version_nodes, version_props};
+ghost use Rattle.jcr_ref.specs.Drawn.{latest_date, too_many_ids};
+ghost use Rattle.jcr_version.specs.Histories.{drawn_id, is_named, is_numbered, version_name};
 
 use crate::frozen::{first_aborting, is_versionable, push_frozen, put_property};
 use crate::histories::{
-    find_history, is_named, is_numbered, latest_date, one_reference, own_child, references_in,
-    version_name, versions_of,
+    find_history, is_named, is_numbered, one_reference, own_child, references_in, version_name,
+    versions_of,
 };
 use crate::writes::{needed, push_adding, push_property};
-use jcr_ref::{identifier, identifier_number, identifiers_are_uuids, version_names};
+use jcr_ref::{MAX_IDS, identifier, identifier_number, identifiers_are_uuids, version_names};
 use jr_items::{OwnName, is_flag, over_limit};
 use jr_path::{DeepCopy, Item, Keyed, List, Name, Path, Text};
 use jr_tree::{Datum, Edit, Node, Refusal, Tree, Who, Write};
 use jr_types::Registry;
 use jr_value::{Kind, Property, Value};
 use std::alloc::{AllocError, Global};
-
-/// The most identifiers that a session draws.
-const MAX_IDS: u32 = 16_777_215;
 
 /// The edit that checks a node in (JSR 283, 15.2 Check-In): a new version with the node's frozen node, a successor of the
 /// versions that are the node's predecessors and from now on the node's base; of these writes only what changes
@@ -187,8 +185,8 @@ fn aborted(alloc: Global, item: Item) -> Refusal
 }
 
 fn check_ids(alloc: Global, who: &Who) -> Result<(), Refusal>
-    ensures ok { OnOk result (too_many_ids who.now ≡ None) }
-    ensures err { IfErr result (IsTheRefusal (too_many_ids who.now)) }
+    ensures ok { OnOk result (too_many_ids (who.now.ids + 1) ≡ None) }
+    ensures err { IfErr result (IsTheRefusal (too_many_ids (who.now.ids + 1))) }
     ensures more { OnOk result (who.now.ids < 16777215) }
 {
     if who.ids >= MAX_IDS {

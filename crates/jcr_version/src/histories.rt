@@ -1,10 +1,9 @@
 // Version histories and their versions.
-ghost use Rattle.std.specs.Prelude.{◌≡◌, ◌≤◌, ◌==◌, IfErr, IfOk, None, OnOk};
+ghost use Rattle.std.specs.Prelude.{◌≡◌, ◌==◌, IfErr, IfOk, None, OnOk};
 ghost use Rattle.std.specs.List.{filter_map, list_any};
 ghost use Rattle.std.specs.Option.{option_copied, option_map_or};
 ghost use Rattle.std.specs.String.{string_bytes};
 ghost use Rattle.jr_path.specs.Grammar.{IsName};
-ghost use Rattle.jr_rev.specs.Vectors.{entry};
 ghost use Rattle.jr_tree.specs.Trees.{node_at};
 ghost use Rattle.jr_items.specs.Items.{child_path, many_references, one_reference, reference_in};
 ghost use Rattle.jr_items.specs.Names.{uuid, version_storage};
@@ -12,13 +11,12 @@ ghost use Rattle.jr_items.specs.Own.{own_name};
 ghost use Rattle.jr_items.specs.Refusals.{IsTheRefusal};
 ghost use Rattle.jcr_ref.specs.References.{identifier_of};
 ghost use Rattle.jcr_ref.specs.Histories.{history_of, number_at};
-ghost use Rattle.jcr_version.specs.Histories.{child_there, history_there, is_named, is_numbered, latest_among, latest_date, no_version, no_versions, number_of, unversioned, version_name, version_there, versions_of};
+ghost use Rattle.jcr_version.specs.Histories.{child_there, history_there, is_named, is_numbered, no_version, no_versions, number_of, unversioned, version_name, version_there, versions_of};
 
 use crate::frozen::is_versionable;
 use jcr_ref::version_names;
 use jr_items::{OwnName, check_place, is_same_text, no_identifier, one_text, unsupported};
 use jr_path::{DeepCopy, Name, Path, PathFault};
-use jr_rev::RevVec;
 use jr_tree::{Refusal, Tree};
 use jr_value::{Property, Value, identifier_named};
 use std::alloc::{AllocError, Global};
@@ -281,31 +279,4 @@ fn is_among(number: u128, references: &[u128]) -> bool
     ensures { result ≡ list_any (λ m. m == number) references.now }
 {
     references.iter().any(|reference| *reference == number)
-}
-
-/// The greatest time of a vector in milliseconds, 0 where it has no entry, at most 2^63 - 1.
-pub(crate) fn latest_date(base: &RevVec) -> i64
-    ensures { result ≡ latest_date base.now }
-{
-    latest_among(base, 8).min(i64::MAX as u64) as i64
-}
-
-// The greatest time of the entries of the first cluster nodes, so many of them.
-fn latest_among(base: &RevVec, clusters: u32) -> u64
-    requires { clusters ≤ 8 }
-    ensures { result ≡ latest_among base.now clusters }
-{
-    if clusters == 0 {
-        return 0;
-    }
-    latest_among(base, clusters - 1).max(time_of(base, clusters))
-}
-
-fn time_of(base: &RevVec, cluster: u32) -> u64
-    ensures { result ≡ option_map_or (λ r. r.time) (entry base.now cluster) 0 }
-{
-    match base.get(cluster) {
-        Some(revision) => revision.time,
-        None => 0,
-    }
 }

@@ -1,11 +1,12 @@
 // A part of a tree, which grows by what is read.
-ghost use Rattle.std.specs.Prelude.{◌≡◌, IfOk, IsTrue, OnErr, OnOk, None, Some, is_some};
+ghost use Rattle.std.specs.Prelude.{◌≡◌, IfOk, IsTrue, OnErr, OnOk, None, Some, is_some, map};
 ghost use Rattle.std.specs.Option.{option_copied, option_map};
 ghost use Rattle.std.specs.FinMap.{is_sorted};
 ghost use Rattle.std.specs.Map.{remove_entry};
+ghost use Rattle.std.specs.Map.Iter.{deref_pair};
 ghost use Rattle.std.specs.BTreeMap.{is_at};
 ghost use Rattle.jr_path.specs.Names.{name_cmp, path_cmp};
-ghost use Rattle.jr_tree.specs.Trees.{IsTree, Nodes, node_at};
+ghost use Rattle.jr_tree.specs.Trees.{IsTree, Nodes, node_at, subtree_of};
 ghost use Rattle.jr_part.specs.declared.need.Need.TheVariants as need;
 ghost use Rattle.jr_part.specs.Parts.{AgreesWith, HaveRisingNames, Lacks, LacksNothing, known_at, list_at, nothing_known, with_children, with_node};
 
@@ -58,6 +59,14 @@ impl Part {
             None if self.absent.contains(path) => Some(None),
             None => None,
         }
+    }
+
+    /// The nodes at or below a path that are known to be there, lent, with their paths from the root, in
+    /// path order. It looks only at these.
+    pub fn under<'a>(&'a self, path: &Path) -> Result<Vec<(&'a Path, &'a Node)>, AllocError>
+        ensures { IfOk result (λ found. map deref_pair found.items ≡ subtree_of self.now.nodes path.now) }
+    {
+        self.tree.under(path)
     }
 
     /// The names of the children of the node at a path, in ascending order, where they are known, each

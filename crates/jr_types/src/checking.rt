@@ -234,8 +234,9 @@ impl Registry {
         counting.iter().any(|def| self.fits_child(def, primary))
     }
 
-    // The types of a node: its primary type, its mixins and all their supertypes.
-    pub(crate) fn types_of<'a>(&'a self, node: &Node) -> Result<Vec<&'a TypeDef>, AllocError>
+    /// The types of a node: its primary type, its mixins and all their supertypes, in this order, some of
+    /// them maybe once where several types have them (JSR 283, 3.7.6 Node Type Inheritance).
+    pub fn types_of<'a>(&'a self, node: &Node) -> Result<Vec<&'a TypeDef>, AllocError>
         ensures { IfOk result (λ types.
             IsAlike (map (λ d. d.now) types.items) (types_of self.now (types_said node.now))) }
     {
@@ -303,11 +304,9 @@ impl Registry {
         node.props.get(&self.mixin_types)
     }
 
-    // What the types say of properties, first the order of children of each orderable one.
-    pub(crate) fn props_of<'a>(
-        &'a self,
-        types: &[&'a TypeDef],
-    ) -> Result<Vec<&'a PropDef>, AllocError>
+    /// What the types say of properties, one type after the other, first the order of children of each
+    /// orderable one (JSR 283, 3.7.3 Property Definitions).
+    pub fn props_of<'a>(&'a self, types: &[&'a TypeDef]) -> Result<Vec<&'a PropDef>, AllocError>
         ensures { IfOk result (λ props. map (λ d. d.now) props.items
             ≡ flat_map props_of (map (λ d. d.now) types.now)) }
     {
@@ -613,8 +612,8 @@ fn is_of(own: &Option<Name>, name: &Name) -> bool
     }
 }
 
-// What the types say of children.
-pub(crate) fn children_of<'a>(
+/// What the types say of children, one type after the other (JSR 283, 3.7.4 Child Node Definitions).
+pub fn children_of<'a>(
     alloc: Global,
     types: &[&'a TypeDef],
 ) -> Result<Vec<&'a ChildDef>, AllocError>

@@ -12,7 +12,7 @@ mod reading;
 mod registry;
 
 pub use adding::TypeFault;
-pub use checking::TypesOut;
+pub use checking::{TypesOut, children_of};
 pub use constraints::{Range, is_constraint};
 use jr_path::{List, Name, Text};
 use jr_value::{Kind, Value};
