@@ -27,7 +27,7 @@ impl<'a> Model for Draft<'a> {
 impl<'a> Draft<'a> {
     /// A draft in which nothing is made. It takes no memory.
     pub fn new(alloc: Global, sight: Sight<'a>) -> Draft<'a>
-        ensures sight { result.sight ≡ sight }
+        ensures sight { result.sight ≡ sight.entry }
         ensures steps { result.steps ≡ [] }
     {
         Draft {
@@ -64,7 +64,7 @@ impl<'a> Draft<'a> {
 
     /// What the draft has at each touched path.
     pub fn into_steps(self) -> Keyed<Path, Option<Node>>
-        ensures { result ≡ self.steps }
+        ensures { result ≡ self.entry.steps }
     {
         self.steps
     }
