@@ -1,0 +1,7 @@
+//! A session's view: pending changes over a part of a tree, the commands that read and write it, and what they ask for
+//! first (JSR 283, 5 Reading; 10 Writing; 10.11 Saving).
+#![tactic(auto)]
+
+mod needs;
+mod reading;
+mod rebase;
