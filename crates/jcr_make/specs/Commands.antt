@@ -1,0 +1,109 @@
+-- What the commands make that depend on node types, and their refusals.
+use Rattle.std.specs.Prelude.{Bool, false, cond, not, ◌&&◌, List, [], ◌∷◌, ◌++◌, Option, None, Some, is_some, map, Result, Ok, Err}
+use Rattle.std.specs.List.{filter, list_any}
+use Rattle.std.specs.Option.{option_map_or}
+use Rattle.jr_path.specs.declared.name.Name.{Name}
+use Rattle.jr_path.specs.declared.path.Path.{Path}
+use Rattle.jr_value.specs.declared.value.Kind.TheVariants as kind
+use Rattle.jr_value.specs.declared.value.Property.{Property}
+use Rattle.jr_value.specs.declared.value.Property.TheVariants.{Single, Many}
+use Rattle.jr_value.specs.declared.value.Value.TheVariants as value
+use Rattle.jr_tree.specs.declared.shared.Refusal.{Refusal}
+use Rattle.jr_tree.specs.declared.shared.Who.{Who}
+use Rattle.jr_tree.specs.declared.tree.Node.{Node}
+use Rattle.jr_tree.specs.Trees.{node_of_type}
+use Rattle.jr_items.specs.Items.{first_some, is_empty, many_names, property_of, same_name}
+use Rattle.jr_items.specs.Names.{child_order, mixin_types, primary_type}
+use Rattle.jr_items.specs.Refusals.{breaks_rule, no_type, own_item_rule, taken, when}
+use Rattle.jr_types.specs.declared.TypeDef.{TypeDef}
+use Rattle.jr_types.specs.Attributes.{are_ordered, default_type}
+use Rattle.jr_types.specs.Rules.{is_mixin}
+use Rattle.jr_types.specs.Types.{prop_def, prop_defs}
+use Rattle.jr_overlay.specs.Drafts.{Steps, drafted, with_step}
+use Rattle.jr_overlay.specs.Overlays.{View}
+use Rattle.jcr_write.specs.Places.{above, at_place, node_types, of_node, own_of, path_refusal, unless_refused, with_property, without_property}
+use Rattle.jcr_make.specs.Steps.{and_then}
+use Rattle.jcr_make.specs.Makings.{Making, complete, unknown_type}
+
+-- the type that an added node gets, which somebody registered
+abbrev pub registered : List TypeDef → Name → Result Name Refusal
+registered types n = unless_refused (unknown_type types n) (Ok n)
+
+-- the type of an added node where its command names none: the default one by the types of the node above
+abbrev pub type_by_default : List TypeDef → Path → Option Name → Result Name Refusal
+type_by_default types p None = Err (own_item_rule (above p) (own_of p))
+type_by_default types p (Some n) = registered types n
+
+-- the type of an added node: the one that its command names, or else the default one
+abbrev pub added_type : List TypeDef → (parent : Node) → Path → (named : Option Name) → Result Name Refusal
+added_type types parent p (Some n) = registered types n
+added_type types parent p None =
+    type_by_default types p (default_type (node_types types parent) (own_of p))
+
+-- a node stands at the path already
+abbrev pub taken_place : View → Steps → Path → Option Refusal
+taken_place view steps p = when (is_some (drafted view steps p)) (taken p)
+
+-- what adding a node below this one makes
+abbrev pub add_below : List TypeDef → Who → View → Path → (named : Option Name) → Making → (parent : Node) → Result Making Refusal
+add_below types who view p named m parent = unless_refused (taken_place view m.steps p)
+    (and_then (added_type types parent p named)
+    (λ n. complete types who view p (node_of_type n) m))
+
+-- what `add` makes: a node of the type that it names, or else of the default one, with all that belongs to it
+abbrev pub add_made : List TypeDef → Who → View → Path → (named : Option Name) → Making → Result Making Refusal
+add_made types who view p named m = unless_refused (path_refusal p)
+    (of_node (above p) (drafted view m.steps (above p)) (add_below types who view p named m))
+
+-- the names of a node's mixins
+abbrev pub mixins_of : Node → List Name
+mixins_of node = many_names (property_of node mixin_types)
+
+-- names as one property
+abbrev pub name_list : List Name → Property
+name_list ns = Many kind.Name (map value.Name ns)
+
+-- the node has the mixin
+abbrev pub lists_mixin : Node → Name → Bool
+lists_mixin node n = list_any (same_name n) (mixins_of node)
+
+-- a node of this primary type; it keeps no order of its children where its types have none
+abbrev pub retyped : List TypeDef → Node → Name → Node
+retyped types node n = let typed = with_property node primary_type (Single (value.Name n)) in
+    cond (are_ordered (node_types types typed)) typed (without_property typed child_order)
+
+-- what `type` makes: the node with another primary type, and with all that belongs to it
+abbrev pub type_made : List TypeDef → Who → View → Path → Name → Making → Result Making Refusal
+type_made types who view p n m = at_place view m.steps p (λ node.
+    unless_refused (unknown_type types n) (complete types who view p (retyped types node n) m))
+
+-- the list of mixins, where there are any
+abbrev pub with_mixins : Node → List Name → Node
+with_mixins node [] = without_property node mixin_types
+with_mixins node (n ∷ ns) = with_property node mixin_types (name_list (n ∷ ns))
+
+-- the node's list of mixins without this one
+abbrev pub unlisted : Node → Name → Node
+unlisted node n = with_mixins node (filter (λ m. not (same_name n m)) (mixins_of node))
+
+-- a property was protected by the old types, and has no definition by the new ones
+abbrev pub is_lost : List TypeDef → (old new : Node) → Name → Property → Bool
+is_lost types old new n x =
+    option_map_or (λ d. d.protected) (prop_def (node_types types old) n x) false
+    && is_empty (prop_defs (node_types types new) n)
+
+-- a node without a mixin, and without the protected properties that nothing else defines
+abbrev pub unmixed : List TypeDef → Node → Name → Node
+unmixed types node n = let new = unlisted node n in
+    record new { props = filter (λ x. not (is_lost types node new x.0 x.1)) new.props }
+
+-- why a mixin can't be taken from a node: nobody registered it, or the node lacks it
+abbrev pub unmixin_refusal : List TypeDef → Node → Name → Option Refusal
+unmixin_refusal types node n =
+    first_some (unknown_type types n ∷ when (not (lists_mixin node n)) (no_type n) ∷ [])
+
+-- what `unmixin` makes: the node without a mixin and what that one brought
+abbrev pub unmixin_made : List TypeDef → View → Path → Name → Steps → Result Steps Refusal
+unmixin_made types view p n steps = at_place view steps p (λ node.
+    unless_refused (unmixin_refusal types node n)
+    (Ok (with_step steps p (Some (unmixed types node n)))))

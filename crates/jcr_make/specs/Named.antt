@@ -1,0 +1,42 @@
+-- Whether a text is a name, as a test.
+use Rattle.std.specs.Prelude.{ℕ, Bool, true, false, cond, not, ◌&&◌, ◌||◌, ◌==◌, nat_le, List, [], ◌∷◌, Option, None, Some, length, codes}
+use Rattle.std.specs.List.{list_all}
+use Rattle.std.specs.Option.{option_map, option_map_or}
+use Rattle.std.specs.Str.{chars, is_utf8}
+use Rattle.jr_path.specs.Grammar.{is_plain, is_prefix_character}
+use Rattle.jr_items.specs.Items.{is_empty, same_name}
+
+-- the characters before the first colon (58), and those behind it
+abbrev pub at_colon : List ℕ → Option (List ℕ × List ℕ)
+at_colon [] = None
+at_colon (c ∷ cs) = cond (c == 58) (Some ([], cs)) (option_map (λ e. (c ∷ e.0, e.1)) (at_colon cs))
+
+-- one or more characters that all pass
+abbrev pub is_run_of : (ℕ → Bool) → List ℕ → Bool
+is_run_of passes cs = not (is_empty cs) && list_all passes cs
+
+-- a prefix, a colon and plain characters
+abbrev pub is_prefixed : List ℕ → Bool
+is_prefixed cs = option_map_or
+    (λ e. is_run_of is_prefix_character e.0 && is_run_of is_plain e.1) (at_colon cs) false
+
+-- the first character is a space (32)
+abbrev pub begins_with_space : List ℕ → Bool
+begins_with_space [] = false
+begins_with_space (c ∷ cs) = c == 32
+
+-- the last character is a space
+abbrev pub ends_with_space : List ℕ → Bool
+ends_with_space [] = false
+ends_with_space (c ∷ []) = c == 32
+ends_with_space (c ∷ d ∷ cs) = ends_with_space (d ∷ cs)
+
+-- characters that a name may have
+abbrev pub may_be_named : List ℕ → Bool
+may_be_named cs = (is_run_of is_plain cs || is_prefixed cs)
+    && not (begins_with_space cs) && not (ends_with_space cs)
+
+-- a text of at most 255 bytes with such characters, and neither `.` nor `..`
+unfoldable pub is_name : List ℕ → Bool
+is_name text = is_utf8 text && may_be_named (chars text) && nat_le (length text) 255
+    && not (same_name text (codes ".")) && not (same_name text (codes ".."))

@@ -1,0 +1,173 @@
+-- What the commands that make nothing of themselves do to a view, and when they are refused.
+use Rattle.std.specs.Prelude.{Bool, true, false, cond, List, [], ◌∷◌, ◌++◌, codes, drop, length, Option, None, Some, is_none, is_some, map, option_and_then, option_map, Result, Ok, Err}
+use Rattle.std.specs.List.{filter, flat_map, fold, list_any}
+use Rattle.std.specs.Option.{option_map_or}
+use Rattle.std.specs.Prelude.{◌==◌}
+use Rattle.jr_path.specs.Names.{is_under}
+use Rattle.jr_path.specs.declared.name.Name.{Name}
+use Rattle.jr_path.specs.declared.path.Path.{Path}
+use Rattle.jr_value.specs.Values.{kind_number, kind_of_property}
+use Rattle.jr_value.specs.declared.value.Kind.{Kind}
+use Rattle.jr_value.specs.declared.value.Property.{Property}
+use Rattle.jr_tree.specs.Trees.{Nodes}
+use Rattle.jr_tree.specs.declared.shared.Refusal.{Refusal}
+use Rattle.jr_tree.specs.declared.tree.Node.{Node}
+use Rattle.jr_items.specs.Items.{first_of, first_some, is_empty, property_of, same_name}
+use Rattle.jr_items.specs.Names.{child_order, primary_type}
+use Rattle.jr_items.specs.Refusals.{in_system, limit_refusal, no_item, own_item_rule, own_rule, taken, too_deep, too_long, unsupported, when, wrong_kind}
+use Rattle.jr_types.specs.Attributes.{are_ordered}
+use Rattle.jr_types.specs.Types.{child_def, is_named, prop_def, props_of}
+use Rattle.jr_types.specs.declared.PropDef.{PropDef}
+use Rattle.jr_types.specs.declared.TypeDef.{TypeDef}
+use Rattle.jr_part.specs.Parts.{ChildNames}
+use Rattle.jr_overlay.specs.Drafts.{Steps, drafted, with_step}
+use Rattle.jr_overlay.specs.Overlays.{View}
+use Rattle.jcr_write.specs.Order.{listing, moved_before, ordered}
+use Rattle.jcr_write.specs.Places.{above, at_place, node_types, of_node, own_of, path_refusal, putting, unless_refused, with_property, without_property}
+
+-- the definitions of that very name
+abbrev pub named_defs : List TypeDef → Name → List PropDef
+named_defs ds n = filter (λ d. is_named n d.name) (flat_map props_of ds)
+
+-- the definition lets a property be of this kind
+abbrev pub lets_kind : Property → PropDef → Bool
+lets_kind x d = option_map_or (λ k. kind_number k == kind_number (kind_of_property x)) d.kind true
+
+-- the kind that the first definition requires, where none lets the property be of its kind
+abbrev pub other_kind : List PropDef → Property → Option Kind
+other_kind defs x =
+    cond (list_any (lets_kind x) defs) None (option_and_then (λ d. d.kind) (first_of defs))
+
+-- why a property may not be set by these definitions: one is protected, or all want another kind
+abbrev pub defs_refusal : List PropDef → Path → Name → Property → Option Refusal
+defs_refusal defs p n x = first_some (when (list_any (λ d. d.protected) defs) (own_item_rule p n)
+    ∷ option_map (λ k. wrong_kind k (kind_of_property x)) (other_kind defs x) ∷ [])
+
+-- why a property of a node may not be set
+abbrev pub set_refusal : List TypeDef → Path → Name → Property → Node → Option Refusal
+set_refusal types p n x node = defs_refusal (named_defs (node_types types node) n) p n x
+
+-- the node with a property set
+abbrev pub node_set : List TypeDef → View → Steps → Path → Name → Property → Result Node Refusal
+node_set types view steps p n x = at_place view steps p (λ node.
+    unless_refused (set_refusal types p n x node) (Ok (with_property node n x)))
+
+-- a property of the node at p is set
+abbrev pub set_made : List TypeDef → View → Steps → Path → Name → Property → Result Steps Refusal
+set_made types view steps p n x = putting steps p (node_set types view steps p n x)
+
+-- why a property of a node may not be unset: there is none, or its definition is protected
+abbrev pub unset_refusal : List TypeDef → Path → Name → Node → Option Property → Option Refusal
+unset_refusal types p n node None = Some (no_item (p ++ n ∷ []))
+unset_refusal types p n node (Some x) =
+    when (option_map_or (λ d. d.protected) (prop_def (node_types types node) n x) false)
+    (own_item_rule p n)
+
+-- the node with a property unset
+abbrev pub node_unset : List TypeDef → View → Steps → Path → Name → Result Node Refusal
+node_unset types view steps p n = at_place view steps p (λ node.
+    unless_refused (unset_refusal types p n node (property_of node n))
+    (Ok (without_property node n)))
+
+-- a property of the node at p is unset
+abbrev pub unset_made : List TypeDef → View → Steps → Path → Name → Result Steps Refusal
+unset_made types view steps p n = putting steps p (node_unset types view steps p n)
+
+-- the definition that a child of that name goes by below a node is protected
+abbrev pub is_kept_below : List TypeDef → Option Node → Name → Node → Bool
+is_kept_below types None n child = false
+is_kept_below types (Some node) n child = option_map_or (λ d. d.protected)
+    (child_def types (node_types types node) n (property_of child primary_type)) false
+
+-- why a node may not be removed: it is the root, or its definition is protected
+abbrev pub remove_refusal : List TypeDef → View → Steps → Path → Node → Option Refusal
+remove_refusal types view steps p node = first_some (when (is_empty p) (own_rule p)
+    ∷ when (is_kept_below types (drafted view steps (above p)) (own_of p) node)
+    (own_item_rule (above p) (own_of p)) ∷ [])
+
+-- each of these nodes goes
+abbrev pub all_gone : Steps → Nodes → Steps
+all_gone steps nodes = fold (λ s e. with_step s e.0 None) steps nodes
+
+-- the node at p goes, with all below it
+abbrev pub remove_made : List TypeDef → View → Steps → Path → Result Steps Refusal
+remove_made types view steps p = at_place view steps p (λ node.
+    unless_refused (remove_refusal types view steps p node) (Ok (all_gone steps (view.below p))))
+
+-- where what stands at r comes to stand, when the node at p moves to q
+abbrev pub moved_path : Path → Path → Path → Path
+moved_path p q r = q ++ drop (length p) r
+
+-- the limit that the first of the moved paths passes that passes one
+abbrev pub moved_limit : Path → Path → Nodes → Option Refusal
+moved_limit p q nodes = first_some (map (λ e. limit_refusal (moved_path p q e.0)) nodes)
+
+-- there is no node at p
+abbrev pub absent : View → Steps → Path → Option Refusal
+absent view steps p = when (is_none (drafted view steps p)) (no_item p)
+
+-- why the paths of a move don't do: their limits, and the repository's own nodes
+abbrev pub ends_refusal : Path → Path → Option Refusal
+ends_refusal p q =
+    first_some (limit_refusal p ∷ limit_refusal q ∷ in_system p ∷ in_system q ∷ [])
+
+-- why a node may not be moved there: there is none, there is no node above, the place is taken, or
+-- it is below the node itself
+abbrev pub stand_refusal : View → Steps → Path → Path → Option Refusal
+stand_refusal view steps p q = first_some (absent view steps p ∷ absent view steps (above q)
+    ∷ when (is_some (drafted view steps q)) (taken q) ∷ when (is_under q p) (own_rule q) ∷ [])
+
+-- why the node at p may not be moved to q
+abbrev pub move_refusal : View → Steps → Path → Path → Option Refusal
+move_refusal view steps p q = first_some (ends_refusal p q
+    ∷ stand_refusal view steps p q ∷ moved_limit p q (view.below p) ∷ [])
+
+-- a node goes from its place and stands at its new one, as it was
+abbrev pub with_moved : Path → Path → Steps → Path × Node → Steps
+with_moved p q steps e =
+    with_step (with_step steps e.0 None) (moved_path p q e.0) (Some e.1)
+
+-- each of these nodes goes and stands at its new place
+abbrev pub all_moved : Path → Path → Steps → Nodes → Steps
+all_moved p q steps nodes = fold (with_moved p q) steps nodes
+
+-- the node at p moves to q, with all below it
+abbrev pub move_made : View → Steps → Path → Path → Result Steps Refusal
+move_made view steps p q =
+    unless_refused (move_refusal view steps p q) (Ok (all_moved p q steps (view.below p)))
+
+-- what is asked of a node whose place among its parent's children is to change
+abbrev pub order_place : View → Steps → Path → Option Refusal
+order_place view steps p = first_some (path_refusal p ∷ when (is_empty p) (own_rule p)
+    ∷ absent view steps p ∷ [])
+
+-- a child has that name
+abbrev pub is_child_named : ChildNames → Name → Bool
+is_child_named children n = list_any (λ e. same_name n e.0) children
+
+-- no child has the name that another is to go before
+abbrev pub no_child_before : Path → ChildNames → Option Name → Option Refusal
+no_child_before p children None = None
+no_child_before p children (Some b) =
+    when (cond (is_child_named children b) false true) (no_item (p ++ b ∷ []))
+
+-- a node whose children have this order, with the child n before another
+abbrev pub node_ordered : List TypeDef → ChildNames → Name → Option Name → Node → Node
+node_ordered types children n before node =
+    with_property node child_order (listing (moved_before n before (ordered types node children)))
+
+-- the node above p with a new order of its children; its types must order them, and the other must
+-- be a child
+abbrev pub parent_ordered : List TypeDef → View → Path → Option Name → Option Node → Result Node Refusal
+parent_ordered types view p before None = Err (unsupported (codes "orderBefore"))
+parent_ordered types view p before (Some node) =
+    unless_refused (first_some (
+    when (cond (are_ordered (node_types types node)) false true) (unsupported (codes "orderBefore"))
+    ∷ no_child_before (above p) (view.children (above p)) before ∷ []))
+    (Ok (node_ordered types (view.children (above p)) (own_of p) before node))
+
+-- the node at p goes before another in the order of its parent's children, or to the end
+abbrev pub order_made : List TypeDef → View → Steps → Path → Option Name → Result Steps Refusal
+order_made types view steps p before =
+    putting steps (above p) (unless_refused (order_place view steps p)
+    (parent_ordered types view p before (drafted view steps (above p))))
