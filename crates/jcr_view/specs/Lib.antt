@@ -1,3 +1,4 @@
 pub mod Needs
+pub mod Outcomes
 pub mod Reading
 pub mod Rebases

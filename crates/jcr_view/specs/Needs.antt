@@ -1,5 +1,5 @@
 -- What has to be known of the tree at the base before a command is made.
-use Rattle.std.specs.Prelude.{◌≡◌, ◌×◌, ◌⊎◌, ◌++◌, ¬, ℕ, Bool, true, false, List, [], ◌∷◌, Option, None, Some, option_and_then}
+use Rattle.std.specs.Prelude.{◌≡◌, ◌⊎◌, ◌++◌, ℕ, Bool, true, false, List, [], ◌∷◌, Option, None, Some, option_and_then}
 use Rattle.std.specs.List.{flat_map}
 use Rattle.std.specs.Option.{option_map_or}
 use Rattle.jr_path.specs.Grammar.{IsName}
@@ -43,7 +43,7 @@ IdentifiedNeeds p (Some id) needs =
 -- to become versionable a node must be known, with what is below it, and the history that it has by its identifier
 abbrev pub VersionableNeeds : (known : Option (Option Node)) → Path → Option (List ℕ) → List Need → Type 0
 VersionableNeeds None p id needs = needs ≡ need.Node p ∷ []
-VersionableNeeds (Some node) p id needs = IdentifiedNeeds p id needs
+VersionableNeeds (Some known) p id needs = IdentifiedNeeds p id needs
 
 -- what a mixin on the node at p asks for, as it is `mix:versionable` or another
 abbrev pub MixinNeeds : (versionable : Bool) → Knowledge → Changed → Path → List Need → Type 0

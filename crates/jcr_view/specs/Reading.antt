@@ -1,8 +1,9 @@
 -- What reading commands answer of a view.
-use Rattle.std.specs.Prelude.{◌≡◌, ¬, List, [], ◌∷◌, Option, None, Some, Result, Ok, Err, codes, option_and_then, ℕ}
+use Rattle.std.specs.Prelude.{◌≡◌, List, [], ◌∷◌, Option, None, Some, Result, Ok, Err, codes, option_and_then, ℕ}
 use Rattle.std.specs.Option.{option_map_or, unwrap_or}
 use Rattle.std.specs.String.{string_bytes}
-use Rattle.std.specs.declared.String.{String}
+use Rattle.std.specs.declared.alloc.Global.{Global}
+use Rattle.std.specs.declared.string.String.{String}
 use Rattle.jr_path.specs.Ids.{path_text}
 use Rattle.jr_path.specs.Names.{last_name, parent_of}
 use Rattle.jr_path.specs.declared.path.Path.{Path}
@@ -32,7 +33,7 @@ refused_or None a = a
 refused_or (Some r) a = refused r
 
 -- the text is that of the answer, or the answer is the refusal, unless memory was refused
-abbrev pub Replies : Answer → Result String Refusal → Type 0
+abbrev pub Replies : Answer → Result (String Global) Refusal → Type 0
 Replies a (Ok text) = string_bytes text ≡ answer_text a
 Replies a (Err r) = ¬ (r ≡ out_of_memory) → a ≡ refused r
 

@@ -3,5 +3,9 @@
 #![tactic(auto)]
 
 mod needs;
+mod pending;
 mod reading;
 mod rebase;
+mod writing;
+
+pub use pending::Pending;

@@ -1,5 +1,5 @@
 // What reading commands answer of a view.
-ghost use Rattle.std.specs.Prelude.{◌≡◌, ¬, [], None, Some, Ok, Err, IfErr, IfOk, OnErr, OnOk};
+ghost use Rattle.std.specs.Prelude.{◌≡◌, [], None, Some, Ok, Err, IfErr, IfOk, OnErr, OnOk};
 ghost use Rattle.std.specs.Option.{option_copied, option_map_or};
 ghost use Rattle.std.specs.String.{string_bytes};
 ghost use Rattle.jr_path.specs.Ids.{path_text};
@@ -31,9 +31,7 @@ use std::alloc::{AllocError, Global};
 
 /// The text of a reply, or want of memory.
 pub(crate) fn replied(alloc: Global, text: Result<String, AllocError>) -> Result<String, Refusal>
-    ensures ok { IfOk text (λ made. result ≡ Ok made) }
-    ensures err { OnErr text (IfErr result (λ refusal. refusal ≡ out_of_memory)) }
-    ensures failed { OnErr text (OnOk result ⊥) }
+    ensures { (a : Answer) → IfOk text (λ made. string_bytes made ≡ answer_text a) → Replies a result }
 {
     match text {
         Ok(text) => Ok(text),

@@ -1,10 +1,12 @@
 // Pending changes made again on another tree.
-ghost use Rattle.std.specs.Prelude.{◌≡◌, [], IfOk, OnOk, option_map};
+ghost use Rattle.std.specs.Prelude.{◌≡◌, [], IfOk, OnOk, map, option_map};
+ghost use Rattle.std.specs.Map.Iter.{deref_pair};
 ghost use Rattle.jr_overlay.specs.Drafts.{in_draft};
 ghost use Rattle.jr_overlay.specs.Overlays.{known_view, sighted};
 ghost use Rattle.jr_tree.specs.declared.edit.Write.TheVariants.{Here, Gone, Put, Unset};
 ghost use Rattle.jcr_view.specs.Rebases.{again, rebased, steps_again};
 ghost use Rattle.jcr_write.specs.Places.{with_property, without_property};
+ghost use Rattle.jcr_write.specs.Writes.{all_gone};
 
 use jcr_write::{above, with_property, without_property};
 use jr_overlay::{Draft, Overlay, Sight};
@@ -75,7 +77,15 @@ fn go(draft: &mut Draft<'_>, path: &Path) -> Result<(), AllocError>
         ≡ again (sighted draft.old.sight) draft.old.steps (Gone path.now)) }
 {
     let nodes = draft.sight().below(path)?;
-    for (at, _) in &nodes {
+    put_all_gone(draft, &nodes)
+}
+
+// Each of these nodes goes.
+fn put_all_gone(draft: &mut Draft<'_>, nodes: &[(&Path, &Node)]) -> Result<(), AllocError>
+    ensures sight { draft.new.sight ≡ draft.old.sight }
+    ensures ok { OnOk result (draft.new.steps ≡ all_gone draft.old.steps (map deref_pair nodes.now)) }
+{
+    for (at, _) in nodes {
         draft.put(at, None)?;
     }
     Ok(())
