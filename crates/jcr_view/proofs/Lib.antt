@@ -1,3 +1,4 @@
 mod Drawn
+mod Fresh
 mod Replied
 mod Whole
