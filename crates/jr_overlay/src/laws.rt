@@ -1,0 +1,81 @@
+// Laws of views.
+ghost use Rattle.std.specs.Prelude.{◌≡◌, [], Option, None, IsTrue, is_some};
+ghost use Rattle.std.specs.FinMap.{is_sorted};
+ghost use Rattle.jr_path.specs.Names.{is_under, path_cmp};
+ghost use Rattle.jr_path.specs.declared.path.Path.{Path};
+ghost use Rattle.jr_tree.specs.Trees.{IsTree, Nodes, dated_children_of, node_at, subtree_of};
+ghost use Rattle.jr_tree.specs.Edits.{IsProper, changes};
+ghost use Rattle.jr_part.specs.declared.need.Need.TheVariants as need;
+ghost use Rattle.jr_part.specs.Parts.{AgreesWith, Knowledge, LacksNothing, list_at};
+ghost use Rattle.jr_overlay.specs.Overlays.{AreOver, Changed, base_at, edit_of, known_view, seen, view_of, whole_view};
+ghost use Rattle.jr_overlay.specs.Drafts.{Steps, stepped, with_steps};
+ghost use Rattle.jr_overlay.specs.Views.{KeepTree, is_known, step_at};
+
+/// The view has at each path what was changed there, or else what the tree has, and its paths are in
+/// order.
+pub fn views_show_changes()
+    ensures nodes { (t : Nodes) (c : Changed) → IsTrue (is_sorted path_cmp t)
+        → IsTrue (is_sorted path_cmp c) → (p : Path) → node_at (view_of t c) p ≡ seen t c p }
+    ensures order { (t : Nodes) (c : Changed) → IsTrue (is_sorted path_cmp t)
+        → IsTrue (is_sorted path_cmp (view_of t c)) }
+{}
+
+/// Where nothing is touched the view is the tree, and there is nothing to write.
+pub fn views_begin()
+    ensures over { (t : Nodes) → AreOver t [] }
+    ensures view { (t : Nodes) → view_of t [] ≡ t }
+    ensures edit { edit_of [] ≡ [] }
+{}
+
+/// Where what stands at a path is known, the changes have there what the tree has.
+pub fn known_bases_agree()
+    ensures { (t : Nodes) (k : Knowledge) (c : Changed) (p : Path) → AgreesWith t k → AreOver t c
+        → IsTrue (is_known k c p) → base_at k.nodes c p ≡ node_at t p }
+{}
+
+/// Steps that count make of the view what they make of a tree, where the base is known at each of
+/// them.
+pub fn commits_step_views()
+    ensures over { (t : Nodes) (known : Nodes) (c : Changed) (steps : Steps) → AreOver t c
+        → ((p : Path) → IsTrue (is_some (step_at steps p)) → base_at known c p ≡ node_at t p)
+        → AreOver t (with_steps known c steps) }
+    ensures view { (t : Nodes) (known : Nodes) (c : Changed) (steps : Steps) → IsTree t
+        → AreOver t c
+        → ((p : Path) → IsTrue (is_some (step_at steps p)) → base_at known c p ≡ node_at t p)
+        → view_of t (with_steps known c steps) ≡ stepped t (view_of t c) steps }
+{}
+
+/// What is read of a view of which so much is known is what is read of the whole view: a node where
+/// it is known, the children of a node whose list is known or that the tree lacks, and a subtree of
+/// which nothing lacks.
+pub fn known_views_agree()
+    ensures node { (t : Nodes) (k : Knowledge) (c : Changed) (p : Path) → IsTree t
+        → AgreesWith t k → AreOver t c → IsTrue (is_known k c p)
+        → (known_view k c).node p ≡ (whole_view (view_of t c)).node p }
+    ensures children { (t : Nodes) (k : Knowledge) (c : Changed) (p : Path) → IsTree t
+        → AgreesWith t k
+        → (IsTrue (is_some (node_at t p)) → IsTrue (is_some (list_at k p)))
+        → (known_view k c).children p ≡ (whole_view (view_of t c)).children p }
+    ensures below { (t : Nodes) (k : Knowledge) (c : Changed) (p : Path) → IsTree t
+        → IsTrue (is_sorted path_cmp k.nodes) → AgreesWith t k → AreOver t c
+        → LacksNothing k (need.Subtree p)
+        → (known_view k c).below p ≡ (whole_view (view_of t c)).below p }
+    ensures nodes_below { (t : Nodes) (k : Knowledge) (c : Changed) (p q : Path) → IsTree t
+        → IsTrue (is_sorted path_cmp k.nodes) → AgreesWith t k → AreOver t c
+        → LacksNothing k (need.Subtree p) → IsTrue (is_under q p)
+        → (known_view k c).node q ≡ (whole_view (view_of t c)).node q }
+{}
+
+/// The edit of the changes holds the changes from the tree to the view, and is proper.
+pub fn edits_are_the_changes()
+    ensures exact { (t : Nodes) (c : Changed) → IsTree t → AreOver t c → IsTree (view_of t c)
+        → edit_of c ≡ changes t (view_of t c) }
+    ensures proper { (t : Nodes) (c : Changed) → IsTree t → AreOver t c → IsTree (view_of t c)
+        → IsProper t (edit_of c) }
+{}
+
+/// A tree with steps made that keep it is a tree.
+pub fn steps_keep_trees()
+    ensures { (t v : Nodes) (steps : Steps) → IsTree v → KeepTree (whole_view v) steps
+        → IsTree (stepped t v steps) }
+{}
