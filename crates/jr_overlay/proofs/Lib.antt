@@ -1,2 +1,4 @@
+pub mod Below
+pub mod Children
 pub mod Commits
 pub mod Views
