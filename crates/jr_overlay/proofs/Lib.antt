@@ -1,4 +1,5 @@
 pub mod Below
 pub mod Children
 pub mod Commits
+pub mod EditsOf
 pub mod Views
