@@ -16,7 +16,8 @@ use Rattle.jr_part.specs.declared.need.Need.TheVariants as need
 use Rattle.jr_part.specs.Parts.{AgreesWith, Knowledge, LacksNothing}
 use Rattle.jr_part.proofs.Whole.{subtree_whole}
 use Rattle.jr_overlay.specs.declared.overlay.Change.{Change}
-use Rattle.jr_overlay.specs.Overlays.{AreOver, Changed, change_at, seen, view_of}
+use Rattle.jr_overlay.specs.Overlays.{AreOver, Changed, base_at, change_at, seen, view_of}
+use Rattle.jr_overlay.proofs.Commits.{touched_base}
 use Rattle.jr_overlay.proofs.Views.{node_at-view, sorted-view}
 
 pub at_under : (p q : Path) (t : Nodes) → node_at (subtree_of t p) q ≡ cond (is_under q p) (node_at t q) None
@@ -29,6 +30,13 @@ module _ (t : Nodes) (tree : IsTree t) (k : Knowledge) (sorted : is_sorted path_
       ∙ (sym (at_under p q k.nodes)
       ∙ (ap (λ (es : Nodes). node_at es q) (subtree_whole t tree k agrees p nothing sorted)
       ∙ (at_under p q t ∙ ap (λ b. cond b (node_at t q) None) under)))
+
+  pub base_under : (c : Changed) → AreOver t c → (q : Path) → is_under q p ≡ true → base_at k.nodes c q ≡ node_at t q
+  base_under c over q under = by (change_at c q) refl
+    where
+      by : (o : Option Change) → change_at c q ≡ o → base_at k.nodes c q ≡ node_at t q
+      by (Some x) is = touched_base t k.nodes c over q x is
+      by None is = ap (λ (o : Option Change). option_map_or (λ x. x.old) o (node_at k.nodes q)) is ∙ known_under q under
 
   pub seen_under : (c : Changed) (q : Path) → is_under q p ≡ true → seen k.nodes c q ≡ seen t c q
   seen_under c q under = ap (λ (o : Option Node). option_map_or (λ x. x.new) (change_at c q) o) (known_under q under)

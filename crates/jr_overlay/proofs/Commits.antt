@@ -1,10 +1,7 @@
 -- Steps that count make of the view what they make of a tree.
-use Rattle.std.proofs.Common.{◌≡◌, Bool, true, false, cond, ◌||◌, Some, None, Option, List, [], ◌∷◌, is_some, refl, sym, ap, ◌∙◌, subst}
+use Rattle.std.proofs.Common.{◌≡◌, ◌⊎◌, inl, inr, Bool, true, false, cond, ◌||◌, Some, None, Option, [], ◌∷◌, is_some, refl, sym, ap, ◌∙◌, subst}
 use Rattle.std.specs.Option.{option_map, option_map_or, unwrap_or}
 use Rattle.std.specs.Ordering.{eq_by_cmp, is_eq}
-use Rattle.std.specs.Map.{lookup}
-use Rattle.std.specs.BTreeMap.{is_at}
-use Rattle.std.specs.FinMap.{is_sorted}
 use Rattle.std.proofs.lemmas.Cmp.{tied_itself}
 use mathlib.Core.Bool.{false≢true}
 use Rattle.jr_path.specs.Names.{path_cmp}
@@ -126,3 +123,39 @@ module _ (t known : Nodes) where
   view_steps c (e ∷ steps) s over based =
       view_steps (with_change known c e) steps s (over_step c e (based_first c e steps based) over) (based_rest c e steps based)
       ∙ ap (λ (v : Nodes). stepped t v steps) (view_step c e (based_first c e steps based) s over)
+
+-- ---- what is known stays known, and so is what was stepped
+
+module _ (k : Knowledge) where
+  stays_known : (c : Changed) (e : Path × Option Node) (p : Path) → is_known k c p ≡ true → is_known k (with_change k.nodes c e) p ≡ true
+  stays_known c e p known = ap (λ (o : Option Change). is_some o || is_some (known_at k p)) (lookup-insert_entry path_cmp path_total p e.0 _ c) ∙ by (eq_by_cmp path_cmp p e.0)
+    where
+      by : (b : Bool) → (is_some (cond b (Some (record { old = base_at k.nodes c e.0; new = option_map (dated_as (base_at k.nodes c e.0)) e.1 })) (change_at c p)) || is_some (known_at k p)) ≡ true
+      by true = refl
+      by false = known
+
+  comes_known : (c : Changed) (e : Path × Option Node) (p : Path) → eq_by_cmp path_cmp p e.0 ≡ true → is_known k (with_change k.nodes c e) p ≡ true
+  comes_known c e p here =
+      ap (λ (o : Option Change). is_some o || is_some (known_at k p)) (lookup-insert_entry path_cmp path_total p e.0 _ c)
+      ∙ ap (λ b. is_some (cond b (Some (record { old = base_at k.nodes c e.0; new = option_map (dated_as (base_at k.nodes c e.0)) e.1 })) (change_at c p)) || is_some (known_at k p)) here
+
+  stay_known : (c : Changed) (steps : Steps) (p : Path) → is_known k c p ≡ true → is_known k (with_steps k.nodes c steps) p ≡ true
+  stay_known c [] p known = known
+  stay_known c (e ∷ steps) p known = stay_known (with_change k.nodes c e) steps p (stays_known c e p known)
+
+  either_way : (a b : Bool) → (a || b) ≡ true → (a ≡ true) ⊎ (b ≡ true)
+  either_way true b h = inl refl
+  either_way false b h = inr h
+
+  come_known : (c : Changed) (steps : Steps) (p : Path) → is_some (step_at steps p) ≡ true → is_known k (with_steps k.nodes c steps) p ≡ true
+  come_known c [] p h = absurd (false≢true h)
+  come_known c (e ∷ steps) p h = by (eq_by_cmp path_cmp p e.0) refl h (come_known (with_change k.nodes c e) steps p)
+    where
+      by : (b : Bool) → eq_by_cmp path_cmp p e.0 ≡ b → is_some (cond b (Some e.1) (step_at steps p)) ≡ true
+          → (is_some (step_at steps p) ≡ true → is_known k (with_steps k.nodes (with_change k.nodes c e) steps) p ≡ true)
+          → is_known k (with_steps k.nodes (with_change k.nodes c e) steps) p ≡ true
+      by true here is rest = stay_known (with_change k.nodes c e) steps p (comes_known c e p here)
+      by false here is rest = rest is
+
+  pub known_steps : (c : Changed) (steps : Steps) (p : Path) → (is_known k c p || is_some (step_at steps p)) ≡ true → is_known k (with_steps k.nodes c steps) p ≡ true
+  known_steps c steps p h = elim (either_way (is_known k c p) (is_some (step_at steps p)) h) [ inl known ↦ stay_known c steps p known | inr is ↦ come_known c steps p is ]

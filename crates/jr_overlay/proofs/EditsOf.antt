@@ -23,7 +23,7 @@ use Rattle.jr_tree.specs.declared.tree.Node.{Node}
 use Rattle.jr_tree.specs.declared.edit.Write.{Write}
 use Rattle.jr_tree.specs.declared.edit.Write.TheVariants.{Here, Put, Unset}
 use Rattle.jr_tree.specs.Trees.{IsTree, Nodes, node_at}
-use Rattle.jr_tree.specs.Edits.{changes, properties_at, property_changes, taking, IsProper}
+use Rattle.jr_tree.specs.Edits.{changes, property_changes, taking, IsProper}
 use Rattle.jr_tree.specs.Changes.{node_changes, nodes_changed, nodes_taken, put_changed, with_writes}
 use Rattle.jr_tree.proofs.Entries.{both, exactly, first, none_below, same_lists, second, sorted_filter}
 use Rattle.jr_tree.proofs.Pointwise.{same_path}

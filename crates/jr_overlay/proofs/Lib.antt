@@ -2,4 +2,5 @@ pub mod Below
 pub mod Children
 pub mod Commits
 pub mod EditsOf
+pub mod KeptTrees
 pub mod Views

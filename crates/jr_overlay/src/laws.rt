@@ -1,5 +1,5 @@
 // Laws of views.
-ghost use Rattle.std.specs.Prelude.{◌≡◌, [], Option, None, IsTrue, is_some};
+ghost use Rattle.std.specs.Prelude.{◌≡◌, ◌||◌, [], Option, None, IsTrue, is_some};
 ghost use Rattle.std.specs.FinMap.{is_sorted};
 ghost use Rattle.jr_path.specs.Names.{is_under, path_cmp};
 ghost use Rattle.jr_path.specs.declared.path.Path.{Path};
@@ -27,22 +27,35 @@ pub fn views_begin()
     ensures edit { edit_of [] ≡ [] }
 {}
 
-/// Where what stands at a path is known, the changes have there what the tree has.
+/// Where what stands at a path is known, or nothing lacks of a subtree that it is in, the base there
+/// is what the tree has.
 pub fn known_bases_agree()
-    ensures { (t : Nodes) (k : Knowledge) (c : Changed) (p : Path) → AgreesWith t k → AreOver t c
-        → IsTrue (is_known k c p) → base_at k.nodes c p ≡ node_at t p }
+    ensures node { (t : Nodes) (k : Knowledge) (c : Changed) (p : Path) → AgreesWith t k
+        → AreOver t c → IsTrue (is_known k c p) → base_at k.nodes c p ≡ node_at t p }
+    ensures below { (t : Nodes) (k : Knowledge) (c : Changed) (p q : Path) → IsTree t
+        → IsTrue (is_sorted path_cmp k.nodes) → AgreesWith t k → AreOver t c
+        → LacksNothing k (need.Subtree p) → IsTrue (is_under q p)
+        → base_at k.nodes c q ≡ node_at t q }
 {}
 
 /// Steps that count make of the view what they make of a tree, where the base is known at each of
-/// them.
+/// them. So the view stays a tree where they keep one.
 pub fn commits_step_views()
     ensures over { (t : Nodes) (known : Nodes) (c : Changed) (steps : Steps) → AreOver t c
         → ((p : Path) → IsTrue (is_some (step_at steps p)) → base_at known c p ≡ node_at t p)
         → AreOver t (with_steps known c steps) }
-    ensures view { (t : Nodes) (known : Nodes) (c : Changed) (steps : Steps) → IsTree t
-        → AreOver t c
+    ensures view { (t : Nodes) (known : Nodes) (c : Changed) (steps : Steps)
+        → IsTrue (is_sorted path_cmp t) → AreOver t c
         → ((p : Path) → IsTrue (is_some (step_at steps p)) → base_at known c p ≡ node_at t p)
         → view_of t (with_steps known c steps) ≡ stepped t (view_of t c) steps }
+    ensures tree { (t : Nodes) (known : Nodes) (c : Changed) (steps : Steps)
+        → IsTrue (is_sorted path_cmp t) → AreOver t c
+        → ((p : Path) → IsTrue (is_some (step_at steps p)) → base_at known c p ≡ node_at t p)
+        → IsTree (view_of t c) → KeepTree (whole_view (view_of t c)) steps
+        → IsTree (view_of t (with_steps known c steps)) }
+    ensures known { (k : Knowledge) (c : Changed) (steps : Steps) (p : Path)
+        → IsTrue (is_known k c p || is_some (step_at steps p))
+        → IsTrue (is_known k (with_steps k.nodes c steps) p) }
 {}
 
 /// What is read of a view of which so much is known is what is read of the whole view: a node where

@@ -9,8 +9,8 @@ mod sight;
 
 pub use draft::Draft;
 pub use laws::{
-    commits_step_views, edits_are_the_changes, known_bases_agree, known_views_agree, steps_keep_trees,
-    views_begin, views_show_changes,
+    commits_step_views, edits_are_the_changes, known_bases_agree, known_views_agree,
+    steps_keep_trees, views_begin, views_show_changes,
 };
 pub use overlay::{Change, Overlay};
 pub use sight::Sight;
