@@ -9,7 +9,6 @@ use Rattle.jr_path.specs.declared.path.Path.{Path}
 use Rattle.jr_path.proofs.Maps.{path_exact, path_total}
 use Rattle.jr_tree.specs.declared.tree.Node.{Node}
 use Rattle.jr_tree.specs.Trees.{IsTree, Nodes, node_at, subtree_of}
-use Rattle.jr_tree.proofs.AtPath.{InOrder}
 use Rattle.jr_tree.proofs.Entries.{same_lists, sorted_filter}
 use Rattle.jr_tree.proofs.Pointwise.{same_path}
 use Rattle.jr_part.specs.declared.need.Need.TheVariants as need

@@ -1,5 +1,5 @@
 -- The children of a node in a view: those of the tree, with each change of a child.
-use Rattle.std.proofs.Common.{◌≡◌, ◌⊎◌, inl, inr, Bool, true, false, cond, Some, None, Option, List, [], ◌∷◌, ◌++◌, is_some, refl, sym, ap, ◌∙◌, subst}
+use Rattle.std.proofs.Common.{◌≡◌, ◌⊎◌, inl, inr, Bool, true, false, cond, Some, None, Option, [], ◌∷◌, ◌++◌, is_some, refl, sym, ap, ◌∙◌}
 use Rattle.std.specs.declared.cmp.Ordering.{Ordering}
 use Rattle.std.specs.declared.cmp.Ordering.TheVariants.{Less, Equal, Greater}
 use Rattle.std.specs.Option.{option_map, option_map_or, unwrap_or}
@@ -10,7 +10,7 @@ use Rattle.std.specs.FinMap.{is_sorted}
 use Rattle.std.specs.List.{cons_option, fold, list_all}
 use Rattle.std.proofs.lemmas.Cmp.{eq_by_cmp_equiv, nat_list_cmp_total}
 use mathlib.Core.Bool.{false≢true}
-use Rattle.jr_path.specs.Names.{last_name, name_cmp, parent_of, path_cmp}
+use Rattle.jr_path.specs.Names.{last_name, name_cmp, path_cmp}
 use Rattle.jr_path.specs.declared.name.Name.{Name}
 use Rattle.jr_path.specs.declared.path.Path.{Path}
 use Rattle.jr_path.proofs.Maps.{name_exact, path_total, lookup-insert_entry}
@@ -30,7 +30,7 @@ use Rattle.jr_overlay.proofs.Views.{node_at-with, sorted-with}
 
 -- ---- paths of children
 
-ends : (q : Path) → (q ≡ []) ⊎ ((above : Path) × (n : Name) × (q ≡ above ++ n ∷ []))
+pub ends : (q : Path) → (q ≡ []) ⊎ ((above : Path) × (n : Name) × (q ≡ above ++ n ∷ []))
 ends [] = inl refl
 ends (m ∷ q) = by (ends q)
   where

@@ -3,12 +3,14 @@ use Rattle.std.specs.Prelude.{◌≡◌, Bool, ◌||◌, [], Option, None, Some,
 use Rattle.std.specs.Map.{lookup}
 use Rattle.std.specs.BTreeMap.{is_at}
 use Rattle.std.specs.FinMap.{is_sorted}
+use Rattle.std.specs.List.{fold}
 use Rattle.jr_path.specs.Names.{name_cmp, parent_of, path_cmp}
 use Rattle.jr_path.specs.declared.path.Path.{Path}
 use Rattle.jr_tree.specs.declared.tree.Node.{Node}
+use Rattle.jr_tree.specs.Trees.{Nodes}
 use Rattle.jr_part.specs.Parts.{Knowledge, known_at}
 use Rattle.jr_overlay.specs.Overlays.{Changed, View, change_at}
-use Rattle.jr_overlay.specs.Drafts.{Steps, drafted}
+use Rattle.jr_overlay.specs.Drafts.{Steps, drafted, with_step}
 
 -- what stands at p is known: a change touched it, or so much of the tree is known
 abbrev pub is_known : Knowledge → Changed → Path → Bool
@@ -30,3 +32,7 @@ pub record KeepTree (view : View) (steps : Steps) : Type 0 where
       → parent_of p ≡ Some q → IsTrue (is_some (drafted view steps q))
   pub below : (p q : Path) → step_at steps p ≡ Some None → parent_of q ≡ Some p
       → drafted view steps q ≡ None
+
+-- steps that take each of these nodes away
+abbrev pub all_gone : Steps → Nodes → Steps
+all_gone steps nodes = fold (λ s e. with_step s e.0 None) steps nodes

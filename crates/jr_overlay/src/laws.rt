@@ -1,15 +1,16 @@
 // Laws of views.
-ghost use Rattle.std.specs.Prelude.{◌≡◌, ◌||◌, [], Option, None, IsTrue, is_some};
+ghost use Rattle.std.specs.Prelude.{◌≡◌, ◌≢◌, ◌||◌, [], Option, None, Some, IsTrue, is_some};
 ghost use Rattle.std.specs.FinMap.{is_sorted};
-ghost use Rattle.jr_path.specs.Names.{is_under, path_cmp};
+ghost use Rattle.jr_path.specs.Names.{is_under, name_cmp, parent_of, path_cmp};
 ghost use Rattle.jr_path.specs.declared.path.Path.{Path};
+ghost use Rattle.jr_tree.specs.declared.tree.Node.{Node};
 ghost use Rattle.jr_tree.specs.Trees.{IsTree, Nodes, dated_children_of, node_at, subtree_of};
 ghost use Rattle.jr_tree.specs.Edits.{IsProper, changes};
 ghost use Rattle.jr_part.specs.declared.need.Need.TheVariants as need;
 ghost use Rattle.jr_part.specs.Parts.{AgreesWith, Knowledge, LacksNothing, list_at};
 ghost use Rattle.jr_overlay.specs.Overlays.{AreOver, Changed, base_at, edit_of, known_view, seen, view_of, whole_view};
-ghost use Rattle.jr_overlay.specs.Drafts.{Steps, stepped, with_steps};
-ghost use Rattle.jr_overlay.specs.Views.{KeepTree, is_known, step_at};
+ghost use Rattle.jr_overlay.specs.Drafts.{Steps, drafted, stepped, with_step, with_steps};
+ghost use Rattle.jr_overlay.specs.Views.{KeepTree, all_gone, is_known, step_at};
 
 /// The view has at each path what was changed there, or else what the tree has, and its paths are in
 /// order.
@@ -91,4 +92,27 @@ pub fn edits_are_the_changes()
 pub fn steps_keep_trees()
     ensures { (t v : Nodes) (steps : Steps) → IsTree v → KeepTree (whole_view v) steps
         → IsTree (stepped t v steps) }
+{}
+
+/// No steps keep a tree, and so do steps that keep it with one node more, whose names are in order and
+/// whose parent is there. After steps that keep a tree the names of each node are in order and each
+/// node's parent is there.
+pub fn puts_keep_trees()
+    ensures none { (v : Nodes) → IsTree v → KeepTree (whole_view v) [] }
+    ensures put { (v : Nodes) (steps : Steps) (p : Path) (node : Node)
+        → KeepTree (whole_view v) steps → IsTrue (is_sorted name_cmp node.props)
+        → ((q : Path) → parent_of p ≡ Some q → IsTrue (is_some (drafted (whole_view v) steps q)))
+        → KeepTree (whole_view v) (with_step steps p (Some node)) }
+    ensures names { (v : Nodes) (steps : Steps) (p : Path) (node : Node) → IsTree v
+        → KeepTree (whole_view v) steps → drafted (whole_view v) steps p ≡ Some node
+        → IsTrue (is_sorted name_cmp node.props) }
+    ensures parents { (v : Nodes) (steps : Steps) (p q : Path) → IsTree v
+        → KeepTree (whole_view v) steps → IsTrue (is_some (drafted (whole_view v) steps p))
+        → parent_of p ≡ Some q → IsTrue (is_some (drafted (whole_view v) steps q)) }
+{}
+
+/// A tree stays one where a node other than the root goes with all nodes below it.
+pub fn removals_keep_trees()
+    ensures { (v : Nodes) (p : Path) → IsTree v → p ≢ []
+        → KeepTree (whole_view v) (all_gone [] (subtree_of v p)) }
 {}
