@@ -93,10 +93,10 @@ below_parent q r up = by (ends q)
         let same : s.0 ≡ r = ap (λ (o : Option Path). unwrap_or o s.0) (sym (parent_of-child s.0 s.1) ∙ (ap parent_of (sym s.2) ∙ up)) in
         (s.1, s.2 ∙ ap (λ (x : Path). x ++ s.1 ∷ []) same)
 
-pub under_one_more : (r p : Path) (n : Name) → is_under r p ≡ true → is_under (r ++ n ∷ []) p ≡ true
-under_one_more r p n h =
+pub under_more : (r p k : Path) → is_under r p ≡ true → is_under (r ++ k) p ≡ true
+under_more r p k h =
     let b = (below_is_prefix r p).0 h in
-    (below_is_prefix (r ++ n ∷ []) p).1 (b.0 ++ n ∷ [], ap (λ (x : Path). x ++ n ∷ []) b.1 ∙ append_assoc p b.0 (n ∷ []))
+    (below_is_prefix (r ++ k) p).1 (b.0 ++ k, ap (λ (x : Path). x ++ k) b.1 ∙ append_assoc p b.0 k)
 
 root_apart : (p : Path) → (p ≡ [] → ⊥) → is_under [] p ≡ false
 root_apart [] h = absurd (h refl)
@@ -160,6 +160,6 @@ module _ (v : Nodes) (tree : IsTree v) (p : Path) (below_root : p ≡ [] → ⊥
     above = λ q r node is up. absurd (no_put q node is);
     below = λ r q is up.
         let b = below_parent q r up in
-        let under : is_under q p ≡ true = ap (λ (x : Path). is_under x p) b.1 ∙ under_one_more r p b.0 (under_away r is) in
+        let under : is_under q p ≡ true = ap (λ (x : Path). is_under x p) b.1 ∙ under_more r p (b.0 ∷ []) (under_away r is) in
         after_away q ∙ ap (λ b. cond b None (node_at v q)) under;
   }

@@ -4,4 +4,5 @@ pub mod Commits
 pub mod EditsOf
 pub mod KeepingSteps
 pub mod KeptTrees
+pub mod Moves
 pub mod Views

@@ -1,5 +1,6 @@
 -- Views of which a part is known, and what steps make a tree of a tree.
-use Rattle.std.specs.Prelude.{◌≡◌, Bool, ◌||◌, [], Option, None, Some, is_some, IsTrue}
+use Rattle.std.specs.Prelude.{◌≡◌, ◌++◌, Bool, ◌||◌, [], drop, length, IsTrue}
+use Rattle.std.specs.Prelude.{Option, None, Some, is_some}
 use Rattle.std.specs.Map.{lookup}
 use Rattle.std.specs.BTreeMap.{is_at}
 use Rattle.std.specs.FinMap.{is_sorted}
@@ -36,3 +37,16 @@ pub record KeepTree (view : View) (steps : Steps) : Type 0 where
 -- steps that take each of these nodes away
 abbrev pub all_gone : Steps → Nodes → Steps
 all_gone steps nodes = fold (λ s e. with_step s e.0 None) steps nodes
+
+-- where what stands at r comes to stand, when the node at p moves to q
+abbrev pub moved_path : Path → Path → Path → Path
+moved_path p q r = q ++ drop (length p) r
+
+-- steps that take a node from its place and put it at its new one, as it was
+abbrev pub with_moved : Path → Path → Steps → Path × Node → Steps
+with_moved p q steps e =
+    with_step (with_step steps e.0 None) (moved_path p q e.0) (Some e.1)
+
+-- steps that move each of these nodes so
+abbrev pub all_moved : Path → Path → Steps → Nodes → Steps
+all_moved p q steps nodes = fold (with_moved p q) steps nodes

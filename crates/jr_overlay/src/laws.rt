@@ -1,5 +1,6 @@
 // Laws of views.
-ghost use Rattle.std.specs.Prelude.{◌≡◌, ◌≢◌, ◌||◌, [], Option, None, Some, IsTrue, is_some};
+ghost use Rattle.std.specs.Prelude.{◌≡◌, ◌≢◌, ◌||◌, [], Option, None, Some, is_some};
+ghost use Rattle.std.specs.Prelude.{IsFalse, IsTrue};
 ghost use Rattle.std.specs.FinMap.{is_sorted};
 ghost use Rattle.jr_path.specs.Names.{is_under, name_cmp, parent_of, path_cmp};
 ghost use Rattle.jr_path.specs.declared.path.Path.{Path};
@@ -8,12 +9,13 @@ ghost use Rattle.jr_tree.specs.Trees.{IsTree, Nodes, dated_children_of, node_at,
 ghost use Rattle.jr_tree.specs.Edits.{IsProper, changes};
 ghost use Rattle.jr_part.specs.declared.need.Need.TheVariants as need;
 ghost use Rattle.jr_part.specs.Parts.{AgreesWith, Knowledge, LacksNothing, list_at};
-ghost use Rattle.jr_overlay.specs.Overlays.{AreOver, Changed, base_at, edit_of, known_view, seen, view_of, whole_view};
+ghost use Rattle.jr_overlay.specs.Overlays.{AreOver, Changed, base_at, edit_of};
+ghost use Rattle.jr_overlay.specs.Overlays.{known_view, seen, view_of, whole_view};
 ghost use Rattle.jr_overlay.specs.Drafts.{Steps, drafted, stepped, with_step, with_steps};
-ghost use Rattle.jr_overlay.specs.Views.{KeepTree, all_gone, is_known, step_at};
+ghost use Rattle.jr_overlay.specs.Views.{KeepTree, all_gone, all_moved, is_known, step_at};
 
-/// The view has at each path what was changed there, or else what the tree has, and its paths are in
-/// order.
+/// The view has at each path what was changed there, or else what the tree has, and its paths are
+/// in order.
 pub fn views_show_changes()
     ensures nodes { (t : Nodes) (c : Changed) → IsTrue (is_sorted path_cmp t)
         → IsTrue (is_sorted path_cmp c) → (p : Path) → node_at (view_of t c) p ≡ seen t c p }
@@ -28,8 +30,8 @@ pub fn views_begin()
     ensures edit { edit_of [] ≡ [] }
 {}
 
-/// Where what stands at a path is known, or nothing lacks of a subtree that it is in, the base there
-/// is what the tree has.
+/// Where what stands at a path is known, or nothing lacks of a subtree that it is in, the base
+/// there is what the tree has.
 pub fn known_bases_agree()
     ensures node { (t : Nodes) (k : Knowledge) (c : Changed) (p : Path) → AgreesWith t k
         → AreOver t c → IsTrue (is_known k c p) → base_at k.nodes c p ≡ node_at t p }
@@ -94,9 +96,9 @@ pub fn steps_keep_trees()
         → IsTree (stepped t v steps) }
 {}
 
-/// No steps keep a tree, and so do steps that keep it with one node more, whose names are in order and
-/// whose parent is there. After steps that keep a tree the names of each node are in order and each
-/// node's parent is there.
+/// No steps keep a tree, and so do steps that keep it with one node more, whose names are in order
+/// and whose parent is there. After steps that keep a tree the names of each node are in order and
+/// each node's parent is there.
 pub fn puts_keep_trees()
     ensures none { (v : Nodes) → IsTree v → KeepTree (whole_view v) [] }
     ensures put { (v : Nodes) (steps : Steps) (p : Path) (node : Node)
@@ -115,4 +117,13 @@ pub fn puts_keep_trees()
 pub fn removals_keep_trees()
     ensures { (v : Nodes) (p : Path) → IsTree v → p ≢ []
         → KeepTree (whole_view v) (all_gone [] (subtree_of v p)) }
+{}
+
+/// A tree stays one where a node moves, with all nodes below it, to a free place that has a parent
+/// and isn't below the node itself.
+pub fn moves_keep_trees()
+    ensures { (v : Nodes) (p q above : Path) → IsTree v → IsTrue (is_some (node_at v p))
+        → node_at v q ≡ None → parent_of q ≡ Some above → IsTrue (is_some (node_at v above))
+        → IsFalse (is_under q p)
+        → KeepTree (whole_view v) (all_moved p q [] (subtree_of v p)) }
 {}
