@@ -1,2 +1,3 @@
 pub mod Overlays
 pub mod Drafts
+pub mod Views

@@ -3,9 +3,15 @@
 #![tactic(auto)]
 
 mod draft;
+mod laws;
 mod overlay;
 mod sight;
 
 pub use draft::Draft;
+pub use laws::{
+    commits_step_views, edits_are_the_changes, known_bases_agree, known_views_agree,
+    moves_keep_trees, puts_keep_trees, removals_keep_trees, steps_keep_trees, views_begin,
+    views_show_changes,
+};
 pub use overlay::{Change, Overlay};
 pub use sight::Sight;
