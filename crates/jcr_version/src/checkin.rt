@@ -27,7 +27,9 @@ use crate::histories::{
     versions_of,
 };
 use crate::writes::{needed, push_adding, push_property};
-use jcr_ref::{MAX_IDS, identifier, identifier_number, identifiers_are_uuids, version_names};
+use jcr_ref::{
+    MAX_IDS, identifier, identifier_number, identifiers_are_uuids, latest_date, version_names,
+};
 use jr_items::{OwnName, is_flag, over_limit};
 use jr_path::{DeepCopy, Item, Keyed, List, Name, Path, Text};
 use jr_tree::{Datum, Edit, Node, Refusal, Tree, Who, Write};
