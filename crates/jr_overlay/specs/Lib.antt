@@ -1,2 +1,4 @@
 pub mod Overlays
 pub mod Drafts
+pub mod Merging
+pub mod Committing
