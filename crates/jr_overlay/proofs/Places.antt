@@ -1,16 +1,16 @@
 -- Each step's node moved into a place made before is each step's change, one after another.
-use Rattle.std.proofs.Common.{◌≡◌, Bool, true, false, cond, ◌&&◌, ◌||◌, List, [], ◌∷◌, Option, None, Some, ℕ, zero, suc, is_some, is_none, map, take, refl, sym, ap, ◌∙◌}
+use Rattle.std.proofs.Common.{◌≡◌, Bool, true, false, cond, ◌||◌, List, [], ◌∷◌, Option, None, Some, ℕ, zero, suc, is_some, is_none, map, take, refl, sym, ap, ◌∙◌}
 use Rattle.std.specs.declared.cmp.Ordering.{Ordering}
 use Rattle.std.specs.declared.cmp.Ordering.TheVariants.{Less, Equal, Greater}
 use Rattle.std.specs.Option.{option_map, option_map_or}
-use Rattle.std.specs.Ordering.{is_eq, is_lt, eq_by_cmp, match_ordering, ordering_reverse}
-use Rattle.std.specs.Map.{keys_of, lookup, remove_entry, set_value}
+use Rattle.std.specs.Ordering.{is_eq, eq_by_cmp, match_ordering, ordering_reverse}
+use Rattle.std.specs.Map.{keys_of, remove_entry, set_value}
 use Rattle.std.specs.BTreeMap.{is_at, insert_entry}
 use Rattle.std.specs.List.{filter, fold, list_any}
 use Rattle.std.specs.Cmp.{IsEquivalence}
 use Rattle.std.specs.FinMap.{is_sorted}
 use Rattle.std.specs.FinMap.Entries.{below_all}
-use Rattle.std.proofs.lemmas.Bool.{false≢true, false_from_ne_true, or_parts}
+use Rattle.std.proofs.lemmas.Bool.{false≢true, or_parts}
 use Rattle.std.proofs.lemmas.Cmp.{eq_by_cmp_equiv}
 use Rattle.jr_path.specs.Names.{path_cmp}
 use Rattle.jr_path.specs.declared.path.Path.{Path}
@@ -20,7 +20,7 @@ use Rattle.jr_tree.specs.Trees.{Nodes, node_at}
 use Rattle.jr_tree.proofs.Entries.{exactly, first, second, lookup-remove, none_below, same_lists, sorted_insert, sorted_remove}
 use Rattle.basics.proofs.Orders.{less_of}
 use Rattle.jr_overlay.specs.declared.overlay.Change.{Change}
-use Rattle.jr_overlay.specs.Overlays.{Changed, base_at, change_at, dated_as}
+use Rattle.jr_overlay.specs.Overlays.{Changed, change_at, dated_as}
 use Rattle.jr_overlay.specs.Drafts.{Steps, with_change, with_steps}
 use Rattle.jr_overlay.proofs.SideBySide.{below_of}
 use Rattle.jr_overlay.specs.Committing.{moved, place_at, untouched, with_moved, with_places, without_places}

@@ -1,16 +1,15 @@
 -- A view, made by going over the tree's nodes and the changes side by side.
-use Rattle.std.proofs.Common.{◌≡◌, Bool, true, false, cond, ◌&&◌, List, [], ◌∷◌, ◌++◌, Option, None, Some, ℕ, ◌+◌, ◌<◌, ◌≤◌, length, drop, get_or, map, refl, sym, ap, ◌∙◌, append_assoc, append-nil}
+use Rattle.std.proofs.Common.{◌≡◌, Bool, true, false, cond, List, [], ◌∷◌, ◌++◌, Option, None, Some, ℕ, ◌+◌, ◌-◌, ◌<◌, ◌≤◌, arith, length, drop, take, get_or, map, refl, sym, ap, ◌∙◌, append_assoc, append-nil}
 use Rattle.std.specs.declared.cmp.Ordering.{Ordering}
 use Rattle.std.specs.declared.cmp.Ordering.TheVariants.{Less, Equal, Greater}
-use Rattle.std.specs.Option.{option_map, option_to_list}
-use Rattle.std.specs.Ordering.{is_eq, is_lt, eq_by_cmp, match_ordering, ordering_reverse}
+use Rattle.std.specs.Ordering.{is_eq, is_lt, match_ordering, ordering_reverse}
 use Rattle.std.specs.Map.{remove_entry}
 use Rattle.std.specs.BTreeMap.{is_at, insert_entry}
 use Rattle.std.specs.List.{filter, list_all}
 use Rattle.std.specs.FinMap.{is_sorted}
 use Rattle.std.specs.FinMap.Entries.{below_all}
 use Rattle.std.proofs.lemmas.Bool.{false≢true, false_from_ne_true}
-use Rattle.std.proofs.lemmas.List.{drop_more, drop_all}
+use Rattle.std.proofs.lemmas.List.{drop-drop, drop_more, drop_all, length-drop, take_all}
 use Rattle.std.proofs.lemmas.List.Elements.{filter-append}
 use Rattle.jr_path.specs.Names.{path_cmp, is_under}
 use Rattle.jr_path.specs.declared.path.Path.{Path}
@@ -185,6 +184,17 @@ merge_goes_on t c found lent found' rest rest' more more' e so_far split front t
       changes = second _ _ at.changes;
     }
 
+-- the same, as the code goes over a list that is lent
+pub merge_on : {A : Type 0} (f : A → Path × Node) (t : Nodes) (c : Changed) (known sliced : List A) (from passed : ℕ) (found lent found' : Nodes) (more more' : Changed) (e : Path × Change) → IsMerge t c found (map f (drop from known)) more → more ≡ e ∷ more' → sliced ≡ drop from known
+    → lent ≡ found ++ before e.0 (map f sliced) → found' ≡ lent ++ node_there e.0 e.1.new → map f (drop passed sliced) ≡ behind e.0 (map f sliced) → IsMerge t c found' (map f (drop (from + passed) known)) more'
+merge_on f t c known sliced from passed found lent found' more more' e so_far split same front there back =
+    merge_goes_on t c found lent found' (map f (drop from known)) _ more more' e so_far split (front ∙ ap (λ (ks : List _). found ++ before e.0 (map f ks)) same) there
+    (sym (ap (map f) (drop-drop passed from known)) ∙ (ap (λ (ks : List _). map f (drop passed ks)) (sym same) ∙ (back ∙ ap (λ (ks : List _). behind e.0 (map f ks)) same)))
+
+-- what a slice from an index on has
+pub slice_from : {A : Type 0} (xs : List A) (i : ℕ) → take (length xs - i) (drop i xs) ≡ drop i xs
+slice_from xs i = take_all (length xs - i) (drop i xs) (omega (arith, length-drop i xs))
+
 pub merge_ends : (t : Nodes) (c : Changed) (found rest : Nodes) (more : Changed) (all : Nodes) → IsMerge t c found rest more → more ≡ [] → all ≡ found ++ rest → all ≡ view_of t c
 merge_ends t c found rest more all so_far none put =
     put ∙ (ap (λ (d : Changed). found ++ view_of rest d) (sym none) ∙ so_far.whole)
@@ -315,3 +325,22 @@ all_under (e ∷ c) = ap (λ (d : Changed). e ∷ d) (all_under c)
 pub all_nodes_under : (t : Nodes) → subtree_of t [] ≡ t
 all_nodes_under [] = refl
 all_nodes_under (e ∷ t) = ap (λ (u : Nodes). e ∷ u) (all_nodes_under t)
+
+-- ---- lists that are lent
+
+pub sorted_lent : {A X : Type 0} (f : A → Path × X) (xs ys : List A) (es : List (Path × X)) → xs ≡ ys → map f ys ≡ es → is_sorted path_cmp es ≡ true → is_sorted path_cmp (map f xs) ≡ true
+sorted_lent f xs ys es same all s = ap (λ (zs : List _). is_sorted path_cmp (map f zs)) same ∙ (ap (is_sorted path_cmp) all ∙ s)
+
+pub sorted_subtree : (t : Nodes) (p : Path) → is_sorted path_cmp t ≡ true → is_sorted path_cmp (subtree_of t p) ≡ true
+sorted_subtree t p s = sorted_filter path_cmp (λ e. is_under e.0 p) t s
+
+-- what was lent below p, with the changes there
+pub below_is : {A : Type 0} (f : A → Path × Node) (t : Nodes) (c : Changed) (p : Path) (xs ys : List A) → xs ≡ ys → map f ys ≡ subtree_of t p → is_sorted path_cmp t ≡ true → view_of (map f xs) (changes_under c p) ≡ subtree_of (view_of t c) p
+below_is f t c p xs ys same all s =
+    ap (λ (zs : List _). view_of (map f zs) (changes_under c p)) same
+    ∙ (ap (λ (u : Nodes). view_of u (changes_under c p)) all ∙ view_under t c p s)
+
+-- what was lent below the root, with all changes
+pub view_is : {A : Type 0} (f : A → Path × Node) (t : Nodes) (c : Changed) (root : Path) (xs ys zs ws : List A) → root ≡ [] → is_sorted path_cmp t ≡ true → xs ≡ ys → map f ys ≡ subtree_of t root → zs ≡ ws → map f ws ≡ view_of (map f xs) (changes_under c root) → map f zs ≡ view_of t c
+view_is f t c root xs ys zs ws top s same all same' found =
+    ap (map f) same' ∙ (found ∙ (below_is f t c root xs ys same all s ∙ (ap (subtree_of (view_of t c)) top ∙ all_nodes_under (view_of t c))))

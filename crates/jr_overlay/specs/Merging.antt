@@ -1,5 +1,5 @@
 -- Steps of reading a view: the touched nodes below a path, and a node in the place of a tree's.
-use Rattle.std.specs.Prelude.{List, [], Option}
+use Rattle.std.specs.Prelude.{Option}
 use Rattle.std.specs.Option.{option_map, option_map_or, option_to_list}
 use Rattle.std.specs.Ordering.{is_lt}
 use Rattle.std.specs.Map.{remove_entry}

@@ -16,8 +16,8 @@ use std::alloc::{AllocError, Global};
 
 type Steps = Keyed<Path, Option<Node>>;
 
-// Puts a change that keeps what is known at the base at each path of the steps that isn't touched yet. A refusal
-// leaves all as it was.
+// Puts a change that keeps what is known at the base at each path of the steps that isn't touched
+// yet. A refusal leaves all as it was.
 pub(crate) fn make_places(
     changes: &mut Keyed<Path, Change>,
     alloc: Global,

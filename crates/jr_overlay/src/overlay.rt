@@ -90,7 +90,8 @@ impl Overlay {
         copied(self.alloc, &found)
     }
 
-    // With the touched nodes at or below a path in the place of those that are known there, in path order, all lent.
+    // The touched nodes at or below a path in the place of those that are known there, in path
+    // order, all lent.
     pub(crate) fn below<'a>(
         &'a self,
         known: &[(&'a Path, &'a Node)],
@@ -104,7 +105,8 @@ impl Overlay {
         merged(self.alloc, known, &self.under(path)?)
     }
 
-    // The touched nodes at or below a path, lent, with their paths from the root, in path order. It looks only at these.
+    // The touched nodes at or below a path, lent, with their paths from the root, in path order. It
+    // looks only at these.
     pub(crate) fn under<'a>(
         &'a self,
         path: &Path,

@@ -2,7 +2,7 @@ use Rattle.std.proofs.Common.{[], ◌∷◌, map, ap, sym, ◌∙◌}
 use Rattle.std.specs.Ordering.{is_lt}
 use Rattle.std.specs.Map.Iter.{deref_pair}
 use Rattle.std.proofs.lemmas.List.{map-append}
-use Rattle.jr_overlay.proofs.SideBySide.{behind_at, behind_end, behind_from, left_at, left_none, lent_begins, lent_ends, lent_one_more, lent_stops}
+use Rattle.jr_overlay.proofs.SideBySide.{behind_at, behind_from, left_at, lent_begins, lent_one_more, lent_stops}
 use Rattle.jr_overlay.proofs.merge.lend_before.Goals as goal
 
 pub loop-at-init : goal.loop-at-init

@@ -1,4 +1,4 @@
-use Rattle.jr_overlay.proofs.Copies.{copy_more, copy_ends}
+use Rattle.jr_overlay.proofs.Copies.{copy_more}
 use Rattle.jr_overlay.proofs.overlay.Overlay.new_tree.Goals as goal
 
 pub loop-path-preserved : goal.loop-path-preserved
