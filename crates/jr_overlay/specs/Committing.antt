@@ -1,4 +1,4 @@
--- Steps of committing a draft: each path gets a place first, and then each node moves into its place.
+-- Steps of committing a draft: each path gets a place first, then each node moves into its place.
 use Rattle.std.specs.Prelude.{List, Option, None, is_none}
 use Rattle.std.specs.Option.{option_map, option_map_or}
 use Rattle.std.specs.Map.{keys_of, remove_entry, set_value}

@@ -1,4 +1,4 @@
-// How steps of a draft are made to count: each path gets a place first, and then each node moves in.
+// How the steps of a draft are made to count: each path gets a place, then each node moves in.
 ghost use Rattle.std.specs.Prelude.{◌≡◌, ℕ, IfOk, OnOk, OnErr, map, take};
 ghost use Rattle.std.specs.List.{fold};
 ghost use Rattle.std.specs.Map.Iter.{deref};
