@@ -2,8 +2,10 @@
 //! of what a command makes (JSR 283, 10.1 Types of Write Methods; 10.11 Saving).
 #![tactic(auto)]
 
+mod commit;
 mod draft;
 mod laws;
+mod merge;
 mod overlay;
 mod sight;
 
