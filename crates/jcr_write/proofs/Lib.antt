@@ -1,1 +1,2 @@
+pub mod Defs
 pub mod Due
