@@ -158,3 +158,8 @@ pub place_err : {A : Type 0} (view : View) (steps : Steps) (p : Path) (r : Refus
     → IsDueRefusal (at_place view steps p then) r
 place_err view steps p r then is m =
     unfound (path_refusal p) (drafted view steps p) p r then (is m)
+
+-- of a path that was found
+pub at_path : {T : Type 0} (result : Result T Refusal) (f : Path → Option Refusal) (p q : Path)
+    → p ≡ q → IfErr result (IsTheRefusal (f p)) → IfErr result (IsTheRefusal (f q))
+at_path result f p q h is = subst (λ (x : Path). IfErr result (IsTheRefusal (f x))) h is
