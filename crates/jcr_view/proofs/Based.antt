@@ -27,7 +27,7 @@ use Rattle.jcr_write.specs.Places.{above, putting, unless_refused}
 use Rattle.jcr_write.specs.Writes.{all_gone, all_moved, move_refusal, moved_path, node_set, node_unset, order_place, parent_ordered, remove_refusal}
 use Rattle.jcr_make.specs.Commands.{node_unmixed}
 use Rattle.jcr_make.specs.Steps.{and_then}
-use Rattle.jcr_view.specs.Needs.{AsksFor, listing_needs}
+use Rattle.jcr_view.specs.Needs.{AsksFor, children_needs, listing_needs}
 use Rattle.jcr_view.specs.Outcomes.{drawing_none, made_outcome, makes_by_types, outcome}
 use Rattle.jcr_view.specs.Parts.{IsPartOf}
 use Rattle.jcr_view.proofs.Enough.{first_met, met, only, or_later, rest_met}
@@ -137,21 +137,21 @@ module _ (t : Nodes) (k : Knowledge) (c : Changed) (part : IsPartOf t k c) where
       let both : All (LacksNothing k) (need.Subtree p ∷ need.Node (above p) ∷ []) = met k _ needs asks all in
       touch_unless IsBased who.ids (remove_refusal types (known_view k c) [] p)
       (all_gone [] (subtree_of (view_of k.nodes c) p)) (touch_gone IsBased p
-      (below_node p (first_met k (need.Subtree p) _ both)) (subtree_of (view_of k.nodes c) p) (all_under p) []
+      (below_node p (first_met k (need.Subtree p) (need.Node (above p) ∷ []) both)) (subtree_of (view_of k.nodes c) p) (all_under p) []
       (touch_none IsBased))
   steps_based types who (command.Move p q) needs plain asks all =
       let three : All (LacksNothing k) (need.Subtree p ∷ need.Subtree q ∷ need.Node (above q) ∷ []) =
       met k _ needs asks all in
       touch_unless IsBased who.ids (move_refusal (known_view k c) [] p q)
       (all_moved p q [] (subtree_of (view_of k.nodes c) p)) (touch_moved IsBased p q
-      (below_node p (first_met k (need.Subtree p) _ three))
-      (below_node q (first_met k (need.Subtree q) _ (rest_met k (need.Subtree p) _ three)))
+      (below_node p (first_met k (need.Subtree p) (need.Subtree q ∷ need.Node (above q) ∷ []) three))
+      (below_node q (first_met k (need.Subtree q) (need.Node (above q) ∷ []) (rest_met k (need.Subtree p) (need.Subtree q ∷ need.Node (above q) ∷ []) three)))
       (subtree_of (view_of k.nodes c) p) (all_under p) [] (touch_none IsBased))
   steps_based types who (command.OrderBefore p before) needs plain asks all =
       let three : All (LacksNothing k) (need.Node p ∷ listing_needs k (above p)) = met k _ needs asks all in
       touch_put IsBased who.ids (above p) (unless_refused (order_place (known_view k c) [] p)
       (parent_ordered types (known_view k c) p before (drafted (known_view k c) [] (above p))))
-      (at_node (above p) (first_met k (need.Node (above p)) _ (rest_met k (need.Node p) _ three)))
+      (at_node (above p) (first_met k (need.Node (above p)) (children_needs (known_at k (above p)) (above p)) (rest_met k (need.Node p) (listing_needs k (above p)) three)))
   steps_based types who (command.Add p type) needs plain asks all = cc
   steps_based types who (command.Tree p nodes) needs plain asks all = cc
   steps_based types who (command.Mixin p n) needs plain asks all = cc

@@ -240,9 +240,9 @@ outcome_same types who t k c (command.Get p) needs plain part asks all =
     ap (shown_outcome who.ids) (get_same (known_view k c) (whole_view (view_of t c)) p (above_same t k c p part (met k (parent_needs p) needs asks all)))
 outcome_same types who t k c (command.List p) needs plain part asks all =
     let both : All (LacksNothing k) (listing_needs k p) = met k (listing_needs k p) needs asks all in
-    let first : LacksNothing k (need.Node p) = first_met k (need.Node p) _ both in
+    let first : LacksNothing k (need.Node p) = first_met k (need.Node p) (children_needs (known_at k p) p) both in
     ap (shown_outcome who.ids) (list_same types (known_view k c) (whole_view (view_of t c)) p (node_same t k c p part first)
-    (children_same t k c p part first (rest_met k (need.Node p) _ both)))
+    (children_same t k c p part first (rest_met k (need.Node p) (children_needs (known_at k p) p) both)))
 outcome_same types who t k c (command.Props p) needs plain part asks all =
     ap (shown_outcome who.ids) (at_same (known_view k c) (whole_view (view_of t c)) p (λ node. ShowsProperties node.props)
     (node_same t k c p part (only k (need.Node p) needs asks all)))
@@ -265,28 +265,28 @@ outcome_same types who t k c (command.Unmixin p n) needs plain part asks all =
     drawn_same who.ids _ _ (unmixin_same types (known_view k c) (whole_view (view_of t c)) p n (node_same t k c p part (only k (need.Node p) needs asks all)))
 outcome_same types who t k c (command.Remove p) needs plain part asks all =
     let both : All (LacksNothing k) (need.Subtree p ∷ need.Node (above p) ∷ []) = met k _ needs asks all in
-    let down : LacksNothing k (need.Subtree p) = first_met k (need.Subtree p) _ both in
+    let down : LacksNothing k (need.Subtree p) = first_met k (need.Subtree p) (need.Node (above p) ∷ []) both in
     let up : LacksNothing k (need.Node (above p)) = first_met k (need.Node (above p)) []
-    (rest_met k (need.Subtree p) _ both) in
+    (rest_met k (need.Subtree p) (need.Node (above p) ∷ []) both) in
     drawn_same who.ids _ _ (remove_same types (known_view k c) (whole_view (view_of t c)) p (top_same t k c p part down)
     (node_same t k c (above p) part up) (tree_same t k c p part down))
 outcome_same types who t k c (command.Move p q) needs plain part asks all =
     let three : All (LacksNothing k) (need.Subtree p ∷ need.Subtree q ∷ need.Node (above q) ∷ []) =
     met k _ needs asks all in
-    let from : LacksNothing k (need.Subtree p) = first_met k (need.Subtree p) _ three in
-    let two : All (LacksNothing k) (need.Subtree q ∷ need.Node (above q) ∷ []) = rest_met k (need.Subtree p) _ three in
-    let to : LacksNothing k (need.Subtree q) = first_met k (need.Subtree q) _ two in
+    let from : LacksNothing k (need.Subtree p) = first_met k (need.Subtree p) (need.Subtree q ∷ need.Node (above q) ∷ []) three in
+    let two : All (LacksNothing k) (need.Subtree q ∷ need.Node (above q) ∷ []) = rest_met k (need.Subtree p) (need.Subtree q ∷ need.Node (above q) ∷ []) three in
+    let to : LacksNothing k (need.Subtree q) = first_met k (need.Subtree q) (need.Node (above q) ∷ []) two in
     let up : LacksNothing k (need.Node (above q)) = first_met k (need.Node (above q)) []
-    (rest_met k (need.Subtree q) _ two) in
+    (rest_met k (need.Subtree q) (need.Node (above q) ∷ []) two) in
     drawn_same who.ids _ _ (move_same (known_view k c) (whole_view (view_of t c)) p q (top_same t k c p part from) (top_same t k c q part to)
     (node_same t k c (above q) part up) (tree_same t k c p part from))
 outcome_same types who t k c (command.OrderBefore p before) needs plain part asks all =
     let three : All (LacksNothing k) (need.Node p ∷ listing_needs k (above p)) = met k _ needs asks all in
-    let two : All (LacksNothing k) (listing_needs k (above p)) = rest_met k (need.Node p) _ three in
-    let up : LacksNothing k (need.Node (above p)) = first_met k (need.Node (above p)) _ two in
+    let two : All (LacksNothing k) (listing_needs k (above p)) = rest_met k (need.Node p) (listing_needs k (above p)) three in
+    let up : LacksNothing k (need.Node (above p)) = first_met k (need.Node (above p)) (children_needs (known_at k (above p)) (above p)) two in
     drawn_same who.ids _ _ (order_same types (known_view k c) (whole_view (view_of t c)) p before
-    (node_same t k c p part (first_met k (need.Node p) _ three)) (node_same t k c (above p) part up)
-    (children_same t k c (above p) part up (rest_met k (need.Node (above p)) _ two)))
+    (node_same t k c p part (first_met k (need.Node p) (listing_needs k (above p)) three)) (node_same t k c (above p) part up)
+    (children_same t k c (above p) part up (rest_met k (need.Node (above p)) (children_needs (known_at k (above p)) (above p)) two)))
 outcome_same types who t k c (command.Add p type) needs plain part asks all = cc
 outcome_same types who t k c (command.Tree p nodes) needs plain part asks all = cc
 outcome_same types who t k c (command.Mixin p n) needs plain part asks all = cc
