@@ -1,4 +1,5 @@
-pub mod Overlays
+pub mod Committing
 pub mod Drafts
 pub mod Merging
-pub mod Committing
+pub mod Overlays
+pub mod Views
