@@ -1,3 +1,4 @@
 pub mod Defs
 pub mod Due
 pub mod Moving
+pub mod Ordering

@@ -34,7 +34,7 @@ fold_all {X = X} g f start now xs i end so_far =
     so_far ∙ ap (λ (ys : List X). fold g start (map f ys)) (take_all i xs end)
 
 -- what is left from the i-th on
-left : {X : Type 0} (xs : List X) (i : ℕ) (x : X) → i < length xs → x ≡ get_or xs i x
+pub left : {X : Type 0} (xs : List X) (i : ℕ) (x : X) → i < length xs → x ≡ get_or xs i x
     → drop i xs ≡ x ∷ drop (i + 1) xs
 left xs i x below at =
     let on : suc i ≡ i + 1 = omega arith in

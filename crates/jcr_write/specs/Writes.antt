@@ -1,5 +1,5 @@
 -- What the commands that make nothing of themselves do to a view, and when they are refused.
-use Rattle.std.specs.Prelude.{Bool, true, false, cond, List, [], ◌∷◌, ◌++◌, codes, drop, length, Option, None, Some, is_none, is_some, map, option_and_then, option_map, Result, Ok, Err}
+use Rattle.std.specs.Prelude.{Bool, true, false, cond, not, List, [], ◌∷◌, ◌++◌, codes, drop, length, Option, None, Some, is_none, is_some, map, option_and_then, option_map, Result, Ok, Err}
 use Rattle.std.specs.List.{filter, flat_map, fold, list_any}
 use Rattle.std.specs.Option.{option_map_or}
 use Rattle.std.specs.Prelude.{◌==◌}
@@ -154,29 +154,50 @@ order_place view steps p =
 abbrev pub is_child_named : ChildNames → Name → Bool
 is_child_named children n = list_any (λ e. same_name n e.0) children
 
--- no child has the name that another is to go before
-abbrev pub no_child_before : Path → ChildNames → Option Name → Option Refusal
-no_child_before p children None = None
-no_child_before p children (Some b) =
-    when (cond (is_child_named children b) false true) (no_item (p ++ b ∷ []))
+-- no child of the node at p has the name that another is to go before
+abbrev pub no_child : Path → ChildNames → Option Name → Option Refusal
+no_child p children None = None
+no_child p children (Some b) = when (not (is_child_named children b)) (no_item (p ++ b ∷ []))
 
--- a node whose children have this order, with the child n before another
+-- why the children of the node at p may not get another order: its types don't order them, or there
+-- is no child to go before
+abbrev pub order_refusal : List TypeDef → Path → ChildNames → Option Name → Node → Option Refusal
+order_refusal types p children before node = first_some (
+    when (not (are_ordered (node_types types node))) (unsupported (codes "orderBefore"))
+    ∷ no_child p children before ∷ [])
+
+-- the node with its children in their order, where the child n goes before another
 abbrev pub node_ordered : List TypeDef → ChildNames → Name → Option Name → Node → Node
 node_ordered types children n before node =
     with_property node child_order (listing (moved_before n before (ordered types node children)))
 
--- the node above p with a new order of its children; its types must order them, and the other must
--- be a child
-abbrev pub parent_ordered : List TypeDef → View → Path → Option Name → Option Node → Result Node Refusal
-parent_ordered types view p before None = Err (unsupported (codes "orderBefore"))
-parent_ordered types view p before (Some node) =
-    unless_refused (first_some (
-    when (cond (are_ordered (node_types types node)) false true) (unsupported (codes "orderBefore"))
-    ∷ no_child_before (above p) (view.children (above p)) before ∷ []))
-    (Ok (node_ordered types (view.children (above p)) (own_of p) before node))
+-- the node at p with another order of its children, where it may get it
+abbrev pub reordered : List TypeDef → Path → ChildNames → Name → Option Name → Node
+    → Result Node Refusal
+reordered types p children n before node =
+    unless_refused (order_refusal types p children before node)
+    (Ok (node_ordered types children n before node))
+
+-- the same of the node above, if there is one
+abbrev pub parent_ordered : List TypeDef → View → Path → Name → Option Name → Option Node
+    → Result Node Refusal
+parent_ordered types view p n before None = Err (unsupported (codes "orderBefore"))
+parent_ordered types view p n before (Some node) =
+    reordered types p (view.children p) n before node
+
+-- the same of the node above the node at p; the root has no name
+abbrev pub above_ordered : List TypeDef → View → Steps → Path → Option Name → Option Name
+    → Result Node Refusal
+above_ordered types view steps p before None = Err (own_rule p)
+above_ordered types view steps p before (Some n) =
+    parent_ordered types view (above p) n before (drafted view steps (above p))
+
+-- the node above the node at p with another order of its children, where that may be
+abbrev pub order_node : List TypeDef → View → Steps → Path → Option Name → Result Node Refusal
+order_node types view steps p before = unless_refused (order_place view steps p)
+    (above_ordered types view steps p before (last_name p))
 
 -- the node at p goes before another in the order of its parent's children, or to the end
 abbrev pub order_made : List TypeDef → View → Steps → Path → Option Name → Result Steps Refusal
 order_made types view steps p before =
-    putting steps (above p) (unless_refused (order_place view steps p)
-    (parent_ordered types view p before (drafted view steps (above p))))
+    putting steps (above p) (order_node types view steps p before)
