@@ -24,7 +24,7 @@ use Rattle.oak_machine.specs.Sessions.{base_of, drawn_since, is_drawing, is_repl
 use Rattle.jcr_trans.specs.declared.command.Command.{Command}
 use Rattle.jcr_trans.specs.declared.command.Command.TheVariants as command
 use Rattle.jcr_trans.specs.Commands.{Built, Adds, Sets, Gets, Lists, Saves, Refreshes, ShowsBase, NotBuilt, built, is_plain, refreshes_by, saves_by, shows_base_by}
-use Rattle.jcr_trans.specs.Answers.{Answer, Done, ShowsProperty, ShowsNames, ShowsRevision, ShowsVector, ShowsNothing, Refused, out_of_memory}
+use Rattle.jcr_trans.specs.Answers.{Answer, Done, ShowsProperty, ShowsNames, ShowsRevision, ShowsVector, ShowsNothing, ShowsProperties, ShowsText, ShowsItems, Refused, out_of_memory}
 use Rattle.jcr_trans.specs.Texts.{answer_text}
 use Rattle.jcr_trans.specs.Views.{Check, answered, checks, first_of, passes, property_of_path, shown, too_many_nodes, view_after}
 use Rattle.jcr_trans.proofs.Passing.{each_refuses, first_passes, is_refused, shows}
@@ -43,6 +43,9 @@ refused_text (ShowsNames ns) h = absurd (false≢true h)
 refused_text (ShowsRevision r) h = absurd (false≢true h)
 refused_text (ShowsVector v) h = absurd (false≢true h)
 refused_text ShowsNothing h = absurd (false≢true h)
+refused_text (ShowsProperties ps) h = absurd (false≢true h)
+refused_text (ShowsText t) h = absurd (false≢true h)
+refused_text (ShowsItems is) h = absurd (false≢true h)
 refused_text (Refused n ds) h = refl
 
 accepted_text : (a : Answer) → is_refused a ≡ false → is_ok_text (answer_text a) ≡ true
@@ -52,6 +55,9 @@ accepted_text (ShowsNames ns) h = refl
 accepted_text (ShowsRevision r) h = refl
 accepted_text (ShowsVector v) h = refl
 accepted_text ShowsNothing h = refl
+accepted_text (ShowsProperties ps) h = refl
+accepted_text (ShowsText t) h = refl
+accepted_text (ShowsItems is) h = refl
 accepted_text (Refused n ds) h = absurd (false≢true (sym h))
 
 -- where a check holds, and each refuses, the answer refuses

@@ -8,6 +8,7 @@ mod view;
 
 pub use command::{Command, TreeNode};
 pub use texts::{
-    memory_reply, null_reply, refusal_text, revision_reply, too_many_reply, vector_reply,
+    done_reply, items_reply, memory_reply, names_reply, null_reply, properties_reply,
+    property_reply, refusal_text, revision_reply, text_reply, too_many_reply, vector_reply,
 };
 pub use view::run;

@@ -1,51 +1,60 @@
 // The texts of replies.
-ghost use Rattle.std.specs.Prelude.{◌≡◌, ◌+◌, ◌^◌, ◌<◌, ◌≤◌, ◌++◌, IfOk, string_bytes};
+ghost use Rattle.std.specs.Prelude.{◌≡◌, ◌+◌, ◌^◌, ◌<◌, ◌≤◌, ◌++◌, false, IfOk, OnOk, string_bytes};
 ghost use Rattle.std.specs.Char.{digit_value};
 ghost use Rattle.arrayvec.specs.ArrayString.{array_string_len};
-ghost use Rattle.serde_json.specs.Data.{array};
-ghost use Rattle.serde_json.specs.View.{view};
-ghost use Rattle.serde_json.specs.Written.{compact_text};
-ghost use Rattle.jcr_trans.specs.Answers.{Done, ShowsProperty, ShowsNames, ShowsRevision, ShowsVector, ShowsNothing, Refused};
-ghost use Rattle.jcr_trans.specs.Texts.{answer_text, datum_data, datum_items, memory_text, name_items};
+ghost use Rattle.serde_json.specs.Data.{array, object, put};
+ghost use Rattle.serde_json.specs.View.{members_view, view};
+ghost use Rattle.serde_json.specs.Written.{compact_text, has_float};
+ghost use Rattle.jcr_trans.specs.Answers.{Done, ShowsProperty, ShowsNames, ShowsRevision, ShowsVector, ShowsNothing, ShowsProperties, ShowsText, ShowsItems, Refused};
+ghost use Rattle.jcr_trans.specs.Texts.{answer_text, datum_data, datum_items, item_texts, memory_text, name_items, ok_text, property_members};
 ghost use Rattle.jcr_trans.specs.Views.{too_many_nodes};
 ghost use Rattle.jr_path.specs.Ids.{path_text};
 ghost use Rattle.jr_path.specs.Names.{item_path};
 ghost use Rattle.jr_rev.specs.Digits.{IsHexDigit};
 ghost use Rattle.jr_rev.specs.Grammar.{FitsFields};
 ghost use Rattle.jr_rev.specs.Texts.{hexadecimal, revision_text, vector_text};
+ghost use Rattle.jr_value.specs.Json.{property_data};
 
 use crate::checks::limit;
 use arrayvec::ArrayString;
-use jr_path::{Item, Name};
+use jr_path::{Item, Keyed, Name};
 use jr_rev::{RevVec, Revision};
 use jr_tree::{Datum, Refusal};
 use jr_value::Property;
-use serde_json::Value as Json;
+use serde_json::{Map, Value as Json};
 use std::alloc::{AllocError, Global};
 
-// The reply that shows nothing: `ok`.
-pub fn done_text(alloc: Global) -> Result<String, AllocError>
+/// The reply that shows nothing: `ok`.
+pub fn done_reply(alloc: Global) -> Result<String, AllocError>
     ensures { IfOk result (λ text. string_bytes text ≡ answer_text Done) }
 {
     Ok(String::from_str(alloc, "ok")?)
 }
 
-// The reply that shows a property: `ok` and its JSON.
-pub fn property_text(alloc: Global, property: &Property) -> Result<String, AllocError>
+/// The reply that shows a property: `ok` and its JSON, as `ok 5`.
+pub fn property_reply(alloc: Global, property: &Property) -> Result<String, AllocError>
     ensures { IfOk result (λ text. string_bytes text ≡ answer_text (ShowsProperty property.now)) }
 {
     let shown = property.json_text(alloc)?;
     Ok(format!(in alloc; "ok {shown}")?)
 }
 
-// The reply that shows names: `ok` and a list of texts.
+// The reply that shows JSON: `ok` and its text.
+fn json_reply(alloc: Global, json: &Json) -> Result<String, AllocError>
+    requires { has_float (view json.now) ≡ false }
+    ensures { IfOk result (λ text. string_bytes text ≡ ok_text (view json.now)) }
+{
+    let shown = json.to_string(alloc)?;
+    Ok(format!(in alloc; "ok {shown}")?)
+}
+
+/// The reply that shows names: `ok` and a list of texts, as `ok ["a","b"]`.
 #[tactic(auto, using(crate::proofs::NoFloat::names_plain))]
-pub fn names_text(alloc: Global, names: &[Name]) -> Result<String, AllocError>
+pub fn names_reply(alloc: Global, names: &[Name]) -> Result<String, AllocError>
     ensures { IfOk result (λ text. string_bytes text ≡ answer_text (ShowsNames names.now)) }
 {
     let json = names_json(alloc, names)?;
-    let shown = json.to_string(alloc)?;
-    Ok(format!(in alloc; "ok {shown}")?)
+    json_reply(alloc, &json)
 }
 
 fn names_json(alloc: Global, names: &[Name]) -> Result<Json, AllocError>
@@ -56,6 +65,71 @@ fn names_json(alloc: Global, names: &[Name]) -> Result<Json, AllocError>
         items.push(Json::try_from_str(alloc, name.as_str())?)?;
     }
     Ok(Json::Array(items))
+}
+
+/// The reply that shows a node's properties: `ok` and an object that has the JSON of each at its name, in the
+/// order of the names, as `ok {"jcr:primaryType":{"name":"nt:unstructured"},"p":5}`. Where there are none it is
+/// `ok {}`.
+#[tactic(auto, using(crate::proofs::NoFloat::properties_plain))]
+pub fn properties_reply(
+    alloc: Global,
+    properties: &Keyed<Name, Property>,
+) -> Result<String, AllocError>
+    ensures { IfOk result (λ text. string_bytes text ≡ answer_text (ShowsProperties properties.now)) }
+{
+    let json = properties_json(alloc, properties)?;
+    json_reply(alloc, &json)
+}
+
+fn properties_json(alloc: Global, properties: &Keyed<Name, Property>) -> Result<Json, AllocError>
+    ensures { IfOk result (λ json. view json ≡ object (property_members properties.now)) }
+{
+    let mut members = Map::new(alloc);
+    for (name, property) in properties.inner() {
+        put_property(&mut members, alloc, name, property)?;
+    }
+    Ok(Json::Object(members))
+}
+
+fn put_property(
+    members: &mut Map<String, Json>,
+    alloc: Global,
+    name: &Name,
+    property: &Property,
+) -> Result<(), AllocError>
+    ensures { OnOk result (members_view members.new.entries ≡ put name.now (property_data property.now) (members_view members.old.entries)) }
+{
+    let json = property.to_json(alloc)?;
+    members.insert(String::from_str(alloc, name.as_str())?, json)?;
+    Ok(())
+}
+
+/// The reply that shows a text, as an identifier or a path: `ok` and the text in JSON, as `ok "/a"`.
+pub fn text_reply(alloc: Global, text: &str) -> Result<String, AllocError>
+    ensures { IfOk result (λ reply. string_bytes reply ≡ answer_text (ShowsText text.now)) }
+{
+    let json = Json::try_from_str(alloc, text)?;
+    json_reply(alloc, &json)
+}
+
+/// The reply that shows items: `ok` and a list of the texts of their paths, as `ok ["/a/r","/b/s"]`. The path of
+/// a property has its name last.
+#[tactic(auto, using(crate::proofs::NoFloat::items_plain))]
+pub fn items_reply(alloc: Global, items: &[Item]) -> Result<String, AllocError>
+    ensures { IfOk result (λ text. string_bytes text ≡ answer_text (ShowsItems items.now)) }
+{
+    let json = items_json(alloc, items)?;
+    json_reply(alloc, &json)
+}
+
+fn items_json(alloc: Global, items: &[Item]) -> Result<Json, AllocError>
+    ensures { IfOk result (λ json. view json ≡ array (item_texts items.now)) }
+{
+    let mut texts = Vec::new(alloc);
+    for item in items {
+        texts.push(Json::String(text_of_item(item)?))?;
+    }
+    Ok(Json::Array(texts))
 }
 
 /// The reply of a save that committed: `ok` and the text of the commit's revision, as `ok "r1-0-1"`. It takes no memory, so that
@@ -83,8 +157,7 @@ pub fn vector_reply(alloc: Global, vector: &RevVec) -> Result<String, AllocError
     ensures { IfOk result (λ text. string_bytes text ≡ answer_text (ShowsVector vector.now)) }
 {
     let json = Json::String(text_of_vector(alloc, vector)?);
-    let shown = json.to_string(alloc)?;
-    Ok(format!(in alloc; "ok {shown}")?)
+    json_reply(alloc, &json)
 }
 
 fn text_of_vector(alloc: Global, vector: &RevVec) -> Result<String, AllocError>

@@ -10,7 +10,7 @@ ghost use Rattle.jcr_trans.specs.Views.{answered, view_after, passes, checks, ch
 
 use crate::Command;
 use crate::checks::{check, property_at};
-use crate::texts::{done_text, names_text, property_text};
+use crate::texts::{done_reply, names_reply, property_reply};
 use jr_path::{DeepCopy, Name, Path};
 use jr_tree::{Node, Refusal, Tree};
 use std::alloc::{AllocError, Global};
@@ -43,21 +43,21 @@ fn passed(alloc: Global, view: &mut Tree, command: &Command) -> Result<String, A
 {
     match command {
         Command::Add(path, None) => {
-            let text = done_text(alloc)?;
+            let text = done_reply(alloc)?;
             add_node(alloc, view, path)?;
             Ok(text)
         }
         Command::Set(path, name, value) => {
-            let text = done_text(alloc)?;
+            let text = done_reply(alloc)?;
             view.put(path, name.copy()?, value.copy()?)?;
             Ok(text)
         }
         Command::Get(path) => match property_at(view, path)? {
-            Some(property) => property_text(alloc, property),
-            None => done_text(alloc),
+            Some(property) => property_reply(alloc, property),
+            None => done_reply(alloc),
         },
-        Command::List(path) => names_text(alloc, view.children(path)?.as_slice()),
-        _ => done_text(alloc),
+        Command::List(path) => names_reply(alloc, view.children(path)?.as_slice()),
+        _ => done_reply(alloc),
     }
 }
 
