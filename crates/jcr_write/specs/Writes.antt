@@ -1,8 +1,7 @@
 -- What the commands that make nothing of themselves do to a view, and when they are refused.
-use Rattle.std.specs.Prelude.{Bool, true, false, cond, not, List, [], ◌∷◌, ◌++◌, codes, drop, length, Option, None, Some, is_none, is_some, map, option_and_then, option_map, Result, Ok, Err}
+use Rattle.std.specs.Prelude.{◌==◌, Bool, true, false, cond, not, List, [], ◌∷◌, ◌++◌, codes, drop, length, Option, None, Some, is_none, is_some, map, option_and_then, option_map, Result, Ok, Err}
 use Rattle.std.specs.List.{filter, flat_map, fold, list_any}
 use Rattle.std.specs.Option.{option_map_or}
-use Rattle.std.specs.Prelude.{◌==◌}
 use Rattle.jr_path.specs.Names.{is_under, last_name}
 use Rattle.jr_path.specs.declared.name.Name.{Name}
 use Rattle.jr_path.specs.declared.path.Path.{Path}
@@ -22,6 +21,7 @@ use Rattle.jr_types.specs.declared.TypeDef.{TypeDef}
 use Rattle.jr_part.specs.Parts.{ChildNames}
 use Rattle.jr_overlay.specs.Drafts.{Steps, drafted, with_step}
 use Rattle.jr_overlay.specs.Overlays.{View}
+pub use Rattle.jr_overlay.specs.Views.{all_gone, all_moved, moved_path, with_moved}
 use Rattle.jcr_write.specs.Order.{listing, moved_before, ordered}
 use Rattle.jcr_write.specs.Places.{above, at_place, node_types, of_node, own_of, path_refusal, putting, unless_refused, with_property, without_property}
 
@@ -98,18 +98,10 @@ abbrev pub remove_refusal : List TypeDef → View → Steps → Path → Option 
 remove_refusal types view steps p = first_some (path_refusal p ∷ absent view steps p ∷ is_root p
     ∷ kept_refusal types view steps p ∷ [])
 
--- each of these nodes goes
-abbrev pub all_gone : Steps → Nodes → Steps
-all_gone steps nodes = fold (λ s e. with_step s e.0 None) steps nodes
-
 -- the node at p goes, with all below it
 abbrev pub remove_made : List TypeDef → View → Steps → Path → Result Steps Refusal
 remove_made types view steps p = unless_refused (remove_refusal types view steps p)
     (Ok (all_gone steps (view.below p)))
-
--- where what stands at r comes to stand, when the node at p moves to q
-abbrev pub moved_path : Path → Path → Path → Path
-moved_path p q r = q ++ drop (length p) r
 
 -- the limit that the first of the moved paths passes that passes one
 abbrev pub moved_limit : Path → Path → Nodes → Option Refusal
@@ -131,15 +123,6 @@ abbrev pub move_refusal : View → Steps → Path → Path → Option Refusal
 move_refusal view steps p q = first_some (ends_refusal p q
     ∷ stand_refusal view steps p q ∷ moved_limit p q (view.below p) ∷ [])
 
--- a node goes from its place and stands at its new one, as it was
-abbrev pub with_moved : Path → Path → Steps → Path × Node → Steps
-with_moved p q steps e =
-    with_step (with_step steps e.0 None) (moved_path p q e.0) (Some e.1)
-
--- each of these nodes goes and stands at its new place
-abbrev pub all_moved : Path → Path → Steps → Nodes → Steps
-all_moved p q steps nodes = fold (with_moved p q) steps nodes
-
 -- the node at p moves to q, with all below it
 abbrev pub move_made : View → Steps → Path → Path → Result Steps Refusal
 move_made view steps p q =
@@ -155,16 +138,16 @@ abbrev pub is_child_named : ChildNames → Name → Bool
 is_child_named children n = list_any (λ e. same_name n e.0) children
 
 -- no child of the node at p has the name that another is to go before
-abbrev pub no_child : Path → ChildNames → Option Name → Option Refusal
-no_child p children None = None
-no_child p children (Some b) = when (not (is_child_named children b)) (no_item (p ++ b ∷ []))
+abbrev pub no_child_before : Path → ChildNames → Option Name → Option Refusal
+no_child_before p children None = None
+no_child_before p children (Some b) = when (not (is_child_named children b)) (no_item (p ++ b ∷ []))
 
 -- why the children of the node at p may not get another order: its types don't order them, or there
 -- is no child to go before
 abbrev pub order_refusal : List TypeDef → Path → ChildNames → Option Name → Node → Option Refusal
 order_refusal types p children before node = first_some (
     when (not (are_ordered (node_types types node))) (unsupported (codes "orderBefore"))
-    ∷ no_child p children before ∷ [])
+    ∷ no_child_before p children before ∷ [])
 
 -- the node with its children in their order, where the child n goes before another
 abbrev pub node_ordered : List TypeDef → ChildNames → Name → Option Name → Node → Node

@@ -14,7 +14,7 @@ ghost use Rattle.jr_overlay.specs.Drafts.{in_draft, with_step};
 ghost use Rattle.jr_overlay.specs.Overlays.{sighted};
 ghost use Rattle.jcr_write.specs.Order.{around, by_birth, by_name, in_order, listed_names, listing, moved_before, ordered, with_birth};
 ghost use Rattle.jcr_write.specs.Places.{IsDueRefusal, above, node_types};
-ghost use Rattle.jcr_write.specs.Writes.{above_ordered, is_child_named, no_child, node_ordered, order_made, order_node, order_place, order_refusal, parent_ordered, reordered};
+ghost use Rattle.jcr_write.specs.Writes.{above_ordered, is_child_named, no_child_before, node_ordered, order_made, order_node, order_place, order_refusal, parent_ordered, reordered};
 
 use crate::moves::{check_not_root, check_there};
 use crate::places::{above, check_path, no_item_named, or_memory, put_node, with_property};
@@ -427,9 +427,9 @@ fn check_before(
     parent: &Path,
     before: Option<&Name>,
 ) -> Result<(), Refusal>
-    ensures ok { OnOk result (no_child parent.now children.now (option_copied before.entry) ≡ None) }
+    ensures ok { OnOk result (no_child_before parent.now children.now (option_copied before.entry) ≡ None) }
     ensures err { IfErr result (IsTheRefusal
-        (no_child parent.now children.now (option_copied before.entry))) }
+        (no_child_before parent.now children.now (option_copied before.entry))) }
 {
     match before {
         Some(other) => check_child_named(alloc, children, parent, other),
