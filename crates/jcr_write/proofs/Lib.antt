@@ -1,0 +1,5 @@
+pub mod Defs
+pub mod Due
+pub mod Moving
+pub mod Ordering
+pub mod Reading

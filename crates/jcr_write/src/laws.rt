@@ -1,0 +1,41 @@
+// Laws of the commands that make nothing of themselves.
+ghost use Rattle.std.specs.Prelude.{◌≡◌, List, Option};
+ghost use Rattle.jr_path.specs.declared.name.Name.{Name};
+ghost use Rattle.jr_path.specs.declared.path.Path.{Path};
+ghost use Rattle.jr_value.specs.declared.value.Property.{Property};
+ghost use Rattle.jr_types.specs.declared.TypeDef.{TypeDef};
+ghost use Rattle.jr_overlay.specs.Drafts.{Steps};
+ghost use Rattle.jr_overlay.specs.Overlays.{View};
+ghost use Rattle.jcr_write.specs.Places.{above};
+ghost use Rattle.jcr_write.specs.Writes.{move_made, order_made, remove_made, set_made, unset_made};
+
+/// Setting and unsetting a property reads the node alone: two views that are alike there give the same.
+pub fn properties_read_their_node()
+    ensures set { (types : List TypeDef) (u w : View) (steps : Steps) (p : Path) (n : Name)
+        (x : Property) → u.node p ≡ w.node p
+        → set_made types u steps p n x ≡ set_made types w steps p n x }
+    ensures unset { (types : List TypeDef) (u w : View) (steps : Steps) (p : Path) (n : Name)
+        → u.node p ≡ w.node p → unset_made types u steps p n ≡ unset_made types w steps p n }
+{}
+
+/// Removing a node reads it, the node above it, and what is below it.
+pub fn removals_read_subtrees()
+    ensures { (types : List TypeDef) (u w : View) (steps : Steps) (p : Path)
+        → u.node p ≡ w.node p → u.node (above p) ≡ w.node (above p) → u.below p ≡ w.below p
+        → remove_made types u steps p ≡ remove_made types w steps p }
+{}
+
+/// Moving a node reads it and what is below it, and of the other path the node there and the one above.
+pub fn moves_read_both_ends()
+    ensures { (u w : View) (steps : Steps) (p q : Path) → u.node p ≡ w.node p
+        → u.node (above q) ≡ w.node (above q) → u.node q ≡ w.node q → u.below p ≡ w.below p
+        → move_made u steps p q ≡ move_made w steps p q }
+{}
+
+/// Changing the order of children reads the node, the one above it, and the children of that one.
+pub fn orders_read_the_parent()
+    ensures { (types : List TypeDef) (u w : View) (steps : Steps) (p : Path) (before : Option Name)
+        → u.node p ≡ w.node p → u.node (above p) ≡ w.node (above p)
+        → u.children (above p) ≡ w.children (above p)
+        → order_made types u steps p before ≡ order_made types w steps p before }
+{}
