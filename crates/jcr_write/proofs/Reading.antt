@@ -1,6 +1,6 @@
 -- What the commands read of a view.
 use Rattle.std.proofs.Common.{◌≡◌, List, Option, Some, None, [], ◌∷◌, refl, ap, ◌∙◌}
-use Rattle.std.specs.Prelude.{Result, Ok, Err, is_none, is_some, option_and_then, unwrap_or}
+use Rattle.std.specs.Prelude.{Result, Ok, is_none, is_some, option_and_then, unwrap_or}
 use Rattle.std.specs.Map.{lookup}
 use Rattle.std.specs.BTreeMap.{is_at}
 use Rattle.jr_path.specs.Names.{is_under, last_name, path_cmp}
@@ -18,7 +18,7 @@ use Rattle.jr_overlay.specs.Drafts.{Steps, drafted}
 use Rattle.jr_overlay.specs.Overlays.{View}
 use Rattle.jr_overlay.specs.Views.{all_gone, all_moved}
 use Rattle.jcr_write.specs.Places.{above, of_node, path_refusal, putting, unless_refused, with_property, without_property}
-use Rattle.jcr_write.specs.Writes.{above_ordered, ends_refusal, is_kept_below, is_root, kept_refusal, move_made, moved_limit, order_made, parent_ordered, remove_made, reordered, set_made, set_refusal, unset_made, unset_refusal}
+use Rattle.jcr_write.specs.Writes.{above_ordered, ends_refusal, is_kept_below, is_root, move_made, moved_limit, order_made, parent_ordered, remove_made, reordered, set_made, set_refusal, unset_made, unset_refusal}
 
 -- what stands at p after steps, by what the view has there
 abbrev after : Steps → Path → Option Node → Option Node

@@ -1,7 +1,7 @@
 -- The order of the children of a node.
-use Rattle.std.specs.Prelude.{Bool, true, cond, List, [], ◌∷◌, ◌++◌, Option, None, Some, is_none, is_some, map}
+use Rattle.std.specs.Prelude.{Bool, true, cond, List, [], ◌∷◌, ◌++◌, Option, is_none, map}
 use Rattle.std.specs.List.{flat_map, fold}
-use Rattle.std.specs.Map.{keys_of, lookup, remove_entry}
+use Rattle.std.specs.Map.{keys_of, remove_entry}
 use Rattle.std.specs.BTreeMap.{is_at, insert_entry}
 use Rattle.std.specs.Ordering.{bool_cmp, on, then_cmp}
 use Rattle.std.specs.Option.{option_cmp}

@@ -1,6 +1,6 @@
 -- What the commands that make nothing of themselves do to a view, and when they are refused.
-use Rattle.std.specs.Prelude.{◌==◌, Bool, true, false, cond, not, List, [], ◌∷◌, ◌++◌, codes, drop, length, Option, None, Some, is_none, is_some, map, option_and_then, option_map, Result, Ok, Err}
-use Rattle.std.specs.List.{filter, flat_map, fold, list_any}
+use Rattle.std.specs.Prelude.{◌==◌, Bool, true, false, cond, not, List, [], ◌∷◌, ◌++◌, codes, Option, None, Some, is_none, is_some, map, option_and_then, option_map, Result, Ok, Err}
+use Rattle.std.specs.List.{filter, flat_map, list_any}
 use Rattle.std.specs.Option.{option_map_or}
 use Rattle.jr_path.specs.Names.{is_under, last_name}
 use Rattle.jr_path.specs.declared.name.Name.{Name}
@@ -13,17 +13,17 @@ use Rattle.jr_tree.specs.declared.shared.Refusal.{Refusal}
 use Rattle.jr_tree.specs.declared.tree.Node.{Node}
 use Rattle.jr_items.specs.Items.{first_of, first_some, is_empty, property_of, same_name}
 use Rattle.jr_items.specs.Names.{child_order, primary_type}
-use Rattle.jr_items.specs.Refusals.{in_system, limit_refusal, no_item, own_item_rule, own_rule, taken, too_deep, too_long, unsupported, when, wrong_kind}
+use Rattle.jr_items.specs.Refusals.{in_system, limit_refusal, no_item, own_item_rule, own_rule, taken, unsupported, when, wrong_kind}
 use Rattle.jr_types.specs.Attributes.{are_ordered}
 use Rattle.jr_types.specs.Types.{child_def, is_named, prop_def, props_of}
 use Rattle.jr_types.specs.declared.PropDef.{PropDef}
 use Rattle.jr_types.specs.declared.TypeDef.{TypeDef}
 use Rattle.jr_part.specs.Parts.{ChildNames}
-use Rattle.jr_overlay.specs.Drafts.{Steps, drafted, with_step}
+use Rattle.jr_overlay.specs.Drafts.{Steps, drafted}
 use Rattle.jr_overlay.specs.Overlays.{View}
 pub use Rattle.jr_overlay.specs.Views.{all_gone, all_moved, moved_path, with_moved}
 use Rattle.jcr_write.specs.Order.{listing, moved_before, ordered}
-use Rattle.jcr_write.specs.Places.{above, at_place, node_types, of_node, own_of, path_refusal, putting, unless_refused, with_property, without_property}
+use Rattle.jcr_write.specs.Places.{above, at_place, node_types, path_refusal, putting, unless_refused, with_property, without_property}
 
 -- the definitions of that very name
 abbrev pub named_defs : List TypeDef → Name → List PropDef

@@ -1,13 +1,32 @@
 // Laws of the commands that make nothing of themselves.
-ghost use Rattle.std.specs.Prelude.{◌≡◌, List, Option};
+ghost use Rattle.std.specs.Prelude.{◌≡◌, [], List, Ok, Option};
 ghost use Rattle.jr_path.specs.declared.name.Name.{Name};
 ghost use Rattle.jr_path.specs.declared.path.Path.{Path};
 ghost use Rattle.jr_value.specs.declared.value.Property.{Property};
 ghost use Rattle.jr_types.specs.declared.TypeDef.{TypeDef};
 ghost use Rattle.jr_overlay.specs.Drafts.{Steps};
-ghost use Rattle.jr_overlay.specs.Overlays.{View};
+ghost use Rattle.jr_overlay.specs.Overlays.{View, whole_view};
+ghost use Rattle.jr_overlay.specs.Views.{KeepTree};
+ghost use Rattle.jr_tree.specs.Trees.{IsTree, Nodes};
 ghost use Rattle.jcr_write.specs.Places.{above};
 ghost use Rattle.jcr_write.specs.Writes.{move_made, order_made, remove_made, set_made, unset_made};
+
+/// Where a command isn't refused, its steps keep a tree a tree: on a view with steps that keep it, or on the view alone.
+pub fn writes_keep_trees()
+    ensures set { (types : List TypeDef) (v : Nodes) (steps new : Steps) (p : Path) (n : Name)
+        (x : Property) → IsTree v → KeepTree (whole_view v) steps
+        → set_made types (whole_view v) steps p n x ≡ Ok new → KeepTree (whole_view v) new }
+    ensures unset { (types : List TypeDef) (v : Nodes) (steps new : Steps) (p : Path) (n : Name)
+        → IsTree v → KeepTree (whole_view v) steps
+        → unset_made types (whole_view v) steps p n ≡ Ok new → KeepTree (whole_view v) new }
+    ensures order { (types : List TypeDef) (v : Nodes) (steps new : Steps) (p : Path)
+        (before : Option Name) → IsTree v → KeepTree (whole_view v) steps
+        → order_made types (whole_view v) steps p before ≡ Ok new → KeepTree (whole_view v) new }
+    ensures remove { (types : List TypeDef) (v : Nodes) (new : Steps) (p : Path) → IsTree v
+        → remove_made types (whole_view v) [] p ≡ Ok new → KeepTree (whole_view v) new }
+    ensures moved { (v : Nodes) (new : Steps) (p q : Path) → IsTree v
+        → move_made (whole_view v) [] p q ≡ Ok new → KeepTree (whole_view v) new }
+{}
 
 /// Setting and unsetting a property reads the node alone: two views that are alike there give the same.
 pub fn properties_read_their_node()

@@ -10,7 +10,7 @@ mod properties;
 
 pub use laws::{
     moves_read_both_ends, orders_read_the_parent, properties_read_their_node,
-    removals_read_subtrees,
+    removals_read_subtrees, writes_keep_trees,
 };
 pub use moves::{move_to, remove};
 pub use order::{Birth, order_before, ordered};

@@ -1,4 +1,4 @@
-use Rattle.std.proofs.Common.{map, ap, drop}
+use Rattle.std.proofs.Common.{map, ap}
 use Rattle.std.proofs.lemmas.Result.{err_from_is_err_and}
 use Rattle.std.specs.Map.Iter.{deref_pair}
 use Rattle.jr_items.specs.Items.{first_some}

@@ -1,4 +1,4 @@
-use Rattle.std.proofs.Common.{◌≡◌, ◌∙◌, ap, map}
+use Rattle.std.proofs.Common.{◌∙◌, ap, map}
 use Rattle.std.specs.Prelude.{Ok}
 use Rattle.std.specs.Map.Iter.{deref_pair}
 use Rattle.jr_overlay.specs.Overlays.{sighted}
