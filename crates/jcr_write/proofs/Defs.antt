@@ -1,5 +1,5 @@
 -- What definitions of a name say is the same of lists that are alike.
-use Rattle.std.proofs.Common.{◌≡◌, Bool, cond, Option, None, Some, List, [], ◌∷◌, map, refl, sym, ap, ◌∙◌, subst}
+use Rattle.std.proofs.Common.{◌≡◌, Bool, cond, Option, None, List, [], ◌∷◌, map, sym, ap, ◌∙◌, subst}
 use Rattle.std.specs.Prelude.{IfErr, IfOk, OnOk, Result, Ok, Err, option_and_then, option_map}
 use Rattle.std.specs.List.{filter, flat_map, list_any}
 use denote.Ref.{Bor}

@@ -163,3 +163,18 @@ place_err view steps p r then is m =
 pub at_path : {T : Type 0} (result : Result T Refusal) (f : Path → Option Refusal) (p q : Path)
     → p ≡ q → IfErr result (IsTheRefusal (f p)) → IfErr result (IsTheRefusal (f q))
 at_path result f p q h is = subst (λ (x : Path). IfErr result (IsTheRefusal (f x))) h is
+
+pub passed_ok_result : {A : Type 0} (result : Result A Refusal) (o : Option Refusal)
+    (due : Result A Refusal) → o ≡ None → IfOk result (λ x. due ≡ Ok x)
+    → IfOk result (λ x. unless_refused o due ≡ Ok x)
+passed_ok_result (Ok x) o due h is = passed_ok o due x h is
+passed_ok_result (Err r) o due h is = is
+
+-- of what is due at a path that was found
+pub due_at : {X A : Type 0} (result : Result A Refusal) (f : X → Result A Refusal) (x y : X) → x ≡ y
+    → IfOk result (λ a. f x ≡ Ok a) → IfOk result (λ a. f y ≡ Ok a)
+due_at result f x y h is = subst (λ z. IfOk result (λ a. f z ≡ Ok a)) h is
+
+pub due_err_at : {X A : Type 0} (result : Result A Refusal) (f : X → Result A Refusal) (x y : X)
+    → x ≡ y → IfErr result (IsDueRefusal (f x)) → IfErr result (IsDueRefusal (f y))
+due_err_at result f x y h is = subst (λ z. IfErr result (IsDueRefusal (f z))) h is

@@ -1,5 +1,5 @@
 -- Nodes that go or move, one after the other.
-use Rattle.std.proofs.Common.{◌≡◌, ℕ, ◌+◌, ◌<◌, ◌≤◌, suc, get_or, map, List, [], ◌∷◌, ◌++◌, length, take, drop, Option, None, Some, refl, sym, ap, ◌∙◌, subst, arith, append_assoc}
+use Rattle.std.proofs.Common.{◌≡◌, ℕ, ◌+◌, ◌<◌, ◌≤◌, suc, get_or, map, List, [], ◌∷◌, ◌++◌, length, take, drop, Option, None, refl, sym, ap, ◌∙◌, subst, arith}
 use Rattle.std.specs.Prelude.{IfErr, IfOk, OnOk, Result, Ok, Err}
 use Rattle.std.specs.Result.{is_ok}
 use Rattle.std.specs.List.{fold}
@@ -13,7 +13,7 @@ use Rattle.jr_items.specs.Items.{first_some}
 use Rattle.jr_items.specs.Refusals.{IsTheRefusal, out_of_memory}
 use Rattle.jr_overlay.specs.Drafts.{Steps}
 use Rattle.jcr_write.specs.Places.{unless_refused}
-use Rattle.jcr_write.proofs.Due.{first_here, first_later, passed_ok}
+use Rattle.jcr_write.proofs.Due.{first_here, passed_ok}
 
 -- one more of those that were gone through
 pub fold_more : {X A B : Type 0} (g : B → A → B) (f : X → A) (start now new : B) (xs : List X) (i : ℕ)
@@ -34,7 +34,7 @@ fold_all {X = X} g f start now xs i end so_far =
     so_far ∙ ap (λ (ys : List X). fold g start (map f ys)) (take_all i xs end)
 
 -- what is left from the i-th on
-left : {X : Type 0} (xs : List X) (i : ℕ) (x : X) → i < length xs → x ≡ get_or xs i x
+pub left : {X : Type 0} (xs : List X) (i : ℕ) (x : X) → i < length xs → x ≡ get_or xs i x
     → drop i xs ≡ x ∷ drop (i + 1) xs
 left xs i x below at =
     let on : suc i ≡ i + 1 = omega arith in

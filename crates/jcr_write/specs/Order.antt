@@ -1,7 +1,7 @@
 -- The order of the children of a node.
-use Rattle.std.specs.Prelude.{Bool, cond, List, [], ◌∷◌, ◌++◌, Option, None, Some, is_none, is_some, map}
+use Rattle.std.specs.Prelude.{Bool, true, cond, List, [], ◌∷◌, ◌++◌, Option, is_none, map}
 use Rattle.std.specs.List.{flat_map, fold}
-use Rattle.std.specs.Map.{keys_of, lookup, remove_entry}
+use Rattle.std.specs.Map.{keys_of, remove_entry}
 use Rattle.std.specs.BTreeMap.{is_at, insert_entry}
 use Rattle.std.specs.Ordering.{bool_cmp, on, then_cmp}
 use Rattle.std.specs.Option.{option_cmp}
@@ -24,9 +24,13 @@ use Rattle.jr_part.specs.Parts.{ChildNames, has_name}
 use Rattle.jcr_write.specs.Places.{node_types}
 use Rattle.jcr_write.specs.declared.order.Birth.{Birth}
 
+-- with one child more, in the place of one of its name
+abbrev pub with_name : ChildNames → Name × Option Revision → ChildNames
+with_name names e = insert_entry name_cmp names e.0 e.1
+
 -- children by their names
 abbrev pub by_name : ChildNames → ChildNames
-by_name rest = fold (λ m e. insert_entry name_cmp m e.0 e.1) [] rest
+by_name rest = fold with_name [] rest
 
 -- by the revision that added a child, what is pending last, and of one birth by name
 abbrev pub birth_cmp : Birth → Birth → Ordering
@@ -37,10 +41,13 @@ birth_cmp = then_cmp (on (λ b. b.pending) bool_cmp)
 abbrev pub birth_of : Name × Option Revision → Birth
 birth_of e = record { pending = is_none e.1; born = e.1; name = e.0 }
 
+-- with the birth of one child more
+abbrev pub with_birth : List (Birth × Bool) → Name × Option Revision → List (Birth × Bool)
+with_birth births e = insert_entry birth_cmp births (birth_of e) true
+
 -- the names of children by their births
 abbrev pub by_birth : ChildNames → List Name
-by_birth rest =
-    map (λ e. e.0.name) (fold (λ m e. insert_entry birth_cmp m (birth_of e) (tt {0})) [] rest)
+by_birth rest = map (λ e. e.0.name) (fold with_birth [] rest)
 
 -- first the listed names that are children's, each once, then the other children by their births
 abbrev pub in_order : (listed : List Name) → ChildNames → List Name

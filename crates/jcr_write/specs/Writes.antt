@@ -1,8 +1,7 @@
 -- What the commands that make nothing of themselves do to a view, and when they are refused.
-use Rattle.std.specs.Prelude.{Bool, true, false, cond, List, [], ◌∷◌, ◌++◌, codes, drop, length, Option, None, Some, is_none, is_some, map, option_and_then, option_map, Result, Ok, Err}
-use Rattle.std.specs.List.{filter, flat_map, fold, list_any}
+use Rattle.std.specs.Prelude.{◌==◌, Bool, true, false, cond, not, List, [], ◌∷◌, ◌++◌, codes, Option, None, Some, is_none, is_some, map, option_and_then, option_map, Result, Ok, Err}
+use Rattle.std.specs.List.{filter, flat_map, list_any}
 use Rattle.std.specs.Option.{option_map_or}
-use Rattle.std.specs.Prelude.{◌==◌}
 use Rattle.jr_path.specs.Names.{is_under, last_name}
 use Rattle.jr_path.specs.declared.name.Name.{Name}
 use Rattle.jr_path.specs.declared.path.Path.{Path}
@@ -14,16 +13,17 @@ use Rattle.jr_tree.specs.declared.shared.Refusal.{Refusal}
 use Rattle.jr_tree.specs.declared.tree.Node.{Node}
 use Rattle.jr_items.specs.Items.{first_of, first_some, is_empty, property_of, same_name}
 use Rattle.jr_items.specs.Names.{child_order, primary_type}
-use Rattle.jr_items.specs.Refusals.{in_system, limit_refusal, no_item, own_item_rule, own_rule, taken, too_deep, too_long, unsupported, when, wrong_kind}
+use Rattle.jr_items.specs.Refusals.{in_system, limit_refusal, no_item, own_item_rule, own_rule, taken, unsupported, when, wrong_kind}
 use Rattle.jr_types.specs.Attributes.{are_ordered}
 use Rattle.jr_types.specs.Types.{child_def, is_named, prop_def, props_of}
 use Rattle.jr_types.specs.declared.PropDef.{PropDef}
 use Rattle.jr_types.specs.declared.TypeDef.{TypeDef}
 use Rattle.jr_part.specs.Parts.{ChildNames}
-use Rattle.jr_overlay.specs.Drafts.{Steps, drafted, with_step}
+use Rattle.jr_overlay.specs.Drafts.{Steps, drafted}
 use Rattle.jr_overlay.specs.Overlays.{View}
+pub use Rattle.jr_overlay.specs.Views.{all_gone, all_moved, moved_path, with_moved}
 use Rattle.jcr_write.specs.Order.{listing, moved_before, ordered}
-use Rattle.jcr_write.specs.Places.{above, at_place, node_types, of_node, own_of, path_refusal, putting, unless_refused, with_property, without_property}
+use Rattle.jcr_write.specs.Places.{above, at_place, node_types, path_refusal, putting, unless_refused, with_property, without_property}
 
 -- the definitions of that very name
 abbrev pub named_defs : List TypeDef → Name → List PropDef
@@ -98,18 +98,10 @@ abbrev pub remove_refusal : List TypeDef → View → Steps → Path → Option 
 remove_refusal types view steps p = first_some (path_refusal p ∷ absent view steps p ∷ is_root p
     ∷ kept_refusal types view steps p ∷ [])
 
--- each of these nodes goes
-abbrev pub all_gone : Steps → Nodes → Steps
-all_gone steps nodes = fold (λ s e. with_step s e.0 None) steps nodes
-
 -- the node at p goes, with all below it
 abbrev pub remove_made : List TypeDef → View → Steps → Path → Result Steps Refusal
 remove_made types view steps p = unless_refused (remove_refusal types view steps p)
     (Ok (all_gone steps (view.below p)))
-
--- where what stands at r comes to stand, when the node at p moves to q
-abbrev pub moved_path : Path → Path → Path → Path
-moved_path p q r = q ++ drop (length p) r
 
 -- the limit that the first of the moved paths passes that passes one
 abbrev pub moved_limit : Path → Path → Nodes → Option Refusal
@@ -131,15 +123,6 @@ abbrev pub move_refusal : View → Steps → Path → Path → Option Refusal
 move_refusal view steps p q = first_some (ends_refusal p q
     ∷ stand_refusal view steps p q ∷ moved_limit p q (view.below p) ∷ [])
 
--- a node goes from its place and stands at its new one, as it was
-abbrev pub with_moved : Path → Path → Steps → Path × Node → Steps
-with_moved p q steps e =
-    with_step (with_step steps e.0 None) (moved_path p q e.0) (Some e.1)
-
--- each of these nodes goes and stands at its new place
-abbrev pub all_moved : Path → Path → Steps → Nodes → Steps
-all_moved p q steps nodes = fold (with_moved p q) steps nodes
-
 -- the node at p moves to q, with all below it
 abbrev pub move_made : View → Steps → Path → Path → Result Steps Refusal
 move_made view steps p q =
@@ -154,29 +137,50 @@ order_place view steps p =
 abbrev pub is_child_named : ChildNames → Name → Bool
 is_child_named children n = list_any (λ e. same_name n e.0) children
 
--- no child has the name that another is to go before
+-- no child of the node at p has the name that another is to go before
 abbrev pub no_child_before : Path → ChildNames → Option Name → Option Refusal
 no_child_before p children None = None
-no_child_before p children (Some b) =
-    when (cond (is_child_named children b) false true) (no_item (p ++ b ∷ []))
+no_child_before p children (Some b) = when (not (is_child_named children b)) (no_item (p ++ b ∷ []))
 
--- a node whose children have this order, with the child n before another
+-- why the children of the node at p may not get another order: its types don't order them, or there
+-- is no child to go before
+abbrev pub order_refusal : List TypeDef → Path → ChildNames → Option Name → Node → Option Refusal
+order_refusal types p children before node = first_some (
+    when (not (are_ordered (node_types types node))) (unsupported (codes "orderBefore"))
+    ∷ no_child_before p children before ∷ [])
+
+-- the node with its children in their order, where the child n goes before another
 abbrev pub node_ordered : List TypeDef → ChildNames → Name → Option Name → Node → Node
 node_ordered types children n before node =
     with_property node child_order (listing (moved_before n before (ordered types node children)))
 
--- the node above p with a new order of its children; its types must order them, and the other must
--- be a child
-abbrev pub parent_ordered : List TypeDef → View → Path → Option Name → Option Node → Result Node Refusal
-parent_ordered types view p before None = Err (unsupported (codes "orderBefore"))
-parent_ordered types view p before (Some node) =
-    unless_refused (first_some (
-    when (cond (are_ordered (node_types types node)) false true) (unsupported (codes "orderBefore"))
-    ∷ no_child_before (above p) (view.children (above p)) before ∷ []))
-    (Ok (node_ordered types (view.children (above p)) (own_of p) before node))
+-- the node at p with another order of its children, where it may get it
+abbrev pub reordered : List TypeDef → Path → ChildNames → Name → Option Name → Node
+    → Result Node Refusal
+reordered types p children n before node =
+    unless_refused (order_refusal types p children before node)
+    (Ok (node_ordered types children n before node))
+
+-- the same of the node above, if there is one
+abbrev pub parent_ordered : List TypeDef → View → Path → Name → Option Name → Option Node
+    → Result Node Refusal
+parent_ordered types view p n before None = Err (unsupported (codes "orderBefore"))
+parent_ordered types view p n before (Some node) =
+    reordered types p (view.children p) n before node
+
+-- the same of the node above the node at p; the root has no name
+abbrev pub above_ordered : List TypeDef → View → Steps → Path → Option Name → Option Name
+    → Result Node Refusal
+above_ordered types view steps p before None = Err (own_rule p)
+above_ordered types view steps p before (Some n) =
+    parent_ordered types view (above p) n before (drafted view steps (above p))
+
+-- the node above the node at p with another order of its children, where that may be
+abbrev pub order_node : List TypeDef → View → Steps → Path → Option Name → Result Node Refusal
+order_node types view steps p before = unless_refused (order_place view steps p)
+    (above_ordered types view steps p before (last_name p))
 
 -- the node at p goes before another in the order of its parent's children, or to the end
 abbrev pub order_made : List TypeDef → View → Steps → Path → Option Name → Result Steps Refusal
 order_made types view steps p before =
-    putting steps (above p) (unless_refused (order_place view steps p)
-    (parent_ordered types view p before (drafted view steps (above p))))
+    putting steps (above p) (order_node types view steps p before)

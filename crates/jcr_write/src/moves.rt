@@ -10,7 +10,8 @@ ghost use Rattle.jr_types.specs.Types.{child_def};
 ghost use Rattle.jr_overlay.specs.Drafts.{in_draft};
 ghost use Rattle.jr_overlay.specs.Overlays.{sighted};
 ghost use Rattle.jcr_write.specs.Places.{IsDueRefusal, above, node_types};
-ghost use Rattle.jcr_write.specs.Writes.{absent, all_gone, all_moved, ends_refusal, is_kept_below, is_root, kept_refusal, move_made, move_refusal, moved_limit, moved_path, remove_made, remove_refusal, stand_refusal, with_moved};
+ghost use Rattle.jcr_write.specs.Writes.{absent, ends_refusal, is_kept_below, is_root, kept_refusal, move_made, move_refusal, moved_limit, remove_made, remove_refusal, stand_refusal};
+ghost use Rattle.jr_overlay.specs.Views.{all_gone, all_moved, moved_path, with_moved};
 
 use crate::places::{above, check_path, or_memory};
 use jr_items::{check_limits, check_not_system, no_item, own_item_rule, own_rule, taken};

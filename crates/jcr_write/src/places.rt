@@ -1,9 +1,9 @@
 // The places that commands name, and copies of nodes with one property more or less.
-ghost use Rattle.std.specs.Prelude.{◌≡◌, IfErr, IfOk, None, Ok, OnOk, Some};
+ghost use Rattle.std.specs.Prelude.{◌≡◌, ◌∷◌, ◌++◌, [], IfErr, IfOk, None, Ok, OnOk, Some};
 ghost use Rattle.std.specs.Option.{option_copied};
 ghost use Rattle.jr_overlay.specs.Drafts.{with_step};
 ghost use Rattle.jr_overlay.specs.Overlays.{sighted};
-ghost use Rattle.jr_items.specs.Refusals.{IsTheRefusal, out_of_memory};
+ghost use Rattle.jr_items.specs.Refusals.{IsOrMemory, IsTheRefusal, no_item, out_of_memory};
 ghost use Rattle.jcr_write.specs.Places.{IsDueRefusal, above, of_node, path_refusal, place_of, with_property, without_property};
 
 use jr_items::{check_limits, check_not_system, no_item};
@@ -73,6 +73,16 @@ pub fn put_node(
     match draft.put(path, Some(node)) {
         Ok(()) => Ok(()),
         Err(AllocError) => Err(Refusal::memory(alloc)),
+    }
+}
+
+// There is no such item below a node.
+pub(crate) fn no_item_named(alloc: Global, path: &Path, name: &Name) -> Refusal
+    ensures { IsOrMemory (no_item (path.now ++ name.now ∷ [])) result }
+{
+    match path.child(name) {
+        Ok(item) => no_item(alloc, &item),
+        Err(AllocError) => Refusal::memory(alloc),
     }
 }
 

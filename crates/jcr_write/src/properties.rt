@@ -1,18 +1,20 @@
 // Setting and unsetting properties.
-ghost use Rattle.std.specs.Prelude.{◌≡◌, ◌∷◌, ◌++◌, [], IfErr, IfOk, None, Ok, OnOk, Some, false, map, option_and_then, option_map};
+ghost use Rattle.std.specs.Prelude.{◌≡◌, IfErr, IfOk, None, Ok, OnOk, Some, false, map, option_and_then, option_map};
 ghost use Rattle.std.specs.List.{filter, list_any};
 ghost use Rattle.std.specs.Option.{option_map_or};
 ghost use Rattle.jr_value.specs.Values.{kind_of_property};
 ghost use Rattle.jr_items.specs.Items.{first_of, property_of};
-ghost use Rattle.jr_items.specs.Refusals.{IsOrMemory, IsTheRefusal, no_item, wrong_kind};
+ghost use Rattle.jr_items.specs.Refusals.{IsTheRefusal, wrong_kind};
 ghost use Rattle.jr_types.specs.Registered.{IsAlike};
 ghost use Rattle.jr_types.specs.Types.{is_named, prop_def};
 ghost use Rattle.jr_overlay.specs.Overlays.{sighted};
 ghost use Rattle.jcr_write.specs.Places.{IsDueRefusal, node_types, unless_refused, with_property, without_property};
 ghost use Rattle.jcr_write.specs.Writes.{defs_refusal, lets_kind, named_defs, node_set, node_unset, other_kind, set_made, set_refusal, unset_made, unset_refusal};
 
-use crate::places::{check_place, or_memory, put_node, with_property, without_property};
-use jr_items::{no_item, own_item_rule, wrong_kind};
+use crate::places::{
+    check_place, no_item_named, or_memory, put_node, with_property, without_property,
+};
+use jr_items::{own_item_rule, wrong_kind};
 use jr_overlay::Draft;
 use jr_path::{Name, Path};
 use jr_tree::{Node, Refusal};
@@ -305,17 +307,7 @@ fn check_unset(
 {
     match node.props.get(name) {
         Some(property) => check_not_protected(alloc, types, node, path, name, property),
-        None => Err(no_property(alloc, path, name)),
-    }
-}
-
-// There is no such property.
-fn no_property(alloc: Global, path: &Path, name: &Name) -> Refusal
-    ensures { IsOrMemory (no_item (path.now ++ name.now ∷ [])) result }
-{
-    match path.child(name) {
-        Ok(item) => no_item(alloc, &item),
-        Err(AllocError) => Refusal::memory(alloc),
+        None => Err(no_item_named(alloc, path, name)),
     }
 }
 

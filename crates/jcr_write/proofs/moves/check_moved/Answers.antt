@@ -1,9 +1,10 @@
-use Rattle.std.proofs.Common.{map, ap, drop}
+use Rattle.std.proofs.Common.{map, ap}
 use Rattle.std.proofs.lemmas.Result.{err_from_is_err_and}
 use Rattle.std.specs.Map.Iter.{deref_pair}
 use Rattle.jr_items.specs.Items.{first_some}
 use Rattle.jr_items.specs.Refusals.{limit_refusal}
-use Rattle.jcr_write.specs.Writes.{moved_limit, moved_path}
+use Rattle.jcr_write.specs.Writes.{moved_limit}
+use Rattle.jr_overlay.specs.Views.{moved_path}
 use Rattle.jcr_write.proofs.Moving.{limit_here, map_twice}
 use Rattle.jcr_write.proofs.moves.check_moved.Goals as goal
 

@@ -2,7 +2,8 @@ use Rattle.std.proofs.Common.{◌≡◌, map, drop}
 use Rattle.std.specs.Map.Iter.{deref_pair}
 use Rattle.jr_items.specs.Items.{first_some}
 use Rattle.jr_items.specs.Refusals.{limit_refusal}
-use Rattle.jcr_write.specs.Writes.{moved_limit, moved_path}
+use Rattle.jcr_write.specs.Writes.{moved_limit}
+use Rattle.jr_overlay.specs.Views.{moved_path}
 use Rattle.jcr_write.proofs.moves.check_moved.Given as goal
 
 -- the first of all that passes a limit is the first of those that are left

@@ -1,5 +1,5 @@
 use Rattle.jr_items.specs.Refusals.{limit_refusal}
-use Rattle.jcr_write.specs.Writes.{moved_path}
+use Rattle.jr_overlay.specs.Views.{moved_path}
 use Rattle.jcr_write.proofs.Due.{at_path}
 use Rattle.jcr_write.proofs.moves.check_moved_path.Goals as goal
 

@@ -1,9 +1,10 @@
-use Rattle.std.proofs.Common.{◌≡◌, ◌∙◌, ap, map}
+use Rattle.std.proofs.Common.{◌∙◌, ap, map}
 use Rattle.std.specs.Prelude.{Ok}
 use Rattle.std.specs.Map.Iter.{deref_pair}
 use Rattle.jr_overlay.specs.Overlays.{sighted}
 use Rattle.jcr_write.specs.Places.{unless_refused}
-use Rattle.jcr_write.specs.Writes.{all_moved, move_refusal}
+use Rattle.jcr_write.specs.Writes.{move_refusal}
+use Rattle.jr_overlay.specs.Views.{all_moved}
 use Rattle.jcr_write.proofs.Due.{memory_result, refused_due}
 use Rattle.jcr_write.proofs.Moving.{steps_ok}
 use Rattle.jcr_write.proofs.moves.move_to.Goals as goal

@@ -1,6 +1,5 @@
-use Rattle.std.proofs.Common.{◌≡◌, ◌∙◌, ap, map}
+use Rattle.std.proofs.Common.{◌∙◌, ap, map}
 use Rattle.std.specs.Map.Iter.{deref_pair}
-use Rattle.jr_tree.specs.Trees.{Nodes}
 use Rattle.jr_overlay.specs.Overlays.{Sighted, sighted}
 use Rattle.jcr_write.specs.Writes.{moved_limit}
 use Rattle.jcr_write.proofs.Moving.{limit_err, limit_ok, same_nodes}

@@ -1,6 +1,6 @@
 use Rattle.std.proofs.Common.{◌≡◌, map, take}
 use Rattle.std.specs.Map.Iter.{deref_pair}
-use Rattle.jcr_write.specs.Writes.{all_moved}
+use Rattle.jr_overlay.specs.Views.{all_moved}
 use Rattle.jcr_write.proofs.moves.put_all_moved.Given as goal
 
 -- the nodes so far are moved
