@@ -55,7 +55,7 @@ now_put view steps p node = drafted_put view steps p p node
     ∙ ap (λ b. unwrap_or (cond b (Some (Some node)) (lookup (is_at (path_cmp p)) steps)) (view.node p)) (ap is_eq (tied_itself path_total p))
 
 -- what a step makes, by the child that is missing
-abbrev by_missing : (Path → Node → Making → Result Making Refusal) → List TypeDef → Making → Option MissingChild → Result Making Refusal
+abbrev pub by_missing : (Path → Node → Making → Result Making Refusal) → List TypeDef → Making → Option MissingChild → Result Making Refusal
 by_missing complete types m None = Ok m
 by_missing complete types m (Some c) = with_child complete types c.path c.node_type m
 
@@ -65,7 +65,7 @@ unless_there p name type there = cond there None (Some (record { path = child_pa
 
 module _ (types : List TypeDef) (view : View) (p : Path) (complete : Path → Node → Making → Result Making Refusal) (whole : IsCompleting view complete) where
   -- a child that is to be made
-  is_missing : Making → ChildDef → Bool
+  abbrev is_missing : Making → ChildDef → Bool
   is_missing m d = is_some (missing_child view m.steps p d)
 
   made_child : (path : Path) (type : Name) (m n : Making) (o : Option Refusal) → unless_refused o (complete path (node_of_type type) m) ≡ Ok n → complete path (node_of_type type) m ≡ Ok n
@@ -165,7 +165,7 @@ whole_at (suc levels) types who view = by (whole_at levels types who view)
             at (Err r) e = absurd (err-ok e)
 
 -- lists of types in which each test finds the same make the same children
-pub children-alike : (levels : ℕ) (types : List TypeDef) (who : Who) (view : View) (p : Path) (ds es : List TypeDef) (m : Making) → IsAlike ds es
+pub children_alike : (levels : ℕ) (types : List TypeDef) (who : Who) (view : View) (p : Path) (ds es : List TypeDef) (m : Making) → IsAlike ds es
     → with_children (completed levels types who view) types view p ds m ≡ with_children (completed levels types who view) types view p es m
-children-alike levels types who view p ds es m h = children_same types view p (completed levels types who view) (whole_at levels types who view)
+children_alike levels types who view p ds es m h = children_same types view p (completed levels types who view) (whole_at levels types who view)
     (flat_map (λ d. d.children) ds) (flat_map (λ d. d.children) es) m (flat-alike (λ d. d.children) ds es h)

@@ -1,6 +1,6 @@
 -- Nodes that are made whole, by lists of types in which each test finds the same first one.
 use Rattle.std.proofs.Common.{◌≡◌, ◌≢◌, ℕ, zero, suc, ◌-◌, List, refl, sym, ap, ◌∙◌, arith}
-use Rattle.std.specs.Prelude.{Result, Ok}
+use Rattle.std.specs.Prelude.{IfErr, Result, Ok, Err}
 use Rattle.std.specs.List.{flat_map}
 use Rattle.jr_path.specs.declared.path.Path.{Path}
 use Rattle.jr_tree.specs.declared.shared.Refusal.{Refusal}
@@ -11,12 +11,13 @@ use Rattle.jr_types.specs.Registered.{IsAlike}
 use Rattle.jr_types.specs.Types.{props_of}
 use Rattle.jr_types.specs.declared.PropDef.{PropDef}
 use Rattle.jr_types.specs.declared.TypeDef.{TypeDef}
-use Rattle.jr_overlay.specs.Overlays.{View}
-use Rattle.jcr_write.specs.Places.{node_types}
+use Rattle.jr_overlay.specs.Overlays.{Sighted, View, sighted}
+use Rattle.jcr_write.specs.Places.{IsDueRefusal, node_types}
 use Rattle.jcr_make.specs.declared.fill.Filling.{Filling}
 use Rattle.jcr_make.specs.Filled.{filled}
 use Rattle.jcr_make.specs.Makings.{Making, completed, put_filled, put_filled_by, with_children, with_node}
 use Rattle.jcr_make.specs.Steps.{and_then}
+use Rattle.jcr_make.proofs.Children.{children_alike}
 use Rattle.jcr_make.proofs.Fills.{filled-alike}
 
 -- the definitions of types in which each test finds the same put the same properties
@@ -43,3 +44,14 @@ completed_more zero types who view p node m h = absurd (h refl)
 completed_more (suc k) types who view p node m h =
     let e : k ≡ suc k - 1 = omega arith in
     ap (λ j. and_then (put_filled types who p node m) (with_children (completed j types who view) types view p (node_types types node))) e
+
+-- the children's refusal is due, where the properties are put
+pub children_err : {T : Type 0} (result : Result T Refusal) (levels : ℕ) (types of : List TypeDef) (who : Who) (s t : Sighted) (p : Path) (node : Node) (m n : Making)
+    → IsAlike of (node_types types node) → t ≡ s → put_filled types who p node m ≡ Ok n
+    → IfErr result (IsDueRefusal (with_children (completed levels types who (sighted t)) types (sighted t) p of n))
+    → IfErr result (IsDueRefusal (and_then (put_filled types who p node m) (with_children (completed levels types who (sighted s)) types (sighted s) p (node_types types node))))
+children_err (Ok x) levels types of who s t p node m n h same put is = is
+children_err (Err r) levels types of who s t p node m n h same put is = λ a.
+    ap (λ (q : Result Making Refusal). and_then q (with_children (completed levels types who (sighted s)) types (sighted s) p (node_types types node))) put
+    ∙ (sym (children_alike levels types who (sighted s) p of (node_types types node) n h)
+    ∙ (ap (λ v. with_children (completed levels types who (sighted v)) types (sighted v) p of n) (sym same) ∙ is a))

@@ -9,7 +9,7 @@ use Rattle.jr_tree.specs.declared.shared.Refusal.{Refusal}
 use Rattle.jr_tree.specs.declared.tree.Node.{Node}
 use Rattle.jr_items.specs.Items.{first_some}
 use Rattle.jr_items.specs.Refusals.{IsOrMemory, IsTheRefusal, out_of_memory, when}
-use Rattle.jr_overlay.specs.Drafts.{Steps, drafted}
+use Rattle.jr_overlay.specs.Drafts.{Steps, drafted, with_step}
 use Rattle.jr_overlay.specs.Overlays.{View}
 use Rattle.jcr_write.specs.Places.{IsDueRefusal, at_place, of_node, path_refusal, place_of, unless_refused}
 use Rattle.jcr_make.specs.Steps.{and_then}
@@ -132,3 +132,44 @@ pub place_err : {A : Type 0} (view : View) (steps : Steps) (p : Path) (r : Refus
     → IsDueRefusal (at_place view steps p then) r
 place_err view steps p r then is m =
     unfound (path_refusal p) (drafted view steps p) p r then (is m)
+
+-- the second of two comes, where the first doesn't
+pub second_result : {T : Type 0} (result : Result T Refusal) (a b : Option Refusal) → a ≡ None
+    → IfErr result (IsTheRefusal b) → IfErr result (IsTheRefusal (first_some (a ∷ b ∷ [])))
+second_result (Ok x) a b h due = due
+second_result (Err r) a b h due = first_later a (b ∷ []) r h (first_here b [] r due)
+
+pub second_none : {T : Type 0} (result : Result T Refusal) (a b : Option Refusal) → a ≡ None
+    → OnOk result (b ≡ None) → OnOk result (first_some (a ∷ b ∷ []) ≡ None)
+second_none (Err r) a b h is = is
+second_none (Ok x) None None h is = refl
+second_none (Ok x) None (Some y) h is = is
+second_none (Ok x) (Some y) b h is = absurd (none-some y (sym h))
+
+-- a node that was made is put
+pub put_after : {T : Type 0} (result : Result T Refusal) (first : Result Node Refusal)
+    (steps new : Steps) (p : Path) (node : Node) → first ≡ Ok node
+    → OnOk result (new ≡ with_step steps p (Some node))
+    → OnOk result (and_then first (λ n. Ok (with_step steps p (Some n))) ≡ Ok new)
+put_after (Ok x) first steps new p node h is =
+    ap (λ (r : Result Node Refusal). and_then r (λ n. Ok (with_step steps p (Some n)))) h ∙ ap Ok (sym is)
+put_after (Err r) first steps new p node h is = is
+
+-- what follows of a node that is there
+pub of_node_is : {A : Type 0} (p : Path) (o : Option Node) (node : Node) (then : Node → Result A Refusal)
+    → Some node ≡ o → of_node p o then ≡ then node
+of_node_is p o node then h = ap (λ (n : Option Node). of_node p n then) (sym h)
+
+-- the rest of several
+pub rest_result : {T : Type 0} (result : Result T Refusal) (a : Option Refusal)
+    (rest : List (Option Refusal)) → a ≡ None → IfErr result (IsTheRefusal (first_some rest))
+    → IfErr result (IsTheRefusal (first_some (a ∷ rest)))
+rest_result (Ok x) a rest h due = due
+rest_result (Err r) a rest h due = first_later a rest r h due
+
+pub rest_none : {T : Type 0} (result : Result T Refusal) (a : Option Refusal)
+    (rest : List (Option Refusal)) → a ≡ None → OnOk result (first_some rest ≡ None)
+    → OnOk result (first_some (a ∷ rest) ≡ None)
+rest_none (Err r) a rest h is = is
+rest_none (Ok x) None rest h is = is
+rest_none (Ok x) (Some y) rest h is = absurd (none-some y (sym h))

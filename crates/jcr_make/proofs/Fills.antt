@@ -25,7 +25,7 @@ use Rattle.jcr_make.specs.Filled.{filled, given, identified, lacking, next_ident
 use Rattle.jcr_make.proofs.Each.{IsMaking, each-alike}
 
 -- a property is made by the definition: a node lacks it, and there is something to put
-is_made : Who → Filling → PropDef → Bool
+abbrev is_made : Who → Filling → PropDef → Bool
 is_made who f d = option_map_or (λ n. same_name uuid n || is_some (given who n d)) (lacking f.node d) false
 
 -- what a step makes, by the name that the node lacks

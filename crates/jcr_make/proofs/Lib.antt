@@ -1,3 +1,4 @@
+pub mod Begun
 pub mod Children
 pub mod Completes
 pub mod Due
@@ -5,3 +6,5 @@ pub mod Each
 pub mod Fills
 mod Identifiers
 pub mod Loops
+pub mod Names
+pub mod ReadBelow

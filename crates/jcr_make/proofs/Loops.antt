@@ -16,3 +16,9 @@ pub loop_err : {R X S : Type 0} (see : R → X) (step : X → S → Result S Ref
     → d ≡ get_or rs i d → i < length rs → each step (map see (drop i rs)) s ≡ all → IsDueRefusal (step (see d) s) r → IsDueRefusal all r
 loop_err see step rs i d all s r is lt before due m =
     sym before ∙ (step_first see step rs i d s is lt ∙ ap (λ q. and_then q (each step (map see (drop (suc i) rs)))) (due m))
+
+-- the same, of elements that are seen as they are
+pub own_loop_err : {X S : Type 0} (step : X → S → Result S Refusal) (xs : List X) (i : ℕ) (d : X) (all : Result S Refusal) (s : S) (r : Refusal)
+    → d ≡ get_or xs i d → i < length xs → each step (drop i xs) s ≡ all → IsDueRefusal (step d s) r → IsDueRefusal all r
+own_loop_err step xs i d all s r is lt before due m =
+    sym before ∙ (ap (λ ds. each step ds s) (drop-cons xs i d lt ∙ ap (λ e. e ∷ drop (suc i) xs) (sym is)) ∙ ap (λ q. and_then q (each step (drop (suc i) xs))) (due m))

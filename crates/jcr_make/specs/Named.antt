@@ -2,9 +2,8 @@
 use Rattle.std.specs.Prelude.{ℕ, Bool, true, false, cond, not, ◌&&◌, ◌||◌, ◌==◌, nat_le, List, [], ◌∷◌, Option, None, Some, length, codes}
 use Rattle.std.specs.List.{list_all}
 use Rattle.std.specs.Option.{option_map, option_map_or}
-use Rattle.std.specs.Str.{chars, is_utf8}
+use Rattle.std.specs.Str.{bytes_eq, chars, is_utf8}
 use Rattle.jr_path.specs.Grammar.{is_plain, is_prefix_character}
-use Rattle.jr_items.specs.Items.{is_empty, same_name}
 
 -- the characters before the first colon (58), and those behind it
 abbrev pub at_colon : List ℕ → Option (List ℕ × List ℕ)
@@ -13,7 +12,8 @@ at_colon (c ∷ cs) = cond (c == 58) (Some ([], cs)) (option_map (λ e. (c ∷ e
 
 -- one or more characters that all pass
 abbrev pub is_run_of : (ℕ → Bool) → List ℕ → Bool
-is_run_of passes cs = not (is_empty cs) && list_all passes cs
+is_run_of passes [] = false
+is_run_of passes (c ∷ cs) = list_all passes (c ∷ cs)
 
 -- a prefix, a colon and plain characters
 abbrev pub is_prefixed : List ℕ → Bool
@@ -31,12 +31,19 @@ ends_with_space [] = false
 ends_with_space (c ∷ []) = c == 32
 ends_with_space (c ∷ d ∷ cs) = ends_with_space (d ∷ cs)
 
--- characters that a name may have
-abbrev pub may_be_named : List ℕ → Bool
-may_be_named cs = (is_run_of is_plain cs || is_prefixed cs)
-    && not (begins_with_space cs) && not (ends_with_space cs)
+-- the characters are plain, or a prefix, a colon and plain ones
+abbrev pub is_formed : List ℕ → Bool
+is_formed cs = is_run_of is_plain cs || is_prefixed cs
 
--- a text of at most 255 bytes with such characters, and neither `.` nor `..`
+-- no character at either end is a space
+abbrev pub is_trimmed : List ℕ → Bool
+is_trimmed cs = not (begins_with_space cs) && not (ends_with_space cs)
+
+-- the text is neither `.` nor `..`
+abbrev pub is_no_dots : List ℕ → Bool
+is_no_dots text = not (bytes_eq text (codes ".")) && not (bytes_eq text (codes ".."))
+
+-- a text in UTF-8 of at most 255 bytes whose characters a name may have
 unfoldable pub is_name : List ℕ → Bool
-is_name text = is_utf8 text && may_be_named (chars text) && nat_le (length text) 255
-    && not (same_name text (codes ".")) && not (same_name text (codes ".."))
+is_name text = is_utf8 text && (is_formed (chars text)
+    && (is_trimmed (chars text) && (nat_le (length text) 255 && is_no_dots text)))

@@ -82,6 +82,7 @@ pub(crate) fn check_type(alloc: Global, types: &Registry, name: &Name) -> Result
 
 // Puts a node with what belongs to it, so many levels down.
 #[cycle(levels)]
+#[tactic(auto, using(crate::proofs::Completes::completed_none, crate::proofs::Completes::completed_more, crate::proofs::Due::memory_result))]
 fn complete_levels(
     alloc: Global,
     types: &Registry,
@@ -110,6 +111,7 @@ fn complete_levels(
 
 // Puts a node of these types with its properties, and makes its children so many levels down.
 #[cycle(levels)]
+#[tactic(auto, using(crate::proofs::Due::after_ok, crate::proofs::Due::after_err, crate::proofs::Due::first_err, crate::proofs::Children::children_alike, crate::proofs::Completes::children_err))]
 fn complete_by(
     alloc: Global,
     types: &Registry,
@@ -223,6 +225,7 @@ fn make_by(
 }
 
 #[cycle(levels)]
+#[tactic(auto, using(crate::proofs::Due::passed_ok, crate::proofs::Due::passed_err, crate::proofs::Due::refused_due))]
 fn make_child(
     alloc: Global,
     types: &Registry,

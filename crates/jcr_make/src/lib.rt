@@ -5,11 +5,17 @@
 mod adding;
 mod complete;
 mod fill;
+mod history;
+mod laws;
 mod mixins;
 mod retype;
-mod subtree;
+mod unmix;
 
 pub use adding::add;
-pub use mixins::{mixin, unmixin};
+pub use laws::{
+    adding_reads_below_and_above, changing_types_reads_below, mixing_reads_below_and_histories,
+    unmixing_reads_the_node,
+};
+pub use mixins::mixin;
 pub use retype::set_type;
-pub use subtree::tree;
+pub use unmix::unmixin;

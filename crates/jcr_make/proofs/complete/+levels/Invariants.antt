@@ -1,4 +1,7 @@
-use Rattle.std.proofs.Common.{◌+◌, ◌*◌}
+use Rattle.std.proofs.Common.{◌≡◌, ◌+◌, ◌*◌, map, drop}
+use Rattle.jr_overlay.specs.Overlays.{sighted}
+use Rattle.jcr_make.specs.Makings.{completed, making, with_own_child}
+use Rattle.jcr_make.specs.Steps.{each}
 use Rattle.jcr_make.proofs.complete.+levels.Given as goal
 
 abbrev pub decreases-complete_levels : goal.decreases-complete_levels
@@ -21,3 +24,13 @@ decreases-make_child l = 8 * l.levels + 2
 
 abbrev pub decreases-complete_typed : goal.decreases-complete_typed
 decreases-complete_typed l = 8 * l.levels + 1
+
+-- what is left to make leads there
+abbrev pub invariant-make_each-loop-def : goal.invariant-make_each-loop-def
+invariant-make_each-loop-def l = record {
+  sight : l.draft.sight ≡ l.initial.draft.sight;
+  left : each (with_own_child (completed l.levels l.types l.who (sighted l.initial.draft.sight)) l.types (sighted l.initial.draft.sight) l.path)
+      (map (λ d. d.now) (drop l.def-index l.defs)) (making l.draft.steps l.ids)
+      ≡ each (with_own_child (completed l.levels l.types l.who (sighted l.initial.draft.sight)) l.types (sighted l.initial.draft.sight) l.path)
+      (map (λ d. d.now) l.defs) (making l.initial.draft.steps l.initial.ids);
+}
