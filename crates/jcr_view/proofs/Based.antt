@@ -14,9 +14,9 @@ use Rattle.jr_tree.proofs.Pointwise.{same_path}
 use Rattle.jr_part.specs.Parts.{Knowledge, LacksNothing, known_at}
 use Rattle.jr_part.specs.declared.need.Need.{Need}
 use Rattle.jr_part.specs.declared.need.Need.TheVariants as need
-use Rattle.jr_overlay.specs.Drafts.{Steps, drafted, stepped, with_step, with_steps}
+use Rattle.jr_overlay.specs.Drafts.{Steps, stepped, with_step, with_steps}
 use Rattle.jr_overlay.specs.Overlays.{AreOver, Changed, base_at, change_at, known_view, view_of}
-use Rattle.jr_overlay.specs.Views.{step_at}
+use Rattle.jr_overlay.specs.Views.{all_gone, all_moved, moved_path, step_at}
 use Rattle.jr_overlay.proofs.Below.{base_under}
 use Rattle.jr_overlay.proofs.Commits.{known_base, over_steps, view_steps}
 use Rattle.jr_overlay.proofs.KeepingSteps.{at_step}
@@ -24,7 +24,7 @@ use Rattle.jr_types.specs.declared.TypeDef.{TypeDef}
 use Rattle.jcr_trans.specs.declared.command.Command.{Command}
 use Rattle.jcr_trans.specs.declared.command.Command.TheVariants as command
 use Rattle.jcr_write.specs.Places.{above, putting, unless_refused}
-use Rattle.jcr_write.specs.Writes.{all_gone, all_moved, move_refusal, moved_path, node_set, node_unset, order_place, parent_ordered, remove_refusal}
+use Rattle.jcr_write.specs.Writes.{move_refusal, node_set, node_unset, order_node, remove_refusal}
 use Rattle.jcr_make.specs.Commands.{node_unmixed}
 use Rattle.jcr_make.specs.Steps.{and_then}
 use Rattle.jcr_view.specs.Needs.{AsksFor, children_needs, listing_needs}
@@ -149,11 +149,9 @@ module _ (t : Nodes) (k : Knowledge) (c : Changed) (part : IsPartOf t k c) where
       (subtree_of (view_of k.nodes c) p) (all_under p) [] (touch_none IsBased))
   steps_based types who (command.OrderBefore p before) needs plain asks all =
       let three : All (LacksNothing k) (need.Node p ∷ listing_needs k (above p)) = met k _ needs asks all in
-      touch_put IsBased who.ids (above p) (unless_refused (order_place (known_view k c) [] p)
-      (parent_ordered types (known_view k c) p before (drafted (known_view k c) [] (above p))))
+      touch_put IsBased who.ids (above p) (order_node types (known_view k c) [] p before)
       (at_node (above p) (first_met k (need.Node (above p)) (children_needs (known_at k (above p)) (above p)) (rest_met k (need.Node p) (listing_needs k (above p)) three)))
   steps_based types who (command.Add p type) needs plain asks all = cc
-  steps_based types who (command.Tree p nodes) needs plain asks all = cc
   steps_based types who (command.Mixin p n) needs plain asks all = cc
   steps_based types who (command.SetType p n) needs plain asks all = cc
   steps_based types who _ needs plain asks all = touch_none IsBased

@@ -15,9 +15,8 @@ use Rattle.jr_tree.specs.Trees.{Nodes, node_at}
 use Rattle.jr_tree.specs.declared.shared.Refusal.{Refusal}
 use Rattle.jr_tree.specs.declared.shared.Who.{Who}
 use Rattle.jr_tree.specs.declared.tree.Node.{Node}
-use Rattle.jr_items.specs.Refusals.{limit_refusal, no_identifier, no_item, own_item_rule, own_rule, taken, unsupported, when}
-use Rattle.jr_items.specs.Items.{first_some, property_of}
-use Rattle.jr_types.specs.Attributes.{are_ordered}
+use Rattle.jr_items.specs.Refusals.{limit_refusal, no_identifier, no_item}
+use Rattle.jr_items.specs.Items.{property_of}
 use Rattle.jr_part.specs.Parts.{ChildNames, Knowledge, LacksNothing, known_at, knows, list_at}
 use Rattle.jr_part.specs.declared.need.Need.{Need}
 use Rattle.jr_part.specs.declared.need.Need.TheVariants as need
@@ -33,8 +32,8 @@ use Rattle.jcr_trans.specs.Answers.{Answer, ShowsItems, ShowsNames, ShowsPropert
 use Rattle.jcr_trans.specs.declared.command.Command.{Command}
 use Rattle.jcr_trans.specs.declared.command.Command.TheVariants as command
 use Rattle.jcr_write.specs.Order.{ordered}
-use Rattle.jcr_write.specs.Places.{above, node_types, own_of, path_refusal, putting, unless_refused}
-use Rattle.jcr_write.specs.Writes.{all_gone, all_moved, ends_refusal, is_kept_below, is_root, move_made, moved_limit, no_child_before, node_ordered, order_made, order_place, parent_ordered, remove_made, set_made, unset_made}
+use Rattle.jcr_write.specs.Places.{above}
+use Rattle.jcr_write.proofs.Reading.{move_reads, order_reads, remove_reads, set_reads, unset_reads}
 use Rattle.jcr_make.specs.Commands.{unmixin_made}
 use Rattle.jr_overlay.specs.Drafts.{Steps}
 use Rattle.jcr_view.specs.Needs.{AsksFor, children_needs, listing_needs, needs_of, parent_needs}
@@ -141,68 +140,10 @@ above_same t k c p part all q is =
 one : Option Node → View
 one o = record { node = λ q. o; below = λ q. []; children = λ q. [] }
 
-set_same : (types : List TypeDef) (u w : View) (p : Path) (n : Name) (x : Property) → u.node p ≡ w.node p
-    → set_made types u [] p n x ≡ set_made types w [] p n x
-unfolding one
-set_same types u w p n x e = ap (λ (o : Option Node). set_made types (one o) [] p n x) e
-
-unset_same : (types : List TypeDef) (u w : View) (p : Path) (n : Name) → u.node p ≡ w.node p
-    → unset_made types u [] p n ≡ unset_made types w [] p n
-unfolding one
-unset_same types u w p n e = ap (λ (o : Option Node). unset_made types (one o) [] p n) e
-
 unmixin_same : (types : List TypeDef) (u w : View) (p : Path) (n : Name) → u.node p ≡ w.node p
     → unmixin_made types u p n [] ≡ unmixin_made types w p n []
 unfolding one
 unmixin_same types u w p n e = ap (λ (o : Option Node). unmixin_made types (one o) p n []) e
-
-remove_same : (types : List TypeDef) (u w : View) (p : Path) → u.node p ≡ w.node p
-    → u.node (above p) ≡ w.node (above p) → u.below p ≡ w.below p
-    → remove_made types u [] p ≡ remove_made types w [] p
-remove_same types u w p e f g =
-    let made : Option Node → Option Node → Nodes → Result Steps Refusal = λ o q t.
-    unless_refused (first_some (path_refusal p ∷ when (is_none o) (no_item p) ∷ is_root p
-    ∷ option_and_then (λ n. when (is_kept_below types q n o) (own_item_rule (above p) n)) (last_name p) ∷ []))
-    (Ok (all_gone [] t)) in
-    ap (λ (o : Option Node). made o (u.node (above p)) (u.below p)) e
-    ∙ ap (λ (q : Option Node). made (w.node p) q (u.below p)) f
-    ∙ ap (λ (t : Nodes). made (w.node p) (w.node (above p)) t) g
-
-move_same : (u w : View) (p q : Path) → u.node p ≡ w.node p → u.node q ≡ w.node q
-    → u.node (above q) ≡ w.node (above q) → u.below p ≡ w.below p
-    → move_made u [] p q ≡ move_made w [] p q
-move_same u w p q e f g h =
-    let made : Option Node → Option Node → Option Node → Nodes → Result Steps Refusal = λ o r s t.
-    unless_refused (first_some (ends_refusal p q ∷ first_some (when (is_none o) (no_item p)
-    ∷ when (is_none s) (no_item (above q)) ∷ when (is_some r) (taken q)
-    ∷ when (is_under q p) (own_rule q) ∷ []) ∷ moved_limit p q t ∷ []))
-    (Ok (all_moved p q [] t)) in
-    ap (λ (o : Option Node). made o (u.node q) (u.node (above q)) (u.below p)) e
-    ∙ ap (λ (r : Option Node). made (w.node p) r (u.node (above q)) (u.below p)) f
-    ∙ ap (λ (s : Option Node). made (w.node p) (w.node q) s (u.below p)) g
-    ∙ ap (λ (t : Nodes). made (w.node p) (w.node q) (w.node (above q)) t) h
-
-ordered_same : (types : List TypeDef) (u w : View) (p : Path) (before : Option Name) (o : Option Node)
-    → u.children (above p) ≡ w.children (above p)
-    → parent_ordered types u p before o ≡ parent_ordered types w p before o
-ordered_same types u w p before None e = refl
-ordered_same types u w p before (Some node) e = ap (λ (names : ChildNames).
-    unless_refused (first_some (
-    when (cond (are_ordered (node_types types node)) false true) (unsupported (codes "orderBefore"))
-    ∷ no_child_before (above p) names before ∷ []))
-    (Ok (node_ordered types names (own_of p) before node))) e
-
-order_same : (types : List TypeDef) (u w : View) (p : Path) (before : Option Name) → u.node p ≡ w.node p
-    → u.node (above p) ≡ w.node (above p) → u.children (above p) ≡ w.children (above p)
-    → order_made types u [] p before ≡ order_made types w [] p before
-order_same types u w p before e f g =
-    let made : Option Node → Result Node Refusal → Result Steps Refusal = λ o due.
-    putting [] (above p) (unless_refused (first_some (path_refusal p ∷ is_root p
-    ∷ when (is_none o) (no_item p) ∷ [])) due) in
-    ap (λ (o : Option Node). made o (parent_ordered types u p before (u.node (above p)))) e
-    ∙ ap (λ (q : Option Node). made (w.node p) (parent_ordered types u p before q)) f
-    ∙ ap (λ (due : Result Node Refusal). made (w.node p) due)
-    (ordered_same types u w p before (w.node (above p)) g)
 
 -- what stands at and below a path of which nothing lacks is seen as it is
 tree_same : (t : Nodes) (k : Knowledge) (c : Changed) (p : Path) → IsPartOf t k c
@@ -258,9 +199,9 @@ outcome_same types who t k c (command.Versions p) needs plain part asks all =
     ap (λ (base : Nodes). shown_outcome who.ids (versions_answer base p))
     (tree_whole k part.order (only k need.All needs asks all) t part.tree part.agrees)
 outcome_same types who t k c (command.Set p n x) needs plain part asks all =
-    drawn_same who.ids _ _ (set_same types (known_view k c) (whole_view (view_of t c)) p n x (node_same t k c p part (only k (need.Node p) needs asks all)))
+    drawn_same who.ids _ _ (set_reads types (known_view k c) (whole_view (view_of t c)) [] p n x (node_same t k c p part (only k (need.Node p) needs asks all)))
 outcome_same types who t k c (command.Unset p n) needs plain part asks all =
-    drawn_same who.ids _ _ (unset_same types (known_view k c) (whole_view (view_of t c)) p n (node_same t k c p part (only k (need.Node p) needs asks all)))
+    drawn_same who.ids _ _ (unset_reads types (known_view k c) (whole_view (view_of t c)) [] p n (node_same t k c p part (only k (need.Node p) needs asks all)))
 outcome_same types who t k c (command.Unmixin p n) needs plain part asks all =
     drawn_same who.ids _ _ (unmixin_same types (known_view k c) (whole_view (view_of t c)) p n (node_same t k c p part (only k (need.Node p) needs asks all)))
 outcome_same types who t k c (command.Remove p) needs plain part asks all =
@@ -268,7 +209,7 @@ outcome_same types who t k c (command.Remove p) needs plain part asks all =
     let down : LacksNothing k (need.Subtree p) = first_met k (need.Subtree p) (need.Node (above p) ∷ []) both in
     let up : LacksNothing k (need.Node (above p)) = first_met k (need.Node (above p)) []
     (rest_met k (need.Subtree p) (need.Node (above p) ∷ []) both) in
-    drawn_same who.ids _ _ (remove_same types (known_view k c) (whole_view (view_of t c)) p (top_same t k c p part down)
+    drawn_same who.ids _ _ (remove_reads types (known_view k c) (whole_view (view_of t c)) [] p (top_same t k c p part down)
     (node_same t k c (above p) part up) (tree_same t k c p part down))
 outcome_same types who t k c (command.Move p q) needs plain part asks all =
     let three : All (LacksNothing k) (need.Subtree p ∷ need.Subtree q ∷ need.Node (above q) ∷ []) =
@@ -278,17 +219,16 @@ outcome_same types who t k c (command.Move p q) needs plain part asks all =
     let to : LacksNothing k (need.Subtree q) = first_met k (need.Subtree q) (need.Node (above q) ∷ []) two in
     let up : LacksNothing k (need.Node (above q)) = first_met k (need.Node (above q)) []
     (rest_met k (need.Subtree q) (need.Node (above q) ∷ []) two) in
-    drawn_same who.ids _ _ (move_same (known_view k c) (whole_view (view_of t c)) p q (top_same t k c p part from) (top_same t k c q part to)
-    (node_same t k c (above q) part up) (tree_same t k c p part from))
+    drawn_same who.ids _ _ (move_reads (known_view k c) (whole_view (view_of t c)) [] p q (top_same t k c p part from)
+    (node_same t k c (above q) part up) (top_same t k c q part to) (tree_same t k c p part from))
 outcome_same types who t k c (command.OrderBefore p before) needs plain part asks all =
     let three : All (LacksNothing k) (need.Node p ∷ listing_needs k (above p)) = met k _ needs asks all in
     let two : All (LacksNothing k) (listing_needs k (above p)) = rest_met k (need.Node p) (listing_needs k (above p)) three in
     let up : LacksNothing k (need.Node (above p)) = first_met k (need.Node (above p)) (children_needs (known_at k (above p)) (above p)) two in
-    drawn_same who.ids _ _ (order_same types (known_view k c) (whole_view (view_of t c)) p before
+    drawn_same who.ids _ _ (order_reads types (known_view k c) (whole_view (view_of t c)) [] p before
     (node_same t k c p part (first_met k (need.Node p) (listing_needs k (above p)) three)) (node_same t k c (above p) part up)
     (children_same t k c (above p) part up (rest_met k (need.Node (above p)) (children_needs (known_at k (above p)) (above p)) two)))
 outcome_same types who t k c (command.Add p type) needs plain part asks all = cc
-outcome_same types who t k c (command.Tree p nodes) needs plain part asks all = cc
 outcome_same types who t k c (command.Mixin p n) needs plain part asks all = cc
 outcome_same types who t k c (command.SetType p n) needs plain part asks all = cc
 outcome_same types who t k c _ needs plain part asks all = refl

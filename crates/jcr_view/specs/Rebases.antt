@@ -11,7 +11,7 @@ use Rattle.jr_part.specs.Parts.{Knowledge}
 use Rattle.jr_overlay.specs.Drafts.{Steps, drafted, with_step, with_steps}
 use Rattle.jr_overlay.specs.Overlays.{Changed, View, known_view}
 use Rattle.jcr_write.specs.Places.{above, with_property, without_property}
-use Rattle.jcr_write.specs.Writes.{all_gone}
+use Rattle.jr_overlay.specs.Views.{all_gone}
 
 -- a pending node without properties
 abbrev pub bare : Node

@@ -18,7 +18,6 @@ pub(crate) fn is_writing(command: &Command) -> bool
 {
     match command {
         Command::Add(..)
-        | Command::Tree(..)
         | Command::Set(..)
         | Command::Unset(..)
         | Command::Remove(..)

@@ -6,7 +6,7 @@ ghost use Rattle.jr_overlay.specs.Overlays.{known_view, sighted};
 ghost use Rattle.jr_tree.specs.declared.edit.Write.TheVariants.{Here, Gone, Put, Unset};
 ghost use Rattle.jcr_view.specs.Rebases.{again, rebased, steps_again};
 ghost use Rattle.jcr_write.specs.Places.{with_property, without_property};
-ghost use Rattle.jcr_write.specs.Writes.{all_gone};
+ghost use Rattle.jr_overlay.specs.Views.{all_gone};
 
 use jcr_write::{above, with_property, without_property};
 use jr_overlay::{Draft, Overlay, Sight};

@@ -1,6 +1,6 @@
 use Rattle.std.proofs.Common.{◌≡◌, map, take}
 use Rattle.std.specs.Map.Iter.{deref_pair}
-use Rattle.jcr_write.specs.Writes.{all_gone}
+use Rattle.jr_overlay.specs.Views.{all_gone}
 use Rattle.jcr_view.proofs.rebase.put_all_gone.Given as goal
 
 -- the nodes so far are gone
