@@ -29,9 +29,9 @@ use Rattle.jcr_write.specs.Places.{node_types, unless_refused}
 use Rattle.jcr_make.specs.declared.complete.MissingChild.{MissingChild}
 use Rattle.jcr_make.specs.declared.fill.Filling.{Filling}
 use Rattle.jcr_make.specs.Filled.{filled}
-use Rattle.jcr_make.specs.Makings.{Making, absent_child, child_refusal, completed, missing_child, put_filled, with_child, with_children, with_node, with_own_child}
+use Rattle.jcr_make.specs.Makings.{Making, absent_child, child_refusal, completed, missing_child, with_child, with_children, with_node, with_own_child}
 use Rattle.jcr_make.specs.Steps.{and_then, each}
-use Rattle.jcr_make.proofs.Each.{IsMaking, each-alike}
+use Rattle.jcr_make.proofs.Each.{each-alike}
 use Rattle.jcr_make.proofs.Fills.{err-ok, ok_same}
 
 -- what makes a node whole puts it, and keeps the others

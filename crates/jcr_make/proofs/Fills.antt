@@ -1,5 +1,5 @@
 -- The properties of a node that are made of themselves, by lists in which each test finds the same first definition.
-use Rattle.std.proofs.Common.{◌≡◌, ℕ, ◌+◌, Bool, true, false, cond, ◌||◌, Option, None, Some, List, refl, sym, ap, ◌∙◌, subst, ◌⊎◌, inl, inr, is_some}
+use Rattle.std.proofs.Common.{◌≡◌, ◌+◌, Bool, true, false, cond, ◌||◌, Option, None, Some, List, refl, sym, ap, ◌∙◌, ◌⊎◌, inl, inr, is_some}
 use Rattle.std.specs.Prelude.{Result, Ok, Err}
 use Rattle.std.specs.Option.{option_and_then, option_map_or}
 use Rattle.std.specs.Map.{lookup}
@@ -22,7 +22,7 @@ use Rattle.jcr_ref.specs.Drawn.{too_many_ids}
 use Rattle.jcr_write.specs.Places.{unless_refused, with_property}
 use Rattle.jcr_make.specs.declared.fill.Filling.{Filling}
 use Rattle.jcr_make.specs.Filled.{filled, given, identified, lacking, next_identifier, with_given, with_made, with_own}
-use Rattle.jcr_make.proofs.Each.{IsMaking, each-alike}
+use Rattle.jcr_make.proofs.Each.{each-alike}
 
 -- a property is made by the definition: a node lacks it, and there is something to put
 abbrev is_made : Who → Filling → PropDef → Bool

@@ -8,3 +8,4 @@ mod Identifiers
 pub mod Loops
 pub mod Names
 pub mod ReadBelow
+pub mod Sets

@@ -1,8 +1,9 @@
 -- A loop that makes a step for each element, up to the first refusal.
-use Rattle.std.proofs.Common.{◌≡◌, ℕ, suc, ◌<◌, List, ◌∷◌, get_or, drop, length, map, refl, sym, ap, ◌∙◌}
-use Rattle.std.specs.Prelude.{Result}
+use Rattle.std.proofs.Common.{◌≡◌, ℕ, suc, ◌+◌, ◌<◌, add-one, List, ◌∷◌, get_or, drop, length, map, sym, ap, ◌∙◌}
+use Rattle.std.specs.Prelude.{Result, Ok}
 use Rattle.std.proofs.Math.Seq.{drop-cons}
 use Rattle.jr_tree.specs.declared.shared.Refusal.{Refusal}
+use Rattle.jr_overlay.specs.Overlays.{Sighted}
 use Rattle.jcr_write.specs.Places.{IsDueRefusal}
 use Rattle.jcr_make.specs.Steps.{and_then, each}
 
@@ -22,3 +23,16 @@ pub own_loop_err : {X S : Type 0} (step : X → S → Result S Refusal) (xs : Li
     → d ≡ get_or xs i d → i < length xs → each step (drop i xs) s ≡ all → IsDueRefusal (step d s) r → IsDueRefusal all r
 own_loop_err step xs i d all s r is lt before due m =
     sym before ∙ (ap (λ ds. each step ds s) (drop-cons xs i d lt ∙ ap (λ e. e ∷ drop (suc i) xs) (sym is)) ∙ ap (λ q. and_then q (each step (drop (suc i) xs))) (due m))
+
+-- what is left after a step that was made, over a view that stays the same
+pub own_loop_next : {X S : Type 0} (step : Sighted → X → S → Result S Refusal) (s t : Sighted) (xs : List X) (i : ℕ) (d : X) (all : Result S Refusal) (m n : S)
+    → t ≡ s → d ≡ get_or xs i d → i < length xs → each (step s) (drop i xs) m ≡ all → step t d m ≡ Ok n → each (step s) (drop (i + 1) xs) n ≡ all
+own_loop_next step s t xs i d all m n same is lt before made =
+    ap (λ k. each (step s) (drop k xs) n) (add-one i)
+    ∙ (sym (ap (λ q. and_then q (each (step s) (drop (suc i) xs))) (ap (λ v. step v d m) (sym same) ∙ made))
+    ∙ (sym (ap (λ ds. each (step s) ds m) (drop-cons xs i d lt ∙ ap (λ e. e ∷ drop (suc i) xs) (sym is))) ∙ before))
+
+-- the first refusal among the entries of a map, of which the first that is left is this one
+pub left_err : {X S : Type 0} (step : X → S → Result S Refusal) (left rest : List X) (e : X) (all : Result S Refusal) (s : S) (r : Refusal)
+    → left ≡ e ∷ rest → each step left s ≡ all → IsDueRefusal (step e s) r → IsDueRefusal all r
+left_err step left rest e all s r is before due m = sym before ∙ (ap (λ ds. each step ds s) is ∙ ap (λ q. and_then q (each step rest)) (due m))

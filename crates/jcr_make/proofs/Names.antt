@@ -3,7 +3,7 @@ use Rattle.std.proofs.Common.{◌≡◌, ◌≢◌, ℕ, ◌≤◌, Bool, true, 
 use Rattle.std.specs.Prelude.{◌==◌, ◌&&◌, ◌||◌, not, nat_le, codes}
 use Rattle.std.specs.List.{list_all}
 use Rattle.std.specs.Option.{option_and_then, option_map, option_map_or, unwrap_or}
-use Rattle.std.specs.Str.{IsUtf8, bytes_eq, chars, encode_utf8_all, is_utf8}
+use Rattle.std.specs.Str.{bytes_eq, chars, is_utf8}
 use Rattle.std.proofs.lemmas.Bool.{and_parts, false_from_ne_true, false≢true}
 use Rattle.std.proofs.lemmas.Bool.Decides.{nat_tests}
 use Rattle.std.proofs.lemmas.Slice.Eq.{bytes_eq-Decides}
@@ -17,7 +17,7 @@ use Rattle.jr_items.specs.Items.{one_text}
 use Rattle.jr_items.specs.Names.{uuid, version_storage}
 use Rattle.jcr_ref.specs.References.{identifier_of}
 use Rattle.jcr_make.specs.Histories.{history_by, named_history}
-use Rattle.jcr_make.specs.Named.{at_colon, begins_with_space, ends_with_space, is_formed, is_name, is_no_dots, is_prefixed, is_run_of, is_trimmed}
+use Rattle.jcr_make.specs.Named.{at_colon, begins_with_space, ends_with_space, is_formed, is_name, is_prefixed, is_run_of, is_trimmed}
 
 same_number : (c d : ℕ) → (c == d) ≡ true → c ≡ d
 same_number c d h = grind (arith, nat_tests)

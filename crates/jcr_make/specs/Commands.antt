@@ -20,7 +20,6 @@ use Rattle.jr_items.specs.Names.{child_order, mixin_types, primary_type}
 use Rattle.jr_items.specs.Refusals.{breaks_rule, no_type, taken, when}
 use Rattle.jr_types.specs.declared.TypeDef.{TypeDef}
 use Rattle.jr_types.specs.Attributes.{are_ordered, default_type}
-use Rattle.jr_types.specs.Rules.{is_mixin}
 use Rattle.jr_types.specs.Types.{prop_def}
 use Rattle.jr_overlay.specs.Drafts.{Steps, drafted, with_step}
 use Rattle.jr_overlay.specs.Overlays.{View}

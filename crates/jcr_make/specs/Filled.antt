@@ -1,5 +1,5 @@
 -- Properties that are made of themselves.
-use Rattle.std.specs.Prelude.{ℕ, ◌+◌, Bool, cond, ◌||◌, List, [], ◌∷◌, ◌++◌, Option, None, Some, is_some, codes, Result, Ok, Err}
+use Rattle.std.specs.Prelude.{ℕ, ◌+◌, Bool, cond, ◌||◌, List, [], ◌∷◌, ◌++◌, Option, None, Some, is_some, codes, Result, Ok}
 use Rattle.std.specs.Option.{option_and_then}
 use Rattle.std.specs.Fmt.{decimal}
 use Rattle.jr_path.specs.declared.name.Name.{Name}

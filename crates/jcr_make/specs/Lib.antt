@@ -5,3 +5,4 @@ pub mod Histories
 pub mod Makings
 pub mod Named
 pub mod Steps
+pub mod Subtrees

@@ -1,7 +1,7 @@
 -- Nodes that are made, with all that belongs to them.
-use Rattle.std.specs.Prelude.{ℕ, zero, suc, cond, List, [], ◌∷◌, Option, None, Some, is_some, is_none, Result, Ok, Err}
+use Rattle.std.specs.Prelude.{ℕ, zero, suc, cond, List, [], ◌∷◌, Option, None, Some, is_some, is_none, Result, Ok}
 use Rattle.std.specs.List.{flat_map}
-use Rattle.std.specs.Option.{option_and_then, option_map}
+use Rattle.std.specs.Option.{option_and_then}
 use Rattle.jr_path.specs.declared.name.Name.{Name}
 use Rattle.jr_path.specs.declared.path.Path.{Path}
 use Rattle.jr_tree.specs.declared.shared.Refusal.{Refusal}

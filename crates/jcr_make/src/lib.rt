@@ -9,6 +9,7 @@ mod history;
 mod laws;
 mod mixins;
 mod retype;
+mod subtree;
 mod unmix;
 
 pub use adding::add;
@@ -18,4 +19,5 @@ pub use laws::{
 };
 pub use mixins::mixin;
 pub use retype::set_type;
+pub use subtree::tree;
 pub use unmix::unmixin;
