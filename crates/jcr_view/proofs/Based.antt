@@ -152,6 +152,7 @@ module _ (t : Nodes) (k : Knowledge) (c : Changed) (part : IsPartOf t k c) where
       touch_put IsBased who.ids (above p) (order_node types (known_view k c) [] p before)
       (at_node (above p) (first_met k (need.Node (above p)) (children_needs (known_at k (above p)) (above p)) (rest_met k (need.Node p) (listing_needs k (above p)) three)))
   steps_based types who (command.Add p type) needs plain asks all = cc
+  steps_based types who (command.Tree p nodes) needs plain asks all = cc
   steps_based types who (command.Mixin p n) needs plain asks all = cc
   steps_based types who (command.SetType p n) needs plain asks all = cc
   steps_based types who _ needs plain asks all = touch_none IsBased

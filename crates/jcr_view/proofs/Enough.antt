@@ -229,6 +229,7 @@ outcome_same types who t k c (command.OrderBefore p before) needs plain part ask
     (node_same t k c p part (first_met k (need.Node p) (listing_needs k (above p)) three)) (node_same t k c (above p) part up)
     (children_same t k c (above p) part up (rest_met k (need.Node (above p)) (children_needs (known_at k (above p)) (above p)) two)))
 outcome_same types who t k c (command.Add p type) needs plain part asks all = cc
+outcome_same types who t k c (command.Tree p nodes) needs plain part asks all = cc
 outcome_same types who t k c (command.Mixin p n) needs plain part asks all = cc
 outcome_same types who t k c (command.SetType p n) needs plain part asks all = cc
 outcome_same types who t k c _ needs plain part asks all = refl

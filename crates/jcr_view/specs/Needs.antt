@@ -57,6 +57,7 @@ parent_needs p = option_map_or (λ q. need.Node q ∷ []) (parent_of p) []
 -- what a command other than a mixin asks for
 abbrev pub needs_of : Knowledge → Command → List Need
 needs_of k (command.Add p type) = need.Subtree p ∷ need.Node (above p) ∷ []
+needs_of k (command.Tree p nodes) = need.Subtree p ∷ need.Node (above p) ∷ []
 needs_of k (command.Set p n x) = need.Node p ∷ []
 needs_of k (command.Unset p n) = need.Node p ∷ []
 needs_of k (command.Remove p) = need.Subtree p ∷ need.Node (above p) ∷ []

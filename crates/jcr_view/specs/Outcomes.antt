@@ -13,6 +13,7 @@ use Rattle.jcr_write.specs.Writes.{move_made, order_made, remove_made, set_made,
 use Rattle.jcr_make.specs.Commands.{add_made, type_made, unmixin_made}
 use Rattle.jcr_make.specs.Histories.{mixin_made}
 use Rattle.jcr_make.specs.Makings.{Making, making}
+use Rattle.jcr_make.specs.Subtrees.{tree_made}
 use Rattle.jcr_view.specs.Reading.{by_id_answer, get_answer, id_answer, list_answer, props_answer, refs_answer, refused, versions_answer}
 
 -- what a command answers, what it makes of a view, and the identifiers drawn then
@@ -24,6 +25,7 @@ pub record Outcome : Type 0 where
 -- the command writes items
 abbrev pub is_writing : Command → Bool
 is_writing (command.Add p type) = true
+is_writing (command.Tree p nodes) = true
 is_writing (command.Set p n x) = true
 is_writing (command.Unset p n) = true
 is_writing (command.Remove p) = true
@@ -37,6 +39,7 @@ is_writing _ = false
 -- the command makes items that node types bring with them
 abbrev pub makes_by_types : Command → Bool
 makes_by_types (command.Add p type) = true
+makes_by_types (command.Tree p nodes) = true
 makes_by_types (command.Mixin p n) = true
 makes_by_types (command.SetType p n) = true
 makes_by_types _ = false
@@ -66,6 +69,7 @@ drawing_none ids (Err r) = Err r
 -- what a writing command makes of a view, on what was made before
 abbrev pub written : List TypeDef → Who → View → Command → Making → Result Making Refusal
 written types who view (command.Add p type) m = add_made types who view p type m
+written types who view (command.Tree p nodes) m = tree_made types who view p nodes m
 written types who view (command.Set p n x) m =
     drawing_none m.ids (set_made types view m.steps p n x)
 written types who view (command.Unset p n) m =

@@ -18,6 +18,7 @@ pub(crate) fn is_writing(command: &Command) -> bool
 {
     match command {
         Command::Add(..)
+        | Command::Tree(..)
         | Command::Set(..)
         | Command::Unset(..)
         | Command::Remove(..)

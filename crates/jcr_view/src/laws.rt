@@ -15,7 +15,7 @@ ghost use Rattle.jcr_view.specs.Outcomes.{eval, makes_by_types, outcome};
 ghost use Rattle.jcr_view.specs.Parts.{IsPartOf};
 
 /// What a command asks for is enough: where nothing of it lacks, the command comes to the same on what is known as on
-/// the whole view of each tree that the part agrees with. (Of `add`, `mixin` and `type` it isn't claimed here.)
+/// the whole view of each tree that the part agrees with. (Of `add`, `tree`, `mixin` and `type` it isn't claimed here.)
 pub fn needs_are_enough()
     ensures { (types : List TypeDef) (who : Who) (t : Nodes) (k : Knowledge) (c : Changed) (command : Command)
         (needs : List Need) → IsFalse (makes_by_types command) → IsPartOf t k c → AsksFor k c command needs

@@ -28,7 +28,7 @@ pub(crate) fn needs(
     ensures { IfOk result (λ needs. AsksFor part.now overlay.now command.now needs.items) }
 {
     match command {
-        Command::Add(path, _) => adding_needs(alloc, path),
+        Command::Add(path, _) | Command::Tree(path, _) => adding_needs(alloc, path),
         Command::Set(path, _, _) | Command::Unset(path, _) | Command::Unmixin(path, _) =>
             node_needs(alloc, path),
         Command::Remove(path) => adding_needs(alloc, path),

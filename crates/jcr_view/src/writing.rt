@@ -6,7 +6,7 @@ ghost use Rattle.jcr_view.specs.Outcomes.{is_writing, written};
 ghost use Rattle.jcr_write.specs.Places.{IsDueRefusal};
 ghost use Rattle.jcr_write.specs.Writes.{order_made, set_made};
 
-use jcr_make::{add, mixin, set_type, unmixin};
+use jcr_make::{add, mixin, set_type, tree, unmixin};
 use jcr_trans::Command;
 use jcr_write::{move_to, order_before, remove, set, unset};
 use jr_overlay::{Draft, Overlay, Sight};
@@ -71,6 +71,7 @@ fn write(
         Command::Add(path, node_type) => {
             add(alloc, types, who, draft, ids, path, node_type.as_ref())
         }
+        Command::Tree(path, nodes) => tree(alloc, types, who, draft, ids, path, nodes.as_slice()),
         Command::Set(path, name, value) => set_copy(alloc, types, draft, path, name, value),
         Command::Unset(path, name) => unset(alloc, types, draft, path, name),
         Command::Remove(path) => remove(alloc, types, draft, path),
