@@ -1,4 +1,5 @@
-// The view of a session: its commands one behind another; what they answer is put with ` > ` between.
+// The view of a session: its commands one behind another; what they answer is put with ` > `
+// between.
 ghost use Rattle.std.specs.Prelude.{◌≡◌, IfOk, IsFalse, IsTrue};
 ghost use Rattle.std.specs.FinMap.{is_sorted};
 ghost use Rattle.std.specs.FinMap.Entries.{below_all};
@@ -25,8 +26,8 @@ use jr_value::{Property, Value};
 use serde_json::Value as Json;
 use std::alloc::{AllocError, Global};
 
-// What the commands work on: the types, the tree at the base and what is known of it, what is pending, and who runs them;
-// and whether a command has told its answer.
+// What the commands work on: the types, the tree at the base and what is known of it, what is
+// pending, and who runs them; and whether a command has told its answer.
 #[derive(Drop)]
 struct Site {
     types: Registry,
@@ -37,8 +38,9 @@ struct Site {
     told: bool,
 }
 
-// COMMANDS: a list of commands as they stand in a script. Others than those are `["define",TYPE]`, `["save"]`, `["edit"]`,
-// `["refresh",KEEP]`, `["base",TREE]` and `["who",SESSION,IDS]`.
+// COMMANDS: a list of commands as they stand in a script. Other steps are `["define",TYPE]`,
+// `["who",SESSION,IDS]`, `["edit"]`, which tells what is pending, `["save"]`, `["refresh",KEEP]`,
+// and `["base",TREE]`: another tree at the base, on which what is pending is made again.
 pub(crate) fn add(
     alloc: Global,
     steps: &str,
@@ -95,7 +97,8 @@ fn at_time(time: u64) -> Revision {
     }
 }
 
-// The tree with the start as the birth of each node. The root is an nt:unstructured where no type is given.
+// The tree with the start as the birth of each node. The root is an nt:unstructured where no type
+// is given.
 fn based(alloc: Global, tree: &Tree) -> Result<Tree, AllocError> {
     let mut base = Tree::new(alloc);
     for (path, node) in tree.iter() {
