@@ -40,7 +40,8 @@ struct Site {
 
 // COMMANDS: a list of commands as they stand in a script. Other steps are `["define",TYPE]`,
 // `["who",SESSION,IDS]`, `["edit"]`, which tells what is pending, `["save"]`, `["refresh",KEEP]`,
-// and `["base",TREE]`: another tree at the base, on which what is pending is made again.
+// `["forget"]`, after which nothing is known of the tree, and `["base",TREE]`: another tree at the
+// base, on which what is pending is made again.
 pub(crate) fn add(
     alloc: Global,
     steps: &str,
@@ -153,6 +154,10 @@ fn add_of(
         ("save", []) => save(alloc, site),
         ("edit", []) => tell_edit(alloc, site, out),
         ("refresh", [Json::Bool(keep)]) => refresh(alloc, site, *keep),
+        ("forget", []) => {
+            site.part = Part::new(alloc);
+            Ok(())
+        }
         ("base", [tree]) => move_base(alloc, site, tree, out),
         ("who", [session, ids]) => {
             site.who.session = small(session);
