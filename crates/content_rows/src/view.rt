@@ -4,7 +4,6 @@ ghost use Rattle.std.specs.Prelude.{◌≡◌, IfOk, IsFalse, IsTrue};
 ghost use Rattle.std.specs.FinMap.{is_sorted};
 ghost use Rattle.std.specs.FinMap.Entries.{below_all};
 ghost use Rattle.jcr_view.specs.Needs.{reads_all};
-ghost use Rattle.jcr_view.specs.Outcomes.{is_viewed};
 ghost use Rattle.jr_part.specs.Parts.{LacksNothing};
 ghost use Rattle.jr_part.specs.declared.need.Need.TheVariants as need;
 ghost use Rattle.jr_path.specs.Names.{name_cmp};
@@ -14,7 +13,7 @@ use crate::shows::{put_refusal, put_writes};
 use crate::trees::{tree_in, tree_of};
 use crate::types::register_one;
 use jcr_trans::Command;
-use jcr_view::Pending;
+use jcr_view::{Pending, is_viewed};
 use jr_args::command;
 use jr_items::OwnName;
 use jr_part::{Need, Part};
@@ -288,33 +287,6 @@ fn run(
         return out.push_str("no view command");
     }
     put_reply(alloc, pending.run(command, part, types, who), out)
-}
-
-fn is_viewed(command: &Command) -> bool
-    ensures { result ≡ is_viewed command.now }
-{
-    match command {
-        Command::Add(..)
-        | Command::Tree(..)
-        | Command::Set(..)
-        | Command::Unset(..)
-        | Command::Remove(..)
-        | Command::Move(..)
-        | Command::Mixin(..)
-        | Command::Unmixin(..)
-        | Command::SetType(..)
-        | Command::OrderBefore(..)
-        | Command::Get(_)
-        | Command::List(_)
-        | Command::Props(_)
-        | Command::Id(_)
-        | Command::ById(_)
-        | Command::Refs(_)
-        | Command::Versions(_)
-        | Command::Token(_)
-        | Command::DropToken(_) => true,
-        _ => false,
-    }
 }
 
 // Whether the command goes over the whole tree, and some of it isn't known.

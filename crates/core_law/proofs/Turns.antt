@@ -24,7 +24,7 @@ use Rattle.oak_machine.specs.Sessions.{base_of, drawn_since, is_drawing, is_repl
 use Rattle.jcr_trans.specs.declared.command.Command.{Command}
 use Rattle.jcr_trans.specs.declared.command.Command.TheVariants as command
 use Rattle.jcr_trans.specs.Commands.{Built, Adds, Sets, Gets, Lists, Saves, Refreshes, ShowsBase, NotBuilt, built, is_plain, refreshes_by, saves_by, shows_base_by}
-use Rattle.jcr_trans.specs.Answers.{Answer, ShowsRevision, ShowsVector, ShowsNothing, Refused, out_of_memory}
+use Rattle.jcr_trans.specs.Answers.{Answer, Done, ShowsProperty, ShowsNames, ShowsRevision, ShowsVector, ShowsNothing, ShowsProperties, ShowsText, ShowsItems, Refused, out_of_memory}
 use Rattle.jcr_trans.specs.Texts.{answer_text}
 use Rattle.jcr_trans.specs.Views.{Check, answered, checks, first_of, passes, property_of_path, shown, too_many_nodes, view_after}
 use Rattle.jcr_trans.proofs.Passing.{each_refuses, first_passes, is_refused, shows}
@@ -37,12 +37,28 @@ use Rattle.core_law.proofs.Views.{view_is_tree, view_born}
 -- ---- which answers accept
 
 refused_text : (a : Answer) → is_refused a ≡ true → is_ok_text (answer_text a) ≡ false
+refused_text Done h = absurd (false≢true h)
+refused_text (ShowsProperty p) h = absurd (false≢true h)
+refused_text (ShowsNames ns) h = absurd (false≢true h)
+refused_text (ShowsRevision r) h = absurd (false≢true h)
+refused_text (ShowsVector v) h = absurd (false≢true h)
+refused_text ShowsNothing h = absurd (false≢true h)
+refused_text (ShowsProperties ps) h = absurd (false≢true h)
+refused_text (ShowsText t) h = absurd (false≢true h)
+refused_text (ShowsItems is) h = absurd (false≢true h)
 refused_text (Refused n ds) h = refl
-refused_text a h = absurd (false≢true h)
 
 accepted_text : (a : Answer) → is_refused a ≡ false → is_ok_text (answer_text a) ≡ true
+accepted_text Done h = refl
+accepted_text (ShowsProperty p) h = refl
+accepted_text (ShowsNames ns) h = refl
+accepted_text (ShowsRevision r) h = refl
+accepted_text (ShowsVector v) h = refl
+accepted_text ShowsNothing h = refl
+accepted_text (ShowsProperties ps) h = refl
+accepted_text (ShowsText t) h = refl
+accepted_text (ShowsItems is) h = refl
 accepted_text (Refused n ds) h = absurd (false≢true (sym h))
-accepted_text a h = refl
 
 -- where a check holds, and each refuses, the answer refuses
 first_refuses : (cs : List Check) (answer : Answer) → list_all (λ c. is_refused c.answer) cs ≡ true → passes cs ≡ false → is_refused (first_of cs answer) ≡ true

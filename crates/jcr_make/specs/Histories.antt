@@ -87,13 +87,22 @@ abbrev pub begun_by : Name → (identified : Bool) → Who → View → Path →
 begun_by n identified who view p m = cond (same_name versionable n)
     (begun_among (counting identified view m.steps p) who p m) (Ok m)
 
--- a node gets a mixin that it lacks, with all that belongs to it
+-- what a node makes that gets a mixin it lacks
 abbrev pub mixin_added : List TypeDef → Who → View → Path → Name → Making → Node → Result Making Refusal
 mixin_added types who view p n m node = and_then (complete types who view p (mixed node n) m)
     (begun_by n (is_identified node) who view p)
 
--- what `mixin` makes: the node with a mixin and what that one brings; nothing where the node has it
+-- what a node makes that gets a mixin; nothing where it has it
+abbrev pub mixin_given : List TypeDef → Who → View → Path → Name → Making → Node → Result Making Refusal
+mixin_given types who view p n m node =
+    cond (lists_mixin node n) (Ok m) (mixin_added types who view p n m node)
+
+-- the node at a place that may have a mixin
+abbrev pub node_mixing : List TypeDef → View → Steps → Path → Name → Result Node Refusal
+node_mixing types view steps p n = at_place view steps p (λ node.
+    unless_refused (mixin_refusal types p node n) (Ok node))
+
+-- what `mixin` makes: the node with a mixin and what that one brings
 abbrev pub mixin_made : List TypeDef → Who → View → Path → Name → Making → Result Making Refusal
-mixin_made types who view p n m = at_place view m.steps p (λ node.
-    unless_refused (mixin_refusal types p node n)
-    (cond (lists_mixin node n) (Ok m) (mixin_added types who view p n m node)))
+mixin_made types who view p n m =
+    and_then (node_mixing types view m.steps p n) (mixin_given types who view p n m)

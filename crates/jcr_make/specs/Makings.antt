@@ -11,13 +11,16 @@ use Rattle.jr_tree.specs.Trees.{node_of_type}
 use Rattle.jr_items.specs.Items.{child_path, first_some}
 use Rattle.jr_items.specs.Refusals.{no_type, too_deep, too_long, when}
 use Rattle.jr_types.specs.declared.ChildDef.{ChildDef}
+use Rattle.jr_types.specs.declared.PropDef.{PropDef}
 use Rattle.jr_types.specs.declared.TypeDef.{TypeDef}
 use Rattle.jr_types.specs.Types.{props_of, type_named}
 use Rattle.jr_overlay.specs.Drafts.{Steps, drafted, with_step}
 use Rattle.jr_overlay.specs.Overlays.{View}
 use Rattle.jcr_write.specs.Places.{node_types, unless_refused}
 use Rattle.jcr_make.specs.Steps.{and_then, each}
-use Rattle.jcr_make.specs.Filled.{Filling, filled}
+use Rattle.jcr_make.specs.declared.fill.Filling.{Filling}
+use Rattle.jcr_make.specs.declared.complete.MissingChild.{MissingChild}
+use Rattle.jcr_make.specs.Filled.{filled}
 
 -- what a command made of a view so far, and the identifiers that the session has drawn
 pub record Making : Type 0 where
@@ -40,20 +43,15 @@ unknown_type types n = when (is_none (type_named types n)) (no_type n)
 abbrev pub child_refusal : List TypeDef → Path → (type : Name) → Option Refusal
 child_refusal types p type = first_some (too_deep p ∷ too_long p ∷ unknown_type types type ∷ [])
 
--- a child that is made of itself: its name and its type
-pub record OwnChild : Type 0 where
-  pub name : Name
-  pub type : Name
-
--- the child that a definition makes of itself, whether or not it is there
-abbrev pub own_child : ChildDef → Option OwnChild
-own_child d = cond d.autocreated
-    (option_and_then (λ n. option_map (λ type. record { name = n; type = type }) d.default_type) d.name) None
+-- a child of that name and type, where it isn't there
+abbrev pub absent_child : View → Steps → Path → Name → (type : Name) → Option MissingChild
+absent_child view steps p n type = cond (is_some (drafted view steps (child_path p n))) None
+    (Some (record { path = child_path p n; node_type = type }))
 
 -- the child that a definition makes of itself, where it isn't there
-abbrev pub missing_child : View → Steps → Path → ChildDef → Option OwnChild
-missing_child view steps p d = option_and_then
-    (λ c. cond (is_some (drafted view steps (child_path p c.name))) None (Some c)) (own_child d)
+abbrev pub missing_child : View → Steps → Path → ChildDef → Option MissingChild
+missing_child view steps p d = cond d.autocreated (option_and_then
+    (λ n. option_and_then (absent_child view steps p n) d.default_type) d.name) None
 
 -- a new node of a type, with all that belongs to it by `complete`
 abbrev pub with_child : (Path → Node → Making → Result Making Refusal) → List TypeDef → Path → (type : Name) → Making → Result Making Refusal
@@ -62,16 +60,29 @@ with_child complete types p type m = unless_refused (child_refusal types p type)
 -- the child that a definition makes of itself is made, where it isn't there
 abbrev pub with_own_child : (Path → Node → Making → Result Making Refusal) → List TypeDef → View → Path → ChildDef → Making → Result Making Refusal
 with_own_child complete types view p d m = elim (missing_child view m.steps p d)
-    [ None ↦ Ok m | Some c ↦ with_child complete types (child_path p c.name) c.type m ]
+    [ None ↦ Ok m | Some c ↦ with_child complete types c.path c.node_type m ]
 
--- a node is put with what belongs to it, so many levels down: its properties, then its children, each
--- whole before the next
+-- the children that these types make of themselves, each whole before the next
+abbrev pub with_children : (Path → Node → Making → Result Making Refusal) → List TypeDef → View → Path → List TypeDef → Making → Result Making Refusal
+with_children complete types view p of m =
+    each (with_own_child complete types view p) (flat_map (λ d. d.children) of) m
+
+-- a node is put with the properties that these definitions make of themselves
+abbrev pub put_filled_by : Who → List PropDef → Path → Node → Making → Result Making Refusal
+put_filled_by who defs p node m = and_then (filled who defs (record { node = node; ids = m.ids }))
+    (λ f. Ok (with_node m.steps p f))
+
+-- a node is put with the properties that its types make of themselves
+abbrev pub put_filled : List TypeDef → Who → Path → Node → Making → Result Making Refusal
+put_filled types who p node m =
+    put_filled_by who (flat_map props_of (node_types types node)) p node m
+
+-- a node is put with what belongs to it, so many levels down: its properties, then its children
 unfoldable pub completed : (levels : ℕ) → List TypeDef → Who → View → Path → Node → Making → Result Making Refusal
-completed zero types who view p node m = Ok (with_node m.steps p (record { node = node; ids = m.ids }))
-completed (suc levels) types who view p node m = and_then
-    (filled who (flat_map props_of (node_types types node)) (record { node = node; ids = m.ids }))
-    (λ f. each (with_own_child (completed levels types who view) types view p)
-    (flat_map (λ d. d.children) (node_types types node)) (with_node m.steps p f))
+completed zero types who view p node m =
+    Ok (with_node m.steps p (record { node = node; ids = m.ids }))
+completed (suc levels) types who view p node m = and_then (put_filled types who p node m)
+    (with_children (completed levels types who view) types view p (node_types types node))
 
 -- a node is put with all that belongs to it; a path has at most 64 names, so 65 levels are all
 abbrev pub complete : List TypeDef → Who → View → Path → Node → Making → Result Making Refusal

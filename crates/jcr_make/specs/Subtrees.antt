@@ -5,35 +5,27 @@ use Rattle.jr_path.specs.declared.path.Path.{Path}
 use Rattle.jr_value.specs.declared.value.Property.{Property}
 use Rattle.jr_tree.specs.declared.shared.Refusal.{Refusal}
 use Rattle.jr_tree.specs.declared.shared.Who.{Who}
-use Rattle.jr_tree.specs.declared.tree.Node.{Node}
-use Rattle.jr_tree.specs.Trees.{node_of_type}
 use Rattle.jr_items.specs.Items.{is_empty}
 use Rattle.jr_items.specs.Refusals.{in_system, limit_refusal}
 use Rattle.jr_types.specs.declared.TypeDef.{TypeDef}
-use Rattle.jr_overlay.specs.Drafts.{drafted}
 use Rattle.jr_overlay.specs.Overlays.{View}
 use Rattle.jcr_trans.specs.declared.command.TreeNode.{TreeNode}
-use Rattle.jcr_write.specs.Places.{above, of_node, unless_refused}
+use Rattle.jcr_write.specs.Places.{unless_refused}
 use Rattle.jcr_write.specs.Writes.{set_made}
-use Rattle.jcr_make.specs.Commands.{add_made, added_type, taken_place}
+use Rattle.jcr_make.specs.Commands.{add_made, chosen_type, completed_new}
 use Rattle.jcr_make.specs.Histories.{mixin_made}
-use Rattle.jcr_make.specs.Makings.{Making, complete}
+use Rattle.jcr_make.specs.Makings.{Making}
 use Rattle.jcr_make.specs.Steps.{and_then, each}
 
 -- a node of a type is made at a path within the limits
 abbrev pub limited : List TypeDef → Who → View → Path → Making → (type : Name) → Result Making Refusal
 limited types who view p m n =
-    unless_refused (limit_refusal p) (complete types who view p (node_of_type n) m)
-
--- what adding a node of a tree below this one makes
-abbrev pub part_below : List TypeDef → Who → View → Path → (named : Option Name) → Making → (parent : Node) → Result Making Refusal
-part_below types who view p named m parent = unless_refused (taken_place view m.steps p)
-    (and_then (added_type types parent p named) (limited types who view p m))
+    unless_refused (limit_refusal p) (completed_new types who view p m n)
 
 -- what adding a node below the topmost one makes: as `add`, but that the limits come last
 abbrev pub part_added : List TypeDef → Who → View → Path → (named : Option Name) → Making → Result Making Refusal
 part_added types who view p named m = unless_refused (in_system p)
-    (of_node (above p) (drafted view m.steps (above p)) (part_below types who view p named m))
+    (and_then (chosen_type types view m.steps p named) (limited types who view p m))
 
 -- a property is set
 abbrev pub with_set : List TypeDef → View → Path → Name × Property → Making → Result Making Refusal

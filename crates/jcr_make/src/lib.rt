@@ -3,6 +3,8 @@
 #![tactic(auto)]
 
 mod adding;
+mod complete;
+mod fill;
 mod mixins;
 mod retype;
 mod subtree;

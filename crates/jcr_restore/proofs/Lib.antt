@@ -1,8 +1,13 @@
+mod Added
+mod CheckedIn
 mod ComingBack
 mod Folded
 mod Free
+mod FrozenStays
+mod LeftOut
 mod OnTheWay
 mod PropertiesBack
 mod Standing
 mod Taken
+mod Untouched
 mod Ways

@@ -26,7 +26,7 @@ use Rattle.jcr_restore.proofs.PropertiesBack.{or_none}
 
 -- ---- paths below a path
 
-under_itself : (p ns : Path) → is_under (p ++ ns) p ≡ true
+pub under_itself : (p ns : Path) → is_under (p ++ ns) p ≡ true
 under_itself p ns = (below_is_prefix (p ++ ns) p).1 (ns, refl)
 
 -- behind one path two paths differ as without it
@@ -47,7 +47,7 @@ alike_below p f ns q h =
 pub node_below : (t : Nodes) (p ns : Path) → node_at (subtree_of t p) (p ++ ns) ≡ node_at t (p ++ ns)
 node_below t p ns = lookup-filter-keys (is_at (path_cmp (p ++ ns))) (λ q. is_under q p) true (λ q h. subst (λ (r : Path). is_under r p ≡ true) (same_path (p ++ ns) q h) (under_itself p ns)) t
 
-all_below : (p : Path) (t : Nodes) → list_all (λ e. is_under e.0 p) (subtree_of t p) ≡ true
+pub all_below : (p : Path) (t : Nodes) → list_all (λ e. is_under e.0 p) (subtree_of t p) ≡ true
 all_below p [] = refl
 all_below p (e ∷ t) = by (is_under e.0 p) refl (all_below p t)
   where
@@ -56,7 +56,7 @@ all_below p (e ∷ t) = by (is_under e.0 p) refl (all_below p t)
     by false h rest = rest
 
 -- what all paths of a tree pass, a path that is found passes
-found_passes : (test : Path → Bool) (p : Path) (t : Nodes) → list_all (λ e. test e.0) t ≡ true → is_some (node_at t p) ≡ true → test p ≡ true
+pub found_passes : (test : Path → Bool) (p : Path) (t : Nodes) → list_all (λ e. test e.0) t ≡ true → is_some (node_at t p) ≡ true → test p ≡ true
 found_passes test p [] h e = absurd (false≢true e)
 found_passes test p (x ∷ t) h e =
     (elim (eq_by_cmp path_cmp p x.0) as (λ b. eq_by_cmp path_cmp p x.0 ≡ b → is_some (cond b (Some x.1) (node_at t p)) ≡ true → test p ≡ true) [

@@ -1,5 +1,5 @@
 -- The edit of a restore.
-use Rattle.std.specs.Prelude.{ℕ, ◌++◌, ◌||◌, ◌&&◌, Bool, true, false, not, cond, List, [], ◌∷◌, length, drop, Option, None, Some, is_some, is_none, option_map, codes, Result}
+use Rattle.std.specs.Prelude.{ℕ, ◌&&◌, Bool, true, false, not, cond, List, [], ◌∷◌, length, drop, Option, None, Some, is_some, is_none, option_map, codes, Result}
 use Rattle.std.specs.BTreeMap.{insert_entry, is_at}
 use Rattle.std.specs.List.{find, fold}
 use Rattle.std.specs.Map.{keys_of, lookup}

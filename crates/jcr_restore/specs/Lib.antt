@@ -1,3 +1,4 @@
 pub mod BroughtBack
+pub mod CheckedIn
 pub mod Edits
 pub mod Restored

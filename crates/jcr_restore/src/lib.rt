@@ -9,4 +9,7 @@ mod properties;
 mod restored;
 
 pub use edits::restore_edit;
-pub use laws::restores_bring_nodes_back;
+pub use laws::{
+    check_ins_leave_what_versions_leave_out, restores_bring_nodes_back,
+    restores_undo_changes_since_a_check_in,
+};

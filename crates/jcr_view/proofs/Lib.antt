@@ -1,3 +1,7 @@
+mod Asked
+mod Based
 mod Drawn
+mod Enough
+mod Fresh
 mod Replied
 mod Whole

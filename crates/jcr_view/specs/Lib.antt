@@ -1,4 +1,5 @@
 pub mod Needs
 pub mod Outcomes
+pub mod Parts
 pub mod Reading
 pub mod Rebases

@@ -2,10 +2,14 @@
 //! first (JSR 283, 5 Reading; 10 Writing; 10.11 Saving).
 #![tactic(auto)]
 
+mod commands;
+mod laws;
 mod needs;
 mod pending;
 mod reading;
 mod rebase;
 mod writing;
 
+pub use commands::is_viewed;
+pub use laws::{needs_are_enough, steps_count, whole_trees_are_asked_for};
 pub use pending::Pending;

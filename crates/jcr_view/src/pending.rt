@@ -13,10 +13,11 @@ ghost use Rattle.jcr_view.specs.Outcomes.{is_viewed, is_writing, outcome, shown}
 ghost use Rattle.jcr_view.specs.Reading.{Replies, refused};
 ghost use Rattle.jcr_view.specs.Rebases.{rebased};
 
+use crate::commands::is_writing;
 use crate::needs::{needs, needs_to_rebase};
 use crate::reading::{by_identifier, get, id, list, props, refs, replied, versions};
 use crate::rebase::rebased;
-use crate::writing::{Made, is_writing, make};
+use crate::writing::{Made, make};
 use jcr_trans::{Command, done_reply};
 use jr_overlay::{Overlay, Sight};
 use jr_part::{Need, Part};

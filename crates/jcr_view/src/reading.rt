@@ -4,7 +4,7 @@ ghost use Rattle.std.specs.Option.{option_copied, option_map_or};
 ghost use Rattle.std.specs.String.{string_bytes};
 ghost use Rattle.jr_path.specs.Ids.{path_text};
 ghost use Rattle.jr_items.specs.Refusals.{no_identifier as none_has, no_item as none_there, out_of_memory};
-ghost use Rattle.jr_overlay.specs.Overlays.{sighted, view_of};
+ghost use Rattle.jr_overlay.specs.Overlays.{known_view, sighted, view_of};
 ghost use Rattle.jr_part.specs.Parts.{LacksNothing};
 ghost use Rattle.jr_part.specs.declared.need.Need.TheVariants as need;
 ghost use Rattle.jr_tree.specs.Trees.{subtree_of};
@@ -180,7 +180,7 @@ pub(crate) fn by_identifier(
     id: &str,
 ) -> Result<String, Refusal>
     requires { LacksNothing part.now need.All }
-    ensures { Replies (by_id_answer (sighted (record { known = part.now; changed = overlay.now })) id.now) result }
+    ensures { Replies (by_id_answer (known_view part.now overlay.now) id.now) result }
 {
     match find_identified(alloc, part, overlay, id) {
         Ok(Some(path)) => replied(alloc, path_reply(alloc, &path)),
@@ -228,7 +228,7 @@ pub(crate) fn refs(
     path: &Path,
 ) -> Result<String, Refusal>
     requires { LacksNothing part.now need.All }
-    ensures { Replies (refs_answer (sighted (record { known = part.now; changed = overlay.now })) path.now) result }
+    ensures { Replies (refs_answer (known_view part.now overlay.now) path.now) result }
 {
     match find_node(alloc, &Sight::new(part, overlay), path) {
         Ok(node) => replied(alloc, referrers_reply(alloc, part, overlay, path, node)),

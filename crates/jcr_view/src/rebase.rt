@@ -1,5 +1,5 @@
 // Pending changes made again on another tree.
-ghost use Rattle.std.specs.Prelude.{◌≡◌, [], IfOk, OnOk, map, option_map};
+ghost use Rattle.std.specs.Prelude.{◌≡◌, [], IfOk, OnOk, fold, map, option_map};
 ghost use Rattle.std.specs.Map.Iter.{deref_pair};
 ghost use Rattle.jr_overlay.specs.Drafts.{in_draft};
 ghost use Rattle.jr_overlay.specs.Overlays.{known_view, sighted};
@@ -36,10 +36,20 @@ fn steps_again(
 {
     let overlay = Overlay::new(alloc);
     let mut draft = Draft::new(alloc, Sight::new(part, &overlay));
-    for write in writes {
-        write_again(alloc, &mut draft, write)?;
-    }
+    make_again(alloc, &mut draft, writes)?;
     Ok(draft.into_steps())
+}
+
+// Writes made again, one after the other.
+fn make_again(alloc: Global, draft: &mut Draft<'_>, writes: &[Write]) -> Result<(), AllocError>
+    ensures sight { draft.new.sight ≡ draft.old.sight }
+    ensures steps { OnOk result (draft.new.steps
+        ≡ fold (again (sighted draft.old.sight)) draft.old.steps writes.now) }
+{
+    for write in writes {
+        write_again(alloc, draft, write)?;
+    }
+    Ok(())
 }
 
 // One write made again.

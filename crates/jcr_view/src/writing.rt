@@ -24,25 +24,6 @@ pub(crate) struct Made {
     pub ids: u32,
 }
 
-/// Whether the command writes items.
-pub(crate) fn is_writing(command: &Command) -> bool
-    ensures { result ≡ is_writing command.now }
-{
-    match command {
-        Command::Add(..)
-        | Command::Tree(..)
-        | Command::Set(..)
-        | Command::Unset(..)
-        | Command::Remove(..)
-        | Command::Move(..)
-        | Command::Mixin(..)
-        | Command::Unmixin(..)
-        | Command::SetType(..)
-        | Command::OrderBefore(..) => true,
-        _ => false,
-    }
-}
-
 /// What a writing command makes of a view in which nothing was made before.
 pub(crate) fn make(
     alloc: Global,

@@ -1,1 +1,3 @@
+pub mod Defs
 pub mod Due
+pub mod Moving

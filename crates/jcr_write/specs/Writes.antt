@@ -3,7 +3,7 @@ use Rattle.std.specs.Prelude.{Bool, true, false, cond, List, [], ◌∷◌, ◌+
 use Rattle.std.specs.List.{filter, flat_map, fold, list_any}
 use Rattle.std.specs.Option.{option_map_or}
 use Rattle.std.specs.Prelude.{◌==◌}
-use Rattle.jr_path.specs.Names.{is_under}
+use Rattle.jr_path.specs.Names.{is_under, last_name}
 use Rattle.jr_path.specs.declared.name.Name.{Name}
 use Rattle.jr_path.specs.declared.path.Path.{Path}
 use Rattle.jr_value.specs.Values.{kind_number, kind_of_property}
@@ -74,16 +74,29 @@ abbrev pub unset_made : List TypeDef → View → Steps → Path → Name → Re
 unset_made types view steps p n = putting steps p (node_unset types view steps p n)
 
 -- the definition that a child of that name goes by below a node is protected
-abbrev pub is_kept_below : List TypeDef → Option Node → Name → Node → Bool
-is_kept_below types None n child = false
-is_kept_below types (Some node) n child = option_map_or (λ d. d.protected)
+abbrev pub is_kept_below : List TypeDef → Option Node → Name → Option Node → Bool
+is_kept_below types (Some node) n (Some child) = option_map_or (λ d. d.protected)
     (child_def types (node_types types node) n (property_of child primary_type)) false
+is_kept_below types _ n _ = false
 
--- why a node may not be removed: it is the root, or its definition is protected
-abbrev pub remove_refusal : List TypeDef → View → Steps → Path → Node → Option Refusal
-remove_refusal types view steps p node = first_some (when (is_empty p) (own_rule p)
-    ∷ when (is_kept_below types (drafted view steps (above p)) (own_of p) node)
-    (own_item_rule (above p) (own_of p)) ∷ [])
+-- a node is kept below the one above it
+abbrev pub kept_refusal : List TypeDef → View → Steps → Path → Option Refusal
+kept_refusal types view steps p = option_and_then (λ n.
+    when (is_kept_below types (drafted view steps (above p)) n (drafted view steps p))
+    (own_item_rule (above p) n)) (last_name p)
+
+-- there is no node at p
+abbrev pub absent : View → Steps → Path → Option Refusal
+absent view steps p = when (is_none (drafted view steps p)) (no_item p)
+
+-- p is the root
+abbrev pub is_root : Path → Option Refusal
+is_root p = when (is_empty p) (own_rule p)
+
+-- why the node at p may not be removed: the place, the root, or its definition is protected
+abbrev pub remove_refusal : List TypeDef → View → Steps → Path → Option Refusal
+remove_refusal types view steps p = first_some (path_refusal p ∷ absent view steps p ∷ is_root p
+    ∷ kept_refusal types view steps p ∷ [])
 
 -- each of these nodes goes
 abbrev pub all_gone : Steps → Nodes → Steps
@@ -91,8 +104,8 @@ all_gone steps nodes = fold (λ s e. with_step s e.0 None) steps nodes
 
 -- the node at p goes, with all below it
 abbrev pub remove_made : List TypeDef → View → Steps → Path → Result Steps Refusal
-remove_made types view steps p = at_place view steps p (λ node.
-    unless_refused (remove_refusal types view steps p node) (Ok (all_gone steps (view.below p))))
+remove_made types view steps p = unless_refused (remove_refusal types view steps p)
+    (Ok (all_gone steps (view.below p)))
 
 -- where what stands at r comes to stand, when the node at p moves to q
 abbrev pub moved_path : Path → Path → Path → Path
@@ -102,17 +115,13 @@ moved_path p q r = q ++ drop (length p) r
 abbrev pub moved_limit : Path → Path → Nodes → Option Refusal
 moved_limit p q nodes = first_some (map (λ e. limit_refusal (moved_path p q e.0)) nodes)
 
--- there is no node at p
-abbrev pub absent : View → Steps → Path → Option Refusal
-absent view steps p = when (is_none (drafted view steps p)) (no_item p)
-
 -- why the paths of a move don't do: their limits, and the repository's own nodes
 abbrev pub ends_refusal : Path → Path → Option Refusal
 ends_refusal p q =
     first_some (limit_refusal p ∷ limit_refusal q ∷ in_system p ∷ in_system q ∷ [])
 
--- why a node may not be moved there: there is none, there is no node above, the place is taken, or
--- it is below the node itself
+-- why a node may not stand there: there is none, there is none above the place, the place is
+-- taken, or it is below the node itself
 abbrev pub stand_refusal : View → Steps → Path → Path → Option Refusal
 stand_refusal view steps p q = first_some (absent view steps p ∷ absent view steps (above q)
     ∷ when (is_some (drafted view steps q)) (taken q) ∷ when (is_under q p) (own_rule q) ∷ [])
@@ -138,8 +147,8 @@ move_made view steps p q =
 
 -- what is asked of a node whose place among its parent's children is to change
 abbrev pub order_place : View → Steps → Path → Option Refusal
-order_place view steps p = first_some (path_refusal p ∷ when (is_empty p) (own_rule p)
-    ∷ absent view steps p ∷ [])
+order_place view steps p =
+    first_some (path_refusal p ∷ is_root p ∷ absent view steps p ∷ [])
 
 -- a child has that name
 abbrev pub is_child_named : ChildNames → Name → Bool

@@ -76,6 +76,17 @@ pub fn put_node(
     }
 }
 
+// What was made, or want of memory.
+pub(crate) fn or_memory<T>(alloc: Global, made: Result<T, AllocError>) -> Result<T, Refusal>
+    ensures ok { IfOk result (λ x. made ≡ Ok x) }
+    ensures err { IfErr result (λ refusal. refusal ≡ out_of_memory) }
+{
+    match made {
+        Ok(made) => Ok(made),
+        Err(AllocError) => Err(Refusal::memory(alloc)),
+    }
+}
+
 /// The path of the node above; the root's is its own.
 pub fn above(alloc: Global, path: &Path) -> Result<Path, AllocError>
     ensures { IfOk result (λ found. found ≡ above path.now) }

@@ -1,2 +1,5 @@
-pub mod Overlays
+pub mod Committing
 pub mod Drafts
+pub mod Merging
+pub mod Overlays
+pub mod Views

@@ -1,5 +1,5 @@
 -- A view: a tree with nodes of its own in the place of the tree's.
-use Rattle.std.specs.Prelude.{◌≡◌, Bool, cond, List, [], ◌∷◌, Option, None, Some, is_some, IsTrue, option_map}
+use Rattle.std.specs.Prelude.{◌≡◌, cond, List, [], Option, None, Some, IsTrue, option_map}
 use Rattle.std.specs.Option.{option_map_or, unwrap_or}
 use Rattle.std.specs.Map.{lookup, remove_entry}
 use Rattle.std.specs.BTreeMap.{is_at, insert_entry}
@@ -8,7 +8,6 @@ use Rattle.std.specs.List.{filter_map, fold}
 use Rattle.jr_path.specs.Names.{name_cmp, path_cmp, last_name}
 use Rattle.jr_path.specs.declared.name.Name.{Name}
 use Rattle.jr_path.specs.declared.path.Path.{Path}
-use Rattle.jr_rev.specs.declared.revision.Revision.{Revision}
 use Rattle.jr_tree.specs.declared.tree.Node.{Node}
 use Rattle.jr_tree.specs.declared.edit.Write.{Write}
 use Rattle.jr_tree.specs.Trees.{Nodes, born_of, dated_children_of, is_child_of, node_at, subtree_of}

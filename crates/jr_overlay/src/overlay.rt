@@ -1,11 +1,17 @@
 // The nodes that a view has otherwise than the tree at its base.
-ghost use Rattle.std.specs.Prelude.{◌≡◌, [], IfOk, OnOk, OnErr};
+ghost use Rattle.std.specs.Prelude.{◌≡◌, [], IfOk, IsTrue, OnOk, OnErr, map};
+ghost use Rattle.std.specs.FinMap.{is_sorted};
+ghost use Rattle.std.specs.Map.Iter.{deref_pair};
+ghost use Rattle.jr_path.specs.Names.{path_cmp};
 ghost use Rattle.jr_overlay.specs.Drafts.{with_steps};
-ghost use Rattle.jr_overlay.specs.Overlays.{edit_of, view_of};
+ghost use Rattle.jr_overlay.specs.Merging.{changes_under, with_copy};
+ghost use Rattle.jr_overlay.specs.Overlays.{edit_of, new_nodes, old_nodes, view_of};
 
+use crate::commit::{make_places, move_in};
+use crate::merge::merged;
 use jr_part::Part;
-use jr_path::{Keyed, Path};
-use jr_tree::{Edit, Node, Tree};
+use jr_path::{DeepCopy, Keyed, Path};
+use jr_tree::{Edit, Node, Tree, changes};
 use std::alloc::{AllocError, Global};
 use std::marker::Model;
 
@@ -47,14 +53,82 @@ impl Overlay {
     pub fn edit(&self) -> Result<Edit, AllocError>
         ensures { IfOk result (λ edit. edit.writes ≡ edit_of self.now) }
     {
-        Err(AllocError)
+        changes(&self.old_tree()?, &self.new_tree()?)
+    }
+
+    // The touched nodes as they stood at the base.
+    fn old_tree(&self) -> Result<Tree, AllocError>
+        ensures { IfOk result (λ tree. tree ≡ old_nodes self.now) }
+    {
+        let mut tree = Tree::new(self.alloc);
+        self.in_order();
+        for (path, change) in self.changes.inner() {
+            put_copy(&mut tree, path, &change.old)?;
+        }
+        Ok(tree)
+    }
+
+    // The touched nodes as they stand in the view.
+    fn new_tree(&self) -> Result<Tree, AllocError>
+        ensures { IfOk result (λ tree. tree ≡ new_nodes self.now) }
+    {
+        let mut tree = Tree::new(self.alloc);
+        self.in_order();
+        for (path, change) in self.changes.inner() {
+            put_copy(&mut tree, path, &change.new)?;
+        }
+        Ok(tree)
     }
 
     /// The view as a tree, over the tree at its base.
     pub fn view(&self, base: &Tree) -> Result<Tree, AllocError>
         ensures { IfOk result (λ view. view ≡ view_of base.now self.now) }
     {
-        Err(AllocError)
+        let _ = base.len();
+        let root = Path::root(self.alloc);
+        let found = self.below(&base.under(&root)?, &root)?;
+        copied(self.alloc, &found)
+    }
+
+    // The touched nodes at or below a path in the place of those that are known there, in path
+    // order, all lent.
+    pub(crate) fn below<'a>(
+        &'a self,
+        known: &[(&'a Path, &'a Node)],
+        path: &Path,
+    ) -> Result<Vec<(&'a Path, &'a Node)>, AllocError>
+        requires { IsTrue (is_sorted path_cmp (map deref_pair known.now)) }
+        ensures { IfOk result (λ found. map deref_pair found.items
+            ≡ view_of (map deref_pair known.now) (changes_under self.now path.now)) }
+    {
+        self.in_order();
+        merged(self.alloc, known, &self.under(path)?)
+    }
+
+    // The touched nodes at or below a path, lent, with their paths from the root, in path order. It
+    // looks only at these.
+    pub(crate) fn under<'a>(
+        &'a self,
+        path: &Path,
+    ) -> Result<Vec<(&'a Path, &'a Change)>, AllocError>
+        ensures { IfOk result (λ found. map deref_pair found.items ≡ changes_under self.now path.now) }
+    {
+        self.in_order();
+        let mut found = Vec::new(self.alloc);
+        for (at, change) in self.changes.inner().range(path..) {
+            if !at.is_under(path) {
+                break;
+            }
+            found.push((at, change))?;
+        }
+        Ok(found)
+    }
+
+    // The paths rise. It does nothing: callers learn the fact.
+    fn in_order(&self)
+        ensures { IsTrue (is_sorted path_cmp self.now) }
+    {
+        let _ = self.changes.len();
     }
 
     /// Makes the steps of a draft count. Of a path that is touched for the first time what is known at the base is
@@ -67,6 +141,32 @@ impl Overlay {
         ensures ok { OnOk result (self.new ≡ with_steps part.now.nodes self.old steps) }
         ensures err { OnErr result (self.new ≡ self.old) }
     {
-        Err(AllocError)
+        self.in_order();
+        let _ = steps.len();
+        make_places(&mut self.changes, self.alloc, part, &steps)?;
+        move_in(&mut self.changes, steps);
+        Ok(())
     }
+}
+
+// Puts a copy of a node, if there is one, at a path.
+fn put_copy(tree: &mut Tree, path: &Path, node: &Option<Node>) -> Result<(), AllocError>
+    ensures { OnOk result (tree.new ≡ with_copy tree.old path.now node.now) }
+{
+    match node {
+        Some(node) => tree.insert(path.copy()?, node.copy()?),
+        None => Ok(()),
+    }
+}
+
+// A tree of copies of nodes that stand in path order.
+fn copied(alloc: Global, nodes: &[(&Path, &Node)]) -> Result<Tree, AllocError>
+    requires { IsTrue (is_sorted path_cmp (map deref_pair nodes.now)) }
+    ensures { IfOk result (λ tree. tree ≡ map deref_pair nodes.now) }
+{
+    let mut tree = Tree::new(alloc);
+    for (path, node) in nodes {
+        tree.insert(path.copy()?, node.copy()?)?;
+    }
+    Ok(tree)
 }

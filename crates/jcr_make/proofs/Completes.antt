@@ -1,0 +1,45 @@
+-- Nodes that are made whole, by lists of types in which each test finds the same first one.
+use Rattle.std.proofs.Common.{◌≡◌, ◌≢◌, ℕ, zero, suc, ◌-◌, List, refl, sym, ap, ◌∙◌, arith}
+use Rattle.std.specs.Prelude.{Result, Ok}
+use Rattle.std.specs.List.{flat_map}
+use Rattle.jr_path.specs.declared.path.Path.{Path}
+use Rattle.jr_tree.specs.declared.shared.Refusal.{Refusal}
+use Rattle.jr_tree.specs.declared.shared.Who.{Who}
+use Rattle.jr_tree.specs.declared.tree.Node.{Node}
+use Rattle.jr_types.proofs.Alike.{flat-alike}
+use Rattle.jr_types.specs.Registered.{IsAlike}
+use Rattle.jr_types.specs.Types.{props_of}
+use Rattle.jr_types.specs.declared.PropDef.{PropDef}
+use Rattle.jr_types.specs.declared.TypeDef.{TypeDef}
+use Rattle.jr_overlay.specs.Overlays.{View}
+use Rattle.jcr_write.specs.Places.{node_types}
+use Rattle.jcr_make.specs.declared.fill.Filling.{Filling}
+use Rattle.jcr_make.specs.Filled.{filled}
+use Rattle.jcr_make.specs.Makings.{Making, completed, put_filled, put_filled_by, with_children, with_node}
+use Rattle.jcr_make.specs.Steps.{and_then}
+use Rattle.jcr_make.proofs.Fills.{filled-alike}
+
+-- the definitions of types in which each test finds the same put the same properties
+pub put_filled_is : (types : List TypeDef) (who : Who) (p : Path) (node : Node) (m : Making) (props : List PropDef) (of : List TypeDef)
+    → props ≡ flat_map props_of of → IsAlike of (node_types types node) → put_filled types who p node m ≡ put_filled_by who props p node m
+put_filled_is types who p node m props of is h = ap (λ (r : Result Filling Refusal). and_then r (λ f. Ok (with_node m.steps p f)))
+    (sym (filled-alike who (flat_map props_of of) (flat_map props_of (node_types types node)) (record { node = node; ids = m.ids }) (flat-alike props_of of (node_types types node) h))
+    ∙ ap (λ ds. filled_from who ds node m.ids) (sym is))
+  where
+    filled_from : Who → List PropDef → Node → ℕ → Result Filling Refusal
+    filled_from who ds node ids = filled who ds (record { node = node; ids = ids })
+
+-- no level is left: the node is put as it is
+pub completed_none : (levels : ℕ) (types : List TypeDef) (who : Who) (view : View) (p : Path) (node : Node) (m : Making) → levels ≡ 0
+    → completed levels types who view p node m ≡ Ok (with_node m.steps p (record { node = node; ids = m.ids }))
+unfolding completed
+completed_none levels types who view p node m h = ap (λ k. completed k types who view p node m) h
+
+-- one level: the properties, and the children by the levels that are left
+pub completed_more : (levels : ℕ) (types : List TypeDef) (who : Who) (view : View) (p : Path) (node : Node) (m : Making) → levels ≢ 0
+    → completed levels types who view p node m ≡ and_then (put_filled types who p node m) (with_children (completed (levels - 1) types who view) types view p (node_types types node))
+unfolding completed
+completed_more zero types who view p node m h = absurd (h refl)
+completed_more (suc k) types who view p node m h =
+    let e : k ≡ suc k - 1 = omega arith in
+    ap (λ j. and_then (put_filled types who p node m) (with_children (completed j types who view) types view p (node_types types node))) e

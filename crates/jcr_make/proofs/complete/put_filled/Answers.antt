@@ -1,0 +1,11 @@
+use Rattle.std.proofs.Common.{◌∙◌, sym}
+use Rattle.std.proofs.lemmas.Result.{IfErr-weaker, on_ok_weaker}
+use Rattle.jcr_make.specs.Makings.{making}
+use Rattle.jcr_make.proofs.Completes.{put_filled_is}
+use Rattle.jcr_make.proofs.complete.put_filled.Goals as goal
+
+pub returns-in-Ok-clause-ok : goal.returns-in-Ok-clause-ok
+returns-in-Ok-clause-ok c = on_ok_weaker c.put_filled_by.result (λ e. sym (put_filled_is c.args.types.now c.args.who.now c.args.path.now c.args.node _ _ _ c.in-Ok.ensures c.requires) ∙ e) c.put_filled_by.ensures.ok
+
+pub returns-in-Ok-clause-err : goal.returns-in-Ok-clause-err
+returns-in-Ok-clause-err c = IfErr-weaker c.put_filled_by.result _ _ (λ r is m. sym (put_filled_is c.args.types.now c.args.who.now c.args.path.now c.args.node _ _ _ c.in-Ok.ensures c.requires) ∙ is m) c.put_filled_by.ensures.err

@@ -1,0 +1,21 @@
+use Rattle.std.specs.Prelude.{Ok}
+use Rattle.jr_overlay.specs.Overlays.{sighted}
+use Rattle.jcr_write.specs.Places.{unless_refused, with_property}
+use Rattle.jcr_write.specs.Writes.{set_refusal}
+use Rattle.jcr_write.proofs.Due.{found_err, found_ok, place_err}
+use Rattle.jcr_write.proofs.properties.node_set.Goals as goal
+
+pub returns-in-Ok-clause-ok : goal.returns-in-Ok-clause-ok
+returns-in-Ok-clause-ok c = found_ok c.set_in.result (sighted c.args.draft.now.sight) c.args.draft.now.steps c.args.path.now c.in-Ok.node.now
+    (λ node. unless_refused (set_refusal c.args.types.now c.args.path.now c.args.name.now c.args.property node) (Ok (with_property node c.args.name.now c.args.property)))
+    c.in-Ok.ensures.ok c.set_in.ensures.ok
+
+pub returns-in-Ok-clause-err : goal.returns-in-Ok-clause-err
+returns-in-Ok-clause-err c = found_err c.set_in.result (sighted c.args.draft.now.sight) c.args.draft.now.steps c.args.path.now c.in-Ok.node.now
+    (λ node. unless_refused (set_refusal c.args.types.now c.args.path.now c.args.name.now c.args.property node) (Ok (with_property node c.args.name.now c.args.property)))
+    c.in-Ok.ensures.ok c.set_in.ensures.err
+
+pub returns-in-Err-clause-err : goal.returns-in-Err-clause-err
+returns-in-Err-clause-err c = place_err (sighted c.args.draft.now.sight) c.args.draft.now.steps c.args.path.now c.in-Err.refusal
+    (λ node. unless_refused (set_refusal c.args.types.now c.args.path.now c.args.name.now c.args.property node) (Ok (with_property node c.args.name.now c.args.property)))
+    c.in-Err.ensures.err

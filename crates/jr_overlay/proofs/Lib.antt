@@ -1,0 +1,13 @@
+pub mod Below
+pub mod Children
+pub mod Commits
+pub mod Copies
+pub mod EditsOf
+pub mod KeepingSteps
+pub mod KeptTrees
+pub mod Moves
+pub mod NamesPut
+pub mod Places
+pub mod Ranges
+pub mod SideBySide
+pub mod Views
