@@ -13,6 +13,7 @@ mod shows;
 mod trees;
 mod types;
 mod versions;
+mod view;
 
 use jr_io::{Sink, StdSink, StdSource, read_all, write_all};
 use std::io;

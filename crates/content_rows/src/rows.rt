@@ -1,5 +1,5 @@
 // What comes of each line.
-use crate::{definitions, events, locks, plans, references, trees, types, versions};
+use crate::{definitions, events, locks, plans, references, trees, types, versions, view};
 use jr_path::{Path, PathFault};
 use jr_tree::Tree;
 use std::alloc::{AllocError, Global};
@@ -32,6 +32,7 @@ fn add_line(
         "events" => events::add(alloc, asked, given, out),
         "plan" | "whole_plan" | "change_plan" => plans::add(alloc, word, asked, given, out),
         "versions" => versions::add(alloc, asked, given, out),
+        "view" => view::add(alloc, asked, given, out),
         "added" | "is_a" | "subtypes" | "type" | "violation" => {
             types::add(alloc, word, asked, given, out)
         }

@@ -8,7 +8,14 @@ use std::alloc::{AllocError, Global};
 
 pub(crate) fn tree_of(alloc: Global, text: &str) -> Result<Option<Tree>, AllocError> {
     match json_of(alloc, text)? {
-        Some(Json::Object(members)) => nodes_of(alloc, &members),
+        Some(json) => tree_in(alloc, &json),
+        None => Ok(None),
+    }
+}
+
+pub(crate) fn tree_in(alloc: Global, json: &Json) -> Result<Option<Tree>, AllocError> {
+    match json {
+        Json::Object(members) => nodes_of(alloc, members),
         _ => Ok(None),
     }
 }
