@@ -10,8 +10,8 @@ use Rattle.jr_items.specs.Items.{same_name}
 use Rattle.jr_items.specs.Names.{versionable}
 use Rattle.jr_overlay.specs.Overlays.{Sighted, View, sighted}
 use Rattle.jcr_make.specs.Histories.{begun_among, begun_by, counting}
-use Rattle.jcr_make.specs.Makings.{Making}
-use Rattle.jcr_make.specs.Steps.{and_then}
+use Rattle.jcr_fill.specs.Makings.{Making}
+use Rattle.jcr_fill.specs.Steps.{and_then}
 
 -- with `mix:versionable` the history begins among what counts
 pub begun_is : (n : Name) (identified : Bool) (who : Who) (view : View) (p : Path) (m : Making) (nodes : Nodes) → same_name versionable n ≡ true → nodes ≡ counting identified view m.steps p

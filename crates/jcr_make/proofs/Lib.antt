@@ -1,11 +1,4 @@
 pub mod Begun
-pub mod Children
-pub mod Completes
-pub mod Due
-pub mod Each
-pub mod Fills
-mod Identifiers
-pub mod Loops
 pub mod Names
 pub mod ReadBelow
 pub mod Sets

@@ -13,8 +13,8 @@ use Rattle.jr_types.specs.declared.TypeDef.{TypeDef}
 use Rattle.jr_overlay.specs.Drafts.{Steps}
 use Rattle.jr_overlay.specs.Overlays.{Sighted, View, sighted}
 use Rattle.jcr_write.specs.Places.{IsDueRefusal}
-use Rattle.jcr_make.specs.Makings.{Making, making}
-use Rattle.jcr_make.specs.Steps.{and_then, each}
+use Rattle.jcr_fill.specs.Makings.{Making, making}
+use Rattle.jcr_fill.specs.Steps.{and_then, each}
 use Rattle.jcr_make.specs.Subtrees.{furnished, part_added, part_at, part_node, with_set, with_sets}
 
 module _ {T : Type 0} (result : Result T Refusal) (first : Result Making Refusal) (types : List TypeDef) (s t : Sighted) (p : Path) (props : List (Name × Property)) (steps new : Steps) (ids : ℕ) where

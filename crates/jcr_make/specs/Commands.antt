@@ -24,8 +24,8 @@ use Rattle.jr_types.specs.Types.{prop_def}
 use Rattle.jr_overlay.specs.Drafts.{Steps, drafted, with_step}
 use Rattle.jr_overlay.specs.Overlays.{View}
 use Rattle.jcr_write.specs.Places.{above, at_place, node_types, of_node, path_refusal, unless_refused, with_property, without_property}
-use Rattle.jcr_make.specs.Steps.{and_then}
-use Rattle.jcr_make.specs.Makings.{Making, complete, unknown_type}
+use Rattle.jcr_fill.specs.Steps.{and_then}
+use Rattle.jcr_fill.specs.Makings.{Making, complete, unknown_type}
 
 -- the type that an added node gets, which somebody registered
 abbrev pub registered : List TypeDef → Name → Result Name Refusal

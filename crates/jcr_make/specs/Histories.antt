@@ -26,9 +26,9 @@ use Rattle.jcr_ref.specs.Histories.{history_drawn, history_writes, root_of}
 use Rattle.jcr_write.specs.Places.{at_place, unless_refused}
 use Rattle.jcr_make.specs.Commands.{lists_mixin, with_mixins}
 use Rattle.jcr_make.specs.declared.mixins.Mixing.{Mixing}
-use Rattle.jcr_make.specs.Makings.{Making, complete, unknown_type}
+use Rattle.jcr_fill.specs.Makings.{Making, complete, unknown_type}
 use Rattle.jcr_make.specs.Named.{is_name}
-use Rattle.jcr_make.specs.Steps.{and_then}
+use Rattle.jcr_fill.specs.Steps.{and_then}
 
 -- a node has an identifier of its own
 abbrev pub is_identified : Node → Bool

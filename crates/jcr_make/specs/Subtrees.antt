@@ -15,8 +15,8 @@ use Rattle.jcr_write.specs.Places.{unless_refused}
 use Rattle.jcr_write.specs.Writes.{set_made}
 use Rattle.jcr_make.specs.Commands.{add_made, chosen_type, completed_new}
 use Rattle.jcr_make.specs.Histories.{mixin_made}
-use Rattle.jcr_make.specs.Makings.{Making, making}
-use Rattle.jcr_make.specs.Steps.{and_then, each}
+use Rattle.jcr_fill.specs.Makings.{Making, making}
+use Rattle.jcr_fill.specs.Steps.{and_then, each}
 
 -- a node of a type is made at a path within the limits
 abbrev pub limited : List TypeDef → Who → View → Path → Making → (type : Name) → Result Making Refusal

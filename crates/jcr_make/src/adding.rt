@@ -5,12 +5,12 @@ ghost use Rattle.jr_items.specs.Refusals.{IsTheRefusal, out_of_memory};
 ghost use Rattle.jr_overlay.specs.Overlays.{sighted};
 ghost use Rattle.jcr_write.specs.Places.{IsDueRefusal, above, path_refusal};
 ghost use Rattle.jcr_make.specs.Commands.{add_made, chosen_below, chosen_type, completed_new, registered, type_below, type_by_default};
-ghost use Rattle.jcr_make.specs.Makings.{making};
-ghost use Rattle.jcr_make.specs.Steps.{and_then};
+ghost use Rattle.jcr_fill.specs.Makings.{making};
+ghost use Rattle.jcr_fill.specs.Steps.{and_then};
 
-use crate::complete::{check_type, complete_new};
-use jcr_write::above;
-use jr_items::{breaks_rule, check_limits, check_not_system, no_item, taken};
+use jcr_fill::{check_type, complete_new};
+use jcr_write::{above, check_path};
+use jr_items::{breaks_rule, no_item, taken};
 use jr_overlay::Draft;
 use jr_path::{DeepCopy, Name, Path};
 use jr_tree::{Node, Refusal, Who};
@@ -20,7 +20,7 @@ use std::alloc::{AllocError, Global};
 /// Adds a node of a type, or else of the default one by the types of the node above, with what belongs to it (JSR 283,
 /// 10.4.1 Adding a Node). Refused, in this order: 15 of the path; 4 of the repository's own; 1 with the node above;
 /// 2 where a node stands there; 3 with the type; 4 where no default type is given.
-#[tactic(auto, using(crate::proofs::Due::refused_due, crate::proofs::Due::passed_ok, crate::proofs::Due::passed_err))]
+#[tactic(auto, using(jcr_write::proofs::Due::refused_due, jcr_fill::proofs::Due::passed_ok, jcr_fill::proofs::Due::passed_err))]
 pub fn add(
     alloc: Global,
     types: &Registry,
@@ -42,20 +42,8 @@ pub fn add(
     }
 }
 
-// What every command asks of its path alone.
-#[tactic(auto, using(crate::proofs::Due::first_two, crate::proofs::Due::third_result, crate::proofs::Due::third_none))]
-fn check_path(alloc: Global, path: &Path) -> Result<(), Refusal>
-    ensures ok { OnOk result (path_refusal path.now ≡ None) }
-    ensures err { IfErr result (IsTheRefusal (path_refusal path.now)) }
-{
-    match check_limits(alloc, path) {
-        Ok(()) => check_not_system(alloc, path),
-        Err(refusal) => Err(refusal),
-    }
-}
-
 // Adds a node at a path that a command may name.
-#[tactic(auto, using(crate::proofs::Due::after_ok, crate::proofs::Due::after_err, crate::proofs::Due::first_err))]
+#[tactic(auto, using(jcr_fill::proofs::Due::after_ok, jcr_fill::proofs::Due::after_err, jcr_fill::proofs::Due::first_err))]
 fn add_within(
     alloc: Global,
     types: &Registry,
@@ -181,7 +169,7 @@ fn type_below<'a>(
 }
 
 // The type, which somebody registered.
-#[tactic(auto, using(crate::proofs::Due::refused_due, crate::proofs::Due::passed_value, crate::proofs::Due::memory_result))]
+#[tactic(auto, using(jcr_write::proofs::Due::refused_due, jcr_fill::proofs::Due::passed_value, jcr_write::proofs::Due::memory_result))]
 fn registered(alloc: Global, types: &Registry, name: &Name) -> Result<Name, Refusal>
     ensures ok { IfOk result (λ found. registered types.now name.now ≡ Ok found) }
     ensures err { IfErr result (IsDueRefusal (registered types.now name.now)) }

@@ -7,7 +7,7 @@ ghost use Rattle.jr_overlay.specs.Overlays.{sighted};
 ghost use Rattle.jcr_ref.specs.Drawn.{too_many_ids};
 ghost use Rattle.jcr_write.specs.Places.{IsDueRefusal, unless_refused};
 ghost use Rattle.jcr_make.specs.Histories.{all_put, begun_among, begun_by, counting, history_by, limited_history, named_history, with_history, with_own_history, with_seen};
-ghost use Rattle.jcr_make.specs.Makings.{making};
+ghost use Rattle.jcr_fill.specs.Makings.{making};
 
 use jcr_ref::{HistoryWrites, MAX_IDS, history_writes};
 use jr_items::{OwnName, one_text, over_limit};

@@ -10,7 +10,7 @@ ghost use Rattle.jr_overlay.specs.Overlays.{View};
 ghost use Rattle.jcr_write.specs.Places.{above};
 ghost use Rattle.jcr_make.specs.Commands.{add_made, type_made, unmixin_made};
 ghost use Rattle.jcr_make.specs.Histories.{mixin_made};
-ghost use Rattle.jcr_make.specs.Makings.{Making};
+ghost use Rattle.jcr_fill.specs.Makings.{Making};
 ghost use Rattle.jcr_make.specs.AlikeViews.{AreAlikeFrom};
 
 /// Of two views with the same nodes at and below a path, and with the same node above it, `add` makes the same.

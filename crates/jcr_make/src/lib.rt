@@ -3,8 +3,6 @@
 #![tactic(auto)]
 
 mod adding;
-mod complete;
-mod fill;
 mod history;
 mod laws;
 mod mixins;

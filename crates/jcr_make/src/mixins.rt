@@ -10,11 +10,11 @@ ghost use Rattle.jr_types.specs.Rules.{is_mixin};
 ghost use Rattle.jr_overlay.specs.Overlays.{sighted};
 ghost use Rattle.jcr_write.specs.Places.{IsDueRefusal, unless_refused};
 ghost use Rattle.jcr_make.specs.Histories.{history_by, is_identified, listing, may_be_versioned, mixed, mixin_made, mixin_put, mixin_refusal, mixing, place_mixing, version_refusal};
-ghost use Rattle.jcr_make.specs.Makings.{making};
+ghost use Rattle.jcr_fill.specs.Makings.{making};
 
-use crate::complete::{check_type, complete};
 use crate::history::{begin_by, history_for};
 use crate::unmix::{lists_mixin, with_mixins};
+use jcr_fill::{check_type, complete};
 use jcr_write::check_place;
 use jr_items::{OwnName, breaks_rule, one_text, own_item_rule};
 use jr_overlay::Draft;
@@ -35,7 +35,7 @@ pub struct Mixing {
 /// `mix:versionable` the history of its versions begins (3.13 Versioning Model). Nothing changes where the node has
 /// the mixin. Refused as every command by its path; 3 with the name; 4, rule 2, where it is no mixin; with
 /// `mix:versionable` 4 where the node's `jcr:uuid` is no name; 15 where an identifier is over the limit.
-#[tactic(auto, using(crate::proofs::Due::after_ok, crate::proofs::Due::after_err, crate::proofs::Due::first_err))]
+#[tactic(auto, using(jcr_fill::proofs::Due::after_ok, jcr_fill::proofs::Due::after_err, jcr_fill::proofs::Due::first_err))]
 pub fn mixin(
     alloc: Global,
     types: &Registry,
@@ -59,7 +59,7 @@ pub fn mixin(
 }
 
 // Puts a node that gets a mixin, with all that belongs to it.
-#[tactic(auto, using(crate::proofs::Due::after_ok, crate::proofs::Due::after_err, crate::proofs::Due::first_err))]
+#[tactic(auto, using(jcr_fill::proofs::Due::after_ok, jcr_fill::proofs::Due::after_err, jcr_fill::proofs::Due::first_err))]
 fn put_mixing(
     alloc: Global,
     types: &Registry,
@@ -86,7 +86,7 @@ fn put_mixing(
 }
 
 // What the node at a place becomes by a mixin that it may have.
-#[tactic(auto, using(crate::proofs::Due::at_place_is, crate::proofs::Due::place_err))]
+#[tactic(auto, using(jcr_write::proofs::Due::at_place_is, jcr_write::proofs::Due::place_err))]
 fn place_mixing(
     alloc: Global,
     types: &Registry,
@@ -105,7 +105,7 @@ fn place_mixing(
     }
 }
 
-#[tactic(auto, using(crate::proofs::Due::refused_due, crate::proofs::Due::passed_value, crate::proofs::Due::memory_due))]
+#[tactic(auto, using(jcr_write::proofs::Due::refused_due, jcr_fill::proofs::Due::passed_value, jcr_write::proofs::Due::memory_due))]
 fn mixing_by(
     alloc: Global,
     types: &Registry,
@@ -137,7 +137,7 @@ fn mixing_or_memory(alloc: Global, node: &Node, name: &Name) -> Result<Option<Mi
 }
 
 // What is asked of a mixin, and of the node that gets it.
-#[tactic(auto, using(crate::proofs::Due::first_here, crate::proofs::Due::rest_result, crate::proofs::Due::rest_none))]
+#[tactic(auto, using(jcr_write::proofs::Due::first_here, jcr_write::proofs::Due::rest_result, jcr_write::proofs::Due::rest_none))]
 fn check_mixin(
     alloc: Global,
     types: &Registry,
@@ -155,7 +155,7 @@ fn check_mixin(
     }
 }
 
-#[tactic(auto, using(crate::proofs::Due::first_here, crate::proofs::Due::second_result, crate::proofs::Due::second_none))]
+#[tactic(auto, using(jcr_write::proofs::Due::first_here, jcr_write::proofs::Due::last_result, jcr_write::proofs::Due::last_none))]
 fn check_kind(
     alloc: Global,
     types: &Registry,

@@ -8,9 +8,9 @@ ghost use Rattle.jr_types.specs.Attributes.{are_ordered};
 ghost use Rattle.jr_overlay.specs.Overlays.{sighted};
 ghost use Rattle.jcr_write.specs.Places.{IsDueRefusal, node_types, unless_refused, with_property, without_property};
 ghost use Rattle.jcr_make.specs.Commands.{node_retyped, retyped, type_made};
-ghost use Rattle.jcr_make.specs.Makings.{making, unknown_type};
+ghost use Rattle.jcr_fill.specs.Makings.{making, unknown_type};
 
-use crate::complete::{check_type, complete};
+use jcr_fill::{check_type, complete};
 use jcr_write::{check_place, with_property};
 use jr_items::OwnName;
 use jr_overlay::Draft;
@@ -22,7 +22,7 @@ use std::alloc::{AllocError, Global};
 
 /// Changes a node's primary type, with what belongs to it (JSR 283, 10.10.1 Changing the Primary Type). The order of
 /// its children goes where the new types have none. Refused as every command by its path; 3 with the type.
-#[tactic(auto, using(crate::proofs::Due::after_ok, crate::proofs::Due::after_err, crate::proofs::Due::first_err))]
+#[tactic(auto, using(jcr_fill::proofs::Due::after_ok, jcr_fill::proofs::Due::after_err, jcr_fill::proofs::Due::first_err))]
 pub fn set_type(
     alloc: Global,
     types: &Registry,
@@ -45,7 +45,7 @@ pub fn set_type(
 }
 
 // The node at a place with another primary type.
-#[tactic(auto, using(crate::proofs::Due::at_place_is, crate::proofs::Due::place_err))]
+#[tactic(auto, using(jcr_write::proofs::Due::at_place_is, jcr_write::proofs::Due::place_err))]
 fn node_retyped(
     alloc: Global,
     types: &Registry,
@@ -65,7 +65,7 @@ fn node_retyped(
 }
 
 // A node with another primary type, which somebody registered.
-#[tactic(auto, using(crate::proofs::Due::refused_due, crate::proofs::Due::passed_value, crate::proofs::Due::memory_due))]
+#[tactic(auto, using(jcr_write::proofs::Due::refused_due, jcr_fill::proofs::Due::passed_value, jcr_write::proofs::Due::memory_due))]
 fn retyped_by(
     alloc: Global,
     types: &Registry,

@@ -7,13 +7,13 @@ ghost use Rattle.jcr_write.specs.Places.{IsDueRefusal};
 ghost use Rattle.jcr_write.specs.Writes.{set_made};
 ghost use Rattle.jcr_make.specs.Commands.{chosen_type};
 ghost use Rattle.jcr_make.specs.Histories.{mixin_made};
-ghost use Rattle.jcr_make.specs.Makings.{making};
-ghost use Rattle.jcr_make.specs.Steps.{and_then, each};
+ghost use Rattle.jcr_fill.specs.Makings.{making};
+ghost use Rattle.jcr_fill.specs.Steps.{and_then, each};
 ghost use Rattle.jcr_make.specs.Subtrees.{furnished, limited, part_added, part_at, part_node, tree_made, with_part, with_set};
 
 use crate::adding::{add, chosen_type};
-use crate::complete::complete_new;
 use crate::mixins::mixin;
+use jcr_fill::complete_new;
 use jcr_trans::TreeNode;
 use jcr_write::set;
 use jr_items::{check_limits, check_not_system};
@@ -81,7 +81,7 @@ fn onto(path: &Path, names: &[Name]) -> Result<Path, AllocError>
     Ok(onto)
 }
 
-#[tactic(auto, using(crate::proofs::Due::after_ok, crate::proofs::Due::after_err, crate::proofs::Due::first_err))]
+#[tactic(auto, using(jcr_fill::proofs::Due::after_ok, jcr_fill::proofs::Due::after_err, jcr_fill::proofs::Due::first_err))]
 fn add_part_at(
     alloc: Global,
     types: &Registry,
@@ -145,7 +145,7 @@ fn named_type(part: &TreeNode) -> Option<&Name>
 }
 
 // Adds a node below the topmost one, whose limits come last.
-#[tactic(auto, using(crate::proofs::Due::refused_due, crate::proofs::Due::passed_ok, crate::proofs::Due::passed_err))]
+#[tactic(auto, using(jcr_write::proofs::Due::refused_due, jcr_fill::proofs::Due::passed_ok, jcr_fill::proofs::Due::passed_err))]
 fn add_below(
     alloc: Global,
     types: &Registry,
@@ -169,7 +169,7 @@ fn add_below(
     }
 }
 
-#[tactic(auto, using(crate::proofs::Due::after_ok, crate::proofs::Due::after_err, crate::proofs::Due::first_err))]
+#[tactic(auto, using(jcr_fill::proofs::Due::after_ok, jcr_fill::proofs::Due::after_err, jcr_fill::proofs::Due::first_err))]
 fn add_chosen(
     alloc: Global,
     types: &Registry,
@@ -196,7 +196,7 @@ fn add_chosen(
 }
 
 // Adds a node of a type at a path within the limits.
-#[tactic(auto, using(crate::proofs::Due::refused_due, crate::proofs::Due::passed_ok, crate::proofs::Due::passed_err))]
+#[tactic(auto, using(jcr_write::proofs::Due::refused_due, jcr_fill::proofs::Due::passed_ok, jcr_fill::proofs::Due::passed_err))]
 fn add_limited(
     alloc: Global,
     types: &Registry,
@@ -219,7 +219,7 @@ fn add_limited(
 }
 
 // Gives a node its mixins, then its properties.
-#[tactic(auto, using(crate::proofs::Sets::sets_ok, crate::proofs::Due::first_err))]
+#[tactic(auto, using(crate::proofs::Sets::sets_ok, jcr_fill::proofs::Due::first_err))]
 fn furnish(
     alloc: Global,
     types: &Registry,

@@ -11,8 +11,8 @@ ghost use Rattle.jr_overlay.specs.Overlays.{sighted};
 ghost use Rattle.jcr_write.specs.Places.{IsDueRefusal, unless_refused};
 ghost use Rattle.jcr_make.specs.Commands.{is_lost, is_protected, lists_mixin, node_unmixed, others, unlisted, unmixed, unmixin_made, unmixin_refusal, with_kept, with_mixins, without_lost};
 
-use crate::complete::check_type;
 use crate::retype::or_memory;
+use jcr_fill::check_type;
 use jcr_write::{check_place, put_node, with_property, without_property};
 use jr_items::{OwnName, no_type};
 use jr_overlay::Draft;
@@ -24,7 +24,7 @@ use std::alloc::{AllocError, Global};
 
 /// Takes a mixin from a node, with the protected properties that nothing else defines (JSR 283, 10.10.3 Assigning
 /// Mixin Node Types). Refused as every command by its path; 3 where nobody registered the mixin or the node lacks it.
-#[tactic(auto, using(crate::proofs::Due::put_after, crate::proofs::Due::memory_result, crate::proofs::Due::first_err))]
+#[tactic(auto, using(jcr_fill::proofs::Due::put_after, jcr_write::proofs::Due::memory_result, jcr_fill::proofs::Due::first_err))]
 pub fn unmixin(
     alloc: Global,
     types: &Registry,
@@ -45,7 +45,7 @@ pub fn unmixin(
 }
 
 // The node at a place without a mixin.
-#[tactic(auto, using(crate::proofs::Due::at_place_is, crate::proofs::Due::place_err))]
+#[tactic(auto, using(jcr_write::proofs::Due::at_place_is, jcr_write::proofs::Due::place_err))]
 fn node_unmixed(
     alloc: Global,
     types: &Registry,
@@ -64,7 +64,7 @@ fn node_unmixed(
     }
 }
 
-#[tactic(auto, using(crate::proofs::Due::refused_due, crate::proofs::Due::passed_value, crate::proofs::Due::memory_due))]
+#[tactic(auto, using(jcr_write::proofs::Due::refused_due, jcr_fill::proofs::Due::passed_value, jcr_write::proofs::Due::memory_due))]
 fn unmixed_by(alloc: Global, types: &Registry, node: &Node, name: &Name) -> Result<Node, Refusal>
     ensures ok { IfOk result (λ made. unless_refused (unmixin_refusal types.now node.now name.now)
         (Ok (unmixed types.now node.now name.now)) ≡ Ok made) }
@@ -79,7 +79,7 @@ fn unmixed_by(alloc: Global, types: &Registry, node: &Node, name: &Name) -> Resu
 }
 
 // The mixin is registered, and the node has it.
-#[tactic(auto, using(crate::proofs::Due::first_here, crate::proofs::Due::second_result, crate::proofs::Due::second_none))]
+#[tactic(auto, using(jcr_write::proofs::Due::first_here, jcr_write::proofs::Due::last_result, jcr_write::proofs::Due::last_none))]
 fn check_unmixin(alloc: Global, types: &Registry, node: &Node, name: &Name) -> Result<(), Refusal>
     ensures ok { OnOk result (unmixin_refusal types.now node.now name.now ≡ None) }
     ensures err { IfErr result (IsTheRefusal (unmixin_refusal types.now node.now name.now)) }

@@ -26,7 +26,7 @@ use Rattle.jcr_trans.specs.declared.command.Command.TheVariants as command
 use Rattle.jcr_write.specs.Places.{above, putting, unless_refused}
 use Rattle.jcr_write.specs.Writes.{move_refusal, node_set, node_unset, order_node, remove_refusal}
 use Rattle.jcr_make.specs.Commands.{node_unmixed}
-use Rattle.jcr_make.specs.Steps.{and_then}
+use Rattle.jcr_fill.specs.Steps.{and_then}
 use Rattle.jcr_view.specs.Needs.{AsksFor, children_needs, listing_needs}
 use Rattle.jcr_view.specs.Outcomes.{drawing_none, made_outcome, makes_by_types, outcome}
 use Rattle.jcr_view.specs.Parts.{IsPartOf}

@@ -16,7 +16,7 @@ use Rattle.jcr_ref.specs.Histories.{history_of, version_names}
 use Rattle.jcr_trans.specs.Answers.{Answer, ShowsNames}
 use Rattle.jcr_trans.specs.declared.command.Command.{Command}
 use Rattle.jcr_version.specs.Histories.{no_versions}
-use Rattle.jcr_make.specs.Makings.{making}
+use Rattle.jcr_fill.specs.Makings.{making}
 use Rattle.jcr_view.specs.Outcomes.{is_writing, made_outcome, outcome, shown, shown_outcome, written}
 use Rattle.jcr_view.specs.Reading.{Replies, answer_at, refused, refused_or, versions_answer}
 

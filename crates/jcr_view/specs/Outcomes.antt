@@ -12,7 +12,7 @@ use Rattle.jcr_trans.specs.declared.command.Command.TheVariants as command
 use Rattle.jcr_write.specs.Writes.{move_made, order_made, remove_made, set_made, unset_made}
 use Rattle.jcr_make.specs.Commands.{add_made, type_made, unmixin_made}
 use Rattle.jcr_make.specs.Histories.{mixin_made}
-use Rattle.jcr_make.specs.Makings.{Making, making}
+use Rattle.jcr_fill.specs.Makings.{Making, making}
 use Rattle.jcr_make.specs.Subtrees.{tree_made}
 use Rattle.jcr_view.specs.Reading.{by_id_answer, get_answer, id_answer, list_answer, props_answer, refs_answer, refused, versions_answer}
 

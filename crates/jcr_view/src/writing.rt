@@ -1,7 +1,7 @@
 // What writing commands make of a view.
 ghost use Rattle.std.specs.Prelude.{◌≡◌, [], true, Ok, IfErr, IfOk, OnOk};
 ghost use Rattle.jr_overlay.specs.Overlays.{known_view, sighted};
-ghost use Rattle.jcr_make.specs.Makings.{making};
+ghost use Rattle.jcr_fill.specs.Makings.{making};
 ghost use Rattle.jcr_view.specs.Outcomes.{is_writing, written};
 ghost use Rattle.jcr_write.specs.Places.{IsDueRefusal};
 ghost use Rattle.jcr_write.specs.Writes.{order_made, set_made};

@@ -139,6 +139,11 @@ unfound None None p r then h =
 unfound (Some s) n p r then h =
     ap (λ (x : Result Node Refusal). elim x [ Ok y ↦ then y | Err e ↦ Err e ]) h
 
+pub at_place_is : {A : Type 0} (view : View) (steps : Steps) (p : Path) (node : Node)
+    (then : Node → Result A Refusal) → place_of view steps p ≡ Ok node
+    → at_place view steps p then ≡ then node
+at_place_is view steps p node then h = found (path_refusal p) (drafted view steps p) p node then h
+
 pub found_ok : {A : Type 0} (result : Result A Refusal) (view : View) (steps : Steps) (p : Path)
     (node : Node) (then : Node → Result A Refusal) → place_of view steps p ≡ Ok node
     → IfOk result (λ x. then node ≡ Ok x) → IfOk result (λ x. at_place view steps p then ≡ Ok x)

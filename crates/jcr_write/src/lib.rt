@@ -14,5 +14,5 @@ pub use laws::{
 };
 pub use moves::{move_to, remove};
 pub use order::{Birth, order_before, ordered};
-pub use places::{above, check_place, put_node, with_property, without_property};
+pub use places::{above, check_path, check_place, put_node, with_property, without_property};
 pub use properties::{set, unset};

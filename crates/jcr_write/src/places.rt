@@ -47,9 +47,10 @@ fn node_or_refusal<'a>(
     }
 }
 
-// What every command asks of its path alone.
+/// What every command that writes asks of its path alone. Refused, in this order: 15 where the path is too deep, 15 where
+/// it is too long, 4 where it is the repository's own.
 #[tactic(auto, using(crate::proofs::Due::first_here, crate::proofs::Due::last_result, crate::proofs::Due::first_none))]
-pub(crate) fn check_path(alloc: Global, path: &Path) -> Result<(), Refusal>
+pub fn check_path(alloc: Global, path: &Path) -> Result<(), Refusal>
     ensures ok { OnOk result (path_refusal path.now ≡ None) }
     ensures err { IfErr result (IsTheRefusal (path_refusal path.now)) }
 {

@@ -5,7 +5,7 @@ use Rattle.jr_overlay.specs.Drafts.{drafted}
 use Rattle.jr_overlay.specs.Overlays.{sighted}
 use Rattle.jcr_write.specs.Places.{above}
 use Rattle.jcr_make.specs.Commands.{chosen_below}
-use Rattle.jcr_make.proofs.Due.{of_node_is}
+use Rattle.jcr_fill.proofs.Due.{of_node_is}
 use Rattle.jcr_make.proofs.adding.chosen_under.Goals as goal
 
 pub returns-in-Some-clause-err : goal.returns-in-Some-clause-err

@@ -1,7 +1,7 @@
 use Rattle.std.proofs.Common.{◌∙◌, arith}
 use Rattle.std.proofs.lemmas.Result.{IfErr-weaker, on_ok_weaker}
 use Rattle.jr_overlay.specs.Overlays.{sighted}
-use Rattle.jcr_make.specs.Makings.{making}
+use Rattle.jcr_fill.specs.Makings.{making}
 use Rattle.jcr_make.proofs.Begun.{begun_is}
 use Rattle.jcr_make.proofs.history.begin_by.Goals as goal
 

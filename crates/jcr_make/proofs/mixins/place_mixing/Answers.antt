@@ -4,7 +4,7 @@ use Rattle.std.proofs.lemmas.Result.{IfErr-weaker, IfOk-weaker}
 use Rattle.jr_overlay.specs.Overlays.{sighted}
 use Rattle.jcr_write.specs.Places.{unless_refused}
 use Rattle.jcr_make.specs.Histories.{mixin_refusal, mixing}
-use Rattle.jcr_make.proofs.Due.{at_place_is, place_err}
+use Rattle.jcr_write.proofs.Due.{at_place_is, place_err}
 use Rattle.jcr_make.proofs.mixins.place_mixing.Goals as goal
 
 pub returns-in-Ok-clause-err : goal.returns-in-Ok-clause-err

@@ -2,7 +2,7 @@ use Rattle.std.proofs.Common.{◌∙◌, ap, sym}
 use Rattle.std.proofs.lemmas.Result.{IfErr-weaker}
 use Rattle.jr_overlay.specs.Overlays.{sighted}
 use Rattle.jcr_make.specs.Commands.{add_made}
-use Rattle.jcr_make.specs.Makings.{making}
+use Rattle.jcr_fill.specs.Makings.{making}
 use Rattle.jcr_make.specs.Subtrees.{part_added}
 use Rattle.jcr_make.proofs.Sets.{part_lower, part_top}
 use Rattle.jcr_make.proofs.subtree.add_node.Goals as goal

@@ -2,7 +2,7 @@ use Rattle.std.proofs.Common.{◌++◌, ◌∙◌, ap, sym}
 use Rattle.std.proofs.lemmas.Result.{IfErr-weaker}
 use Rattle.jr_path.specs.declared.path.Path.{Path}
 use Rattle.jr_overlay.specs.Overlays.{sighted}
-use Rattle.jcr_make.specs.Makings.{making}
+use Rattle.jcr_fill.specs.Makings.{making}
 use Rattle.jcr_make.specs.Subtrees.{part_at}
 use Rattle.jcr_make.proofs.subtree.add_part.Goals as goal
 

@@ -1,8 +1,8 @@
 use Rattle.std.proofs.Common.{◌∙◌, ap, sym}
 use Rattle.jr_overlay.specs.Overlays.{sighted}
 use Rattle.jcr_make.specs.Histories.{mixin_made}
-use Rattle.jcr_make.specs.Makings.{making}
-use Rattle.jcr_make.specs.Steps.{each}
+use Rattle.jcr_fill.specs.Makings.{making}
+use Rattle.jcr_fill.specs.Steps.{each}
 use Rattle.jcr_make.proofs.Sets.{sets_err}
 use Rattle.jcr_make.proofs.subtree.furnish.Goals as goal
 

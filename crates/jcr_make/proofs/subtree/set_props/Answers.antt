@@ -2,7 +2,7 @@ use Rattle.std.proofs.Common.{◌∙◌, ap, sym}
 use Rattle.std.proofs.lemmas.Result.{err_from_is_err_and}
 use Rattle.jr_overlay.specs.Overlays.{Sighted, sighted}
 use Rattle.jcr_make.specs.Subtrees.{with_set}
-use Rattle.jcr_make.proofs.Loops.{left_err}
+use Rattle.jcr_fill.proofs.Loops.{left_err}
 use Rattle.jcr_make.proofs.subtree.set_props.Goals as goal
 
 pub returns-in_err-set_copy-clause-err : goal.returns-in_err-set_copy-clause-err

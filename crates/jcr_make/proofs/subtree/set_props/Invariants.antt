@@ -1,6 +1,6 @@
 use Rattle.std.proofs.Common.{◌≡◌}
 use Rattle.jr_overlay.specs.Overlays.{sighted}
-use Rattle.jcr_make.specs.Steps.{each}
+use Rattle.jcr_fill.specs.Steps.{each}
 use Rattle.jcr_make.specs.Subtrees.{with_set}
 use Rattle.jcr_make.proofs.subtree.set_props.Given as goal
 

@@ -1,9 +1,9 @@
 use Rattle.std.proofs.Common.{◌∙◌, ap, sym}
 use Rattle.std.proofs.lemmas.Result.{err_from_is_err_and}
 use Rattle.jr_overlay.specs.Overlays.{Sighted, sighted}
-use Rattle.jcr_make.specs.Makings.{making}
+use Rattle.jcr_fill.specs.Makings.{making}
 use Rattle.jcr_make.specs.Subtrees.{with_part}
-use Rattle.jcr_make.proofs.Loops.{own_loop_err, own_loop_next}
+use Rattle.jcr_fill.proofs.Loops.{own_loop_err, own_loop_next}
 use Rattle.jcr_make.proofs.subtree.tree.Goals as goal
 
 pub returns-in_err-add_part-clause-err : goal.returns-in_err-add_part-clause-err

@@ -1,6 +1,6 @@
 use Rattle.std.proofs.Common.{◌≡◌, drop}
 use Rattle.jr_overlay.specs.Overlays.{sighted}
-use Rattle.jcr_make.specs.Makings.{making}
+use Rattle.jcr_fill.specs.Makings.{making}
 use Rattle.jcr_make.specs.Subtrees.{tree_made}
 use Rattle.jcr_make.proofs.subtree.tree.Given as goal
 

@@ -4,7 +4,7 @@ use Rattle.std.proofs.lemmas.Result.{IfErr-weaker}
 use Rattle.jr_overlay.specs.Overlays.{sighted}
 use Rattle.jcr_write.specs.Places.{unless_refused}
 use Rattle.jcr_make.specs.Commands.{unmixed, unmixin_refusal}
-use Rattle.jcr_make.proofs.Due.{at_place_is, place_err}
+use Rattle.jcr_write.proofs.Due.{at_place_is, place_err}
 use Rattle.jcr_make.proofs.unmix.node_unmixed.Goals as goal
 
 pub returns-in-Ok-clause-err : goal.returns-in-Ok-clause-err

@@ -5,7 +5,7 @@ use Rattle.std.specs.List.{find}
 use Rattle.std.proofs.lemmas.Option.{none-some}
 use Rattle.jr_tree.specs.declared.shared.Refusal.{Refusal}
 use Rattle.jr_types.specs.Registered.{IsAlike}
-use Rattle.jcr_make.specs.Steps.{and_then, each}
+use Rattle.jcr_fill.specs.Steps.{and_then, each}
 
 -- a step does nothing unless its element is wanted, makes it unwanted, and makes no other wanted
 pub record IsMaking {X S : Type 0} (wanted : S → X → Bool) (step : X → S → Result S Refusal) : Type 0 where

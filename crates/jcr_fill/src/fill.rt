@@ -5,7 +5,7 @@ ghost use Rattle.std.specs.String.{string_bytes};
 ghost use Rattle.jcr_ref.specs.References.{identifier};
 ghost use Rattle.jr_items.specs.Items.{property_of};
 ghost use Rattle.jcr_write.specs.Places.{IsDueRefusal, with_property};
-ghost use Rattle.jcr_make.specs.Filled.{by_default, filled, given, identified, is_date, is_user, lacking, next_identifier, user_name, with_given, with_made, with_own};
+ghost use Rattle.jcr_fill.specs.Filled.{by_default, filled, given, identified, is_date, is_user, lacking, next_identifier, user_name, with_given, with_made, with_own};
 ghost use Rattle.jr_value.specs.Values.{kind_of};
 ghost use Rattle.jr_value.specs.declared.value.Property.TheVariants.{Many, Single};
 ghost use Rattle.jr_value.specs.declared.value.Value.TheVariants as value;

@@ -26,13 +26,13 @@ use Rattle.jr_types.proofs.Alike.{flat-alike}
 use Rattle.jr_overlay.specs.Drafts.{Steps, drafted, with_step}
 use Rattle.jr_overlay.specs.Overlays.{View}
 use Rattle.jcr_write.specs.Places.{node_types, unless_refused}
-use Rattle.jcr_make.specs.declared.complete.MissingChild.{MissingChild}
-use Rattle.jcr_make.specs.declared.fill.Filling.{Filling}
-use Rattle.jcr_make.specs.Filled.{filled}
-use Rattle.jcr_make.specs.Makings.{Making, absent_child, child_refusal, completed, missing_child, with_child, with_children, with_node, with_own_child}
-use Rattle.jcr_make.specs.Steps.{and_then, each}
-use Rattle.jcr_make.proofs.Each.{each-alike}
-use Rattle.jcr_make.proofs.Fills.{err-ok, ok_same}
+use Rattle.jcr_fill.specs.declared.complete.MissingChild.{MissingChild}
+use Rattle.jcr_fill.specs.declared.fill.Filling.{Filling}
+use Rattle.jcr_fill.specs.Filled.{filled}
+use Rattle.jcr_fill.specs.Makings.{Making, absent_child, child_refusal, completed, missing_child, with_child, with_children, with_node, with_own_child}
+use Rattle.jcr_fill.specs.Steps.{and_then, each}
+use Rattle.jcr_fill.proofs.Each.{each-alike}
+use Rattle.jcr_fill.proofs.Fills.{err-ok, ok_same}
 
 -- what makes a node whole puts it, and keeps the others
 record IsCompleting (view : View) (complete : Path → Node → Making → Result Making Refusal) : Type 0 where

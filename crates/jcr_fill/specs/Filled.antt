@@ -17,8 +17,8 @@ use Rattle.jr_types.specs.declared.PropDef.{PropDef}
 use Rattle.jcr_ref.specs.Drawn.{latest_date, too_many_ids}
 use Rattle.jcr_ref.specs.References.{identifier}
 use Rattle.jcr_write.specs.Places.{unless_refused, with_property}
-use Rattle.jcr_make.specs.declared.fill.Filling.{Filling}
-use Rattle.jcr_make.specs.Steps.{each}
+use Rattle.jcr_fill.specs.declared.fill.Filling.{Filling}
+use Rattle.jcr_fill.specs.Steps.{each}
 
 -- the property that default values make: all of them, or the first
 abbrev pub by_default : (multiple : Bool) → List Value → Option Property

@@ -1,7 +1,7 @@
 use Rattle.std.proofs.lemmas.Result.{err_from_is_err_and}
-use Rattle.jcr_make.specs.Filled.{with_own}
-use Rattle.jcr_make.proofs.Loops.{loop_err}
-use Rattle.jcr_make.proofs.fill.fill.Goals as goal
+use Rattle.jcr_fill.specs.Filled.{with_own}
+use Rattle.jcr_fill.proofs.Loops.{loop_err}
+use Rattle.jcr_fill.proofs.fill.fill.Goals as goal
 
 pub returns-in_err-fill_by-clause-err : goal.returns-in_err-fill_by-clause-err
 returns-in_err-fill_by-clause-err c = let p = err_from_is_err_and c.from_residual.result c.from_residual.ensures.1 in rw (p.1, p.2)

@@ -17,10 +17,10 @@ use Rattle.jr_types.specs.Types.{props_of, type_named}
 use Rattle.jr_overlay.specs.Drafts.{Steps, drafted, with_step}
 use Rattle.jr_overlay.specs.Overlays.{View}
 use Rattle.jcr_write.specs.Places.{node_types, unless_refused}
-use Rattle.jcr_make.specs.Steps.{and_then, each}
-use Rattle.jcr_make.specs.declared.fill.Filling.{Filling}
-use Rattle.jcr_make.specs.declared.complete.MissingChild.{MissingChild}
-use Rattle.jcr_make.specs.Filled.{filled}
+use Rattle.jcr_fill.specs.Steps.{and_then, each}
+use Rattle.jcr_fill.specs.declared.fill.Filling.{Filling}
+use Rattle.jcr_fill.specs.declared.complete.MissingChild.{MissingChild}
+use Rattle.jcr_fill.specs.Filled.{filled}
 
 -- what a command made of a view so far, and the identifiers that the session has drawn
 pub record Making : Type 0 where

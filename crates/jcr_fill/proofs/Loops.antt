@@ -5,7 +5,7 @@ use Rattle.std.proofs.Math.Seq.{drop-cons}
 use Rattle.jr_tree.specs.declared.shared.Refusal.{Refusal}
 use Rattle.jr_overlay.specs.Overlays.{Sighted}
 use Rattle.jcr_write.specs.Places.{IsDueRefusal}
-use Rattle.jcr_make.specs.Steps.{and_then, each}
+use Rattle.jcr_fill.specs.Steps.{and_then, each}
 
 -- what is left to do begins with the step of the element
 step_first : {R X S : Type 0} (see : R → X) (step : X → S → Result S Refusal) (rs : List R) (i : ℕ) (d : R) (s : S)

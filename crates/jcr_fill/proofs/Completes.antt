@@ -13,12 +13,12 @@ use Rattle.jr_types.specs.declared.PropDef.{PropDef}
 use Rattle.jr_types.specs.declared.TypeDef.{TypeDef}
 use Rattle.jr_overlay.specs.Overlays.{Sighted, View, sighted}
 use Rattle.jcr_write.specs.Places.{IsDueRefusal, node_types}
-use Rattle.jcr_make.specs.declared.fill.Filling.{Filling}
-use Rattle.jcr_make.specs.Filled.{filled}
-use Rattle.jcr_make.specs.Makings.{Making, completed, put_filled, put_filled_by, with_children, with_node}
-use Rattle.jcr_make.specs.Steps.{and_then}
-use Rattle.jcr_make.proofs.Children.{children_alike}
-use Rattle.jcr_make.proofs.Fills.{filled-alike}
+use Rattle.jcr_fill.specs.declared.fill.Filling.{Filling}
+use Rattle.jcr_fill.specs.Filled.{filled}
+use Rattle.jcr_fill.specs.Makings.{Making, completed, put_filled, put_filled_by, with_children, with_node}
+use Rattle.jcr_fill.specs.Steps.{and_then}
+use Rattle.jcr_fill.proofs.Children.{children_alike}
+use Rattle.jcr_fill.proofs.Fills.{filled-alike}
 
 -- the definitions of types in which each test finds the same put the same properties
 pub put_filled_is : (types : List TypeDef) (who : Who) (p : Path) (node : Node) (m : Making) (props : List PropDef) (of : List TypeDef)

@@ -1,7 +1,7 @@
 use Rattle.std.proofs.Common.{◌∙◌}
 use Rattle.std.proofs.lemmas.Result.{IfErr-weaker, on_ok_weaker}
-use Rattle.jcr_make.proofs.Fills.{made_by}
-use Rattle.jcr_make.proofs.fill.fill_by.Goals as goal
+use Rattle.jcr_fill.proofs.Fills.{made_by}
+use Rattle.jcr_fill.proofs.fill.fill_by.Goals as goal
 
 pub returns-in-Some-clause-ok : goal.returns-in-Some-clause-ok
 returns-in-Some-clause-ok c = on_ok_weaker c.fill_named.result (λ e. made_by c.args.who.now c.args.def.now c.in-Some.name.now c.args.filling.now c.in-Some.ensures ∙ e) c.fill_named.ensures.ok

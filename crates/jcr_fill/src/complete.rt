@@ -6,8 +6,8 @@ ghost use Rattle.jr_items.specs.Refusals.{IsTheRefusal, out_of_memory};
 ghost use Rattle.jr_tree.specs.Trees.{node_of_type};
 ghost use Rattle.jr_overlay.specs.Overlays.{sighted};
 ghost use Rattle.jcr_write.specs.Places.{IsDueRefusal, node_types};
-ghost use Rattle.jcr_make.specs.Makings.{absent_child, child_refusal, complete, completed, making, missing_child, put_filled, put_filled_by, unknown_type, with_child, with_children, with_node, with_own_child};
-ghost use Rattle.jcr_make.specs.Steps.{and_then, each};
+ghost use Rattle.jcr_fill.specs.Makings.{absent_child, child_refusal, complete, completed, making, missing_child, put_filled, put_filled_by, unknown_type, with_child, with_children, with_node, with_own_child};
+ghost use Rattle.jcr_fill.specs.Steps.{and_then, each};
 
 use crate::fill::{Filling, fill};
 use jcr_write::put_node;
@@ -30,7 +30,7 @@ pub struct MissingChild {
 
 /// Puts a node with all that belongs to it (JSR 283, 3.7.2.3 Auto-Created). Refused with 15 where an identifier or the
 /// path of a child is over a limit, with 3 where nobody registered a child's type.
-pub(crate) fn complete(
+pub fn complete(
     alloc: Global,
     types: &Registry,
     who: &Who,
@@ -49,7 +49,7 @@ pub(crate) fn complete(
 }
 
 /// Puts a new node of a type with all that belongs to it.
-pub(crate) fn complete_new(
+pub fn complete_new(
     alloc: Global,
     types: &Registry,
     who: &Who,
@@ -70,7 +70,7 @@ pub(crate) fn complete_new(
 }
 
 /// Somebody registered the type.
-pub(crate) fn check_type(alloc: Global, types: &Registry, name: &Name) -> Result<(), Refusal>
+pub fn check_type(alloc: Global, types: &Registry, name: &Name) -> Result<(), Refusal>
     ensures ok { OnOk result (unknown_type types.now name.now ≡ None) }
     ensures err { IfErr result (IsTheRefusal (unknown_type types.now name.now)) }
 {
@@ -82,7 +82,7 @@ pub(crate) fn check_type(alloc: Global, types: &Registry, name: &Name) -> Result
 
 // Puts a node with what belongs to it, so many levels down.
 #[cycle(levels)]
-#[tactic(auto, using(crate::proofs::Completes::completed_none, crate::proofs::Completes::completed_more, crate::proofs::Due::memory_result))]
+#[tactic(auto, using(crate::proofs::Completes::completed_none, crate::proofs::Completes::completed_more, jcr_write::proofs::Due::memory_result))]
 fn complete_levels(
     alloc: Global,
     types: &Registry,
@@ -225,7 +225,7 @@ fn make_by(
 }
 
 #[cycle(levels)]
-#[tactic(auto, using(crate::proofs::Due::passed_ok, crate::proofs::Due::passed_err, crate::proofs::Due::refused_due))]
+#[tactic(auto, using(crate::proofs::Due::passed_ok, crate::proofs::Due::passed_err, jcr_write::proofs::Due::refused_due))]
 fn make_child(
     alloc: Global,
     types: &Registry,

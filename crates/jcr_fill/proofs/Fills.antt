@@ -20,9 +20,9 @@ use Rattle.jr_types.specs.Registered.{IsAlike}
 use Rattle.jr_types.specs.declared.PropDef.{PropDef}
 use Rattle.jcr_ref.specs.Drawn.{too_many_ids}
 use Rattle.jcr_write.specs.Places.{unless_refused, with_property}
-use Rattle.jcr_make.specs.declared.fill.Filling.{Filling}
-use Rattle.jcr_make.specs.Filled.{filled, given, identified, lacking, next_identifier, with_given, with_made, with_own}
-use Rattle.jcr_make.proofs.Each.{each-alike}
+use Rattle.jcr_fill.specs.declared.fill.Filling.{Filling}
+use Rattle.jcr_fill.specs.Filled.{filled, given, identified, lacking, next_identifier, with_given, with_made, with_own}
+use Rattle.jcr_fill.proofs.Each.{each-alike}
 
 -- a property is made by the definition: a node lacks it, and there is something to put
 abbrev is_made : Who → Filling → PropDef → Bool

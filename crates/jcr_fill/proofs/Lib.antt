@@ -1,0 +1,7 @@
+pub mod Children
+pub mod Completes
+pub mod Due
+pub mod Each
+pub mod Fills
+mod Identifiers
+pub mod Loops

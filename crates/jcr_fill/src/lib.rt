@@ -1,0 +1,9 @@
+//! What node types make of themselves: the auto-created properties and children of a node that a command puts (JSR 283,
+//! 3.7.2.3 Auto-Created), before any command is known.
+#![tactic(auto)]
+
+mod complete;
+mod fill;
+
+pub use complete::{MissingChild, check_type, complete, complete_new};
+pub use fill::Filling;
