@@ -27,7 +27,7 @@ use Rattle.jcr_make.specs.declared.mixins.Mixing.{Mixing}
 use Rattle.jcr_make.specs.Commands.{add_made, added_type, chosen_type, completed_new, completed_node, node_retyped, type_made, unmixin_made}
 use Rattle.jcr_make.specs.Histories.{begun_among, begun_by, counting, history_by, mixin_given, mixin_made, place_mixing, with_history, with_own_history, with_seen}
 use Rattle.jcr_fill.specs.Makings.{Making, absent_child, child_refusal, completed, missing_child, put_filled, with_child, with_children, with_own_child}
-use Rattle.jcr_make.specs.Named.{is_name}
+use Rattle.jr_path.specs.Named.{is_name}
 use Rattle.jcr_make.specs.AlikeViews.{AreAlikeFrom}
 use Rattle.jcr_fill.specs.Steps.{and_then, each}
 use Rattle.jcr_fill.proofs.Children.{by_missing}

@@ -27,7 +27,7 @@ use Rattle.jcr_write.specs.Places.{at_place, unless_refused}
 use Rattle.jcr_make.specs.Commands.{lists_mixin, with_mixins}
 use Rattle.jcr_make.specs.declared.mixins.Mixing.{Mixing}
 use Rattle.jcr_fill.specs.Makings.{Making, complete, unknown_type}
-use Rattle.jcr_make.specs.Named.{is_name}
+use Rattle.jr_path.specs.Named.{is_name}
 use Rattle.jcr_fill.specs.Steps.{and_then}
 
 -- a node has an identifier of its own

@@ -1,5 +1,4 @@
 pub mod AlikeViews
 pub mod Commands
 pub mod Histories
-pub mod Named
 pub mod Subtrees

@@ -2,6 +2,7 @@ pub mod Cases
 pub mod Entries
 pub mod Follows
 pub mod Maps
+pub mod Named
 pub mod Orders
 pub mod OwnNames
 pub mod Parts

@@ -2,7 +2,8 @@ use Rattle.std.proofs.Common.{◌∷◌, [], ◌++◌, ◌∙◌, Some, None, ap
 use Rattle.std.proofs.lemmas.Result.{IfOk-weaker}
 use Rattle.jr_path.specs.Grammar.{RefusesName}
 use Rattle.jr_items.specs.Names.{version_storage}
-use Rattle.jcr_make.proofs.Names.{fault_named, name_passes}
+use Rattle.jcr_make.proofs.Names.{fault_named}
+use Rattle.jr_path.proofs.Named.{name_passes}
 use Rattle.jcr_make.proofs.history.history_by.Goals as goal
 
 pub returns-in-Ok : goal.returns-in-Ok
