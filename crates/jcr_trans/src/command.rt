@@ -109,6 +109,13 @@ pub enum Command {
     Recover(Option<u64>),
 }
 
+/// A session: the cluster node that it is at, from 1 on, and its commands in order, at most 10,000.
+#[derive(Drop)]
+pub struct SessionScript {
+    pub cluster: u32,
+    pub commands: List<Command>,
+}
+
 impl Command {
     /// The name with which a script calls the command, as `byId`.
     pub fn word(&self) -> &'static str

@@ -6,7 +6,7 @@ mod command;
 mod texts;
 mod view;
 
-pub use command::{Command, TreeNode};
+pub use command::{Command, SessionScript, TreeNode};
 pub use texts::{
     done_reply, items_reply, memory_reply, names_reply, null_reply, properties_reply,
     property_reply, refusal_text, revision_reply, text_reply, too_many_reply, vector_reply,

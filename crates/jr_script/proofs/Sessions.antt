@@ -17,7 +17,7 @@ use Rattle.jr_args.specs.Trees.{list_of, optional_of}
 use Rattle.jr_args.proofs.Readings.{exits, fails, passes}
 use Rattle.jr_script.specs.declared.script.Entry.{Entry}
 use Rattle.jr_script.specs.declared.script.Script.{Script}
-use Rattle.jr_script.specs.declared.script.SessionScript.{SessionScript}
+use Rattle.jcr_trans.specs.declared.command.SessionScript.{SessionScript}
 use Rattle.jr_script.specs.Scripts.{are_keys, counted_of, few_of, schedule_of, script_in, script_of, session_in, session_of}
 
 -- ---- lists of at most so many items

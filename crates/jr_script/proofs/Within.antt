@@ -14,7 +14,7 @@ use Rattle.jr_script.specs.Bounds.{IsSessionWithin, IsWithin}
 use Rattle.jr_script.specs.Schedules.{IsEntryWithin, entry_of}
 use Rattle.jr_script.specs.Scripts.{IsScript, absent, are_keys, cluster_of, clusters_of, commands_of, counted_of, few_of, member_of, schedule_of, script_in, session_in, session_of, sessions_of}
 use Rattle.jr_script.specs.declared.script.Script.{Script}
-use Rattle.jr_script.specs.declared.script.SessionScript.{SessionScript}
+use Rattle.jcr_trans.specs.declared.command.SessionScript.{SessionScript}
 use mathlib.Core.Bool.{false≢true}
 
 small : (a b : ℕ) → nat_le a b ≡ true → a ≤ b

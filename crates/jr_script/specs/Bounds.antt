@@ -2,7 +2,7 @@
 use Rattle.std.specs.Prelude.{ℕ, ◌≤◌, All, length}
 use Rattle.jr_script.specs.Schedules.{IsEntryWithin}
 use Rattle.jr_script.specs.declared.script.Script.{Script}
-use Rattle.jr_script.specs.declared.script.SessionScript.{SessionScript}
+use Rattle.jcr_trans.specs.declared.command.SessionScript.{SessionScript}
 
 -- a session is at one of the cluster nodes, and has at most 10,000 commands
 pub record IsSessionWithin (clusters : ℕ) (session : SessionScript) : Type 0 where

@@ -16,7 +16,7 @@ use Rattle.jr_script.specs.Numbers.{IsWhole}
 use Rattle.jr_script.specs.Schedules.{entry_of}
 use Rattle.jr_script.specs.declared.script.Entry.{Entry}
 use Rattle.jr_script.specs.declared.script.Script.{Script}
-use Rattle.jr_script.specs.declared.script.SessionScript.{SessionScript}
+use Rattle.jcr_trans.specs.declared.command.SessionScript.{SessionScript}
 use Rattle.jr_script.specs.declared.script.ScriptFault.{ScriptFault}
 use Rattle.jr_script.specs.declared.script.ScriptFault.TheVariants as fault
 

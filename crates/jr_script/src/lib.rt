@@ -9,4 +9,4 @@ mod script;
 
 pub use laws::{scripts_are_unique, scripts_are_within};
 pub use reading::{MAX_CLUSTERS, MAX_COMMANDS, MAX_SESSIONS, read_script};
-pub use script::{Entry, Script, ScriptFault, SessionScript};
+pub use script::{Entry, Script, ScriptFault};

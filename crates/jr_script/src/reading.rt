@@ -11,8 +11,8 @@ ghost use Rattle.jr_script.specs.Scripts.{absent, are_keys, cluster_of, clusters
 
 use crate::numbers::whole;
 use crate::schedule::schedule;
-use crate::script::{Entry, Script, ScriptFault, SessionScript};
-use jcr_trans::Command;
+use crate::script::{Entry, Script, ScriptFault};
+use jcr_trans::{Command, SessionScript};
 use jr_args::{Fault, command, pointer};
 use jr_path::{List, Text};
 use serde_json::{Map, Value as Json};

@@ -2,7 +2,7 @@
 ghost use Rattle.std.specs.Prelude.{◌≡◌};
 ghost use Rattle.jr_script.specs.declared.script.ScriptFault.TheVariants.{Memory};
 
-use jcr_trans::Command;
+use jcr_trans::SessionScript;
 use jr_path::{List, Text};
 use std::alloc::AllocError;
 
@@ -13,13 +13,6 @@ pub struct Script {
     pub clusters: u32,
     pub sessions: List<SessionScript>,
     pub schedule: List<Entry>,
-}
-
-/// A session: the cluster node that it is at, from 1 on, and its commands in order, at most 10,000.
-#[derive(Drop)]
-pub struct SessionScript {
-    pub cluster: u32,
-    pub commands: List<Command>,
 }
 
 /// An entry of a schedule: turns of the session that is named first, until what the entry waits for has come. A turn makes

@@ -25,7 +25,7 @@ use Rattle.oak_machine.specs.Runs.{AreNodes, IsRunOf}
 use Rattle.oak_machine.specs.Sessions.{is_drawing}
 use Rattle.core_read.proofs.Entries.{same_lists, sorted_insert}
 use Rattle.jr_script.specs.declared.script.Script.{Script}
-use Rattle.jr_script.specs.declared.script.SessionScript.{SessionScript}
+use Rattle.jcr_trans.specs.declared.command.SessionScript.{SessionScript}
 use Rattle.jr_work.specs.declared.flight.Flight.{Flight}
 use Rattle.jr_work.specs.declared.stage.Seat.{Seat}
 use Rattle.jr_work.specs.declared.stage.Stage.{Stage}

@@ -22,7 +22,7 @@ use Rattle.jcr_session.specs.Standing.{IsNew, Stands}
 use Rattle.jcr_session.proofs.Staying.{new_stands}
 use Rattle.jr_script.specs.Bounds.{IsWithin}
 use Rattle.jr_script.specs.declared.script.Script.{Script}
-use Rattle.jr_script.specs.declared.script.SessionScript.{SessionScript}
+use Rattle.jcr_trans.specs.declared.command.SessionScript.{SessionScript}
 use Rattle.jr_work.specs.declared.flight.Flight.{Flight}
 use Rattle.jr_work.specs.declared.stage.Seat.{Seat}
 use Rattle.jr_work.specs.declared.stage.Stage.{Stage}

@@ -35,7 +35,7 @@ use Rattle.jcr_session.specs.Sights.{IsBeside, says_of, starts_of}
 use Rattle.jcr_session.specs.Standing.{HasAwaited, IsMade, IsOneStep, IsSeenFor, IsStep, IsTurned, IsUnseen, Stands, Tells, is_step_event}
 use Rattle.jcr_session.proofs.Staying.{stands_beside}
 use Rattle.jr_script.specs.declared.script.Script.{Script}
-use Rattle.jr_script.specs.declared.script.SessionScript.{SessionScript}
+use Rattle.jcr_trans.specs.declared.command.SessionScript.{SessionScript}
 use Rattle.jr_work.specs.declared.flight.Flight.{Flight}
 use Rattle.jr_work.specs.declared.stage.Seat.{Seat}
 use Rattle.jr_work.specs.Awaited.{IsSeenBut}

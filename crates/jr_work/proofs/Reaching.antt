@@ -13,7 +13,7 @@ use Rattle.jcr_session.specs.declared.turn.Turn.{Turn}
 use Rattle.jcr_session.specs.declared.turn.Turn.TheVariants as turn
 use Rattle.jr_script.specs.Schedules.{session_named}
 use Rattle.jr_script.specs.declared.script.Script.{Script}
-use Rattle.jr_script.specs.declared.script.SessionScript.{SessionScript}
+use Rattle.jcr_trans.specs.declared.command.SessionScript.{SessionScript}
 use Rattle.jr_script.specs.declared.script.Entry.{Entry}
 use Rattle.jr_script.specs.declared.script.Entry.TheVariants as entry
 use Rattle.jr_work.specs.declared.flight.Flight.{Flight}

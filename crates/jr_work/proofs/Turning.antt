@@ -28,7 +28,7 @@ use Rattle.jcr_session.specs.declared.turn.Turn.TheVariants as turn
 use Rattle.jcr_session.specs.Standing.{IsMade, IsOneStep, IsStep, IsTurned, IsUnseen, Stands, Tells}
 use Rattle.jr_script.specs.Bounds.{IsWithin}
 use Rattle.jr_script.specs.declared.script.Script.{Script}
-use Rattle.jr_script.specs.declared.script.SessionScript.{SessionScript}
+use Rattle.jcr_trans.specs.declared.command.SessionScript.{SessionScript}
 use Rattle.jr_work.specs.declared.flight.Flight.{Flight}
 use Rattle.jr_work.specs.declared.stage.Seat.{Seat}
 use Rattle.jr_work.specs.declared.stage.Stage.{Stage}

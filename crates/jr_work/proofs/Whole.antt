@@ -15,7 +15,7 @@ use Rattle.jcr_session.specs.Sights.{says_of, starts_of}
 use Rattle.jr_script.specs.Schedules.{IsEntryWithin}
 use Rattle.jr_script.specs.declared.script.Entry.{Entry}
 use Rattle.jr_script.specs.declared.script.Script.{Script}
-use Rattle.jr_script.specs.declared.script.SessionScript.{SessionScript}
+use Rattle.jcr_trans.specs.declared.command.SessionScript.{SessionScript}
 use Rattle.oak_world.specs.Worlds.{Story, live}
 use Rattle.jr_work.specs.declared.stage.Stage.{Stage}
 use Rattle.jr_work.specs.Parts.{IsCut, Part, Rule, by_entry, events_of, to_end, to_reply}

@@ -8,7 +8,7 @@ use Rattle.oak_machine.specs.History.{History}
 use Rattle.oak_machine.specs.Runs.{AreNodes, IsNode}
 use Rattle.jr_script.specs.Bounds.{IsSessionWithin, IsWithin}
 use Rattle.jr_script.specs.declared.script.Script.{Script}
-use Rattle.jr_script.specs.declared.script.SessionScript.{SessionScript}
+use Rattle.jcr_trans.specs.declared.command.SessionScript.{SessionScript}
 use Rattle.jr_work.specs.declared.stage.Stage.{Stage}
 use Rattle.jr_work.specs.Stages.{IsStage}
 use Rattle.jr_work.proofs.Flying.{none_is_some, some_is_some}

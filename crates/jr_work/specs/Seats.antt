@@ -1,7 +1,7 @@
 -- Sessions before any turn.
 use Rattle.std.specs.Prelude.{◌≡◌, ℕ, List, length, slice_get, Some, None}
 use Rattle.jcr_session.specs.Standing.{IsNew}
-use Rattle.jr_script.specs.declared.script.SessionScript.{SessionScript}
+use Rattle.jcr_trans.specs.declared.command.SessionScript.{SessionScript}
 use Rattle.jr_work.specs.declared.stage.Seat.{Seat}
 
 -- session s has not logged in, and nothing of it is in flight

@@ -17,9 +17,10 @@ ghost use Rattle.jr_work.specs.Seats.{AreNew};
 
 use crate::flight::{Flight, flight_after};
 use jcr_session::{JcrLaw, SessionRun, Turn};
+use jcr_trans::SessionScript;
 use jr_path::{DeepCopy, List};
 use jr_rev::Revision;
-use jr_script::{Entry, Script, SessionScript};
+use jr_script::{Entry, Script};
 use oak_world::{SoloPort, World};
 use std::alloc::{AllocError, Global};
 use std::collections::BTreeMap;

@@ -1,6 +1,7 @@
 // Scripts as they are read.
 use crate::rows::put_number;
-use jr_script::{Entry, Script, ScriptFault, SessionScript, read_script};
+use jcr_trans::SessionScript;
+use jr_script::{Entry, Script, ScriptFault, read_script};
 use std::alloc::{AllocError, Global};
 
 // The rule that is broken and its place, or the script.

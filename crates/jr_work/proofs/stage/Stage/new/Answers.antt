@@ -1,6 +1,6 @@
 use Rattle.std.proofs.Common.{◌≤◌, List, length, subst, sym, refl}
 use Rattle.std.specs.List.{All}
-use Rattle.jr_script.specs.declared.script.SessionScript.{SessionScript}
+use Rattle.jcr_trans.specs.declared.command.SessionScript.{SessionScript}
 use Rattle.jr_work.proofs.Beginning.{begun_by, few_commands, slice_few, slice_nodes}
 use Rattle.jr_work.proofs.stage.Stage.new.Goals as goal
 
