@@ -25,7 +25,8 @@ use Rattle.core_law.specs.Law.{MayStart, MaySay, SaysBy, IsPlan, has_few_nodes, 
 use Rattle.core_law.specs.State.{Orders, base_tree, command_at, pending_of, view_of}
 use Rattle.core_law.specs.Turns.{IsOver, IsTurn}
 use Rattle.core_law.proofs.Bases.{base_tree_stays}
-use Rattle.core_law.proofs.Passing.{next_stays, pending_stays, drawn_stays, refreshed_stays, uncommitted_stays, refusal_stays, idle_stays, ended_since, among_same}
+use Rattle.core_heads.proofs.Passing.{next_stays, drawn_stays, refreshed_stays, uncommitted_stays, refusal_stays, idle_stays, ended_since, among_same}
+use Rattle.core_law.proofs.Pending.{pending_stays}
 
 -- what it lets start is proper on the tree at the base, with the marks of its writes
 pub proper_starts : (law : Orders) → StartsProper (λ h s edit marks. MayStart law h s edit marks)
@@ -51,7 +52,7 @@ module _ (law : Orders) (starts : Starts) (says : Says) (clusters : ℕ) (sessio
   -- what was not committed since is not committed since
   still_open : (o : Option Revision) → ((r : Revision) → o ≡ Some r → is_ended past r ≡ true) → option_map_or (is_committed past) o false ≡ false → option_map_or (is_committed (added ++ past)) o false ≡ false
   still_open None ended h = refl
-  still_open (Some r) ended h = uncommitted_stays starts says clusters sessions past r (ended r refl) added later h
+  still_open (Some r) ended h = uncommitted_stays starts says clusters sessions None past r (ended r refl) added later h
 
   pub starts_same : (edit : _) (marks : List MarkAt) → MayStart law (record { clusters = clusters; sessions = sessions; begin = None; past = past }) s edit marks → MayStart law (record { clusters = clusters; sessions = sessions; begin = None; past = added ++ past }) s edit marks
   starts_same edit marks may = record {
@@ -72,7 +73,7 @@ module _ (law : Orders) (starts : Starts) (says : Says) (clusters : ℕ) (sessio
   says_same _ _ (saved r v d ended committed moved seen) =
       saved r v (drawn_same ∙ d) (any_later (is_end_of r) added past ended) (any_later (is_commit_of r) added past committed) (refreshed_stays (added ++ past) added past s others ∙ moved) seen
   says_same _ _ (clashed r o item d ended refused) =
-      clashed r o item (drawn_same ∙ d) (any_later (is_end_of r) added past ended) (refusal_stays starts says clusters sessions past r ended added later ∙ refused)
+      clashed r o item (drawn_same ∙ d) (any_later (is_end_of r) added past ended) (refusal_stays starts says clusters sessions None past r ended added later ∙ refused)
   says_same _ _ (memory c idle none) =
       memory c (idle_stays (added ++ past) added past s others idle)
       (ap (λ (o : Option Revision). option_map_or (is_committed (added ++ past)) o false) drawn_same ∙ still_open (drawn_since past s) (λ r is. ended_since past s r idle is) none)

@@ -1,5 +1,5 @@
 pub mod Bases
-pub mod Passing
+pub mod Pending
 pub mod Refused
 pub mod Lasting
 pub mod Saves

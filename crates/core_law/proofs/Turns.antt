@@ -31,7 +31,7 @@ use Rattle.jcr_trans.proofs.Passing.{each_refuses, first_passes, is_refused, sho
 use Rattle.core_law.specs.Law.{MayStart, MaySay, SaysBy, has_few_nodes, plain, head, refreshed, unchanged, too_many, saved, memory}
 use Rattle.core_law.specs.State.{Orders, base_tree, command_at, is_ok_text, pending_after, pending_by, pending_of, pending_said, view_of}
 use Rattle.core_law.specs.Turns.{IsOver, IsTurn}
-use Rattle.core_law.proofs.Passing.{among_same}
+use Rattle.core_heads.proofs.Passing.{among_same}
 use Rattle.core_law.proofs.Views.{view_is_tree, view_born}
 
 -- ---- which answers accept

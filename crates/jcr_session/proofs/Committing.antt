@@ -24,7 +24,7 @@ use Rattle.oak_commit.specs.declared.outcome.CommitEnd.{CommitEnd}
 use Rattle.oak_commit.specs.declared.outcome.CommitEnd.TheVariants as commit
 use Rattle.core_law.specs.State.{Orders}
 use Rattle.core_law.specs.Turns.{IsOver}
-use Rattle.core_law.proofs.Passing.{among_same}
+use Rattle.core_heads.proofs.Passing.{among_same}
 use Rattle.jcr_session.specs.Standing.{HasCommitted, HasDrawn, HasView, IsCommitting, IsToldEnd}
 use Rattle.jcr_session.proofs.Others.{among_more, last_stays}
 

@@ -18,7 +18,7 @@ use Rattle.jcr_trans.specs.Texts.{answer_text, memory_text}
 use Rattle.core_law.specs.Law.{clashed}
 use Rattle.core_law.specs.State.{base_tree, command_at}
 use Rattle.core_law.specs.Turns.{IsOver}
-use Rattle.core_law.proofs.Passing.{idle_stays}
+use Rattle.core_heads.proofs.Passing.{idle_stays}
 use Rattle.core_law.proofs.Turns.{says_memory, says_refreshed, says_saved, turn_memory, turn_refreshed, turn_refused, turn_saved}
 use Rattle.jcr_session.specs.declared.limits.TheConstants.{COMMIT_REPLY_BYTES}
 use Rattle.jcr_session.specs.declared.law.JcrLaw.{JcrLaw}

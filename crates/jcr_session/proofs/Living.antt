@@ -22,7 +22,8 @@ use Rattle.oak_port.specs.declared.task.Task.TheVariants as task
 use Rattle.oak_port.specs.declared.task.TaskEnd.TheVariants as end
 use Rattle.core_law.specs.State.{base_tree, pending_of}
 use Rattle.core_law.specs.Turns.{IsTurn}
-use Rattle.core_law.proofs.Passing.{among_same, idle_stays, next_stays, pending_stays}
+use Rattle.core_heads.proofs.Passing.{among_same, idle_stays, next_stays}
+use Rattle.core_law.proofs.Pending.{pending_stays}
 use Rattle.jcr_session.specs.declared.law.JcrLaw.{JcrLaw}
 use Rattle.jcr_session.specs.declared.run.Phase.{Phase}
 use Rattle.jcr_session.specs.declared.run.Phase.TheVariants as phase

@@ -23,7 +23,7 @@ use Rattle.core_law.specs.Law.{SaysBy, has_few_nodes}
 use Rattle.core_law.specs.State.{base_tree, command_at}
 use Rattle.core_law.specs.Turns.{IsOver, IsTurn}
 use Rattle.core_law.proofs.Lasting.{says_last}
-use Rattle.core_law.proofs.Passing.{next_more, next_stays}
+use Rattle.core_heads.proofs.Passing.{next_more, next_stays}
 use Rattle.core_law.proofs.Turns.{says_head, says_memory, says_too_many, says_unchanged, says_view, turn_head, turn_memory, turn_too_many, turn_unchanged, turn_view}
 use Rattle.jcr_session.specs.declared.law.JcrLaw.{JcrLaw}
 use Rattle.jcr_session.specs.declared.run.Phase.TheVariants as phase

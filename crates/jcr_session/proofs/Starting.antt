@@ -23,7 +23,7 @@ use Rattle.jcr_trans.specs.Commands.{Built, built}
 use Rattle.jcr_trans.specs.Texts.{memory_text}
 use Rattle.jcr_trans.proofs.Passing.{only_refresh}
 use Rattle.core_law.specs.State.{base_tree, command_at}
-use Rattle.core_law.proofs.Passing.{among_same, idle_stays, next_stays}
+use Rattle.core_heads.proofs.Passing.{among_same, idle_stays, next_stays}
 use Rattle.jcr_session.specs.declared.limits.TheConstants.{MOST_COMMANDS}
 use Rattle.jcr_session.specs.declared.law.JcrLaw.{JcrLaw}
 use Rattle.jcr_session.specs.declared.run.Due.TheVariants as due

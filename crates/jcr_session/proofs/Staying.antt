@@ -13,7 +13,8 @@ use Rattle.oak_commit.specs.declared.outcome.CommitEnd.{CommitEnd}
 use Rattle.jcr_trans.specs.declared.command.Command.{Command}
 use Rattle.core_law.specs.State.{base_tree, command_at, pending_of}
 use Rattle.core_law.specs.Turns.{IsTurn}
-use Rattle.core_law.proofs.Passing.{idle_stays, next_stays, pending_stays, refreshed_stays}
+use Rattle.core_heads.proofs.Passing.{idle_stays, next_stays, refreshed_stays}
+use Rattle.core_law.proofs.Pending.{pending_stays}
 use Rattle.jcr_session.specs.declared.limits.TheConstants.{COMMIT_REPLY_BYTES, MOST_COMMANDS}
 use Rattle.jcr_session.specs.declared.law.JcrLaw.{JcrLaw}
 use Rattle.jcr_session.specs.declared.run.Phase.{Phase}

@@ -26,7 +26,7 @@ use Rattle.oak_port.specs.declared.task.StepOut.TheVariants as out
 use Rattle.oak_port.specs.declared.task.TaskEnd.TheVariants as end
 use Rattle.core_law.specs.Law.{SaysBy}
 use Rattle.core_law.specs.State.{base_tree, command_at}
-use Rattle.core_law.proofs.Passing.{next_stays}
+use Rattle.core_heads.proofs.Passing.{next_stays}
 use Rattle.jcr_session.specs.declared.limits.TheConstants.{COMMIT_REPLY_BYTES, MOST_COMMANDS}
 use Rattle.jcr_session.specs.declared.law.JcrLaw.{JcrLaw}
 use Rattle.jcr_session.specs.declared.run.Phase.{Phase}

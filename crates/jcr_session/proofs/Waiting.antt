@@ -21,7 +21,8 @@ use Rattle.core_law.specs.State.{base_tree}
 use Rattle.core_law.specs.Turns.{IsOver, IsTurn}
 use Rattle.core_law.proofs.Bases.{base_tree_stays}
 use Rattle.core_law.proofs.Lasting.{over_same, turn_same}
-use Rattle.core_law.proofs.Passing.{drawn_stays, idle_stays, next_stays, pending_stays, refreshed_stays}
+use Rattle.core_heads.proofs.Passing.{drawn_stays, idle_stays, next_stays, refreshed_stays}
+use Rattle.core_law.proofs.Pending.{pending_stays}
 use Rattle.jcr_session.specs.declared.law.JcrLaw.{JcrLaw}
 use Rattle.jcr_session.specs.Sights.{IsBeside, IsIn, says_of, starts_of}
 use Rattle.jcr_session.specs.Standing.{HasCommitted, HasDrawn, HasView, IsCommitting, IsToldEnd}
@@ -126,7 +127,7 @@ module _ (law : JcrLaw) (clusters : ℕ) (sessions : List ℕ) (nodes : AreNodes
   committing_still base view (Learning u) h = h
 
   refused_still : (r : Revision) (o : _) → is_ended past r ≡ true → refusal_of past r ≡ o → refusal_of (added ++ past) r ≡ o
-  refused_still r o ended h = Rattle.core_law.proofs.Passing.refusal_stays (starts_of law) (says_of law) clusters sessions past r ended added past_later ∙ h
+  refused_still r o ended h = Rattle.core_heads.proofs.Passing.refusal_stays (starts_of law) (says_of law) clusters sessions None past r ended added past_later ∙ h
 
   pub committed_still : (base view : Nodes) (e : CommitEnd) → HasCommitted law.sessions past s base view e → HasCommitted law.sessions (added ++ past) s base view e
   committed_still base view (commit.Committed r) (v, drawn, ended, made, moved, seen, idle) =

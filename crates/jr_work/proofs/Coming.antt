@@ -23,7 +23,7 @@ use Rattle.oak_machine.specs.Runs.{AreNodes, IsRun, IsRunOf}
 use Rattle.oak_machine.specs.Sessions.{has_left, is_drawing, is_end_of_session, is_reply_of, next_index}
 use Rattle.oak_machine.specs.Steps.{is_appended_by, is_kind, is_moving, is_one_step, kind_number, kinds_for, leaves_went}
 use Rattle.oak_machine.proofs.Stays.{any_later}
-use Rattle.core_law.proofs.Passing.{next_stays}
+use Rattle.core_heads.proofs.Passing.{next_stays}
 use Rattle.oak_port.specs.Ports.{Awaiting, Beside, Deciding, Idle, Seat as PortSeat, Shown, Starting, Undoing, Work, Writing, is_by_due, is_due, Publishing, Learning}
 use Rattle.oak_world.specs.Seen.{no_seat, seat_of, shown_at, shown_work}
 use Rattle.oak_world.specs.Worlds.{ActorState, WorldOf, actor_in, idle, live, work_in}

@@ -62,7 +62,7 @@ module _ (starts : Starts) (says : Says) (clusters : ℕ) (sessions : List ℕ) 
   dropped es r unseen None = refl
   dropped es r unseen (Some d) = filter-insert_unseen v r d.edit.writes unseen es
 
-  edits_stay : (added : Past) → IsRunOf starts says clusters sessions begin (added ++ past) → HadEnded (added ++ past) → filter (λ e. sees v e.0) (committed_edits (added ++ past)) ≡ filter (λ e. sees v e.0) (committed_edits past)
+  pub edits_stay : (added : Past) → IsRunOf starts says clusters sessions begin (added ++ past) → HadEnded (added ++ past) → filter (λ e. sees v e.0) (committed_edits (added ++ past)) ≡ filter (λ e. sees v e.0) (committed_edits past)
   edits_stay [] run had = refl
   edits_stay (event.Commit r ∷ added) run had =
       dropped (committed_edits (added ++ past)) r (let b : sees v r ≡ false = unseen_commit added r run.0.open_.in_flight had (sees v r) refl in b) (draw_of (added ++ past) r) ∙ edits_stay added run.1 had

@@ -9,28 +9,20 @@ use Rattle.jr_rev.specs.Revisions.{is_same}
 use Rattle.jr_rev.proofs.Order.{same_revision}
 use Rattle.oak_machine.specs.declared.event.Event.{Event}
 use Rattle.oak_machine.specs.declared.event.Event.TheVariants as event
-use Rattle.oak_machine.specs.History.{Past}
+use Rattle.oak_machine.specs.History.{Begin, Past}
 use Rattle.oak_machine.specs.Commits.{is_committed, is_drawn, is_ended, is_end_of, is_in_flight, refusal_of}
 use Rattle.oak_machine.specs.Laws.{Starts, Says, is_event_of}
 use Rattle.oak_machine.specs.Runs.{IsRunOf}
 use Rattle.oak_machine.specs.Sessions.{drawn_among, drawn_since, is_drawing, is_drawing_among, is_login_of, is_reply_of, next_index, refreshed_among, refreshed_since, since}
 use Rattle.oak_machine.proofs.Induction.{neither, other}
 use Rattle.oak_machine.proofs.Stays.{any_later}
-use Rattle.core_law.specs.State.{Orders, pending_of}
 
--- ---- replies and pending edits
+-- ---- replies
 
 pub next_stays : (whole added past : Past) (s : ℕ) → list_any (is_event_of whole s) added ≡ false → next_index (added ++ past) s ≡ next_index past s
 next_stays whole [] past s h = refl
 next_stays whole (event.Said t i text ∷ added) past s h = let n = neither (t == s) _ h in ap (λ (b : Bool). fold (λ (a : ℕ) (x : Event). a + cond (is_reply_of s x) 1 0) (0 + cond b 1 0) (added ++ past)) n.0 ∙ next_stays whole added past s n.1
 next_stays whole (e ∷ added) past s h = next_stays whole added past s (neither (is_event_of whole s e) _ h).1
-
-pub pending_stays : (law : Orders) (whole added past : Past) (s : ℕ) → list_any (is_event_of whole s) added ≡ false → pending_of law (added ++ past) s ≡ pending_of law past s
-pending_stays law whole [] past s h = refl
-pending_stays law whole (event.Said t i text ∷ added) past s h = let n = neither (t == s) _ h in other (t == s) _ _ _ n.0 (pending_stays law whole added past s n.1)
-pending_stays law whole (event.Refresh t v ∷ added) past s h = let n = neither (t == s) _ h in other (t == s) _ _ _ n.0 (pending_stays law whole added past s n.1)
-pending_stays law whole (event.Attach t id ∷ added) past s h = let n = neither (t == s) _ h in other (t == s) _ _ _ n.0 (pending_stays law whole added past s n.1)
-pending_stays law whole (e ∷ added) past s h = pending_stays law whole added past s (neither (is_event_of whole s e) _ h).1
 
 -- one event more adds one reply, where it is one
 pub next_more : (s : ℕ) (e : Event) (past : Past) → next_index (e ∷ past) s ≡ next_index past s + cond (is_reply_of s e) 1 0
@@ -73,13 +65,13 @@ flies_not true true h e = absurd (false≢true h)
 flies_not true false h e = absurd (false≢true e)
 flies_not false b h e = absurd (false≢true h)
 
-module _ (starts : Starts) (says : Says) (clusters : ℕ) (sessions : List ℕ) (past : Past) (r : Revision) (ended : is_ended past r ≡ true) where
+module _ (starts : Starts) (says : Says) (clusters : ℕ) (sessions : List ℕ) (begin : Begin) (past : Past) (r : Revision) (ended : is_ended past r ≡ true) where
   -- an ended revision isn't in flight later
   lands : {A : Type 0} (added : Past) (q : Revision) → is_same r q ≡ true → is_in_flight (added ++ past) q ≡ true → A
   lands added q same flying = flies_not (is_drawn (added ++ past) q) (is_ended (added ++ past) q) flying (any_later (is_end_of q) added past (subst (λ (x : Revision). is_ended past x ≡ true) (same_revision r q same) ended))
 
   -- what has ended isn't committed later
-  pub uncommitted_stays : (added : Past) → IsRunOf starts says clusters sessions None (added ++ past) → is_committed past r ≡ false → is_committed (added ++ past) r ≡ false
+  pub uncommitted_stays : (added : Past) → IsRunOf starts says clusters sessions begin (added ++ past) → is_committed past r ≡ false → is_committed (added ++ past) r ≡ false
   uncommitted_stays [] run h = h
   uncommitted_stays (event.Commit q ∷ added) run h = elim (is_same r q) as (λ b. is_same r q ≡ b → (b || is_committed (added ++ past) r) ≡ false) [
     | true ↦ λ same. lands added q same run.0.open_.in_flight
@@ -88,7 +80,7 @@ module _ (starts : Starts) (says : Says) (clusters : ℕ) (sessions : List ℕ) 
   uncommitted_stays (e ∷ added) run h = uncommitted_stays added run.1 h
 
   -- nor refused later
-  pub refusal_stays : (added : Past) → IsRunOf starts says clusters sessions None (added ++ past) → refusal_of (added ++ past) r ≡ refusal_of past r
+  pub refusal_stays : (added : Past) → IsRunOf starts says clusters sessions begin (added ++ past) → refusal_of (added ++ past) r ≡ refusal_of past r
   refusal_stays [] run = refl
   refusal_stays (event.Refuse q item o ∷ added) run = elim (is_same r q) as (λ b. is_same r q ≡ b → cond b (Some (item, o)) (refusal_of (added ++ past) r) ≡ refusal_of past r) [
     | true ↦ λ same. lands added q same run.0.open_.in_flight

@@ -1,0 +1,4 @@
+pub mod Growing
+pub mod Lasting
+pub mod Passing
+pub mod Starting

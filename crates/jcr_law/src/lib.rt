@@ -1,0 +1,9 @@
+//! The law of the product, as definitions over a history: what a session's state is, which edits it may start to commit, and
+//! which texts its commands may be answered with.
+#![tactic(auto)]
+
+mod law;
+mod laws;
+
+pub use law::JcrLaw;
+pub use laws::starts_are_plans;
