@@ -19,7 +19,7 @@ use Rattle.jr_overlay.specs.Overlays.{View}
 use Rattle.jcr_write.specs.Places.{node_types, unless_refused}
 use Rattle.jcr_fill.specs.Steps.{and_then, each}
 use Rattle.jcr_fill.specs.declared.fill.Filling.{Filling}
-use Rattle.jcr_fill.specs.declared.complete.MissingChild.{MissingChild}
+use Rattle.jcr_fill.specs.declared.completing.MissingChild.{MissingChild}
 use Rattle.jcr_fill.specs.Filled.{filled}
 
 -- what a command made of a view so far, and the identifiers that the session has drawn
