@@ -33,7 +33,9 @@ use Rattle.jcr_law.specs.Commits.{committed_answer, edit_due}
 use Rattle.jcr_law.specs.Law.{MayStart, MaySay, IsNext, asked_by, barred, stopped, memory, viewed, head, queried, refreshed, refused_edit, unwritten, committed, clashed, observing, uncursored, observed, told, learned, swept, kept, uncounted, attached, released, unattached, unreleased, detached, split, unsplit, collected, stopping, unstopped, restopped, recovered, unrecovered}
 use Rattle.jcr_law.specs.Queries.{QueryAnswers, events_reply, events_since}
 use Rattle.jcr_law.specs.Since.{before_turn, came, detached_among, draw_since, is_pinning, stop_position}
-use Rattle.jcr_law.specs.State.{Call, Cursor, State, call_at, call_of, command_at, state_of}
+use Rattle.jcr_law.specs.declared.state.Cursor.{Cursor}
+use Rattle.jcr_law.specs.declared.state.State.{State}
+use Rattle.jcr_law.specs.State.{Call, call_at, call_of, command_at, state_of}
 use Rattle.jcr_law.specs.Tasks.{finds_stopped, is_out, is_recovering, is_sweep, knows_published, misses}
 
 -- the commits of a past that a vector sees

@@ -19,7 +19,8 @@ use Rattle.oak_machine.proofs.Induction.{neither, other}
 use Rattle.oak_machine.proofs.Stays.{any_later}
 use Rattle.jcr_law.specs.declared.law.JcrLaw.{JcrLaw}
 use Rattle.jcr_law.specs.Since.{before_turn, came, detached_among, draw_among, draw_since, is_beginning, stop_position}
-use Rattle.jcr_law.specs.State.{State, state_of}
+use Rattle.jcr_law.specs.declared.state.State.{State}
+use Rattle.jcr_law.specs.State.{state_of}
 
 -- an event of another session begins no command of s
 pub not_beginning : (whole : Past) (s : ℕ) (e : Event) → is_event_of whole s e ≡ false → is_beginning s e ≡ false

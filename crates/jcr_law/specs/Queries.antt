@@ -23,7 +23,8 @@ use Rattle.jcr_observe.specs.Observed.{events_of}
 use Rattle.jcr_observe.specs.Texts.{events_data}
 use Rattle.jcr_trans.specs.Texts.{answer_text, ok_text}
 use Rattle.jcr_view.specs.Reading.{refused}
-use Rattle.jcr_law.specs.State.{Call, Cursor}
+use Rattle.jcr_law.specs.declared.state.Cursor.{Cursor}
+use Rattle.jcr_law.specs.State.{Call}
 
 -- the first selector's type that nobody registered
 abbrev pub unknown_selector : List TypeDef → Query → Option Name

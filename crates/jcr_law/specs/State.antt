@@ -1,5 +1,5 @@
 -- What a history says of a session: the view over its base, its lock tokens, its cursor, and its identifiers.
-use Rattle.std.specs.Prelude.{ℕ, ◌+◌, Bool, false, true, cond, not, ◌==◌, nat_eq, List, [], ◌∷◌, slice_get, codes, Option, None, Some, is_some, option_and_then, option_map}
+use Rattle.std.specs.Prelude.{ℕ, ◌+◌, min, Bool, false, true, cond, not, ◌==◌, nat_eq, List, [], ◌∷◌, slice_get, codes, Option, None, Some, is_some, option_and_then, option_map}
 use Rattle.std.specs.List.{filter, list_any, starts_with}
 use Rattle.std.specs.Option.{option_map_or}
 use Rattle.jr_path.specs.declared.text.Text.{Text}
@@ -10,32 +10,18 @@ use Rattle.jr_tree.specs.declared.shared.Who.{Who}
 use Rattle.jr_tree.specs.Edits.{changes}
 use Rattle.jr_tree.specs.Trees.{Nodes}
 use Rattle.jr_types.specs.declared.TypeDef.{TypeDef}
-use Rattle.jr_overlay.specs.Drafts.{stepped}
-use Rattle.jr_overlay.specs.Overlays.{whole_view}
 use Rattle.oak_machine.specs.declared.event.Event.TheVariants as event
 use Rattle.oak_machine.specs.Commits.{tree_at}
 use Rattle.oak_machine.specs.History.{Begin, Past, begin_tree}
 use Rattle.oak_machine.specs.Sessions.{base_of, drawn_since, last_checkpoint}
-use Rattle.jcr_observe.specs.declared.event.Filter.{Filter}
 use Rattle.jcr_ref.specs.References.{identifier}
 use Rattle.jcr_trans.specs.declared.command.Command.{Command}
 use Rattle.jcr_trans.specs.declared.command.Command.TheVariants as command
 use Rattle.jcr_view.specs.Outcomes.{Evaluated, eval, is_viewed}
-use Rattle.jcr_view.specs.Rebases.{steps_again}
+use Rattle.jcr_view.specs.Rebases.{moved_view}
 use Rattle.jcr_law.specs.declared.law.JcrLaw.{JcrLaw}
-
--- a cursor over the changes: where it stands, and which events pass
-pub record Cursor : Type 0 where
-  pub at : RevVec
-  pub filter : Filter
-
--- what a session has beside its base: its view, which is the tree at the base with its pending
--- edits, the lock tokens that it holds, its cursor, and how many identifiers it has drawn
-pub record State : Type 0 where
-  pub view : Nodes
-  pub tokens : List (List ℕ)
-  pub cursor : Option Cursor
-  pub ids : ℕ
+use Rattle.jcr_law.specs.declared.state.Cursor.{Cursor}
+use Rattle.jcr_law.specs.declared.state.State.{State}
 
 -- what a command of a session is run with: the types, the session at its base, the tree there, and
 -- the session's state
@@ -73,10 +59,6 @@ call_at law begin past s v state = record {
 -- the pending edits
 abbrev pub pending : Call → List Write
 pending c = changes c.base c.state.view
-
--- the view after the base moved from one tree to another: the pending edits are made again there
-abbrev pub moved_view : (old new view : Nodes) → Nodes
-moved_view old new view = stepped new new (steps_again (whole_view new) (changes old view))
 
 -- the state after the base moved so
 abbrev pub moved : (old new : Nodes) → State → State
@@ -122,9 +104,9 @@ accepted c command.Events = record c.state {
 accepted c m = cond (is_viewed m)
     (viewed (eval c.types c.who c.base c.state.view m) c.state) c.state
 
--- with the identifiers that the command used
+-- with the identifiers that the command used, up to the limit
 abbrev pub counted : (ok drew : Bool) → Command → State → State
-counted ok drew m state = record state { ids = state.ids + used ok drew m }
+counted ok drew m state = record state { ids = min (state.ids + used ok drew m) 16777215 }
 
 -- what a command leaves, as it was accepted or refused, and drew a revision or none
 abbrev pub answered : (ok drew : Bool) → Call → Command → State

@@ -4,6 +4,8 @@
 
 mod law;
 mod laws;
+mod state;
 
 pub use law::JcrLaw;
 pub use laws::starts_are_plans;
+pub use state::{Cursor, State};

@@ -6,10 +6,11 @@ use Rattle.jr_path.specs.declared.path.Path.{Path}
 use Rattle.jr_tree.specs.declared.edit.Write.{Write}
 use Rattle.jr_tree.specs.declared.edit.Write.TheVariants.{Here, Gone, Put, Unset}
 use Rattle.jr_tree.specs.declared.tree.Node.{Node}
+use Rattle.jr_tree.specs.Edits.{changes}
 use Rattle.jr_tree.specs.Trees.{Nodes}
 use Rattle.jr_part.specs.Parts.{Knowledge}
-use Rattle.jr_overlay.specs.Drafts.{Steps, drafted, with_step, with_steps}
-use Rattle.jr_overlay.specs.Overlays.{Changed, View, known_view}
+use Rattle.jr_overlay.specs.Drafts.{Steps, drafted, stepped, with_step, with_steps}
+use Rattle.jr_overlay.specs.Overlays.{Changed, View, known_view, whole_view}
 use Rattle.jcr_write.specs.Places.{above, with_property, without_property}
 use Rattle.jr_overlay.specs.Views.{all_gone}
 
@@ -39,3 +40,8 @@ steps_again view ws = fold (again view) [] ws
 -- the changes that writes make of another tree, of which so much is known
 abbrev pub rebased : Knowledge → List Write → Changed
 rebased k ws = with_steps k.nodes [] (steps_again (known_view k []) ws)
+
+-- the view after the base moved from one tree to another: the edits by which it differed from the
+-- old one are made again on the new one
+abbrev pub moved_view : (old new view : Nodes) → Nodes
+moved_view old new view = stepped new new (steps_again (whole_view new) (changes old view))
