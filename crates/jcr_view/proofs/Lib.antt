@@ -3,5 +3,7 @@ mod Based
 mod Drawn
 mod Enough
 mod Fresh
+mod Known
+mod Moved
 mod Replied
 mod Whole

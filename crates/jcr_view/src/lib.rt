@@ -8,8 +8,10 @@ mod needs;
 mod pending;
 mod reading;
 mod rebase;
+mod whole;
 mod writing;
 
 pub use commands::is_viewed;
 pub use laws::{needs_are_enough, steps_count, whole_trees_are_asked_for};
 pub use pending::Pending;
+pub use whole::{evaluate, move_view};

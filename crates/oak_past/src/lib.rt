@@ -12,4 +12,4 @@ pub use heads::local_head;
 pub use machine::follows;
 pub use past::{is_committed, is_ended};
 pub use sessions::{base_of, last_checkpoint, next_index};
-pub use tree::{tree_among, tree_at};
+pub use tree::{begin_tree, tree_among, tree_at, tree_from};
