@@ -1,12 +1,10 @@
 // What the next command of a session is run with.
-ghost use Rattle.std.specs.Prelude.{◌≡◌, ◌+◌, IfOk, option_map, reverse};
-ghost use Rattle.jcr_law.specs.State.{call_at, call_of, next_id};
+ghost use Rattle.std.specs.Prelude.{◌≡◌, IfOk, option_map, reverse};
+ghost use Rattle.jcr_law.specs.State.{call_at, call_of};
 ghost use Rattle.jcr_eval.specs.Calls.{called};
 
 use crate::state::state_of;
 use jcr_law::{JcrLaw, State};
-use jcr_ref::{identifier, identifiers_are_uuids};
-use jr_path::Text;
 use jr_rev::RevVec;
 use jr_tree::{Tree, Who};
 use oak_machine::{Event, Start};
@@ -63,32 +61,4 @@ pub(crate) fn call_at(
         base: v,
     };
     Ok(Call { who, base, state })
-}
-
-// The text of the next identifier of a session.
-pub(crate) fn next_id(alloc: Global, who: &Who) -> Result<Text, AllocError>
-    ensures { IfOk result (λ id. id ≡ next_id who.now) }
-{
-    Ok(Text::of(identifier_text(alloc, who)?))
-}
-
-fn identifier_text(alloc: Global, who: &Who) -> Result<String, AllocError>
-    ensures { IfOk result (λ text. string_bytes text ≡ next_id who.now) }
-{
-    identifiers_are_uuids();
-    identifier(alloc, session_of(who), count_of(who))
-}
-
-// The number of the session, of which identifiers have the last 24 bits.
-fn session_of(who: &Who) -> u32
-    ensures { result % 2 ^ 24 ≡ (who.now.session + who.now.earlier) % 2 ^ 24 }
-{
-    who.session.wrapping_add(who.earlier)
-}
-
-// The count of the next identifier, of which it has the last 24 bits.
-fn count_of(who: &Who) -> u32
-    ensures { result % 2 ^ 24 ≡ (who.now.ids + 1) % 2 ^ 24 }
-{
-    who.ids.wrapping_add(1)
 }

@@ -11,7 +11,8 @@ ghost use Rattle.jcr_view.specs.Rebases.{moved_view};
 ghost use Rattle.jcr_law.specs.State.{accepted, answered, base_tree, command_at, counted, is_ok_text, moved, new_state, next_id, replied, state_of, used, viewed, with_token, without_token};
 ghost use Rattle.jcr_eval.specs.Calls.{called};
 
-use crate::call::{Call, call_at, next_id};
+use crate::call::{Call, call_at};
+use crate::ids::next_id;
 use jcr_law::{Cursor, JcrLaw, State};
 use jcr_observe::Filter;
 use jcr_trans::Command;

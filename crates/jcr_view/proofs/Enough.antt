@@ -1,13 +1,12 @@
 -- What commands come to is the same of two views that are alike where they read.
-use Rattle.std.proofs.Common.{◌≡◌, ◌||◌, ℕ, Bool, true, false, cond, List, [], ◌∷◌, Option, None, Some, is_some, refl, ap, sym, subst, ◌∙◌}
-use Rattle.std.specs.Prelude.{is_none, option_and_then, Result, Ok, Err, codes}
+use Rattle.std.proofs.Common.{◌≡◌, ◌||◌, ℕ, Bool, true, false, List, [], ◌∷◌, Option, None, Some, is_some, refl, ap, sym, subst, ◌∙◌}
+use Rattle.std.specs.Prelude.{option_and_then, Result}
 use Rattle.std.specs.List.{All}
 use Rattle.std.specs.Option.{option_map_or}
 use Rattle.std.proofs.lemmas.List.{append-nil}
 use Rattle.std.proofs.lemmas.List.Elements.{All-head, All-tail}
-use Rattle.std.proofs.lemmas.Option.{none-some}
 use Rattle.jr_path.specs.Ids.{path_text}
-use Rattle.jr_path.specs.Names.{is_under, last_name, parent_of}
+use Rattle.jr_path.specs.Names.{last_name, parent_of}
 use Rattle.jr_path.specs.declared.name.Name.{Name}
 use Rattle.jr_path.specs.declared.path.Path.{Path}
 use Rattle.jr_value.specs.declared.value.Property.{Property}
@@ -36,11 +35,11 @@ use Rattle.jcr_write.specs.Places.{above}
 use Rattle.jcr_write.proofs.Reading.{move_reads, order_reads, remove_reads, set_reads, unset_reads}
 use Rattle.jcr_make.specs.Commands.{unmixin_made}
 use Rattle.jr_overlay.specs.Drafts.{Steps}
-use Rattle.jcr_view.specs.Needs.{AsksFor, children_needs, listing_needs, needs_of, parent_needs}
-use Rattle.jcr_view.specs.Outcomes.{Outcome, drawing_none, made_outcome, makes_by_types, outcome, shown_outcome}
+use Rattle.jcr_view.specs.Needs.{AsksFor, children_needs, listing_needs, parent_needs}
+use Rattle.jcr_view.specs.Outcomes.{drawing_none, made_outcome, makes_by_types, outcome, shown_outcome}
 use Rattle.jcr_view.specs.Parts.{IsPartOf}
-use Rattle.jcr_view.specs.Reading.{answer_at, by_id_answer, get_answer, id_answer, list_answer, node_identifier, property_named, props_answer, refs_answer, refused, refused_or, versions_answer}
-use Rattle.jcr_view.proofs.Whole.{under_root}
+use Rattle.jcr_view.specs.Reading.{answer_at, by_id_answer, get_answer, list_answer, node_identifier, refs_answer, refused, refused_or, versions_answer}
+use Rattle.jcr_view.proofs.Below.{under_root}
 
 -- of a node that both have
 at_same : (u w : View) (p : Path) (shows : Node → Answer) → u.node p ≡ w.node p

@@ -1,5 +1,5 @@
 -- All that is read of a whole tree is known.
-use Rattle.std.proofs.Common.{◌≡◌, ◌⊎◌, inl, inr, ◌++◌, Bool, true, false, cond, List, [], ◌∷◌, Option, None, Some, refl, ap, sym, ◌∙◌, append_assoc, append-nil}
+use Rattle.std.proofs.Common.{◌≡◌, ◌⊎◌, inl, inr, ◌++◌, Bool, true, false, cond, [], ◌∷◌, Option, None, Some, refl, ap, sym, ◌∙◌, append_assoc, append-nil}
 use Rattle.std.specs.List.{cons_option, fold}
 use Rattle.std.specs.Ordering.{eq_by_cmp}
 use Rattle.std.specs.Option.{option_map, option_map_or, unwrap_or}
@@ -16,21 +16,6 @@ use Rattle.jr_tree.proofs.Pointwise.{same_path}
 use Rattle.jr_part.specs.Parts.{ChildNames, Knowledge, list_at, nothing_known, with_children, with_node}
 use Rattle.jr_overlay.specs.Overlays.{known_view, whole_view}
 use Rattle.jcr_view.specs.Whole.{all_known, with_known}
-
--- the names of children from some node on
-pub children_more : (e : Path × Node) (es more : Nodes) (p : Path) (names new all : ChildNames)
-    → es ≡ e ∷ more → new ≡ names ++ dated_children_of (e ∷ []) p
-    → names ++ dated_children_of es p ≡ all → new ++ dated_children_of more p ≡ all
-children_more e es more p names new all split put so_far =
-    ap (λ (u : ChildNames). u ++ dated_children_of more p) put
-    ∙ append_assoc names (dated_children_of (e ∷ []) p) (dated_children_of more p)
-    ∙ ap (λ (u : ChildNames). names ++ u) (by (cond (Rattle.jr_tree.specs.Trees.is_child_of p e.0) (option_map (λ n. (n, e.1.born)) (last_name e.0)) None))
-    ∙ ap (λ (u : Nodes). names ++ dated_children_of u p) (sym split)
-    ∙ so_far
-  where
-    by : (o : Option _) → cons_option o [] ++ dated_children_of more p ≡ cons_option o (dated_children_of more p)
-    by None = refl
-    by (Some c) = refl
 
 module _ (t : Nodes) where
   -- ---- nodes
@@ -77,8 +62,10 @@ module _ (t : Nodes) where
           × (cons_option (cond (eq_by_cmp path_cmp p q) (option_map (λ n. (n, e.1.born)) (last_name e.0)) None) (dated_children_of es p) ≡ [])))
       by true is = inl (now ∙ ap (λ b. cond b (Some (dated_children_of t q)) (list_at k p)) is
           ∙ ap (λ r. Some (dated_children_of t r)) (sym (same_path p q is)))
-      by false is = inr (now ∙ ap (λ b. cond b (Some (dated_children_of t q)) (list_at k p)) is,
-          ap (λ b. cons_option (cond b (option_map (λ n. (n, e.1.born)) (last_name e.0)) None) (dated_children_of es p)) is ∙ none)
+      by false is = inr (
+        now ∙ ap (λ b. cond b (Some (dated_children_of t q)) (list_at k p)) is,
+        ap (λ b. cons_option (cond b (option_map (λ n. (n, e.1.born)) (last_name e.0)) None) (dated_children_of es p)) is ∙ none,
+      )
 
   listed : (k : Knowledge) (es : Nodes) (p : Path) → Listed k (fold (with_known t) k es) es p
   listed k [] p = inr (refl, refl)
@@ -113,3 +100,8 @@ module _ (t : Nodes) where
     below = λ p. subtree_of (all_nodes s i) p;
     children = λ p. children_known p i;
   }
+
+-- none is left
+pub known_whole : (t : Nodes) (k : Knowledge) (rest : Nodes) → rest ≡ []
+    → fold (with_known t) k rest ≡ all_known t → k ≡ all_known t
+known_whole t k rest none is = sym (ap (fold (with_known t) k) none) ∙ is

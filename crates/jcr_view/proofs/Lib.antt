@@ -1,9 +1,9 @@
 mod Asked
 mod Based
+mod Below
 mod Drawn
 mod Enough
 mod Fresh
 mod Known
 mod Moved
 mod Replied
-mod Whole

@@ -1,5 +1,5 @@
 -- A whole tree as what is known of it.
-use Rattle.std.specs.Prelude.{List, Some}
+use Rattle.std.specs.Prelude.{Some}
 use Rattle.std.specs.List.{fold}
 use Rattle.std.specs.Option.{option_map_or}
 use Rattle.jr_path.specs.Names.{parent_of}

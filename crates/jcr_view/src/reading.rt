@@ -107,12 +107,7 @@ fn node_there<'a>(alloc: Global, sight: &Sight<'a>, path: &Path) -> Result<&'a N
 
 // The names of the children of a node, in their order (JSR 283, 5.2 Traversal Access). Refused: 15 where the path is too
 // deep or too long, 1 where there is no node.
-fn list(
-    alloc: Global,
-    types: &Registry,
-    sight: &Sight<'_>,
-    path: &Path,
-) -> Result<String, Refusal>
+fn list(alloc: Global, types: &Registry, sight: &Sight<'_>, path: &Path) -> Result<String, Refusal>
     ensures { Replies (list_answer types.now (sighted sight.now) path.now) result }
 {
     match find_node(alloc, sight, path) {

@@ -1,22 +1,21 @@
 // Views that are whole trees.
 ghost use Rattle.std.specs.Prelude.{◌≡◌, ◌∷◌, ◌++◌, [], true, Ok, IfErr, IfOk, IsTrue, OnErr, OnOk, option_map};
 ghost use Rattle.std.specs.BTreeMap.{is_at};
-ghost use Rattle.std.specs.FinMap.{is_sorted};
 ghost use Rattle.std.specs.Map.{remove_entry};
 ghost use Rattle.std.specs.Option.{option_copied};
 ghost use Rattle.std.specs.String.{string_bytes};
 ghost use Rattle.jr_items.specs.Refusals.{out_of_memory};
 ghost use Rattle.jr_overlay.specs.Drafts.{stepped};
-ghost use Rattle.jr_overlay.specs.Overlays.{dated_as, known_view, sighted, view_of, whole_view, with_node_at};
+ghost use Rattle.jr_overlay.specs.Overlays.{dated_as, known_view, sighted, whole_view, with_node_at};
 ghost use Rattle.jr_part.specs.Parts.{with_children};
-ghost use Rattle.jr_path.specs.Names.{name_cmp, path_cmp};
+ghost use Rattle.jr_path.specs.Names.{path_cmp};
 ghost use Rattle.jr_tree.specs.Trees.{born_of, dated_children_of, node_at};
 ghost use Rattle.jcr_fill.specs.Makings.{making};
 ghost use Rattle.jcr_trans.specs.Answers.{Done};
 ghost use Rattle.jcr_trans.specs.Texts.{answer_text};
 ghost use Rattle.jcr_view.specs.Outcomes.{eval, is_viewed, is_writing, shown, written};
 ghost use Rattle.jcr_view.specs.Reading.{Replies, refused};
-ghost use Rattle.jcr_view.specs.Rebases.{moved_view, steps_again};
+ghost use Rattle.jcr_view.specs.Rebases.{moved_view};
 ghost use Rattle.jcr_view.specs.Whole.{all_known, with_known};
 ghost use Rattle.jcr_write.specs.Places.{IsDueRefusal};
 
@@ -70,6 +69,7 @@ pub fn evaluate(
 pub fn move_view(alloc: Global, old: &Tree, new: &Tree, view: &Tree) -> Result<Tree, AllocError>
     ensures { IfOk result (λ moved. moved ≡ moved_view old.now new.now view.now) }
 {
+    let _ = new.len();
     let edit = changes(old, view)?;
     let part = all_known(alloc, new)?;
     let overlay = rebased(alloc, &part, edit.writes.as_slice())?;
@@ -305,15 +305,12 @@ fn put_known(
 }
 
 // Puts the children of a node of a tree.
-fn put_children(
-    alloc: Global,
-    part: &mut Part,
-    tree: &Tree,
-    path: &Path,
-) -> Result<(), AllocError>
+#[tactic(auto, using(jr_part::proofs::Children::children_sorted))]
+fn put_children(alloc: Global, part: &mut Part, tree: &Tree, path: &Path) -> Result<(), AllocError>
     ensures { OnOk result (part.new
         ≡ with_children part.old path.now (dated_children_of tree.now path.now)) }
 {
+    let _ = tree.len();
     let names = dated_children(alloc, tree, path)?;
     part.put_children(path, names)
 }
@@ -325,10 +322,8 @@ fn dated_children(
     tree: &Tree,
     path: &Path,
 ) -> Result<List<(Name, Option<Revision>)>, AllocError>
-    ensures names { IfOk result (λ names. names ≡ dated_children_of tree.now path.now) }
-    ensures rising { IfOk result (λ names. IsTrue (is_sorted name_cmp names)) }
+    ensures { IfOk result (λ names. names ≡ dated_children_of tree.now path.now) }
 {
-    let _ = tree.len();
     let mut names = List::new(alloc);
     for (at, node) in tree.iter() {
         push_child(&mut names, path, at, node)?;
