@@ -6,4 +6,4 @@ mod complete;
 mod fill;
 
 pub use complete::{MissingChild, check_type, complete, complete_new};
-pub use fill::Filling;
+pub use fill::{Filling, next_text};
