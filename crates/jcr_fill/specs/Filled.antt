@@ -37,11 +37,13 @@ is_user n = same_name created_by n || same_name last_modified_by n
 abbrev pub user_name : Who → List ℕ
 user_name who = codes "s" ++ decimal who.session
 
--- what an autocreated property is that draws no identifier: the latest date, the session as a user, or its default values
+-- what an autocreated property is that draws no identifier: the latest date, the session as a user,
+-- or its default values
 abbrev pub given : Who → Name → PropDef → Option Property
 given who n d =
     cond (is_date n) (Some (Single (value.Date (latest_date who.base))))
-    (cond (is_user n) (Some (Single (value.Str (user_name who)))) (by_default d.multiple d.defaults))
+    (cond (is_user n) (Some (Single (value.Str (user_name who))))
+    (by_default d.multiple d.defaults))
 
 -- the name of a property that is made of itself, where the node lacks it
 abbrev pub lacking : Node → PropDef → Option Name
@@ -68,7 +70,8 @@ identified who n f = unless_refused (too_many_ids (f.ids + 1))
 
 -- a node with an autocreated property of that name
 abbrev pub with_made : Who → PropDef → Name → Filling → Result Filling Refusal
-with_made who d n f = cond (same_name uuid n) (identified who n f) (Ok (with_given n (given who n d) f))
+with_made who d n f =
+    cond (same_name uuid n) (identified who n f) (Ok (with_given n (given who n d) f))
 
 -- a node with the property that a definition makes of itself, where it lacks it
 abbrev pub with_own : Who → PropDef → Filling → Result Filling Refusal

@@ -2,8 +2,8 @@
 //! 3.7.2.3 Auto-Created), before any command is known.
 #![tactic(auto)]
 
-mod complete;
+mod completing;
 mod fill;
 
-pub use complete::{MissingChild, check_type, complete, complete_new};
+pub use completing::{MissingChild, check_type, complete, complete_new};
 pub use fill::{Filling, next_text};
