@@ -77,15 +77,16 @@ pub own_kept : (who : Who) (ids : ℕ) (old new : Option Property) → IsOwnOrNe
 own_kept who ids (Some x) new own there = own
 own_kept who ids None new own there = absurd (false≢true there)
 
--- what holds of the history by the identifier that is due holds of the history by the one that comes
+-- what holds of the history that is due holds of the one by the text of the node's identifier
+pub of_due : (o : Option (List ℕ)) (next : List ℕ) (H : Path → Type 0) → IfSome (history_by (unwrap_or o next)) H → IfSome (option_and_then history_by o) H
+of_due None next H h = tt
+of_due (Some id) next H h = h
+
+-- and so it does once the node was put
 pub own_due : (who : Who) (ids : ℕ) (old new : Option Property) (H : Path → Type 0) → IsOwnOrNext who ids old new
     → IfSome (history_by (unwrap_or (one_text old) (next_text who ids))) H → IfSome (option_and_then history_by (one_text new)) H
 own_due who ids (Some x) new H own due =
-    subst (λ (o : Option Property). IfSome (option_and_then history_by (one_text o)) H) (sym own) (by (one_text (Some x)) due)
-  where
-    by : (o : Option (List ℕ)) → IfSome (history_by (unwrap_or o (next_text who ids))) H → IfSome (option_and_then history_by o) H
-    by None h = tt
-    by (Some id) h = h
+    subst (λ (o : Option Property). IfSome (option_and_then history_by (one_text o)) H) (sym own) (of_due (one_text (Some x)) (next_text who ids) H due)
 own_due who ids None new H (inl own) due = subst (λ (o : Option Property). IfSome (option_and_then history_by (one_text o)) H) (sym own) tt
 own_due who ids None new H (inr own) due = subst (λ (o : Option Property). IfSome (option_and_then history_by (one_text o)) H) (sym own) due
 
