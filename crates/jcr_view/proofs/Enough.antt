@@ -1,27 +1,28 @@
 -- What commands come to is the same of two views that are alike where they read.
-use Rattle.std.proofs.Common.{◌≡◌, ◌||◌, ℕ, Bool, true, false, cond, List, [], ◌∷◌, Option, None, Some, is_some, refl, ap, sym, subst, ◌∙◌}
-use Rattle.std.specs.Prelude.{is_none, option_and_then, Result, Ok, Err, codes}
+use Rattle.std.proofs.Common.{◌≡◌, ℕ, Bool, true, false, cond, List, [], ◌∷◌, ◌++◌, Option, None, Some, is_some, refl, ap, sym, subst, ◌∙◌}
+use Rattle.std.specs.Prelude.{option_and_then, Result}
 use Rattle.std.specs.List.{All}
-use Rattle.std.specs.Option.{option_map_or}
-use Rattle.std.proofs.lemmas.List.{append-nil}
+use Rattle.std.specs.Option.{IfSome, option_map_or}
+use Rattle.std.proofs.lemmas.Bool.{false≢true, or_right}
 use Rattle.std.proofs.lemmas.List.Elements.{All-head, All-tail}
-use Rattle.std.proofs.lemmas.Option.{none-some}
 use Rattle.jr_path.specs.Ids.{path_text}
-use Rattle.jr_path.specs.Names.{is_under, last_name, parent_of}
+use Rattle.jr_path.specs.Names.{last_name, parent_of}
 use Rattle.jr_path.specs.declared.name.Name.{Name}
 use Rattle.jr_path.specs.declared.path.Path.{Path}
+use Rattle.jr_path.proofs.Parts.{below_is_prefix}
 use Rattle.jr_value.specs.declared.value.Property.{Property}
 use Rattle.jr_tree.specs.Trees.{Nodes, node_at}
 use Rattle.jr_tree.specs.declared.shared.Refusal.{Refusal}
 use Rattle.jr_tree.specs.declared.shared.Who.{Who}
 use Rattle.jr_tree.specs.declared.tree.Node.{Node}
 use Rattle.jr_items.specs.Refusals.{limit_refusal, no_identifier, no_item}
-use Rattle.jr_items.specs.Items.{property_of}
-use Rattle.jr_part.specs.Parts.{ChildNames, Knowledge, LacksNothing, known_at, knows, list_at}
+use Rattle.jr_items.specs.Items.{property_of, same_name}
+use Rattle.jr_items.specs.Names.{version_storage, versionable}
+use Rattle.jr_part.specs.Parts.{ChildNames, Knowledge, LacksNothing, known_at, list_at}
 use Rattle.jr_part.specs.declared.need.Need.{Need}
 use Rattle.jr_part.specs.declared.need.Need.TheVariants as need
 use Rattle.jr_part.proofs.Whole.{tree_whole}
-use Rattle.jr_overlay.specs.Overlays.{Changed, View, change_at, known_view, view_of, whole_view}
+use Rattle.jr_overlay.specs.Overlays.{Changed, View, change_at, known_view, seen, view_of, whole_view}
 use Rattle.jr_overlay.proofs.Below.{seen_under, subtree_known}
 use Rattle.jr_overlay.proofs.Children.{children_known}
 use Rattle.jr_overlay.proofs.Commits.{known_seen}
@@ -31,16 +32,23 @@ use Rattle.jcr_ref.specs.References.{by_id, referrers}
 use Rattle.jcr_trans.specs.Answers.{Answer, ShowsItems, ShowsNames, ShowsProperties, ShowsProperty, ShowsText}
 use Rattle.jcr_trans.specs.declared.command.Command.{Command}
 use Rattle.jcr_trans.specs.declared.command.Command.TheVariants as command
+use Rattle.jcr_trans.specs.declared.command.TreeNode.{TreeNode}
 use Rattle.jcr_write.specs.Order.{ordered}
 use Rattle.jcr_write.specs.Places.{above}
 use Rattle.jcr_write.proofs.Reading.{move_reads, order_reads, remove_reads, set_reads, unset_reads}
-use Rattle.jcr_make.specs.Commands.{unmixin_made}
 use Rattle.jr_overlay.specs.Drafts.{Steps}
-use Rattle.jcr_view.specs.Needs.{AsksFor, children_needs, listing_needs, needs_of, parent_needs}
-use Rattle.jcr_view.specs.Outcomes.{Outcome, drawing_none, made_outcome, makes_by_types, outcome, shown_outcome}
+use Rattle.jcr_fill.specs.Filled.{next_text}
+use Rattle.jcr_fill.specs.Makings.{Making, making}
+use Rattle.jcr_make.specs.AlikeViews.{AreAlikeFrom}
+use Rattle.jcr_make.specs.Histories.{due_history, own_text}
+use Rattle.jcr_make.specs.Subtrees.{makes_histories}
+use Rattle.jcr_make.proofs.Counted.{of_due}
+use Rattle.jcr_make.proofs.ReadBelow.{add_same, here, mixin_same, type_same, unmixin_same}
+use Rattle.jcr_make.proofs.ReadTrees.{tree_same}
+use Rattle.jcr_view.specs.Needs.{children_needs, history_needs, listing_needs, needs_of, parent_needs, storage_needs, versionable_needs}
+use Rattle.jcr_view.specs.Outcomes.{drawing_none, made_outcome, outcome, shown_outcome}
 use Rattle.jcr_view.specs.Parts.{IsPartOf}
 use Rattle.jcr_view.specs.Reading.{answer_at, by_id_answer, get_answer, id_answer, list_answer, node_identifier, property_named, props_answer, refs_answer, refused, refused_or, versions_answer}
-use Rattle.jcr_view.proofs.Whole.{under_root}
 
 -- of a node that both have
 at_same : (u w : View) (p : Path) (shows : Node → Answer) → u.node p ≡ w.node p

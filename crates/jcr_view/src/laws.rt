@@ -34,10 +34,10 @@ pub fn steps_count()
     ensures over { (types : List TypeDef) (who : Who) (t : Nodes) (k : Knowledge) (c : Changed)
         (command : Command) → IsPartOf t k c → All (LacksNothing k) (needs_of who k c command)
         → AreOver t (with_steps k.nodes c
-            (outcome types who (known_view k c) k.nodes command).steps) }
+        (outcome types who (known_view k c) k.nodes command).steps) }
     ensures view { (types : List TypeDef) (who : Who) (t : Nodes) (k : Knowledge) (c : Changed)
         (command : Command) → IsPartOf t k c → All (LacksNothing k) (needs_of who k c command)
         → view_of t (with_steps k.nodes c
-            (outcome types who (known_view k c) k.nodes command).steps)
+        (outcome types who (known_view k c) k.nodes command).steps)
         ≡ (eval types who t (view_of t c) command).view }
 {}

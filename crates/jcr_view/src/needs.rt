@@ -182,7 +182,7 @@ fn mixin_needs(
 ) -> Result<Vec<Need>, AllocError>
     ensures { IfOk result (λ needs. needs.items ≡ cond (same_name versionable name.now)
         (versionable_needs (known_at part.now path.now) path.now
-            (due_history who.now who.now.ids (seen part.now.nodes overlay.now path.now)))
+        (due_history who.now who.now.ids (seen part.now.nodes overlay.now path.now)))
         (need.Subtree path.now ∷ [])) }
 {
     if OwnName::Versionable.is(name) {
@@ -201,7 +201,7 @@ fn versionable_needs(
 ) -> Result<Vec<Need>, AllocError>
     ensures { IfOk result (λ needs. needs.items
         ≡ versionable_needs (known_at part.now path.now) path.now
-            (due_history who.now who.now.ids (seen part.now.nodes overlay.now path.now))) }
+        (due_history who.now who.now.ids (seen part.now.nodes overlay.now path.now))) }
 {
     match part.node(path) {
         None => node_needs(alloc, path),

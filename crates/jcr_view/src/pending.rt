@@ -56,12 +56,7 @@ impl Pending {
 
     /// What has to be known of the tree at the base before a session's command is made. A need that hangs on a node of which
     /// nothing is known stands as the need of that node alone: the call is made again once the node is known.
-    pub fn needs(
-        &self,
-        command: &Command,
-        part: &Part,
-        who: &Who,
-    ) -> Result<Vec<Need>, AllocError>
+    pub fn needs(&self, command: &Command, part: &Part, who: &Who) -> Result<Vec<Need>, AllocError>
         ensures { IfOk result (λ needs. needs.items
             ≡ needs_of who.now part.now self.now command.now) }
     {
