@@ -5,3 +5,4 @@ pub mod Each
 pub mod Fills
 mod Identifiers
 pub mod Loops
+pub mod Touched
