@@ -4,6 +4,8 @@
 
 mod complete;
 mod fill;
+mod laws;
 
 pub use complete::{MissingChild, check_type, complete, complete_new};
 pub use fill::Filling;
+pub use laws::completing_keeps_trees;

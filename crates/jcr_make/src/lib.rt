@@ -12,8 +12,8 @@ mod unmix;
 
 pub use adding::add;
 pub use laws::{
-    adding_reads_below_and_above, changing_types_reads_below, mixing_reads_below_and_histories,
-    unmixing_reads_the_node,
+    adding_reads_below_and_above, changing_types_reads_below, makings_keep_nodes,
+    makings_keep_trees, mixing_reads_below_and_histories, unmixing_reads_the_node,
 };
 pub use mixins::mixin;
 pub use retype::set_type;
