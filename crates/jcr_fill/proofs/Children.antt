@@ -26,7 +26,7 @@ use Rattle.jr_types.proofs.Alike.{flat-alike}
 use Rattle.jr_overlay.specs.Drafts.{Steps, drafted, with_step}
 use Rattle.jr_overlay.specs.Overlays.{View}
 use Rattle.jcr_write.specs.Places.{node_types, unless_refused}
-use Rattle.jcr_fill.specs.declared.complete.MissingChild.{MissingChild}
+use Rattle.jcr_fill.specs.declared.completing.MissingChild.{MissingChild}
 use Rattle.jcr_fill.specs.declared.fill.Filling.{Filling}
 use Rattle.jcr_fill.specs.Filled.{filled}
 use Rattle.jcr_fill.specs.Makings.{Making, absent_child, child_refusal, completed, missing_child, with_child, with_children, with_node, with_own_child}

@@ -1,17 +1,11 @@
 -- Which answer or refusal is due, from what was asked and made before.
-use Rattle.std.proofs.Common.{◌≡◌, Option, None, Some, List, [], ◌∷◌, refl, sym, ap, ◌∙◌}
+use Rattle.std.proofs.Common.{◌≡◌, Option, None, Some, sym, ap, ◌∙◌}
 use Rattle.std.specs.Prelude.{IfOk, IfErr, OnOk, Result, Ok, Err}
-use Rattle.std.specs.Result.{is_ok}
-use Rattle.std.proofs.lemmas.Bool.{false≢true}
-use Rattle.std.proofs.lemmas.Option.{none-some}
 use Rattle.jr_path.specs.declared.path.Path.{Path}
 use Rattle.jr_tree.specs.declared.shared.Refusal.{Refusal}
 use Rattle.jr_tree.specs.declared.tree.Node.{Node}
-use Rattle.jr_items.specs.Items.{first_some}
-use Rattle.jr_items.specs.Refusals.{IsTheRefusal, out_of_memory}
-use Rattle.jr_overlay.specs.Drafts.{Steps, drafted, with_step}
-use Rattle.jr_overlay.specs.Overlays.{View}
-use Rattle.jcr_write.specs.Places.{IsDueRefusal, at_place, of_node, path_refusal, place_of, unless_refused}
+use Rattle.jr_overlay.specs.Drafts.{Steps, with_step}
+use Rattle.jcr_write.specs.Places.{IsDueRefusal, of_node, unless_refused}
 use Rattle.jcr_fill.specs.Steps.{and_then}
 
 -- what is due comes, where nothing is refused

@@ -29,7 +29,7 @@ abbrev pub is_made : Who → Filling → PropDef → Bool
 is_made who f d = option_map_or (λ n. same_name uuid n || is_some (given who n d)) (lacking f.node d) false
 
 -- what a step makes, by the name that the node lacks
-abbrev by_name : Who → PropDef → Filling → Option Name → Result Filling Refusal
+abbrev pub by_name : Who → PropDef → Filling → Option Name → Result Filling Refusal
 by_name who d f None = Ok f
 by_name who d f (Some n) = with_made who d n f
 

@@ -1,12 +1,10 @@
 -- A node that is put with all that belongs to it keeps a tree a tree.
-use Rattle.std.proofs.Common.{◌≡◌, ℕ, zero, suc, Bool, true, false, cond, Option, None, Some, List, inl, inr, refl, sym, ap, ◌∙◌, subst, is_some}
+use Rattle.std.proofs.Common.{◌≡◌, ℕ, zero, suc, true, Option, None, Some, List, inl, inr, refl, sym, ap, ◌∙◌, subst, is_some}
 use Rattle.std.specs.Prelude.{Result, Ok, Err}
 use Rattle.std.specs.FinMap.{is_sorted}
 use Rattle.std.specs.List.{flat_map}
-use Rattle.std.specs.Option.{option_and_then}
 use Rattle.std.proofs.lemmas.Cmp.{nat_list_cmp_total}
 use Rattle.jr_path.specs.Names.{name_cmp, parent_of}
-use Rattle.jr_path.specs.declared.name.Name.{Name}
 use Rattle.jr_path.specs.declared.path.Path.{Path}
 use Rattle.jr_path.proofs.Parts.{parent_of-child}
 use Rattle.jr_tree.specs.declared.shared.Refusal.{Refusal}
@@ -14,24 +12,24 @@ use Rattle.jr_tree.specs.declared.shared.Who.{Who}
 use Rattle.jr_tree.specs.declared.tree.Node.{Node}
 use Rattle.jr_tree.specs.Trees.{Nodes, node_of_type}
 use Rattle.jr_tree.proofs.Entries.{sorted_insert}
-use Rattle.jr_items.specs.Items.{child_path}
 use Rattle.jr_types.specs.declared.ChildDef.{ChildDef}
 use Rattle.jr_types.specs.declared.PropDef.{PropDef}
 use Rattle.jr_types.specs.declared.TypeDef.{TypeDef}
 use Rattle.jr_types.specs.Types.{props_of}
-use Rattle.jr_overlay.specs.Drafts.{Steps, drafted, with_step}
+use Rattle.jr_overlay.specs.Drafts.{drafted}
 use Rattle.jr_overlay.specs.Overlays.{View, whole_view}
 use Rattle.jr_overlay.specs.Views.{KeepTree}
 use Rattle.jr_overlay.proofs.KeepingSteps.{one_more_keeps}
 use Rattle.jcr_write.specs.Places.{node_types, unless_refused}
-use Rattle.jcr_fill.specs.declared.complete.MissingChild.{MissingChild}
+use Rattle.jcr_fill.specs.declared.completing.MissingChild.{MissingChild}
 use Rattle.jcr_fill.specs.declared.fill.Filling.{Filling}
 use Rattle.jcr_fill.specs.Filled.{filled, with_own}
-use Rattle.jcr_fill.specs.Makings.{Making, absent_child, child_refusal, complete, completed, missing_child, with_child, with_children, with_node, with_own_child}
+use Rattle.jcr_fill.specs.Makings.{Making, child_refusal, complete, completed, missing_child, with_child, with_children, with_node, with_own_child}
 use Rattle.jcr_fill.specs.Steps.{and_then}
 use Rattle.jcr_fill.proofs.Children.{IsCompleting, by_missing, now_put, whole_at}
 use Rattle.jcr_fill.proofs.Fills.{err-ok, ok_same, step_does}
 use Rattle.jcr_fill.proofs.OneByOne.{each_keeps}
+use Rattle.jcr_fill.proofs.Touched.{missing_path}
 
 -- the names of a node in the making are in order
 abbrev IsOrdered : Filling → Type 0
@@ -59,20 +57,6 @@ PutsKeep v complete = (p : Path) (node : Node) (m n : Making) → KeepTree (whol
     → ((q : Path) → parent_of p ≡ Some q → is_some (drafted (whole_view v) m.steps q) ≡ true)
     → complete p node m ≡ Ok n → KeepTree (whole_view v) n.steps
 
--- a child that is missing has the node above it
-missing_parent : (view : View) (steps : Steps) (p : Path) (d : ChildDef) (c : MissingChild) → missing_child view steps p d ≡ Some c → parent_of c.path ≡ Some p
-missing_parent view steps p d c h = by d.autocreated d.name d.default_type h
-  where
-    at : (n t : Name) (b : Bool) → cond b None (Some (record { path = child_path p n; node_type = t })) ≡ Some c → parent_of c.path ≡ Some p
-    at n t true e = cc
-    at n t false e = subst (λ (q : Path). parent_of q ≡ Some p) (ap (λ (o : Option MissingChild). elim o [ Some x ↦ x.path | None ↦ c.path ]) e) (parent_of-child p n)
-
-    by : (b : Bool) (o t : Option Name) → cond b (option_and_then (λ n. option_and_then (absent_child view steps p n) t) o) None ≡ Some c → parent_of c.path ≡ Some p
-    by false o t e = cc
-    by true None t e = cc
-    by true (Some n) None e = cc
-    by true (Some n) (Some t) e = at n t (is_some (drafted view steps (child_path p n))) e
-
 module _ (types : List TypeDef) (v : Nodes) (complete : Path → Node → Making → Result Making Refusal) (whole : IsCompleting (whole_view v) complete) (keeps : PutsKeep v complete) where
   child_keeps : (p : Path) (c : MissingChild) (m n : Making) → parent_of c.path ≡ Some p → with_child complete types c.path c.node_type m ≡ Ok n → KeepWith v p m → KeepWith v p n
   child_keeps p c m n up h is = by (child_refusal types c.path c.node_type) h
@@ -92,7 +76,8 @@ module _ (types : List TypeDef) (v : Nodes) (complete : Path → Node → Making
     where
       by : (o : Option MissingChild) → missing_child (whole_view v) m.steps p d ≡ o → by_missing complete types m o ≡ Ok n → KeepWith v p n
       by None e f = subst (KeepWith v p) (sym (ok_same f)) is
-      by (Some c) e f = child_keeps p c m n (missing_parent (whole_view v) m.steps p d c e) f is
+      by (Some c) e f = let at = missing_path (whole_view v) m.steps p d c e in
+          child_keeps p c m n (ap parent_of at.1 ∙ parent_of-child p at.0) f is
 
   children_keep : (p : Path) (of : List TypeDef) (m n : Making) → with_children complete types (whole_view v) p of m ≡ Ok n → KeepWith v p m → KeepWith v p n
   children_keep p of m n h is = each_keeps (KeepWith v p) (λ d k. with_own_child complete types (whole_view v) p d k) (own_child_keeps p) (flat_map (λ d. d.children) of) m n h is

@@ -7,3 +7,4 @@ mod Identifiers
 pub mod KeepingTrees
 pub mod Loops
 pub mod OneByOne
+pub mod Touched

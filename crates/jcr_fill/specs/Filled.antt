@@ -37,11 +37,13 @@ is_user n = same_name created_by n || same_name last_modified_by n
 abbrev pub user_name : Who → List ℕ
 user_name who = codes "s" ++ decimal who.session
 
--- what an autocreated property is that draws no identifier: the latest date, the session as a user, or its default values
+-- what an autocreated property is that draws no identifier: the latest date, the session as a user,
+-- or its default values
 abbrev pub given : Who → Name → PropDef → Option Property
 given who n d =
     cond (is_date n) (Some (Single (value.Date (latest_date who.base))))
-    (cond (is_user n) (Some (Single (value.Str (user_name who)))) (by_default d.multiple d.defaults))
+    (cond (is_user n) (Some (Single (value.Str (user_name who))))
+    (by_default d.multiple d.defaults))
 
 -- the name of a property that is made of itself, where the node lacks it
 abbrev pub lacking : Node → PropDef → Option Name
@@ -53,9 +55,13 @@ abbrev pub with_given : Name → Option Property → Filling → Filling
 with_given n None f = f
 with_given n (Some x) f = record f { node = with_property f.node n x }
 
+-- the text of the session's next identifier
+abbrev pub next_text : Who → (ids : ℕ) → List ℕ
+next_text who ids = identifier (who.session + who.earlier) (ids + 1)
+
 -- the session's next identifier
 abbrev pub next_identifier : Who → (ids : ℕ) → Property
-next_identifier who ids = Single (value.Str (identifier (who.session + who.earlier) (ids + 1)))
+next_identifier who ids = Single (value.Str (next_text who ids))
 
 -- a node with the session's next identifier, which then counts as drawn
 abbrev pub identified : Who → Name → Filling → Result Filling Refusal
@@ -64,7 +70,8 @@ identified who n f = unless_refused (too_many_ids (f.ids + 1))
 
 -- a node with an autocreated property of that name
 abbrev pub with_made : Who → PropDef → Name → Filling → Result Filling Refusal
-with_made who d n f = cond (same_name uuid n) (identified who n f) (Ok (with_given n (given who n d) f))
+with_made who d n f =
+    cond (same_name uuid n) (identified who n f) (Ok (with_given n (given who n d) f))
 
 -- a node with the property that a definition makes of itself, where it lacks it
 abbrev pub with_own : Who → PropDef → Filling → Result Filling Refusal

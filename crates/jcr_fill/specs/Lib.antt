@@ -1,3 +1,4 @@
 pub mod Filled
+pub mod Identified
 pub mod Makings
 pub mod Steps

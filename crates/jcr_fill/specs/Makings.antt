@@ -19,7 +19,7 @@ use Rattle.jr_overlay.specs.Overlays.{View}
 use Rattle.jcr_write.specs.Places.{node_types, unless_refused}
 use Rattle.jcr_fill.specs.Steps.{and_then, each}
 use Rattle.jcr_fill.specs.declared.fill.Filling.{Filling}
-use Rattle.jcr_fill.specs.declared.complete.MissingChild.{MissingChild}
+use Rattle.jcr_fill.specs.declared.completing.MissingChild.{MissingChild}
 use Rattle.jcr_fill.specs.Filled.{filled}
 
 -- what a command made of a view so far, and the identifiers that the session has drawn
@@ -54,16 +54,20 @@ missing_child view steps p d = cond d.autocreated (option_and_then
     (λ n. option_and_then (absent_child view steps p n) d.default_type) d.name) None
 
 -- a new node of a type, with all that belongs to it by `complete`
-abbrev pub with_child : (Path → Node → Making → Result Making Refusal) → List TypeDef → Path → (type : Name) → Making → Result Making Refusal
-with_child complete types p type m = unless_refused (child_refusal types p type) (complete p (node_of_type type) m)
+abbrev pub with_child : (Path → Node → Making → Result Making Refusal) → List TypeDef → Path
+    → (type : Name) → Making → Result Making Refusal
+with_child complete types p type m =
+    unless_refused (child_refusal types p type) (complete p (node_of_type type) m)
 
 -- the child that a definition makes of itself is made, where it isn't there
-abbrev pub with_own_child : (Path → Node → Making → Result Making Refusal) → List TypeDef → View → Path → ChildDef → Making → Result Making Refusal
+abbrev pub with_own_child : (Path → Node → Making → Result Making Refusal) → List TypeDef → View
+    → Path → ChildDef → Making → Result Making Refusal
 with_own_child complete types view p d m = elim (missing_child view m.steps p d)
     [ None ↦ Ok m | Some c ↦ with_child complete types c.path c.node_type m ]
 
 -- the children that these types make of themselves, each whole before the next
-abbrev pub with_children : (Path → Node → Making → Result Making Refusal) → List TypeDef → View → Path → List TypeDef → Making → Result Making Refusal
+abbrev pub with_children : (Path → Node → Making → Result Making Refusal) → List TypeDef → View
+    → Path → List TypeDef → Making → Result Making Refusal
 with_children complete types view p of m =
     each (with_own_child complete types view p) (flat_map (λ d. d.children) of) m
 
@@ -78,7 +82,8 @@ put_filled types who p node m =
     put_filled_by who (flat_map props_of (node_types types node)) p node m
 
 -- a node is put with what belongs to it, so many levels down: its properties, then its children
-unfoldable pub completed : (levels : ℕ) → List TypeDef → Who → View → Path → Node → Making → Result Making Refusal
+unfoldable pub completed : (levels : ℕ) → List TypeDef → Who → View → Path → Node → Making
+    → Result Making Refusal
 completed zero types who view p node m =
     Ok (with_node m.steps p (record { node = node; ids = m.ids }))
 completed (suc levels) types who view p node m = and_then (put_filled types who p node m)

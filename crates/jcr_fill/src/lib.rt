@@ -2,10 +2,10 @@
 //! 3.7.2.3 Auto-Created), before any command is known.
 #![tactic(auto)]
 
-mod complete;
+mod completing;
 mod fill;
 mod laws;
 
-pub use complete::{MissingChild, check_type, complete, complete_new};
-pub use fill::Filling;
+pub use completing::{MissingChild, check_type, complete, complete_new};
+pub use fill::{Filling, next_text};
 pub use laws::completing_keeps_trees;

@@ -42,7 +42,8 @@ type_by_default types p None = Err (breaks_rule 0 (above p) (last_name p))
 type_by_default types p (Some n) = registered types n
 
 -- the type of an added node: the one that its command names, or else the default one
-abbrev pub added_type : List TypeDef → (parent : Node) → Path → (named : Option Name) → Result Name Refusal
+abbrev pub added_type : List TypeDef → (parent : Node) → Path → (named : Option Name)
+    → Result Name Refusal
 added_type types parent p (Some n) = registered types n
 added_type types parent p None = type_by_default types p (type_below types parent p)
 
@@ -51,22 +52,26 @@ abbrev pub taken_place : View → Steps → Path → Option Refusal
 taken_place view steps p = when (is_some (drafted view steps p)) (taken p)
 
 -- the type of a node that is added to this one, where the place is free
-abbrev pub chosen_below : List TypeDef → View → Steps → Path → (named : Option Name) → (parent : Node) → Result Name Refusal
+abbrev pub chosen_below : List TypeDef → View → Steps → Path → (named : Option Name)
+    → (parent : Node) → Result Name Refusal
 chosen_below types view steps p named parent =
     unless_refused (taken_place view steps p) (added_type types parent p named)
 
 -- the type of a node that is added, where there is a node above
-abbrev pub chosen_type : List TypeDef → View → Steps → Path → (named : Option Name) → Result Name Refusal
+abbrev pub chosen_type : List TypeDef → View → Steps → Path → (named : Option Name)
+    → Result Name Refusal
 chosen_type types view steps p named =
     of_node (above p) (drafted view steps (above p)) (chosen_below types view steps p named)
 
 -- a new node of a type is put with all that belongs to it
-abbrev pub completed_new : List TypeDef → Who → View → Path → Making → (type : Name) → Result Making Refusal
+abbrev pub completed_new : List TypeDef → Who → View → Path → Making → (type : Name)
+    → Result Making Refusal
 completed_new types who view p m n = complete types who view p (node_of_type n) m
 
 -- what `add` makes: a node of the type that it names, or else of the default one, with all that
 -- belongs to it
-abbrev pub add_made : List TypeDef → Who → View → Path → (named : Option Name) → Making → Result Making Refusal
+abbrev pub add_made : List TypeDef → Who → View → Path → (named : Option Name) → Making
+    → Result Making Refusal
 add_made types who view p named m = unless_refused (path_refusal p)
     (and_then (chosen_type types view m.steps p named) (completed_new types who view p m))
 
@@ -121,7 +126,8 @@ is_lost types old new n x =
     is_protected types old n x && is_none (prop_def (node_types types new) n x)
 
 -- properties with one more, unless it is lost
-abbrev pub with_kept : List TypeDef → (old new : Node) → List (Name × Property) → Name × Property → List (Name × Property)
+abbrev pub with_kept : List TypeDef → (old new : Node) → List (Name × Property)
+    → Name × Property → List (Name × Property)
 with_kept types old new props x =
     cond (is_lost types old new x.0 x.1) props (insert_entry name_cmp props x.0 x.1)
 

@@ -45,9 +45,11 @@ may_be_versioned node = cond (is_identified node)
 
 -- why a node can't become versionable by a mixin
 abbrev pub version_refusal : Path → Node → Name → Option Refusal
-version_refusal p node n = when (same_name versionable n && not (may_be_versioned node)) (own_item_rule p uuid)
+version_refusal p node n =
+    when (same_name versionable n && not (may_be_versioned node)) (own_item_rule p uuid)
 
--- why a node can't have a mixin: nobody registered it, it is none, or the node's identifier doesn't do
+-- why a node can't have a mixin: nobody registered it, it is none, or the node's identifier
+-- doesn't do
 abbrev pub mixin_refusal : List TypeDef → Path → Node → Name → Option Refusal
 mixin_refusal types p node n = first_some (unknown_type types n
     ∷ when (not (is_mixin types n)) (breaks_rule 2 p (Some mixin_types))
@@ -84,8 +86,8 @@ abbrev pub with_own_history : View → Steps → Path → Nodes → Nodes
 with_own_history view steps p nodes =
     option_map_or (with_history view steps nodes) (named_history nodes p) nodes
 
--- what counts for a history that begins: the node, and its history where the node had its identifier
--- before
+-- what counts for a history that begins: the node, and its history where the node had its
+-- identifier before
 abbrev pub counting : (identified : Bool) → View → Steps → Path → Nodes
 counting true view steps p = with_own_history view steps p (with_seen view steps p [])
 counting false view steps p = with_seen view steps p []
@@ -101,7 +103,8 @@ all_put steps nodes = fold with_put steps nodes
 -- the nodes with what the node at p writes that becomes versionable
 abbrev pub history_put : Nodes → Who → Path → Making → Making
 history_put nodes who p m = record {
-  steps = all_put m.steps (applied None nodes (history_writes nodes p (record who { ids = m.ids })));
+  steps = all_put m.steps
+      (applied None nodes (history_writes nodes p (record who { ids = m.ids })));
   ids = m.ids + history_drawn nodes p;
 }
 
@@ -116,17 +119,20 @@ begun_among nodes who p m =
     cond (is_some (named_history nodes p)) (limited_history nodes who p m) (Ok m)
 
 -- with `mix:versionable` the history of the node at p begins
-abbrev pub begun_by : Name → (identified : Bool) → Who → View → Path → Making → Result Making Refusal
+abbrev pub begun_by : Name → (identified : Bool) → Who → View → Path → Making
+    → Result Making Refusal
 begun_by n identified who view p m = cond (same_name versionable n)
     (begun_among (counting identified view m.steps p) who p m) (Ok m)
 
 -- what a mixin makes of a node
-abbrev pub mixin_put : List TypeDef → Who → View → Path → Name → Mixing → Making → Result Making Refusal
+abbrev pub mixin_put : List TypeDef → Who → View → Path → Name → Mixing → Making
+    → Result Making Refusal
 mixin_put types who view p n x m = and_then (complete types who view p x.node m)
     (begun_by n x.identified who view p)
 
 -- what a mixin makes of a node that lacks it
-abbrev pub mixin_given : List TypeDef → Who → View → Path → Name → Making → Option Mixing → Result Making Refusal
+abbrev pub mixin_given : List TypeDef → Who → View → Path → Name → Making → Option Mixing
+    → Result Making Refusal
 mixin_given types who view p n m None = Ok m
 mixin_given types who view p n m (Some x) = mixin_put types who view p n x m
 

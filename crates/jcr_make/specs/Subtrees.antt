@@ -19,12 +19,14 @@ use Rattle.jcr_fill.specs.Makings.{Making, making}
 use Rattle.jcr_fill.specs.Steps.{and_then, each}
 
 -- a node of a type is made at a path within the limits
-abbrev pub limited : List TypeDef → Who → View → Path → Making → (type : Name) → Result Making Refusal
+abbrev pub limited : List TypeDef → Who → View → Path → Making → (type : Name)
+    → Result Making Refusal
 limited types who view p m n =
     unless_refused (limit_refusal p) (completed_new types who view p m n)
 
 -- what adding a node below the topmost one makes: as `add`, but that the limits come last
-abbrev pub part_added : List TypeDef → Who → View → Path → (named : Option Name) → Making → Result Making Refusal
+abbrev pub part_added : List TypeDef → Who → View → Path → (named : Option Name) → Making
+    → Result Making Refusal
 part_added types who view p named m = unless_refused (in_system p)
     (and_then (chosen_type types view m.steps p named) (limited types who view p m))
 
@@ -33,7 +35,8 @@ abbrev pub with_set : List TypeDef → View → Path → Name × Property → St
 with_set types view p x steps = set_made types view steps p x.0 x.1
 
 -- each of the properties is set
-abbrev pub with_sets : List TypeDef → View → Path → List (Name × Property) → Making → Result Making Refusal
+abbrev pub with_sets : List TypeDef → View → Path → List (Name × Property) → Making
+    → Result Making Refusal
 with_sets types view p props m =
     and_then (each (with_set types view p) props m.steps) (λ steps. Ok (making steps m.ids))
 
@@ -57,5 +60,6 @@ abbrev pub with_part : List TypeDef → Who → View → Path → TreeNode → M
 with_part types who view p part m = part_at types who view (p ++ part.path) part m
 
 -- what `tree` makes: each part on what those before it made, up to the first refusal
-abbrev pub tree_made : List TypeDef → Who → View → Path → List TreeNode → Making → Result Making Refusal
+abbrev pub tree_made : List TypeDef → Who → View → Path → List TreeNode → Making
+    → Result Making Refusal
 tree_made types who view p parts m = each (with_part types who view p) parts m

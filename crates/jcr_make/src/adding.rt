@@ -31,10 +31,12 @@ pub fn add(
     node_type: Option<&Name>,
 ) -> Result<(), Refusal>
     ensures sight { draft.new.sight ≡ draft.old.sight }
-    ensures ok { OnOk result (add_made types.now who.now (sighted draft.old.sight) path.now (option_copied node_type.entry)
-        (making draft.old.steps ids.old) ≡ Ok (making draft.new.steps ids.new)) }
+    ensures ok { OnOk result (add_made types.now who.now (sighted draft.old.sight) path.now
+        (option_copied node_type.entry) (making draft.old.steps ids.old)
+        ≡ Ok (making draft.new.steps ids.new)) }
     ensures err { IfErr result (IsDueRefusal (add_made types.now who.now
-        (sighted draft.old.sight) path.now (option_copied node_type.entry) (making draft.old.steps ids.old))) }
+        (sighted draft.old.sight) path.now (option_copied node_type.entry)
+        (making draft.old.steps ids.old))) }
 {
     match check_path(alloc, path) {
         Ok(()) => add_within(alloc, types, who, draft, ids, path, node_type),

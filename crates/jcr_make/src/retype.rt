@@ -33,8 +33,9 @@ pub fn set_type(
     node_type: &Name,
 ) -> Result<(), Refusal>
     ensures sight { draft.new.sight ≡ draft.old.sight }
-    ensures ok { OnOk result (type_made types.now who.now (sighted draft.old.sight) path.now node_type.now
-        (making draft.old.steps ids.old) ≡ Ok (making draft.new.steps ids.new)) }
+    ensures ok { OnOk result (type_made types.now who.now (sighted draft.old.sight) path.now
+        node_type.now (making draft.old.steps ids.old)
+        ≡ Ok (making draft.new.steps ids.new)) }
     ensures err { IfErr result (IsDueRefusal (type_made types.now who.now
         (sighted draft.old.sight) path.now node_type.now (making draft.old.steps ids.old))) }
 {

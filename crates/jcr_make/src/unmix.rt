@@ -91,7 +91,8 @@ fn check_unmixin(alloc: Global, types: &Registry, node: &Node, name: &Name) -> R
 }
 
 fn check_listed(alloc: Global, node: &Node, name: &Name) -> Result<(), Refusal>
-    ensures ok { OnOk result (when (not (lists_mixin node.now name.now)) (no_type name.now) ≡ None) }
+    ensures ok { OnOk result
+        (when (not (lists_mixin node.now name.now)) (no_type name.now) ≡ None) }
     ensures err { IfErr result (IsTheRefusal
         (when (not (lists_mixin node.now name.now)) (no_type name.now))) }
 {

@@ -40,8 +40,10 @@ IdentifiedNeeds p (Some id) needs =
     (IsName id × (needs ≡ need.Subtree p ∷ need.Subtree (child_path version_storage id) ∷ []))
     ⊎ ((¬ (IsName id)) × (needs ≡ need.Subtree p ∷ []))
 
--- to become versionable a node must be known, with what is below it, and the history that it has by its identifier
-abbrev pub VersionableNeeds : (known : Option (Option Node)) → Path → Option (List ℕ) → List Need → Type 0
+-- to become versionable a node must be known, with what is below it, and the history that it has by
+-- its identifier
+abbrev pub VersionableNeeds : (known : Option (Option Node)) → Path → Option (List ℕ) → List Need
+    → Type 0
 VersionableNeeds None p id needs = needs ≡ need.Node p ∷ []
 VersionableNeeds (Some known) p id needs = IdentifiedNeeds p id needs
 

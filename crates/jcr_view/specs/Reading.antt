@@ -57,7 +57,8 @@ answer_at view p shows = refused_or (limit_refusal p) (shown_at view p shows)
 
 -- the names of a node's children, in their order
 abbrev pub list_answer : List TypeDef → View → Path → Answer
-list_answer types view p = answer_at view p (λ node. ShowsNames (ordered types node (view.children p)))
+list_answer types view p =
+    answer_at view p (λ node. ShowsNames (ordered types node (view.children p)))
 
 -- all properties of a node, by name
 abbrev pub props_answer : View → Path → Answer

@@ -22,8 +22,8 @@ abbrev pub changed_where : View → Steps → Path → (Node → Node) → Steps
 changed_where view steps p change =
     option_map_or (λ node. with_step steps p (Some (change node))) (drafted view steps p) steps
 
--- A write made again. A node comes where the node above stands and none is there; one that goes takes
--- all beneath it along; a property is written where its node stands.
+-- A write made again. A node comes where the node above stands and none is there; one that goes
+-- takes all beneath it along; a property is written where its node stands.
 abbrev pub again : View → Steps → Write → Steps
 again view steps (Here p) = cond
     (is_some (drafted view steps (above p)) && is_none (drafted view steps p))

@@ -17,8 +17,9 @@ ghost use Rattle.jcr_view.specs.Parts.{IsPartOf};
 /// What a command asks for is enough: where nothing of it lacks, the command comes to the same on what is known as on
 /// the whole view of each tree that the part agrees with. (Of `add`, `tree`, `mixin` and `type` it isn't claimed here.)
 pub fn needs_are_enough()
-    ensures { (types : List TypeDef) (who : Who) (t : Nodes) (k : Knowledge) (c : Changed) (command : Command)
-        (needs : List Need) → IsFalse (makes_by_types command) → IsPartOf t k c → AsksFor k c command needs
+    ensures { (types : List TypeDef) (who : Who) (t : Nodes) (k : Knowledge) (c : Changed)
+        (command : Command) (needs : List Need) → IsFalse (makes_by_types command)
+        → IsPartOf t k c → AsksFor k c command needs
         → All (LacksNothing k) needs
         → outcome types who (known_view k c) k.nodes command
         ≡ outcome types who (whole_view (view_of t c)) t command }
@@ -26,20 +27,24 @@ pub fn needs_are_enough()
 
 /// A command that goes over the whole tree asks for it, and for nothing else.
 pub fn whole_trees_are_asked_for()
-    ensures { (k : Knowledge) (c : Changed) (command : Command) (needs : List Need) → IsTrue (reads_all command)
-        → AsksFor k c command needs → needs ≡ need.All ∷ [] }
+    ensures { (k : Knowledge) (c : Changed) (command : Command) (needs : List Need)
+        → IsTrue (reads_all command) → AsksFor k c command needs → needs ≡ need.All ∷ [] }
 {}
 
 /// Where nothing lacks of what a command asks for, its steps count as `eval` has it: what has changed is over the same
 /// tree still, and the view is the one after the command, on each tree that the part agrees with.
 pub fn steps_count()
-    ensures over { (types : List TypeDef) (who : Who) (t : Nodes) (k : Knowledge) (c : Changed) (command : Command)
-        (needs : List Need) → IsFalse (makes_by_types command) → IsPartOf t k c → AsksFor k c command needs
+    ensures over { (types : List TypeDef) (who : Who) (t : Nodes) (k : Knowledge) (c : Changed)
+        (command : Command) (needs : List Need) → IsFalse (makes_by_types command)
+        → IsPartOf t k c → AsksFor k c command needs
         → All (LacksNothing k) needs
-        → AreOver t (with_steps k.nodes c (outcome types who (known_view k c) k.nodes command).steps) }
-    ensures view { (types : List TypeDef) (who : Who) (t : Nodes) (k : Knowledge) (c : Changed) (command : Command)
-        (needs : List Need) → IsFalse (makes_by_types command) → IsPartOf t k c → AsksFor k c command needs
+        → AreOver t (with_steps k.nodes c
+            (outcome types who (known_view k c) k.nodes command).steps) }
+    ensures view { (types : List TypeDef) (who : Who) (t : Nodes) (k : Knowledge) (c : Changed)
+        (command : Command) (needs : List Need) → IsFalse (makes_by_types command)
+        → IsPartOf t k c → AsksFor k c command needs
         → All (LacksNothing k) needs
-        → view_of t (with_steps k.nodes c (outcome types who (known_view k c) k.nodes command).steps)
+        → view_of t (with_steps k.nodes c
+            (outcome types who (known_view k c) k.nodes command).steps)
         ≡ (eval types who t (view_of t c) command).view }
 {}

@@ -68,7 +68,8 @@ fn subtree_needs(alloc: Global, path: &Path) -> Result<Vec<Need>, AllocError>
 
 // What stands at or below a path, and the node above it.
 fn adding_needs(alloc: Global, path: &Path) -> Result<Vec<Need>, AllocError>
-    ensures { IfOk result (λ needs. needs.items ≡ need.Subtree path.now ∷ need.Node (above path.now) ∷ []) }
+    ensures { IfOk result (λ needs. needs.items
+        ≡ need.Subtree path.now ∷ need.Node (above path.now) ∷ []) }
 {
     let mut needs = subtree_needs(alloc, path)?;
     needs.push(Need::Node(above(alloc, path)?))?;

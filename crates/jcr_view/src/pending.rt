@@ -74,10 +74,12 @@ impl Pending {
     ) -> Result<String, Refusal>
         requires viewed { IsTrue (is_viewed command.now) }
         requires known { IsTrue (reads_all command.now) → LacksNothing part.now need.All }
-        ensures text { IfOk result (λ text. string_bytes text ≡ answer_text (outcome types.now who.old
+        ensures text { IfOk result (λ text. string_bytes text ≡ answer_text
+            (outcome types.now who.old
             (known_view part.now self.old) part.now.nodes command.now).answer) }
         ensures changes { OnOk result (self.new ≡ with_steps part.now.nodes self.old
-            (outcome types.now who.old (known_view part.now self.old) part.now.nodes command.now).steps) }
+            (outcome types.now who.old
+            (known_view part.now self.old) part.now.nodes command.now).steps) }
         ensures ids { OnOk result (who.new ≡ record who.old {
           ids = (outcome types.now who.old
               (known_view part.now self.old) part.now.nodes command.now).ids;
@@ -103,10 +105,12 @@ impl Pending {
         who: &mut Who,
     ) -> Result<String, Refusal>
         requires { is_writing command.now ≡ true }
-        ensures text { IfOk result (λ text. string_bytes text ≡ answer_text (outcome types.now who.old
+        ensures text { IfOk result (λ text. string_bytes text ≡ answer_text
+            (outcome types.now who.old
             (known_view part.now self.old) part.now.nodes command.now).answer) }
         ensures changes { OnOk result (self.new ≡ with_steps part.now.nodes self.old
-            (outcome types.now who.old (known_view part.now self.old) part.now.nodes command.now).steps) }
+            (outcome types.now who.old
+            (known_view part.now self.old) part.now.nodes command.now).steps) }
         ensures ids { OnOk result (who.new ≡ record who.old {
           ids = (outcome types.now who.old
               (known_view part.now self.old) part.now.nodes command.now).ids;
@@ -158,7 +162,8 @@ impl Pending {
     // A command that changes nothing.
     fn read(&self, command: &Command, part: &Part, types: &Registry) -> Result<String, Refusal>
         requires { IsTrue (reads_all command.now) → LacksNothing part.now need.All }
-        ensures { Replies (shown types.now (known_view part.now self.now) part.now.nodes command.now) result }
+        ensures { Replies
+            (shown types.now (known_view part.now self.now) part.now.nodes command.now) result }
     {
         let alloc = self.alloc;
         let overlay = &self.overlay;

@@ -31,7 +31,8 @@ use std::alloc::{AllocError, Global};
 
 /// The text of a reply, or want of memory.
 pub(crate) fn replied(alloc: Global, text: Result<String, AllocError>) -> Result<String, Refusal>
-    ensures { (a : Answer) → IfOk text (λ made. string_bytes made ≡ answer_text a) → Replies a result }
+    ensures { (a : Answer) → IfOk text (λ made. string_bytes made ≡ answer_text a)
+        → Replies a result }
 {
     match text {
         Ok(text) => Ok(text),
@@ -63,7 +64,8 @@ fn property_shown(alloc: Global, sight: &Sight<'_>, path: &Path) -> Result<Strin
 
 // The property that a path names in a view.
 fn property_named<'a>(sight: &Sight<'a>, path: &Path) -> Result<Option<&'a Property>, AllocError>
-    ensures { IfOk result (λ found. option_copied found ≡ property_named (sighted sight.now) path.now) }
+    ensures { IfOk result (λ found. option_copied found
+        ≡ property_named (sighted sight.now) path.now) }
 {
     match (path.parent()?, path.last_name()) {
         (Some(parent), Some(name)) => match sight.node(&parent) {
@@ -213,7 +215,8 @@ fn is_all_below(tree: &Tree)
 }
 
 fn path_reply(alloc: Global, path: &Path) -> Result<String, AllocError>
-    ensures { IfOk result (λ text. string_bytes text ≡ answer_text (ShowsText (path_text path.now))) }
+    ensures { IfOk result (λ text. string_bytes text
+        ≡ answer_text (ShowsText (path_text path.now))) }
 {
     let text = path.text()?;
     text_reply(alloc, text.as_str())
@@ -245,7 +248,8 @@ fn referrers_reply(
 ) -> Result<String, AllocError>
     requires { LacksNothing part.now need.All }
     ensures { IfOk result (λ text. string_bytes text ≡ answer_text (ShowsItems (referrers
-        (subtree_of (view_of part.now.nodes overlay.now) []) (node_identifier node.now path.now)))) }
+        (subtree_of (view_of part.now.nodes overlay.now) [])
+        (node_identifier node.now path.now)))) }
 {
     let view = overlay.view(part.whole())?;
     is_all_below(&view);
@@ -259,7 +263,8 @@ fn referrers_of(
     path: &Path,
     node: &Node,
 ) -> Result<Vec<Item>, AllocError>
-    ensures { IfOk result (λ items. items.items ≡ referrers view.now (node_identifier node.now path.now)) }
+    ensures { IfOk result (λ items. items.items
+        ≡ referrers view.now (node_identifier node.now path.now)) }
 {
     let id = node_identifier(alloc, node, path)?;
     referrers(alloc, view, id.as_str())

@@ -93,7 +93,8 @@ fn go(draft: &mut Draft<'_>, path: &Path) -> Result<(), AllocError>
 // Each of these nodes goes.
 fn put_all_gone(draft: &mut Draft<'_>, nodes: &[(&Path, &Node)]) -> Result<(), AllocError>
     ensures sight { draft.new.sight ≡ draft.old.sight }
-    ensures ok { OnOk result (draft.new.steps ≡ all_gone draft.old.steps (map deref_pair nodes.now)) }
+    ensures ok { OnOk result (draft.new.steps
+        ≡ all_gone draft.old.steps (map deref_pair nodes.now)) }
 {
     for (at, _) in nodes {
         draft.put(at, None)?;
@@ -125,8 +126,8 @@ fn node_put(
     name: &Name,
     property: &Property,
 ) -> Result<Option<Node>, AllocError>
-    ensures { IfOk result (λ node. node ≡ option_map (λ old. with_property old name.now property.now)
-        (in_draft draft.now path.now)) }
+    ensures { IfOk result (λ node. node ≡ option_map
+        (λ old. with_property old name.now property.now) (in_draft draft.now path.now)) }
 {
     match draft.node(path) {
         Some(node) => Ok(Some(with_property(node, name, property.copy()?)?)),

@@ -113,8 +113,8 @@ fn order(
     before: &Option<Name>,
 ) -> Result<(), Refusal>
     requires { draft.old.steps ≡ [] }
-    ensures ok { OnOk result (order_made types.now (sighted draft.old.sight) draft.old.steps path.now
-        before.now ≡ Ok draft.new.steps) }
+    ensures ok { OnOk result (order_made types.now (sighted draft.old.sight) draft.old.steps
+        path.now before.now ≡ Ok draft.new.steps) }
     ensures err { IfErr result (IsDueRefusal (order_made types.now (sighted draft.old.sight)
         draft.old.steps path.now before.now)) }
 {

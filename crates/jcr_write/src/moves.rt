@@ -32,8 +32,8 @@ pub fn remove<'a>(
 ) -> Result<(), Refusal>
     requires { draft.old.steps ≡ [] }
     ensures sight { draft.new.sight ≡ draft.old.sight }
-    ensures ok { OnOk result (remove_made types.now (sighted draft.old.sight) draft.old.steps path.now
-        ≡ Ok draft.new.steps) }
+    ensures ok { OnOk result (remove_made types.now (sighted draft.old.sight) draft.old.steps
+        path.now ≡ Ok draft.new.steps) }
     ensures err { IfErr result (IsDueRefusal (remove_made types.now (sighted draft.old.sight)
         draft.old.steps path.now)) }
 {
@@ -195,8 +195,8 @@ fn is_kept_below(
     name: &Name,
     child: Option<&Node>,
 ) -> Result<bool, AllocError>
-    ensures { IfOk result (λ kept. kept ≡ is_kept_below types.now (option_copied node.entry) name.now
-        (option_copied child.entry)) }
+    ensures { IfOk result (λ kept. kept ≡ is_kept_below types.now (option_copied node.entry)
+        name.now (option_copied child.entry)) }
 {
     match node {
         Some(node) => match child {
@@ -227,7 +227,8 @@ fn is_protected(
 // Each of these nodes goes.
 fn put_all_gone(draft: &mut Draft<'_>, nodes: &[(&Path, &Node)]) -> Result<(), AllocError>
     ensures sight { draft.new.sight ≡ draft.old.sight }
-    ensures ok { OnOk result (draft.new.steps ≡ all_gone draft.old.steps (map deref_pair nodes.now)) }
+    ensures ok { OnOk result (draft.new.steps
+        ≡ all_gone draft.old.steps (map deref_pair nodes.now)) }
 {
     for (at, _) in nodes {
         draft.put(at, None)?;
@@ -267,8 +268,8 @@ fn check_ends(alloc: Global, from: &Path, to: &Path) -> Result<(), Refusal>
 
 // There is a node, and it may stand at the other path.
 fn check_stand(alloc: Global, draft: &Draft<'_>, from: &Path, to: &Path) -> Result<(), Refusal>
-    ensures ok { OnOk result (stand_refusal (sighted draft.now.sight) draft.now.steps from.now to.now
-        ≡ None) }
+    ensures ok { OnOk result (stand_refusal (sighted draft.now.sight) draft.now.steps from.now
+        to.now ≡ None) }
     ensures err { IfErr result (IsTheRefusal
         (stand_refusal (sighted draft.now.sight) draft.now.steps from.now to.now)) }
 {
@@ -293,7 +294,8 @@ fn check_above(alloc: Global, draft: &Draft<'_>, path: &Path) -> Result<(), Refu
 
 // There is no node at the path.
 fn check_free(alloc: Global, draft: &Draft<'_>, path: &Path) -> Result<(), Refusal>
-    ensures ok { OnOk result (when (is_some (in_draft draft.now path.now)) (taken path.now) ≡ None) }
+    ensures ok { OnOk result
+        (when (is_some (in_draft draft.now path.now)) (taken path.now) ≡ None) }
     ensures err { IfErr result (IsTheRefusal
         (when (is_some (in_draft draft.now path.now)) (taken path.now))) }
 {
@@ -341,7 +343,8 @@ fn within_limits<'a>(
     from: &Path,
     to: &Path,
 ) -> Result<Vec<(&'a Path, &'a Node)>, Refusal>
-    ensures passed { OnOk result (moved_limit from.now to.now (map deref_pair nodes.entry.items) ≡ None) }
+    ensures passed { OnOk result
+        (moved_limit from.now to.now (map deref_pair nodes.entry.items) ≡ None) }
     ensures ok { IfOk result (λ same. same.items ≡ nodes.entry.items) }
     ensures err { IfErr result (IsTheRefusal
         (moved_limit from.now to.now (map deref_pair nodes.entry.items))) }

@@ -69,8 +69,8 @@ pub fn order_before(
 ) -> Result<(), Refusal>
     requires { draft.old.steps ≡ [] }
     ensures sight { draft.new.sight ≡ draft.old.sight }
-    ensures ok { OnOk result (order_made types.now (sighted draft.old.sight) draft.old.steps path.now
-        (option_copied before.entry) ≡ Ok draft.new.steps) }
+    ensures ok { OnOk result (order_made types.now (sighted draft.old.sight) draft.old.steps
+        path.now (option_copied before.entry) ≡ Ok draft.new.steps) }
     ensures err { IfErr result (IsDueRefusal (order_made types.now (sighted draft.old.sight)
         draft.old.steps path.now (option_copied before.entry))) }
 {
@@ -258,7 +258,8 @@ fn order_node(
 
 // A node whose place among its parent's children may change.
 fn check_order_place(alloc: Global, draft: &Draft<'_>, path: &Path) -> Result<(), Refusal>
-    ensures ok { OnOk result (order_place (sighted draft.now.sight) draft.now.steps path.now ≡ None) }
+    ensures ok { OnOk result
+        (order_place (sighted draft.now.sight) draft.now.steps path.now ≡ None) }
     ensures err { IfErr result (IsTheRefusal
         (order_place (sighted draft.now.sight) draft.now.steps path.now)) }
 {
@@ -339,8 +340,8 @@ fn node_reordered(
     node: &Node,
 ) -> Result<Node, Refusal>
     ensures ok { IfOk result (λ made. reordered types.now parent.now
-        ((sighted draft.now.sight).children parent.now) name.now (option_copied before.entry) node.now
-        ≡ Ok made) }
+        ((sighted draft.now.sight).children parent.now) name.now (option_copied before.entry)
+        node.now ≡ Ok made) }
     ensures err { IfErr result (IsDueRefusal (reordered types.now parent.now
         ((sighted draft.now.sight).children parent.now) name.now (option_copied before.entry)
         node.now)) }
@@ -410,7 +411,8 @@ fn check_order(
 fn check_orders(alloc: Global, types: &Registry, node: &Node) -> Result<(), Refusal>
     ensures ok { OnOk result (when (not (are_ordered (node_types types.now node.now)))
         (unsupported (codes "orderBefore")) ≡ None) }
-    ensures err { IfErr result (IsTheRefusal (when (not (are_ordered (node_types types.now node.now)))
+    ensures err { IfErr result (IsTheRefusal
+        (when (not (are_ordered (node_types types.now node.now)))
         (unsupported (codes "orderBefore")))) }
 {
     match types.are_ordered(node) {
@@ -427,7 +429,8 @@ fn check_before(
     parent: &Path,
     before: Option<&Name>,
 ) -> Result<(), Refusal>
-    ensures ok { OnOk result (no_child_before parent.now children.now (option_copied before.entry) ≡ None) }
+    ensures ok { OnOk result
+        (no_child_before parent.now children.now (option_copied before.entry) ≡ None) }
     ensures err { IfErr result (IsTheRefusal
         (no_child_before parent.now children.now (option_copied before.entry))) }
 {

@@ -59,8 +59,8 @@ pub fn unset(
     name: &Name,
 ) -> Result<(), Refusal>
     ensures sight { draft.new.sight ≡ draft.old.sight }
-    ensures ok { OnOk result (unset_made types.now (sighted draft.old.sight) draft.old.steps path.now
-        name.now ≡ Ok draft.new.steps) }
+    ensures ok { OnOk result (unset_made types.now (sighted draft.old.sight) draft.old.steps
+        path.now name.now ≡ Ok draft.new.steps) }
     ensures err { IfErr result (IsDueRefusal (unset_made types.now (sighted draft.old.sight)
         draft.old.steps path.now name.now)) }
 {
@@ -123,7 +123,8 @@ fn check_set(
     name: &Name,
     property: &Property,
 ) -> Result<(), Refusal>
-    ensures ok { OnOk result (set_refusal types.now path.now name.now property.now node.now ≡ None) }
+    ensures ok { OnOk result
+        (set_refusal types.now path.now name.now property.now node.now ≡ None) }
     ensures err { IfErr result (IsTheRefusal
         (set_refusal types.now path.now name.now property.now node.now)) }
 {
@@ -183,8 +184,8 @@ fn check_defs(
     name: &Name,
     property: &Property,
 ) -> Result<(), Refusal>
-    ensures ok { OnOk result (defs_refusal (map (λ d. d.now) defs.now) path.now name.now property.now
-        ≡ None) }
+    ensures ok { OnOk result (defs_refusal (map (λ d. d.now) defs.now) path.now name.now
+        property.now ≡ None) }
     ensures err { IfErr result (IsTheRefusal
         (defs_refusal (map (λ d. d.now) defs.now) path.now name.now property.now)) }
 {
@@ -205,7 +206,8 @@ fn is_one_protected(defs: &[&PropDef]) -> bool
 fn check_kind(alloc: Global, defs: &[&PropDef], property: &Property) -> Result<(), Refusal>
     ensures ok { OnOk result (option_map (λ k. wrong_kind k (kind_of_property property.now))
         (other_kind (map (λ d. d.now) defs.now) property.now) ≡ None) }
-    ensures err { IfErr result (IsTheRefusal (option_map (λ k. wrong_kind k (kind_of_property property.now))
+    ensures err { IfErr result (IsTheRefusal
+        (option_map (λ k. wrong_kind k (kind_of_property property.now))
         (other_kind (map (λ d. d.now) defs.now) property.now))) }
 {
     match other_kind(defs, property) {

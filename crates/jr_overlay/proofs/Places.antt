@@ -23,7 +23,7 @@ use Rattle.jr_overlay.specs.declared.overlay.Change.{Change}
 use Rattle.jr_overlay.specs.Overlays.{Changed, change_at, dated_as}
 use Rattle.jr_overlay.specs.Drafts.{Steps, with_change, with_steps}
 use Rattle.jr_overlay.proofs.SideBySide.{below_of}
-use Rattle.jr_overlay.specs.Committing.{moved, place_at, untouched, with_moved, with_places, without_places}
+use Rattle.jr_overlay.specs.Committing.{moved, place_at, untouched, with_new_at, with_places, without_places}
 
 path_ties : IsEquivalence (eq_by_cmp path_cmp)
 path_ties = eq_by_cmp_equiv path_total
@@ -164,7 +164,7 @@ set-places p x t c (q ∷ ps) h =
 
 -- a step's node moves into the place that was made for it
 moved_new : (t : Nodes) (c : Changed) (ps : List Path) (e : Path × Option Node) → change_at c e.0 ≡ None → list_any (eq_by_cmp path_cmp e.0) ps ≡ false
-    → with_moved (with_places t c (e.0 ∷ ps)) e ≡ with_places t (with_change t c e) ps
+    → with_new_at (with_places t c (e.0 ∷ ps)) e ≡ with_places t (with_change t c e) ps
 moved_new t c ps e none apart =
     let there : change_at (with_places t (insert_entry path_cmp c e.0 (place_at t e.0)) ps) e.0 ≡ Some (place_at t e.0) =
     places_other t (insert_entry path_cmp c e.0 (place_at t e.0)) ps e.0 apart
@@ -177,7 +177,7 @@ moved_new t c ps e none apart =
 
 -- a step's node moves into the place of a change that was there
 moved_there : (t : Nodes) (c : Changed) (ps : List Path) (e : Path × Option Node) (z : Change) → InOrder c → change_at c e.0 ≡ Some z → list_any (eq_by_cmp path_cmp e.0) ps ≡ false
-    → with_moved (with_places t c ps) e ≡ with_places t (with_change t c e) ps
+    → with_new_at (with_places t c ps) e ≡ with_places t (with_change t c e) ps
 moved_there t c ps e z s some apart =
     ap (λ (o : Option Change). option_map_or (λ x. set_value (is_at (path_cmp e.0)) (with_places t c ps) (moved x e.1)) o (with_places t c ps)) (places_other t c ps e.0 apart ∙ some)
     ∙ (set-places e.0 (moved z e.1) t c ps apart
@@ -204,22 +204,22 @@ untouched_after c p x (e ∷ es) h =
     ∙ ap (λ (o : Option Change). cond (is_none o) (e.0 ∷ untouched (insert_entry path_cmp c p x) es) (untouched (insert_entry path_cmp c p x) es)) (sym other)
 
 -- all the steps' nodes moved in are all the steps made
-pub all_moved : (t : Nodes) (c : Changed) (steps : Steps) → InOrder c → is_sorted path_cmp steps ≡ true → fold with_moved (with_places t c (untouched c steps)) steps ≡ with_steps t c steps
+pub all_moved : (t : Nodes) (c : Changed) (steps : Steps) → InOrder c → is_sorted path_cmp steps ≡ true → fold with_new_at (with_places t c (untouched c steps)) steps ≡ with_steps t c steps
 all_moved t c [] s u = refl
 all_moved t c (e ∷ es) s u =
-    ap (λ (d : Changed). fold with_moved d es) (by (change_at c e.0) refl ∙ ap (with_places t (with_change t c e)) (untouched_after c e.0 _ es (first _ _ u)))
+    ap (λ (d : Changed). fold with_new_at d es) (by (change_at c e.0) refl ∙ ap (with_places t (with_change t c e)) (untouched_after c e.0 _ es (first _ _ u)))
     ∙ all_moved t (with_change t c e) es (sorted_insert path_cmp path_total e.0 _ c s) (second _ _ u)
   where
     apart : list_any (eq_by_cmp path_cmp e.0) (untouched c es) ≡ false
     apart = not_among c e.0 es (first _ _ u)
 
-    by : (o : Option Change) → change_at c e.0 ≡ o → with_moved (with_places t c (cond (is_none o) (e.0 ∷ untouched c es) (untouched c es))) e ≡ with_places t (with_change t c e) (untouched c es)
+    by : (o : Option Change) → change_at c e.0 ≡ o → with_new_at (with_places t c (cond (is_none o) (e.0 ∷ untouched c es) (untouched c es))) e ≡ with_places t (with_change t c e) (untouched c es)
     by None g = moved_new t c (untouched c es) e g apart
     by (Some z) g = moved_there t c (untouched c es) e z s g apart
 
 -- the steps of the code make the steps of a draft count
-pub steps_count : (t : Nodes) (c c' : Changed) (steps : Steps) (room done : Changed) → InOrder c' → is_sorted path_cmp steps ≡ true → c ≡ c' → room ≡ with_places t c (untouched c steps) → done ≡ fold with_moved room steps → done ≡ with_steps t c' steps
+pub steps_count : (t : Nodes) (c c' : Changed) (steps : Steps) (room done : Changed) → InOrder c' → is_sorted path_cmp steps ≡ true → c ≡ c' → room ≡ with_places t c (untouched c steps) → done ≡ fold with_new_at room steps → done ≡ with_steps t c' steps
 steps_count t c c' steps room done s u same made moved_in =
     moved_in
-    ∙ (ap (λ (d : Changed). fold with_moved d steps) made
-    ∙ (ap (λ (d : Changed). fold with_moved (with_places t d (untouched d steps)) steps) same ∙ all_moved t c' steps s u))
+    ∙ (ap (λ (d : Changed). fold with_new_at d steps) made
+    ∙ (ap (λ (d : Changed). fold with_new_at (with_places t d (untouched d steps)) steps) same ∙ all_moved t c' steps s u))

@@ -33,6 +33,6 @@ abbrev pub moved : Change → Option Node → Change
 moved x node = record x { new = option_map (dated_as x.old) node }
 
 -- the changes with a step's node in the place that is there for it
-abbrev pub with_moved : Changed → Path × Option Node → Changed
-with_moved c e =
+abbrev pub with_new_at : Changed → Path × Option Node → Changed
+with_new_at c e =
     option_map_or (λ x. set_value (is_at (path_cmp e.0)) c (moved x e.1)) (change_at c e.0) c

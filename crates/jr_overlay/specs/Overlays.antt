@@ -66,7 +66,8 @@ edit_of c = changes (old_nodes c) (new_nodes c)
 
 -- the children's names with one that a change adds, dates or takes away
 abbrev pub with_child : Path → ChildNames → Path × Change → ChildNames
-with_child p names e = cond (is_child_of p e.0) (option_map_or (λ n. renamed n) (last_name e.0) names) names
+with_child p names e = cond (is_child_of p e.0)
+    (option_map_or (λ n. renamed n) (last_name e.0) names) names
   where
     renamed : Name → ChildNames
     renamed n = option_map_or (λ node. insert_entry name_cmp names n node.born) e.1.new

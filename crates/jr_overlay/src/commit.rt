@@ -5,7 +5,7 @@ ghost use Rattle.std.specs.Map.Iter.{deref};
 ghost use Rattle.std.specs.Option.{option_map};
 ghost use Rattle.jr_tree.specs.Trees.{born_of, node_at};
 ghost use Rattle.jr_overlay.specs.Overlays.{dated_as};
-ghost use Rattle.jr_overlay.specs.Committing.{moved, place_at, untouched, with_moved, with_places, without_places};
+ghost use Rattle.jr_overlay.specs.Committing.{moved, place_at, untouched, with_new_at, with_places, without_places};
 
 use crate::Change;
 use jr_part::Part;
@@ -103,7 +103,7 @@ fn remove_places(changes: &mut Keyed<Path, Change>, paths: &[&Path])
 
 // Moves the steps' nodes into the places that are there for them, without memory.
 pub(crate) fn move_in(changes: &mut Keyed<Path, Change>, steps: Steps)
-    ensures { changes.new ≡ fold with_moved changes.old steps }
+    ensures { changes.new ≡ fold with_new_at changes.old steps }
 {
     for (path, node) in steps.into_inner() {
         if let Some(place) = changes.inner_mut().get_mut(&path) {

@@ -111,7 +111,8 @@ impl Overlay {
         &'a self,
         path: &Path,
     ) -> Result<Vec<(&'a Path, &'a Change)>, AllocError>
-        ensures { IfOk result (λ found. map deref_pair found.items ≡ changes_under self.now path.now) }
+        ensures { IfOk result (λ found. map deref_pair found.items
+            ≡ changes_under self.now path.now) }
     {
         self.in_order();
         let mut found = Vec::new(self.alloc);

@@ -56,7 +56,8 @@ impl<'a> Sight<'a> {
     /// The nodes at or below a path, lent, with their paths from the root, in path order. It looks only at what is
     /// known and touched there.
     pub fn below(&self, path: &Path) -> Result<Vec<(&'a Path, &'a Node)>, AllocError>
-        ensures { IfOk result (λ found. map deref_pair found.items ≡ (sighted self.now).below path.now) }
+        ensures { IfOk result (λ found. map deref_pair found.items
+            ≡ (sighted self.now).below path.now) }
     {
         let part = self.part;
         part.in_order();

@@ -4,7 +4,7 @@ use Rattle.jr_overlay.specs.Overlays.{Sighted, sighted}
 use Rattle.jcr_fill.specs.Makings.{completed, making, with_own_child}
 use Rattle.jcr_fill.proofs.Completes.{children_err}
 use Rattle.jcr_fill.proofs.Loops.{loop_err}
-use Rattle.jcr_fill.proofs.complete.+levels.Goals as goal
+use Rattle.jcr_fill.proofs.completing.+levels.Goals as goal
 
 pub complete_by-returns-in-Ok-clause-err : goal.complete_by-returns-in-Ok-clause-err
 complete_by-returns-in-Ok-clause-err t c = children_err c.make_children.result c.args.levels c.args.types.now (map (λ d. d.now) c.args.of.now) c.args.who.now c.args.draft.now.sight _

@@ -2,7 +2,7 @@ use Rattle.std.proofs.Common.{◌≡◌, ◌+◌, ◌*◌, map, drop}
 use Rattle.jr_overlay.specs.Overlays.{sighted}
 use Rattle.jcr_fill.specs.Makings.{completed, making, with_own_child}
 use Rattle.jcr_fill.specs.Steps.{each}
-use Rattle.jcr_fill.proofs.complete.+levels.Given as goal
+use Rattle.jcr_fill.proofs.completing.+levels.Given as goal
 
 abbrev pub decreases-complete_levels : goal.decreases-complete_levels
 decreases-complete_levels l = 8 * l.levels

@@ -1,7 +1,7 @@
 use Rattle.std.proofs.Common.{◌∙◌, ap, map}
 use Rattle.std.proofs.lemmas.Result.{IfErr-weaker, on_ok_weaker}
 use Rattle.jcr_fill.proofs.Completes.{put_filled_is}
-use Rattle.jcr_fill.proofs.complete.put_filled.Goals as goal
+use Rattle.jcr_fill.proofs.completing.put_filled.Goals as goal
 
 pub returns-in-Ok-clause-ok : goal.returns-in-Ok-clause-ok
 returns-in-Ok-clause-ok c = on_ok_weaker c.put_filled_by.result
