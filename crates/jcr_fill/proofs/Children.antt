@@ -39,7 +39,7 @@ pub record IsCompleting (view : View) (complete : Path → Node → Making → R
   pub keeps : (p : Path) (node : Node) (m n : Making) → complete p node m ≡ Ok n → (q : Path) → is_some (drafted view m.steps q) ≡ true → is_some (drafted view n.steps q) ≡ true
   pub there : (p : Path) (node : Node) (m n : Making) → complete p node m ≡ Ok n → is_some (drafted view n.steps p) ≡ true
 
-pub drafted_put : (view : View) (steps : Steps) (p q : Path) (node : Node)
+drafted_put : (view : View) (steps : Steps) (p q : Path) (node : Node)
     → drafted view (with_step steps p (Some node)) q ≡ unwrap_or (cond (eq_by_cmp path_cmp q p) (Some (Some node)) (lookup (is_at (path_cmp q)) steps)) (view.node q)
 drafted_put view steps p q node = ap (λ o. unwrap_or o (view.node q)) (lookup-insert_entry path_cmp path_total q p (Some node) steps)
 

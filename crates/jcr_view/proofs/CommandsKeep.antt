@@ -6,7 +6,6 @@ use Rattle.std.specs.Option.{unwrap_or}
 use Rattle.std.specs.Ordering.{eq_by_cmp}
 use Rattle.std.proofs.lemmas.Bool.{false≢true}
 use Rattle.std.proofs.lemmas.Option.{none-some}
-use Rattle.basics.proofs.Bools.{first_of_both, second_of_both}
 use Rattle.jr_path.specs.Names.{is_under, path_cmp}
 use Rattle.jr_path.specs.declared.name.Name.{Name}
 use Rattle.jr_path.specs.declared.path.Path.{Path}
@@ -16,6 +15,7 @@ use Rattle.jr_tree.specs.declared.shared.Who.{Who}
 use Rattle.jr_tree.specs.declared.tree.Node.{Node}
 use Rattle.jr_tree.specs.Edits.{IsProper}
 use Rattle.jr_tree.specs.Trees.{IsTree, Nodes, node_at, subtree_of}
+use Rattle.jr_tree.proofs.Entries.{first as now, second as later}
 use Rattle.jr_tree.proofs.Pointwise.{same_path}
 use Rattle.jr_items.specs.Items.{first_some}
 use Rattle.jr_items.specs.Names.{system, system_name, version_storage}
@@ -59,14 +59,14 @@ module _ (view : View) (p r : Path) (apart : is_under r p ≡ false) where
   gone_stays : (nodes : Nodes) → list_all (λ e. is_under e.0 p) nodes ≡ true → (steps : Steps) → there steps → there (all_gone steps nodes)
   gone_stays [] all steps is = is
   gone_stays (e ∷ nodes) all steps is =
-      gone_stays nodes (second_of_both _ _ all) (with_step steps e.0 None) (one_gone steps e.0 (first_of_both _ _ all) is)
+      gone_stays nodes (later _ _ all) (with_step steps e.0 None) (one_gone steps e.0 (now _ _ all) is)
 
   -- nodes at and below p move
   moved_stays : (q : Path) (nodes : Nodes) → list_all (λ e. is_under e.0 p) nodes ≡ true → (steps : Steps) → there steps → there (all_moved p q steps nodes)
   moved_stays q [] all steps is = is
   moved_stays q (e ∷ nodes) all steps is =
-      moved_stays q nodes (second_of_both _ _ all) (with_step (with_step steps e.0 None) (moved_path p q e.0) (Some e.1))
-      (kept_by_put view (with_step steps e.0 None) (moved_path p q e.0) e.1 r (one_gone steps e.0 (first_of_both _ _ all) is))
+      moved_stays q nodes (later _ _ all) (with_step (with_step steps e.0 None) (moved_path p q e.0) (Some e.1))
+      (kept_by_put view (with_step steps e.0 None) (moved_path p q e.0) e.1 r (one_gone steps e.0 (now _ _ all) is))
 
 -- the version storage is below nothing that a command may take away
 storage_apart : (p : Path) → in_system p ≡ None → p ≢ [] → is_under version_storage p ≡ false
