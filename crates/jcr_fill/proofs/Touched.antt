@@ -1,7 +1,7 @@
 -- What making a node whole touches, and the identifier that it leaves the node.
-use Rattle.std.proofs.Common.{◌≡◌, ◌⊎◌, inl, inr, ℕ, zero, suc, ◌+◌, Bool, true, false, cond, Option, None, Some, List, [], ◌∷◌, ◌++◌, refl, sym, ap, ◌∙◌, append_assoc, subst, is_some}
+use Rattle.std.proofs.Common.{◌≡◌, ◌⊎◌, inl, inr, ℕ, zero, suc, ◌+◌, Bool, true, false, cond, ◌&&◌, Option, None, Some, List, [], ◌∷◌, ◌++◌, refl, sym, ap, ◌∙◌, append_assoc, subst, is_some}
 use Rattle.std.specs.Prelude.{IfOk, Result, Ok, Err}
-use Rattle.std.specs.List.{flat_map}
+use Rattle.std.specs.List.{AllByRecursion, flat_map}
 use Rattle.std.specs.Option.{option_and_then, unwrap_or}
 use Rattle.std.specs.Ordering.{eq_by_cmp, is_eq}
 use Rattle.std.proofs.lemmas.Bool.{true≢false}
@@ -29,14 +29,14 @@ use Rattle.jr_types.specs.declared.TypeDef.{TypeDef}
 use Rattle.jr_types.specs.Types.{props_of}
 use Rattle.jr_overlay.specs.Drafts.{Steps, drafted, with_step}
 use Rattle.jr_overlay.specs.Overlays.{View}
-use Rattle.jr_overlay.specs.Views.{AreAt, HoldsFrom, step_at}
+use Rattle.jr_overlay.specs.Views.{step_at}
 use Rattle.jr_overlay.proofs.KeepingSteps.{at_step}
 use Rattle.jcr_ref.specs.Drawn.{too_many_ids}
 use Rattle.jcr_write.specs.Places.{node_types, unless_refused, with_property}
 use Rattle.jcr_fill.specs.declared.completing.MissingChild.{MissingChild}
 use Rattle.jcr_fill.specs.declared.fill.Filling.{Filling}
 use Rattle.jcr_fill.specs.Filled.{filled, given, identified, lacking, next_identifier, with_given, with_own}
-use Rattle.jcr_fill.specs.Identified.{IsOwnOrNext}
+use Rattle.jcr_fill.specs.Kept.{IsAsBefore, IsOwnOrNext, IsPutWith}
 use Rattle.jcr_fill.specs.Makings.{Making, absent_child, child_refusal, completed, missing_child, put_filled, with_children, with_node, with_own_child}
 use Rattle.jcr_fill.specs.Steps.{and_then, each}
 use Rattle.jcr_fill.proofs.Children.{by_missing}
@@ -53,10 +53,16 @@ pub unless_holds : {A : Type 0} (J : A → Type 0) (o : Option Refusal) (r : Res
 unless_holds J None r h = h
 unless_holds J (Some e) r h = tt
 
+-- each element has what all things have
+pub all_have : {X : Type 0} (P : X → Type 0) → ((x : X) → P x) → (xs : List X) → AllByRecursion P xs
+all_have P h [] = tt
+all_have P h (x ∷ xs) = (h x, all_have P h xs)
+
 -- where each step keeps what holds, all of them do
-pub each_holds : {X S : Type 0} (I : S → Type 0) (step : X → S → Result S Refusal) → ((x : X) (s : S) → I s → IfOk (step x s) I) → (xs : List X) (s : S) → I s → IfOk (each step xs s) I
-each_holds I step keeps [] s i = i
-each_holds I step keeps (x ∷ xs) s i = then_holds I (step x s) (each step xs) (λ t e. each_holds I step keeps xs t (IfOk-at_ok I e (keeps x s i)))
+pub each_holds : {X S : Type 0} (I : S → Type 0) (step : X → S → Result S Refusal) (xs : List X)
+    → AllByRecursion (λ x. (s : S) → I s → IfOk (step x s) I) xs → (s : S) → I s → IfOk (each step xs s) I
+each_holds I step [] keep s i = i
+each_holds I step (x ∷ xs) keep s i = then_holds I (step x s) (each step xs) (λ t e. each_holds I step xs keep.1 t (IfOk-at_ok I e (keep.0 s i)))
 
 -- ---- steps at other places
 
@@ -68,22 +74,22 @@ child_apart : (p : Path) (n : Name) → is_under p (child_path p n) ≡ false
 child_apart [] n = refl
 child_apart (m ∷ p) n = by (eq_by_cmp name_cmp m m) (is_under p (child_path p n)) (child_apart p n)
   where
-    by : (a b : Bool) → b ≡ false → cond a b false ≡ false
+    by : (a b : Bool) → b ≡ false → (a && b) ≡ false
     by true b h = h
     by false b h = refl
 
--- what isn't at or below a path isn't so of a child's
-lower_apart : (r p : Path) (n : Name) → is_under r p ≡ false → is_under r (child_path p n) ≡ false
-lower_apart r p n apart = by (is_under r (child_path p n)) refl
+-- what isn't at or below a path isn't at or below one that is below it
+pub below_apart : (r p more : Path) → is_under r p ≡ false → is_under r (p ++ more) ≡ false
+below_apart r p more apart = by (is_under r (p ++ more)) refl
   where
-    by : (b : Bool) → is_under r (child_path p n) ≡ b → b ≡ false
+    by : (b : Bool) → is_under r (p ++ more) ≡ b → b ≡ false
     by true under =
-        let b = (below_is_prefix r (child_path p n)).0 under in
-        absurd (true≢false (sym ((below_is_prefix r p).1 (n ∷ b.0, b.1 ∙ append_assoc p (n ∷ []) b.0)) ∙ apart))
+        let b = (below_is_prefix r (p ++ more)).0 under in
+        absurd (true≢false (sym ((below_is_prefix r p).1 (more ++ b.0, b.1 ∙ append_assoc p more b.0)) ∙ apart))
     by false under = refl
 
 -- a step at p leaves what isn't at or below p, and shows at p
-put_apart : (steps : Steps) (p r : Path) (o : Option Node) → is_under r p ≡ false → step_at (with_step steps p o) r ≡ step_at steps r
+pub put_apart : (steps : Steps) (p r : Path) (o : Option Node) → is_under r p ≡ false → step_at (with_step steps p o) r ≡ step_at steps r
 put_apart steps p r o apart = at_step steps p o r ∙ by (eq_by_cmp path_cmp r p) refl
   where
     by : (b : Bool) → eq_by_cmp path_cmp r p ≡ b → cond b (Some o) (step_at steps r) ≡ step_at steps r
@@ -120,7 +126,8 @@ module _ (types : List TypeDef) (who : Who) (view : View) (r : Path) (start : Op
       → ((q : Path) (node : Node) (m : Making) → is_under r q ≡ false → Stays m → IfOk (complete q node m) Stays)
       → (p : Path) → ((n : Name) → is_under r (child_path p n) ≡ false) → (of : List TypeDef) (m : Making) → Stays m
       → IfOk (with_children complete types view p of m) Stays
-  children_stay complete rest p apart of m stays = each_holds Stays (with_own_child complete types view p) child (flat_map (λ d. d.children) of) m stays
+  children_stay complete rest p apart of m stays = each_holds Stays (with_own_child complete types view p) (flat_map (λ d. d.children) of)
+      (all_have (λ d. (l : Making) → Stays l → IfOk (with_own_child complete types view p d l) Stays) child (flat_map (λ d. d.children) of)) m stays
     where
       made : (d : ChildDef) (l : Making) → Stays l → (o : Option MissingChild) → missing_child view l.steps p d ≡ o → IfOk (by_missing complete types l o) Stays
       made d l s None e = s
@@ -138,22 +145,13 @@ module _ (types : List TypeDef) (who : Who) (view : View) (r : Path) (start : Op
   completed_apart zero p node m apart stays = put_apart m.steps p r (Some node) apart ∙ stays
   completed_apart (suc k) p node m apart stays =
       then_holds Stays (put_filled types who p node m) (with_children (completed k types who view) types view p (node_types types node))
-      (λ l e. children_stay (completed k types who view) (λ q n j. completed_apart k q n j) p (λ n. lower_apart r p n apart) (node_types types node) l
+      (λ l e. children_stay (completed k types who view) (λ q n j. completed_apart k q n j) p (λ n. below_apart r p (n ∷ []) apart) (node_types types node) l
       (IfOk-at_ok Stays e (filled_stays m.steps p apart stays (filled who (flat_map props_of (node_types types node)) (record { node = node; ids = m.ids })))))
 
--- so it touches what is at or below it
-pub completed_touches : (P : Path → Type 0) (levels : ℕ) (types : List TypeDef) (who : Who) (view : View) (p : Path) (node : Node) (m : Making)
-    → AreAt P m.steps → HoldsFrom P p → IfOk (completed levels types who view p node m) (λ l. AreAt P l.steps)
-completed_touches P levels types who view p node m at from =
-    by (completed levels types who view p node m) (λ r apart. completed_apart types who view r (step_at m.steps r) levels p node m apart refl)
-  where
-    here : (l : Making) (q : Path) → is_some (step_at l.steps q) ≡ true → (b : Bool) → is_under q p ≡ b → (is_under q p ≡ false → step_at l.steps q ≡ step_at m.steps q) → P q
-    here l q there true under stays = let b = (below_is_prefix q p).0 under in subst P (sym b.1) (from b.0)
-    here l q there false under stays = at q (ap is_some (sym (stays under)) ∙ there)
-
-    by : (o : Result Making Refusal) → ((r : Path) → is_under r p ≡ false → IfOk o (λ l. step_at l.steps r ≡ step_at m.steps r)) → IfOk o (λ l. AreAt P l.steps)
-    by (Ok l) stays = λ q there. here l q there (is_under q p) refl (stays q)
-    by (Err e) stays = tt
+-- so what was made at other places is as it was
+pub completed_elsewhere : (levels : ℕ) (types : List TypeDef) (who : Who) (view : View) (p : Path) (node : Node) (m : Making) (r : Path)
+    → is_under r p ≡ false → IfOk (completed levels types who view p node m) (IsAsBefore r m)
+completed_elsewhere levels types who view p node m r apart = completed_apart types who view r (step_at m.steps r) levels p node m apart refl
 
 -- ---- the identifier of the node
 
@@ -224,16 +222,13 @@ module _ (who : Who) (ids : ℕ) where
       by None l = h
       by (Some n) l = named n (lacks_property f.node d n l) (same_name uuid n) refl
 
--- the node that was made whole stands at p with its own identifier, or else none or the next one
-abbrev pub IsWhole : Who → (ids : ℕ) → (old : Option Property) → Path → Making → Type 0
-IsWhole who ids old p m = (x : Node) × (step_at m.steps p ≡ Some (Some x)) × IsOwnOrNext who ids old (property_of x uuid)
-
-pub completed_here : (levels : ℕ) (types : List TypeDef) (who : Who) (view : View) (p : Path) (node : Node) (m : Making) → IfOk (completed levels types who view p node m) (IsWhole who m.ids (property_of node uuid) p)
+-- the node that was made whole stands at p
+pub completed_here : (levels : ℕ) (types : List TypeDef) (who : Who) (view : View) (p : Path) (node : Node) (m : Making) → IfOk (completed levels types who view p node m) (IsPutWith who m.ids (property_of node uuid) p)
 unfolding completed
 completed_here zero types who view p node m = (node, put_here m.steps p (Some node), still_own who m.ids (property_of node uuid))
 completed_here (suc k) types who view p node m =
-    then_holds (IsWhole who m.ids (property_of node uuid) p) (put_filled types who p node m) (with_children (completed k types who view) types view p (node_types types node))
-    (λ l e. children l (IfOk-at_ok (IsWhole who m.ids (property_of node uuid) p) e properties))
+    then_holds (IsPutWith who m.ids (property_of node uuid) p) (put_filled types who p node m) (with_children (completed k types who view) types view p (node_types types node))
+    (λ l e. children l (IfOk-at_ok (IsPutWith who m.ids (property_of node uuid) p) e properties))
   where
     defs : List PropDef
     defs = flat_map props_of (node_types types node)
@@ -241,13 +236,19 @@ completed_here (suc k) types who view p node m =
     begun : Filling
     begun = record { node = node; ids = m.ids }
 
-    properties : IfOk (put_filled types who p node m) (IsWhole who m.ids (property_of node uuid) p)
-    properties = then_holds (IsWhole who m.ids (property_of node uuid) p) (filled who defs begun) (λ f. Ok (with_node m.steps p f))
-        (λ f e. (f.node, put_here m.steps p (Some f.node), own_or_next who m.ids (property_of node uuid) f
-        (IfOk-at_ok (IsFilledFrom who m.ids (property_of node uuid)) e
-        (each_holds (IsFilledFrom who m.ids (property_of node uuid)) (with_own who) (filled_step who m.ids (property_of node uuid)) defs begun (begins_filled who m.ids node (property_of node uuid) refl)))))
+    properties : IfOk (put_filled types who p node m) (IsPutWith who m.ids (property_of node uuid) p)
+    properties = then_holds (IsPutWith who m.ids (property_of node uuid) p) (filled who defs begun) (λ f. Ok (with_node m.steps p f))
+        (λ f e. (
+          f.node,
+          put_here m.steps p (Some f.node),
+          own_or_next who m.ids (property_of node uuid) f
+              (IfOk-at_ok (IsFilledFrom who m.ids (property_of node uuid)) e
+              (each_holds (IsFilledFrom who m.ids (property_of node uuid)) (with_own who) defs
+              (all_have (λ d. (f : Filling) → IsFilledFrom who m.ids (property_of node uuid) f → IfOk (with_own who d f) (IsFilledFrom who m.ids (property_of node uuid))) (filled_step who m.ids (property_of node uuid)) defs)
+              begun (begins_filled who m.ids node (property_of node uuid) refl))),
+        ))
 
-    children : (l : Making) → IsWhole who m.ids (property_of node uuid) p l → IfOk (with_children (completed k types who view) types view p (node_types types node) l) (IsWhole who m.ids (property_of node uuid) p)
-    children l h = IfOk-weaker (with_children (completed k types who view) types view p (node_types types node) l) (λ j. step_at j.steps p ≡ Some (Some h.0)) (IsWhole who m.ids (property_of node uuid) p)
+    children : (l : Making) → IsPutWith who m.ids (property_of node uuid) p l → IfOk (with_children (completed k types who view) types view p (node_types types node) l) (IsPutWith who m.ids (property_of node uuid) p)
+    children l h = IfOk-weaker (with_children (completed k types who view) types view p (node_types types node) l) (λ j. step_at j.steps p ≡ Some (Some h.0)) (IsPutWith who m.ids (property_of node uuid) p)
         (λ j at. (h.0, at, h.2))
         (children_stay types who view p (Some (Some h.0)) (completed k types who view) (λ q n j. completed_apart types who view p (Some (Some h.0)) k q n j) p (λ n. child_apart p n) (node_types types node) l h.1)

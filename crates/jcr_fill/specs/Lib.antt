@@ -1,4 +1,4 @@
 pub mod Filled
-pub mod Identified
+pub mod Kept
 pub mod Makings
 pub mod Steps

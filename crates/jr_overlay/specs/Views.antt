@@ -25,10 +25,6 @@ step_at steps p = lookup (is_at (path_cmp p)) steps
 abbrev pub AreAt : (Path → Type 0) → Steps → Type 0
 AreAt P steps = (p : Path) → IsTrue (is_some (step_at steps p)) → P p
 
--- something holds of p and of each path below
-abbrev pub HoldsFrom : (Path → Type 0) → Path → Type 0
-HoldsFrom P p = (more : Path) → P (p ++ more)
-
 -- steps keep a tree a tree: each path is touched once, in order, and so is each name of a node that
 -- is put; afterwards the root is there, and the parent of each node that is put, and no child of a
 -- node that is taken away
