@@ -1,5 +1,5 @@
 // Laws of what is made.
-ghost use Rattle.std.specs.Prelude.{◌≡◌, IfOk, IsFalse, IsTrue, List, Option};
+ghost use Rattle.std.specs.Prelude.{◌≡◌, IfOk, IsFalse, IsTrue, List, Ok, Option, is_some};
 ghost use Rattle.std.specs.Option.{IfSome};
 ghost use Rattle.jr_path.specs.Names.{is_under};
 ghost use Rattle.jr_path.specs.declared.name.Name.{Name};
@@ -9,7 +9,9 @@ ghost use Rattle.jr_types.specs.declared.TypeDef.{TypeDef};
 ghost use Rattle.jr_items.specs.Items.{same_name};
 ghost use Rattle.jr_items.specs.Names.{version_storage, versionable};
 ghost use Rattle.jr_overlay.specs.Drafts.{Steps, drafted};
-ghost use Rattle.jr_overlay.specs.Overlays.{View};
+ghost use Rattle.jr_overlay.specs.Overlays.{View, whole_view};
+ghost use Rattle.jr_overlay.specs.Views.{KeepTree};
+ghost use Rattle.jr_tree.specs.Trees.{IsTree, Nodes};
 ghost use Rattle.jcr_trans.specs.declared.command.TreeNode.{TreeNode};
 ghost use Rattle.jcr_write.specs.Places.{above};
 ghost use Rattle.jcr_fill.specs.Kept.{IsAsBefore};
@@ -85,4 +87,46 @@ pub fn trees_stay_below_and_in_histories()
         (m : Making) (q : Path) → IsFalse (is_under q p)
         → (IsTrue (makes_histories parts) → IsFalse (is_under q version_storage))
         → IfOk (tree_made types who view p parts m) (IsAsBefore q m) }
+{}
+
+/// Where a command isn't refused, what it makes keeps a tree a tree: on a view with steps that keep it. For the histories
+/// that `tree` and `mixin` begin the version storage must be there.
+pub fn makings_keep_trees()
+    ensures add { (types : List TypeDef) (who : Who) (v : Nodes) (p : Path) (named : Option Name)
+        (m new : Making) → IsTree v → KeepTree (whole_view v) m.steps
+        → add_made types who (whole_view v) p named m ≡ Ok new → KeepTree (whole_view v) new.steps }
+    ensures tree { (types : List TypeDef) (who : Who) (v : Nodes) (p : Path) (parts : List TreeNode)
+        (m new : Making) → IsTree v → KeepTree (whole_view v) m.steps
+        → IsTrue (is_some (drafted (whole_view v) m.steps version_storage))
+        → tree_made types who (whole_view v) p parts m ≡ Ok new
+        → KeepTree (whole_view v) new.steps }
+    ensures mixin { (types : List TypeDef) (who : Who) (v : Nodes) (p : Path) (n : Name)
+        (m new : Making) → IsTree v → KeepTree (whole_view v) m.steps
+        → IsTrue (is_some (drafted (whole_view v) m.steps version_storage))
+        → mixin_made types who (whole_view v) p n m ≡ Ok new → KeepTree (whole_view v) new.steps }
+    ensures unmixin { (types : List TypeDef) (v : Nodes) (p : Path) (n : Name) (steps new : Steps)
+        → IsTree v → KeepTree (whole_view v) steps
+        → unmixin_made types (whole_view v) p n steps ≡ Ok new → KeepTree (whole_view v) new }
+    ensures retyped { (types : List TypeDef) (who : Who) (v : Nodes) (p : Path) (n : Name)
+        (m new : Making) → IsTree v → KeepTree (whole_view v) m.steps
+        → type_made types who (whole_view v) p n m ≡ Ok new → KeepTree (whole_view v) new.steps }
+{}
+
+/// What is made takes no node away: each node that was there is there.
+pub fn makings_keep_nodes()
+    ensures add { (types : List TypeDef) (who : Who) (view : View) (p q : Path)
+        (named : Option Name) (m new : Making) → add_made types who view p named m ≡ Ok new
+        → IsTrue (is_some (drafted view m.steps q)) → IsTrue (is_some (drafted view new.steps q)) }
+    ensures tree { (types : List TypeDef) (who : Who) (view : View) (p q : Path)
+        (parts : List TreeNode) (m new : Making) → tree_made types who view p parts m ≡ Ok new
+        → IsTrue (is_some (drafted view m.steps q)) → IsTrue (is_some (drafted view new.steps q)) }
+    ensures mixin { (types : List TypeDef) (who : Who) (view : View) (p q : Path) (n : Name)
+        (m new : Making) → mixin_made types who view p n m ≡ Ok new
+        → IsTrue (is_some (drafted view m.steps q)) → IsTrue (is_some (drafted view new.steps q)) }
+    ensures unmixin { (types : List TypeDef) (view : View) (p q : Path) (n : Name)
+        (steps new : Steps) → unmixin_made types view p n steps ≡ Ok new
+        → IsTrue (is_some (drafted view steps q)) → IsTrue (is_some (drafted view new q)) }
+    ensures retyped { (types : List TypeDef) (who : Who) (view : View) (p q : Path) (n : Name)
+        (m new : Making) → type_made types who view p n m ≡ Ok new
+        → IsTrue (is_some (drafted view m.steps q)) → IsTrue (is_some (drafted view new.steps q)) }
 {}

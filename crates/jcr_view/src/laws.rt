@@ -1,12 +1,15 @@
 // Laws of views.
-ghost use Rattle.std.specs.Prelude.{◌≡◌, ◌∷◌, [], IsTrue, List};
+ghost use Rattle.std.specs.Prelude.{◌≡◌, ◌∷◌, [], IsTrue, List, is_some};
 ghost use Rattle.std.specs.List.{All};
-ghost use Rattle.jr_tree.specs.Trees.{Nodes};
+ghost use Rattle.jr_tree.specs.Edits.{IsProper};
+ghost use Rattle.jr_tree.specs.Trees.{IsTree, Nodes, node_at};
 ghost use Rattle.jr_tree.specs.declared.shared.Who.{Who};
 ghost use Rattle.jr_part.specs.Parts.{Knowledge, LacksNothing};
 ghost use Rattle.jr_part.specs.declared.need.Need.TheVariants as need;
 ghost use Rattle.jr_overlay.specs.Drafts.{with_steps};
-ghost use Rattle.jr_overlay.specs.Overlays.{AreOver, Changed, known_view, view_of, whole_view};
+ghost use Rattle.jr_overlay.specs.Overlays.{AreOver, Changed, edit_of, known_view, view_of};
+ghost use Rattle.jr_overlay.specs.Overlays.{whole_view};
+ghost use Rattle.jr_items.specs.Names.{version_storage};
 ghost use Rattle.jr_types.specs.declared.TypeDef.{TypeDef};
 ghost use Rattle.jcr_trans.specs.declared.command.Command.{Command};
 ghost use Rattle.jcr_view.specs.Needs.{needs_of, reads_all};
@@ -40,4 +43,20 @@ pub fn steps_count()
         → view_of t (with_steps k.nodes c
         (outcome types who (known_view k c) k.nodes command).steps)
         ≡ (eval types who t (view_of t c) command).view }
+{}
+
+/// A view that is a tree, with the version storage in it, stays one after each command, the version storage still in
+/// it. So what is pending after a command makes a proper edit.
+pub fn commands_keep_trees()
+    ensures tree { (types : List TypeDef) (who : Who) (t v : Nodes) (command : Command)
+        → IsTree v → IsTrue (is_some (node_at v version_storage))
+        → IsTree (eval types who t v command).view }
+    ensures storage { (types : List TypeDef) (who : Who) (t v : Nodes) (command : Command)
+        → IsTree v → IsTrue (is_some (node_at v version_storage))
+        → IsTrue (is_some (node_at (eval types who t v command).view version_storage)) }
+    ensures proper { (types : List TypeDef) (who : Who) (t : Nodes) (old new : Changed)
+        (command : Command) → IsTree t → IsTree (view_of t old)
+        → IsTrue (is_some (node_at (view_of t old) version_storage)) → AreOver t new
+        → view_of t new ≡ (eval types who t (view_of t old) command).view
+        → IsProper t (edit_of new) }
 {}
