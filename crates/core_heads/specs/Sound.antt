@@ -22,10 +22,11 @@ Sight = Revision → Type 0
 abbrev pub Seen : RevVec → Sight
 Seen v = λ o. IsTrue (sees v o)
 
--- in flight, or of a time that its node has not come to, and after what its node begins from
+-- in flight, or later than the last draw of its node and than what that begins from
 abbrev pub IsAhead : Begin → Past → Revision → Type 0
 IsAhead begin past o =
-    IsTrue (is_in_flight past o) ⊎ ((last_draw_time past o.cluster < o.time) × IsTrue (is_before (begin_of begin o.cluster) o))
+    IsTrue (is_in_flight past o)
+    ⊎ ((last_draw_time past o.cluster < o.time) × IsTrue (is_before (begin_of begin o.cluster) o))
 
 -- nothing ahead is seen, and with a drawn revision all that its base sees
 pub record IsGood (begin : Begin) (past : Past) (s : Sight) : Type 0 where
@@ -41,7 +42,8 @@ abbrev pub IsIn : Revision → List Revision → Type 0
 IsIn k [] = ⊥
 IsIn k (x ∷ xs) = (x ≡ k) ⊎ IsIn k xs
 
--- a drawn revision: of a node, at most its last time, after what its node begins from, with a base that its node's head has come to see, of earlier ones, and of others only what they had published
+-- a drawn revision: of a node, at most its last time, later than what that begins from, with a base that its node's head
+-- has come to see, of earlier ones, and of others only what they had published
 pub record IsSoundDraw (clusters : ℕ) (begin : Begin) (past : Past) (o : Revision) (d : Draw) : Type 0 where
   pub node : IsNode clusters o.cluster
   pub late : o.time ≤ last_draw_time past o.cluster
@@ -67,7 +69,8 @@ pub record IsHeld (begin : Begin) (past : Past) (v : RevVec) : Type 0 where
   pub stands : IsTrue (stands_from 1 v)
   pub begun : IsTrue (sees v (start_of 1))
 
--- what a run from a beginning keeps: each draw is sound, a node publishes no more than it has, what nodes have learned is sound, bases and checkpoints are held, and a base that is no checkpoint is at most its node's head
+-- what a run keeps: draws are sound, a node publishes no more than its local revision, what nodes have learned is sound,
+-- bases and checkpoints are held, and a base that isn't a checkpoint is at most the head of its node
 pub record IsSound (clusters : ℕ) (sessions : List ℕ) (begin : Begin) (past : Past) : Type 0 where
   pub draws : (o : Revision) (d : Draw) → draw_of past o ≡ Some d → IsSoundDraw clusters begin past o d
   pub outs : (k : ℕ) (r : Revision) → IsIn r (outs_of past k) → (r.cluster ≡ k) × IsTrue (is_at_most r (local begin past k))

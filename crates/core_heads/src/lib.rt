@@ -21,17 +21,30 @@ use oak_machine::Law;
 /// use: settled, closed, and it sees the start. The base of each draw is at most its node's head, heads grow, and a draw
 /// is fresh.
 pub fn runs_can_be_read<L: Law>(law: &L)
-    ensures told { (clusters : ℕ) (sessions : List ℕ) (past : Past) → AreNodes clusters sessions → IsRunOf (L.may_start law.now) (L.may_say law.now) clusters sessions None past → IsTold past }
-    ensures used { (h : History) (v : RevVec) → IsNodesRun (L.may_start law.now) (L.may_say law.now) h → IsInHand h v → IsInUse h.past v }
-    ensures draws { (h : History) (r : Revision) (d : Draw) → IsNodesRun (L.may_start law.now) (L.may_say law.now) h → draw_of h.past r ≡ Some d → IsTrue (is_below d.base (head_of h.clusters h.begin h.past r.cluster)) }
-    ensures grow { (h : History) (added : Past) (k : ℕ) → IsNodesRun (L.may_start law.now) (L.may_say law.now) (after added h) → IsNode h.clusters k → IsTrue (is_below (head_of h.clusters h.begin h.past k) (head_of h.clusters h.begin (added ++ h.past) k)) }
-    ensures fresh { (h : History) (d : Draw) → IsNodesRun (L.may_start law.now) (L.may_say law.now) (after (event.Draw d ∷ []) h) → IsFreshDraw h.past d × Begins h.past d }
+    ensures told { (clusters : ℕ) (sessions : List ℕ) (past : Past) → AreNodes clusters sessions
+        → IsRunOf (L.may_start law.now) (L.may_say law.now) clusters sessions None past → IsTold past }
+    ensures used { (h : History) (v : RevVec) → IsNodesRun (L.may_start law.now) (L.may_say law.now) h
+        → IsInHand h v → IsInUse h.past v }
+    ensures draws { (h : History) (r : Revision) (d : Draw)
+        → IsNodesRun (L.may_start law.now) (L.may_say law.now) h → draw_of h.past r ≡ Some d
+        → IsTrue (is_below d.base (head_of h.clusters h.begin h.past r.cluster)) }
+    ensures grow { (h : History) (added : Past) (k : ℕ)
+        → IsNodesRun (L.may_start law.now) (L.may_say law.now) (after added h) → IsNode h.clusters k
+        → IsTrue (is_below (head_of h.clusters h.begin h.past k) (head_of h.clusters h.begin (added ++ h.past) k)) }
+    ensures fresh { (h : History) (d : Draw)
+        → IsNodesRun (L.may_start law.now) (L.may_say law.now) (after (event.Draw d ∷ []) h)
+        → IsFreshDraw h.past d × Begins h.past d }
 {}
 
 /// In each run from any beginning the base of each session, the last checkpoint of each id and the head of each cluster
 /// node is settled and closed; none of them sees what is drawn after it, so the tree that it sees stays as it is.
 pub fn bases_are_settled<L: Law>(law: &L)
-    ensures settled { (h : History) (v : RevVec) → IsNodesRun (L.may_start law.now) (L.may_say law.now) h → IsInHand h v → IsSettled h.past v × IsClosed h.past v }
-    ensures unseen { (h : History) (d : Draw) (v : RevVec) → IsNodesRun (L.may_start law.now) (L.may_say law.now) (after (event.Draw d ∷ []) h) → IsInHand h v → IsFalse (sees v d.revision) }
-    ensures stays { (h : History) (added : Past) (v : RevVec) → IsNodesRun (L.may_start law.now) (L.may_say law.now) (after added h) → IsInHand h v → tree_at h.begin (added ++ h.past) v ≡ tree_at h.begin h.past v }
+    ensures settled { (h : History) (v : RevVec) → IsNodesRun (L.may_start law.now) (L.may_say law.now) h
+        → IsInHand h v → IsSettled h.past v × IsClosed h.past v }
+    ensures unseen { (h : History) (d : Draw) (v : RevVec)
+        → IsNodesRun (L.may_start law.now) (L.may_say law.now) (after (event.Draw d ∷ []) h)
+        → IsInHand h v → IsFalse (sees v d.revision) }
+    ensures stays { (h : History) (added : Past) (v : RevVec)
+        → IsNodesRun (L.may_start law.now) (L.may_say law.now) (after added h)
+        → IsInHand h v → tree_at h.begin (added ++ h.past) v ≡ tree_at h.begin h.past v }
 {}
