@@ -1,5 +1,6 @@
 mod Asked
 mod Based
+mod CommandsKeep
 mod Drawn
 mod Enough
 mod Fresh
