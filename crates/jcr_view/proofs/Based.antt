@@ -1,5 +1,5 @@
 -- A command touches only paths at which the base is known, where nothing of what it asks for lacks.
-use Rattle.std.proofs.Common.{◌≡◌, ◌⊎◌, inl, inr, ◌++◌, ℕ, Bool, true, false, cond, List, [], ◌∷◌, Option, None, Some, is_some, length, drop, refl, ap, sym, ◌∙◌}
+use Rattle.std.proofs.Common.{◌≡◌, ◌⊎◌, inl, inr, ℕ, Bool, true, false, cond, List, [], ◌∷◌, Option, None, Some, is_some, length, drop, refl, ap, sym, ◌∙◌}
 use Rattle.std.specs.Prelude.{IfOk, Result, Ok, Err}
 use Rattle.std.specs.List.{All, filter, list_all}
 use Rattle.std.specs.Option.{IfSome}
