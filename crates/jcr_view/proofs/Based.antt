@@ -1,5 +1,5 @@
 -- A command touches only paths at which the base is known, where nothing of what it asks for lacks.
-use Rattle.std.proofs.Common.{◌≡◌, ◌⊎◌, inl, inr, ◌++◌, ℕ, Bool, true, false, cond, List, [], ◌∷◌, Option, None, Some, is_some, length, drop, refl, ap, sym, ◌∙◌}
+use Rattle.std.proofs.Common.{◌≡◌, ◌⊎◌, inl, inr, ℕ, Bool, true, false, cond, List, [], ◌∷◌, Option, None, Some, is_some, length, drop, refl, ap, sym, ◌∙◌}
 use Rattle.std.specs.Prelude.{IfOk, Result, Ok, Err}
 use Rattle.std.specs.List.{All, filter, list_all}
 use Rattle.std.specs.Option.{IfSome}
@@ -87,7 +87,7 @@ filter_more : {A : Type 0} (f : A → Bool) (x : A) (xs : List A) (b : Bool) →
 filter_more f x xs true h all = rw h all
 filter_more f x xs false h all = all
 
-pub filtered : {A : Type 0} (f : A → Bool) (xs : List A) → list_all f (filter f xs) ≡ true
+filtered : {A : Type 0} (f : A → Bool) (xs : List A) → list_all f (filter f xs) ≡ true
 filtered f [] = refl
 filtered f (x ∷ xs) = filter_more f x (filter f xs) (f x) refl (filtered f xs)
 

@@ -48,7 +48,7 @@ use Rattle.jcr_make.proofs.ReadTrees.{tree_same}
 use Rattle.jcr_view.specs.Needs.{children_needs, history_needs, listing_needs, needs_of, parent_needs, storage_needs, versionable_needs}
 use Rattle.jcr_view.specs.Outcomes.{drawing_none, made_outcome, outcome, shown_outcome}
 use Rattle.jcr_view.specs.Parts.{IsPartOf}
-use Rattle.jcr_view.specs.Reading.{answer_at, by_id_answer, get_answer, id_answer, list_answer, node_identifier, property_named, props_answer, refs_answer, refused, refused_or, versions_answer}
+use Rattle.jcr_view.specs.Reading.{answer_at, by_id_answer, get_answer, list_answer, node_identifier, refs_answer, refused, refused_or, versions_answer}
 
 -- of a node that both have
 at_same : (u w : View) (p : Path) (shows : Node → Answer) → u.node p ≡ w.node p
