@@ -1,6 +1,6 @@
 -- A command keeps a tree a tree, and the version storage in it.
 use Rattle.std.proofs.Common.{◌≡◌, ◌≢◌, ℕ, ◌++◌, Bool, true, false, cond, List, [], ◌∷◌, Option, None, Some, is_some, refl, sym, ap, ◌∙◌, subst}
-use Rattle.std.specs.Prelude.{◌&&◌, Result, Ok, Err}
+use Rattle.std.specs.Prelude.{Result, Ok, Err}
 use Rattle.std.specs.List.{list_all}
 use Rattle.std.specs.Option.{unwrap_or}
 use Rattle.std.specs.Ordering.{eq_by_cmp}
@@ -17,11 +17,10 @@ use Rattle.jr_tree.specs.Edits.{IsProper}
 use Rattle.jr_tree.specs.Trees.{IsTree, Nodes, node_at, subtree_of}
 use Rattle.jr_tree.proofs.Entries.{first as now, second as later}
 use Rattle.jr_tree.proofs.Pointwise.{same_path}
-use Rattle.jr_items.specs.Items.{first_some}
-use Rattle.jr_items.specs.Names.{system, system_name, version_storage}
+use Rattle.jr_items.specs.Names.{system, version_storage}
 use Rattle.jr_items.specs.Refusals.{in_system, limit_refusal, own_rule, taken, when}
 use Rattle.jr_types.specs.declared.TypeDef.{TypeDef}
-use Rattle.jr_overlay.specs.Drafts.{Steps, drafted, stepped, with_step}
+use Rattle.jr_overlay.specs.Drafts.{Steps, drafted, with_step}
 use Rattle.jr_overlay.specs.Overlays.{AreOver, Changed, View, edit_of, view_of, whole_view}
 use Rattle.jr_overlay.specs.Views.{KeepTree, all_gone, all_moved, moved_path, step_at}
 use Rattle.jr_overlay.proofs.EditsOf.{edit_proper}

@@ -42,13 +42,13 @@ pub fn steps_count()
         → IsPartOf t k c → AsksFor k c command needs
         → All (LacksNothing k) needs
         → AreOver t (with_steps k.nodes c
-            (outcome types who (known_view k c) k.nodes command).steps) }
+        (outcome types who (known_view k c) k.nodes command).steps) }
     ensures view { (types : List TypeDef) (who : Who) (t : Nodes) (k : Knowledge) (c : Changed)
         (command : Command) (needs : List Need) → IsFalse (makes_by_types command)
         → IsPartOf t k c → AsksFor k c command needs
         → All (LacksNothing k) needs
         → view_of t (with_steps k.nodes c
-            (outcome types who (known_view k c) k.nodes command).steps)
+        (outcome types who (known_view k c) k.nodes command).steps)
         ≡ (eval types who t (view_of t c) command).view }
 {}
 
