@@ -1,5 +1,5 @@
 -- The node that becomes versionable, its identifier, and what counts for its history.
-use Rattle.std.proofs.Common.{◌≡◌, ◌⊎◌, inl, inr, ℕ, Bool, true, false, cond, Option, None, Some, List, [], ◌∷◌, ◌++◌, refl, sym, ap, ◌∙◌, subst, is_some}
+use Rattle.std.proofs.Common.{◌≡◌, inl, inr, ℕ, Bool, true, false, cond, Option, None, Some, List, [], ◌∷◌, ◌++◌, refl, sym, ap, ◌∙◌, subst, is_some}
 use Rattle.std.specs.Prelude.{IfOk, Result, Ok, map}
 use Rattle.std.specs.BTreeMap.{insert_entry}
 use Rattle.std.specs.Option.{IfSome, option_and_then, option_map_or, unwrap_or}
@@ -26,7 +26,6 @@ use Rattle.jr_items.specs.Names.{mixin_types, uuid, version_storage}
 use Rattle.jr_types.specs.declared.TypeDef.{TypeDef}
 use Rattle.jr_overlay.specs.Drafts.{Steps, drafted}
 use Rattle.jr_overlay.specs.Overlays.{View}
-use Rattle.jr_overlay.specs.Views.{step_at}
 use Rattle.jcr_ref.specs.Histories.{history_of, root_of}
 use Rattle.jcr_write.specs.Places.{of_node, path_refusal, unless_refused}
 use Rattle.jcr_fill.specs.Filled.{next_text}
@@ -35,7 +34,7 @@ use Rattle.jcr_fill.specs.Makings.{Making}
 use Rattle.jcr_fill.proofs.Touched.{unless_holds}
 use Rattle.jcr_make.specs.declared.mixins.Mixing.{Mixing}
 use Rattle.jcr_make.specs.Commands.{lists_mixin, with_mixins}
-use Rattle.jcr_make.specs.Histories.{counting, history_by, is_identified, mixed, mixin_refusal, mixing, named_history, own_history, place_mixing, with_history, with_own_history, with_seen}
+use Rattle.jcr_make.specs.Histories.{counting, history_by, is_identified, mixed, mixin_refusal, mixing, named_history, own_history, place_mixing, with_history, with_seen}
 
 -- ---- the node that gets a mixin
 
@@ -77,15 +76,16 @@ pub own_kept : (who : Who) (ids : ℕ) (old new : Option Property) → IsOwnOrNe
 own_kept who ids (Some x) new own there = own
 own_kept who ids None new own there = absurd (false≢true there)
 
--- what holds of the history by the identifier that is due holds of the history by the one that comes
+-- what holds of the history that is due holds of the one by the text of the node's identifier
+pub of_due : (o : Option (List ℕ)) (next : List ℕ) (H : Path → Type 0) → IfSome (history_by (unwrap_or o next)) H → IfSome (option_and_then history_by o) H
+of_due None next H h = tt
+of_due (Some id) next H h = h
+
+-- and so it does once the node was put
 pub own_due : (who : Who) (ids : ℕ) (old new : Option Property) (H : Path → Type 0) → IsOwnOrNext who ids old new
     → IfSome (history_by (unwrap_or (one_text old) (next_text who ids))) H → IfSome (option_and_then history_by (one_text new)) H
 own_due who ids (Some x) new H own due =
-    subst (λ (o : Option Property). IfSome (option_and_then history_by (one_text o)) H) (sym own) (by (one_text (Some x)) due)
-  where
-    by : (o : Option (List ℕ)) → IfSome (history_by (unwrap_or o (next_text who ids))) H → IfSome (option_and_then history_by o) H
-    by None h = tt
-    by (Some id) h = h
+    subst (λ (o : Option Property). IfSome (option_and_then history_by (one_text o)) H) (sym own) (of_due (one_text (Some x)) (next_text who ids) H due)
 own_due who ids None new H (inl own) due = subst (λ (o : Option Property). IfSome (option_and_then history_by (one_text o)) H) (sym own) tt
 own_due who ids None new H (inr own) due = subst (λ (o : Option Property). IfSome (option_and_then history_by (one_text o)) H) (sym own) due
 

@@ -11,6 +11,7 @@ mod subtree;
 mod unmix;
 
 pub use adding::add;
+pub use history::{due_history, version_storage};
 pub use laws::{
     adding_reads_below_and_above, changing_types_reads_below, makings_keep_nodes,
     makings_keep_trees, makings_stay_below, mixing_reads_below_and_its_history,
