@@ -34,9 +34,9 @@ use Rattle.jcr_make.specs.Histories.{due_history, mixin_made}
 use Rattle.jcr_make.specs.Subtrees.{makes_histories, tree_made}
 use Rattle.jcr_make.proofs.Touched.{add_elsewhere, mixin_elsewhere, tree_elsewhere, type_elsewhere}
 use Rattle.jcr_view.specs.Needs.{children_needs, listing_needs, needs_of}
-use Rattle.jcr_view.specs.Outcomes.{drawing_none, made_outcome, outcome}
+use Rattle.jcr_view.specs.Outcomes.{Outcome, drawing_none, eval, made_outcome, outcome}
 use Rattle.jcr_view.specs.Parts.{IsPartOf}
-use Rattle.jcr_view.proofs.Enough.{first_met, mixin_met, rest_met, tree_met}
+use Rattle.jcr_view.proofs.Enough.{first_met, mixin_met, outcome_same, rest_met, tree_met}
 
 -- ---- steps at paths of which something holds
 
@@ -187,6 +187,7 @@ module _ (t : Nodes) (k : Knowledge) (c : Changed) (part : IsPartOf t k c) where
 
   pub view_after : (types : List TypeDef) (who : Who) (command : Command) → All (LacksNothing k) (needs_of who k c command)
       → view_of t (with_steps k.nodes c (outcome types who (known_view k c) k.nodes command).steps)
-      ≡ stepped t (view_of t c) (outcome types who (known_view k c) k.nodes command).steps
+      ≡ (eval types who t (view_of t c) command).view
   view_after types who command all =
       view_steps t k.nodes c (outcome types who (known_view k c) k.nodes command).steps part.tree.paths part.over (steps_based types who command all)
+      ∙ ap (λ (o : Outcome). stepped t (view_of t c) o.steps) (outcome_same types who t k c command part all)

@@ -46,7 +46,7 @@ pub fn steps_count()
 {}
 
 /// A view that is a tree, with the version storage in it, stays one after each command, the version storage still in
-/// it. So what is pending after a command makes a proper edit.
+/// it. So what is pending makes a proper edit after a command of which nothing lacks that it asks for.
 pub fn commands_keep_trees()
     ensures tree { (types : List TypeDef) (who : Who) (t v : Nodes) (command : Command)
         → IsTree v → IsTrue (is_some (node_at v version_storage))
@@ -54,9 +54,9 @@ pub fn commands_keep_trees()
     ensures storage { (types : List TypeDef) (who : Who) (t v : Nodes) (command : Command)
         → IsTree v → IsTrue (is_some (node_at v version_storage))
         → IsTrue (is_some (node_at (eval types who t v command).view version_storage)) }
-    ensures proper { (types : List TypeDef) (who : Who) (t : Nodes) (old new : Changed)
-        (command : Command) → IsTree t → IsTree (view_of t old)
-        → IsTrue (is_some (node_at (view_of t old) version_storage)) → AreOver t new
-        → view_of t new ≡ (eval types who t (view_of t old) command).view
-        → IsProper t (edit_of new) }
+    ensures proper { (types : List TypeDef) (who : Who) (t : Nodes) (k : Knowledge) (c : Changed)
+        (command : Command) → IsPartOf t k c → All (LacksNothing k) (needs_of who k c command)
+        → IsTree (view_of t c) → IsTrue (is_some (node_at (view_of t c) version_storage))
+        → IsProper t (edit_of (with_steps k.nodes c
+        (outcome types who (known_view k c) k.nodes command).steps)) }
 {}

@@ -11,7 +11,5 @@ mod rebase;
 mod writing;
 
 pub use commands::is_viewed;
-pub use laws::{
-    commands_keep_trees, needs_are_enough, steps_count, whole_trees_are_asked_for,
-};
+pub use laws::{commands_keep_trees, needs_are_enough, steps_count, whole_trees_are_asked_for};
 pub use pending::Pending;
