@@ -38,10 +38,10 @@ module _ (P : Path → Type 0) where
   abbrev pub Touch : Steps → Type 0
   Touch steps = (p : Path) → is_some (step_at steps p) ≡ true → P p
 
-  touch_none : Touch []
+  pub touch_none : Touch []
   touch_none p h = cc
 
-  touch_more : (steps : Steps) (p : Path) (o : Option Node) → Touch steps → P p → Touch (with_step steps p o)
+  pub touch_more : (steps : Steps) (p : Path) (o : Option Node) → Touch steps → P p → Touch (with_step steps p o)
   touch_more steps p o touch here q h =
       by (eq_by_cmp path_cmp q p) refl (ap (λ (x : Option (Option Node)). is_some x) (sym (at_step steps p o q)) ∙ h)
     where
@@ -64,7 +64,7 @@ module _ (P : Path → Type 0) where
   touch_unless ids None steps touch = touch
   touch_unless ids (Some r) steps touch = touch_none
 
-  touch_gone : (p : Path) → ((q : Path) → is_under q p ≡ true → P q) → (nodes : Nodes)
+  pub touch_gone : (p : Path) → ((q : Path) → is_under q p ≡ true → P q) → (nodes : Nodes)
       → list_all (λ e. is_under e.0 p) nodes ≡ true → (steps : Steps) → Touch steps → Touch (all_gone steps nodes)
   touch_gone p below [] all steps touch = touch
   touch_gone p below (e ∷ es) all steps touch =
@@ -114,14 +114,14 @@ module _ (t : Nodes) (k : Knowledge) (c : Changed) (part : IsPartOf t k c) where
   abbrev pub IsBased : Path → Type 0
   IsBased p = base_at k.nodes c p ≡ node_at t p
 
-  at_node : (p : Path) → LacksNothing k (need.Node p) → IsBased p
+  pub at_node : (p : Path) → LacksNothing k (need.Node p) → IsBased p
   at_node p nothing = known_base t k c p part.agrees part.over
       (or_later (is_some (change_at c p)) (is_some (known_at k p)) (nothing (need.Node p) refl))
 
-  below_node : (p : Path) → LacksNothing k (need.Subtree p) → (q : Path) → is_under q p ≡ true → IsBased q
+  pub below_node : (p : Path) → LacksNothing k (need.Subtree p) → (q : Path) → is_under q p ≡ true → IsBased q
   below_node p nothing q under = base_under t part.tree k part.order part.agrees p nothing c part.over q under
 
-  all_under : (p : Path) → list_all (λ e. is_under e.0 p) (subtree_of (view_of k.nodes c) p) ≡ true
+  pub all_under : (p : Path) → list_all (λ e. is_under e.0 p) (subtree_of (view_of k.nodes c) p) ≡ true
   all_under p = filtered (λ (e : Path × Node). is_under e.0 p) (view_of k.nodes c)
 
   pub steps_based : (types : List TypeDef) (who : Who) (command : Command) (needs : List Need)

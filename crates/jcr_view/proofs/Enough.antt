@@ -146,7 +146,7 @@ unfolding one
 unmixin_same types u w p n e = ap (λ (o : Option Node). unmixin_made types (one o) p n []) e
 
 -- what stands at and below a path of which nothing lacks is seen as it is
-tree_same : (t : Nodes) (k : Knowledge) (c : Changed) (p : Path) → IsPartOf t k c
+pub tree_same : (t : Nodes) (k : Knowledge) (c : Changed) (p : Path) → IsPartOf t k c
     → LacksNothing k (need.Subtree p) → (known_view k c).below p ≡ (whole_view (view_of t c)).below p
 tree_same t k c p part nothing =
     subtree_known t part.tree k part.order part.agrees p nothing c part.over.paths

@@ -1,7 +1,12 @@
+mod Again
+mod AgainKeeps
+mod AgainLeads
 mod Asked
 mod Based
 mod Drawn
 mod Enough
 mod Fresh
+mod Needed
+mod OnePass
 mod Replied
 mod Whole
