@@ -61,7 +61,7 @@ module _ (P : Path → Type 0) where
   touch_made ids (Ok m) left = λ q there. elim (left q) [ inl here ↦ here | inr same ↦ absurd (false≢true (ap (λ (o : Option (Option Node)). is_some o) (sym same) ∙ there)) ]
   touch_made ids (Err r) left = touch_none P
 
-  touch_gone : (p : Path) → ((q : Path) → is_under q p ≡ true → P q) → (nodes : Nodes)
+  pub touch_gone : (p : Path) → ((q : Path) → is_under q p ≡ true → P q) → (nodes : Nodes)
       → list_all (λ e. is_under e.0 p) nodes ≡ true → (steps : Steps) → AreAt P steps → AreAt P (all_gone steps nodes)
   touch_gone p below [] all steps touch = touch
   touch_gone p below (e ∷ es) all steps touch =
@@ -95,14 +95,14 @@ module _ (t : Nodes) (k : Knowledge) (c : Changed) (part : IsPartOf t k c) where
   abbrev pub IsBased : Path → Type 0
   IsBased p = base_at k.nodes c p ≡ node_at t p
 
-  at_node : (p : Path) → LacksNothing k (need.Node p) → IsBased p
+  pub at_node : (p : Path) → LacksNothing k (need.Node p) → IsBased p
   at_node p nothing = known_base t k c p part.agrees part.over
       (or_right (is_some (change_at c p)) (is_some (known_at k p)) (nothing (need.Node p) refl))
 
-  below_node : (p : Path) → LacksNothing k (need.Subtree p) → (q : Path) → is_under q p ≡ true → IsBased q
+  pub below_node : (p : Path) → LacksNothing k (need.Subtree p) → (q : Path) → is_under q p ≡ true → IsBased q
   below_node p nothing q under = base_under t part.tree k part.order part.agrees p nothing c part.over q under
 
-  all_under : (p : Path) → list_all (λ e. is_under e.0 p) (subtree_of (view_of k.nodes c) p) ≡ true
+  pub all_under : (p : Path) → list_all (λ e. is_under e.0 p) (subtree_of (view_of k.nodes c) p) ≡ true
   all_under p = filtered (λ (e : Path × Node). is_under e.0 p) (view_of k.nodes c)
 
   -- the base is known at a path, or the path is apart

@@ -136,7 +136,7 @@ above_same t k c p part all q is =
     (subst (λ (o : Option Path). All (LacksNothing k) (option_map_or (λ r. need.Node r ∷ []) o [])) is all))
 
 -- the nodes at and below a path of which nothing lacks, and the one at it
-below_known : (t : Nodes) (k : Knowledge) (c : Changed) (p : Path) → IsPartOf t k c
+pub below_known : (t : Nodes) (k : Knowledge) (c : Changed) (p : Path) → IsPartOf t k c
     → LacksNothing k (need.Subtree p) → (known_view k c).below p ≡ (whole_view (view_of t c)).below p
 below_known t k c p part nothing =
     subtree_known t part.tree k part.order part.agrees p nothing c part.over.paths

@@ -7,8 +7,8 @@ use Rattle.jr_tree.specs.declared.edit.Write.{Write}
 use Rattle.jr_tree.specs.declared.edit.Write.TheVariants.{Here, Gone, Put, Unset}
 use Rattle.jr_tree.specs.declared.tree.Node.{Node}
 use Rattle.jr_part.specs.Parts.{Knowledge}
-use Rattle.jr_overlay.specs.Drafts.{Steps, drafted, with_step, with_steps}
-use Rattle.jr_overlay.specs.Overlays.{Changed, View, known_view}
+use Rattle.jr_overlay.specs.Drafts.{Steps, drafted, stepped, with_step, with_steps}
+use Rattle.jr_overlay.specs.Overlays.{Changed, View, known_view, whole_view}
 use Rattle.jcr_write.specs.Places.{above, with_property, without_property}
 use Rattle.jr_overlay.specs.Views.{all_gone}
 
@@ -38,3 +38,7 @@ steps_again view ws = fold (again view) [] ws
 -- the changes that writes make of another tree, of which so much is known
 abbrev pub rebased : Knowledge → List Write → Changed
 rebased k ws = with_steps k.nodes [] (steps_again (known_view k []) ws)
+
+-- a tree with writes made again on it
+abbrev pub tree_again : Nodes → List Write → Nodes
+tree_again t ws = stepped t t (steps_again (whole_view t) ws)
