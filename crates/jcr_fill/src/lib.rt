@@ -8,6 +8,4 @@ mod laws;
 
 pub use completing::{MissingChild, check_type, complete, complete_new};
 pub use fill::{Filling, next_text};
-pub use laws::{
-    completing_keeps_identifiers, completing_keeps_trees, completing_stays_below,
-};
+pub use laws::{completing_keeps_identifiers, completing_keeps_trees, completing_stays_below};

@@ -1,5 +1,5 @@
 -- The node that becomes versionable, its identifier, and what counts for its history.
-use Rattle.std.proofs.Common.{◌≡◌, ◌⊎◌, inl, inr, ℕ, Bool, true, false, cond, Option, None, Some, List, [], ◌∷◌, ◌++◌, refl, sym, ap, ◌∙◌, subst, is_some}
+use Rattle.std.proofs.Common.{◌≡◌, inl, inr, ℕ, Bool, true, false, cond, Option, None, Some, List, [], ◌∷◌, ◌++◌, refl, sym, ap, ◌∙◌, subst, is_some}
 use Rattle.std.specs.Prelude.{IfOk, Result, Ok, map}
 use Rattle.std.specs.BTreeMap.{insert_entry}
 use Rattle.std.specs.Option.{IfSome, option_and_then, option_map_or, unwrap_or}
@@ -26,7 +26,6 @@ use Rattle.jr_items.specs.Names.{mixin_types, uuid, version_storage}
 use Rattle.jr_types.specs.declared.TypeDef.{TypeDef}
 use Rattle.jr_overlay.specs.Drafts.{Steps, drafted}
 use Rattle.jr_overlay.specs.Overlays.{View}
-use Rattle.jr_overlay.specs.Views.{step_at}
 use Rattle.jcr_ref.specs.Histories.{history_of, root_of}
 use Rattle.jcr_write.specs.Places.{of_node, path_refusal, unless_refused}
 use Rattle.jcr_fill.specs.Filled.{next_text}
@@ -35,7 +34,7 @@ use Rattle.jcr_fill.specs.Makings.{Making}
 use Rattle.jcr_fill.proofs.Touched.{unless_holds}
 use Rattle.jcr_make.specs.declared.mixins.Mixing.{Mixing}
 use Rattle.jcr_make.specs.Commands.{lists_mixin, with_mixins}
-use Rattle.jcr_make.specs.Histories.{counting, history_by, is_identified, mixed, mixin_refusal, mixing, named_history, own_history, place_mixing, with_history, with_own_history, with_seen}
+use Rattle.jcr_make.specs.Histories.{counting, history_by, is_identified, mixed, mixin_refusal, mixing, named_history, own_history, place_mixing, with_history, with_seen}
 
 -- ---- the node that gets a mixin
 

@@ -1,6 +1,6 @@
 -- A history that begins keeps a tree a tree, where the version storage is there.
 use Rattle.std.proofs.Common.{◌≡◌, ◌⊎◌, inl, inr, ◌+◌, ◌++◌, Bool, true, false, cond, List, [], ◌∷◌, Option, None, Some, is_some, refl, sym, ap, ◌∙◌, subst}
-use Rattle.std.specs.Prelude.{Result, Ok, Err}
+use Rattle.std.specs.Prelude.{Ok}
 use Rattle.std.specs.Option.{option_map_or, option_or, unwrap_or}
 use Rattle.std.specs.Ordering.{eq_by_cmp, is_eq}
 use Rattle.std.specs.BTreeMap.{insert_entry}
@@ -13,7 +13,6 @@ use Rattle.jr_path.specs.declared.path.Path.{Path}
 use Rattle.jr_path.proofs.Maps.{lookup-insert_entry, path_total}
 use Rattle.jr_path.proofs.Parts.{parent_of-child}
 use Rattle.jr_tree.specs.declared.edit.Write.{Write}
-use Rattle.jr_tree.specs.declared.shared.Refusal.{Refusal}
 use Rattle.jr_tree.specs.declared.shared.Who.{Who}
 use Rattle.jr_tree.specs.declared.tree.Node.{Node}
 use Rattle.jr_tree.specs.Edits.{applied}
@@ -35,7 +34,7 @@ use Rattle.jcr_ref.specs.References.{identifier_of}
 use Rattle.jcr_write.proofs.Keeping.{passed}
 use Rattle.jcr_fill.specs.Makings.{Making}
 use Rattle.jcr_fill.proofs.Fills.{ok_same}
-use Rattle.jcr_make.specs.Histories.{all_put, begun_among, begun_by, counting, history_by, history_put, limited_history, named_history, with_history, with_own_history, with_seen}
+use Rattle.jcr_make.specs.Histories.{all_put, begun_among, begun_by, counting, history_put, limited_history, named_history, with_history, with_seen}
 use Rattle.jcr_make.proofs.PutNodes.{all_put_keeps, stays_by_put, there_by_put}
 
 -- nodes in order of their paths, each as it is seen

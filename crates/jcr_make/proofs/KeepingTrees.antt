@@ -1,6 +1,6 @@
 -- The commands that make items by node types keep a tree a tree, and take no node away.
 use Rattle.std.proofs.Common.{◌≡◌, ◌++◌, Bool, true, false, cond, List, [], ◌∷◌, Option, None, Some, is_some, refl, sym, ap, ◌∙◌, subst}
-use Rattle.std.specs.Prelude.{Result, Ok, Err}
+use Rattle.std.specs.Prelude.{Result, Ok}
 use Rattle.std.specs.BTreeMap.{insert_entry, is_at}
 use Rattle.std.specs.FinMap.{is_sorted}
 use Rattle.std.specs.List.{fold}
@@ -39,8 +39,8 @@ use Rattle.jcr_fill.proofs.Fills.{ok_same}
 use Rattle.jcr_fill.proofs.KeepingTrees.{complete_keeps, complete_stays}
 use Rattle.jcr_fill.proofs.OneByOne.{came_first, each_keeps}
 use Rattle.jcr_make.specs.declared.mixins.Mixing.{Mixing}
-use Rattle.jcr_make.specs.Commands.{add_made, chosen_below, chosen_type, completed_new, completed_node, is_lost, lists_mixin, node_retyped, node_unmixed, others, retyped, type_made, unlisted, unmixed, unmixin_made, unmixin_refusal, with_kept, with_mixins, without_lost}
-use Rattle.jcr_make.specs.Histories.{begun_by, is_identified, listing, mixed, mixin_given, mixin_made, mixin_put, mixin_refusal, mixing, place_mixing}
+use Rattle.jcr_make.specs.Commands.{add_made, chosen_below, chosen_type, completed_new, completed_node, is_lost, lists_mixin, node_retyped, node_unmixed, retyped, type_made, unlisted, unmixed, unmixin_made, unmixin_refusal, with_kept, with_mixins}
+use Rattle.jcr_make.specs.Histories.{begun_by, is_identified, listing, mixed, mixin_given, mixin_made, mixin_refusal, mixing, place_mixing}
 use Rattle.jcr_make.specs.Subtrees.{furnished, limited, part_added, part_at, part_node, tree_made, with_part, with_set, with_sets}
 use Rattle.jcr_make.proofs.KeepingHistories.{begun_keeps, begun_stays}
 
@@ -297,8 +297,7 @@ part_keeps types who v p part m new tree h is =
     ) in
     let mixed : KeepStored v of.mixins = each_keeps (KeepStored v) (mixin_made types who w p)
     (λ n k l e both. (mixin_keeps types who v p n k l tree both.0 both.1 e, mixin_stays types who w p version_storage n k l e both.1))
-    part.mixins of.node of.mixins of.mixed added in
-    (
+    part.mixins of.node of.mixins of.mixed added in (
       each_keeps (λ (s : Steps). KeepTree w s) (with_set types w p) (λ x s t e keep. set_keeps types v s t p x.0 x.1 tree keep e) part.props of.mixins.steps new.steps of.set mixed.0,
       part_stays types who w p version_storage part m new h is.1,
     )

@@ -14,7 +14,7 @@ use Rattle.jr_value.specs.declared.value.Property.{Property}
 use Rattle.jr_tree.specs.declared.shared.Refusal.{Refusal}
 use Rattle.jr_tree.specs.declared.shared.Who.{Who}
 use Rattle.jr_tree.specs.declared.tree.Node.{Node}
-use Rattle.jr_tree.specs.Trees.{Nodes, node_of_type, property_at}
+use Rattle.jr_tree.specs.Trees.{Nodes, node_of_type}
 use Rattle.jr_items.specs.Items.{child_path, one_text, property_of, same_name}
 use Rattle.jr_items.specs.Names.{root_version, uuid, versionable}
 use Rattle.jr_items.specs.Refusals.{taken, when}

@@ -1,10 +1,9 @@
 -- What `tree` makes reads no other nodes of a view.
-use Rattle.std.proofs.Common.{◌≡◌, ◌⊎◌, inl, inr, Bool, true, false, cond, Option, None, Some, List, [], ◌∷◌, ◌++◌, refl, sym, ap, ◌∙◌, append_assoc}
-use Rattle.std.specs.Prelude.{Result, Ok, Err}
+use Rattle.std.proofs.Common.{◌≡◌, ◌⊎◌, inl, inr, Bool, true, false, cond, Option, None, Some, List, [], ◌∷◌, ◌++◌, sym, ap, ◌∙◌, append_assoc}
+use Rattle.std.specs.Prelude.{Result, Ok}
 use Rattle.std.specs.Option.{IfSome, option_and_then, unwrap_or}
 use Rattle.std.proofs.lemmas.List.{append-nil}
 use Rattle.jr_path.specs.Named.{is_name}
-use Rattle.jr_path.specs.Names.{parent_of}
 use Rattle.jr_path.specs.declared.name.Name.{Name}
 use Rattle.jr_path.specs.declared.path.Path.{Path}
 use Rattle.jr_path.proofs.Parts.{parent_of-child}

@@ -1,11 +1,11 @@
 -- What the commands leave as it was: what was made at other places than theirs, those below, and histories.
-use Rattle.std.proofs.Common.{◌≡◌, ℕ, ◌+◌, Bool, true, false, cond, Option, None, Some, List, [], ◌∷◌, ◌++◌, refl, sym, ap, ◌∙◌, append_assoc, subst, is_some}
+use Rattle.std.proofs.Common.{◌≡◌, ℕ, ◌+◌, Bool, true, false, cond, Option, None, Some, List, [], ◌∷◌, ◌++◌, refl, sym, ap, ◌∙◌, subst, is_some}
 use Rattle.std.specs.Prelude.{◌||◌, IfOk, Result, Ok, Err}
 use Rattle.std.specs.List.{All, AllByRecursion, fold, list_any}
 use Rattle.std.specs.Map.{keys_of, set_value}
 use Rattle.std.specs.BTreeMap.{insert_entry, is_at}
-use Rattle.std.specs.Option.{IfSome, option_and_then, option_map_or, unwrap_or}
-use Rattle.std.proofs.lemmas.Bool.{or_right, true≢false}
+use Rattle.std.specs.Option.{IfSome, option_map_or, unwrap_or}
+use Rattle.std.proofs.lemmas.Bool.{or_right}
 use Rattle.std.proofs.lemmas.List.Elements.{All-head, All-nil, All-tail}
 use Rattle.std.proofs.lemmas.Map.{keys-set_value}
 use Rattle.std.proofs.lemmas.Map.Views.{All-keys-insert_entry}
@@ -33,15 +33,15 @@ use Rattle.jcr_ref.specs.Drawn.{too_many_ids}
 use Rattle.jcr_ref.specs.Histories.{begun, has_history, history_drawn, history_of, history_writes, joined, root_of}
 use Rattle.jcr_trans.specs.declared.command.TreeNode.{TreeNode}
 use Rattle.jcr_write.specs.Places.{path_refusal, putting}
-use Rattle.jcr_write.specs.Writes.{node_set, set_made}
+use Rattle.jcr_write.specs.Writes.{node_set}
 use Rattle.jcr_fill.specs.Filled.{next_text}
 use Rattle.jcr_fill.specs.Kept.{IsAsBefore, IsPutWith}
 use Rattle.jcr_fill.specs.Makings.{Making, completed, making}
 use Rattle.jcr_fill.specs.Steps.{and_then, each}
 use Rattle.jcr_fill.proofs.Touched.{all_have, below_apart, completed_apart, completed_here, each_holds, put_apart, then_holds, unless_holds}
 use Rattle.jcr_make.specs.declared.mixins.Mixing.{Mixing}
-use Rattle.jcr_make.specs.Commands.{add_made, chosen_type, completed_new, completed_node, mixins_of, node_retyped, type_made}
-use Rattle.jcr_make.specs.Histories.{all_put, begun_among, begun_by, counting, due_history, history_by, history_put, limited_history, mixed, mixin_given, mixin_made, named_history, own_history, own_text, place_mixing, with_history, with_seen}
+use Rattle.jcr_make.specs.Commands.{add_made, chosen_type, completed_new, completed_node, node_retyped, type_made}
+use Rattle.jcr_make.specs.Histories.{all_put, begun_among, begun_by, counting, due_history, history_by, history_put, limited_history, mixin_given, mixin_made, named_history, own_history, own_text, place_mixing, with_history, with_seen}
 use Rattle.jcr_make.specs.Subtrees.{furnished, limited, makes_histories, makes_history, part_added, part_at, part_node, tree_made, with_part, with_set, with_sets}
 use Rattle.jcr_make.proofs.Counted.{IsMixingAt, counted, first_named, mixed_uuid, named_is, named_own, own_due, placed, put_drafted}
 

@@ -1,5 +1,5 @@
 -- A command touches only paths at which the base is known, where nothing of what it asks for lacks.
-use Rattle.std.proofs.Common.{◌≡◌, ◌⊎◌, inl, inr, ◌++◌, ℕ, Bool, true, false, cond, List, [], ◌∷◌, Option, None, Some, is_some, length, drop, refl, ap, sym, ◌∙◌}
+use Rattle.std.proofs.Common.{◌≡◌, ◌⊎◌, inl, inr, ℕ, Bool, true, false, cond, List, [], ◌∷◌, Option, None, Some, is_some, length, drop, refl, ap, sym, ◌∙◌}
 use Rattle.std.specs.Prelude.{IfOk, Result, Ok, Err}
 use Rattle.std.specs.List.{All, filter, list_all}
 use Rattle.std.specs.Option.{IfSome}
@@ -34,9 +34,9 @@ use Rattle.jcr_make.specs.Histories.{due_history, mixin_made}
 use Rattle.jcr_make.specs.Subtrees.{makes_histories, tree_made}
 use Rattle.jcr_make.proofs.Touched.{add_elsewhere, mixin_elsewhere, tree_elsewhere, type_elsewhere}
 use Rattle.jcr_view.specs.Needs.{children_needs, listing_needs, needs_of}
-use Rattle.jcr_view.specs.Outcomes.{drawing_none, made_outcome, outcome}
+use Rattle.jcr_view.specs.Outcomes.{Outcome, drawing_none, eval, made_outcome, outcome}
 use Rattle.jcr_view.specs.Parts.{IsPartOf}
-use Rattle.jcr_view.proofs.Enough.{first_met, mixin_met, rest_met, tree_met}
+use Rattle.jcr_view.proofs.Enough.{first_met, mixin_met, outcome_same, rest_met, tree_met}
 
 -- ---- steps at paths of which something holds
 
@@ -61,7 +61,7 @@ module _ (P : Path → Type 0) where
   touch_made ids (Ok m) left = λ q there. elim (left q) [ inl here ↦ here | inr same ↦ absurd (false≢true (ap (λ (o : Option (Option Node)). is_some o) (sym same) ∙ there)) ]
   touch_made ids (Err r) left = touch_none P
 
-  touch_gone : (p : Path) → ((q : Path) → is_under q p ≡ true → P q) → (nodes : Nodes)
+  pub touch_gone : (p : Path) → ((q : Path) → is_under q p ≡ true → P q) → (nodes : Nodes)
       → list_all (λ e. is_under e.0 p) nodes ≡ true → (steps : Steps) → AreAt P steps → AreAt P (all_gone steps nodes)
   touch_gone p below [] all steps touch = touch
   touch_gone p below (e ∷ es) all steps touch =
@@ -87,7 +87,7 @@ filter_more : {A : Type 0} (f : A → Bool) (x : A) (xs : List A) (b : Bool) →
 filter_more f x xs true h all = rw h all
 filter_more f x xs false h all = all
 
-pub filtered : {A : Type 0} (f : A → Bool) (xs : List A) → list_all f (filter f xs) ≡ true
+filtered : {A : Type 0} (f : A → Bool) (xs : List A) → list_all f (filter f xs) ≡ true
 filtered f [] = refl
 filtered f (x ∷ xs) = filter_more f x (filter f xs) (f x) refl (filtered f xs)
 
@@ -95,14 +95,14 @@ module _ (t : Nodes) (k : Knowledge) (c : Changed) (part : IsPartOf t k c) where
   abbrev pub IsBased : Path → Type 0
   IsBased p = base_at k.nodes c p ≡ node_at t p
 
-  at_node : (p : Path) → LacksNothing k (need.Node p) → IsBased p
+  pub at_node : (p : Path) → LacksNothing k (need.Node p) → IsBased p
   at_node p nothing = known_base t k c p part.agrees part.over
       (or_right (is_some (change_at c p)) (is_some (known_at k p)) (nothing (need.Node p) refl))
 
-  below_node : (p : Path) → LacksNothing k (need.Subtree p) → (q : Path) → is_under q p ≡ true → IsBased q
+  pub below_node : (p : Path) → LacksNothing k (need.Subtree p) → (q : Path) → is_under q p ≡ true → IsBased q
   below_node p nothing q under = base_under t part.tree k part.order part.agrees p nothing c part.over q under
 
-  all_under : (p : Path) → list_all (λ e. is_under e.0 p) (subtree_of (view_of k.nodes c) p) ≡ true
+  pub all_under : (p : Path) → list_all (λ e. is_under e.0 p) (subtree_of (view_of k.nodes c) p) ≡ true
   all_under p = filtered (λ (e : Path × Node). is_under e.0 p) (view_of k.nodes c)
 
   -- the base is known at a path, or the path is apart
@@ -187,6 +187,7 @@ module _ (t : Nodes) (k : Knowledge) (c : Changed) (part : IsPartOf t k c) where
 
   pub view_after : (types : List TypeDef) (who : Who) (command : Command) → All (LacksNothing k) (needs_of who k c command)
       → view_of t (with_steps k.nodes c (outcome types who (known_view k c) k.nodes command).steps)
-      ≡ stepped t (view_of t c) (outcome types who (known_view k c) k.nodes command).steps
+      ≡ (eval types who t (view_of t c) command).view
   view_after types who command all =
       view_steps t k.nodes c (outcome types who (known_view k c) k.nodes command).steps part.tree.paths part.over (steps_based types who command all)
+      ∙ ap (λ (o : Outcome). stepped t (view_of t c) o.steps) (outcome_same types who t k c command part all)

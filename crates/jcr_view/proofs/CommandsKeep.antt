@@ -1,7 +1,7 @@
 -- A command keeps a tree a tree, and the version storage in it.
 use Rattle.std.proofs.Common.{◌≡◌, ◌≢◌, ℕ, ◌++◌, Bool, true, false, cond, List, [], ◌∷◌, Option, None, Some, is_some, refl, sym, ap, ◌∙◌, subst}
-use Rattle.std.specs.Prelude.{◌&&◌, Result, Ok, Err}
-use Rattle.std.specs.List.{list_all}
+use Rattle.std.specs.Prelude.{Result, Ok, Err}
+use Rattle.std.specs.List.{All, list_all}
 use Rattle.std.specs.Option.{unwrap_or}
 use Rattle.std.specs.Ordering.{eq_by_cmp}
 use Rattle.std.proofs.lemmas.Bool.{false≢true}
@@ -17,12 +17,12 @@ use Rattle.jr_tree.specs.Edits.{IsProper}
 use Rattle.jr_tree.specs.Trees.{IsTree, Nodes, node_at, subtree_of}
 use Rattle.jr_tree.proofs.Entries.{first as now, second as later}
 use Rattle.jr_tree.proofs.Pointwise.{same_path}
-use Rattle.jr_items.specs.Items.{first_some}
-use Rattle.jr_items.specs.Names.{system, system_name, version_storage}
+use Rattle.jr_items.specs.Names.{system, version_storage}
 use Rattle.jr_items.specs.Refusals.{in_system, limit_refusal, own_rule, taken, when}
 use Rattle.jr_types.specs.declared.TypeDef.{TypeDef}
-use Rattle.jr_overlay.specs.Drafts.{Steps, drafted, stepped, with_step}
-use Rattle.jr_overlay.specs.Overlays.{AreOver, Changed, View, edit_of, view_of, whole_view}
+use Rattle.jr_part.specs.Parts.{Knowledge, LacksNothing}
+use Rattle.jr_overlay.specs.Drafts.{Steps, drafted, with_step, with_steps}
+use Rattle.jr_overlay.specs.Overlays.{Changed, View, edit_of, known_view, view_of, whole_view}
 use Rattle.jr_overlay.specs.Views.{KeepTree, all_gone, all_moved, moved_path, step_at}
 use Rattle.jr_overlay.proofs.EditsOf.{edit_proper}
 use Rattle.jr_overlay.proofs.KeepingSteps.{at_step, nothing_keeps}
@@ -40,7 +40,9 @@ use Rattle.jcr_make.specs.Histories.{mixin_made}
 use Rattle.jcr_make.specs.Subtrees.{tree_made}
 use Rattle.jcr_make.proofs.KeepingTrees.{add_keeps, add_stays, mixin_keeps, mixin_stays, put_stays, tree_keeps, tree_stays, type_keeps, type_stays, unmixin_keeps, unmixin_stays}
 use Rattle.jcr_view.specs.Outcomes.{drawing_none, eval, made_outcome, outcome}
-use Rattle.jcr_view.proofs.Based.{filtered}
+use Rattle.jcr_view.specs.Needs.{needs_of}
+use Rattle.jcr_view.specs.Parts.{IsPartOf}
+use Rattle.jcr_view.proofs.Based.{filtered, over_after, view_after}
 
 -- ---- nodes that stay where others go
 
@@ -183,8 +185,10 @@ module _ (types : List TypeDef) (who : Who) (t v : Nodes) (tree : IsTree v) (sto
   pub command_storage : (command : Command) → is_some (node_at (eval types who t v command).view version_storage) ≡ true
   command_storage command = there_after t v (outcome types who w t command).steps tree (command_keeps command) version_storage ∙ command_stores command
 
--- what is pending after a command makes a proper edit
-pub command_proper : (types : List TypeDef) (who : Who) (t : Nodes) (old new : Changed) (command : Command) → IsTree t → IsTree (view_of t old)
-    → is_some (node_at (view_of t old) version_storage) ≡ true → AreOver t new → view_of t new ≡ (eval types who t (view_of t old) command).view → IsProper t (edit_of new)
-command_proper types who t old new command base tree stored over is =
-    edit_proper t new base over (subst IsTree (sym is) (command_tree types who t (view_of t old) tree stored command))
+-- what is pending makes a proper edit after a command of which nothing lacks
+pub command_proper : (types : List TypeDef) (who : Who) (t : Nodes) (k : Knowledge) (c : Changed) (command : Command) → IsPartOf t k c → All (LacksNothing k) (needs_of who k c command)
+    → IsTree (view_of t c) → is_some (node_at (view_of t c) version_storage) ≡ true
+    → IsProper t (edit_of (with_steps k.nodes c (outcome types who (known_view k c) k.nodes command).steps))
+command_proper types who t k c command part all tree stored =
+    edit_proper t (with_steps k.nodes c (outcome types who (known_view k c) k.nodes command).steps) part.tree (over_after t k c part types who command all)
+    (subst IsTree (sym (view_after t k c part types who command all)) (command_tree types who t (view_of t c) tree stored command))

@@ -48,7 +48,7 @@ use Rattle.jcr_make.proofs.ReadTrees.{tree_same}
 use Rattle.jcr_view.specs.Needs.{children_needs, history_needs, listing_needs, needs_of, parent_needs, storage_needs, versionable_needs}
 use Rattle.jcr_view.specs.Outcomes.{drawing_none, made_outcome, outcome, shown_outcome}
 use Rattle.jcr_view.specs.Parts.{IsPartOf}
-use Rattle.jcr_view.specs.Reading.{answer_at, by_id_answer, get_answer, id_answer, list_answer, node_identifier, property_named, props_answer, refs_answer, refused, refused_or, versions_answer}
+use Rattle.jcr_view.specs.Reading.{answer_at, by_id_answer, get_answer, list_answer, node_identifier, refs_answer, refused, refused_or, versions_answer}
 
 -- of a node that both have
 at_same : (u w : View) (p : Path) (shows : Node → Answer) → u.node p ≡ w.node p
@@ -136,7 +136,7 @@ above_same t k c p part all q is =
     (subst (λ (o : Option Path). All (LacksNothing k) (option_map_or (λ r. need.Node r ∷ []) o [])) is all))
 
 -- the nodes at and below a path of which nothing lacks, and the one at it
-below_known : (t : Nodes) (k : Knowledge) (c : Changed) (p : Path) → IsPartOf t k c
+pub below_known : (t : Nodes) (k : Knowledge) (c : Changed) (p : Path) → IsPartOf t k c
     → LacksNothing k (need.Subtree p) → (known_view k c).below p ≡ (whole_view (view_of t c)).below p
 below_known t k c p part nothing =
     subtree_known t part.tree k part.order part.agrees p nothing c part.over.paths

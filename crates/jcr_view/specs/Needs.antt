@@ -1,8 +1,9 @@
 -- What has to be known of the tree at the base before a command is made.
-use Rattle.std.specs.Prelude.{cond, Bool, true, false, List, [], ◌∷◌, Option, None, Some}
-use Rattle.std.specs.List.{flat_map}
+use Rattle.std.specs.Prelude.{◌≡◌, ◌++◌, ◌-◌, ℕ, cond, Bool, true, false, List, [], ◌∷◌, length, slice_get, Option, None, Some}
+use Rattle.std.specs.List.{fold}
 use Rattle.std.specs.Option.{option_map_or}
-use Rattle.jr_path.specs.Names.{parent_of}
+use Rattle.std.specs.Ordering.{eq_by_cmp}
+use Rattle.jr_path.specs.Names.{parent_of, path_cmp}
 use Rattle.jr_path.specs.declared.path.Path.{Path}
 use Rattle.jr_tree.specs.declared.edit.Write.{Write}
 use Rattle.jr_tree.specs.declared.edit.Write.TheVariants.{Here, Gone, Put, Unset}
@@ -81,13 +82,26 @@ reads_all (command.Refs p) = true
 reads_all (command.Versions p) = true
 reads_all _ = false
 
--- what has to be known to make a write again on another tree
-abbrev pub needs_again : Write → List Need
-needs_again (Here p) = need.Node p ∷ need.Node (above p) ∷ []
-needs_again (Gone p) = need.Subtree p ∷ []
-needs_again (Put p n x) = need.Node p ∷ []
-needs_again (Unset p n) = need.Node p ∷ []
+-- the need is of the node at p
+abbrev pub is_node_at : Path → Need → Bool
+is_node_at p (need.Node q) = eq_by_cmp path_cmp p q
+is_node_at p _ = false
 
--- what has to be known to make writes again
+-- the last of some needs is of the node at p
+abbrev pub ends_at : List Need → Path → Bool
+ends_at needs p = option_map_or (is_node_at p) (slice_get needs (length needs - 1)) false
+
+-- needs and the node at p, unless that stands last
+abbrev pub and_node : List Need → Path → List Need
+and_node needs p = cond (ends_at needs p) needs (needs ++ need.Node p ∷ [])
+
+-- needs and what has to be known to make a write again on another tree
+abbrev pub and_again : List Need → Write → List Need
+and_again needs (Here p) = and_node (and_node needs (above p)) p
+and_again needs (Gone p) = needs ++ need.Subtree p ∷ []
+and_again needs (Put p n x) = and_node needs p
+and_again needs (Unset p n) = and_node needs p
+
+-- what has to be known to make writes again; writes of one node in a row name it once
 abbrev pub needs_to_rebase : List Write → List Need
-needs_to_rebase ws = flat_map needs_again ws
+needs_to_rebase ws = fold and_again [] ws

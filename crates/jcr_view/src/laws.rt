@@ -3,6 +3,7 @@ ghost use Rattle.std.specs.Prelude.{◌≡◌, ◌∷◌, [], IsTrue, List, is_s
 ghost use Rattle.std.specs.List.{All};
 ghost use Rattle.jr_tree.specs.Edits.{IsProper};
 ghost use Rattle.jr_tree.specs.Trees.{IsTree, Nodes, node_at};
+ghost use Rattle.jr_tree.specs.declared.edit.Write.{Write};
 ghost use Rattle.jr_tree.specs.declared.shared.Who.{Who};
 ghost use Rattle.jr_part.specs.Parts.{Knowledge, LacksNothing};
 ghost use Rattle.jr_part.specs.declared.need.Need.TheVariants as need;
@@ -12,9 +13,10 @@ ghost use Rattle.jr_overlay.specs.Overlays.{whole_view};
 ghost use Rattle.jr_items.specs.Names.{version_storage};
 ghost use Rattle.jr_types.specs.declared.TypeDef.{TypeDef};
 ghost use Rattle.jcr_trans.specs.declared.command.Command.{Command};
-ghost use Rattle.jcr_view.specs.Needs.{needs_of, reads_all};
+ghost use Rattle.jcr_view.specs.Needs.{needs_of, needs_to_rebase, reads_all};
 ghost use Rattle.jcr_view.specs.Outcomes.{eval, outcome};
 ghost use Rattle.jcr_view.specs.Parts.{IsPartOf};
+ghost use Rattle.jcr_view.specs.Rebases.{rebased, tree_again};
 
 /// What a command asks for is enough: where nothing of it lacks, the command comes to the same on what is known as on
 /// the whole view of each tree that the part agrees with.
@@ -46,7 +48,7 @@ pub fn steps_count()
 {}
 
 /// A view that is a tree, with the version storage in it, stays one after each command, the version storage still in
-/// it. So what is pending after a command makes a proper edit.
+/// it. So what is pending makes a proper edit after a command of which nothing lacks that it asks for.
 pub fn commands_keep_trees()
     ensures tree { (types : List TypeDef) (who : Who) (t v : Nodes) (command : Command)
         → IsTree v → IsTrue (is_some (node_at v version_storage))
@@ -54,9 +56,36 @@ pub fn commands_keep_trees()
     ensures storage { (types : List TypeDef) (who : Who) (t v : Nodes) (command : Command)
         → IsTree v → IsTrue (is_some (node_at v version_storage))
         → IsTrue (is_some (node_at (eval types who t v command).view version_storage)) }
-    ensures proper { (types : List TypeDef) (who : Who) (t : Nodes) (old new : Changed)
-        (command : Command) → IsTree t → IsTree (view_of t old)
-        → IsTrue (is_some (node_at (view_of t old) version_storage)) → AreOver t new
-        → view_of t new ≡ (eval types who t (view_of t old) command).view
-        → IsProper t (edit_of new) }
+    ensures proper { (types : List TypeDef) (who : Who) (t : Nodes) (k : Knowledge) (c : Changed)
+        (command : Command) → IsPartOf t k c → All (LacksNothing k) (needs_of who k c command)
+        → IsTree (view_of t c) → IsTrue (is_some (node_at (view_of t c) version_storage))
+        → IsProper t (edit_of (with_steps k.nodes c
+        (outcome types who (known_view k c) k.nodes command).steps)) }
+{}
+
+/// Pending changes made again on the tree that they are over come to the view that they made of it.
+pub fn rebasing_on_the_same_tree_changes_nothing()
+    ensures { (t : Nodes) (k : Knowledge) (c : Changed) → IsPartOf t k c → IsTree (view_of t c)
+        → All (LacksNothing k) (needs_to_rebase (edit_of c))
+        → view_of t (rebased k (edit_of c)) ≡ view_of t c }
+{}
+
+/// Where nothing lacks of what writes ask for, they are made again on what is known as on the whole tree: the changes
+/// are over it, and the view is the tree with the writes made again.
+pub fn rebases_count()
+    ensures over { (t : Nodes) (k : Knowledge) (ws : List Write) → IsPartOf t k []
+        → All (LacksNothing k) (needs_to_rebase ws) → AreOver t (rebased k ws) }
+    ensures view { (t : Nodes) (k : Knowledge) (ws : List Write) → IsPartOf t k []
+        → All (LacksNothing k) (needs_to_rebase ws)
+        → view_of t (rebased k ws) ≡ tree_again t ws }
+{}
+
+/// An edit that is proper on one tree leaves a tree when it is made again on another, so what it then comes to is
+/// proper on that.
+pub fn rebases_keep_trees()
+    ensures tree { (from t : Nodes) (ws : List Write) → IsProper from ws → IsTree t
+        → IsTree (tree_again t ws) }
+    ensures proper { (from t : Nodes) (k : Knowledge) (ws : List Write) → IsProper from ws
+        → IsPartOf t k [] → All (LacksNothing k) (needs_to_rebase ws)
+        → IsProper t (edit_of (rebased k ws)) }
 {}

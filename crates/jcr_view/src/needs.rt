@@ -9,7 +9,7 @@ ghost use Rattle.jr_part.specs.Parts.{known_at};
 ghost use Rattle.jr_overlay.specs.Overlays.{seen};
 ghost use Rattle.jcr_make.specs.Histories.{due_history};
 ghost use Rattle.jcr_make.specs.Subtrees.{makes_histories, makes_history};
-ghost use Rattle.jcr_view.specs.Needs.{children_needs, history_needs, listing_needs, needs_again, needs_of, needs_to_rebase, parent_needs, storage_needs, versionable_needs};
+ghost use Rattle.jcr_view.specs.Needs.{and_again, and_node, children_needs, ends_at, history_needs, listing_needs, needs_of, needs_to_rebase, parent_needs, storage_needs, versionable_needs};
 ghost use Rattle.jcr_write.specs.Places.{above};
 
 use jcr_make::{due_history, version_storage};
@@ -251,7 +251,7 @@ pub(crate) fn needs_to_rebase(alloc: Global, writes: &[Write]) -> Result<Vec<Nee
 }
 
 fn push_again(needs: &mut Vec<Need>, alloc: Global, write: &Write) -> Result<(), AllocError>
-    ensures { OnOk result (needs.new.items ≡ needs.old.items ++ needs_again write.now) }
+    ensures { OnOk result (needs.new.items ≡ and_again needs.old.items write.now) }
 {
     match write {
         Write::Here(path) => push_two(needs, alloc, path),
@@ -260,11 +260,24 @@ fn push_again(needs: &mut Vec<Need>, alloc: Global, write: &Write) -> Result<(),
     }
 }
 
+// The node at a path, unless that stands last.
 fn push_node(needs: &mut Vec<Need>, path: &Path) -> Result<(), AllocError>
-    ensures { OnOk result (needs.new.items ≡ needs.old.items ++ need.Node path.now ∷ []) }
+    ensures { OnOk result (needs.new.items ≡ and_node needs.old.items path.now) }
 {
-    needs.push(Need::Node(path.copy()?))?;
+    if !ends_at(needs, path) {
+        needs.push(Need::Node(path.copy()?))?;
+    }
     Ok(())
+}
+
+// The last need is of the node at a path.
+fn ends_at(needs: &[Need], path: &Path) -> bool
+    ensures { result ≡ ends_at needs.now path.now }
+{
+    match needs.last() {
+        Some(Need::Node(last)) => path == last,
+        _ => false,
+    }
 }
 
 fn push_subtree(needs: &mut Vec<Need>, path: &Path) -> Result<(), AllocError>
@@ -274,13 +287,11 @@ fn push_subtree(needs: &mut Vec<Need>, path: &Path) -> Result<(), AllocError>
     Ok(())
 }
 
-// The node at a path, and the one above.
+// The node above a path, and the one there.
 fn push_two(needs: &mut Vec<Need>, alloc: Global, path: &Path) -> Result<(), AllocError>
     ensures { OnOk result (needs.new.items
-        ≡ needs.old.items ++ need.Node path.now ∷ need.Node (above path.now) ∷ []) }
+        ≡ and_node (and_node needs.old.items (above path.now)) path.now) }
 {
-    let above = above(alloc, path)?;
-    push_node(needs, path)?;
-    push_node(needs, &above)?;
-    Ok(())
+    push_node(needs, &above(alloc, path)?)?;
+    push_node(needs, path)
 }
