@@ -6,6 +6,8 @@ use Rattle.jr_path.specs.declared.path.Path.{Path}
 use Rattle.jr_tree.specs.declared.edit.Write.{Write}
 use Rattle.jr_tree.specs.declared.edit.Write.TheVariants.{Here, Gone, Put, Unset}
 use Rattle.jr_tree.specs.declared.tree.Node.{Node}
+use Rattle.jr_tree.specs.Edits.{changes}
+use Rattle.jr_tree.specs.Trees.{Nodes}
 
 -- the view after the base moved from one tree to another: the edits by which it differed from the
 -- old one are made again on the new one
