@@ -9,6 +9,7 @@ ghost use Rattle.oak_machine.specs.Sessions.{drawn_since};
 ghost use Rattle.jcr_view.specs.Outcomes.{eval, is_viewed};
 ghost use Rattle.jcr_view.specs.Rebases.{moved_view};
 ghost use Rattle.jcr_law.specs.State.{accepted, answered, base_tree, command_at, counted, is_ok_text, moved, new_state, next_id, replied, state_of, used, viewed, with_token, without_token};
+ghost use Rattle.jcr_law.specs.declared.state.Cursor.{Cursor as Standing};
 ghost use Rattle.jcr_eval.specs.Calls.{called};
 
 use crate::call::{Call, call_at};
@@ -277,7 +278,7 @@ fn accepted(
         Command::Token(token) => with_token(call.state, token.copy()?),
         Command::DropToken(token) => without_token(alloc, call.state, token),
         Command::Lock(_, _) => locked(alloc, call),
-        Command::Observe(path, deep, mask) => observing(call, path.copy()?, *deep, *mask),
+        Command::Observe(path, deep, mask) => Ok(observing(call, path.copy()?, *deep, *mask)),
         Command::Events => Ok(observed(call)),
         _ => viewed(alloc, types, call, command),
     }
@@ -287,10 +288,9 @@ fn accepted(
 fn without_pending(call: Call) -> State
     ensures { result ≡ record call.state { view = call.base } }
 {
-    State {
-        view: call.base,
-        ..call.state
-    }
+    let view = call.base;
+    let state = call.state;
+    State { view, ..state }
 }
 
 // The state with one token more.
@@ -356,26 +356,27 @@ fn locked(alloc: Global, call: Call) -> Result<State, AllocError>
 }
 
 // The cursor stands at the base.
-fn observing(call: Call, path: Path, deep: bool, mask: u32) -> Result<State, AllocError>
-    ensures { IfOk result (λ state. state ≡ record call.state {
+fn observing(call: Call, path: Path, deep: bool, mask: u32) -> State
+    ensures { result ≡ record call.state {
       cursor = Some (record {
         at = call.who.base;
         filter = record { path = path; deep = deep; mask = mask };
       });
-    }) }
+    } }
 {
-    let filter = Filter { path, deep, mask };
     let at = call.who.base;
-    Ok(State {
+    let state = call.state;
+    let filter = Filter { path, deep, mask };
+    State {
         cursor: Some(Cursor { at, filter }),
-        ..call.state
-    })
+        ..state
+    }
 }
 
 // The cursor, where there is one, moves to the base.
 fn observed(call: Call) -> State
     ensures { result ≡ record call.state {
-      cursor = option_map (λ x. record x { at = call.who.base }) call.state.cursor;
+      cursor = option_map (λ (x : Standing). record x { at = call.who.base }) call.state.cursor;
     } }
 {
     let at = call.who.base;

@@ -1,5 +1,5 @@
 //! A session's view: pending changes over a part of a tree, the commands that read and write it, and what they ask for
-//! first (JSR 283, 5 Reading; 10 Writing; 10.11 Saving).
+//! first (JSR 283, 5 Reading; 10 Writing; 10.11 Saving). The same by plain calls on views that are whole trees.
 #![tactic(auto)]
 
 mod commands;
