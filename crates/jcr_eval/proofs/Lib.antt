@@ -1,0 +1,4 @@
+pub mod Causes
+mod Identifiers
+pub mod Iffs
+mod Childless

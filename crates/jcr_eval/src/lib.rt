@@ -2,4 +2,16 @@
 //! say exactly what the law says: tests of sessions and of the law itself stand on them.
 #![tactic(auto)]
 
+mod built;
+mod call;
+mod commits;
+mod ids;
+mod replies;
+mod say;
+mod since;
 mod tasks;
+mod turn;
+mod versions;
+mod view;
+
+pub use say::eval;
