@@ -193,3 +193,7 @@ module _ (law : JcrLaw) (clusters : ℕ) (sessions : List ℕ) (begin : Begin) (
   says_grow _ _ (restopped k is) = restopped k (grows.found k is)
   says_grow _ _ (recovered k r is) = recovered k r (grows.recovers k r is)
   says_grow _ _ (unrecovered k is) = unrecovered k (ap (λ (p : Past). is_stopped p k) grows.before ∙ is)
+
+  -- what a command may be answered with
+  pub said_at : (m : Command) (text : List ℕ) → MaySay law at_old s (asked_by at_old s m) text → MaySay law at_new s (asked_by at_new s m) text
+  said_at m text may = subst (λ (a : Asked). MaySay law at_new s a text) (sym (asked_same m)) (says_grow (asked_by at_old s m) text may)

@@ -1,9 +1,10 @@
 -- What the law lets start and say lasts while events of others are added, and what it lets start is proper.
-use Rattle.std.proofs.Common.{◌≡◌, ℕ, Bool, true, false, cond, Option, None, Some, List, [], ◌∷◌, ◌++◌, refl, sym, ap, ◌∙◌, subst, inl, inr}
-use Rattle.std.specs.Prelude.{◌+◌, Contains}
+use Rattle.std.proofs.Common.{◌≡◌, ℕ, Bool, true, false, cond, Option, None, Some, List, [], ◌∷◌, ◌++◌, arith, refl, sym, ap, ◌∙◌, subst, inl, inr}
+use Rattle.std.specs.Prelude.{◌+◌, ◌==◌, Contains}
 use Rattle.std.specs.List.{filter, list_any}
 use Rattle.std.specs.Option.{option_map_or}
 use Rattle.std.proofs.lemmas.Bool.{false≢true}
+use Rattle.std.proofs.lemmas.Bool.Decides.{nat_tests}
 use Rattle.std.proofs.lemmas.List.Elements.{Contains-append_cases, Contains-append_left, Contains-append_right}
 use Rattle.jr_rev.specs.declared.revision.Revision.{Revision}
 use Rattle.jr_rev.specs.declared.vector.RevVec.{RevVec}
@@ -15,15 +16,19 @@ use Rattle.oak_machine.specs.declared.event.Event.TheVariants as event
 use Rattle.oak_machine.specs.History.{Begin, History, Past}
 use Rattle.oak_machine.specs.Commits.{is_commit_of, is_committed, is_end_of, is_ended}
 use Rattle.oak_machine.specs.Laws.{Says, Starts, is_event_of}
-use Rattle.oak_machine.specs.Runs.{AreNodes, IsRunOf, is_task_end}
+use Rattle.oak_machine.specs.Runs.{AreNodes, IsRunOf, SaysLast, SaysLastBehind, StartsLast, is_task_end}
 use Rattle.oak_machine.specs.Sessions.{base_of, drawn_since, is_drawing, since}
 use Rattle.oak_machine.proofs.Induction.{base_stays}
-use Rattle.oak_machine.proofs.Stays.{any_later}
+use Rattle.oak_machine.proofs.Stays.{any_later, edits_stay}
+use Rattle.core_heads.specs.Sound.{IsHeld}
+use Rattle.core_heads.proofs.Runs.{earlier_run, sound_run}
+use Rattle.core_heads.proofs.Stays.{had_ended, held_stays}
 use Rattle.core_heads.proofs.Passing.{among_same, drawn_stays, ended_since, idle_stays, next_more, next_stays, refreshed_stays, refusal_stays, uncommitted_stays}
 use Rattle.jcr_law.specs.declared.law.JcrLaw.{JcrLaw}
-use Rattle.jcr_law.specs.Since.{draw_since, is_pinning}
+use Rattle.jcr_law.specs.Law.{MayStart, SaysBy}
+use Rattle.jcr_law.specs.Since.{draw_among, draw_since, is_beginning, is_pinning}
 use Rattle.jcr_law.specs.Tasks.{finds_stopped, is_out, is_recovering, is_sweep, misses}
-use Rattle.jcr_law.proofs.Growing.{Grows, seen_edits}
+use Rattle.jcr_law.proofs.Growing.{Grows, said_at, seen_edits, starts_grow}
 use Rattle.jcr_law.proofs.Passing.{before_stays, came_stays, contains_stays, detached_stays, draw_stays, position_stays, state_stays, stopped_stays}
 
 module _ (law : JcrLaw) (starts : Starts) (says : Says) (clusters : ℕ) (sessions : List ℕ) (begin : Begin) (s : ℕ) (added past : Past)
@@ -127,3 +132,68 @@ module _ (law : JcrLaw) (begin : Begin) (s : ℕ) (past now : Past) (grows : Gro
     recovers = grows.recovers;
   }
   grows_under e h = absurd (false≢true h)
+
+-- what was drawn for the command of s is held at its base
+module _ (clusters : ℕ) (sessions : List ℕ) (nodes : AreNodes clusters sessions) (begin : Begin) (starts : Starts) (says : Says) (s : ℕ) where
+  same_session : (m : ℕ) → (m == s) ≡ true → m ≡ s
+  same_session m h = grind (arith, nat_tests)
+
+  some_draw : (a b : Draw) → Some a ≡ Some b → a ≡ b
+  some_draw a b h = ap (λ (o : Option Draw). elim o [ Some x ↦ x | None ↦ a ]) h
+
+  own_held : (e : Draw) (past : Past) (d : Draw) → IsRunOf starts says clusters sessions begin (event.Draw e ∷ past) → (e.session == s) ≡ true → e ≡ d
+      → IsHeld begin (event.Draw e ∷ past) d.base
+  own_held e past d run own same =
+      held_stays clusters sessions nodes begin starts says (event.Draw e ∷ []) past run d.base
+      ((sound_run clusters sessions nodes begin starts says past run.1).bases s d.base
+      (ap (base_of past) (sym (same_session e.session own)) ∙ (run.0.base ∙ ap (λ (x : Draw). Some x.base) same)))
+
+  pub draw_held : (past : Past) (d : Draw) → IsRunOf starts says clusters sessions begin past → draw_since past s ≡ Some d → IsHeld begin past d.base
+  draw_held [] d run is = cc
+  draw_held (event.Draw e ∷ past) d run is =
+      elim (e.session == s) as (λ b. (e.session == s) ≡ b → cond b (Some e) (draw_among (since past s) s) ≡ Some d → IsHeld begin (event.Draw e ∷ past) d.base) [
+        | true ↦ λ own same. own_held e past d run own (some_draw e d same)
+        | false ↦ λ other same. held_stays clusters sessions nodes begin starts says (event.Draw e ∷ []) past run d.base (draw_held past d run.1 same)
+      ] refl is
+  draw_held (e ∷ past) d run is =
+      elim (is_beginning s e) as (λ b. draw_among (cond b [] (e ∷ since past s)) s ≡ Some d → IsHeld begin (e ∷ past) d.base) [
+        | true ↦ λ none. cc
+        | false ↦ λ same. held_stays clusters sessions nodes begin starts says (e ∷ []) past run d.base (draw_held past d run.1 same)
+      ] is
+
+  -- what a held vector sees of the commits stays
+  held_edits : (added past : Past) → IsRunOf starts says clusters sessions begin (added ++ past) → (v : RevVec) → IsHeld begin past v → seen_edits (added ++ past) v ≡ seen_edits past v
+  held_edits added past run v held =
+      edits_stay starts says clusters sessions begin v past added run (had_ended clusters sessions nodes begin starts says added past run v held)
+
+  module _ (law : JcrLaw) (added past : Past) (later : IsRunOf starts says clusters sessions begin (added ++ past))
+      (others : list_any (is_event_of (added ++ past) s) added ≡ false) where
+    before : IsRunOf starts says clusters sessions begin past
+    before = earlier_run clusters sessions nodes begin starts says added past later
+
+    pub grows_by_others : Grows law begin s past (added ++ past)
+    grows_by_others = grows_above law starts says clusters sessions begin s added past later others
+        (λ v is. held_edits added past later v ((sound_run clusters sessions nodes begin starts says past before).bases s v is))
+        (λ d is. held_edits added past later d.base (draw_held past d before is))
+
+-- the law as the machine takes it
+abbrev pub starts_of : JcrLaw → Starts
+starts_of law = λ h s edit marks. MayStart law h s edit marks
+
+abbrev pub says_of : JcrLaw → Says
+says_of law = λ h s i text. SaysBy law h s i text
+
+pub starts_last : (law : JcrLaw) → StartsLast (starts_of law) (says_of law)
+starts_last law h added s edit marks nodes run later others may =
+    starts_grow law h.clusters h.sessions h.begin s h.past (added ++ h.past)
+    (grows_by_others h.clusters h.sessions nodes h.begin (starts_of law) (says_of law) s law added h.past later others) edit marks may
+
+pub says_last : (law : JcrLaw) → SaysLast (starts_of law) (says_of law)
+says_last law h added s i text nodes run later others (m, command, may) =
+    let grows : Grows law h.begin s h.past (added ++ h.past) = grows_by_others h.clusters h.sessions nodes h.begin (starts_of law) (says_of law) s law added h.past later others in
+    (m, command, said_at law h.clusters h.sessions h.begin s h.past (added ++ h.past) grows m text may)
+
+pub says_last_behind : (law : JcrLaw) → SaysLastBehind (starts_of law) (says_of law)
+says_last_behind law h added e s i text nodes end run later others (m, command, may) =
+    let grows : Grows law h.begin s h.past (added ++ h.past) = grows_by_others h.clusters h.sessions nodes h.begin (starts_of law) (says_of law) s law added h.past later.1 others in
+    (m, command, said_at law h.clusters h.sessions h.begin s (e ∷ h.past) (e ∷ (added ++ h.past)) (grows_under law h.begin s h.past (added ++ h.past) grows e end) m text may)

@@ -1,7 +1,13 @@
+mod Again
+mod AgainKeeps
+mod AgainLeads
 mod Asked
 mod Based
+mod CommandsKeep
 mod Drawn
 mod Enough
 mod Fresh
+mod Needed
+mod OnePass
 mod Replied
 mod Whole

@@ -11,5 +11,8 @@ mod rebase;
 mod writing;
 
 pub use commands::is_viewed;
-pub use laws::{needs_are_enough, steps_count, whole_trees_are_asked_for};
+pub use laws::{
+    commands_keep_trees, needs_are_enough, rebases_count, rebases_keep_trees,
+    rebasing_on_the_same_tree_changes_nothing, steps_count, whole_trees_are_asked_for,
+};
 pub use pending::Pending;

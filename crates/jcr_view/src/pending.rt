@@ -8,7 +8,7 @@ ghost use Rattle.jr_part.specs.Parts.{LacksNothing};
 ghost use Rattle.jr_part.specs.declared.need.Need.TheVariants as need;
 ghost use Rattle.jcr_trans.specs.Answers.{Done};
 ghost use Rattle.jcr_trans.specs.Texts.{answer_text};
-ghost use Rattle.jcr_view.specs.Needs.{AsksFor, needs_to_rebase, reads_all};
+ghost use Rattle.jcr_view.specs.Needs.{needs_of, needs_to_rebase, reads_all};
 ghost use Rattle.jcr_view.specs.Outcomes.{is_viewed, is_writing, outcome, shown};
 ghost use Rattle.jcr_view.specs.Reading.{Replies, refused};
 ghost use Rattle.jcr_view.specs.Rebases.{rebased};
@@ -54,12 +54,13 @@ impl Pending {
         }
     }
 
-    /// What has to be known of the tree at the base before a command is made. A need that hangs on a node of which
+    /// What has to be known of the tree at the base before a session's command is made. A need that hangs on a node of which
     /// nothing is known stands as the need of that node alone: the call is made again once the node is known.
-    pub fn needs(&self, command: &Command, part: &Part) -> Result<Vec<Need>, AllocError>
-        ensures { IfOk result (λ needs. AsksFor part.now self.now command.now needs.items) }
+    pub fn needs(&self, command: &Command, part: &Part, who: &Who) -> Result<Vec<Need>, AllocError>
+        ensures { IfOk result (λ needs. needs.items
+            ≡ needs_of who.now part.now self.now command.now) }
     {
-        needs(self.alloc, part, &self.overlay, command)
+        needs(self.alloc, part, &self.overlay, who, command)
     }
 
     /// Makes a command that reads or writes the view, and answers the text of its reply (JSR 283, 5 Reading; 10
