@@ -6,6 +6,7 @@ use Rattle.jr_path.specs.declared.path.Path.{Path}
 use Rattle.jr_tree.specs.declared.edit.Write.{Write}
 use Rattle.jr_tree.specs.declared.edit.Write.TheVariants.{Here, Gone, Put, Unset}
 use Rattle.jr_tree.specs.declared.tree.Node.{Node}
+use Rattle.jr_tree.specs.Trees.{Nodes}
 use Rattle.jr_part.specs.Parts.{Knowledge}
 use Rattle.jr_overlay.specs.Drafts.{Steps, drafted, stepped, with_step, with_steps}
 use Rattle.jr_overlay.specs.Overlays.{Changed, View, known_view, whole_view}
