@@ -10,4 +10,6 @@ mod Fresh
 mod Needed
 mod OnePass
 mod Replied
+mod Rounds
 mod Whole
+mod WholeLacks
