@@ -1,0 +1,5 @@
+mod Childless
+mod Identifiers
+mod Viewed
+pub mod Causes
+pub mod Iffs

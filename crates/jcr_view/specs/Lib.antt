@@ -4,3 +4,4 @@ pub mod Parts
 pub mod Reading
 pub mod Rebases
 pub mod Rounds
+pub mod Whole

@@ -1,5 +1,5 @@
 //! A session's view: pending changes over a part of a tree, the commands that read and write it, and what they ask for
-//! first (JSR 283, 5 Reading; 10 Writing; 10.11 Saving).
+//! first (JSR 283, 5 Reading; 10 Writing; 10.11 Saving). The same by plain calls on views that are whole trees.
 #![tactic(auto)]
 
 mod commands;
@@ -8,6 +8,7 @@ mod needs;
 mod pending;
 mod reading;
 mod rebase;
+mod whole;
 mod writing;
 
 pub use commands::is_viewed;
@@ -17,3 +18,4 @@ pub use laws::{
     whole_trees_lack_no_node,
 };
 pub use pending::Pending;
+pub use whole::{evaluate, move_view};
