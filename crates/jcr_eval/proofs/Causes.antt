@@ -2,8 +2,8 @@
 use Rattle.std.proofs.Common.{◌≡◌, ◌≢◌, ◌↔◌, IsTrue, inl, inr, ℕ, Bool, true, false, cond, not, Option, None, Some, List, [], ◌∷◌, refl, sym, ap, subst, ◌∙◌}
 use Rattle.std.specs.Prelude.{option_and_then, option_map, slice_get, Result, Ok, Err}
 use Rattle.std.specs.Option.{option_map_or}
-use Rattle.std.proofs.lemmas.Bool.{and_parts, false≢true}
-use Rattle.std.proofs.lemmas.Option.{none-some}
+use Rattle.std.proofs.lemmas.Bool.{and_parts, false≢true, not-true}
+use Rattle.std.proofs.lemmas.Option.{none-some, same_Some}
 use Rattle.basics.proofs.Options.{none_tested}
 use Rattle.jr_items.specs.Refusals.{out_of_memory}
 use Rattle.jr_tree.specs.declared.edit.Write.{Write}
@@ -22,37 +22,7 @@ use Rattle.jcr_law.specs.Tasks.{stopped_at}
 use Rattle.jcr_eval.specs.Causes.{AllowedCause, AnyCause, AskedCause, OwnCause, clash_reply, committed_reply, due_reply, is_seen_commit, may_want_memory, reply_to_draw, reply_to_due, uncommitted_reply, vector_text}
 use Rattle.jcr_eval.specs.TaskCauses.{TaskCause}
 use Rattle.jcr_eval.proofs.Iffs.{second_decides}
-
-some_is : {X : Type 0} (x y : X) → Some x ≡ Some y → x ≡ y
-some_is x y h = ap (λ (o : Option _). elim o [ Some z ↦ z | None ↦ x ]) h
-
--- what is there under a function is there
-some_mapped : {X Y : Type 0} (f : X → Y) (o : Option X) (y : Y) → option_map f o ≡ Some y
-    → (x : X) × (o ≡ Some x) × (f x ≡ y)
-some_mapped f None y h = cc
-some_mapped f (Some x) y h = (x, refl, some_is _ _ h)
-
-some_behind : {X Y : Type 0} (f : X → Option Y) (o : Option X) (y : Y) → option_and_then f o ≡ Some y
-    → (x : X) × (o ≡ Some x) × (f x ≡ Some y)
-some_behind f None y h = cc
-some_behind f (Some x) y h = (x, refl, h)
-
--- what is there only where a test holds
-some_tested : {X : Type 0} (b : Bool) (o : Option X) (x : X) → cond b o None ≡ Some x
-    → (b ≡ true) × (o ≡ Some x)
-some_tested true o x h = (refl, h)
-some_tested false o x h = cc
-
--- what passes a test where it is there
-some_passed : {X : Type 0} (f : X → Bool) (o : Option X) → option_map_or f o false ≡ true
-    → (x : X) × (o ≡ Some x) × (f x ≡ true)
-some_passed f None h = absurd (false≢true h)
-some_passed f (Some x) h = (x, refl, h)
-
--- what isn't so where its opposite is
-passes_not : (b : Bool) → not b ≡ true → b ≡ false
-passes_not true h = absurd (false≢true h)
-passes_not false h = refl
+use Rattle.jcr_eval.proofs.Options.{some_behind, some_mapped, some_passed, some_tested}
 
 -- a refusal of an edit that is due is its reply
 refused_due : (c : Call) (m : Command) (due : Result (List Write) Refusal) (r : Refusal)
@@ -122,8 +92,8 @@ module _ (law : JcrLaw) (h : History) (s : ℕ) where
   any_says a text (inr is) =
       let t = some_tested (may_want_memory h s) (Some (no_text out_of_memory)) text is in
       let p = and_parts _ _ t.0 in
-      says_as a (no_text out_of_memory) text (some_is _ _ t.1)
-      (memory a (passes_not _ p.0) (passes_not _ p.1))
+      says_as a (no_text out_of_memory) text (same_Some _ _ t.1)
+      (memory a (not-true _ p.0) (not-true _ p.1))
 
   due_says : (m : Command) (text : List ℕ) → due_reply law h s m ≡ Some text
       → MaySay law h s (Allowed m) text
@@ -137,12 +107,12 @@ module _ (law : JcrLaw) (h : History) (s : ℕ) where
           → (due : Result (List Write) Refusal) → edit_due c m ≡ Some due
           → reply_to_due c m due ≡ Some text → MaySay law h s (Allowed m) text
       by c none call (Ok []) is e =
-          says_as (Allowed m) _ text (some_is _ _ e) (unwritten m c none call is)
+          says_as (Allowed m) _ text (same_Some _ _ e) (unwritten m c none call is)
       by c none call (Ok (w ∷ ws)) is e =
           let r = some_mapped _ _ text e in
           says_as (Allowed m) _ text r.2 (refused_edit m c (Ok (w ∷ ws)) r.0 none call is r.1)
       by c none call (Err r) is e =
-          says_as (Allowed m) _ text (some_is _ _ e) (refused_edit m c (Err r) r none call is refl)
+          says_as (Allowed m) _ text (same_Some _ _ e) (refused_edit m c (Err r) r none call is refl)
 
   committed_says : (m : Command) (text : List ℕ) → committed_reply law h s m ≡ Some text
       → MaySay law h s (Allowed m) text
@@ -224,7 +194,8 @@ module _ (law : JcrLaw) (h : History) (s : ℕ) where
 
   -- the commands of the cluster, queries and observation have the replies of their own
   pub own_tasks : (m : Command) (text : List ℕ) (b : Bool)
-      → ((keep : Bool) → m ≢ command.Refresh keep) → m ≢ command.Head → (IsTrue b ↔ TaskCause law h s m text) → IsTrue b ↔ OwnCause law h s m text
+      → ((keep : Bool) → m ≢ command.Refresh keep) → m ≢ command.Head
+      → (IsTrue b ↔ TaskCause law h s m text) → IsTrue b ↔ OwnCause law h s m text
   own_tasks command.Head text b r n i = absurd (n refl)
   own_tasks (command.Refresh keep) text b r n i = absurd (r keep refl)
   own_tasks m text b r n i = i
@@ -235,7 +206,8 @@ module _ (law : JcrLaw) (h : History) (s : ℕ) where
   may_by_any a text b i is = (λ t. any_says a text (i.0 is), λ may. refl)
 
   pub may_by_cause : (a : Asked) (m : Command) (text : List ℕ) (any b : Bool) → a ≡ Allowed m
-      → (IsTrue any ↔ AnyCause h s text) → any ≡ false → (IsTrue b ↔ AllowedCause law h s m text) → IsTrue b ↔ MaySay law h s a text
+      → (IsTrue any ↔ AnyCause h s text) → any ≡ false → (IsTrue b ↔ AllowedCause law h s m text)
+      → IsTrue b ↔ MaySay law h s a text
   may_by_cause a m text any b is i none j =
       subst (λ (x : Asked). IsTrue b ↔ MaySay law h s x text) (sym is) (
         λ t. cause_says (Allowed m) text (inr (j.0 t)),
@@ -243,7 +215,8 @@ module _ (law : JcrLaw) (h : History) (s : ℕ) where
       )
 
   pub may_by_barring : (a : Asked) (m : Command) (text : List ℕ) (any b : Bool) → a ≡ Unsupported m
-      → (IsTrue any ↔ AnyCause h s text) → any ≡ false → (IsTrue b ↔ (text ≡ no_support m)) → IsTrue b ↔ MaySay law h s a text
+      → (IsTrue any ↔ AnyCause h s text) → any ≡ false → (IsTrue b ↔ (text ≡ no_support m))
+      → IsTrue b ↔ MaySay law h s a text
   may_by_barring a m text any b is i none j =
       subst (λ (x : Asked). IsTrue b ↔ MaySay law h s x text) (sym is) (
         λ t. cause_says (Unsupported m) text (inr (j.0 t)),
@@ -257,7 +230,7 @@ module _ (law : JcrLaw) (h : History) (s : ℕ) where
   says_by_command i m text b is j = (
     λ t. (m, is, j.0 t),
     λ says. j.1 (subst (λ (x : Command). MaySay law h s (asked_by h s x) text)
-        (some_is says.0 m (sym says.1 ∙ is)) says.2),
+        (same_Some says.0 m (sym says.1 ∙ is)) says.2),
   )
 
   pub says_nothing : (i : ℕ) (text : List ℕ) → command_at law s i ≡ None

@@ -1,4 +1,5 @@
 pub mod Causes
 mod Identifiers
 pub mod Iffs
+pub mod Options
 mod Childless
