@@ -1,5 +1,6 @@
-pub mod Causes
+mod Childless
 mod Identifiers
+mod Viewed
+pub mod Causes
 pub mod Iffs
 pub mod Options
-mod Childless

@@ -10,6 +10,7 @@ mod ids;
 mod replies;
 mod say;
 mod since;
+mod state;
 mod tasks;
 mod turn;
 mod versions;

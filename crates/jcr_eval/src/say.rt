@@ -1,6 +1,5 @@
 // Whether the law lets a text be said.
 ghost use Rattle.std.specs.Prelude.{◌≡◌, ◌↔◌, cond, IfOk, IsTrue, Some, option_and_then, option_map, slice_get, string_bytes};
-ghost use Rattle.std.specs.Option.{option_copied};
 ghost use Rattle.oak_machine.specs.History.{history_of};
 ghost use Rattle.oak_machine.specs.Sessions.{is_attached};
 ghost use Rattle.jr_rev.specs.declared.vector.RevVec.{RevVec};
@@ -8,7 +7,6 @@ ghost use Rattle.jcr_view.specs.Outcomes.{is_viewed};
 ghost use Rattle.jcr_law.specs.Built.{Allowed, Unsupported};
 ghost use Rattle.jcr_law.specs.Law.{MaySay, SaysBy, asked_by, no_support, no_text};
 ghost use Rattle.jcr_law.specs.Since.{before_turn, stop_position};
-ghost use Rattle.jcr_law.specs.State.{command_at};
 ghost use Rattle.jcr_law.specs.Tasks.{stopped_at};
 ghost use Rattle.jcr_eval.specs.Causes.{AllowedCause, AnyCause, OwnCause, may_want_memory, memory_reply, stopped_reply, vector_text, ViewCause};
 
@@ -16,6 +14,7 @@ use crate::built::is_allowed;
 use crate::commits::commit_says;
 use crate::replies::{cause_reply, is_reply, refusal_reply};
 use crate::since::stop_position;
+use crate::state::command_at;
 use crate::tasks::task_says;
 use crate::turn::before_turn;
 use crate::view::view_says;
@@ -47,16 +46,6 @@ pub fn eval(
     match command_at(law, session, index as usize) {
         Some(command) => may_say(alloc, law, journal, session, command, text),
         None => Ok(false),
-    }
-}
-
-// The command of an index of a session.
-fn command_at(law: &JcrLaw, session: u32, index: usize) -> Option<&Command>
-    ensures { option_copied result ≡ command_at law.now session index }
-{
-    match law.sessions.as_slice().get(session as usize) {
-        Some(script) => script.commands.as_slice().get(index),
-        None => None,
     }
 }
 

@@ -87,7 +87,7 @@ filter_more : {A : Type 0} (f : A → Bool) (x : A) (xs : List A) (b : Bool) →
 filter_more f x xs true h all = rw h all
 filter_more f x xs false h all = all
 
-filtered : {A : Type 0} (f : A → Bool) (xs : List A) → list_all f (filter f xs) ≡ true
+pub filtered : {A : Type 0} (f : A → Bool) (xs : List A) → list_all f (filter f xs) ≡ true
 filtered f [] = refl
 filtered f (x ∷ xs) = filter_more f x (filter f xs) (f x) refl (filtered f xs)
 

@@ -3,11 +3,13 @@ mod AgainKeeps
 mod AgainLeads
 mod Asked
 mod Based
+mod Below
 mod CommandsKeep
 mod Drawn
 mod Enough
 mod Fresh
+mod Known
+mod Moved
 mod Needed
 mod OnePass
 mod Replied
-mod Whole

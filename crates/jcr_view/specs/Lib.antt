@@ -3,3 +3,4 @@ pub mod Outcomes
 pub mod Parts
 pub mod Reading
 pub mod Rebases
+pub mod Whole

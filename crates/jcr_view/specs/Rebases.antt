@@ -8,11 +8,6 @@ use Rattle.jr_tree.specs.declared.edit.Write.TheVariants.{Here, Gone, Put, Unset
 use Rattle.jr_tree.specs.declared.tree.Node.{Node}
 use Rattle.jr_tree.specs.Edits.{changes}
 use Rattle.jr_tree.specs.Trees.{Nodes}
-
--- the view after the base moved from one tree to another: the edits by which it differed from the
--- old one are made again on the new one
-abbrev pub moved_view : (old new view : Nodes) → Nodes
-moved_view old new view = tree_again new (changes old view)
 use Rattle.jr_part.specs.Parts.{Knowledge}
 use Rattle.jr_overlay.specs.Drafts.{Steps, drafted, stepped, with_step, with_steps}
 use Rattle.jr_overlay.specs.Overlays.{Changed, View, known_view, whole_view}

@@ -15,7 +15,7 @@ ghost use Rattle.jcr_view.specs.Rebases.{rebased};
 
 use crate::commands::is_writing;
 use crate::needs::{needs, needs_to_rebase};
-use crate::reading::{by_identifier, get, id, list, props, refs, replied, versions};
+use crate::reading::{by_identifier, read_nodes, refs, versions};
 use crate::rebase::rebased;
 use crate::writing::{Made, make};
 use jcr_trans::{Command, done_reply};
@@ -168,16 +168,11 @@ impl Pending {
     {
         let alloc = self.alloc;
         let overlay = &self.overlay;
-        let sight = Sight::new(part, overlay);
         match command {
-            Command::Get(path) => get(alloc, &sight, path),
-            Command::List(path) => list(alloc, types, &sight, path),
-            Command::Props(path) => props(alloc, &sight, path),
-            Command::Id(path) => id(alloc, &sight, path),
             Command::ById(text) => by_identifier(alloc, part, overlay, text.as_str()),
             Command::Refs(path) => refs(alloc, part, overlay, path),
-            Command::Versions(path) => versions(alloc, part, path),
-            _ => replied(alloc, done_reply(alloc)),
+            Command::Versions(path) => versions(alloc, part.whole(), path),
+            _ => read_nodes(alloc, types, &Sight::new(part, overlay), command),
         }
     }
 

@@ -14,4 +14,4 @@ pub use machine::follows;
 pub use past::{is_committed, is_ended, refusal_of};
 pub use sessions::{base_of, is_attached, is_drawing, last_checkpoint, next_index};
 pub use since::{drawn_since, refreshed_since};
-pub use tree::{tree_among, tree_at};
+pub use tree::{begin_tree, tree_among, tree_at, tree_from};
