@@ -3,3 +3,4 @@ mod Identifiers
 mod Viewed
 pub mod Causes
 pub mod Iffs
+pub mod Options

@@ -17,7 +17,8 @@ pub(crate) fn task_says(
     command: &Command,
     text: &str,
 ) -> Result<bool, AllocError>
-    ensures { IfOk result (λ b. IsTrue b ↔ TaskCause law.now (history_of journal.now) session command.now text.now) }
+    ensures { IfOk result (λ b. IsTrue b
+        ↔ TaskCause law.now (history_of journal.now) session command.now text.now) }
 {
     Err(AllocError)
 }
