@@ -1,6 +1,7 @@
 //! What a journal says, by plain calls that go over all its events.
 #![tactic(auto)]
 
+mod changed;
 mod heads;
 mod machine;
 mod meeting;
@@ -8,8 +9,11 @@ mod past;
 mod sessions;
 mod tree;
 
-pub use heads::local_head;
+pub use changed::changes_between;
+pub use heads::{local, local_head, published};
 pub use machine::follows;
 pub use past::{is_committed, is_ended};
-pub use sessions::{base_of, last_checkpoint, next_index};
-pub use tree::{tree_among, tree_at};
+pub use sessions::{
+    base_of, is_recovered, is_stopped, kept_checkpoint, last_checkpoint, next_index,
+};
+pub use tree::{begin_tree, tree_among, tree_at, tree_from};

@@ -9,7 +9,7 @@ use crate::past::draw_of;
 use jr_path::{DeepCopy, Keyed, List};
 use jr_rev::{RevVec, Revision};
 use jr_tree::{Edit, Tree, Write};
-use oak_machine::{Event, Journal};
+use oak_machine::{Event, Journal, Start};
 use std::alloc::{AllocError, Global};
 
 /// The tree that a vector sees: that of the start, with the edits of the committed revisions that it sees
@@ -19,9 +19,7 @@ pub fn tree_at(journal: &Journal, v: &RevVec) -> Result<Tree, AllocError>
     ensures { let h = history_of journal.now in IfOk result (λ tree. tree ≡ tree_at h.begin h.past v.now) }
 {
     let alloc = journal.events.allocator();
-    let mut tree = begin_tree(alloc, journal)?;
-    put_seen(alloc, &mut tree, journal.events.as_slice(), v)?;
-    Ok(tree)
+    tree_from(alloc, &journal.start, journal.events.as_slice(), v)
 }
 
 /// The tree that a vector sees of events that begin before any commit: the initial tree, with the edits of the
@@ -30,7 +28,21 @@ pub fn tree_at(journal: &Journal, v: &RevVec) -> Result<Tree, AllocError>
 pub fn tree_among(alloc: Global, events: &[Event], v: &RevVec) -> Result<Tree, AllocError>
     ensures { IfOk result (λ tree. tree ≡ tree_at None (reverse events.now) v.now) }
 {
-    let mut tree = Tree::initial(alloc)?;
+    tree_from(alloc, &None, events, v)
+}
+
+/// The tree that a vector sees of events from a start on: that of the start, or the initial tree where there is none,
+/// with the edits of the committed revisions that the vector sees applied in ascending order, each with its revision
+/// (Oak, DocumentNodeStore: Revisions). It goes over all the events.
+pub fn tree_from(
+    alloc: Global,
+    start: &Option<Start>,
+    events: &[Event],
+    v: &RevVec,
+) -> Result<Tree, AllocError>
+    ensures { IfOk result (λ tree. tree ≡ tree_at start.now (reverse events.now) v.now) }
+{
+    let mut tree = begin_tree(alloc, start)?;
     put_seen(alloc, &mut tree, events, v)?;
     Ok(tree)
 }
@@ -49,11 +61,11 @@ fn put_seen(alloc: Global, tree: &mut Tree, events: &[Event], v: &RevVec) -> Res
     Ok(())
 }
 
-// The tree at the start.
-fn begin_tree(alloc: Global, journal: &Journal) -> Result<Tree, AllocError>
-    ensures { IfOk result (λ tree. tree ≡ begin_tree journal.now.start) }
+/// The tree at a start, or before any commit.
+pub fn begin_tree(alloc: Global, start: &Option<Start>) -> Result<Tree, AllocError>
+    ensures { IfOk result (λ tree. tree ≡ begin_tree start.now) }
 {
-    match &journal.start {
+    match start {
         Some(start) => start.tree.copy(),
         None => Tree::initial(alloc),
     }
@@ -61,7 +73,7 @@ fn begin_tree(alloc: Global, journal: &Journal) -> Result<Tree, AllocError>
 
 // The writes of each committed revision.
 #[tactic(auto, using(oak_machine::proofs::Forward::past_more))]
-fn committed_edits(
+pub(crate) fn committed_edits(
     alloc: Global,
     events: &[Event],
 ) -> Result<Keyed<Revision, List<Write>>, AllocError>
