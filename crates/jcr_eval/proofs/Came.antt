@@ -17,7 +17,7 @@ CameAt s (x ∷ past) earlier e = (is_beginning s x ≡ false) × (((past ≡ ea
 no_both : (b : Bool) → (b ≡ false) → not b ≡ true
 no_both b h = ap not h
 
-false_of : (b : Bool) → not b ≡ true → b ≡ false
+pub false_of : (b : Bool) → not b ≡ true → b ≡ false
 false_of true h = absurd (true≢false (sym h))
 false_of false h = refl
 

@@ -1,0 +1,4 @@
+pub mod Came
+pub mod Events
+pub mod QueryCauses
+pub mod TaskCauses

@@ -2,4 +2,10 @@
 //! say exactly what the law says: tests of sessions and of the law itself stand on them.
 #![tactic(auto)]
 
+mod call;
+mod came;
+mod events;
+mod queries;
+mod shown;
 mod tasks;
+mod turn;
