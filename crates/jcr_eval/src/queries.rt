@@ -20,7 +20,7 @@ use jr_types::Registry;
 use jr_value::Value;
 use oak_machine::Journal;
 use sql_eval::{Row, rows, rows_are_one, rows_text};
-use sql_parse::{Query, SqlFault, answers_are_one, parse};
+use sql_parse::{Query, SqlFault, parse};
 use std::alloc::{AllocError, Global};
 
 pub(crate) fn query_says(
@@ -35,7 +35,6 @@ pub(crate) fn query_says(
     ensures { IfOk result (λ b. IsTrue b
         ↔ QueryCause law.now (history_of journal.now) session query.now vars.now text.now) }
 {
-    answers_are_one();
     match call_of(alloc, law, &journal.start, journal.events.as_slice(), session)? {
         Some(call) => answers(alloc, &law.types, &call.base, query, vars, text),
         None => Ok(false),

@@ -6,4 +6,3 @@ pub mod Places
 pub mod OneOrder
 pub mod OneRows
 pub mod PlainRows
-pub mod SameQuery

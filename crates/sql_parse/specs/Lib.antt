@@ -4,4 +4,3 @@ pub mod Leaves
 pub mod Pieces
 pub mod Reading
 pub mod Trees
-pub mod Answers

@@ -6,7 +6,6 @@ mod conditions;
 mod cursor;
 mod depth;
 mod fault;
-mod laws;
 mod leaves;
 mod names;
 mod operands;
@@ -18,7 +17,6 @@ mod query;
 mod sources;
 
 pub use fault::SqlFault;
-pub use laws::answers_are_one;
 pub use parser::parse;
 pub use query::{
     Column, Condition, DEEPEST, Direction, Join, JoinKind, On, Operand, Operator, Order,
