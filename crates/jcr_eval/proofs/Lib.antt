@@ -1,7 +1,7 @@
 pub mod Came
 pub mod Events
-pub mod OneQuery
-pub mod OneSaid
+pub mod Identifiers
+pub mod Known
+pub mod NoFloat
 pub mod QueryCauses
-pub mod SameQuery
 pub mod TaskCauses

@@ -12,7 +12,7 @@ use Rattle.jr_value.specs.declared.value.Value.{Value}
 use Rattle.jr_value.specs.declared.value.Kind.{Kind}
 use Rattle.jr_items.specs.Refusals.{no_query, no_type, wrong_kind}
 use Rattle.oak_machine.specs.History.{History}
-use Rattle.jcr_eval.specs.Answers.{AreSame}
+use Rattle.sql_parse.specs.Answers.{AreSame}
 use Rattle.sql_parse.specs.Grammar.{IsParsed}
 use Rattle.sql_parse.specs.Trees.{Asked, asked_of}
 use Rattle.sql_parse.specs.declared.fault.SqlFault.{SqlFault}
@@ -21,7 +21,7 @@ use Rattle.sql_parse.specs.declared.query.Query.{Query}
 use Rattle.sql_eval.specs.declared.row.Row.{Row}
 use Rattle.sql_eval.specs.RowTexts.{rows_data}
 use Rattle.sql_eval.specs.Rows.{AreRows}
-use Rattle.jcr_eval.proofs.SameQuery.{rows_same}
+use Rattle.sql_eval.proofs.SameQuery.{rows_same}
 use Rattle.jcr_trans.specs.Texts.{ok_text}
 use Rattle.jcr_law.specs.declared.law.JcrLaw.{JcrLaw}
 use Rattle.jcr_law.specs.Law.{no_text}

@@ -1,5 +1,5 @@
 -- What a query that was read answers.
-use Rattle.std.specs.Prelude.{◌≡◌, ◌⊎◌, ◌×◌, ℕ, List, Option, None, Some, Result, Ok, Err, map}
+use Rattle.std.specs.Prelude.{◌≡◌, ◌⊎◌, ◌×◌, ℕ, Bool, false, List, Option, None, Some, Result, Ok, Err, map}
 use Rattle.jr_path.specs.declared.name.Name.{Name}
 use Rattle.jr_items.specs.Refusals.{no_query, no_type, wrong_kind}
 use Rattle.jr_tree.specs.Trees.{Nodes}
@@ -14,6 +14,7 @@ use Rattle.sql_eval.specs.Rows.{AreRows}
 use Rattle.jcr_trans.specs.Texts.{ok_text}
 use Rattle.jcr_law.specs.Law.{no_text}
 use Rattle.jcr_law.specs.Queries.{unknown_selector}
+use Rattle.jcr_eval.specs.Shown.{is_refusal}
 
 -- the text shows the rows of a query over a tree
 abbrev pub ShowsRows : List TypeDef → Nodes → Query → List ℕ → Type 0
@@ -35,3 +36,9 @@ AnswersRead types tree (Err (fault.InvalidQuery offset)) text = text ≡ no_text
 AnswersRead types tree (Err (fault.Cast asked given)) text =
     text ≡ no_text (wrong_kind asked given)
 AnswersRead types tree (Err fault.Memory) text = ⊥
+
+-- the text is why a text is no query
+abbrev pub refuses_fault : List ℕ → SqlFault → Bool
+refuses_fault text (fault.InvalidQuery offset) = is_refusal text (no_query offset)
+refuses_fault text (fault.Cast asked given) = is_refusal text (wrong_kind asked given)
+refuses_fault text fault.Memory = false

@@ -1,13 +1,15 @@
 // What a query answers (JSR 283, 6 Query).
-ghost use Rattle.std.specs.Prelude.{◌≡◌, ◌↔◌, IfOk, IsTrue, map};
+ghost use Rattle.std.specs.Prelude.{◌≡◌, ◌≢◌, ◌↔◌, Err, IfOk, IsTrue, OnOk, bytes_eq, is_none, map};
 ghost use Rattle.std.specs.Option.{option_copied};
 ghost use Rattle.oak_machine.specs.History.{history_of};
-ghost use Rattle.jr_types.specs.Types.{subtypes};
+ghost use Rattle.jr_types.specs.Types.{subtypes, type_named};
+ghost use Rattle.sql_parse.specs.Grammar.{IsParsed};
+ghost use Rattle.sql_parse.specs.declared.fault.SqlFault.TheVariants.{Memory};
 ghost use Rattle.sql_eval.specs.RowTexts.{rows_data};
 ghost use Rattle.sql_eval.specs.Rows.{AreRows};
 ghost use Rattle.jcr_trans.specs.Texts.{ok_text};
 ghost use Rattle.jcr_law.specs.Queries.{unknown_selector};
-ghost use Rattle.jcr_eval.specs.Asked.{AnswersQuery, AnswersRead, ShowsRows};
+ghost use Rattle.jcr_eval.specs.Asked.{AnswersQuery, AnswersRead, ShowsRows, refuses_fault};
 ghost use Rattle.jcr_eval.specs.TaskCauses.{QueryCause};
 
 use crate::call::call_of;
@@ -104,12 +106,13 @@ fn answers_query(
 fn unknown_selector<'a>(types: &Registry, query: &'a Query) -> Option<&'a Name>
     ensures { option_copied result ≡ unknown_selector types.now query.now }
 {
-    for name in query.selector_types() {
-        if types.get(name).is_none() {
-            return Some(name);
-        }
-    }
-    None
+    query.selector_types().iter().find(|name| is_unknown(types, name))
+}
+
+fn is_unknown(types: &Registry, name: &Name) -> bool
+    ensures { result ≡ is_none (type_named types.now name.now) }
+{
+    types.get(name).is_none()
 }
 
 // Whether the text shows the rows of a query.

@@ -1,10 +1,9 @@
 // Whether a text is the one of a reply.
-ghost use Rattle.std.specs.Prelude.{◌≡◌, false, IfOk, OnOk, bytes_eq, string_bytes};
+ghost use Rattle.std.specs.Prelude.{◌≡◌, ◌+◌, ◌%◌, ◌^◌, IfOk, OnOk, bytes_eq, false, map, string_bytes};
 ghost use Rattle.serde_json.specs.Data.{array, no_members, object, put};
 ghost use Rattle.serde_json.specs.View.{items_of, members_view, view};
 ghost use Rattle.serde_json.specs.Written.{has_float};
 ghost use Rattle.jr_items.specs.Refusals.{IsOrMemory};
-ghost use Rattle.jcr_ref.specs.References.{identifier};
 ghost use Rattle.jcr_trans.specs.Answers.{Done, ShowsRevision, ShowsText, ShowsVector};
 ghost use Rattle.jcr_trans.specs.Texts.{ok_text};
 ghost use Rattle.jcr_law.specs.State.{next_id};
@@ -87,6 +86,7 @@ fn count_of(who: &Who) -> u32
 }
 
 // Whether a text shows how a split ended.
+#[tactic(auto, using(crate::proofs::NoFloat::split_plain))]
 pub(crate) fn is_split_end(alloc: Global, text: &str, end: &SplitEnd) -> Result<bool, AllocError>
     ensures { IfOk result (λ is. is ≡ bytes_eq text.now (ok_text (split_data end.now))) }
 {
@@ -95,6 +95,7 @@ pub(crate) fn is_split_end(alloc: Global, text: &str, end: &SplitEnd) -> Result<
 }
 
 // Whether a text shows what a collection did.
+#[tactic(auto, using(crate::proofs::NoFloat::collected_plain))]
 pub(crate) fn is_collected(
     alloc: Global,
     text: &str,
