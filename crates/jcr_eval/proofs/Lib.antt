@@ -1,6 +1,5 @@
 pub mod Came
 pub mod Events
-pub mod Identifiers
 pub mod Known
 pub mod NoFloat
 pub mod QueryCauses

@@ -1,6 +1,6 @@
 -- The causes of a reply to a query, decided of what its text was read as.
 use Rattle.std.proofs.Common.{◌≡◌, ◌≢◌, ℕ, Bool, true, false, List, Option, None, Some, refl, sym, ap, subst, ◌∙◌}
-use Rattle.std.specs.Prelude.{◌↔◌, ◌×◌, IsTrue, Result, Ok, Err, bytes_eq, is_none, map, option_map}
+use Rattle.std.specs.Prelude.{◌↔◌, IsTrue, Result, Ok, Err, bytes_eq, is_none, map, option_map}
 use Rattle.std.specs.List.{find}
 use Rattle.std.proofs.lemmas.Slice.Eq.{bytes_eq-Decides}
 use Rattle.jr_path.specs.declared.name.Name.{Name}
@@ -18,6 +18,7 @@ use Rattle.sql_parse.specs.Trees.{Asked, asked_of}
 use Rattle.sql_parse.specs.declared.fault.SqlFault.{SqlFault}
 use Rattle.sql_parse.specs.declared.fault.SqlFault.TheVariants as fault
 use Rattle.sql_parse.specs.declared.query.Query.{Query}
+use Rattle.sql_parse.proofs.OneQuery.{one_answer}
 use Rattle.sql_eval.specs.declared.row.Row.{Row}
 use Rattle.sql_eval.specs.RowTexts.{rows_data}
 use Rattle.sql_eval.specs.Rows.{AreRows}
@@ -27,7 +28,7 @@ use Rattle.jcr_law.specs.declared.law.JcrLaw.{JcrLaw}
 use Rattle.jcr_law.specs.Law.{no_text}
 use Rattle.jcr_law.specs.Queries.{QueryAnswers, cast, rows, unknown_selector, untyped, wrong}
 use Rattle.jcr_law.specs.State.{Call, call_of}
-use Rattle.jcr_eval.specs.Asked.{AnswersFor, AnswersQuery, AnswersRead, ShowsRows}
+use Rattle.jcr_eval.specs.Asked.{AnswersFor, AnswersQuery, AnswersRead, IsReadSo, ShowsRows}
 use Rattle.jcr_eval.specs.TaskCauses.{QueryCause}
 
 -- a query's text is answered in one way
@@ -90,17 +91,14 @@ module _ (c : Call) (query : List ℕ) (vars : List (List ℕ × Value)) where
   read_of one p text parsed read (untyped q n is unknown) = read_query q p _ read (one query vars (Ok q) p is parsed) (untyped_query q n unknown)
   read_of one p text parsed read (rows q rs is known are) = read_query q p _ read (one query vars (Ok q) p is parsed) (rows_query q rs known are)
 
--- what is known where a query's text was read
-abbrev pub Reads : List TypeDef → Nodes → List ℕ → List (List ℕ × Value) → List ℕ → Bool → Type 0
-Reads types base query vars text b = (p : Result Query SqlFault) × IsParsed query vars p × (IsTrue b ↔ AnswersRead types base p text) × (p ≢ Err fault.Memory)
-
+-- the causes where the session has a base, and where it has none
 pub query_said : (law : JcrLaw) (h : History) (s : ℕ) (query : Text) (vars : List (Name × Value)) (text : List ℕ) (b : Bool) (c : Call)
-    → AreOne → call_of law h.begin h.past s ≡ Some c → Reads c.types c.base query vars text b → IsTrue b ↔ QueryCause law h s query vars text
-query_said law h s query vars text b c one is reads = (
+    → call_of law h.begin h.past s ≡ Some c → IsReadSo c.types c.base query vars text b → IsTrue b ↔ QueryCause law h s query vars text
+query_said law h s query vars text b c is reads = (
   λ t. (c, text, is, of_read c query vars reads.0 text reads.1 (reads.2.0 t), refl),
   λ cause.
       let same : cause.0 ≡ c = ap (λ (o : Option Call). elim o [ Some x ↦ x | None ↦ c ]) (sym cause.2 ∙ is) in
-      reads.2.1 (read_of c query vars one reads.0 text reads.1 reads.3
+      reads.2.1 (read_of c query vars one_answer reads.0 text reads.1 reads.3
       (subst (λ (d : Call). QueryAnswers d query vars text) same (subst (QueryAnswers cause.0 query vars) (sym cause.4) cause.3))),
 )
 

@@ -1,5 +1,5 @@
 -- The causes of a reply by the commands of the cluster, by queries and by those of observation.
-use Rattle.std.specs.Prelude.{◌≡◌, ◌⊎◌, ◌×◌, ℕ, ◌+◌, List, [], slice_get, Contains, Option, None, Some, IsTrue, IsFalse}
+use Rattle.std.specs.Prelude.{◌≡◌, ◌⊎◌, ℕ, ◌+◌, List, [], slice_get, Contains, Option, None, Some, IsTrue, IsFalse}
 use Rattle.jr_path.specs.declared.name.Name.{Name}
 use Rattle.jr_path.specs.declared.path.Path.{Path}
 use Rattle.jr_path.specs.declared.text.Text.{Text}
@@ -30,7 +30,7 @@ use Rattle.jcr_law.specs.Tasks.{collected_data, finds_stopped, is_out, is_recove
 -- the text shows a revision up to which the cluster node of s published, and which is at least what
 -- was its own when the command began
 abbrev pub OutCause : History → ℕ → List ℕ → Type 0
-OutCause h s text = (k : ℕ) (r : Revision) × (slice_get h.sessions s ≡ Some k)
+OutCause h s text = (k : ℕ) × (r : Revision) × (slice_get h.sessions s ≡ Some k)
     × IsTrue (came s (λ earlier e. is_out k r e) h.past)
     × IsTrue (is_at_most (local h.begin (before_turn h.past s) k) r)
     × (text ≡ answer_text (ShowsRevision r))
@@ -38,7 +38,7 @@ OutCause h s text = (k : ℕ) (r : Revision) × (slice_get h.sessions s ≡ Some
 -- it shows a vector that the cluster node of s learned, with at least what the others had published
 -- when the command began
 abbrev pub InCause : History → ℕ → List ℕ → Type 0
-InCause h s text = (k : ℕ) (v : RevVec) × (slice_get h.sessions s ≡ Some k)
+InCause h s text = (k : ℕ) × (v : RevVec) × (slice_get h.sessions s ≡ Some k)
     × Contains (since h.past s) (event.In k v)
     × IsTrue (knows_published h.clusters h.begin (before_turn h.past s) k v)
     × (text ≡ answer_text (ShowsVector v))
@@ -46,7 +46,7 @@ InCause h s text = (k : ℕ) (v : RevVec) × (slice_get h.sessions s ≡ Some k)
 -- it shows a revision up to which the cluster node of s swept, and which is at least what it had
 -- published when the command began
 abbrev pub SweepCause : History → ℕ → List ℕ → Type 0
-SweepCause h s text = (k : ℕ) (r : Revision) × (slice_get h.sessions s ≡ Some k)
+SweepCause h s text = (k : ℕ) × (r : Revision) × (slice_get h.sessions s ≡ Some k)
     × IsTrue (came s (λ earlier e. is_sweep k r e) h.past)
     × IsTrue (is_at_most (published h.begin (before_turn h.past s) k) r)
     × (text ≡ answer_text (ShowsRevision r))
@@ -58,7 +58,7 @@ CheckpointCause law h s text =
     ((c : Call) × (call_of law h.begin h.past s ≡ Some c)
     × Contains (since h.past s) (event.Checkpoint (next_id c.who) c.who.base)
     × (text ≡ answer_text (ShowsText (next_id c.who))))
-    ⊎ ((c : Call) (r : Refusal) × (call_of law h.begin h.past s ≡ Some c)
+    ⊎ ((c : Call) × (r : Refusal) × (call_of law h.begin h.past s ≡ Some c)
     × (too_many_ids (c.who.ids + 1) ≡ Some r) × (text ≡ no_text r))
 
 -- it shows the base of s, which is attached to the checkpoint; or there was no such checkpoint
@@ -84,7 +84,7 @@ abbrev pub SplitCause : JcrLaw → History → ℕ → Path → List ℕ → Typ
 SplitCause law h s p text =
     ((e : SplitEnd) × Contains (since h.past s) (event.Split s p e)
     × (text ≡ ok_text (split_data e)))
-    ⊎ ((c : Call) (r : Refusal) × (call_of law h.begin h.past s ≡ Some c)
+    ⊎ ((c : Call) × (r : Refusal) × (call_of law h.begin h.past s ≡ Some c)
     × (split_refusal c.base p ≡ Some r) × (text ≡ no_text r))
 
 -- it shows what a collection did
@@ -123,7 +123,7 @@ EventsCause law h s text =
 
 -- it is what the query answers by the tree at the base
 abbrev pub QueryCause : JcrLaw → History → ℕ → Text → List (Name × Value) → List ℕ → Type 0
-QueryCause law h s query vars text = (c : Call) (reply : List ℕ)
+QueryCause law h s query vars text = (c : Call) × (reply : List ℕ)
     × (call_of law h.begin h.past s ≡ Some c) × QueryAnswers c query vars reply × (text ≡ reply)
 
 -- the causes of a reply to such a command, beside those that every command has

@@ -1,9 +1,10 @@
 // What the next command of a session is run with.
 ghost use Rattle.std.specs.Prelude.{◌≡◌, IfOk, option_map, reverse};
-ghost use Rattle.jcr_law.specs.State.{call_of};
+ghost use Rattle.jcr_law.specs.State.{call_of, next_id};
 ghost use Rattle.jcr_eval.specs.Calls.{called};
 
 use jcr_law::{JcrLaw, State};
+use jr_path::Text;
 use jr_tree::{Tree, Who};
 use oak_machine::{Event, Start};
 use std::alloc::{AllocError, Global};
@@ -26,6 +27,13 @@ pub(crate) fn call_of(
 ) -> Result<Option<Call>, AllocError>
     ensures { IfOk result (λ found. option_map (called law.now.types) found
         ≡ call_of law.now start.now (reverse events.now) session) }
+{
+    Err(AllocError)
+}
+
+// The text of the next identifier of a session.
+pub(crate) fn next_id(alloc: Global, who: &Who) -> Result<Text, AllocError>
+    ensures { IfOk result (λ id. id ≡ next_id who.now) }
 {
     Err(AllocError)
 }

@@ -1,15 +1,14 @@
 // What a query answers (JSR 283, 6 Query).
-ghost use Rattle.std.specs.Prelude.{◌≡◌, ◌≢◌, ◌↔◌, Err, IfOk, IsTrue, OnOk, bytes_eq, is_none, map};
+ghost use Rattle.std.specs.Prelude.{◌≡◌, ◌≢◌, ◌↔◌, IfOk, IsTrue, OnOk, bytes_eq, is_none, map};
 ghost use Rattle.std.specs.Option.{option_copied};
 ghost use Rattle.oak_machine.specs.History.{history_of};
 ghost use Rattle.jr_types.specs.Types.{subtypes, type_named};
-ghost use Rattle.sql_parse.specs.Grammar.{IsParsed};
 ghost use Rattle.sql_parse.specs.declared.fault.SqlFault.TheVariants.{Memory};
 ghost use Rattle.sql_eval.specs.RowTexts.{rows_data};
 ghost use Rattle.sql_eval.specs.Rows.{AreRows};
 ghost use Rattle.jcr_trans.specs.Texts.{ok_text};
 ghost use Rattle.jcr_law.specs.Queries.{unknown_selector};
-ghost use Rattle.jcr_eval.specs.Asked.{AnswersQuery, AnswersRead, ShowsRows, refuses_fault};
+ghost use Rattle.jcr_eval.specs.Asked.{AnswersQuery, IsReadSo, ShowsRows, refuses_fault};
 ghost use Rattle.jcr_eval.specs.TaskCauses.{QueryCause};
 
 use crate::call::call_of;
@@ -52,9 +51,7 @@ fn answers(
     vars: &Keyed<Name, Value>,
     text: &str,
 ) -> Result<bool, AllocError>
-    ensures { IfOk result (λ b. (parsed : _) × IsParsed query.now vars.now parsed
-        × (IsTrue b ↔ AnswersRead types.now base.now parsed text.now)
-        × (parsed ≢ Err Memory)) }
+    ensures { IfOk result (IsReadSo types.now base.now query.now vars.now text.now) }
 {
     let vars = pairs_of(alloc, vars)?;
     match parse(alloc, query.as_str(), vars.as_slice()) {

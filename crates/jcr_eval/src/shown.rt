@@ -1,20 +1,18 @@
 // Whether a text is the one of a reply.
-ghost use Rattle.std.specs.Prelude.{◌≡◌, ◌+◌, ◌%◌, ◌^◌, IfOk, OnOk, bytes_eq, false, map, string_bytes};
+ghost use Rattle.std.specs.Prelude.{◌≡◌, IfOk, OnOk, bytes_eq, false, map, string_bytes};
 ghost use Rattle.serde_json.specs.Data.{array, no_members, object, put};
 ghost use Rattle.serde_json.specs.View.{items_of, members_view, view};
 ghost use Rattle.serde_json.specs.Written.{has_float};
 ghost use Rattle.jr_items.specs.Refusals.{IsOrMemory};
 ghost use Rattle.jcr_trans.specs.Answers.{Done, ShowsRevision, ShowsText, ShowsVector};
 ghost use Rattle.jcr_trans.specs.Texts.{ok_text};
-ghost use Rattle.jcr_law.specs.State.{next_id};
 ghost use Rattle.jcr_law.specs.Tasks.{collected_data, skip_data, skipped_data, split_data};
 ghost use Rattle.jcr_eval.specs.Shown.{is_answer, is_refusal};
 
-use jcr_ref::{identifier, identifiers_are_uuids};
 use jcr_trans::{refusal_text, revision_reply, text_reply, vector_reply};
-use jr_path::{DocId, Text};
+use jr_path::DocId;
 use jr_rev::{RevVec, Revision};
-use jr_tree::{Refusal, Who};
+use jr_tree::Refusal;
 use oak_doc::{Collected, SplitEnd};
 use serde_json::{Map, Value as Json};
 use std::alloc::{AllocError, Global};
@@ -55,34 +53,6 @@ pub(crate) fn is_refusal(alloc: Global, text: &str, refusal: &Refusal) -> Result
     }
     let reply = refusal_text(alloc, refusal)?;
     Ok(text == reply.as_str())
-}
-
-// The text of the session's next identifier.
-pub(crate) fn next_id(alloc: Global, who: &Who) -> Result<Text, AllocError>
-    ensures { IfOk result (λ id. id ≡ next_id who.now) }
-{
-    Ok(Text::of(next_text(alloc, who)?))
-}
-
-fn next_text(alloc: Global, who: &Who) -> Result<String, AllocError>
-    ensures { IfOk result (λ text. string_bytes text ≡ next_id who.now) }
-{
-    identifiers_are_uuids();
-    identifier(alloc, session_of(who), count_of(who))
-}
-
-// The number of the session, of which identifiers have the last 24 bits.
-fn session_of(who: &Who) -> u32
-    ensures { result % 2 ^ 24 ≡ (who.now.session + who.now.earlier) % 2 ^ 24 }
-{
-    who.session.wrapping_add(who.earlier)
-}
-
-// The count of the identifier, of which it has the last 24 bits.
-fn count_of(who: &Who) -> u32
-    ensures { result % 2 ^ 24 ≡ (who.now.ids + 1) % 2 ^ 24 }
-{
-    who.ids.wrapping_add(1)
 }
 
 // Whether a text shows how a split ended.

@@ -9,14 +9,14 @@ ghost use Rattle.oak_machine.specs.History.{history_of};
 ghost use Rattle.jcr_eval.specs.Said.{has_in, has_out, has_sweep, is_own, refuses_checkpoint, refuses_id, refuses_split, says_attach, says_checkpoint, says_collect, says_detach, says_in, says_observe, says_out, says_recover, says_release, says_split, says_stop, says_sweep, shows_checkpoint, shows_vector};
 ghost use Rattle.jcr_eval.specs.TaskCauses.{TaskCause};
 
-use crate::call::call_of;
+use crate::call::{call_of, next_id};
 use crate::came::{
     detached_since, has_attached, has_collection, has_found_stopped, has_in, has_kept, has_missed,
     has_out, has_pin, has_recovery, has_released, has_split, has_stop, has_sweep,
 };
 use crate::events::events_says;
 use crate::queries::query_says;
-use crate::shown::{is_done, is_refusal, is_text, is_vector, next_id};
+use crate::shown::{is_done, is_refusal, is_text, is_vector};
 use crate::turn::before_turn;
 use jcr_law::JcrLaw;
 use jcr_ref::MAX_IDS;
@@ -296,9 +296,9 @@ fn stop_says(
     ensures { IfOk result (λ b. b ≡ says_stop (history_of journal.now) session cluster text.now) }
 {
     let events = journal.events.as_slice();
-    let unsupported = is_unsupported(alloc, text, "stop")?;
+    let lacking = is_unsupported(alloc, text, "stop")?;
     let refused = is_own(journal, session, cluster) || has_found_stopped(events, session, cluster);
-    Ok((has_stop(events, session, cluster) && is_done(text)) || (refused && unsupported))
+    Ok((has_stop(events, session, cluster) && is_done(text)) || (refused && lacking))
 }
 
 // Whether the cluster node is that of the session.
@@ -328,8 +328,8 @@ fn recover_says(
     ensures { IfOk result (λ b. b ≡ says_recover (history_of journal.now) session cluster text.now) }
 {
     let events = journal.events.as_slice();
-    let unsupported = is_unsupported(alloc, text, "recover")?;
-    let refused = !is_stopped(before_turn(events, session), cluster) && unsupported;
+    let lacking = is_unsupported(alloc, text, "recover")?;
+    let refused = !is_stopped(before_turn(events, session), cluster) && lacking;
     Ok(has_recovery(events, session, cluster, text) || refused)
 }
 

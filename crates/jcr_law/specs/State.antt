@@ -99,7 +99,7 @@ accepted c (command.Observe p deep mask) = record c.state {
   cursor = Some (record { at = c.who.base; filter = record { path = p; deep = deep; mask = mask } });
 }
 accepted c command.Events = record c.state {
-  cursor = option_map (λ x. record x { at = c.who.base }) c.state.cursor;
+  cursor = option_map {T = Cursor} (λ x. record x { at = c.who.base }) c.state.cursor;
 }
 accepted c m = cond (is_viewed m)
     (viewed (eval c.types c.who c.base c.state.view m) c.state) c.state
