@@ -15,7 +15,7 @@ use crate::turn::{before_turn, is_beginning};
 use jr_path::{Path, Text};
 use jr_rev::{RevVec, Revision};
 use oak_machine::{Event, Journal, StepKind};
-use oak_past::{is_recovered, is_stopped, kept_checkpoint, published};
+use oak_past::{is_recovered, kept_checkpoint, published, was_stopped};
 use std::alloc::{AllocError, Global};
 
 // Whether the session moved a pin since.
@@ -80,7 +80,7 @@ fn finds_stopped(earlier: &[Event], event: &Event, session: u32, cluster: u64) -
     ensures { result ≡ finds_stopped session cluster (reverse earlier.now) event.now }
 {
     match event {
-        Event::Went(of, StepKind::Stop) => *of == session && is_stopped(earlier, cluster),
+        Event::Went(of, StepKind::Stop) => *of == session && was_stopped(earlier, cluster),
         _ => false,
     }
 }

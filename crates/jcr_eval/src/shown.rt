@@ -156,7 +156,7 @@ fn skipped_json(alloc: Global, one: &(DocId, u64, u64)) -> Result<Json, AllocErr
     ensures { IfOk result (λ json. view json ≡ skipped_data one.now) }
 {
     let mut items = Vec::new(alloc);
-    items.push(Json::String(one.0.text()?))?;
+    items.push(Json::String(one.0.text(alloc)?))?;
     items.push(Json::from(one.1))?;
     items.push(Json::from(one.2))?;
     Ok(Json::Array(items))

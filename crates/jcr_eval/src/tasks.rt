@@ -26,7 +26,7 @@ use jr_path::{Path, Text};
 use jr_rev::RevVec;
 use jr_tree::{Refusal, Tree, Who};
 use oak_machine::{Event, Journal};
-use oak_past::{base_of, is_stopped, local, published};
+use oak_past::{base_of, local, published, was_stopped};
 use std::alloc::{AllocError, Global};
 
 // Whether a text is a reply to such a command, whose causes are its own.
@@ -329,7 +329,7 @@ fn recover_says(
 {
     let events = journal.events.as_slice();
     let lacking = is_unsupported(alloc, text, "recover")?;
-    let refused = !is_stopped(before_turn(events, session), cluster) && lacking;
+    let refused = !was_stopped(before_turn(events, session), cluster) && lacking;
     Ok(has_recovery(events, session, cluster, text) || refused)
 }
 

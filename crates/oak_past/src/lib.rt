@@ -14,6 +14,6 @@ pub use heads::{local, local_head, published};
 pub use machine::follows;
 pub use past::{is_committed, is_ended};
 pub use sessions::{
-    base_of, is_recovered, is_stopped, kept_checkpoint, last_checkpoint, next_index,
+    base_of, is_recovered, kept_checkpoint, last_checkpoint, next_index, was_stopped,
 };
 pub use tree::{begin_tree, tree_among, tree_at, tree_from};

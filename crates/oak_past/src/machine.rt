@@ -99,8 +99,8 @@ fn may_follow(journal: &Journal, event: &Event) -> bool
         Event::Collected(session, collected) => may_collect(events, *session, collected),
         Event::Went(session, _) => may_go(events, *session),
         Event::Said(session, index, _) => is_next_index(events, *session, *index),
-        Event::Stop(cluster) => !is_stopped(events, u64::from(*cluster)),
-        Event::Recover(cluster) => is_stopped(events, u64::from(*cluster)) && !is_flying(events, *cluster),
+        Event::Stop(cluster) => !is_stopped(events, *cluster),
+        Event::Recover(cluster) => is_stopped(events, *cluster) && !is_flying(events, *cluster),
     }
 }
 
@@ -140,7 +140,7 @@ fn is_running(sessions: &[u32], events: &[Event], session: u32) -> bool
     ensures { IsTrue result ↔ IsFalse (is_stopped_under sessions.now (reverse events.now) session) }
 {
     match sessions.get(session as usize) {
-        Some(node) => !is_stopped(events, u64::from(*node)),
+        Some(node) => !is_stopped(events, *node),
         None => true,
     }
 }
@@ -153,7 +153,7 @@ fn may_head(journal: &Journal, cluster: u32, v: &RevVec) -> bool
         ↔ (IsFalse (is_stopped h.past cluster) × (v.now ≡ head_of h.clusters h.begin h.past cluster)) }
 {
     let events = journal.events.as_slice();
-    !is_stopped(events, u64::from(cluster)) && is_same(v, &head_of(journal, events, cluster))
+    !is_stopped(events, cluster) && is_same(v, &head_of(journal, events, cluster))
 }
 
 fn may_login(journal: &Journal, session: u32, v: &RevVec) -> bool
@@ -252,7 +252,7 @@ fn may_take_in(journal: &Journal, cluster: u32, v: &RevVec) -> bool
     ensures { let h = history_of journal.now in IsTrue result
         ↔ (IsFalse (is_stopped h.past cluster) × MayLearn h cluster v.now) }
 {
-    !is_stopped(journal.events.as_slice(), u64::from(cluster)) && may_learn(journal, cluster, v)
+    !is_stopped(journal.events.as_slice(), cluster) && may_learn(journal, cluster, v)
 }
 
 // Whether a vector is what a cluster node learns from what had been published at some moment.

@@ -83,7 +83,7 @@ fn is_refused(events: &[Event], r: Revision) -> bool
 pub(crate) fn is_open(events: &[Event], r: Revision) -> bool
     ensures { IsTrue result ↔ IsOpen (reverse events.now) r }
 {
-    if is_stopped(events, u64::from(r.cluster)) {
+    if is_stopped(events, r.cluster) {
         return false;
     }
     is_in_flight(events, r) && !is_committed(events, r) && !is_refused(events, r)

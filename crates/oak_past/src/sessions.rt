@@ -167,9 +167,16 @@ pub(crate) fn is_drawing(events: &[Event], session: u32) -> bool
     drawing
 }
 
-/// Whether a cluster node was stopped.
+// Whether a cluster node was stopped.
+pub(crate) fn is_stopped(events: &[Event], cluster: u32) -> bool
+    ensures { result ≡ is_stopped (reverse events.now) cluster }
+{
+    was_stopped(events, u64::from(cluster))
+}
+
+/// Whether a cluster node was stopped; its number may be one that no cluster node has.
 #[tactic(auto, using(oak_machine::proofs::Forward::past_more))]
-pub fn is_stopped(events: &[Event], cluster: u64) -> bool
+pub fn was_stopped(events: &[Event], cluster: u64) -> bool
     ensures { result ≡ is_stopped (reverse events.now) cluster }
 {
     let mut stopped = false;
