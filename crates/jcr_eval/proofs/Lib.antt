@@ -1,6 +1,12 @@
-mod Childless
-mod Identifiers
-mod Viewed
+pub mod Came
 pub mod Causes
+mod Childless
+pub mod Events
+mod Identifiers
 pub mod Iffs
+pub mod Known
+pub mod NoFloat
 pub mod Options
+pub mod QueryCauses
+pub mod TaskCauses
+mod Viewed
