@@ -14,5 +14,4 @@ mod Needed
 mod OnePass
 mod Replied
 mod Rounds
-mod Whole
 mod WholeLacks
