@@ -1,6 +1,6 @@
 -- The causes of a reply by commands: those that every command may have, and those of its own. Where
 -- they give one reply at most, it is named: a text is said for them where it is that reply.
-use Rattle.std.specs.Prelude.{◌≡◌, ◌⊎◌, ℕ, Bool, false, cond, not, ◌&&◌, ◌||◌, List, [], ◌∷◌, slice_get, Option, None, Some, is_none, option_and_then, option_map, IsTrue, Result, Ok, Err}
+use Rattle.std.specs.Prelude.{◌≡◌, ◌⊎◌, ℕ, Bool, false, cond, not, ◌&&◌, List, [], ◌∷◌, slice_get, Option, None, Some, is_none, option_and_then, option_map, IsTrue, Result, Ok, Err}
 use Rattle.std.specs.Option.{option_map_or}
 use Rattle.jr_rev.specs.declared.vector.RevVec.{RevVec}
 use Rattle.jr_rev.specs.Vectors.{sees}

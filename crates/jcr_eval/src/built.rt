@@ -6,7 +6,8 @@ use jcr_trans::Command;
 
 // Whether a session may run a command, by whether it is attached to a checkpoint.
 pub(crate) fn is_allowed(attached: bool, command: &Command) -> bool
-    ensures { asked attached command.now ≡ cond result (Allowed command.now) (Unsupported command.now) }
+    ensures { asked attached command.now
+        ≡ cond result (Allowed command.now) (Unsupported command.now) }
 {
     is_built(command) && !is_forbidden(attached, command)
 }

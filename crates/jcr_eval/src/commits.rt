@@ -57,7 +57,8 @@ pub(crate) fn commit_says(
     command: &Command,
     text: &str,
 ) -> Result<bool, AllocError>
-    ensures { IfOk result (λ b. IsTrue b ↔ CommitCause law.now (history_of journal.now) session command.now text.now) }
+    ensures { IfOk result (λ b. IsTrue b
+        ↔ CommitCause law.now (history_of journal.now) session command.now text.now) }
 {
     let due = due_reply(alloc, law, journal, session, command)?;
     if is_reply(due, text) {
@@ -79,7 +80,8 @@ fn due_reply(
     session: u32,
     command: &Command,
 ) -> Result<Option<String>, AllocError>
-    ensures { IfOk result (λ reply. option_map string_bytes reply ≡ due_reply law.now (history_of journal.now) session command.now) }
+    ensures { IfOk result (λ reply. option_map string_bytes reply
+        ≡ due_reply law.now (history_of journal.now) session command.now) }
 {
     let events = journal.events.as_slice();
     if drawn_since(events, session).is_some() {
@@ -98,7 +100,8 @@ fn uncommitted_reply(
     call: &Call,
     command: &Command,
 ) -> Result<Option<String>, AllocError>
-    ensures { IfOk result (λ reply. option_map string_bytes reply ≡ uncommitted_reply (called types.now call.now) command.now) }
+    ensures { IfOk result (λ reply. option_map string_bytes reply
+        ≡ uncommitted_reply (called types.now call.now) command.now) }
 {
     match edit_due(alloc, types, call, command)? {
         Some(due) => reply_to_due(alloc, types, call, command, due),
@@ -106,14 +109,15 @@ fn uncommitted_reply(
     }
 }
 
-// The edit that is due for a command, or its refusal; other commands than those that commit have none.
+// The edit that is due for a command, or its refusal; only commands that commit have one.
 fn edit_due(
     alloc: Global,
     types: &Registry,
     call: &Call,
     command: &Command,
 ) -> Result<Option<Due>, AllocError>
-    ensures { IfOk result (λ due. option_map due_of due ≡ edit_due (called types.now call.now) command.now) }
+    ensures { IfOk result (λ due. option_map due_of due
+        ≡ edit_due (called types.now call.now) command.now) }
 {
     match command {
         Command::Save => pending_due(call),
@@ -139,7 +143,8 @@ fn edit_due(
 
 // The edit or the refusal of a call that may want memory.
 fn made_due(made: Result<Edit, Refusal>) -> Result<Option<Due>, AllocError>
-    ensures { (due : Result (List Write) Refusal) → IfOk made (IsDue due) → IfErr made (IsDueRefusal due)
+    ensures { (due : Result (List Write) Refusal)
+        → IfOk made (IsDue due) → IfErr made (IsDueRefusal due)
         → IfOk result (λ found. option_map due_of found ≡ Some due) }
 {
     match made {
@@ -150,7 +155,8 @@ fn made_due(made: Result<Edit, Refusal>) -> Result<Option<Due>, AllocError>
 
 // A refusal that doesn't stand for want of memory.
 fn refused(refusal: Refusal) -> Result<Option<Due>, AllocError>
-    ensures { IfOk result (λ found. ¬ (refusal ≡ out_of_memory) × (option_map due_of found ≡ Some (Err refusal))) }
+    ensures { IfOk result (λ found. ¬ (refusal
+        ≡ out_of_memory) × (option_map due_of found ≡ Some (Err refusal))) }
 {
     if refusal.number == 16 {
         return Err(AllocError);
@@ -160,19 +166,16 @@ fn refused(refusal: Refusal) -> Result<Option<Due>, AllocError>
 
 // The pending edits.
 fn pending_due(call: &Call) -> Result<Option<Due>, AllocError>
-    ensures { IfOk result (λ found. option_map due_of found ≡ Some (Ok (changes call.now.base call.now.state.view))) }
+    ensures { IfOk result (λ found. option_map due_of found
+        ≡ Some (Ok (changes call.now.base call.now.state.view))) }
 {
     Ok(Some(Due::Edited(changes(&call.base, &call.state.view)?)))
 }
 
 // The edit that locks a node with the session's next identifier.
-fn lock_due(
-    alloc: Global,
-    call: &Call,
-    path: &Path,
-    deep: bool,
-) -> Result<Option<Due>, AllocError>
-    ensures { (types : List TypeDef) → IfOk result (λ found. option_map due_of found ≡ Some (drawing_one (called types call.now)
+fn lock_due(alloc: Global, call: &Call, path: &Path, deep: bool) -> Result<Option<Due>, AllocError>
+    ensures { (types : List TypeDef) → IfOk result (λ found. option_map due_of found
+        ≡ Some (drawing_one (called types call.now)
         (lock_edit call.now.base path.now deep (next_id call.now.who)))) }
 {
     let token = next_id(alloc, &call.who)?;
@@ -187,7 +190,8 @@ fn lock_by(
     deep: bool,
     token: &str,
 ) -> Result<Option<Due>, AllocError>
-    ensures { (types : List TypeDef) → IfOk result (λ found. option_map due_of found ≡ Some (drawing_one (called types call.now)
+    ensures { (types : List TypeDef) → IfOk result (λ found. option_map due_of found
+        ≡ Some (drawing_one (called types call.now)
         (lock_edit call.now.base path.now deep token.now))) }
 {
     match lock_edit(alloc, &call.base, path, deep, token) {
@@ -198,7 +202,8 @@ fn lock_by(
 
 // An edit for which one identifier is drawn.
 fn drawing_one(alloc: Global, who: &Who, edit: Edit) -> Result<Option<Due>, AllocError>
-    ensures { IfOk result (λ found. option_map due_of found ≡ Some (or_else (too_many_ids (who.now.ids + 1)) edit.writes)) }
+    ensures { IfOk result (λ found. option_map due_of found
+        ≡ Some (or_else (too_many_ids (who.now.ids + 1)) edit.writes)) }
 {
     if who.ids >= MAX_IDS {
         return refused(over_limit(alloc, "ids", MAX_IDS as u64));
@@ -208,7 +213,8 @@ fn drawing_one(alloc: Global, who: &Who, edit: Edit) -> Result<Option<Due>, Allo
 
 // The edit that unlocks a node, for the tokens that the session holds.
 fn unlock_due(alloc: Global, call: &Call, path: &Path) -> Result<Option<Due>, AllocError>
-    ensures { IfOk result (λ found. option_map due_of found ≡ Some (unlock_edit call.now.base path.now call.now.state.tokens)) }
+    ensures { IfOk result (λ found. option_map due_of found
+        ≡ Some (unlock_edit call.now.base path.now call.now.state.tokens)) }
 {
     let tokens = strings(alloc, call.state.tokens.as_slice())?;
     made_due(unlock_edit(alloc, &call.base, path, tokens.as_slice()))
@@ -221,7 +227,8 @@ fn checkin_due(
     call: &Call,
     path: &Path,
 ) -> Result<Option<Due>, AllocError>
-    ensures { IfOk result (λ found. option_map due_of found ≡ Some (checkin_edit types.now call.now.base path.now call.now.who)) }
+    ensures { IfOk result (λ found. option_map due_of found
+        ≡ Some (checkin_edit types.now call.now.base path.now call.now.who)) }
 {
     let mut who = call.who;
     made_due(checkin_edit(alloc, types, &call.base, path, &mut who))
@@ -246,7 +253,8 @@ fn reply_to_due(
     command: &Command,
     due: Due,
 ) -> Result<Option<String>, AllocError>
-    ensures { IfOk result (λ reply. option_map string_bytes reply ≡ reply_to_due (called types.now call.now) command.now (due_of due)) }
+    ensures { IfOk result (λ reply. option_map string_bytes reply
+        ≡ reply_to_due (called types.now call.now) command.now (due_of due)) }
 {
     match due {
         Due::Edited(edit) => reply_to_edit(alloc, types, call, command, edit),
@@ -262,7 +270,8 @@ fn reply_to_edit(
     command: &Command,
     edit: Edit,
 ) -> Result<Option<String>, AllocError>
-    ensures { IfOk result (λ reply. option_map string_bytes reply ≡ reply_to_due (called types.now call.now) command.now (Ok edit.writes)) }
+    ensures { IfOk result (λ reply. option_map string_bytes reply
+        ≡ reply_to_due (called types.now call.now) command.now (Ok edit.writes)) }
 {
     if edit.writes.is_empty() {
         return unwritten_reply(alloc, types, call, command);
@@ -277,7 +286,8 @@ fn unwritten_reply(
     call: &Call,
     command: &Command,
 ) -> Result<Option<String>, AllocError>
-    ensures { IfOk result (λ reply. option_map string_bytes reply ≡ Some (answer_text (unwritten_answer (called types.now call.now) command.now))) }
+    ensures { IfOk result (λ reply. option_map string_bytes reply
+        ≡ Some (answer_text (unwritten_answer (called types.now call.now) command.now))) }
 {
     match command {
         Command::Checkin(path) => version_reply(alloc, &call.base, path),
@@ -287,7 +297,8 @@ fn unwritten_reply(
 
 // The reply that shows the version of a check-in.
 fn version_reply(alloc: Global, tree: &Tree, path: &Path) -> Result<Option<String>, AllocError>
-    ensures { IfOk result (λ reply. option_map string_bytes reply ≡ Some (answer_text (version_answer (checked_in_version tree.now path.now)))) }
+    ensures { IfOk result (λ reply. option_map string_bytes reply
+        ≡ Some (answer_text (version_answer (checked_in_version tree.now path.now)))) }
 {
     match version_told(alloc, tree, path)? {
         Some(name) => Ok(Some(text_reply(alloc, name.as_str())?)),
@@ -303,7 +314,8 @@ fn plan_reply(
     edit: Edit,
 ) -> Result<Option<String>, AllocError>
     ensures { IfOk result (λ reply. option_map string_bytes reply
-        ≡ option_map no_text (plan_refusal types.now call.now.base call.now.state.tokens edit.writes)) }
+        ≡ option_map no_text
+        (plan_refusal types.now call.now.base call.now.state.tokens edit.writes)) }
 {
     let tokens = strings(alloc, call.state.tokens.as_slice())?;
     match plan_of(alloc, types, &call.base, edit, tokens.as_slice()) {
@@ -320,7 +332,8 @@ fn committed_reply(
     session: u32,
     command: &Command,
 ) -> Result<Option<String>, AllocError>
-    ensures { IfOk result (λ reply. option_map string_bytes reply ≡ committed_reply law.now (history_of journal.now) session command.now) }
+    ensures { IfOk result (λ reply. option_map string_bytes reply
+        ≡ committed_reply law.now (history_of journal.now) session command.now) }
 {
     match draw_since(journal.events.as_slice(), session) {
         Some(draw) => reply_to_draw(alloc, law, journal, session, command, draw),
@@ -337,7 +350,8 @@ fn reply_to_draw(
     command: &Command,
     draw: &Draw,
 ) -> Result<Option<String>, AllocError>
-    ensures { IfOk result (λ reply. option_map string_bytes reply ≡ reply_to_draw law.now (history_of journal.now) session command.now draw.now) }
+    ensures { IfOk result (λ reply. option_map string_bytes reply
+        ≡ reply_to_draw law.now (history_of journal.now) session command.now draw.now) }
 {
     let events = journal.events.as_slice();
     if !is_seen_commit(journal, session, draw) {
@@ -372,8 +386,10 @@ fn answer_to_draw(
     command: &Command,
     draw: &Draw,
 ) -> Result<Option<String>, AllocError>
-    ensures { let h = history_of journal.now in IfOk result (λ reply. option_map string_bytes reply ≡ Some (answer_text
-        (committed_answer (called types.now call.now) (tree_at h.begin h.past draw.now.base) draw.now.revision command.now))) }
+    ensures { let h = history_of journal.now in IfOk result (λ reply. option_map string_bytes reply
+        ≡ Some (answer_text
+        (committed_answer (called types.now call.now)
+        (tree_at h.begin h.past draw.now.base) draw.now.revision command.now))) }
 {
     match command {
         Command::Lock(_, _) => token_reply(alloc, call),
@@ -384,7 +400,8 @@ fn answer_to_draw(
 
 // The reply that shows the token of a lock.
 fn token_reply(alloc: Global, call: &Call) -> Result<Option<String>, AllocError>
-    ensures { IfOk result (λ reply. option_map string_bytes reply ≡ Some (answer_text (ShowsText (next_id call.now.who)))) }
+    ensures { IfOk result (λ reply. option_map string_bytes reply
+        ≡ Some (answer_text (ShowsText (next_id call.now.who)))) }
 {
     let token = next_id(alloc, &call.who)?;
     Ok(Some(text_reply(alloc, token.as_str())?))
@@ -397,7 +414,8 @@ fn made_reply(
     draw: &Draw,
     path: &Path,
 ) -> Result<Option<String>, AllocError>
-    ensures { let h = history_of journal.now in IfOk result (λ reply. option_map string_bytes reply ≡ Some (answer_text
+    ensures { let h = history_of journal.now in IfOk result (λ reply. option_map string_bytes reply
+        ≡ Some (answer_text
         (version_answer (checked_in_version (tree_at h.begin h.past draw.now.base) path.now)))) }
 {
     let tree = tree_at(journal, &draw.base)?;
@@ -406,19 +424,17 @@ fn made_reply(
 
 // The reply that shows a revision.
 fn made_at(alloc: Global, revision: &Revision) -> Result<Option<String>, AllocError>
-    ensures { IfOk result (λ reply. option_map string_bytes reply ≡ Some (answer_text (ShowsRevision revision.now))) }
+    ensures { IfOk result (λ reply. option_map string_bytes reply
+        ≡ Some (answer_text (ShowsRevision revision.now))) }
 {
     let text = revision_reply(revision);
     Ok(Some(String::from_str(alloc, text.as_str())?))
 }
 
 // The reply where the commit was refused for a clash.
-fn clash_reply(
-    alloc: Global,
-    journal: &Journal,
-    session: u32,
-) -> Result<Option<String>, AllocError>
-    ensures { IfOk result (λ reply. option_map string_bytes reply ≡ clash_reply (history_of journal.now) session) }
+fn clash_reply(alloc: Global, journal: &Journal, session: u32) -> Result<Option<String>, AllocError>
+    ensures { IfOk result (λ reply. option_map string_bytes reply
+        ≡ clash_reply (history_of journal.now) session) }
 {
     let events = journal.events.as_slice();
     match drawn_since(events, session) {
@@ -428,13 +444,10 @@ fn clash_reply(
 }
 
 // The same, by the revision that was drawn.
-fn ended_clash(
-    alloc: Global,
-    journal: &Journal,
-    r: Revision,
-) -> Result<Option<String>, AllocError>
+fn ended_clash(alloc: Global, journal: &Journal, r: Revision) -> Result<Option<String>, AllocError>
     ensures { let h = history_of journal.now in IfOk result (λ reply. option_map string_bytes reply
-        ≡ cond (is_ended h.past r) (option_map (λ x. no_text (clash x.0 x.1)) (refusal_of h.past r)) None) }
+        ≡ cond (is_ended h.past r)
+        (option_map (λ x. no_text (clash x.0 x.1)) (refusal_of h.past r)) None) }
 {
     let events = journal.events.as_slice();
     if !is_ended(events, r) {

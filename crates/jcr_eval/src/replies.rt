@@ -18,10 +18,7 @@ pub(crate) fn is_reply(reply: Option<String>, text: &str) -> bool
 }
 
 // The reply of a refusal.
-pub(crate) fn refusal_reply(
-    alloc: Global,
-    refusal: &Refusal,
-) -> Result<Option<String>, AllocError>
+pub(crate) fn refusal_reply(alloc: Global, refusal: &Refusal) -> Result<Option<String>, AllocError>
     ensures { IfOk result (λ reply. option_map string_bytes reply ≡ Some (no_text refusal.now)) }
 {
     Ok(Some(refusal_text(alloc, refusal)?))

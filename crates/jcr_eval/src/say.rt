@@ -1,6 +1,5 @@
 // Whether the law lets a text be said.
 ghost use Rattle.std.specs.Prelude.{◌≡◌, ◌↔◌, cond, IfOk, IsTrue, Some, option_and_then, option_map, slice_get, string_bytes};
-ghost use Rattle.std.specs.Option.{option_copied};
 ghost use Rattle.oak_machine.specs.History.{history_of};
 ghost use Rattle.oak_machine.specs.Sessions.{is_attached};
 ghost use Rattle.jr_rev.specs.declared.vector.RevVec.{RevVec};
@@ -8,7 +7,6 @@ ghost use Rattle.jcr_view.specs.Outcomes.{is_viewed};
 ghost use Rattle.jcr_law.specs.Built.{Allowed, Unsupported};
 ghost use Rattle.jcr_law.specs.Law.{MaySay, SaysBy, asked_by, no_support, no_text};
 ghost use Rattle.jcr_law.specs.Since.{before_turn, stop_position};
-ghost use Rattle.jcr_law.specs.State.{command_at};
 ghost use Rattle.jcr_law.specs.Tasks.{stopped_at};
 ghost use Rattle.jcr_eval.specs.Causes.{AllowedCause, AnyCause, OwnCause, may_want_memory, memory_reply, stopped_reply, vector_text, ViewCause};
 
@@ -16,6 +14,7 @@ use crate::built::is_allowed;
 use crate::commits::commit_says;
 use crate::replies::{cause_reply, is_reply, refusal_reply};
 use crate::since::stop_position;
+use crate::state::command_at;
 use crate::tasks::task_says;
 use crate::turn::before_turn;
 use crate::view::view_says;
@@ -27,13 +26,11 @@ use jr_path::List;
 use jr_rev::RevVec;
 use jr_tree::{Datum, Refusal};
 use oak_machine::Journal;
-use oak_past::{
-    base_of, drawn_since, is_attached, is_committed, is_drawing, refreshed_since,
-};
+use oak_past::{base_of, drawn_since, is_attached, is_committed, is_drawing, refreshed_since};
 use std::alloc::{AllocError, Global};
 
-/// Whether the law lets a text be said as the reply of that index of a session at a journal. It goes over the whole journal for
-/// each of its events.
+/// Whether the law lets a text be said as the reply of that index of a session at a journal. It
+/// goes over the whole journal for each of its events.
 #[tactic(auto, using(crate::proofs::Causes::says_by_command, crate::proofs::Causes::says_nothing))]
 pub fn eval(
     alloc: Global,
@@ -43,21 +40,12 @@ pub fn eval(
     index: u32,
     text: &str,
 ) -> Result<bool, AllocError>
-    ensures { IfOk result (λ answer. IsTrue answer ↔ SaysBy law.now (history_of journal.now) session index text.now) }
+    ensures { IfOk result (λ answer. IsTrue answer
+        ↔ SaysBy law.now (history_of journal.now) session index text.now) }
 {
     match command_at(law, session, index as usize) {
         Some(command) => may_say(alloc, law, journal, session, command, text),
         None => Ok(false),
-    }
-}
-
-// The command of an index of a session.
-fn command_at(law: &JcrLaw, session: u32, index: usize) -> Option<&Command>
-    ensures { option_copied result ≡ command_at law.now session index }
-{
-    match law.sessions.as_slice().get(session as usize) {
-        Some(script) => script.commands.as_slice().get(index),
-        None => None,
     }
 }
 
@@ -85,19 +73,15 @@ fn may_say(
 
 // Whether a session may run a command, as it was attached or not when the command began.
 fn is_asked(journal: &Journal, session: u32, command: &Command) -> bool
-    ensures { asked_by (history_of journal.now) session command.now ≡ cond result (Allowed command.now) (Unsupported command.now) }
+    ensures { asked_by (history_of journal.now) session command.now
+        ≡ cond result (Allowed command.now) (Unsupported command.now) }
 {
     let before = before_turn(journal.events.as_slice(), session);
     is_allowed(is_attached(before, session), command)
 }
 
 // Whether a text is a reply that every command may have.
-fn any_says(
-    alloc: Global,
-    journal: &Journal,
-    session: u32,
-    text: &str,
-) -> Result<bool, AllocError>
+fn any_says(alloc: Global, journal: &Journal, session: u32, text: &str) -> Result<bool, AllocError>
     ensures { IfOk result (λ b. IsTrue b ↔ AnyCause (history_of journal.now) session text.now) }
 {
     let stopped = stopped_reply(alloc, journal, session)?;
@@ -114,7 +98,8 @@ fn stopped_reply(
     journal: &Journal,
     session: u32,
 ) -> Result<Option<String>, AllocError>
-    ensures { IfOk result (λ reply. option_map string_bytes reply ≡ stopped_reply (history_of journal.now) session) }
+    ensures { IfOk result (λ reply. option_map string_bytes reply
+        ≡ stopped_reply (history_of journal.now) session) }
 {
     match stop_of(journal, session) {
         Some(position) => stopped_text(alloc, position),
@@ -124,7 +109,8 @@ fn stopped_reply(
 
 // The position at which the cluster node of a session was stopped.
 fn stop_of(journal: &Journal, session: u32) -> Option<usize>
-    ensures { let h = history_of journal.now in result ≡ option_and_then (stop_position h.past) (slice_get h.sessions session) }
+    ensures { let h = history_of journal.now in result
+        ≡ option_and_then (stop_position h.past) (slice_get h.sessions session) }
 {
     match journal.sessions.as_slice().get(session as usize) {
         Some(cluster) => stop_position(journal.events.as_slice(), *cluster),
@@ -133,7 +119,8 @@ fn stop_of(journal: &Journal, session: u32) -> Option<usize>
 }
 
 fn stopped_text(alloc: Global, position: usize) -> Result<Option<String>, AllocError>
-    ensures { IfOk result (λ reply. option_map string_bytes reply ≡ Some (no_text (stopped_at position))) }
+    ensures { IfOk result (λ reply. option_map string_bytes reply
+        ≡ Some (no_text (stopped_at position))) }
 {
     let refusal = stopped_at(alloc, position)?;
     refusal_reply(alloc, &refusal)
@@ -154,7 +141,8 @@ fn memory_reply(
     journal: &Journal,
     session: u32,
 ) -> Result<Option<String>, AllocError>
-    ensures { IfOk result (λ reply. option_map string_bytes reply ≡ memory_reply (history_of journal.now) session) }
+    ensures { IfOk result (λ reply. option_map string_bytes reply
+        ≡ memory_reply (history_of journal.now) session) }
 {
     if may_want_memory(journal, session) {
         refusal_reply(alloc, &Refusal::memory(alloc))
@@ -185,7 +173,8 @@ fn barred_says(alloc: Global, command: &Command, text: &str) -> Result<bool, All
     Ok(is_reply(reply, text))
 }
 
-// Whether a text is a reply to a command that the session may run, beside those that every command may have.
+// Whether a text is a reply to a command that the session may run, beside those that every command
+// may have.
 fn allowed_says(
     alloc: Global,
     law: &JcrLaw,
@@ -194,7 +183,8 @@ fn allowed_says(
     command: &Command,
     text: &str,
 ) -> Result<bool, AllocError>
-    ensures { IfOk result (λ b. IsTrue b ↔ AllowedCause law.now (history_of journal.now) session command.now text.now) }
+    ensures { IfOk result (λ b. IsTrue b
+        ↔ AllowedCause law.now (history_of journal.now) session command.now text.now) }
 {
     if viewed_says(alloc, law, journal, session, command, text)? {
         return Ok(true);
@@ -233,7 +223,8 @@ fn own_says(
     command: &Command,
     text: &str,
 ) -> Result<bool, AllocError>
-    ensures { IfOk result (λ b. IsTrue b ↔ OwnCause law.now (history_of journal.now) session command.now text.now) }
+    ensures { IfOk result (λ b. IsTrue b
+        ↔ OwnCause law.now (history_of journal.now) session command.now text.now) }
 {
     let events = journal.events.as_slice();
     match command {

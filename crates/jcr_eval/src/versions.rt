@@ -15,8 +15,8 @@ use jr_path::{Name, Path, PathFault};
 use jr_tree::Tree;
 use std::alloc::{AllocError, Global};
 
-// The name of the version that a check-in of a node makes, or of the base version of a node that is checked in; also where the
-// node has no history, or an identifier that is no name.
+// The name of the version that a check-in of a node makes, or of the base version of a node that is
+// checked in; also where the node has no history, or an identifier that is no name.
 pub(crate) fn version_told(
     alloc: Global,
     tree: &Tree,
@@ -29,12 +29,7 @@ pub(crate) fn version_told(
 }
 
 // The same, by the node's identifier.
-fn version_of(
-    alloc: Global,
-    tree: &Tree,
-    path: &Path,
-    id: &str,
-) -> Result<Option<Name>, AllocError>
+fn version_of(alloc: Global, tree: &Tree, path: &Path, id: &str) -> Result<Option<Name>, AllocError>
     requires { id.now ≡ identifier_of tree.now path.now }
     ensures { IfOk result (λ name. name ≡ checked_in_version tree.now path.now) }
 {
@@ -79,8 +74,8 @@ fn first_version(
     Ok(Some(Name::of(alloc, "v0")?))
 }
 
-// No node has a text as its name that isn't in the grammar of names, and so no node stands below one. It changes nothing: callers
-// learn the fact.
+// No node has a text as its name that isn't in the grammar of names, and so no node stands below
+// one. It changes nothing: callers learn the fact.
 fn know_childless(tree: &Tree, id: &str)
     requires { ¬ (IsName id.now) }
     ensures { children_of tree.now (child_path version_storage id.now) ≡ [] }

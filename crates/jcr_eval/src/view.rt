@@ -24,7 +24,8 @@ pub(crate) fn view_says(
     text: &str,
 ) -> Result<bool, AllocError>
     requires { IsTrue (is_viewed command.now) }
-    ensures { IfOk result (λ b. IsTrue b ↔ ViewCause law.now (history_of journal.now) session command.now text.now) }
+    ensures { IfOk result (λ b. IsTrue b
+        ↔ ViewCause law.now (history_of journal.now) session command.now text.now) }
 {
     match call_of(
         alloc,

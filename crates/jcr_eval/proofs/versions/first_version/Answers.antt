@@ -12,5 +12,7 @@ of-requires c = plain_name (118 ∷ 48 ∷ []) refl
 pub returns : goal.returns
 returns c =
     ap Some c.in_ok-of.ensures
-    ∙ sym (first_of c.args.tree.now c.args.path.now (sym c.in_ok-is_checked_in.ensures ∙ c.if-branch.false)
-    (ap (λ id. children_of c.args.tree.now (child_path version_storage id)) (sym c.requires.is) ∙ c.know_childless.ensures))
+    ∙ sym (first_of c.args.tree.now c.args.path.now
+    (sym c.in_ok-is_checked_in.ensures ∙ c.if-branch.false)
+    (ap (λ id. children_of c.args.tree.now (child_path version_storage id)) (sym c.requires.is)
+    ∙ c.know_childless.ensures))

@@ -6,4 +6,5 @@ use Rattle.jcr_eval.proofs.versions.know_childless.Given as goal
 
 -- what is left decides
 abbrev pub invariant-loop-at : goal.invariant-loop-at
-invariant-loop-at l = children_of l.at-iterator (child_path version_storage l.id) ≡ children_of l.tree (child_path version_storage l.id)
+invariant-loop-at l = children_of l.at-iterator (child_path version_storage l.id)
+    ≡ children_of l.tree (child_path version_storage l.id)
