@@ -1,3 +1,4 @@
+pub mod AfterDraw
 pub mod Built
 pub mod Commits
 pub mod Growing

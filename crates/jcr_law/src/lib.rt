@@ -7,5 +7,5 @@ mod laws;
 mod state;
 
 pub use law::JcrLaw;
-pub use laws::starts_are_plans;
+pub use laws::{drawn_commands_are_answered, starts_are_plans};
 pub use state::{Cursor, State};
