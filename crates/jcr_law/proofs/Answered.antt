@@ -60,24 +60,29 @@ module _ (law : JcrLaw) (clusters : ℕ) (sessions : List ℕ) (begin : Begin) (
 
   -- behind an event that begins no command
   behind : (e : Event) (past : Past) → is_beginning s e ≡ false → (m : Command) × IsDrawnFor law past s m → (m : Command) × IsDrawnFor law (e ∷ past) s m
-  behind e past h (m, is) = (m, record {
-    call = is.call;
-    writes = is.writes;
-    next = ap (command_at law s) (index_same s e past h) ∙ is.next;
-    allowed = ap (λ (b : Bool). asked (is_attached (cond b (e ∷ past) (before_turn past s)) s) m) h ∙ is.allowed;
-    due = is.due;
-  })
+  behind e past h (m, is) = (
+    m,
+    record {
+      call = is.call;
+      writes = is.writes;
+      next = ap (command_at law s) (index_same s e past h) ∙ is.next;
+      allowed = ap (λ (b : Bool). asked (is_attached (cond b (e ∷ past) (before_turn past s)) s) m) h ∙ is.allowed;
+      due = is.due;
+    },
+  )
 
   own : (e : Draw) (past : Past) → IsRunOf (starts_of law) (says_of law) clusters sessions begin (event.Draw e ∷ past) → e.session ≡ s → (m : Command) × IsDrawnFor law past s m
   own e past run same =
-      let may = run.0.lawful in
-      (may.command, record {
-        call = may.call;
-        writes = e.edit.writes;
-        next = ap (λ (t : ℕ). command_at law t (next_index past t)) (sym same) ∙ may.next.next;
-        allowed = ap (λ (t : ℕ). asked (is_attached (before_turn past t) t) may.command) (sym same) ∙ may.allowed;
-        due = may.due;
-      })
+      let may = run.0.lawful in (
+        may.command,
+        record {
+          call = may.call;
+          writes = e.edit.writes;
+          next = ap (λ (t : ℕ). command_at law t (next_index past t)) (sym same) ∙ may.next.next;
+          allowed = ap (λ (t : ℕ). asked (is_attached (before_turn past t) t) may.command) (sym same) ∙ may.allowed;
+          due = may.due;
+        },
+      )
 
   pub drawn_for : (past : Past) (d : Draw) → IsRunOf (starts_of law) (says_of law) clusters sessions begin past → draw_since past s ≡ Some d → (m : Command) × IsDrawnFor law past s m
   drawn_for [] d run is = cc
