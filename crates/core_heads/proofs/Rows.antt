@@ -1,4 +1,4 @@
--- A run in which a node learns of another's draw and draws after it; and an Out of a revision of another node, which may not follow.
+-- Runs in which a node learns of another's draw and draws after it, and one from a start; and an Out of a revision of another node, which may not follow.
 use Rattle.std.proofs.Common.{◌≡◌, ℕ, zero, suc, true, false, List, [], ◌∷◌, is_some, refl, ap, arith, None}
 use Rattle.std.specs.Option.{unwrap_or}
 use mathlib.Core.Bool.{false≢true}
@@ -7,7 +7,9 @@ use Rattle.jr_rev.specs.declared.revision.Revision.{Revision}
 use Rattle.jr_rev.specs.Vectors.{Entries, start, sees, with_entry, is_below, no_entries}
 use Rattle.jr_tree.specs.declared.edit.Edit.{Edit}
 use Rattle.oak_machine.specs.declared.event.Event.TheVariants as event
-use Rattle.oak_machine.specs.History.{History, Past}
+use Rattle.oak_machine.specs.declared.event.Start.{Start}
+use Rattle.jr_tree.specs.Trees.{initial_tree}
+use Rattle.oak_machine.specs.History.{History, IsStart, Past}
 use Rattle.oak_machine.specs.Commits.{is_in_base}
 use Rattle.oak_machine.specs.Heads.{head_of, published}
 use Rattle.oak_machine.specs.Laws.{Starts, Says}
@@ -144,3 +146,33 @@ torn_sees = (refl, refl, refl)
 -- a sweep vector with no entries may stand in a Bound
 no_sweep : is_below no_entries (start 3) ≡ true
 no_sweep = refl
+
+-- ---- a run from a start
+
+-- after a commit at time 7 of node 1 and one at time 3 of node 2
+abbrev from : Start
+from = record { tree = initial_tree; at = with_entry (with_entry (start 2) (at 7 1)) (at 3 2) }
+
+from_is_start : IsStart 2 from
+from_is_start = record {
+  tree = record { paths = refl; names = refl; root = refl; parents = refl };
+  vector = record { eight = refl; stands = refl };
+  nodes = refl;
+}
+
+-- node 2 draws later than all that its head sees
+abbrev from_past : Past
+from_past =
+    event.Draw (record { revision = at 8 2; session = 1; base = from.at; edit = nothing; marks = [] })
+    ∷ event.Login 1 from.at
+    ∷ []
+
+from_is_run : IsRunOf starts says 2 sessions (Some from) from_past
+from_is_run = (
+  record { running = refl; login = refl; detached = refl; idle = refl; base = refl; cluster = refl; next = refl; lawful = tt },
+  (record { running = refl; first = refl; head = (2, refl, refl) }, from_is_start),
+)
+
+-- what both nodes begin from is seen, the draw isn't
+from_sees : (sees from.at (at 7 1) ≡ true) × (sees from.at (at 3 2) ≡ true) × (sees from.at (at 8 2) ≡ false)
+from_sees = (refl, refl, refl)
