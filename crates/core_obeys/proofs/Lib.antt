@@ -16,3 +16,4 @@ pub mod Obeys
 mod Rows
 pub mod Starting
 mod Runnings
+pub mod Unclashing

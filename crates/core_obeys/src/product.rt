@@ -1,20 +1,21 @@
 // Each commit of the product obeys.
-ghost use Rattle.std.specs.Prelude.{◌≡◌, ℕ, None, Some};
+ghost use Rattle.std.specs.Prelude.{◌≡◌, ℕ, None, Some, IsTrue};
 ghost use Rattle.jr_rev.specs.declared.revision.Revision.{Revision};
 ghost use Rattle.jr_rev.specs.declared.vector.RevVec.{RevVec};
 ghost use Rattle.jr_tree.specs.Trees.{IsTree};
 ghost use Rattle.jr_types.specs.Rules.{TypesOk};
 ghost use Rattle.jcr_law.specs.declared.law.JcrLaw.{JcrLaw};
+ghost use Rattle.jcr_law.specs.Lasting.{says_of, starts_of};
 ghost use Rattle.jcr_plan.specs.Plans.{IsFree};
 ghost use Rattle.jcr_ref.specs.References.{ReferencesOk};
 ghost use Rattle.oak_machine.specs.declared.event.Draw.{Draw};
-ghost use Rattle.oak_machine.specs.Commits.{draw_of, tree_at};
+ghost use Rattle.oak_machine.specs.Commits.{draw_of, is_drawn, refusal_of, tree_at};
 ghost use Rattle.oak_machine.specs.History.{History};
-ghost use Rattle.oak_machine.specs.Runs.{MayCommit};
+ghost use Rattle.oak_machine.specs.Runs.{AreNodes, IsRunOf, MayCommit};
 ghost use Rattle.oak_machine.specs.Sessions.{base_of};
 ghost use Rattle.core_merge.specs.Orders.{tree_by_commits};
 ghost use Rattle.core_obeys.specs.Plans.{tokens_at_draw};
-ghost use Rattle.core_obeys.specs.Product.{IsProductRun, tokens_by};
+ghost use Rattle.core_obeys.specs.Product.{IsProductRun, IsUnclashing, tokens_by};
 ghost use Rattle.core_obeys.specs.Tidy.{IsTidy};
 
 /// In each run by the law of the product the tree of all commits, in the order in which they were made, is a tree and meets
@@ -32,4 +33,12 @@ pub fn the_product_obeys()
         → IsFree law.types (tree_by_commits h.past) (tokens_at_draw (tokens_by law) h r d.session) d.edit.writes }
     ensures references { (law : JcrLaw) (h : History) → IsProductRun law h → IsTidy h.past
         → ReferencesOk (tree_by_commits h.past) }
+{}
+
+/// Where a commit of a run clashes with no draw outside its base, it isn't refused: so by `AfterDraw` its command
+/// isn't answered with 10 (JSR 283, 10.11 Saving).
+pub fn what_clashes_with_nothing_is_not_refused()
+    ensures { (law : JcrLaw) (h : History) (r : Revision) → AreNodes h.clusters h.sessions
+        → IsRunOf (starts_of law) (says_of law) h.clusters h.sessions h.begin h.past
+        → IsTrue (is_drawn h.past r) → IsUnclashing h.past r → refusal_of h.past r ≡ None }
 {}
