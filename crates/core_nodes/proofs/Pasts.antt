@@ -12,7 +12,6 @@ use Rattle.oak_machine.specs.Heads.{draws_by, last_draw_time, local}
 use Rattle.oak_machine.specs.Laws.{Says, Starts}
 use Rattle.oak_machine.specs.Runs.{AreNodes, IsRunOf}
 use Rattle.core_read.proofs.Latest.{at_most_both, at_most_trans, before_itself, not_before, same_revision}
-use Rattle.core_read.proofs.Vectors.{time_before}
 use Rattle.core_heads.specs.Sound.{IsIn, IsSound}
 use Rattle.core_heads.proofs.Later.{IsLater, timed}
 use Rattle.core_heads.proofs.Locals.{IsSettledDraw, draws_in, in_draws, local_grows, local_is}
@@ -71,9 +70,8 @@ local_before clusters sessions nodes past sound k o flies same = by (local_is No
   where
     by : (local None past k ≡ start_of k) ⊎ IsSettledDraw past k (local None past k) → is_before (local None past k) o ≡ true
     by (inl e) =
-        let t = (timed clusters sessions nodes None past sound o (and_both (is_drawn past o) _ flies).0).1 in
-        let z = ap (λ (x : Revision). x.time) e in
-        time_before (local None past k) o (omega arith)
+        let later = (timed clusters sessions nodes None past sound o (and_both (is_drawn past o) _ flies).0).1 in
+        subst (λ (x : Revision). is_before x o ≡ true) (sym e) (subst (λ (j : ℕ). is_before (start_of j) o ≡ true) same later)
     by (inr s) = s.below o flies same
 
 -- and no later than the last draw of its node

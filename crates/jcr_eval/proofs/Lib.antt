@@ -1,5 +1,6 @@
 mod Childless
 mod Identifiers
+mod States
 mod Viewed
 pub mod Causes
 pub mod Iffs

@@ -1,5 +1,5 @@
 // What a history says of a session: its view, its tokens, its cursor, and how many identifiers it has drawn.
-ghost use Rattle.std.specs.Prelude.{◌≡◌, ◌∷◌, [], IfOk, IsTrue, None, OnOk, Some, cond, option_map, reverse};
+ghost use Rattle.std.specs.Prelude.{◌≡◌, ◌∷◌, [], IfOk, IsTrue, None, OnOk, Some, cond, is_some, option_map, reverse};
 ghost use Rattle.std.specs.List.{list_any};
 ghost use Rattle.std.specs.Option.{option_copied, option_map_or};
 ghost use Rattle.jr_value.specs.Values.{same_bytes};
@@ -211,13 +211,26 @@ fn replied(
         base_of(before, session),
     ) {
         (Some(command), Some(v)) => {
-            let ok = text.as_str().starts_with("ok");
-            let drew = drawn_since(before, session).is_some();
             let call = call_at(alloc, law, start, before, session, v, state)?;
-            answered(alloc, &law.types, call, command, ok, drew)
+            let drew = has_drawn(before, session);
+            answered(alloc, &law.types, call, command, is_ok_text(text), drew)
         }
         _ => Ok(state),
     }
+}
+
+// Whether a reply accepts.
+fn is_ok_text(text: &Text) -> bool
+    ensures { result ≡ is_ok_text text.now }
+{
+    text.as_str().starts_with("ok")
+}
+
+// Whether a session drew a revision for the command that it has not answered yet.
+fn has_drawn(events: &[Event], session: u32) -> bool
+    ensures { result ≡ is_some (drawn_since (reverse events.now) session) }
+{
+    drawn_since(events, session).is_some()
 }
 
 // What a command leaves, as it was accepted or refused, and drew a revision or none.

@@ -1,6 +1,6 @@
 // The law of the product.
-ghost use Rattle.jcr_law.proofs.Lasting.{says_last, says_last_behind, starts_last};
-ghost use Rattle.jcr_law.proofs.Starting.{proper_starts};
+ghost use Rattle.jcr_law.specs.Lasting.{says_last, says_last_behind, starts_last};
+ghost use Rattle.jcr_law.specs.Starting.{proper_starts};
 ghost use Rattle.jcr_law.specs.Law.{MayStart, SaysBy};
 
 use jcr_trans::SessionScript;

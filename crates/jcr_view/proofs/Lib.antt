@@ -13,3 +13,5 @@ mod Moved
 mod Needed
 mod OnePass
 mod Replied
+mod Rounds
+mod WholeLacks

@@ -1,5 +1,5 @@
 -- What has to be known of the tree at the base before a command is made.
-use Rattle.std.specs.Prelude.{◌≡◌, ◌++◌, ◌-◌, ℕ, cond, Bool, true, false, List, [], ◌∷◌, length, slice_get, Option, None, Some}
+use Rattle.std.specs.Prelude.{◌++◌, ◌-◌, cond, Bool, true, false, List, [], ◌∷◌, length, slice_get, Option, None, Some}
 use Rattle.std.specs.List.{fold}
 use Rattle.std.specs.Option.{option_map_or}
 use Rattle.std.specs.Ordering.{eq_by_cmp}

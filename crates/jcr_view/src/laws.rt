@@ -1,11 +1,15 @@
 // Laws of views.
-ghost use Rattle.std.specs.Prelude.{◌≡◌, ◌∷◌, [], IsTrue, List, is_some};
-ghost use Rattle.std.specs.List.{All};
+ghost use Rattle.std.specs.Prelude.{◌≡◌, ◌≢◌, ◌∷◌, [], IsFalse, IsTrue, List, Option, Some, is_some};
+ghost use Rattle.std.specs.List.{All, AllPairs};
+ghost use Rattle.jr_path.specs.declared.path.Path.{Path};
 ghost use Rattle.jr_tree.specs.Edits.{IsProper};
 ghost use Rattle.jr_tree.specs.Trees.{IsTree, Nodes, node_at};
 ghost use Rattle.jr_tree.specs.declared.edit.Write.{Write};
 ghost use Rattle.jr_tree.specs.declared.shared.Who.{Who};
-ghost use Rattle.jr_part.specs.Parts.{Knowledge, LacksNothing};
+ghost use Rattle.jr_tree.specs.declared.tree.Node.{Node};
+ghost use Rattle.jr_part.specs.Parts.{AgreesWith, ChildNames, Knowledge, Lacks, LacksNothing, knows};
+ghost use Rattle.jr_part.specs.Parts.{with_children, with_node};
+ghost use Rattle.jr_part.specs.declared.need.Need.{Need};
 ghost use Rattle.jr_part.specs.declared.need.Need.TheVariants as need;
 ghost use Rattle.jr_overlay.specs.Drafts.{with_steps};
 ghost use Rattle.jr_overlay.specs.Overlays.{AreOver, Changed, edit_of, known_view, view_of};
@@ -17,6 +21,7 @@ ghost use Rattle.jcr_view.specs.Needs.{needs_of, needs_to_rebase, reads_all};
 ghost use Rattle.jcr_view.specs.Outcomes.{eval, outcome};
 ghost use Rattle.jcr_view.specs.Parts.{IsPartOf};
 ghost use Rattle.jcr_view.specs.Rebases.{rebased, tree_again};
+ghost use Rattle.jcr_view.specs.Rounds.{AreLoads, IsOfNone, is_of_one_node};
 
 /// What a command asks for is enough: where nothing of it lacks, the command comes to the same on what is known as on
 /// the whole view of each tree that the part agrees with.
@@ -88,4 +93,29 @@ pub fn rebases_keep_trees()
     ensures proper { (from t : Nodes) (k : Knowledge) (ws : List Write) → IsProper from ws
         → IsPartOf t k [] → All (LacksNothing k) (needs_to_rebase ws)
         → IsProper t (edit_of (rebased k ws)) }
+{}
+
+/// Each round of loading names a node, or the children of one, that lacks. Once an answer is put it is known, and what
+/// was known is known still. So however many rounds there are, each load is another one.
+pub fn each_round_learns()
+    ensures named { (k : Knowledge) (wanted lacking : Need) → Lacks k wanted (Some lacking)
+        → IsTrue (is_of_one_node lacking) × IsFalse (knows k lacking) }
+    ensures node { (k : Knowledge) (p : Path) (answer : Option Node)
+        → IsTrue (knows (with_node k p answer) (need.Node p)) }
+    ensures children { (k : Knowledge) (p : Path) (names : ChildNames)
+        → IsTrue (knows (with_children k p names) (need.Children p)) }
+    ensures kept_by_node { (k : Knowledge) (p : Path) (answer : Option Node) (other : Need)
+        → IsTrue (knows k other) → IsTrue (knows (with_node k p answer) other) }
+    ensures kept_by_children { (k : Knowledge) (p : Path) (names : ChildNames) (other : Need)
+        → IsTrue (knows k other) → IsTrue (knows (with_children k p names) other) }
+    ensures once { (t : Nodes) (k : Knowledge) (loads : List Need) → AreLoads t k loads
+        → AllPairs (λ a b. a ≢ b) loads }
+{}
+
+/// Where the whole tree is known, all that a command may still lack is a node that isn't there.
+pub fn whole_trees_lack_no_node()
+    ensures { (who : Who) (t : Nodes) (k : Knowledge) (c : Changed) (command : Command) → IsTree t
+        → AgreesWith t k → LacksNothing k need.All
+        → All (λ wanted. (lacking : Need) → Lacks k wanted (Some lacking) → IsOfNone t lacking)
+        (needs_of who k c command) }
 {}

@@ -92,11 +92,12 @@ detached_stays whole added past s h =
 -- a cluster node of which the position of its stop is told was stopped
 pub told_stopped : (past : Past) (k position : ℕ) → stop_position past k ≡ Some position → is_stopped past k ≡ true
 told_stopped [] k position h = cc
-told_stopped (event.Stop m ∷ past) k position h = by (m == k) refl h
+told_stopped (event.Stop m ∷ past) k position h = by (m == k) refl (told_stopped past k position) h
   where
-    by : (b : Bool) → (m == k) ≡ b → cond b (Some (length past)) (stop_position past k) ≡ Some position → ((m == k) || is_stopped past k) ≡ true
-    by true e g = ap (λ c. c || is_stopped past k) e
-    by false e g = ap (λ c. c || is_stopped past k) e ∙ told_stopped past k position g
+    by : (b : Bool) → (m == k) ≡ b → (stop_position past k ≡ Some position → is_stopped past k ≡ true)
+        → cond b (Some (length past)) (stop_position past k) ≡ Some position → ((m == k) || is_stopped past k) ≡ true
+    by true e more g = ap (λ c. c || is_stopped past k) e
+    by false e more g = ap (λ c. c || is_stopped past k) e ∙ more g
 told_stopped (e ∷ past) k position h = told_stopped past k position h
 
 -- in a run a cluster node is stopped once
@@ -105,16 +106,14 @@ pub position_stays : (starts : Starts) (says : Says) (clusters : ℕ) (sessions 
     → stop_position (added ++ past) k ≡ Some position
 position_stays starts says clusters sessions begin [] past k position run h = h
 position_stays starts says clusters sessions begin (event.Stop m ∷ added) past k position run h =
-    by (m == k) refl
+    by (position_stays starts says clusters sessions begin added past k position run.1 h) (m == k) refl
   where
-    rest : stop_position (added ++ past) k ≡ Some position
-    rest = position_stays starts says clusters sessions begin added past k position run.1 h
-
     same_number : (m == k) ≡ true → m ≡ k
     same_number e = grind (arith, nat_tests)
 
-    by : (b : Bool) → (m == k) ≡ b → cond b (Some (length (added ++ past))) (stop_position (added ++ past) k) ≡ Some position
-    by true e = absurd (false≢true (sym run.0 ∙ (ap (is_stopped (added ++ past)) (same_number e) ∙ told_stopped (added ++ past) k position rest)))
-    by false e = rest
+    by : stop_position (added ++ past) k ≡ Some position → (b : Bool) → (m == k) ≡ b
+        → cond b (Some (length (added ++ past))) (stop_position (added ++ past) k) ≡ Some position
+    by rest true e = absurd (false≢true (sym run.0 ∙ (ap (is_stopped (added ++ past)) (same_number e) ∙ told_stopped (added ++ past) k position rest)))
+    by rest false e = rest
 position_stays starts says clusters sessions begin (e ∷ added) past k position run h =
     position_stays starts says clusters sessions begin added past k position run.1 h

@@ -28,8 +28,8 @@ use Rattle.jcr_law.specs.declared.law.JcrLaw.{JcrLaw}
 use Rattle.jcr_law.specs.Law.{MayStart, SaysBy}
 use Rattle.jcr_law.specs.Since.{draw_among, draw_since, is_beginning, is_pinning}
 use Rattle.jcr_law.specs.Tasks.{finds_stopped, is_out, is_recovering, is_sweep, misses}
-use Rattle.jcr_law.proofs.Growing.{Grows, said_at, seen_edits, starts_grow}
-use Rattle.jcr_law.proofs.Passing.{before_stays, came_stays, contains_stays, detached_stays, draw_stays, position_stays, state_stays, stopped_stays}
+use Rattle.jcr_law.specs.Growing.{Grows, said_at, seen_edits, starts_grow}
+use Rattle.jcr_law.specs.Passing.{before_stays, came_stays, contains_stays, detached_stays, draw_stays, position_stays, state_stays, stopped_stays}
 
 module _ (law : JcrLaw) (starts : Starts) (says : Says) (clusters : ℕ) (sessions : List ℕ) (begin : Begin) (s : ℕ) (added past : Past)
     (later : IsRunOf starts says clusters sessions begin (added ++ past))

@@ -11,6 +11,7 @@ use Rattle.jr_rev.specs.Revisions.{is_at_most, is_before}
 use Rattle.jr_rev.specs.Vectors.{sees}
 use Rattle.jr_tree.specs.declared.edit.Edit.{Edit}
 use Rattle.jr_tree.specs.declared.edit.Write.{Write}
+use Rattle.jr_tree.specs.declared.shared.CommitChanges.{CommitChanges}
 use Rattle.jr_tree.specs.Trees.{Nodes}
 use Rattle.oak_clash.specs.declared.mark.MarkAt.{MarkAt}
 use Rattle.oak_machine.specs.declared.event.Draw.{Draw}
@@ -90,25 +91,29 @@ module _ (begin : Begin) (old new : Past) (v : RevVec) (same : seen_edits new v 
       ∙ (ap (filter (λ (e : Revision × List Write). is_before e.0 r)) same
       ∙ sym (filter_both (λ (e : Revision × List Write). sees v e.0) (λ e. is_before e.0 r) (committed_edits old))))
 
+  -- the changes of a commit on a tree
+  abbrev of : Revision × List Write → Nodes → CommitChanges
+  of e t = record { revision = e.0; changes = item_changes t e.1 }
+
   pub changes_same : (from : RevVec) → changes_between begin new from v ≡ changes_between begin old from v
   changes_same from =
       all (filter (λ e. sees v e.0 && not (sees from e.0)) (committed_edits new))
-      ∙ ap (map (λ e. record { revision = e.0; changes = item_changes (tree_below begin old v e.0) e.1 }))
+      ∙ ap (map {B = CommitChanges} (λ e. of e (tree_below begin old v e.0)))
       (filter_both (λ (e : Revision × List Write). sees v e.0) (λ e. not (sees from e.0)) (committed_edits new)
       ∙ (ap (filter (λ (e : Revision × List Write). not (sees from e.0))) same
       ∙ sym (filter_both (λ (e : Revision × List Write). sees v e.0) (λ e. not (sees from e.0)) (committed_edits old))))
     where
-      all : (es : List (Revision × List Write)) → map (λ e. record { revision = e.0; changes = item_changes (tree_below begin new v e.0) e.1 }) es
-          ≡ map (λ e. record { revision = e.0; changes = item_changes (tree_below begin old v e.0) e.1 }) es
+      all : (es : List (Revision × List Write)) → map {B = CommitChanges} (λ e. of e (tree_below begin new v e.0)) es
+          ≡ map {B = CommitChanges} (λ e. of e (tree_below begin old v e.0)) es
       all [] = refl
-      all (e ∷ es) = ap (λ (t : Nodes). record { revision = e.0; changes = item_changes t e.1 } ∷ map (λ e. record { revision = e.0; changes = item_changes (tree_below begin new v e.0) e.1 }) es) (below_same e.0)
-          ∙ ap (λ rest. record { revision = e.0; changes = item_changes (tree_below begin old v e.0) e.1 } ∷ rest) (all es)
+      all (e ∷ es) = ap (λ (t : Nodes). of e t ∷ map {B = CommitChanges} (λ e. of e (tree_below begin new v e.0)) es) (below_same e.0)
+          ∙ ap (λ (rest : List CommitChanges). of e (tree_below begin old v e.0) ∷ rest) (all es)
 
 module _ (law : JcrLaw) (clusters : ℕ) (sessions : List ℕ) (begin : Begin) (s : ℕ) (old new : Past) (grows : Grows law begin s old new) where
-  at_old : History
+  abbrev pub at_old : History
   at_old = record { clusters = clusters; sessions = sessions; begin = begin; past = old }
 
-  at_new : History
+  abbrev pub at_new : History
   at_new = record { clusters = clusters; sessions = sessions; begin = begin; past = new }
 
   -- what the next command is run with
