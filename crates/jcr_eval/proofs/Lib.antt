@@ -1,6 +1,7 @@
-pub mod Came
-pub mod Events
 pub mod Known
 pub mod NoFloat
+pub mod Passing
 pub mod QueryCauses
+pub mod Refusing
+pub mod Showing
 pub mod TaskCauses

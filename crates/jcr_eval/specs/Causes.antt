@@ -1,5 +1,5 @@
 -- The causes of a reply by commands: those that every command may have, and those of its own.
-use Rattle.std.specs.Prelude.{◌≡◌, ◌⊎◌, ◌×◌, ℕ, ◌+◌, Bool, false, List, [], slice_get, Contains, Option, None, Some, IsTrue, IsFalse, Ok}
+use Rattle.std.specs.Prelude.{◌≡◌, ◌⊎◌, ℕ, ◌+◌, Bool, false, List, [], slice_get, Contains, Option, None, Some, IsTrue, IsFalse, Ok}
 use Rattle.std.specs.Option.{option_map_or}
 use Rattle.jr_path.specs.declared.name.Name.{Name}
 use Rattle.jr_path.specs.declared.path.Item.{Item}
@@ -37,7 +37,7 @@ use Rattle.jcr_law.specs.Tasks.{collected_data, finds_stopped, is_out, is_recove
 -- the cluster node of s was stopped, or memory was wanted
 abbrev pub AnyCause : History → ℕ → List ℕ → Type 0
 AnyCause h s text =
-    ((k position : ℕ) × (slice_get h.sessions s ≡ Some k) × (stop_position h.past k ≡ Some position)
+    ((k : ℕ) × (position : ℕ) × (slice_get h.sessions s ≡ Some k) × (stop_position h.past k ≡ Some position)
     × (text ≡ no_text (stopped_at position)))
     ⊎ (IsFalse (is_drawing h.past s)
     × IsFalse (option_map_or (is_committed h.past) (drawn_since h.past s) false)
@@ -50,7 +50,7 @@ ViewCause law h s m text = (c : Call) × (call_of law h.begin h.past s ≡ Some 
 
 -- the refusal of an edit before a commit
 abbrev pub EditCause : JcrLaw → History → ℕ → Command → List ℕ → Type 0
-EditCause law h s m text = (c : Call) (due : _) (r : Refusal) × (drawn_since h.past s ≡ None)
+EditCause law h s m text = (c : Call) × (due : _) × (r : Refusal) × (drawn_since h.past s ≡ None)
     × (call_of law h.begin h.past s ≡ Some c) × (edit_due c m ≡ Some due)
     × (refusal_of_due c due ≡ Some r) × (text ≡ no_text r)
 

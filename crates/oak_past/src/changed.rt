@@ -49,8 +49,10 @@ fn changes_of(
     r: Revision,
     writes: &[Write],
 ) -> Result<CommitChanges, AllocError>
-    ensures { IfOk result (λ change. change ≡ record { revision = r;
-        changes = item_changes (tree_below start.now (reverse events.now) v.now r) writes.now }) }
+    ensures { IfOk result (λ change. change ≡ record {
+      revision = r;
+      changes = item_changes (tree_below start.now (reverse events.now) v.now r) writes.now;
+    }) }
 {
     let tree = tree_below(alloc, start, events, v, r)?;
     let changes = item_changes(alloc, &tree, writes)?;
@@ -96,7 +98,11 @@ fn put_below(
 }
 
 // The item changes of some writes on a tree, in the order of the items.
-fn item_changes(alloc: Global, tree: &Tree, writes: &[Write]) -> Result<List<ItemChange>, AllocError>
+fn item_changes(
+    alloc: Global,
+    tree: &Tree,
+    writes: &[Write],
+) -> Result<List<ItemChange>, AllocError>
     ensures { IfOk result (λ changes. changes ≡ item_changes tree.now writes.now) }
 {
     let mut changes = Keyed::new(alloc);
