@@ -262,7 +262,14 @@ fn tell_command(
     command: &Command,
     out: &mut String,
 ) -> Result<(), AllocError> {
-    load(alloc, &site.pending, command, &site.base, &mut site.part)?;
+    load(
+        alloc,
+        &site.pending,
+        command,
+        &site.who,
+        &site.base,
+        &mut site.part,
+    )?;
     run(
         alloc,
         &mut site.pending,
@@ -322,11 +329,12 @@ fn load(
     alloc: Global,
     pending: &Pending,
     command: &Command,
+    who: &Who,
     base: &Tree,
     part: &mut Part,
 ) -> Result<(), AllocError> {
     for _ in 0..100_000_u32 {
-        let needs = pending.needs(command, part)?;
+        let needs = pending.needs(command, part, who)?;
         match lacking(needs.as_slice(), part)? {
             Some(need) => take(alloc, base, &need, part)?,
             None => return Ok(()),

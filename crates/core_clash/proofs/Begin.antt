@@ -120,7 +120,7 @@ names_items t edit ms are k item = (to, from)
 
 pub may_begin : (clusters : ℕ) (sessions : List ℕ) → AreNodes clusters sessions → (starts : Starts) (says : Says) → StartsProper starts → (s : Core) (d : Draw) (left : List Path) → IsRunOf starts says clusters sessions None (event.Draw d ∷ s.past) → ((p : Path) (m : Mark) → In (mark_at p m) d.marks → In p left) → Once left → MayBegin s d left
 may_begin clusters sessions nodes starts says proper s d left run covers once = record {
-  begins = begins_run clusters sessions nodes starts says d s.past run;
+  begins = begins_run clusters sessions nodes None starts says d s.past run;
   covers = covers;
   once = once;
   entries = names_items (tree_at None s.past d.base) d.edit d.marks (proper _ d.session d.edit d.marks d.base run.0.base run.0.lawful).1;

@@ -6,7 +6,7 @@ use Rattle.jr_rev.specs.Revisions.{is_same}
 use Rattle.jr_rev.specs.Vectors.{sees, start_of}
 use Rattle.oak_machine.specs.declared.event.Draw.{Draw}
 use Rattle.oak_machine.specs.declared.event.Event.TheVariants as event
-use Rattle.oak_machine.specs.History.{Past}
+use Rattle.oak_machine.specs.History.{Begin, Past}
 use Rattle.oak_machine.specs.Commits.{draw_of, is_in_base}
 use Rattle.oak_machine.specs.Laws.{Starts, Says}
 use Rattle.oak_machine.specs.Runs.{IsRunOf, AreNodes}
@@ -41,5 +41,5 @@ module _ (past : Past) (d : Draw) (new : IsFreshDraw past d) (positive : 1 ≤ d
     started = λ e. let t = ap (λ (r : Revision). r.time) e in omega arith;
   }
 
-pub begins_run : (clusters : ℕ) (sessions : List ℕ) → AreNodes clusters sessions → (starts : Starts) (says : Says) (d : Draw) (past : Past) → IsRunOf starts says clusters sessions None (event.Draw d ∷ past) → Begins past d
-begins_run clusters sessions nodes starts says d past run = begins past d (fresh_run clusters sessions nodes starts says d past run) (let t = ap (λ (r : Revision). r.time) run.0.next in omega arith)
+pub begins_run : (clusters : ℕ) (sessions : List ℕ) → AreNodes clusters sessions → (begin : Begin) (starts : Starts) (says : Says) (d : Draw) (past : Past) → IsRunOf starts says clusters sessions begin (event.Draw d ∷ past) → Begins past d
+begins_run clusters sessions nodes begin starts says d past run = begins past d (fresh_run clusters sessions nodes begin starts says d past run) (let t = ap (λ (r : Revision). r.time) run.0.next in omega arith)

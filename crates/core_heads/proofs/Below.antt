@@ -52,7 +52,8 @@ starts_stand clusters j (suc n) = by (nat_le j clusters) (starts_stand clusters 
 pub start_stands : (clusters : ℕ) → stands_from 1 (start clusters) ≡ true
 start_stands clusters = starts_stand clusters 1 8
 
-stands_at : (v : Entries) (j i : ℕ) (e : Revision) → stands_from j v ≡ true → slice_get v i ≡ Some (Some e) → e.cluster ≡ j + i
+-- the entry at a place is of its node
+pub stands_at : (v : Entries) (j i : ℕ) (e : Revision) → stands_from j v ≡ true → slice_get v i ≡ Some (Some e) → e.cluster ≡ j + i
 stands_at [] j i e h k = absurd (false≢true (ap is_some k))
 stands_at (None ∷ v) j zero e h k = absurd (false≢true (ap (λ (o : Option (Option Revision)). is_some (option_flatten o)) k))
 stands_at (Some q ∷ v) j zero e h k =

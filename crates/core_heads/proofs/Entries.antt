@@ -21,10 +21,10 @@ not_zero k h = grind (arith, nat_tests)
 positive : (k : ℕ) → 1 ≤ k → (k == 0) ≡ false
 positive k h = grind (arith, nat_tests)
 
-upper : (k n : ℕ) → nat_le k n ≡ true → k ≤ n
+pub upper : (k n : ℕ) → nat_le k n ≡ true → k ≤ n
 upper k n h = grind (arith, nat_tests)
 
-lower : (k n : ℕ) → k ≤ n → nat_le k n ≡ true
+pub lower : (k n : ℕ) → k ≤ n → nat_le k n ≡ true
 lower k n h = grind (arith, nat_tests)
 
 -- what stands at j after i is set
@@ -101,7 +101,7 @@ max_each v t (j ∷ ks) zero k e at h =
 max_each v t (j ∷ ks) (suc i) k e at h = max_each v (max t (option_map_or (λ (r : Revision). r.time) (entry v j) 0)) ks i k e at h
 
 -- the cluster nodes 1 to 8, by their places
-numbered : (i : ℕ) → i < 8 → slice_get (1 ∷ 2 ∷ 3 ∷ 4 ∷ 5 ∷ 6 ∷ 7 ∷ 8 ∷ []) i ≡ Some (suc i)
+pub numbered : (i : ℕ) → i < 8 → slice_get (1 ∷ 2 ∷ 3 ∷ 4 ∷ 5 ∷ 6 ∷ 7 ∷ 8 ∷ []) i ≡ Some (suc i)
 numbered zero h = refl
 numbered (suc zero) h = refl
 numbered (suc (suc zero)) h = refl
@@ -112,15 +112,16 @@ numbered (suc (suc (suc (suc (suc (suc zero)))))) h = refl
 numbered (suc (suc (suc (suc (suc (suc (suc zero))))))) h = refl
 numbered (suc (suc (suc (suc (suc (suc (suc (suc i)))))))) h = absurd (omega (arith, h))
 
+-- an entry that is found stands at its place
+pub flat : (x : Option (Option Revision)) (e : Revision) → option_flatten x ≡ Some e → x ≡ Some (Some e)
+flat None e h = absurd (false≢true (ap Rattle.std.specs.Prelude.is_some h))
+flat (Some None) e h = absurd (false≢true (ap Rattle.std.specs.Prelude.is_some h))
+flat (Some (Some f)) e h = ap Some h
+
 -- what a vector of eight entries sees isn't later than its greatest time
 pub seen_time : (v : Entries) (o : Revision) → length v ≡ 8 → sees v o ≡ true → o.time ≤ greatest_time v
 seen_time v o eight h = by o.cluster (entry v o.cluster) refl refl h
   where
-    flat : (x : Option (Option Revision)) (e : Revision) → option_flatten x ≡ Some e → x ≡ Some (Some e)
-    flat None e h = absurd (false≢true (ap Rattle.std.specs.Prelude.is_some h))
-    flat (Some None) e h = absurd (false≢true (ap Rattle.std.specs.Prelude.is_some h))
-    flat (Some (Some f)) e h = ap Some h
-
     by : (k : ℕ) (x : Option Revision) → o.cluster ≡ k → entry v k ≡ x → option_map_or (is_at_most o) x false ≡ true → o.time ≤ greatest_time v
     by k None same e s = absurd (false≢true s)
     by zero (Some f) same e s = absurd (false≢true (ap Rattle.std.specs.Prelude.is_some e))

@@ -5,15 +5,16 @@ use Rattle.std.specs.List.{filter, fold, list_all}
 use mathlib.Core.Bool.{false≢true}
 use Rattle.jr_rev.specs.declared.revision.Revision.{Revision}
 use Rattle.jr_rev.specs.Revisions.{is_same, is_before, is_at_most}
-use Rattle.jr_rev.specs.Vectors.{sees, start_of}
+use Rattle.jr_rev.specs.Vectors.{sees}
 use Rattle.oak_machine.specs.declared.event.Event.TheVariants as event
-use Rattle.oak_machine.specs.History.{Past}
+use Rattle.oak_machine.specs.History.{Begin, Past, begin_of}
 use Rattle.oak_machine.specs.Commits.{draw_of, is_drawn, is_in_flight}
 use Rattle.oak_machine.specs.Heads.{draws_by, flying, local, last_in, head_of, last_draw_time}
 use Rattle.core_read.proofs.Latest.{same_revision}
 use Rattle.core_heads.specs.Sound.{IsIn, IsAhead}
 use Rattle.core_heads.proofs.Orders.{same_number, same_itself, later_than, before_not, fold_first, fold_each, fold_has, filter_in, in_filter, all_in, in_all, and_both}
 use Rattle.core_heads.proofs.Entries.{seen_before, still_seen, seen_own}
+use Rattle.core_heads.proofs.AtStart.{begin_cluster}
 
 pub some_of : {X : Type 0} (o : Option X) → is_some o ≡ true → (x : X) × (o ≡ Some x)
 some_of None h = absurd (false≢true h)
@@ -63,8 +64,8 @@ pub record IsSettledDraw (past : Past) (k : ℕ) (r : Revision) : Type 0 where
   pub cluster : r.cluster ≡ k
   pub below : (o : Revision) → is_in_flight past o ≡ true → o.cluster ≡ k → is_before r o ≡ true
 
-pub local_is : (past : Past) (k : ℕ) → (local None past k ≡ start_of k) ⊎ IsSettledDraw past k (local None past k)
-local_is past k = fold_has (λ x. (x ≡ start_of k) ⊎ IsSettledDraw past k x) (start_of k) (filter (λ r. list_all (is_before r) (flying past k)) (draws_by past k)) (inl refl) (λ q i. inr (each q i))
+pub local_is : (begin : Begin) (past : Past) (k : ℕ) → (local begin past k ≡ begin_of begin k) ⊎ IsSettledDraw past k (local begin past k)
+local_is begin past k = fold_has (λ x. (x ≡ begin_of begin k) ⊎ IsSettledDraw past k x) (begin_of begin k) (filter (λ r. list_all (is_before r) (flying past k)) (draws_by past k)) (inl refl) (λ q i. inr (each q i))
   where
     each : (q : Revision) → IsIn q (filter (λ r. list_all (is_before r) (flying past k)) (draws_by past k)) → IsSettledDraw past k q
     each q i =
@@ -76,59 +77,60 @@ local_is past k = fold_has (λ x. (x ≡ start_of k) ⊎ IsSettledDraw past k x)
           below = λ o flies same. all_in (is_before q) (flying past k) p.1 o (in_filter (is_in_flight past) (draws_by past k) o (in_draws past k o (and_both (is_drawn past o) _ flies).0 same) flies);
         }
 
-pub local_first : (past : Past) (k : ℕ) → is_at_most (start_of k) (local None past k) ≡ true
-local_first past k = fold_first (start_of k) (filter (λ r. list_all (is_before r) (flying past k)) (draws_by past k))
+pub local_first : (begin : Begin) (past : Past) (k : ℕ) → is_at_most (begin_of begin k) (local begin past k) ≡ true
+local_first begin past k = fold_first (begin_of begin k) (filter (λ r. list_all (is_before r) (flying past k)) (draws_by past k))
 
-pub local_each : (past : Past) (k : ℕ) (r : Revision) → IsSettledDraw past k r → is_at_most r (local None past k) ≡ true
-local_each past k r h = fold_each (start_of k) (filter (λ r. list_all (is_before r) (flying past k)) (draws_by past k)) r
+pub local_each : (begin : Begin) (past : Past) (k : ℕ) (r : Revision) → IsSettledDraw past k r → is_at_most r (local begin past k) ≡ true
+local_each begin past k r h = fold_each (begin_of begin k) (filter (λ r. list_all (is_before r) (flying past k)) (draws_by past k)) r
     (in_filter (λ r. list_all (is_before r) (flying past k)) (draws_by past k) r (in_draws past k r h.drawn h.cluster)
     (in_all (is_before r) (flying past k) (λ o i. let p = filter_in (is_in_flight past) (draws_by past k) o i in h.below o p.1 (draws_in past k o p.0).1)))
 
-pub local_cluster : (past : Past) (k : ℕ) → (local None past k).cluster ≡ k
-local_cluster past k = by (local_is past k)
+pub local_cluster : (begin : Begin) (past : Past) (k : ℕ) → (local begin past k).cluster ≡ k
+local_cluster begin past k = by (local_is begin past k)
   where
-    by : (local None past k ≡ start_of k) ⊎ IsSettledDraw past k (local None past k) → (local None past k).cluster ≡ k
-    by (inl e) = ap (λ (x : Revision). x.cluster) e
+    by : (local begin past k ≡ begin_of begin k) ⊎ IsSettledDraw past k (local begin past k) → (local begin past k).cluster ≡ k
+    by (inl e) = ap (λ (x : Revision). x.cluster) e ∙ begin_cluster begin k
     by (inr s) = s.cluster
 
 -- where what is settled stays so, the local revision grows
-pub local_grows : (past later : Past) (k : ℕ) → ((r : Revision) → IsSettledDraw past k r → IsSettledDraw later k r) → is_at_most (local None past k) (local None later k) ≡ true
-local_grows past later k kept = by (local_is past k)
+pub local_grows : (begin : Begin) (past later : Past) (k : ℕ) → ((r : Revision) → IsSettledDraw past k r → IsSettledDraw later k r) → is_at_most (local begin past k) (local begin later k) ≡ true
+local_grows begin past later k kept = by (local_is begin past k)
   where
-    by : (local None past k ≡ start_of k) ⊎ IsSettledDraw past k (local None past k) → is_at_most (local None past k) (local None later k) ≡ true
-    by (inl e) = subst (λ (x : Revision). is_at_most x (local None later k) ≡ true) (sym e) (local_first later k)
-    by (inr s) = local_each later k (local None past k) (kept (local None past k) s)
+    by : (local begin past k ≡ begin_of begin k) ⊎ IsSettledDraw past k (local begin past k) → is_at_most (local begin past k) (local begin later k) ≡ true
+    by (inl e) = subst (λ (x : Revision). is_at_most x (local begin later k) ≡ true) (sym e) (local_first begin later k)
+    by (inr s) = local_each begin later k (local begin past k) (kept (local begin past k) s)
 
--- a drawn revision is at most the last time of its node, and not at time 0
-abbrev pub AreTimed : Past → Type 0
-AreTimed past = (o : Revision) → is_drawn past o ≡ true → (o.time ≤ last_draw_time past o.cluster) × (1 ≤ o.time)
+-- a drawn revision is at most the last time of its node, and after what that begins from
+abbrev pub AreTimed : Begin → Past → Type 0
+AreTimed begin past = (o : Revision) → is_drawn past o ≡ true → (o.time ≤ last_draw_time past o.cluster) × (is_before (begin_of begin o.cluster) o ≡ true)
 
 -- nothing that is ahead is at most the local revision
-pub local_behind : {A : Type 0} (past : Past) (k : ℕ) (o : Revision) → AreTimed past → o.cluster ≡ k → IsAhead past o → is_at_most o (local None past k) ≡ true → A
-local_behind {A = A} past k o timed same ahead h = by (local_is past k) ahead
+pub local_behind : {A : Type 0} (begin : Begin) (past : Past) (k : ℕ) (o : Revision) → AreTimed begin past → o.cluster ≡ k → IsAhead begin past o → is_at_most o (local begin past k) ≡ true → A
+local_behind {A = A} begin past k o timed same ahead h = by (local_is begin past k) ahead
   where
-    by : (local None past k ≡ start_of k) ⊎ IsSettledDraw past k (local None past k) → IsAhead past o → A
-    by (inl e) (inl flies) =
-        let t = (timed o (and_both (is_drawn past o) _ flies).0).1 in
-        let z = ap (λ (x : Revision). x.time) e in
-        later_than o (local None past k) (omega arith) h
-    by (inl e) (inr late) = let z = ap (λ (x : Revision). x.time) e in later_than o (local None past k) (omega arith) h
-    by (inr s) (inl flies) = before_not (local None past k) o (s.below o flies same) h
+    begun : local begin past k ≡ begin_of begin k → is_before (begin_of begin o.cluster) o ≡ true → A
+    begun e later = before_not (begin_of begin k) o (subst (λ (j : ℕ). is_before (begin_of begin j) o ≡ true) same later) (subst (λ (x : Revision). is_at_most o x ≡ true) e h)
+
+    by : (local begin past k ≡ begin_of begin k) ⊎ IsSettledDraw past k (local begin past k) → IsAhead begin past o → A
+    by (inl e) (inl flies) = begun e (timed o (and_both (is_drawn past o) _ flies).0).1
+    by (inl e) (inr late) = begun e late.1
+    by (inr s) (inl flies) = before_not (local begin past k) o (s.below o flies same) h
     by (inr s) (inr late) =
-        let t = subst (λ (j : ℕ). (local None past k).time ≤ last_draw_time past j) (s.cluster ∙ sym same) (timed (local None past k) s.drawn).0 in
-        later_than o (local None past k) (omega arith) h
+        let t = subst (λ (j : ℕ). (local begin past k).time ≤ last_draw_time past j) (s.cluster ∙ sym same) (timed (local begin past k) s.drawn).0 in
+        let l = late.0 in
+        later_than o (local begin past k) (omega arith) h
 
 -- ---- heads
 
-pub head_seen : (clusters : ℕ) (past : Past) (k : ℕ) (o : Revision) → 1 ≤ k → sees (head_of clusters None past k) o ≡ true → (sees (last_in clusters None past k) o ≡ true) ⊎ ((o.cluster ≡ k) × (is_at_most o (local None past k) ≡ true))
-head_seen clusters past k o low h = by (seen_before (last_in clusters None past k) (local None past k) o (subst (λ (j : ℕ). 1 ≤ j) (sym (local_cluster past k)) low) h)
+pub head_seen : (clusters : ℕ) (begin : Begin) (past : Past) (k : ℕ) (o : Revision) → 1 ≤ k → sees (head_of clusters begin past k) o ≡ true → (sees (last_in clusters begin past k) o ≡ true) ⊎ ((o.cluster ≡ k) × (is_at_most o (local begin past k) ≡ true))
+head_seen clusters begin past k o low h = by (seen_before (last_in clusters begin past k) (local begin past k) o (subst (λ (j : ℕ). 1 ≤ j) (sym (local_cluster begin past k)) low) h)
   where
-    by : (sees (last_in clusters None past k) o ≡ true) ⊎ ((o.cluster ≡ (local None past k).cluster) × (is_at_most o (local None past k) ≡ true)) → (sees (last_in clusters None past k) o ≡ true) ⊎ ((o.cluster ≡ k) × (is_at_most o (local None past k) ≡ true))
+    by : (sees (last_in clusters begin past k) o ≡ true) ⊎ ((o.cluster ≡ (local begin past k).cluster) × (is_at_most o (local begin past k) ≡ true)) → (sees (last_in clusters begin past k) o ≡ true) ⊎ ((o.cluster ≡ k) × (is_at_most o (local begin past k) ≡ true))
     by (inl s) = inl s
-    by (inr p) = inr (p.0 ∙ local_cluster past k, p.1)
+    by (inr p) = inr (p.0 ∙ local_cluster begin past k, p.1)
 
-pub head_learned : (clusters : ℕ) (past : Past) (k : ℕ) (o : Revision) → 1 ≤ k → sees (last_in clusters None past k) o ≡ true → (o.cluster ≡ k → is_at_most o (local None past k) ≡ true) → sees (head_of clusters None past k) o ≡ true
-head_learned clusters past k o low h own = still_seen (last_in clusters None past k) (local None past k) o (subst (λ (j : ℕ). 1 ≤ j) (sym (local_cluster past k)) low) h (λ e. own (e ∙ local_cluster past k))
+pub head_learned : (clusters : ℕ) (begin : Begin) (past : Past) (k : ℕ) (o : Revision) → 1 ≤ k → sees (last_in clusters begin past k) o ≡ true → (o.cluster ≡ k → is_at_most o (local begin past k) ≡ true) → sees (head_of clusters begin past k) o ≡ true
+head_learned clusters begin past k o low h own = still_seen (last_in clusters begin past k) (local begin past k) o (subst (λ (j : ℕ). 1 ≤ j) (sym (local_cluster begin past k)) low) h (λ e. own (e ∙ local_cluster begin past k))
 
-pub head_own : (clusters : ℕ) (past : Past) (k : ℕ) (o : Revision) → 1 ≤ k → k ≤ 8 → length (last_in clusters None past k) ≡ 8 → o.cluster ≡ k → is_at_most o (local None past k) ≡ true → sees (head_of clusters None past k) o ≡ true
-head_own clusters past k o low high eight same h = seen_own (last_in clusters None past k) (local None past k) o (subst (λ (j : ℕ). 1 ≤ j) (sym (local_cluster past k)) low) (subst (λ (j : ℕ). j ≤ 8) (sym (local_cluster past k)) high) eight (same ∙ sym (local_cluster past k)) h
+pub head_own : (clusters : ℕ) (begin : Begin) (past : Past) (k : ℕ) (o : Revision) → 1 ≤ k → k ≤ 8 → length (last_in clusters begin past k) ≡ 8 → o.cluster ≡ k → is_at_most o (local begin past k) ≡ true → sees (head_of clusters begin past k) o ≡ true
+head_own clusters begin past k o low high eight same h = seen_own (last_in clusters begin past k) (local begin past k) o (subst (λ (j : ℕ). 1 ≤ j) (sym (local_cluster begin past k)) low) (subst (λ (j : ℕ). j ≤ 8) (sym (local_cluster begin past k)) high) eight (same ∙ sym (local_cluster begin past k)) h

@@ -93,7 +93,7 @@ module _ (clusters : ℕ) (sessions : List ℕ) (nodes : AreNodes clusters sessi
     where
       by : (b : Bool) → is_same r d.revision ≡ b → cond b (Some d) (draw_of past r) ≡ draw_of past r
       by false e = refl
-      by true e = absurd (false≢true (sym (ap is_some (ap (draw_of past) (same_revision r d.revision e) ∙ (fresh_run clusters sessions nodes starts says d past run).fresh)) ∙ committed_drawn past run.1 r h))
+      by true e = absurd (false≢true (sym (ap is_some (ap (draw_of past) (same_revision r d.revision e) ∙ (fresh_run clusters sessions nodes None starts says d past run).fresh)) ∙ committed_drawn past run.1 r h))
 
   -- of two commits that clash, the base of one sees the other
   pub unseen_apart : (past : Past) → IsRunOf starts says clusters sessions None past → (r o : Revision) → is_committed past r ≡ true → is_committed past o ≡ true → (r ≡ o → ⊥)

@@ -146,7 +146,7 @@ head_is : head_of 1 None past 1 ≡ vector 3
 head_is = refl
 
 head_closed : IsClosed past (vector 3)
-head_closed = closed_run 1 (1 ∷ 1 ∷ []) one_node starts any_said past is_run (vector 3) (head_run 1 (1 ∷ 1 ∷ []) one_node starts any_said past is_run 1 (omega arith, omega arith))
+head_closed = closed_run 1 (1 ∷ 1 ∷ []) one_node None starts any_said past is_run (vector 3) (head_run 1 (1 ∷ 1 ∷ []) one_node None starts any_said past is_run 1 (omega arith, omega arith))
 
 -- the head shows /a/b and not /a
 orphan : (is_some (node_at (tree_at None past (vector 3)) ab) ≡ true) × (is_some (node_at (tree_at None past (vector 3)) a) ≡ false)

@@ -139,14 +139,14 @@ module _ (starts : Starts) (says : Says) (clusters : ℕ) (sessions : List ℕ) 
     drawn_node : IsNode clusters d.revision.cluster
     drawn_node = nodes.node d.session d.revision.cluster run.0.cluster
 
-    drawn_later : IsLater clusters past (event.Draw d ∷ past)
-    drawn_later = later_draw clusters sessions nodes past (sound_run clusters sessions nodes starts says past run.1) d drawn_node run.0.next
+    drawn_later : IsLater clusters None past (event.Draw d ∷ past)
+    drawn_later = later_draw clusters sessions nodes None past (sound_run clusters sessions nodes None starts says past run.1) d drawn_node run.0.next
 
     drawn_open : is_ended past d.revision ≡ false
     drawn_open = by (is_ended past d.revision) refl
       where
         undrawn : is_drawn past d.revision ≡ false
-        undrawn = ap (λ (o : Option Draw). is_some o) (fresh_run clusters sessions nodes starts says d past run).fresh
+        undrawn = ap (λ (o : Option Draw). is_some o) (fresh_run clusters sessions nodes None starts says d past run).fresh
 
         by : (b : Bool) → is_ended past d.revision ≡ b → b ≡ false
         by true h = not_both (is_drawn past d.revision) (ended_was_drawn starts says clusters sessions past run.1 d.revision h) undrawn
@@ -157,15 +157,15 @@ module _ (starts : Starts) (says : Says) (clusters : ℕ) (sessions : List ℕ) 
     draw_run s is =
         let next : d.revision ≡ next_draw s = run.0.next ∙ sym (next_is clusters past d.revision.cluster s is) in
         subst (λ (r : Revision). IsMemoryOf clusters (event.Draw d ∷ past) d.revision.cluster (with_draw s r)) next
-        (draw_kept clusters sessions nodes past (sound_run clusters sessions nodes starts says past run.1) d drawn_node drawn_later drawn_open s is next)
+        (draw_kept clusters sessions nodes past (sound_run clusters sessions nodes None starts says past run.1) d drawn_node drawn_later drawn_open s is next)
 
   -- the node of a drawn revision
   pub node_of : (past : Past) (r : Revision) → IsRunOf starts says clusters sessions None past → is_drawn past r ≡ true → IsNode clusters r.cluster
-  node_of past r run drawn = let d = some_of (draw_of past r) drawn in ((sound_run clusters sessions nodes starts says past run).draws r d.0 d.1).node
+  node_of past r run drawn = let d = some_of (draw_of past r) drawn in ((sound_run clusters sessions nodes None starts says past run).draws r d.0 d.1).node
 
   module _ (r : Revision) (past : Past) (run : IsRunOf starts says clusters sessions None (event.End r ∷ past)) where
-    ended_sound : IsSound clusters sessions past
-    ended_sound = sound_run clusters sessions nodes starts says past run.1
+    ended_sound : IsSound clusters sessions None past
+    ended_sound = sound_run clusters sessions nodes None starts says past run.1
 
     ended_node : IsNode clusters r.cluster
     ended_node = node_of past r run.1 (and_both (is_drawn past r) _ run.0).0
@@ -193,24 +193,24 @@ module _ (starts : Starts) (says : Says) (clusters : ℕ) (sessions : List ℕ) 
         rises : is_before (own_entry s) (own_entry (finished s r)) ≡ is_before (local None past k) (local None later k)
         rises =
             ap (λ e. is_before e (own_entry (finished s r))) (own_is clusters sessions nodes past ended_sound k ended_node s is)
-            ∙ ap (is_before (local None past k)) (own_is clusters sessions nodes later (sound_run clusters sessions nodes starts says later run) k ended_node (finished s r) (end_run s is))
+            ∙ ap (is_before (local None past k)) (own_is clusters sessions nodes later (sound_run clusters sessions nodes None starts says later run) k ended_node (finished s r) (end_run s is))
 
         entries : head_of clusters None past k ≡ head_of clusters None later k → local None past k ≡ local None later k
         entries same =
             ap (λ o. unwrap_or o (local None past k))
             (sym (head_entry clusters sessions nodes past ended_sound k ended_node)
             ∙ (ap (λ (v : RevVec). entry v k) same
-            ∙ head_entry clusters sessions nodes later (sound_run clusters sessions nodes starts says later run) k ended_node))
+            ∙ head_entry clusters sessions nodes later (sound_run clusters sessions nodes None starts says later run) k ended_node))
 
         by : (head_of clusters None past k ≢ head_of clusters None later k) → (b : Bool) → is_before (local None past k) (local None later k) ≡ b → b ≡ true
         by moved true e = refl
-        by moved false e = absurd (moved (ap (with_entry (last_in clusters None past k)) (at_most_both (local None past k) (local None later k) ((later_end clusters sessions nodes past ended_sound r).locals k) (not_before (local None past k) (local None later k) e))))
+        by moved false e = absurd (moved (ap (with_entry (last_in clusters None past k)) (at_most_both (local None past k) (local None later k) ((later_end clusters sessions nodes None past ended_sound r).locals k) (not_before (local None past k) (local None later k) e))))
 
   -- an event that leaves a memory
   pub apart_run : (e : Event) (past : Past) (k : ℕ) (s : NodeState) → IsRunOf starts says clusters sessions None (e ∷ past) → leaves_memory k e ≡ true → IsMemoryOf clusters past k s → IsMemoryOf clusters (e ∷ past) k s
-  apart_run (event.Draw d) past k s run h is = draw_apart clusters sessions nodes past (sound_run clusters sessions nodes starts says past run.1) d (drawn_node d past run) (drawn_later d past run) (drawn_open d past run) k s (not_true (d.revision.cluster == k) h) is
-  apart_run (event.End r) past k s run h is = end_apart clusters sessions nodes past (sound_run clusters sessions nodes starts says past run.1) r k s (λ same. not_both (k == k) (same_itself k) (subst (λ (j : ℕ). (j == k) ≡ false) same (not_true (r.cluster == k) h))) is
-  apart_run (event.In m v) past k s run h is = in_apart clusters sessions nodes past (sound_run clusters sessions nodes starts says past run.1) m v k s (not_true (m == k) h) is
+  apart_run (event.Draw d) past k s run h is = draw_apart clusters sessions nodes past (sound_run clusters sessions nodes None starts says past run.1) d (drawn_node d past run) (drawn_later d past run) (drawn_open d past run) k s (not_true (d.revision.cluster == k) h) is
+  apart_run (event.End r) past k s run h is = end_apart clusters sessions nodes past (sound_run clusters sessions nodes None starts says past run.1) r k s (λ same. not_both (k == k) (same_itself k) (subst (λ (j : ℕ). (j == k) ≡ false) same (not_true (r.cluster == k) h))) is
+  apart_run (event.In m v) past k s run h is = in_apart clusters sessions nodes past (sound_run clusters sessions nodes None starts says past run.1) m v k s (not_true (m == k) h) is
   apart_run (event.Stop m) past k s run h is = record {
     cluster = is.cluster;
     head = is.head;

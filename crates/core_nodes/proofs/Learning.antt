@@ -29,7 +29,7 @@ use Rattle.core_nodes.specs.Nodes.{IsMemoryOf, IsOnRoot, IsPair}
 use Rattle.core_nodes.proofs.Memories.{head_entry, own_is}
 use Rattle.core_nodes.proofs.Vectors.{either_seen, left_seen, right_seen, same_vector}
 
-module _ (clusters : ℕ) (sessions : List ℕ) (nodes : AreNodes clusters sessions) (past : Past) (sound : IsSound clusters sessions past) (moment : Past) (of : IsOfMoment clusters past moment) (k : ℕ) (node : IsNode clusters k) (s : NodeState) (is : IsMemoryOf clusters past k s) (last sweep : RevVec) (root : IsOnRoot clusters moment last sweep) where
+module _ (clusters : ℕ) (sessions : List ℕ) (nodes : AreNodes clusters sessions) (past : Past) (sound : IsSound clusters sessions None past) (moment : Past) (of : IsOfMoment clusters None past moment) (k : ℕ) (node : IsNode clusters k) (s : NodeState) (is : IsMemoryOf clusters past k s) (last sweep : RevVec) (root : IsOnRoot clusters moment last sweep) where
   abbrev told : RevVec
   told = Rattle.oak_machine.specs.Runs.learned clusters None past moment k
 
@@ -52,29 +52,29 @@ module _ (clusters : ℕ) (sessions : List ℕ) (nodes : AreNodes clusters sessi
       ∙ (ap (λ (j : ℕ). option_map_or (is_at_most x) (entry s.head j) false) (sym (same ∙ is.memory.own_node)) ∙ h)
 
   more : (x : Revision) → sees s.head x ≡ true → sees told x ≡ true
-  more x h = learned_more clusters sessions nodes past sound moment of.of of.good of.public k node x (subst (λ (v : RevVec). sees v x ≡ true) is.head h)
+  more x h = learned_more clusters sessions nodes None past sound moment of.of of.good of.public k node x (subst (λ (v : RevVec). sees v x ≡ true) is.head h)
 
   there : (x : Revision) → sees head x ≡ true → sees told x ≡ true
   there x h = by (seen_before (greatest s.head last) (own_entry s) x low h)
     where
       each : (sees s.head x ≡ true) ⊎ (sees last x ≡ true) → sees told x ≡ true
       each (inl a) = more x a
-      each (inr a) = learned_public clusters sessions nodes past sound moment of.of of.good of.public k node x ((root.public x).0 a)
+      each (inr a) = learned_public clusters sessions nodes None past sound moment of.of of.good of.public k node x ((root.public x).0 a)
 
       by : (sees (greatest s.head last) x ≡ true) ⊎ ((x.cluster ≡ (own_entry s).cluster) × (is_at_most x (own_entry s) ≡ true)) → sees told x ≡ true
       by (inl a) = each (either_seen s.head last x a)
       by (inr p) =
           let n = nodes.eight in let u = node.1 in
-          learned_more clusters sessions nodes past sound moment of.of of.good of.public k node x
-          (head_own clusters past k x node.0 (omega arith) (sound.ins k node).eight (p.0 ∙ own_cluster) (subst (λ (e : Revision). is_at_most x e ≡ true) own p.1))
+          learned_more clusters sessions nodes None past sound moment of.of of.good of.public k node x
+          (head_own clusters None past k x node.0 (omega arith) (sound.ins k node).eight (p.0 ∙ own_cluster) (subst (λ (e : Revision). is_at_most x e ≡ true) own p.1))
 
   kept : (x : Revision) → sees s.head x ≡ true → sees head x ≡ true
   kept x h = still_seen (greatest s.head last) (own_entry s) x low (left_seen s.head last x h) (own_low x h)
 
   back : (x : Revision) → sees told x ≡ true → sees head x ≡ true
-  back x h = by (learned_from clusters sessions nodes past sound moment of.of of.good of.public k node x h)
+  back x h = by (learned_from clusters sessions nodes None past sound moment of.of of.good of.public k node x h)
     where
-      by : (sees (head_of clusters None past k) x ≡ true) ⊎ (Public clusters moment x × ((x.cluster == k) ≡ false)) → sees head x ≡ true
+      by : (sees (head_of clusters None past k) x ≡ true) ⊎ (Public clusters None moment x × ((x.cluster == k) ≡ false)) → sees head x ≡ true
       by (inl a) = kept x (subst (λ (v : RevVec). sees v x ≡ true) (sym is.head) a)
       by (inr p) = still_seen (greatest s.head last) (own_entry s) x low (right_seen s.head last x ((root.public x).1 p.0))
           (λ same. not_both (x.cluster == k) (ap (λ j. j == k) (same ∙ own_cluster) ∙ same_itself k) p.1)
@@ -82,19 +82,19 @@ module _ (clusters : ℕ) (sessions : List ℕ) (nodes : AreNodes clusters sessi
   head_vector : IsVector s.head
   head_vector = subst IsVector (sym is.head) (record {
     eight = set_length (last_in clusters None past k) ((local None past k).cluster - 1) (Some (local None past k)) ∙ (sound.ins k node).eight;
-    stands = head_stands clusters sessions nodes past sound k node;
+    stands = head_stands clusters sessions nodes None past sound k node;
   })
 
   -- the head that it has then is the one that it may tell
   pub head_is : head ≡ told
   head_is = same_vector head told
       (set_vector (greatest s.head last) (own_entry s) (greatest_vector s.head last head_vector root.vector) low)
-      (let v = learned_sound clusters sessions nodes past sound moment of.of of.good of.public k node in record { eight = v.eight; stands = v.stands })
+      (let v = learned_sound clusters sessions nodes None past sound moment of.of of.good of.public k node in record { eight = v.eight; stands = v.stands })
       there back
 
   -- an own entry of the sweep vector of the root is at most the node's own
   sweep_seen : (x : Revision) → sees sweep x ≡ true → sees head x ≡ true
-  sweep_seen x h = back x (learned_public clusters sessions nodes past sound moment of.of of.good of.public k node x ((root.public x).0 (root.pair.below x h)))
+  sweep_seen x h = back x (learned_public clusters sessions nodes None past sound moment of.of of.good of.public k node x ((root.public x).0 (root.pair.below x h)))
 
   pair : IsPair head (greatest s.sweep sweep)
   pair = record {
@@ -117,7 +117,7 @@ module _ (clusters : ℕ) (sessions : List ℕ) (nodes : AreNodes clusters sessi
   pub learn_kept : IsMemoryOf clusters (event.In k head ∷ past) k (learned s last sweep)
   learn_kept = record {
     cluster = is.cluster;
-    head = sym (with_entry_same head k (local None past k) own_there (local_cluster past k)) ∙ sym (ap (λ b. with_entry (cond b head (last_in clusters None past k)) (local None past k)) (same_itself k));
+    head = sym (with_entry_same head k (local None past k) own_there (local_cluster None past k)) ∙ sym (ap (λ b. with_entry (cond b head (last_in clusters None past k)) (local None past k)) (same_itself k));
     sweep = pair;
     last = is.last;
     above = is.above;
@@ -141,8 +141,8 @@ module _ (clusters : ℕ) (sessions : List ℕ) (nodes : AreNodes clusters sessi
 pub learn_run : (starts : Starts) (says : Says) (clusters : ℕ) (sessions : List ℕ) (nodes : AreNodes clusters sessions) (past : Past) → IsRunOf starts says clusters sessions None past → (k n : ℕ) → IsNode clusters k → is_stopped past k ≡ false → (s : NodeState) → IsMemoryOf clusters past k s → (last sweep : RevVec) → IsOnRoot clusters (drop n past) last sweep
     → IsRunOf starts says clusters sessions None (event.In k (learned s last sweep).head ∷ past) × IsMemoryOf clusters (event.In k (learned s last sweep).head ∷ past) k (learned s last sweep)
 learn_run starts says clusters sessions nodes past run k n node goes s is last sweep root =
-    let sound = sound_run clusters sessions nodes starts says past run in
-    let of = moments_run clusters sessions nodes starts says past run n in (
+    let sound = sound_run clusters sessions nodes None starts says past run in
+    let of = moments_run clusters sessions nodes None starts says past run n in (
       ((goes, (n, head_is clusters sessions nodes past sound (drop n past) of k node s is last sweep root)), run),
       learn_kept clusters sessions nodes past sound (drop n past) of k node s is last sweep root,
     )

@@ -32,13 +32,13 @@ use Rattle.core_nodes.proofs.Lists.{ended_drawn, filter_drawn, filter_twice, fly
 use Rattle.core_nodes.proofs.Pasts.{above_in, at_most_before, drawn_local, ended_local, in_above, local_before, local_time}
 use Rattle.core_nodes.proofs.Vectors.{entry_set, pair_grows, with_again}
 
-module _ (clusters : ℕ) (sessions : List ℕ) (nodes : AreNodes clusters sessions) (past : Past) (sound : IsSound clusters sessions past) where
+module _ (clusters : ℕ) (sessions : List ℕ) (nodes : AreNodes clusters sessions) (past : Past) (sound : IsSound clusters sessions None past) where
   -- ---- what a memory of the past has
 
   module _ (k : ℕ) (node : IsNode clusters k) where
     -- the head's own entry is the local revision
     pub head_entry : entry (head_of clusters None past k) k ≡ Some (local None past k)
-    head_entry = let n = nodes.eight in let m = node.1 in let l = (sound.ins k node).eight in entry_set (last_in clusters None past k) (local None past k) k (local_cluster past k) node.0 (omega arith)
+    head_entry = let n = nodes.eight in let m = node.1 in let l = (sound.ins k node).eight in entry_set (last_in clusters None past k) (local None past k) k (local_cluster None past k) node.0 (omega arith)
 
     pub own_is : (s : NodeState) → IsMemoryOf clusters past k s → own_entry s ≡ local None past k
     own_is s is =
@@ -85,15 +85,15 @@ module _ (clusters : ℕ) (sessions : List ℕ) (nodes : AreNodes clusters sessi
     abbrev found : Revision
     found = fold greater_of (local None past k) (filter (λ x. list_all (is_before x) fliers) (revisions_above past k))
 
-    grown : IsLater clusters past later
-    grown = later_end clusters sessions nodes past sound r
+    grown : IsLater clusters None past later
+    grown = later_end clusters sessions nodes None past sound r
 
     found_low : is_at_most found (local None later k) ≡ true
     found_low = fold_has (λ x. is_at_most x (local None later k) ≡ true) (local None past k) (filter (λ x. list_all (is_before x) fliers) (revisions_above past k)) (grown.locals k)
-        (λ q i. local_each later k q (settled_in q i))
+        (λ q i. local_each None later k q (settled_in q i))
 
     found_high : is_at_most (local None later k) found ≡ true
-    found_high = by (local_is later k)
+    found_high = by (local_is None later k)
       where
         first : is_at_most (local None past k) found ≡ true
         first = fold_first (local None past k) (filter (λ x. list_all (is_before x) fliers) (revisions_above past k))
@@ -103,7 +103,7 @@ module _ (clusters : ℕ) (sessions : List ℕ) (nodes : AreNodes clusters sessi
         above s false h = at_most_trans (local None later k) (local None past k) found (not_before (local None past k) (local None later k) h) first
 
         by : (local None later k ≡ start_of k) ⊎ IsSettledDraw later k (local None later k) → is_at_most (local None later k) found ≡ true
-        by (inl e) = at_most_trans (local None later k) (local None past k) found (subst (λ (x : Revision). is_at_most x (local None past k) ≡ true) (sym e) (local_first past k)) first
+        by (inl e) = at_most_trans (local None later k) (local None past k) found (subst (λ (x : Revision). is_at_most x (local None past k) ≡ true) (sym e) (local_first None past k)) first
         by (inr s) = above s (is_before (local None past k) (local None later k)) refl
 
     -- the memory finds the local revision
@@ -131,7 +131,7 @@ module _ (clusters : ℕ) (sessions : List ℕ) (nodes : AreNodes clusters sessi
           ∙ ap (map (as_drawn later)) (filter_twice (is_before (local None past k)) (is_before (local None later k)) (reverse (draws_by past k)) (λ q h. at_most_before (local None past k) (local None later k) q (grown.locals k) h))))
 
       head_is : with_entry s.head moved ≡ head_of clusters None later k
-      head_is = ap (λ (v : RevVec). with_entry v moved) is.head ∙ (ap (with_entry (head_of clusters None past k)) moved_is ∙ with_again (last_in clusters None past k) (local None past k) (local None later k) (local_cluster past k ∙ sym (local_cluster later k)))
+      head_is = ap (λ (v : RevVec). with_entry v moved) is.head ∙ (ap (with_entry (head_of clusters None past k)) moved_is ∙ with_again (last_in clusters None past k) (local None past k) (local None later k) (local_cluster None past k ∙ sym (local_cluster None later k)))
 
       -- after an end of a revision in flight
       pub end_kept : IsMemoryOf clusters later k (finished s r)
@@ -148,7 +148,7 @@ module _ (clusters : ℕ) (sessions : List ℕ) (nodes : AreNodes clusters sessi
 
   -- ---- a draw
 
-  module _ (d : Draw) (node : IsNode clusters d.revision.cluster) (grown : IsLater clusters past (event.Draw d ∷ past)) (unended : is_ended past d.revision ≡ false) where
+  module _ (d : Draw) (node : IsNode clusters d.revision.cluster) (grown : IsLater clusters None past (event.Draw d ∷ past)) (unended : is_ended past d.revision ≡ false) where
     abbrev n : ℕ
     n = d.revision.cluster
 
@@ -205,7 +205,7 @@ module _ (clusters : ℕ) (sessions : List ℕ) (nodes : AreNodes clusters sessi
 
   pub end_apart : (r : Revision) (k : ℕ) (s : NodeState) → (r.cluster ≡ k → ⊥) → IsMemoryOf clusters past k s → IsMemoryOf clusters (event.End r ∷ past) k s
   end_apart r k s other is =
-      let same : local None (event.End r ∷ past) k ≡ local None past k = ended_local clusters past r (later_end clusters sessions nodes past sound r) k other in
+      let same : local None (event.End r ∷ past) k ≡ local None past k = ended_local clusters past r (later_end clusters sessions nodes None past sound r) k other in
       record {
         cluster = is.cluster;
         head = is.head ∙ sym (ap (with_entry (last_in clusters None past k)) same);

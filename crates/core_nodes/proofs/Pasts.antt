@@ -12,7 +12,6 @@ use Rattle.oak_machine.specs.Heads.{draws_by, last_draw_time, local}
 use Rattle.oak_machine.specs.Laws.{Says, Starts}
 use Rattle.oak_machine.specs.Runs.{AreNodes, IsRunOf}
 use Rattle.core_read.proofs.Latest.{at_most_both, at_most_trans, before_itself, not_before, same_revision}
-use Rattle.core_read.proofs.Vectors.{time_before}
 use Rattle.core_heads.specs.Sound.{IsIn, IsSound}
 use Rattle.core_heads.proofs.Later.{IsLater, timed}
 use Rattle.core_heads.proofs.Locals.{IsSettledDraw, draws_in, in_draws, local_grows, local_is}
@@ -63,29 +62,28 @@ ended_was_drawn starts says clusters sessions (e ∷ past) run r h = ended_was_d
 
 -- where the same is settled, the local revision is the same
 pub local_same : (past later : Past) (k : ℕ) → is_at_most (local None past k) (local None later k) ≡ true → ((r : Revision) → IsSettledDraw later k r → IsSettledDraw past k r) → local None later k ≡ local None past k
-local_same past later k grown back = at_most_both (local None later k) (local None past k) (local_grows later past k back) grown
+local_same past later k grown back = at_most_both (local None later k) (local None past k) (local_grows None later past k back) grown
 
 -- it is before each revision of its node in flight
-pub local_before : (clusters : ℕ) (sessions : List ℕ) (nodes : AreNodes clusters sessions) (past : Past) → IsSound clusters sessions past → (k : ℕ) (o : Revision) → is_in_flight past o ≡ true → o.cluster ≡ k → is_before (local None past k) o ≡ true
-local_before clusters sessions nodes past sound k o flies same = by (local_is past k)
+pub local_before : (clusters : ℕ) (sessions : List ℕ) (nodes : AreNodes clusters sessions) (past : Past) → IsSound clusters sessions None past → (k : ℕ) (o : Revision) → is_in_flight past o ≡ true → o.cluster ≡ k → is_before (local None past k) o ≡ true
+local_before clusters sessions nodes past sound k o flies same = by (local_is None past k)
   where
     by : (local None past k ≡ start_of k) ⊎ IsSettledDraw past k (local None past k) → is_before (local None past k) o ≡ true
     by (inl e) =
-        let t = (timed clusters sessions nodes past sound o (and_both (is_drawn past o) _ flies).0).1 in
-        let z = ap (λ (x : Revision). x.time) e in
-        time_before (local None past k) o (omega arith)
+        let later = (timed clusters sessions nodes None past sound o (and_both (is_drawn past o) _ flies).0).1 in
+        subst (λ (x : Revision). is_before x o ≡ true) (sym e) (subst (λ (j : ℕ). is_before (start_of j) o ≡ true) same later)
     by (inr s) = s.below o flies same
 
 -- and no later than the last draw of its node
-pub local_time : (clusters : ℕ) (sessions : List ℕ) (nodes : AreNodes clusters sessions) (past : Past) → IsSound clusters sessions past → (k : ℕ) → (local None past k).time ≤ last_draw_time past k
-local_time clusters sessions nodes past sound k = by (local_is past k)
+pub local_time : (clusters : ℕ) (sessions : List ℕ) (nodes : AreNodes clusters sessions) (past : Past) → IsSound clusters sessions None past → (k : ℕ) → (local None past k).time ≤ last_draw_time past k
+local_time clusters sessions nodes past sound k = by (local_is None past k)
   where
     by : (local None past k ≡ start_of k) ⊎ IsSettledDraw past k (local None past k) → (local None past k).time ≤ last_draw_time past k
     by (inl e) = let z = ap (λ (x : Revision). x.time) e in omega arith
-    by (inr s) = subst (λ (j : ℕ). (local None past k).time ≤ last_draw_time past j) s.cluster (timed clusters sessions nodes past sound (local None past k) s.drawn).0
+    by (inr s) = subst (λ (j : ℕ). (local None past k).time ≤ last_draw_time past j) s.cluster (timed clusters sessions nodes None past sound (local None past k) s.drawn).0
 
 -- a draw moves no local revision
-pub drawn_local : (clusters : ℕ) (past : Past) (d : Draw) → IsLater clusters past (event.Draw d ∷ past) → is_ended past d.revision ≡ false → (k : ℕ) → local None (event.Draw d ∷ past) k ≡ local None past k
+pub drawn_local : (clusters : ℕ) (past : Past) (d : Draw) → IsLater clusters None past (event.Draw d ∷ past) → is_ended past d.revision ≡ false → (k : ℕ) → local None (event.Draw d ∷ past) k ≡ local None past k
 drawn_local clusters past d grown unended k = local_same past (event.Draw d ∷ past) k (grown.locals k) back
   where
     flies : is_in_flight (event.Draw d ∷ past) d.revision ≡ true
@@ -104,7 +102,7 @@ drawn_local clusters past d grown unended k = local_same past (event.Draw d ∷ 
         by false e h = h
 
 -- an end moves no local revision of another node
-pub ended_local : (clusters : ℕ) (past : Past) (r : Revision) → IsLater clusters past (event.End r ∷ past) → (k : ℕ) → (r.cluster ≡ k → ⊥) → local None (event.End r ∷ past) k ≡ local None past k
+pub ended_local : (clusters : ℕ) (past : Past) (r : Revision) → IsLater clusters None past (event.End r ∷ past) → (k : ℕ) → (r.cluster ≡ k → ⊥) → local None (event.End r ∷ past) k ≡ local None past k
 ended_local clusters past r grown k other = local_same past (event.End r ∷ past) k (grown.locals k) back
   where
     still : (o : Revision) → o.cluster ≡ k → (b : Bool) → is_same o r ≡ b → is_in_flight past o ≡ true → (is_drawn past o && not (b || is_ended past o)) ≡ true

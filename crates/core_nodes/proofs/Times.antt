@@ -63,7 +63,7 @@ time_most v n stands h = most (λ k. option_map_or (λ (r : Revision). r.time) (
 -- ---- heads
 
 module _ (clusters : ℕ) (sessions : List ℕ) (nodes : AreNodes clusters sessions) where
-  module _ (past : Past) (sound : IsSound clusters sessions past) (n : ℕ) (last : (k : ℕ) → last_draw_time past k ≤ n) where
+  module _ (past : Past) (sound : IsSound clusters sessions None past) (n : ℕ) (last : (k : ℕ) → last_draw_time past k ≤ n) where
     local_most : (k : ℕ) (x : Revision) → is_at_most x (local None past k) ≡ true → x.time ≤ n
     local_most k x h =
         let a = at_most_time x (local None past k) h in
@@ -72,15 +72,15 @@ module _ (clusters : ℕ) (sessions : List ℕ) (nodes : AreNodes clusters sessi
         omega arith
 
     head_most : (k : ℕ) → IsNode clusters k → greatest_time (head_of clusters None past k) ≤ n
-    head_most k node = time_most (head_of clusters None past k) n (head_stands clusters sessions nodes past sound k node) (λ x h. by x h (head_told clusters sessions nodes past sound k node x h))
+    head_most k node = time_most (head_of clusters None past k) n (head_stands clusters sessions nodes None past sound k node) (λ x h. by x h (head_told clusters sessions nodes None past sound k node x h))
       where
         own : (x : Revision) → x.cluster ≡ k → (sees (last_in clusters None past k) x ≡ true) ⊎ ((x.cluster ≡ k) × (is_at_most x (local None past k) ≡ true)) → x.time ≤ n
         own x same (inl h) = local_most k x ((sound.ins k node).own x h same)
         own x same (inr h) = local_most k x h.1
 
-        by : (x : Revision) → sees (head_of clusters None past k) x ≡ true → (x.cluster ≡ k) ⊎ Public clusters past x → x.time ≤ n
-        by x h (inl same) = own x same (head_seen clusters past k x node.0 h)
-        by x h (inr p) = local_most x.cluster x (at_most_trans x (published None past x.cluster) (local None past x.cluster) p.1 (published_is clusters sessions nodes past sound x.cluster).1)
+        by : (x : Revision) → sees (head_of clusters None past k) x ≡ true → (x.cluster ≡ k) ⊎ Public clusters None past x → x.time ≤ n
+        by x h (inl same) = own x same (head_seen clusters None past k x node.0 h)
+        by x h (inr p) = local_most x.cluster x (at_most_trans x (published None past x.cluster) (local None past x.cluster) p.1 (published_is clusters sessions nodes None past sound x.cluster).1)
 
   module _ (starts : Starts) (says : Says) where
     -- no draw is later than there are draws
@@ -94,7 +94,7 @@ module _ (clusters : ℕ) (sessions : List ℕ) (nodes : AreNodes clusters sessi
         new : ((j : ℕ) → last_draw_time past j ≤ draws_made past) → d.revision.time ≤ 1 + draws_made past
         new before =
             let t : d.revision.time ≡ max (greatest_time (head_of clusters None past d.revision.cluster)) (last_draw_time past d.revision.cluster) + 1 = ap (λ (x : Revision). x.time) run.0.next in
-            let a = head_most past (sound_run clusters sessions nodes starts says past run.1) (draws_made past) before d.revision.cluster node in
+            let a = head_most past (sound_run clusters sessions nodes None starts says past run.1) (draws_made past) before d.revision.cluster node in
             let b = before d.revision.cluster in
             omega arith
 
@@ -106,7 +106,7 @@ module _ (clusters : ℕ) (sessions : List ℕ) (nodes : AreNodes clusters sessi
     -- no node knows a time that is greater
     pub known_most : (past : Past) → IsRunOf starts says clusters sessions None past → (k : ℕ) (s : NodeState) → IsNode clusters k → IsMemoryOf clusters past k s → known_time s ≤ draws_made past
     known_most past run k s node is =
-        let sound = sound_run clusters sessions nodes starts says past run in
+        let sound = sound_run clusters sessions nodes None starts says past run in
         let a = head_most past sound (draws_made past) (last_most past run) k node in
         let b = last_most past run k in
         let h : greatest_time s.head ≡ greatest_time (head_of clusters None past k) = ap greatest_time is.head in

@@ -22,7 +22,7 @@ use Rattle.core_nodes.proofs.Lists.{drawn_has, has_drawn}
 use Rattle.core_nodes.proofs.Memories.{own_is}
 use Rattle.core_nodes.proofs.Pasts.{above_in, in_above, local_before, not_false, not_true}
 
-module _ (clusters : ℕ) (sessions : List ℕ) (nodes : AreNodes clusters sessions) (past : Past) (sound : IsSound clusters sessions past) (k : ℕ) (node : IsNode clusters k) (s : NodeState) (is : IsMemoryOf clusters past k s) where
+module _ (clusters : ℕ) (sessions : List ℕ) (nodes : AreNodes clusters sessions) (past : Past) (sound : IsSound clusters sessions None past) (k : ℕ) (node : IsNode clusters k) (s : NodeState) (is : IsMemoryOf clusters past k s) where
   kept_above : (r : Revision) (e : Bool) → IsAboveOf past k r e → Contains s.above (record { revision = r; ended = e })
   kept_above r e h =
       subst (λ (ds : List Drawn). Contains ds (record { revision = r; ended = e })) (sym is.above)

@@ -51,7 +51,7 @@ pub record IsPair (base sweep : RevVec) : Type 0 where
 -- two vectors of the root at a moment: what was public, and with it how far each cluster node had swept
 pub record IsOnRoot (clusters : ℕ) (moment : Past) (last sweep : RevVec) : Type 0 where
   pub vector : IsVector last
-  pub public : (x : Revision) → IsTrue (sees last x) ↔ Public clusters moment x
+  pub public : (x : Revision) → IsTrue (sees last x) ↔ Public clusters None moment x
   pub pair : IsPair last sweep
 
 -- the memory of cluster node k is that of the past: its head, with a sweep vector that goes with it, its last draw, what it

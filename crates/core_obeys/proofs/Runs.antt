@@ -185,7 +185,7 @@ module _ (clusters : ℕ) (sessions : List ℕ) (nodes : AreNodes clusters sessi
       subst (λ (o : Option Draw). view_of (tree_of s (falling (event.Commit r ∷ past))) ≡ seen s (option_map_or (λ d. d ∷ commits past) o (commits past))) (sym d.1)
       (commit_seen past r run d.0 d.1 s closed begun (seen_is past run.1 s (closed_now past r run d.0 d.1 s closed) begun))
   seen_is (event.Draw d ∷ past) run s closed begun = seen_is past run.1 s
-      (λ o us e h q k. closed o us e h q (in_base_later past d (fresh_run clusters sessions nodes starts says d past run).fresh o q k)) begun
+      (λ o us e h q k. closed o us e h q (in_base_later past d (fresh_run clusters sessions nodes None starts says d past run).fresh o q k)) begun
   seen_is (e ∷ past) run s closed begun = seen_is past run.1 s closed begun
 
   -- ---- the commits are steps
@@ -204,7 +204,7 @@ module _ (clusters : ℕ) (sessions : List ℕ) (nodes : AreNodes clusters sessi
     where
       by : (b : Bool) → is_same r d.revision ≡ b → cond b (Some d) (draw_of past r) ≡ Some e
       by false k = h
-      by true k = absurd (false≢true (sym (ap is_some (ap (draw_of past) (same_revision r d.revision k) ∙ (fresh_run clusters sessions nodes starts says d past run).fresh)) ∙ ap is_some h))
+      by true k = absurd (false≢true (sym (ap is_some (ap (draw_of past) (same_revision r d.revision k) ∙ (fresh_run clusters sessions nodes None starts says d past run).fresh)) ∙ ap is_some h))
 
   -- a commit is drawn and committed
   abbrev IsDone : Past → Draw → Type 0

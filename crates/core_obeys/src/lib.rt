@@ -23,7 +23,10 @@ ghost use Rattle.core_merge.specs.Orders.{tree_by_commits};
 ghost use Rattle.core_obeys.specs.Plans.{IsObeyingRun, Tokens, tokens_at_draw};
 ghost use Rattle.core_obeys.specs.Tidy.{IsTidy};
 
+mod product;
+
 use oak_machine::Law;
+pub use product::the_product_obeys;
 
 /// After each commit the tree of all commits meets the rules of node types, at each node and item (JSR 283, 3.7 Node Types). So
 /// does what a closed vector sees, and with it what a session sees at its base.

@@ -213,7 +213,7 @@ module _ (starts : Starts) (says : Says) (proper : StartsProper starts) (w : Sta
   }
 
   pub own_entry_is : own_entry (memory_of w s) ≡ local None w.past (node_of w s)
-  own_entry_is = own_is w.clusters w.sessions kept.sessions.nodes w.past (sound_run w.clusters w.sessions kept.sessions.nodes starts says w.past kept.sessions.run) (node_of w s) on (memory_of w s) (kept.sessions.memories.memory (node_of w s) on)
+  own_entry_is = own_is w.clusters w.sessions kept.sessions.nodes w.past (sound_run w.clusters w.sessions kept.sessions.nodes None starts says w.past kept.sessions.run) (node_of w s) on (memory_of w s) (kept.sessions.memories.memory (node_of w s) on)
 
   -- what was public when the root was read, the head sees once it is learned
   pub heard : (last sweep : RevVec) → WereOnRoot w.clusters w.past last sweep → (r : Revision) → sees last r ≡ true → sees (learned (memory_of w s) last sweep).head r ≡ true
@@ -228,14 +228,14 @@ module _ (starts : Starts) (says : Says) (proper : StartsProper starts) (w : Sta
       low : 1 ≤ (own_entry (memory_of w s)).cluster
       low = subst (λ (j : ℕ). 1 ≤ j) (sym own_cluster) on.0
 
-      public : Public w.clusters w.past r
-      public = (moments_run w.clusters w.sessions kept.sessions.nodes starts says w.past kept.sessions.run were.0).public r ((were.1.public r).0 h)
+      public : Public w.clusters None w.past r
+      public = (moments_run w.clusters w.sessions kept.sessions.nodes None starts says w.past kept.sessions.run were.0).public r ((were.1.public r).0 h)
 
       at_own : r.cluster ≡ (own_entry (memory_of w s)).cluster → is_at_most r (own_entry (memory_of w s)) ≡ true
       at_own same = subst (λ (e : Revision). is_at_most r e ≡ true) (sym own_entry_is)
           (at_most_trans r (published None w.past (node_of w s)) (local None w.past (node_of w s))
           (subst (λ (j : ℕ). is_at_most r (published None w.past j) ≡ true) (same ∙ own_cluster) public.1)
-          (published_is w.clusters w.sessions kept.sessions.nodes w.past (sound_run w.clusters w.sessions kept.sessions.nodes starts says w.past kept.sessions.run) (node_of w s)).1)
+          (published_is w.clusters w.sessions kept.sessions.nodes None w.past (sound_run w.clusters w.sessions kept.sessions.nodes None starts says w.past kept.sessions.run) (node_of w s)).1)
 
 -- what is read of the root now
 pub told_now : (clusters : ℕ) (past : Past) (t : Table) → IsRootKept clusters past t → (d : Document) → nodes_in t [] ≡ Some d → IsOnRoot clusters past d.last_rev d.sweep_rev

@@ -125,7 +125,7 @@ module _ (starts : Starts) (says : Says) (proper : StartsProper starts) (w : Sta
     where
       unseen : (o : Revision) (b : Bool) → sees m o ≡ b → (is_in_flight w.past o ≡ true) ⊎ ⊥ → b ≡ false
       unseen o false e flies = refl
-      unseen o true e (inl flies) = absurd ((bound_run w.clusters w.sessions kept.sessions.nodes starts says w.past m t (may, kept.sessions.run) 1 (omega arith, kept.sessions.nodes.some) (unrecovered starts says proper w kept 1) o (inl flies)).0 e)
+      unseen o true e (inl flies) = absurd ((bound_run w.clusters w.sessions kept.sessions.nodes None starts says w.past m t (may, kept.sessions.run) 1 (omega arith, kept.sessions.nodes.some) (unrecovered starts says proper w kept 1) o (inl flies)).0 e)
       unseen o true e (inr n) = absurd n
 
 pub bound_commits : (past : Past) (t : Table) (running : ℕ → Option Running) (a : AreCommitting past t running) → (m s : RevVec) → MayBoundBases past m s → IsUsed past (sees m) → AreCommitting (event.Bound m s ∷ past) t running

@@ -45,7 +45,7 @@ module _ (starts : Starts) (says : Says) (proper : StartsProper starts) (cluster
   told_later = told_past clusters sessions nodes starts says proper later run
 
   fresh : draw_of past d.revision ≡ None
-  fresh = (fresh_run clusters sessions nodes starts says d past run).fresh
+  fresh = (fresh_run clusters sessions nodes None starts says d past run).fresh
 
   -- what is told of drawn revisions is not told of this one
   not_yet : (b : Bool) → (b ≡ true → is_drawn past d.revision ≡ true) → b ≡ false

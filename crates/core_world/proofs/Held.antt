@@ -288,7 +288,7 @@ module _ (starts : Starts) (says : Says) (proper : StartsProper starts) (w : Sta
         ∙ ap (λ (p : Past). head_of w.clusters None p k) past) in
         subst (λ (v : RevVec). is_below v (memory_at u.memories k).head ≡ true) (sym before)
         (subst (λ (v : RevVec). is_below (head_of w.clusters None w.past k) v ≡ true) (sym after)
-        (grow_run w.clusters w.sessions kept.sessions.nodes starts says added w.past run_then k node))
+        (grow_run w.clusters w.sessions kept.sessions.nodes None starts says added w.past run_then k node))
 
     pub holding : ((k : ℕ) → IsNode w.clusters k → IsMemoryStep (memory_at w.memories k) (memory_at u.memories k)) → KeepsOrPins (kept_in u.table) → IsHoldingStep (holding_in w) (holding_in u)
     holding memories keeps = record {

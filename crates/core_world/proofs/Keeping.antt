@@ -50,7 +50,7 @@ module _ (starts : Starts) (says : Says) (proper : StartsProper starts) (cluster
 
   module _ (d : Draw) (past : Past) (run : IsRunOf starts says clusters sessions None (event.Draw d ∷ past)) where
     fresh : draw_of past d.revision ≡ None
-    fresh = (fresh_run clusters sessions nodes starts says d past run).fresh
+    fresh = (fresh_run clusters sessions nodes None starts says d past run).fresh
 
     drawn_now : draw_of (event.Draw d ∷ past) d.revision ≡ Some d
     drawn_now = ap (λ b. cond b (Some d) (draw_of past d.revision)) (Rattle.core_clash.proofs.Basics.is_same_self d.revision)

@@ -80,7 +80,7 @@ module _ (starts : Starts) (says : Says) (proper : StartsProper starts) (w : Sta
 
   -- the base of whoever reads is in use, and its pair is held
   pub reader_in_use : (s : ℕ) (r : Reader) → w.reading s ≡ Some r → IsInUse w.past r.pin.base
-  reader_in_use s r h = held_in_use w.past r.pin.base ((sound_run w.clusters w.sessions kept.nodes starts says w.past kept.run).bases s r.pin.base (live_is w.past s r.pin.base (kept.readers.at_base s r h)).base)
+  reader_in_use s r h = held_in_use None w.past r.pin.base ((sound_run w.clusters w.sessions kept.nodes None starts says w.past kept.run).bases s r.pin.base (live_is w.past s r.pin.base (kept.readers.at_base s r h)).base)
 
   pub reader_held : (s : ℕ) (r : Reader) → w.reading s ≡ Some r → IsHeldPair w.past r.pin.base r.pin.sweep
   reader_held s r h = pair_held w.past r.pin (reader_in_use s r h) (kept.readers.pairs s r h) (kept.readers.above s r h)

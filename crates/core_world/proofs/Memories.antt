@@ -243,4 +243,4 @@ module _ (starts : Starts) (says : Says) (clusters : ℕ) (sessions : List ℕ) 
       own x (inr p) =
           let n = nodes.eight in let u = node.1 in
           subst (λ (v : RevVec). sees v x ≡ true) (sym (are.memory k node).head)
-          (head_own clusters past k x node.0 (omega arith) ((sound_run clusters sessions nodes starts says past run.1).ins k node).eight (p.0 ∙ of) (at_most_trans x r (local None past k) p.1 low))
+          (head_own clusters None past k x node.0 (omega arith) ((sound_run clusters sessions nodes None starts says past run.1).ins k node).eight (p.0 ∙ of) (at_most_trans x r (local None past k) p.1 low))

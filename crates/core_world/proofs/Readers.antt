@@ -169,16 +169,16 @@ some_pinned (event.Refresh t v ∷ past) s login = by (some_pinned past s login)
 some_pinned (e ∷ past) s login = some_pinned past s login
 
 -- a vector at which a session was pinned is held, also while it is attached
-pub pinned_held : (starts : Starts) (says : Says) (clusters : ℕ) (sessions : List ℕ) (nodes : AreNodes clusters sessions) (past : Past) → IsRunOf starts says clusters sessions None past → (s : ℕ) (v : RevVec) → pinned_at past s ≡ Some v → IsHeld past v
+pub pinned_held : (starts : Starts) (says : Says) (clusters : ℕ) (sessions : List ℕ) (nodes : AreNodes clusters sessions) (past : Past) → IsRunOf starts says clusters sessions None past → (s : ℕ) (v : RevVec) → pinned_at past s ≡ Some v → IsHeld None past v
 pinned_held starts says clusters sessions nodes [] run s v h = absurd (false≢true (ap is_some h))
 pinned_held starts says clusters sessions nodes (event.Login t u ∷ past) run s v h = by (λ k. pinned_held starts says clusters sessions nodes past run.1 s v k) (t == s) refl
   where
-    by : (pinned_at past s ≡ Some v → IsHeld past v) → (b : Bool) → (t == s) ≡ b → IsHeld (event.Login t u ∷ past) v
-    by rest true e = (sound_run clusters sessions nodes starts says (event.Login t u ∷ past) run).bases s v (ap (λ b. cond b (Some u) (base_of past s)) e ∙ (sym (ap (λ b. cond b (Some u) (pinned_at past s)) e) ∙ h))
-    by rest false e = held_kept clusters past (event.Login t u ∷ past) (later_run clusters sessions nodes starts says (event.Login t u) past run) v (rest (sym (ap (λ b. cond b (Some u) (pinned_at past s)) e) ∙ h))
+    by : (pinned_at past s ≡ Some v → IsHeld None past v) → (b : Bool) → (t == s) ≡ b → IsHeld None (event.Login t u ∷ past) v
+    by rest true e = (sound_run clusters sessions nodes None starts says (event.Login t u ∷ past) run).bases s v (ap (λ b. cond b (Some u) (base_of past s)) e ∙ (sym (ap (λ b. cond b (Some u) (pinned_at past s)) e) ∙ h))
+    by rest false e = held_kept clusters None past (event.Login t u ∷ past) (later_run clusters sessions nodes None starts says (event.Login t u) past run) v (rest (sym (ap (λ b. cond b (Some u) (pinned_at past s)) e) ∙ h))
 pinned_held starts says clusters sessions nodes (event.Refresh t u ∷ past) run s v h = by (λ k. pinned_held starts says clusters sessions nodes past run.1 s v k) (t == s) refl
   where
-    by : (pinned_at past s ≡ Some v → IsHeld past v) → (b : Bool) → (t == s) ≡ b → IsHeld (event.Refresh t u ∷ past) v
-    by rest true e = (sound_run clusters sessions nodes starts says (event.Refresh t u ∷ past) run).bases s v (ap (λ b. cond b (Some u) (base_of past s)) e ∙ (sym (ap (λ b. cond b (Some u) (pinned_at past s)) e) ∙ h))
-    by rest false e = held_kept clusters past (event.Refresh t u ∷ past) (later_run clusters sessions nodes starts says (event.Refresh t u) past run) v (rest (sym (ap (λ b. cond b (Some u) (pinned_at past s)) e) ∙ h))
-pinned_held starts says clusters sessions nodes (e ∷ past) run s v h = held_kept clusters past (e ∷ past) (later_run clusters sessions nodes starts says e past run) v (pinned_held starts says clusters sessions nodes past run.1 s v h)
+    by : (pinned_at past s ≡ Some v → IsHeld None past v) → (b : Bool) → (t == s) ≡ b → IsHeld None (event.Refresh t u ∷ past) v
+    by rest true e = (sound_run clusters sessions nodes None starts says (event.Refresh t u ∷ past) run).bases s v (ap (λ b. cond b (Some u) (base_of past s)) e ∙ (sym (ap (λ b. cond b (Some u) (pinned_at past s)) e) ∙ h))
+    by rest false e = held_kept clusters None past (event.Refresh t u ∷ past) (later_run clusters sessions nodes None starts says (event.Refresh t u) past run) v (rest (sym (ap (λ b. cond b (Some u) (pinned_at past s)) e) ∙ h))
+pinned_held starts says clusters sessions nodes (e ∷ past) run s v h = held_kept clusters None past (e ∷ past) (later_run clusters sessions nodes None starts says e past run) v (pinned_held starts says clusters sessions nodes past run.1 s v h)

@@ -112,15 +112,15 @@ module _ (clusters : ℕ) (eight : clusters ≤ 8) (past : Past) (last sweep : R
       by false = at_most_itself (published None past j)
       by true = fold_has (λ x. is_at_most x (fold greater_of (start_of j) (r ∷ outs_of past j)) ≡ true) (start_of j) (outs_of past j) (fold_first (start_of j) (r ∷ outs_of past j)) (λ q i. fold_each (start_of j) (r ∷ outs_of past j) q (inr i))
 
-  to_public : (x : Revision) → sees (raised last r) x ≡ true → Public clusters (event.Out k r ∷ past) x
+  to_public : (x : Revision) → sees (raised last r) x ≡ true → Public clusters None (event.Out k r ∷ past) x
   to_public x h = by (seen_raised last r x h)
     where
-      by : (sees last x ≡ true) ⊎ ((x.cluster ≡ r.cluster) × (is_at_most x r ≡ true)) → Public clusters (event.Out k r ∷ past) x
+      by : (sees last x ≡ true) ⊎ ((x.cluster ≡ r.cluster) × (is_at_most x r ≡ true)) → Public clusters None (event.Out k r ∷ past) x
       by (inl s) = let p = (root.public x).0 s in (p.0, at_most_trans x (published None past x.cluster) (published None (event.Out k r ∷ past) x.cluster) p.1 (grows x.cluster))
       by (inr p) = subst (λ (j : ℕ). IsNode clusters j × (is_at_most x (published None (event.Out k r ∷ past) j) ≡ true)) (sym (p.0 ∙ of))
           (node, at_most_trans x r (published None (event.Out k r ∷ past) k) p.1 (subst (λ (y : Revision). is_at_most r y ≡ true) (sym out_is) (fold_each (start_of k) (r ∷ outs_of past k) r (inl refl))))
 
-  from_public : (x : Revision) → Public clusters (event.Out k r ∷ past) x → sees (raised last r) x ≡ true
+  from_public : (x : Revision) → Public clusters None (event.Out k r ∷ past) x → sees (raised last r) x ≡ true
   from_public x p = by (k == x.cluster) refl
     where
       from : x.cluster ≡ k → (is_at_most x r ≡ true) ⊎ (is_at_most x (published None past k) ≡ true) → sees (raised last r) x ≡ true

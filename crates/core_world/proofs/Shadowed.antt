@@ -47,7 +47,7 @@ module _ (starts : Starts) (says : Says) (proper : StartsProper starts) (w : Sta
 
   -- its base is in use still
   pub base_used : IsInUse w.past x.draw.base
-  base_used = held_in_use w.past x.draw.base
+  base_used = held_in_use None w.past x.draw.base
       (pinned_held starts says w.clusters w.sessions kept.nodes w.past kept.run x.draw.session x.draw.base (flying_pinned starts says w.clusters w.sessions w.past x.draw.revision x.draw kept.run its.draw its.unended))
 
   pub shadowed : (p : Path) (o : Revision) (n : Name) → list_any (has_moved o (Prop n)) (moved_in w.table p) ≡ true → sees x.draw.base o ≡ false

@@ -62,7 +62,7 @@ pub root_stays : (starts : Starts) (says : Says) (clusters : ℕ) (sessions : Li
 root_stays starts says clusters sessions nodes (event.Draw d) past r run drawn = by (is_same r d.revision) refl
   where
     fresh : draw_of past d.revision ≡ None
-    fresh = (fresh_run clusters sessions nodes starts says d past run).fresh
+    fresh = (fresh_run clusters sessions nodes None starts says d past run).fresh
 
     by : (b : Bool) → is_same r d.revision ≡ b → commit_root (option_map_or (λ (e : Draw). e.marks) (cond b (Some d) (draw_of past r)) []) ≡ root_of past r
     by false h = refl
@@ -76,20 +76,20 @@ module _ (starts : Starts) (says : Says) (proper : StartsProper starts) (w : Sta
     based : HasBase w.past s pin.base
     based = based_is w.past s pin.base (sym (its_base starts says proper w kept s there) ∙ ap base_of_pin has_pin)
 
-    held : IsHeld w.past pin.base
+    held : IsHeld None w.past pin.base
     held = pinned_held starts says w.clusters w.sessions kept.nodes w.past kept.run s pin.base based.base
 
     pub pin_settled : IsSettled w.past pin.base
-    pin_settled = held_settled w.past pin.base held
+    pin_settled = held_settled None w.past pin.base held
 
     pub pin_closed : IsClosed w.past pin.base
-    pin_closed = closed_run w.clusters w.sessions kept.nodes starts says w.past kept.run pin.base held
+    pin_closed = closed_run w.clusters w.sessions kept.nodes None starts says w.past kept.run pin.base held
 
     pub pin_shows : IsAboveBounds w.past pin → (p : Path) → found_node (documents_in w.table.documents) pin.sweep pin.base p ≡ node_at (tree_at None w.past pin.base) p
     pin_shows above p =
         let world = kept.committing.kept in
         reading (documents_in w.table.documents) w.past pin.base pin.sweep world.keeps world.told world.separate world.bounded world.swept
-        (pair_held w.past pin (held_in_use w.past pin.base held) (its_pair starts says proper w kept s there pin has_pin) above) p
+        (pair_held w.past pin (held_in_use None w.past pin.base held) (its_pair starts says proper w kept s there pin has_pin) above) p
 
   -- a session that is there has a pin, at its base
   pub pin_there : (s : ℕ) → has_login w.past s ≡ true → has_left w.past s ≡ false → (pin : Pin) × (pin_of (memory_of w s) s ≡ Some pin) × (pin.base ≡ base_in w s) × (is_attached w.past s ≡ false → base_of w.past s ≡ Some (base_in w s)) × IsPair pin.base pin.sweep
@@ -118,7 +118,7 @@ module _ (starts : Starts) (says : Says) (proper : StartsProper starts) (w : Sta
         let node : IsNode w.clusters k = kept.nodes.node s k on in
         let flying = in_flight w.past x.draw.revision x.draw mine.draw mine.unended in
         subst (λ (j : ℕ). IsInFlight (memory_at w.memories j) x.draw.revision) (sym (ap (λ o. unwrap_or o 0) on))
-        ((flying_is w.clusters w.sessions kept.nodes w.past (sound_run w.clusters w.sessions kept.nodes starts says w.past kept.run) k node (memory_at w.memories k) (kept.memories.memory k node) x.draw.revision).1 (refl, flying))
+        ((flying_is w.clusters w.sessions kept.nodes w.past (sound_run w.clusters w.sessions kept.nodes None starts says w.past kept.run) k node (memory_at w.memories k) (kept.memories.memory k node) x.draw.revision).1 (refl, flying))
 
     -- what it is to mark was drawn
     pub due_drawn : (f : Met) → In f x.writer.due → is_drawn w.past f.other ≡ true
@@ -178,7 +178,7 @@ module _ (starts : Starts) (says : Says) (proper : StartsProper starts) (w : Sta
     drawn = some_of (draw_of w.past r) (kept.committing.sound.ended_drawn r ended)
 
     positive : 1 ≤ r.time
-    positive = ((sound_run w.clusters w.sessions kept.nodes starts says w.past kept.run).draws r drawn.0 drawn.1).positive
+    positive = ((sound_run w.clusters w.sessions kept.nodes None starts says w.past kept.run).draws r drawn.0 drawn.1).positive
 
     after_start : is_before the_start r ≡ true
     after_start = time_before the_start r (let a = positive in omega arith)

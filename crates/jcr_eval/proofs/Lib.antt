@@ -1,5 +1,12 @@
+mod Childless
+mod Identifiers
+mod States
+mod Viewed
+pub mod Causes
+pub mod Iffs
 pub mod Known
 pub mod NoFloat
+pub mod Options
 pub mod Passing
 pub mod QueryCauses
 pub mod Refusing

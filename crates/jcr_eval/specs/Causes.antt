@@ -1,61 +1,114 @@
--- The causes of a reply by commands: those that every command may have, and those of its own.
-use Rattle.std.specs.Prelude.{◌≡◌, ◌⊎◌, ℕ, ◌+◌, Bool, false, List, [], slice_get, Contains, Option, None, Some, IsTrue, IsFalse, Ok}
+-- The causes of a reply by commands: those that every command may have, and those of its own. Where
+-- they give one reply at most, it is named: a text is said for them where it is that reply.
+use Rattle.std.specs.Prelude.{◌≡◌, ◌⊎◌, ℕ, Bool, false, cond, not, ◌&&◌, List, [], ◌∷◌, slice_get, Option, None, Some, is_none, option_and_then, option_map, IsTrue, Result, Ok, Err}
 use Rattle.std.specs.Option.{option_map_or}
-use Rattle.jr_path.specs.declared.name.Name.{Name}
-use Rattle.jr_path.specs.declared.path.Item.{Item}
-use Rattle.jr_path.specs.declared.path.Path.{Path}
-use Rattle.jr_path.specs.declared.text.Text.{Text}
-use Rattle.jr_rev.specs.declared.revision.Revision.{Revision}
 use Rattle.jr_rev.specs.declared.vector.RevVec.{RevVec}
-use Rattle.jr_rev.specs.Revisions.{is_at_most}
 use Rattle.jr_rev.specs.Vectors.{sees}
-use Rattle.jr_value.specs.declared.value.Value.{Value}
+use Rattle.jr_tree.specs.declared.edit.Write.{Write}
 use Rattle.jr_tree.specs.declared.shared.Refusal.{Refusal}
-use Rattle.jr_items.specs.Refusals.{clash, no_checkpoint, out_of_memory}
-use Rattle.oak_doc.specs.declared.asks.Collected.{Collected}
-use Rattle.oak_doc.specs.declared.asks.SplitEnd.{SplitEnd}
+use Rattle.jr_items.specs.Refusals.{clash, out_of_memory}
 use Rattle.oak_machine.specs.declared.event.Draw.{Draw}
-use Rattle.oak_machine.specs.declared.event.Event.TheVariants as event
 use Rattle.oak_machine.specs.Commits.{is_committed, is_ended, refusal_of, tree_at}
-use Rattle.oak_machine.specs.Heads.{local, published}
 use Rattle.oak_machine.specs.History.{History}
-use Rattle.oak_machine.specs.Sessions.{base_of, drawn_since, is_drawing, is_stopped, refreshed_since, since}
-use Rattle.jcr_ref.specs.Drawn.{too_many_ids}
-use Rattle.jcr_trans.specs.Answers.{Done, ShowsRevision, ShowsText, ShowsVector}
-use Rattle.jcr_trans.specs.Texts.{answer_text, ok_text}
+use Rattle.oak_machine.specs.Sessions.{base_of, drawn_since, is_drawing, refreshed_since}
+use Rattle.jcr_trans.specs.Answers.{ShowsVector}
+use Rattle.jcr_trans.specs.Texts.{answer_text}
 use Rattle.jcr_trans.specs.declared.command.Command.{Command}
 use Rattle.jcr_trans.specs.declared.command.Command.TheVariants as command
-use Rattle.jcr_view.specs.Outcomes.{eval}
+use Rattle.jcr_view.specs.Outcomes.{eval, is_viewed}
 use Rattle.jcr_law.specs.declared.law.JcrLaw.{JcrLaw}
-use Rattle.jcr_law.specs.Commits.{committed_answer, edit_due, refusal_of_due, unwritten_answer}
+use Rattle.jcr_law.specs.Built.{Asked, Allowed, Unsupported}
+use Rattle.jcr_law.specs.Commits.{committed_answer, edit_due, refusal_of_plan, unwritten_answer}
 use Rattle.jcr_law.specs.Law.{no_support, no_text}
-use Rattle.jcr_law.specs.Queries.{QueryAnswers, events_reply, events_since}
-use Rattle.jcr_law.specs.Since.{before_turn, came, detached_among, draw_since, is_pinning, stop_position}
-use Rattle.jcr_law.specs.State.{Call, call_of, next_id}
-use Rattle.jcr_law.specs.Tasks.{collected_data, finds_stopped, is_out, is_recovering, is_sweep, knows_published, misses, split_data, split_refusal, stopped_at}
+use Rattle.jcr_law.specs.Since.{draw_since, stop_position}
+use Rattle.jcr_law.specs.State.{Call, call_of}
+use Rattle.jcr_law.specs.Tasks.{stopped_at}
+use Rattle.jcr_eval.specs.TaskCauses.{TaskCause}
+
+-- the reply where the cluster node of s was stopped
+abbrev pub stopped_reply : History → ℕ → Option (List ℕ)
+stopped_reply h s = option_map (λ at. no_text (stopped_at at))
+    (option_and_then (stop_position h.past) (slice_get h.sessions s))
+
+-- nothing of s is in flight, and nothing was committed for its command
+abbrev pub may_want_memory : History → ℕ → Bool
+may_want_memory h s = not (is_drawing h.past s)
+    && not (option_map_or (is_committed h.past) (drawn_since h.past s) false)
+
+-- the reply where memory was wanted
+abbrev pub memory_reply : History → ℕ → Option (List ℕ)
+memory_reply h s = cond (may_want_memory h s) (Some (no_text out_of_memory)) None
 
 -- the cluster node of s was stopped, or memory was wanted
 abbrev pub AnyCause : History → ℕ → List ℕ → Type 0
-AnyCause h s text =
-    ((k : ℕ) × (position : ℕ) × (slice_get h.sessions s ≡ Some k) × (stop_position h.past k ≡ Some position)
-    × (text ≡ no_text (stopped_at position)))
-    ⊎ (IsFalse (is_drawing h.past s)
-    × IsFalse (option_map_or (is_committed h.past) (drawn_since h.past s) false)
-    × (text ≡ no_text out_of_memory))
+AnyCause h s text = (stopped_reply h s ≡ Some text) ⊎ (memory_reply h s ≡ Some text)
 
 -- the answer of a command of the view
 abbrev pub ViewCause : JcrLaw → History → ℕ → Command → List ℕ → Type 0
 ViewCause law h s m text = (c : Call) × (call_of law h.begin h.past s ≡ Some c)
     × (text ≡ answer_text (eval c.types c.who c.base c.state.view m).answer)
 
--- the refusal of an edit before a commit
-abbrev pub EditCause : JcrLaw → History → ℕ → Command → List ℕ → Type 0
-EditCause law h s m text = (c : Call) × (due : _) × (r : Refusal) × (drawn_since h.past s ≡ None)
-    × (call_of law h.begin h.past s ≡ Some c) × (edit_due c m ≡ Some due)
-    × (refusal_of_due c due ≡ Some r) × (text ≡ no_text r)
+-- the reply to a command by the edit that is due for it, where it isn't committed: the refusal, or
+-- that there is nothing to write
+abbrev pub reply_to_due : Call → Command → Result (List Write) Refusal → Option (List ℕ)
+reply_to_due c m (Ok []) = Some (answer_text (unwritten_answer c m))
+reply_to_due c m (Ok (w ∷ ws)) = option_map no_text (refusal_of_plan c (w ∷ ws))
+reply_to_due c m (Err r) = Some (no_text r)
 
--- there is nothing to write
-abbrev pub UnwrittenCause : JcrLaw → History → ℕ → Command → List ℕ → Type 0
-UnwrittenCause law h s m text = (c : Call) × (drawn_since h.past s ≡ None)
-    × (call_of law h.begin h.past s ≡ Some c) × (edit_due c m ≡ Some (Ok []))
-    × (text ≡ answer_text (unwritten_answer c m))
+-- the reply to a command that commits, where nothing is committed for it
+abbrev pub uncommitted_reply : Call → Command → Option (List ℕ)
+uncommitted_reply c m = option_and_then (reply_to_due c m) (edit_due c m)
+
+-- the same of the next command of s, where nothing was drawn for it
+abbrev pub due_reply : JcrLaw → History → ℕ → Command → Option (List ℕ)
+due_reply law h s m = cond (is_none (drawn_since h.past s))
+    (option_and_then (λ c. uncommitted_reply c m) (call_of law h.begin h.past s)) None
+
+-- a draw has ended, is committed, and the base of s moved to a vector that sees it
+abbrev pub is_seen_commit : History → ℕ → Draw → Bool
+is_seen_commit h s d = (is_ended h.past d.revision && is_committed h.past d.revision)
+    && option_map_or (λ v. sees v d.revision) (refreshed_since h.past s) false
+
+-- the reply to a command by a draw for it that is committed
+abbrev pub reply_to_draw : JcrLaw → History → ℕ → Command → Draw → Option (List ℕ)
+reply_to_draw law h s m d = cond (is_seen_commit h s d) (option_map
+    (λ c. answer_text (committed_answer c (tree_at h.begin h.past d.base) d.revision m))
+    (call_of law h.begin h.past s)) None
+
+-- the reply where the edit is committed
+abbrev pub committed_reply : JcrLaw → History → ℕ → Command → Option (List ℕ)
+committed_reply law h s m = option_and_then (reply_to_draw law h s m) (draw_since h.past s)
+
+-- the reply where the commit was refused for a clash
+abbrev pub clash_reply : History → ℕ → Option (List ℕ)
+clash_reply h s = option_and_then (λ r. cond (is_ended h.past r)
+    (option_map (λ x. no_text (clash x.0 x.1)) (refusal_of h.past r)) None) (drawn_since h.past s)
+
+-- a command that commits isn't committed, is committed, or was refused for a clash
+abbrev pub CommitCause : JcrLaw → History → ℕ → Command → List ℕ → Type 0
+CommitCause law h s m text = (due_reply law h s m ≡ Some text)
+    ⊎ (committed_reply law h s m ≡ Some text)
+    ⊎ (clash_reply h s ≡ Some text)
+
+-- a vector as a reply
+abbrev pub vector_text : RevVec → List ℕ
+vector_text v = answer_text (ShowsVector v)
+
+-- what a command is answered with beside the view and its commit: `head` with the base, a refresh
+-- with the base to which it moved, the commands of the cluster, queries and observation as they say
+abbrev pub OwnCause : JcrLaw → History → ℕ → Command → List ℕ → Type 0
+OwnCause law h s command.Head text = option_map vector_text (base_of h.past s) ≡ Some text
+OwnCause law h s (command.Refresh keep) text =
+    option_map vector_text (refreshed_since h.past s) ≡ Some text
+OwnCause law h s m text = TaskCause law h s m text
+
+-- the causes of a reply to a command that s may run, beside those that every command has
+abbrev pub AllowedCause : JcrLaw → History → ℕ → Command → List ℕ → Type 0
+AllowedCause law h s m text = (IsTrue (is_viewed m) × ViewCause law h s m text)
+    ⊎ CommitCause law h s m text
+    ⊎ OwnCause law h s m text
+
+-- the causes of a reply to a command as s asks for it
+abbrev pub AskedCause : JcrLaw → History → ℕ → Asked → List ℕ → Type 0
+AskedCause law h s (Allowed m) text = AnyCause h s text ⊎ AllowedCause law h s m text
+AskedCause law h s (Unsupported m) text = AnyCause h s text ⊎ (text ≡ no_support m)

@@ -1,11 +1,23 @@
-//! Whether the law lets a text be said, by plain calls that go over a whole journal for each of its events. They are slow, and
-//! say exactly what the law says: tests of sessions and of the law itself stand on them.
+//! Whether the law lets a text be said, by plain calls that go over a whole journal for each of its
+//! events. They are slow, and say exactly what the law says: tests of sessions and of the law
+//! itself stand on them.
 #![tactic(auto)]
 
+mod built;
 mod call;
 mod came;
+mod commits;
 mod events;
+mod ids;
 mod queries;
+mod replies;
+mod say;
 mod shown;
+mod since;
+mod state;
 mod tasks;
 mod turn;
+mod versions;
+mod view;
+
+pub use say::eval;

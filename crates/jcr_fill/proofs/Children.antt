@@ -35,15 +35,15 @@ use Rattle.jcr_fill.proofs.Each.{each-alike}
 use Rattle.jcr_fill.proofs.Fills.{err-ok, ok_same}
 
 -- what makes a node whole puts it, and keeps the others
-record IsCompleting (view : View) (complete : Path → Node → Making → Result Making Refusal) : Type 0 where
-  keeps : (p : Path) (node : Node) (m n : Making) → complete p node m ≡ Ok n → (q : Path) → is_some (drafted view m.steps q) ≡ true → is_some (drafted view n.steps q) ≡ true
-  there : (p : Path) (node : Node) (m n : Making) → complete p node m ≡ Ok n → is_some (drafted view n.steps p) ≡ true
+pub record IsCompleting (view : View) (complete : Path → Node → Making → Result Making Refusal) : Type 0 where
+  pub keeps : (p : Path) (node : Node) (m n : Making) → complete p node m ≡ Ok n → (q : Path) → is_some (drafted view m.steps q) ≡ true → is_some (drafted view n.steps q) ≡ true
+  pub there : (p : Path) (node : Node) (m n : Making) → complete p node m ≡ Ok n → is_some (drafted view n.steps p) ≡ true
 
 drafted_put : (view : View) (steps : Steps) (p q : Path) (node : Node)
     → drafted view (with_step steps p (Some node)) q ≡ unwrap_or (cond (eq_by_cmp path_cmp q p) (Some (Some node)) (lookup (is_at (path_cmp q)) steps)) (view.node q)
 drafted_put view steps p q node = ap (λ o. unwrap_or o (view.node q)) (lookup-insert_entry path_cmp path_total q p (Some node) steps)
 
-kept_by_put : (view : View) (steps : Steps) (p : Path) (node : Node) (q : Path) → is_some (drafted view steps q) ≡ true → is_some (drafted view (with_step steps p (Some node)) q) ≡ true
+pub kept_by_put : (view : View) (steps : Steps) (p : Path) (node : Node) (q : Path) → is_some (drafted view steps q) ≡ true → is_some (drafted view (with_step steps p (Some node)) q) ≡ true
 kept_by_put view steps p node q h = ap is_some (drafted_put view steps p q node) ∙ by (eq_by_cmp path_cmp q p)
   where
     by : (b : Bool) → is_some (unwrap_or (cond b (Some (Some node)) (lookup (is_at (path_cmp q)) steps)) (view.node q)) ≡ true
@@ -140,7 +140,7 @@ module _ (types : List TypeDef) (view : View) (p : Path) (complete : Path → No
       (record { idle = idle_child; done = done_child; kept = kept_child }) ds es m h
 
 -- what makes nodes whole, so many levels down, puts them and keeps the others
-whole_at : (levels : ℕ) (types : List TypeDef) (who : Who) (view : View) → IsCompleting view (completed levels types who view)
+pub whole_at : (levels : ℕ) (types : List TypeDef) (who : Who) (view : View) → IsCompleting view (completed levels types who view)
 unfolding completed
 whole_at zero types who view = record {
   keeps = λ p node m n h q there. ap (λ (k : Making). is_some (drafted view k.steps q)) (ok_same h) ∙ kept_by_put view m.steps p node q there;

@@ -25,20 +25,20 @@ use Rattle.jcr_fill.specs.Filled.{filled, given, identified, lacking, next_ident
 use Rattle.jcr_fill.proofs.Each.{each-alike}
 
 -- a property is made by the definition: a node lacks it, and there is something to put
-abbrev is_made : Who → Filling → PropDef → Bool
+abbrev pub is_made : Who → Filling → PropDef → Bool
 is_made who f d = option_map_or (λ n. same_name uuid n || is_some (given who n d)) (lacking f.node d) false
 
 -- what a step makes, by the name that the node lacks
-abbrev by_name : Who → PropDef → Filling → Option Name → Result Filling Refusal
+abbrev pub by_name : Who → PropDef → Filling → Option Name → Result Filling Refusal
 by_name who d f None = Ok f
 by_name who d f (Some n) = with_made who d n f
 
 -- what a step did: nothing, or it put one property by its name
-record HasPut (d : PropDef) (f g : Filling) : Type 0 where
-  name : Name
-  property : Property
-  of : d.name ≡ Some name
-  put : g.node ≡ with_property f.node name property
+pub record HasPut (d : PropDef) (f g : Filling) : Type 0 where
+  pub name : Name
+  pub property : Property
+  pub of : d.name ≡ Some name
+  pub put : g.node ≡ with_property f.node name property
 
 pub err-ok : {A : Type 0} {r : Refusal} {a : A} → Err r ≡ Ok a → ⊥
 err-ok e = cc
@@ -100,7 +100,7 @@ lacking_before u v d more = by d.autocreated d.name
     by true (Some m) = at m (is_some (property_of u m)) (is_some (property_of v m)) refl refl
 
 -- a step does nothing, or puts one property
-step_does : (who : Who) (d : PropDef) (f g : Filling) → with_own who d f ≡ Ok g → ((g ≡ f) × (is_made who f d ≡ false)) ⊎ HasPut d f g
+pub step_does : (who : Who) (d : PropDef) (f g : Filling) → with_own who d f ≡ Ok g → ((g ≡ f) × (is_made who f d ≡ false)) ⊎ HasPut d f g
 step_does who d f g h = by (lacking f.node d) refl h
   where
     given_case : (n : Name) → lacking f.node d ≡ Some n → same_name uuid n ≡ false → (o : Option Property) → given who n d ≡ o

@@ -4,4 +4,7 @@ pub mod Due
 pub mod Each
 pub mod Fills
 mod Identifiers
+pub mod KeepingTrees
 pub mod Loops
+pub mod OneByOne
+pub mod Touched

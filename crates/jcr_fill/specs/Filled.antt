@@ -55,9 +55,13 @@ abbrev pub with_given : Name → Option Property → Filling → Filling
 with_given n None f = f
 with_given n (Some x) f = record f { node = with_property f.node n x }
 
+-- the text of the session's next identifier
+abbrev pub next_text : Who → (ids : ℕ) → List ℕ
+next_text who ids = identifier (who.session + who.earlier) (ids + 1)
+
 -- the session's next identifier
 abbrev pub next_identifier : Who → (ids : ℕ) → Property
-next_identifier who ids = Single (value.Str (identifier (who.session + who.earlier) (ids + 1)))
+next_identifier who ids = Single (value.Str (next_text who ids))
 
 -- a node with the session's next identifier, which then counts as drawn
 abbrev pub identified : Who → Name → Filling → Result Filling Refusal

@@ -1,3 +1,4 @@
 pub mod Filled
+pub mod Kept
 pub mod Makings
 pub mod Steps

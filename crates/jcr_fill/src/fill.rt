@@ -2,10 +2,9 @@
 ghost use Rattle.std.specs.Prelude.{◌≡◌, ◌+◌, ◌||◌, ◌<◌, ◌%◌, ◌^◌, IfErr, IfOk, None, Ok, OnOk, Some, cond, is_some, map};
 ghost use Rattle.std.specs.Option.{option_copied};
 ghost use Rattle.std.specs.String.{string_bytes};
-ghost use Rattle.jcr_ref.specs.References.{identifier};
 ghost use Rattle.jr_items.specs.Items.{property_of};
 ghost use Rattle.jcr_write.specs.Places.{IsDueRefusal, with_property};
-ghost use Rattle.jcr_fill.specs.Filled.{by_default, filled, given, identified, is_date, is_user, lacking, next_identifier, user_name, with_given, with_made, with_own};
+ghost use Rattle.jcr_fill.specs.Filled.{by_default, filled, given, identified, is_date, is_user, lacking, next_identifier, next_text, user_name, with_given, with_made, with_own};
 ghost use Rattle.jr_value.specs.Values.{kind_of};
 ghost use Rattle.jr_value.specs.declared.value.Property.TheVariants.{Many, Single};
 ghost use Rattle.jr_value.specs.declared.value.Value.TheVariants as value;
@@ -131,17 +130,23 @@ fn next_identifier(alloc: Global, who: &Who, ids: u32) -> Result<Property, Alloc
     requires { ids < 16777215 }
     ensures { IfOk result (λ property. property ≡ next_identifier who.now ids) }
 {
-    let text = Text::of(identifier_text(alloc, who, ids)?);
+    let text = Text::of(next_text(alloc, who, ids)?);
     Ok(Property::Single(Value::Str(text)))
 }
 
-fn identifier_text(alloc: Global, who: &Who, ids: u32) -> Result<String, AllocError>
-    requires { ids < 16777215 }
-    ensures { IfOk result (λ text. string_bytes text
-        ≡ identifier (who.now.session + who.now.earlier) (ids + 1)) }
+/// The text of the identifier that a session draws next, after so many.
+pub fn next_text(alloc: Global, who: &Who, ids: u32) -> Result<String, AllocError>
+    ensures { IfOk result (λ text. string_bytes text ≡ next_text who.now ids) }
 {
     identifiers_are_uuids();
-    identifier(alloc, session_of(who), ids + 1)
+    identifier(alloc, session_of(who), count_after(ids))
+}
+
+// The count of the next identifier, of which identifiers have the last 24 bits.
+fn count_after(ids: u32) -> u32
+    ensures { result % 2 ^ 24 ≡ (ids + 1) % 2 ^ 24 }
+{
+    ids.wrapping_add(1)
 }
 
 // The number of the session, of which identifiers have the last 24 bits.

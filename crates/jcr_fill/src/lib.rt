@@ -4,6 +4,8 @@
 
 mod completing;
 mod fill;
+mod laws;
 
 pub use completing::{MissingChild, check_type, complete, complete_new};
-pub use fill::Filling;
+pub use fill::{Filling, next_text};
+pub use laws::{completing_keeps_identifiers, completing_keeps_trees, completing_stays_below};

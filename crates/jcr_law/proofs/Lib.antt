@@ -1,4 +1,0 @@
-pub mod Growing
-pub mod Lasting
-pub mod Passing
-pub mod Starting

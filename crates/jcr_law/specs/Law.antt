@@ -188,6 +188,6 @@ pub data MaySay (law : JcrLaw) (h : History) (s : ℕ) : Asked → List ℕ → 
       → MaySay law h s (Allowed (command.Recover (Some k))) (no_support (command.Recover (Some k)))
 
 -- the text is a reply that the command of that index may have
-abbrev pub Says : JcrLaw → History → ℕ → ℕ → Text → Type 0
-Says law h s i text =
+abbrev pub SaysBy : JcrLaw → History → ℕ → ℕ → Text → Type 0
+SaysBy law h s i text =
     (m : Command) × (command_at law s i ≡ Some m) × MaySay law h s (asked_by h s m) text

@@ -1,7 +1,11 @@
 pub mod Built
 pub mod Commits
+pub mod Growing
+pub mod Lasting
 pub mod Law
+pub mod Passing
 pub mod Queries
 pub mod Since
+pub mod Starting
 pub mod State
 pub mod Tasks

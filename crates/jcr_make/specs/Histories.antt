@@ -1,7 +1,7 @@
 -- What a mixin makes of a node; with `mix:versionable` also the history of its versions.
 use Rattle.std.specs.Prelude.{ℕ, ◌+◌, Bool, true, false, cond, not, ◌&&◌, List, [], ◌∷◌, ◌++◌, Option, None, Some, is_some, map, Result, Ok}
 use Rattle.std.specs.List.{fold}
-use Rattle.std.specs.Option.{option_and_then, option_map_or}
+use Rattle.std.specs.Option.{option_and_then, option_map_or, unwrap_or}
 use Rattle.std.specs.BTreeMap.{insert_entry}
 use Rattle.jr_path.specs.Names.{path_cmp}
 use Rattle.jr_path.specs.declared.name.Name.{Name}
@@ -26,6 +26,7 @@ use Rattle.jcr_ref.specs.Histories.{history_drawn, history_writes, root_of}
 use Rattle.jcr_write.specs.Places.{at_place, unless_refused}
 use Rattle.jcr_make.specs.Commands.{lists_mixin, with_mixins}
 use Rattle.jcr_make.specs.declared.mixins.Mixing.{Mixing}
+use Rattle.jcr_fill.specs.Filled.{next_text}
 use Rattle.jcr_fill.specs.Makings.{Making, complete, unknown_type}
 use Rattle.jr_path.specs.Named.{is_name}
 use Rattle.jcr_fill.specs.Steps.{and_then}
@@ -37,6 +38,19 @@ is_identified node = is_some (property_of node uuid)
 -- the place of a history by an identifier that is a name
 abbrev pub history_by : List ℕ → Option Path
 history_by id = cond (is_name id) (Some (version_storage ++ id ∷ [])) None
+
+-- the text of a node's identifier, where it has one
+abbrev pub own_text : Option Node → Option (List ℕ)
+own_text node = one_text (option_and_then (λ x. property_of x uuid) node)
+
+-- where the history of a node stands, by the identifier that it has
+abbrev pub own_history : Option Node → Option Path
+own_history node = option_and_then history_by (own_text node)
+
+-- where the history of a node that becomes versionable stands: by the identifier that it has, or
+-- else by the session's next one
+abbrev pub due_history : Who → (ids : ℕ) → Option Node → Option Path
+due_history who ids node = history_by (unwrap_or (own_text node) (next_text who ids))
 
 -- a history may stand by the node's identifier: one text that is a name, if the node has one at all
 abbrev pub may_be_versioned : Node → Bool

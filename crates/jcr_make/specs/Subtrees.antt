@@ -1,11 +1,13 @@
 -- What `tree` makes: one node after the other, the topmost first.
-use Rattle.std.specs.Prelude.{cond, List, ◌++◌, Option, Result, Ok}
+use Rattle.std.specs.Prelude.{Bool, cond, List, ◌++◌, Option, Result, Ok}
+use Rattle.std.specs.List.{list_any}
 use Rattle.jr_path.specs.declared.name.Name.{Name}
 use Rattle.jr_path.specs.declared.path.Path.{Path}
 use Rattle.jr_value.specs.declared.value.Property.{Property}
 use Rattle.jr_tree.specs.declared.shared.Refusal.{Refusal}
 use Rattle.jr_tree.specs.declared.shared.Who.{Who}
-use Rattle.jr_items.specs.Items.{is_empty}
+use Rattle.jr_items.specs.Items.{is_empty, same_name}
+use Rattle.jr_items.specs.Names.{versionable}
 use Rattle.jr_items.specs.Refusals.{in_system, limit_refusal}
 use Rattle.jr_types.specs.declared.TypeDef.{TypeDef}
 use Rattle.jr_overlay.specs.Drafts.{Steps}
@@ -63,3 +65,11 @@ with_part types who view p part m = part_at types who view (p ++ part.path) part
 abbrev pub tree_made : List TypeDef → Who → View → Path → List TreeNode → Making
     → Result Making Refusal
 tree_made types who view p parts m = each (with_part types who view p) parts m
+
+-- the node of a part gets `mix:versionable`, and a history with it
+abbrev pub makes_history : TreeNode → Bool
+makes_history part = list_any (same_name versionable) part.mixins
+
+-- the node of one of these parts gets a history
+abbrev pub makes_histories : List TreeNode → Bool
+makes_histories parts = list_any makes_history parts

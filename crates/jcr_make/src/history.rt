@@ -1,19 +1,21 @@
 // The history of a node that becomes versionable.
 ghost use Rattle.std.specs.Prelude.{◌≡◌, ◌+◌, ◌++◌, ◌∷◌, [], IfErr, IfOk, IsTrue, None, Ok, OnOk, Some, is_some, option_and_then};
 ghost use Rattle.std.specs.Option.{option_copied};
-ghost use Rattle.jr_items.specs.Names.{version_storage};
+ghost use Rattle.jr_items.specs.Names.{uuid, version_storage};
 ghost use Rattle.jr_tree.specs.Edits.{applied};
 ghost use Rattle.jr_overlay.specs.Overlays.{sighted};
 ghost use Rattle.jcr_ref.specs.Drawn.{too_many_ids};
 ghost use Rattle.jcr_write.specs.Places.{IsDueRefusal, unless_refused};
-ghost use Rattle.jcr_make.specs.Histories.{all_put, begun_among, begun_by, counting, history_by, limited_history, named_history, with_history, with_own_history, with_seen};
+ghost use Rattle.jcr_make.specs.Histories.{all_put, begun_among, begun_by, counting, due_history, history_by, limited_history, named_history, own_text, with_history, with_own_history, with_seen};
+ghost use Rattle.jcr_fill.specs.Filled.{next_text};
 ghost use Rattle.jcr_fill.specs.Makings.{making};
 
+use jcr_fill::next_text;
 use jcr_ref::{HistoryWrites, MAX_IDS, history_writes};
 use jr_items::{OwnName, one_text, over_limit};
 use jr_overlay::Draft;
 use jr_path::{DeepCopy, List, Name, Path, PathFault};
-use jr_tree::{Edit, Refusal, Tree, Who, Write};
+use jr_tree::{Edit, Node, Refusal, Tree, Who, Write};
 use std::alloc::{AllocError, Global};
 
 /// With `mix:versionable` the history of a node begins; with another mixin nothing is made.
@@ -133,12 +135,48 @@ fn history_by(alloc: Global, id: &str) -> Result<Option<Path>, AllocError>
 fn history_named(alloc: Global, id: &Name) -> Result<Option<Path>, AllocError>
     ensures { IfOk result (λ found. found ≡ Some (version_storage ++ id.now ∷ [])) }
 {
-    let storage = storage(alloc)?;
+    let storage = version_storage(alloc)?;
     Ok(Some(storage.child(id)?))
 }
 
-// The node above all version histories.
-fn storage(alloc: Global) -> Result<Path, AllocError>
+/// Where the history of a node stands that becomes versionable by a session: by the identifier that it has, or else by
+/// the session's next one; nowhere, where that is no name.
+pub fn due_history(
+    alloc: Global,
+    who: &Who,
+    node: Option<&Node>,
+) -> Result<Option<Path>, AllocError>
+    ensures { IfOk result (λ found. found
+        ≡ due_history who.now who.now.ids (option_copied node.entry)) }
+{
+    let key = OwnName::Uuid.name(alloc)?;
+    match own_text(node, &key) {
+        Some(text) => history_by(alloc, text),
+        None => next_history(alloc, who),
+    }
+}
+
+// The text of a node's identifier, where it has one.
+fn own_text<'a>(node: Option<&'a Node>, key: &Name) -> Option<&'a str>
+    requires { key.now ≡ uuid }
+    ensures { option_copied result ≡ own_text (option_copied node.entry) }
+{
+    match node {
+        Some(node) => one_text(node.props.get(key)),
+        None => None,
+    }
+}
+
+// The place of a history by the session's next identifier.
+fn next_history(alloc: Global, who: &Who) -> Result<Option<Path>, AllocError>
+    ensures { IfOk result (λ found. found ≡ history_by (next_text who.now who.now.ids)) }
+{
+    let text = next_text(alloc, who, who.ids)?;
+    history_by(alloc, text.as_str())
+}
+
+/// The path of the node above all version histories.
+pub fn version_storage(alloc: Global) -> Result<Path, AllocError>
     ensures { IfOk result (λ path. path ≡ version_storage) }
 {
     let system = OwnName::System.name(alloc)?;

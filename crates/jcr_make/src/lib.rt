@@ -11,9 +11,12 @@ mod subtree;
 mod unmix;
 
 pub use adding::add;
+pub use history::{due_history, version_storage};
 pub use laws::{
-    adding_reads_below_and_above, changing_types_reads_below, mixing_reads_below_and_histories,
-    unmixing_reads_the_node,
+    adding_reads_below_and_above, changing_types_reads_below, makings_keep_nodes,
+    makings_keep_trees, makings_stay_below, mixing_reads_below_and_its_history,
+    mixing_stays_below_and_in_its_history, trees_read_below_above_and_histories,
+    trees_stay_below_and_in_histories, unmixing_reads_the_node,
 };
 pub use mixins::mixin;
 pub use retype::set_type;

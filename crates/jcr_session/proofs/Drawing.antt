@@ -154,7 +154,7 @@ module _ (law : JcrLaw) (old : Shown) (run : SessionRun) (stands : Stands law ol
           unmade = by (is_committed behind made.0.revision) refl
             where
               by : (b : Bool) → is_committed behind made.0.revision ≡ b → b ≡ false
-              by true h = absurd (false≢true (sym (ap is_some (fresh_run begun.history.clusters begun.history.sessions in_begun.nodes (starts_of law) (says_of law) made.0 behind (run_none (starts_of law) (says_of law) begun.history.clusters begun.history.sessions in_begun.begun (event.Draw made.0 ∷ behind) run_drawn)).fresh)
+              by true h = absurd (false≢true (sym (ap is_some (fresh_run begun.history.clusters begun.history.sessions in_begun.nodes None (starts_of law) (says_of law) made.0 behind (run_none (starts_of law) (says_of law) begun.history.clusters begun.history.sessions in_begun.begun (event.Draw made.0 ∷ behind) run_drawn)).fresh)
                   ∙ committed_is_drawn (starts_of law) (says_of law) begun.history.clusters begun.history.sessions begun.history.begin (λ q r same. sym (same_revision r q same)) behind made.0.revision run_drawn.1 h))
               by false h = refl
 

@@ -47,7 +47,7 @@ module _ (clusters : ℕ) (sessions : List ℕ) (nodes : AreNodes clusters sessi
   keeps_one : (e : Event) (past : Past) → IsRunOf starts says clusters sessions None (e ∷ past) → Keeps past (e ∷ past)
   keeps_one (event.Draw d) past run r f h =
       elim (is_same r d.revision) as (λ b. is_same r d.revision ≡ b → cond b (Some d) (draw_of past r) ≡ Some f) [
-        | true ↦ λ same. absurd (false≢true (ap is_some (sym (fresh_run clusters sessions nodes starts says d past run).fresh ∙ subst (λ (q : Revision). draw_of past q ≡ Some f) (same_revision r d.revision same) h)))
+        | true ↦ λ same. absurd (false≢true (ap is_some (sym (fresh_run clusters sessions nodes None starts says d past run).fresh ∙ subst (λ (q : Revision). draw_of past q ≡ Some f) (same_revision r d.revision same) h)))
         | false ↦ λ same. h
       ] refl
   keeps_one e past run r f h = h

@@ -28,4 +28,4 @@ base_is_tree law h s nodes begun begun_run = by (base_of h.past s) refl
     by None is = initial_is_tree
     by (Some v) is =
         tree_merged h.clusters h.sessions nodes (starts_of law) (says_of law) (proper_starts law.sessions) (law_marks_parents law.sessions) h.past run v
-        (closed_run h.clusters h.sessions nodes (starts_of law) (says_of law) h.past run v ((sound_run h.clusters h.sessions nodes (starts_of law) (says_of law) h.past run).bases s v is))
+        (closed_run h.clusters h.sessions nodes None (starts_of law) (says_of law) h.past run v ((sound_run h.clusters h.sessions nodes None (starts_of law) (says_of law) h.past run).bases s v is))

@@ -9,7 +9,6 @@
 mod law;
 mod limits;
 mod next;
-mod past;
 mod pending;
 mod run;
 mod sight;

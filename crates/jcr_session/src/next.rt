@@ -12,7 +12,6 @@ ghost use Rattle.core_law.specs.State.{command_at};
 
 use crate::law::JcrLaw;
 use crate::limits::MOST_NODES;
-use crate::past::{drawn_since, refreshed_since, refusal_of};
 use crate::pending::{pending_of, view_of};
 use jcr_trans::{
     Command, null_reply, refusal_text, revision_reply, run, too_many_reply, vector_reply,
@@ -21,7 +20,9 @@ use jr_path::{DeepCopy, List};
 use jr_rev::{RevVec, Revision};
 use jr_tree::{Datum, Refusal, Tree};
 use oak_machine::Journal;
-use oak_past::{base_of, is_committed, is_ended, next_index};
+use oak_past::{
+    base_of, drawn_since, is_committed, is_ended, next_index, refreshed_since, refusal_of,
+};
 use std::alloc::{AllocError, Global};
 
 /// The text of the reply that the law lets the next command of a session have, where the journal begins before any commit and alone decides it: a reading or

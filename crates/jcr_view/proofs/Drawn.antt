@@ -1,10 +1,10 @@
 -- Steps for which no identifier is drawn.
-use Rattle.std.proofs.Common.{◌≡◌, ℕ, ap, sym, subst}
+use Rattle.std.proofs.Common.{◌≡◌, ℕ, ap}
 use Rattle.std.specs.Prelude.{Result, Ok, Err, OnOk, IfErr}
 use Rattle.jr_tree.specs.declared.shared.Refusal.{Refusal}
 use Rattle.jr_overlay.specs.Drafts.{Steps}
 use Rattle.jcr_write.specs.Places.{IsDueRefusal}
-use Rattle.jcr_fill.specs.Makings.{Making, making}
+use Rattle.jcr_fill.specs.Makings.{making}
 use Rattle.jcr_view.specs.Outcomes.{drawing_none}
 
 pub none_drawn : {A : Type 0} (result : Result A Refusal) (due : Result Steps Refusal) (steps : Steps) (ids : ℕ)

@@ -1,5 +1,5 @@
 -- Writes made again on a tree in which nothing is pending.
-use Rattle.std.proofs.Common.{◌≡◌, List, [], sym, subst, ap, ◌∙◌}
+use Rattle.std.proofs.Common.{◌≡◌, List, [], ap, ◌∙◌}
 use Rattle.std.specs.List.{fold}
 use Rattle.jr_tree.specs.declared.edit.Write.{Write}
 use Rattle.jr_part.specs.Parts.{Knowledge}

@@ -24,7 +24,7 @@ pub replies_same : (a b : Answer) (result : Result (String Global) Refusal) → 
 replies_same a b result e is = subst (λ (x : Answer). Replies x result) (sym e) is
 
 -- what is seen of a part with changes is seen of them
-seen_as : (s : Sighted) (k : Knowledge) (c : Changed) (P : View → Type 0) → s.known ≡ k → s.changed ≡ c
+pub seen_as : (s : Sighted) (k : Knowledge) (c : Changed) (P : View → Type 0) → s.known ≡ k → s.changed ≡ c
     → P (sighted s) → P (known_view k c)
 seen_as s k c P known changed is =
     subst (λ (x : Changed). P (known_view k x)) changed
@@ -35,6 +35,17 @@ pub replies_seen : (s : Sighted) (k : Knowledge) (c : Changed) (p : Path) (shows
     → answer_at (sighted s) p shows ≡ b → Replies b result → Replies (answer_at (known_view k c) p shows) result
 replies_seen s k c p shows b result known changed e is =
     replies_same _ b result (seen_as s k c (λ v. answer_at v p shows ≡ b) known changed e) is
+
+-- what is seen is the whole view
+pub replies_viewed : (seen whole : View) (p : Path) (shows : Node → Answer) (b : Answer)
+    (result : Result (String Global) Refusal) → seen ≡ whole → answer_at seen p shows ≡ b → Replies b result
+    → Replies (answer_at whole p shows) result
+replies_viewed seen whole p shows b result same e is =
+    replies_same _ b result (subst (λ (v : View). answer_at v p shows ≡ b) same e) is
+
+pub viewed_as : (seen whole : View) (p : Path) (shows : Node → Answer) (b : Answer) → seen ≡ whole
+    → answer_at seen p shows ≡ b → answer_at whole p shows ≡ b
+viewed_as seen whole p shows b same e = subst (λ (v : View). answer_at v p shows ≡ b) same e
 
 pub versions_shown : (base t : Nodes) (p h : Path) (result : Result (String Global) Refusal) → t ≡ base
     → no_versions (codes "versions") t p ≡ None → h ≡ history_of t p

@@ -3,3 +3,5 @@ pub mod Outcomes
 pub mod Parts
 pub mod Reading
 pub mod Rebases
+pub mod Rounds
+pub mod Whole

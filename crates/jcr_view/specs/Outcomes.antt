@@ -36,14 +36,6 @@ is_writing (command.SetType p n) = true
 is_writing (command.OrderBefore p before) = true
 is_writing _ = false
 
--- the command makes items that node types bring with them
-abbrev pub makes_by_types : Command → Bool
-makes_by_types (command.Add p type) = true
-makes_by_types (command.Tree p nodes) = true
-makes_by_types (command.Mixin p n) = true
-makes_by_types (command.SetType p n) = true
-makes_by_types _ = false
-
 -- the command changes nothing of the view: it shows something of it, or takes or drops a lock token
 abbrev pub is_reading : Command → Bool
 is_reading (command.Get p) = true

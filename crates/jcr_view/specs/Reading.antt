@@ -1,5 +1,5 @@
 -- What reading commands answer of a view.
-use Rattle.std.specs.Prelude.{◌≡◌, List, [], ◌∷◌, Option, None, Some, Result, Ok, Err, codes, option_and_then, ℕ}
+use Rattle.std.specs.Prelude.{◌≡◌, List, [], Option, None, Some, Result, Ok, Err, codes, option_and_then, ℕ}
 use Rattle.std.specs.Option.{option_map_or, unwrap_or}
 use Rattle.std.specs.String.{string_bytes}
 use Rattle.std.specs.declared.alloc.Global.{Global}

@@ -41,7 +41,11 @@ steps_again view ws = fold (again view) [] ws
 abbrev pub rebased : Knowledge → List Write → Changed
 rebased k ws = with_steps k.nodes [] (steps_again (known_view k []) ws)
 
+-- a tree with writes made again on it
+abbrev pub tree_again : Nodes → List Write → Nodes
+tree_again t ws = stepped t t (steps_again (whole_view t) ws)
+
 -- the view after the base moved from one tree to another: the edits by which it differed from the
 -- old one are made again on the new one
 abbrev pub moved_view : (old new view : Nodes) → Nodes
-moved_view old new view = stepped new new (steps_again (whole_view new) (changes old view))
+moved_view old new view = tree_again new (changes old view)

@@ -1,21 +1,25 @@
 // What has to be known of the tree at the base before a command is made.
-ghost use Rattle.std.specs.Prelude.{◌≡◌, ◌∷◌, ◌++◌, [], IfOk, OnOk, Some};
+ghost use Rattle.std.specs.Prelude.{◌≡◌, ◌∷◌, ◌++◌, [], IfOk, OnOk, cond};
+ghost use Rattle.std.specs.List.{list_any};
 ghost use Rattle.std.specs.Option.{option_copied};
-ghost use Rattle.jr_items.specs.Items.{child_path, same_name};
-ghost use Rattle.jr_items.specs.Names.{uuid, version_storage, versionable};
+ghost use Rattle.jr_items.specs.Items.{same_name};
+ghost use Rattle.jr_items.specs.Names.{versionable};
 ghost use Rattle.jr_part.specs.declared.need.Need.TheVariants as need;
 ghost use Rattle.jr_part.specs.Parts.{known_at};
-ghost use Rattle.jcr_view.specs.Needs.{AsksFor, IdentifiedNeeds, MixinNeeds, VersionableNeeds, children_needs, listing_needs, needs_again, needs_to_rebase, parent_needs, text_seen};
+ghost use Rattle.jr_overlay.specs.Overlays.{seen};
+ghost use Rattle.jcr_make.specs.Histories.{due_history};
+ghost use Rattle.jcr_make.specs.Subtrees.{makes_histories, makes_history};
+ghost use Rattle.jcr_view.specs.Needs.{and_again, and_node, children_needs, ends_at, history_needs, listing_needs, needs_of, needs_to_rebase, parent_needs, storage_needs, versionable_needs};
 ghost use Rattle.jcr_write.specs.Places.{above};
 
-use jcr_trans::Command;
-use jcr_version::own_child;
+use jcr_make::{due_history, version_storage};
+use jcr_trans::{Command, TreeNode};
 use jcr_write::above;
-use jr_items::{OwnName, one_text};
+use jr_items::OwnName;
 use jr_overlay::{Overlay, Sight};
 use jr_part::{Need, Part};
-use jr_path::{DeepCopy, Name, Path, PathFault};
-use jr_tree::Write;
+use jr_path::{DeepCopy, Name, Path};
+use jr_tree::{Node, Who, Write};
 use std::alloc::{AllocError, Global};
 
 /// What a command asks for, where so much is known and has changed.
@@ -23,17 +27,20 @@ pub(crate) fn needs(
     alloc: Global,
     part: &Part,
     overlay: &Overlay,
+    who: &Who,
     command: &Command,
 ) -> Result<Vec<Need>, AllocError>
-    ensures { IfOk result (λ needs. AsksFor part.now overlay.now command.now needs.items) }
+    ensures { IfOk result (λ needs. needs.items
+        ≡ needs_of who.now part.now overlay.now command.now) }
 {
     match command {
-        Command::Add(path, _) | Command::Tree(path, _) => adding_needs(alloc, path),
+        Command::Add(path, _) => adding_needs(alloc, path),
+        Command::Tree(path, nodes) => tree_needs(alloc, path, nodes.as_slice()),
         Command::Set(path, _, _) | Command::Unset(path, _) | Command::Unmixin(path, _) =>
             node_needs(alloc, path),
         Command::Remove(path) => adding_needs(alloc, path),
         Command::Move(from, to) => moving_needs(alloc, from, to),
-        Command::Mixin(path, name) => mixin_needs(alloc, part, overlay, path, name),
+        Command::Mixin(path, name) => mixin_needs(alloc, part, overlay, who, path, name),
         Command::SetType(path, _) => subtree_needs(alloc, path),
         Command::OrderBefore(path, _) => ordering_needs(alloc, part, path),
         Command::Get(path) => property_needs(alloc, path),
@@ -127,19 +134,59 @@ fn property_needs(alloc: Global, path: &Path) -> Result<Vec<Need>, AllocError>
     }
 }
 
+// What adding a tree asks for; the version storage too, where a node of it gets a history.
+fn tree_needs(alloc: Global, path: &Path, nodes: &[TreeNode]) -> Result<Vec<Need>, AllocError>
+    ensures { IfOk result (λ needs. needs.items
+        ≡ need.Subtree path.now ∷ need.Node (above path.now) ∷ storage_needs nodes.now) }
+{
+    let mut needs = adding_needs(alloc, path)?;
+    push_storage(&mut needs, alloc, nodes)?;
+    Ok(needs)
+}
+
+fn push_storage(needs: &mut Vec<Need>, alloc: Global, nodes: &[TreeNode]) -> Result<(), AllocError>
+    ensures { OnOk result (needs.new.items ≡ needs.old.items ++ storage_needs nodes.now) }
+{
+    if makes_histories(nodes) {
+        needs.push(Need::Subtree(version_storage(alloc)?))?;
+    }
+    Ok(())
+}
+
+fn makes_histories(nodes: &[TreeNode]) -> bool
+    ensures { result ≡ makes_histories nodes.now }
+{
+    nodes.iter().any(|node| makes_history(node))
+}
+
+fn makes_history(node: &TreeNode) -> bool
+    ensures { result ≡ makes_history node.now }
+{
+    lists_versionable(node.mixins.as_slice())
+}
+
+fn lists_versionable(mixins: &[Name]) -> bool
+    ensures { result ≡ list_any (same_name versionable) mixins.now }
+{
+    mixins.iter().any(|name| OwnName::Versionable.is(name))
+}
+
 // What a mixin asks for; `mix:versionable` also asks for the history.
 fn mixin_needs(
     alloc: Global,
     part: &Part,
     overlay: &Overlay,
+    who: &Who,
     path: &Path,
     name: &Name,
 ) -> Result<Vec<Need>, AllocError>
-    ensures { IfOk result (λ needs.
-        MixinNeeds (same_name versionable name.now) part.now overlay.now path.now needs.items) }
+    ensures { IfOk result (λ needs. needs.items ≡ cond (same_name versionable name.now)
+        (versionable_needs (known_at part.now path.now) path.now
+        (due_history who.now who.now.ids (seen part.now.nodes overlay.now path.now)))
+        (need.Subtree path.now ∷ [])) }
 {
     if OwnName::Versionable.is(name) {
-        versionable_needs(alloc, part, overlay, path)
+        versionable_needs(alloc, part, overlay, who, path)
     } else {
         subtree_needs(alloc, path)
     }
@@ -149,67 +196,47 @@ fn versionable_needs(
     alloc: Global,
     part: &Part,
     overlay: &Overlay,
+    who: &Who,
     path: &Path,
 ) -> Result<Vec<Need>, AllocError>
-    ensures { IfOk result (λ needs. VersionableNeeds (known_at part.now path.now) path.now
-        (text_seen part.now overlay.now path.now) needs.items) }
+    ensures { IfOk result (λ needs. needs.items
+        ≡ versionable_needs (known_at part.now path.now) path.now
+        (due_history who.now who.now.ids (seen part.now.nodes overlay.now path.now))) }
 {
     match part.node(path) {
         None => node_needs(alloc, path),
-        Some(_) => identified_needs(alloc, &Sight::new(part, overlay), path),
+        Some(_) => known_needs(alloc, who, path, Sight::new(part, overlay).node(path)),
     }
 }
 
-fn identified_needs(alloc: Global, sight: &Sight<'_>, path: &Path) -> Result<Vec<Need>, AllocError>
-    ensures { IfOk result (λ needs. IdentifiedNeeds path.now
-        (text_seen sight.now.known sight.now.changed path.now) needs.items) }
+// What stands at or below a path, and the history of the node that is seen there.
+fn known_needs(
+    alloc: Global,
+    who: &Who,
+    path: &Path,
+    node: Option<&Node>,
+) -> Result<Vec<Need>, AllocError>
+    ensures { IfOk result (λ needs. needs.items ≡ need.Subtree path.now
+        ∷ history_needs (due_history who.now who.now.ids (option_copied node.entry))) }
 {
-    let key = OwnName::Uuid.name(alloc)?;
-    match text_at(sight, path, &key) {
-        Some(text) => history_needs(alloc, path, text),
-        None => subtree_needs(alloc, path),
-    }
-}
-
-// The text of the identifier of a node as it is seen, where it has one.
-fn text_at<'a>(sight: &Sight<'a>, path: &Path, key: &Name) -> Option<&'a str>
-    requires { key.now ≡ uuid }
-    ensures { option_copied result ≡ text_seen sight.now.known sight.now.changed path.now }
-{
-    match sight.node(path) {
-        Some(node) => one_text(node.props.get(key)),
-        None => None,
-    }
-}
-
-fn history_needs(alloc: Global, path: &Path, text: &str) -> Result<Vec<Need>, AllocError>
-    ensures { IfOk result (λ needs. IdentifiedNeeds path.now (Some text.now) needs.items) }
-{
-    match Name::parse(alloc, text) {
-        Ok(name) => two_subtrees(alloc, path, &name),
-        Err(PathFault::BadName(_)) => subtree_needs(alloc, path),
-        Err(_) => Err(AllocError),
-    }
-}
-
-// What stands at or below a path, and the history of that name.
-fn two_subtrees(alloc: Global, path: &Path, name: &Name) -> Result<Vec<Need>, AllocError>
-    ensures { IfOk result (λ needs. needs.items
-        ≡ need.Subtree path.now ∷ need.Subtree (child_path version_storage name.now) ∷ []) }
-{
-    let storage = storage(alloc)?;
-    let history = storage.child(name)?;
     let mut needs = subtree_needs(alloc, path)?;
-    needs.push(Need::Subtree(history))?;
+    push_history(&mut needs, alloc, who, node)?;
     Ok(needs)
 }
 
-// The node above all version histories.
-fn storage(alloc: Global) -> Result<Path, AllocError>
-    ensures { IfOk result (λ path. path ≡ version_storage) }
+fn push_history(
+    needs: &mut Vec<Need>,
+    alloc: Global,
+    who: &Who,
+    node: Option<&Node>,
+) -> Result<(), AllocError>
+    ensures { OnOk result (needs.new.items ≡ needs.old.items
+        ++ history_needs (due_history who.now who.now.ids (option_copied node.entry))) }
 {
-    let system = own_child(alloc, &Path::root(alloc), OwnName::System)?;
-    own_child(alloc, &system, OwnName::VersionStorage)
+    match due_history(alloc, who, node)? {
+        Some(history) => Ok(needs.push(Need::Subtree(history))?),
+        None => Ok(()),
+    }
 }
 
 /// What has to be known to make writes again on another tree.
@@ -224,7 +251,7 @@ pub(crate) fn needs_to_rebase(alloc: Global, writes: &[Write]) -> Result<Vec<Nee
 }
 
 fn push_again(needs: &mut Vec<Need>, alloc: Global, write: &Write) -> Result<(), AllocError>
-    ensures { OnOk result (needs.new.items ≡ needs.old.items ++ needs_again write.now) }
+    ensures { OnOk result (needs.new.items ≡ and_again needs.old.items write.now) }
 {
     match write {
         Write::Here(path) => push_two(needs, alloc, path),
@@ -233,11 +260,24 @@ fn push_again(needs: &mut Vec<Need>, alloc: Global, write: &Write) -> Result<(),
     }
 }
 
+// The node at a path, unless that stands last.
 fn push_node(needs: &mut Vec<Need>, path: &Path) -> Result<(), AllocError>
-    ensures { OnOk result (needs.new.items ≡ needs.old.items ++ need.Node path.now ∷ []) }
+    ensures { OnOk result (needs.new.items ≡ and_node needs.old.items path.now) }
 {
-    needs.push(Need::Node(path.copy()?))?;
+    if !ends_at(needs, path) {
+        needs.push(Need::Node(path.copy()?))?;
+    }
     Ok(())
+}
+
+// The last need is of the node at a path.
+fn ends_at(needs: &[Need], path: &Path) -> bool
+    ensures { result ≡ ends_at needs.now path.now }
+{
+    match needs.last() {
+        Some(Need::Node(last)) => path == last,
+        _ => false,
+    }
 }
 
 fn push_subtree(needs: &mut Vec<Need>, path: &Path) -> Result<(), AllocError>
@@ -247,13 +287,11 @@ fn push_subtree(needs: &mut Vec<Need>, path: &Path) -> Result<(), AllocError>
     Ok(())
 }
 
-// The node at a path, and the one above.
+// The node above a path, and the one there.
 fn push_two(needs: &mut Vec<Need>, alloc: Global, path: &Path) -> Result<(), AllocError>
     ensures { OnOk result (needs.new.items
-        ≡ needs.old.items ++ need.Node path.now ∷ need.Node (above path.now) ∷ []) }
+        ≡ and_node (and_node needs.old.items (above path.now)) path.now) }
 {
-    let above = above(alloc, path)?;
-    push_node(needs, path)?;
-    push_node(needs, &above)?;
-    Ok(())
+    push_node(needs, &above(alloc, path)?)?;
+    push_node(needs, path)
 }

@@ -8,14 +8,14 @@ ghost use Rattle.jr_part.specs.Parts.{LacksNothing};
 ghost use Rattle.jr_part.specs.declared.need.Need.TheVariants as need;
 ghost use Rattle.jcr_trans.specs.Answers.{Done};
 ghost use Rattle.jcr_trans.specs.Texts.{answer_text};
-ghost use Rattle.jcr_view.specs.Needs.{AsksFor, needs_to_rebase, reads_all};
+ghost use Rattle.jcr_view.specs.Needs.{needs_of, needs_to_rebase, reads_all};
 ghost use Rattle.jcr_view.specs.Outcomes.{is_viewed, is_writing, outcome, shown};
 ghost use Rattle.jcr_view.specs.Reading.{Replies, refused};
 ghost use Rattle.jcr_view.specs.Rebases.{rebased};
 
 use crate::commands::is_writing;
 use crate::needs::{needs, needs_to_rebase};
-use crate::reading::{by_identifier, get, id, list, props, refs, replied, versions};
+use crate::reading::{by_identifier, read_nodes, refs, versions};
 use crate::rebase::rebased;
 use crate::writing::{Made, make};
 use jcr_trans::{Command, done_reply};
@@ -54,12 +54,13 @@ impl Pending {
         }
     }
 
-    /// What has to be known of the tree at the base before a command is made. A need that hangs on a node of which
+    /// What has to be known of the tree at the base before a session's command is made. A need that hangs on a node of which
     /// nothing is known stands as the need of that node alone: the call is made again once the node is known.
-    pub fn needs(&self, command: &Command, part: &Part) -> Result<Vec<Need>, AllocError>
-        ensures { IfOk result (λ needs. AsksFor part.now self.now command.now needs.items) }
+    pub fn needs(&self, command: &Command, part: &Part, who: &Who) -> Result<Vec<Need>, AllocError>
+        ensures { IfOk result (λ needs. needs.items
+            ≡ needs_of who.now part.now self.now command.now) }
     {
-        needs(self.alloc, part, &self.overlay, command)
+        needs(self.alloc, part, &self.overlay, who, command)
     }
 
     /// Makes a command that reads or writes the view, and answers the text of its reply (JSR 283, 5 Reading; 10
@@ -167,16 +168,11 @@ impl Pending {
     {
         let alloc = self.alloc;
         let overlay = &self.overlay;
-        let sight = Sight::new(part, overlay);
         match command {
-            Command::Get(path) => get(alloc, &sight, path),
-            Command::List(path) => list(alloc, types, &sight, path),
-            Command::Props(path) => props(alloc, &sight, path),
-            Command::Id(path) => id(alloc, &sight, path),
             Command::ById(text) => by_identifier(alloc, part, overlay, text.as_str()),
             Command::Refs(path) => refs(alloc, part, overlay, path),
-            Command::Versions(path) => versions(alloc, part, path),
-            _ => replied(alloc, done_reply(alloc)),
+            Command::Versions(path) => versions(alloc, part.whole(), path),
+            _ => read_nodes(alloc, types, &Sight::new(part, overlay), command),
         }
     }
 

@@ -36,24 +36,24 @@ ok_same a b r is h = ap (λ (x : Result _ Refusal). elim x [ Ok y ↦ y | Err e 
 not_ok : {A E P : Type 0} (e : E) (a : A) → Err e ≡ Ok a → P
 not_ok e a h = absurd (false≢true (ap is_ok h))
 
-passed : {A : Type 0} (o : Option Refusal) (due : Result A Refusal) (a : A)
+pub passed : {A : Type 0} (o : Option Refusal) (due : Result A Refusal) (a : A)
     → unless_refused o due ≡ Ok a → (o ≡ None) × (due ≡ Ok a)
 passed None due a h = (refl, h)
 passed (Some r) due a h = not_ok r a h
 
 -- the node that is put, and the one that it comes from
-put_of : (steps new : Steps) (p : Path) (due : Result Node Refusal) → putting steps p due ≡ Ok new
+pub put_of : (steps new : Steps) (p : Path) (due : Result Node Refusal) → putting steps p due ≡ Ok new
     → (node : Node) × (due ≡ Ok node) × (with_step steps p (Some node) ≡ new)
 put_of steps new p (Ok node) h = (node, refl, ok_same (with_step steps p (Some node)) new (Ok (with_step steps p (Some node))) refl h)
 put_of steps new p (Err r) h = not_ok r new h
 
-came_of : {A : Type 0} (p : Path) (o : Option Node) (then : Node → Result A Refusal) (a : A)
+pub came_of : {A : Type 0} (p : Path) (o : Option Node) (then : Node → Result A Refusal) (a : A)
     → of_node p o then ≡ Ok a → (node : Node) × (o ≡ Some node) × (then node ≡ Ok a)
 came_of p (Some node) then a h = (node, refl, h)
 came_of p None then a h = not_ok (no_item p) a h
 
 -- a node in the place of one that is there, with its names in order
-in_place : (v : Nodes) (steps new : Steps) (p : Path) (node made : Node) → IsTree v
+pub in_place : (v : Nodes) (steps new : Steps) (p : Path) (node made : Node) → IsTree v
     → KeepTree (whole_view v) steps → drafted (whole_view v) steps p ≡ Some node
     → IsTrue (is_sorted name_cmp made.props) → with_step steps p (Some made) ≡ new
     → KeepTree (whole_view v) new
@@ -119,17 +119,17 @@ order_keeps types v steps new p before tree keep h =
     (ap (λ (node : Node). with_step steps (above p) (Some node)) came.3 ∙ put.2)
 
 -- where none of several comes, none of them does
-none_here : (a : Option Refusal) (rest : List (Option Refusal)) → first_some (a ∷ rest) ≡ None → a ≡ None
+pub none_here : (a : Option Refusal) (rest : List (Option Refusal)) → first_some (a ∷ rest) ≡ None → a ≡ None
 none_here None rest h = refl
 none_here (Some x) rest h = h
 
-none_later : (a : Option Refusal) (rest : List (Option Refusal)) → first_some (a ∷ rest) ≡ None
+pub none_later : (a : Option Refusal) (rest : List (Option Refusal)) → first_some (a ∷ rest) ≡ None
     → first_some rest ≡ None
 none_later None rest h = h
 none_later (Some x) rest h = absurd (none-some x (sym h))
 
 -- where a test refuses nothing, it fails
-fails : (b : Bool) (r : Refusal) → when b r ≡ None → b ≡ false
+pub fails : (b : Bool) (r : Refusal) → when b r ≡ None → b ≡ false
 fails true r h = absurd (none-some r (sym h))
 fails false r h = refl
 

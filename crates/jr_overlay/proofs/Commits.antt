@@ -16,7 +16,7 @@ use Rattle.jr_part.specs.Parts.{AgreesWith, Knowledge, is_absent, known_at}
 use Rattle.jr_overlay.specs.declared.overlay.Change.{Change}
 use Rattle.jr_overlay.specs.Overlays.{AreOver, Changed, IsChangeOf, base_at, change_at, dated_as, seen, view_of, with_node_at}
 use Rattle.jr_overlay.specs.Drafts.{Steps, stepped, with_change, with_steps}
-use Rattle.jr_overlay.specs.Views.{is_known, step_at}
+use Rattle.jr_overlay.specs.Views.{AreAt, is_known, step_at}
 use Rattle.jr_overlay.proofs.Views.{node_at-view, node_at-with, sorted-view, sorted-with}
 
 pub nothing_over : (t : Nodes) → AreOver t []
@@ -102,7 +102,7 @@ module _ (t known : Nodes) where
   -- ---- all steps
 
   abbrev pub Based : Changed → Steps → Type 0
-  Based c steps = (p : Path) → is_some (step_at steps p) ≡ true → base_at known c p ≡ node_at t p
+  Based c steps = AreAt (λ p. base_at known c p ≡ node_at t p) steps
 
   based_first : (c : Changed) (e : Path × Option Node) (steps : Steps) → Based c (e ∷ steps) → base_at known c e.0 ≡ node_at t e.0
   based_first c e steps based = based e.0 (ap (λ o. is_some (cond (is_eq o) (Some e.1) (step_at steps e.0))) (tied_itself path_total e.0))

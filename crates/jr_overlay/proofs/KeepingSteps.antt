@@ -5,6 +5,7 @@ use Rattle.std.specs.Ordering.{eq_by_cmp}
 use Rattle.std.specs.List.{fold}
 use Rattle.std.specs.FinMap.{is_sorted}
 use mathlib.Core.Bool.{false≢true}
+use Rattle.basics.proofs.Options.{none_unless}
 use Rattle.jr_path.specs.Names.{is_under, name_cmp, parent_of, path_cmp}
 use Rattle.jr_path.specs.declared.name.Name.{Name}
 use Rattle.jr_path.specs.declared.path.Path.{Path}
@@ -34,16 +35,21 @@ nothing_keeps v tree = record {
 pub at_step : (steps : Steps) (p : Path) (o : Option Node) (q : Path) → step_at (with_step steps p o) q ≡ cond (eq_by_cmp path_cmp q p) (Some o) (step_at steps q)
 at_step steps p o q = lookup-insert_entry path_cmp path_total q p o steps
 
+-- what is drafted after one step more
+pub after_step : (v : Nodes) (steps : Steps) (p : Path) (o : Option Node) (q : Path)
+    → drafted (whole_view v) (with_step steps p o) q ≡ cond (eq_by_cmp path_cmp q p) o (drafted (whole_view v) steps q)
+after_step v steps p o q = ap (λ (x : Option (Option Node)). unwrap_or x (node_at v q)) (at_step steps p o q) ∙ by (eq_by_cmp path_cmp q p)
+  where
+    by : (b : Bool) → unwrap_or (cond b (Some o) (step_at steps q)) (node_at v q) ≡ cond b o (drafted (whole_view v) steps q)
+    by true = refl
+    by false = refl
+
 module _ (v : Nodes) (steps : Steps) (p : Path) (node : Node) (keep : KeepTree (whole_view v) steps) where
   abbrev more : Steps
   more = with_step steps p (Some node)
 
   after_more : (q : Path) → drafted (whole_view v) more q ≡ cond (eq_by_cmp path_cmp q p) (Some node) (drafted (whole_view v) steps q)
-  after_more q = ap (λ (o : Option (Option Node)). unwrap_or o (node_at v q)) (at_step steps p (Some node) q) ∙ by (eq_by_cmp path_cmp q p)
-    where
-      by : (b : Bool) → unwrap_or (cond b (Some (Some node)) (step_at steps q)) (node_at v q) ≡ cond b (Some node) (drafted (whole_view v) steps q)
-      by true = refl
-      by false = refl
+  after_more = after_step v steps p (Some node)
 
   stays_there : (q : Path) → is_some (drafted (whole_view v) steps q) ≡ true → is_some (drafted (whole_view v) more q) ≡ true
   stays_there q h = ap is_some (after_more q) ∙ by (eq_by_cmp path_cmp q p)
@@ -123,43 +129,81 @@ step_at-gone steps (e ∷ nodes) q =
     by true (Some x) = refl
     by false n = refl
 
-module _ (v : Nodes) (tree : IsTree v) (p : Path) (below_root : p ≡ [] → ⊥) where
+-- what is drafted where the nodes of v below p go: none where one of them stood
+pub after_gone : (v : Nodes) (steps : Steps) (p q : Path)
+    → drafted (whole_view v) (gone steps (subtree_of v p)) q
+    ≡ cond (is_some (cond (is_under q p) (node_at v q) None)) None (drafted (whole_view v) steps q)
+after_gone v steps p q =
+    ap (λ (o : Option (Option Node)). unwrap_or o (node_at v q)) (step_at-gone steps (subtree_of v p) q)
+    ∙ (ap (λ (o : Option Node). unwrap_or (cond (is_some o) (Some None) (step_at steps q)) (node_at v q)) (at_under p q v)
+    ∙ by (is_some (cond (is_under q p) (node_at v q) None)))
+  where
+    by : (b : Bool) → unwrap_or (cond b (Some None) (step_at steps q)) (node_at v q) ≡ cond b None (drafted (whole_view v) steps q)
+    by true = refl
+    by false = refl
+
+-- where nothing is drafted below p but nodes of v, these may go from what keeps a tree
+module _ (v : Nodes) (steps : Steps) (p : Path) (keep : KeepTree (whole_view v) steps) (below_root : p ≡ [] → ⊥)
+    (stood : (q : Path) → is_under q p ≡ true → is_some (drafted (whole_view v) steps q) ≡ true → is_some (node_at v q) ≡ true) where
   abbrev away : Steps
-  away = gone [] (subtree_of v p)
+  away = gone steps (subtree_of v p)
 
-  at_away : (q : Path) → step_at away q ≡ cond (is_some (cond (is_under q p) (node_at v q) None)) (Some None) None
-  at_away q = step_at-gone [] (subtree_of v p) q ∙ ap (λ (o : Option Node). cond (is_some o) (Some None) None) (at_under p q v)
-
-  after_away : (q : Path) → drafted (whole_view v) away q ≡ cond (is_under q p) None (node_at v q)
-  after_away q = ap (λ (o : Option (Option Node)). unwrap_or o (node_at v q)) (at_away q) ∙ by (is_under q p) (node_at v q)
+  after_away : (q : Path) → drafted (whole_view v) away q ≡ cond (is_under q p) None (drafted (whole_view v) steps q)
+  after_away q = after_gone v steps p q ∙ by (is_under q p) refl (node_at v q) refl
     where
-      by : (b : Bool) (n : Option Node) → unwrap_or (cond (is_some (cond b n None)) (Some None) None) n ≡ cond b None n
-      by true None = refl
-      by true (Some x) = refl
-      by false n = refl
+      by : (b : Bool) → is_under q p ≡ b → (o : Option Node) → node_at v q ≡ o
+          → cond (is_some (cond b o None)) None (drafted (whole_view v) steps q) ≡ cond b None (drafted (whole_view v) steps q)
+      by false h o is = refl
+      by true h (Some x) is = refl
+      by true h None is = none_unless _ (λ there. false≢true (sym (ap is_some is) ∙ stood q h there))
 
-  no_put : (q : Path) (node : Node) → step_at away q ≡ Some (Some node) → ⊥
-  no_put q node is = by (is_some (cond (is_under q p) (node_at v q) None)) (sym (at_away q) ∙ is)
+  -- a node that is put still isn't below p
+  put_out : (q : Path) (node : Node) → step_at away q ≡ Some (Some node) → (is_under q p ≡ false) × (step_at steps q ≡ Some (Some node))
+  put_out q node is =
+      by (is_under q p) refl
+      (ap (λ (o : Option Node). cond (is_some o) (Some None) (step_at steps q)) (sym (at_under p q v)) ∙ (sym (step_at-gone steps (subtree_of v p) q) ∙ is))
     where
-      by : (b : Bool) → ◌≡◌ {A = Option (Option Node)} (cond b (Some None) None) (Some (Some node)) → ⊥
-      by true e = false≢true (ap (λ (o : Option (Option Node)). is_some (unwrap_or o None)) e)
-      by false e = false≢true (ap is_some e)
+      put : (b : Bool) → cond b (Some None) (step_at steps q) ≡ Some (Some node) → (b ≡ false) × (step_at steps q ≡ Some (Some node))
+      put true e = absurd (false≢true (ap (λ (o : Option (Option Node)). is_some (unwrap_or o None)) e))
+      put false e = (refl, e)
 
-  under_away : (q : Path) → step_at away q ≡ Some None → is_under q p ≡ true
-  under_away q is = by (is_under q p) refl (sym (at_away q) ∙ is)
+      by : (b : Bool) → is_under q p ≡ b → cond (is_some (cond b (node_at v q) None)) (Some None) (step_at steps q) ≡ Some (Some node)
+          → (b ≡ false) × (step_at steps q ≡ Some (Some node))
+      by false h e = (refl, e)
+      by true h e =
+          let at = put (is_some (node_at v q)) e in
+          absurd (false≢true (sym at.0 ∙ stood q h (ap (λ (o : Option (Option Node)). is_some (unwrap_or o (node_at v q))) at.1)))
+
+  -- the node above what isn't below p isn't below p
+  out_above : (q r : Path) → parent_of q ≡ Some r → is_under q p ≡ false → is_under r p ≡ false
+  out_above q r up out = by (is_under r p) refl
     where
-      by : (b : Bool) → is_under q p ≡ b → ◌≡◌ {A = Option (Option Node)} (cond (is_some (cond b (node_at v q) None)) (Some None) None) (Some None) → b ≡ true
-      by true h e = refl
-      by false h e = absurd (false≢true (ap is_some e))
+      by : (b : Bool) → is_under r p ≡ b → b ≡ false
+      by false h = refl
+      by true h =
+          let b = below_parent q r up in
+          sym (under_more r p (b.0 ∷ []) h) ∙ (ap (λ (x : Path). is_under x p) (sym b.1) ∙ out)
 
-  pub gone_keeps : KeepTree (whole_view v) away
-  gone_keeps = record {
-    paths = sorted-gone [] (subtree_of v p) refl;
-    names = λ q node is. absurd (no_put q node is);
-    root = ap is_some (after_away []) ∙ (ap (λ b. is_some (cond b None (node_at v []))) (root_apart p below_root) ∙ tree.root);
-    above = λ q r node is up. absurd (no_put q node is);
-    below = λ r q is up.
-        let b = below_parent q r up in
-        let under : is_under q p ≡ true = ap (λ (x : Path). is_under x p) b.1 ∙ under_more r p (b.0 ∷ []) (under_away r is) in
-        after_away q ∙ ap (λ b. cond b None (node_at v q)) under;
+  -- where the node above what isn't below p was taken, it was before
+  taken_out : (r : Path) → is_under r p ≡ false → step_at away r ≡ Some None → step_at steps r ≡ Some None
+  taken_out r out is =
+      ap (λ b. cond (is_some (cond b (node_at v r) None)) (Some None) (step_at steps r)) (sym out)
+      ∙ (ap (λ (o : Option Node). cond (is_some o) (Some None) (step_at steps r)) (sym (at_under p r v)) ∙ (sym (step_at-gone steps (subtree_of v p) r) ∙ is))
+
+  pub more_gone_keeps : KeepTree (whole_view v) away
+  more_gone_keeps = record {
+    paths = sorted-gone steps (subtree_of v p) keep.paths;
+    names = λ q node is. keep.names q node (put_out q node is).1;
+    root = ap is_some (after_away []) ∙ (ap (λ b. is_some (cond b None (drafted (whole_view v) steps []))) (root_apart p below_root) ∙ keep.root);
+    above = λ q r node is up.
+        let out = put_out q node is in
+        ap is_some (after_away r) ∙ (ap (λ b. is_some (cond b None (drafted (whole_view v) steps r))) (out_above q r up out.0) ∙ keep.above q r node out.1 up);
+    below = λ r q is up. after_away q ∙ below r q is up (is_under q p) refl;
   }
+    where
+      below : (r q : Path) → step_at away r ≡ Some None → parent_of q ≡ Some r → (b : Bool) → is_under q p ≡ b → cond b None (drafted (whole_view v) steps q) ≡ None
+      below r q is up true h = refl
+      below r q is up false h = keep.below r q (taken_out r (out_above q r up h) is) up
+
+pub gone_keeps : (v : Nodes) → IsTree v → (p : Path) → (p ≡ [] → ⊥) → KeepTree (whole_view v) (gone [] (subtree_of v p))
+gone_keeps v tree p below_root = more_gone_keeps v [] p (nothing_keeps v tree) below_root (λ q under there. there)

@@ -81,7 +81,8 @@ module _ (t v : Nodes) (steps : Steps) (tree : IsTree v) (keep : KeepTree (whole
   at_u : (p : Path) → node_at u p ≡ option_map_or (option_map (dated_as (node_at t p))) (step_at steps p) (node_at v p)
   at_u p = node_at-made (λ e. option_map (dated_as (node_at t e.0)) e.1) v tree.paths steps keep.paths p
 
-  there_after : (p : Path) → is_some (node_at u p) ≡ is_some (after v steps tree keep p)
+  -- what is there afterwards is what the steps show
+  pub there_after : (p : Path) → is_some (node_at u p) ≡ is_some (after v steps tree keep p)
   there_after p = ap is_some (at_u p) ∙ by (step_at steps p)
     where
       by : (o : Option (Option Node)) → is_some (option_map_or (option_map (dated_as (node_at t p))) o (node_at v p)) ≡ is_some (unwrap_or o (node_at v p))

@@ -10,4 +10,5 @@ pub mod NamesPut
 pub mod Places
 pub mod Ranges
 pub mod SideBySide
+pub mod Touched
 pub mod Views

@@ -21,6 +21,10 @@ is_known k c p = is_some (change_at c p) || is_some (known_at k p)
 abbrev pub step_at : Steps → Path → Option (Option Node)
 step_at steps p = lookup (is_at (path_cmp p)) steps
 
+-- something holds of each path that a command touched
+abbrev pub AreAt : (Path → Type 0) → Steps → Type 0
+AreAt P steps = (p : Path) → IsTrue (is_some (step_at steps p)) → P p
+
 -- steps keep a tree a tree: each path is touched once, in order, and so is each name of a node that
 -- is put; afterwards the root is there, and the parent of each node that is put, and no child of a
 -- node that is taken away

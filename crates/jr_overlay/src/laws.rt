@@ -12,7 +12,7 @@ ghost use Rattle.jr_part.specs.Parts.{AgreesWith, Knowledge, LacksNothing, list_
 ghost use Rattle.jr_overlay.specs.Overlays.{AreOver, Changed, base_at, edit_of};
 ghost use Rattle.jr_overlay.specs.Overlays.{known_view, seen, view_of, whole_view};
 ghost use Rattle.jr_overlay.specs.Drafts.{Steps, drafted, stepped, with_step, with_steps};
-ghost use Rattle.jr_overlay.specs.Views.{KeepTree, all_gone, all_moved, is_known, step_at};
+ghost use Rattle.jr_overlay.specs.Views.{AreAt, KeepTree, all_gone, all_moved, is_known, step_at};
 
 /// The view has at each path what was changed there, or else what the tree has, and its paths are
 /// in order.
@@ -45,15 +45,15 @@ pub fn known_bases_agree()
 /// them. So the view stays a tree where they keep one.
 pub fn commits_step_views()
     ensures over { (t : Nodes) (known : Nodes) (c : Changed) (steps : Steps) → AreOver t c
-        → ((p : Path) → IsTrue (is_some (step_at steps p)) → base_at known c p ≡ node_at t p)
+        → AreAt (λ p. base_at known c p ≡ node_at t p) steps
         → AreOver t (with_steps known c steps) }
     ensures view { (t : Nodes) (known : Nodes) (c : Changed) (steps : Steps)
         → IsTrue (is_sorted path_cmp t) → AreOver t c
-        → ((p : Path) → IsTrue (is_some (step_at steps p)) → base_at known c p ≡ node_at t p)
+        → AreAt (λ p. base_at known c p ≡ node_at t p) steps
         → view_of t (with_steps known c steps) ≡ stepped t (view_of t c) steps }
     ensures tree { (t : Nodes) (known : Nodes) (c : Changed) (steps : Steps)
         → IsTrue (is_sorted path_cmp t) → AreOver t c
-        → ((p : Path) → IsTrue (is_some (step_at steps p)) → base_at known c p ≡ node_at t p)
+        → AreAt (λ p. base_at known c p ≡ node_at t p) steps
         → IsTree (view_of t c) → KeepTree (whole_view (view_of t c)) steps
         → IsTree (view_of t (with_steps known c steps)) }
     ensures known { (k : Knowledge) (c : Changed) (steps : Steps) (p : Path)

@@ -308,7 +308,7 @@ module _ (clusters : ℕ) (sessions : List ℕ) (nodes : AreNodes clusters sessi
   pub flight_other : (e : Event) (past : Past) (o : Option Flight) → IsRunOf starts says clusters sessions None (e ∷ past) → is_own past s e ≡ false → IsFlight past s o → IsFlight (e ∷ past) s o
   flight_other (event.Login t v) past o run other h = stays_calm past s _ (calm_login past s t v) o h
   flight_other (event.Refresh t v) past o run other h = stays_calm past s _ (calm_refresh past s t v) o h
-  flight_other (event.Draw d) past o run other h = stays_calm past s _ (calm_draw past s d (fresh_run clusters sessions nodes starts says d past run).fresh other) o h
+  flight_other (event.Draw d) past o run other h = stays_calm past s _ (calm_draw past s d (fresh_run clusters sessions nodes None starts says d past run).fresh other) o h
   flight_other (event.Commit r) past o run other h = stays_calm past s _ (calm_commit past s r other) o h
   flight_other (event.Refuse r item q) past o run other h = stays_calm past s _ (calm_refuse past s r item q other) o h
   flight_other (event.End r) past o run other h = stays_calm past s _ (calm_end past s r other) o h
@@ -430,7 +430,7 @@ module _ (clusters : ℕ) (sessions : List ℕ) (nodes : AreNodes clusters sessi
     }
       where
         fresh : draw_of past d.revision ≡ None
-        fresh = (fresh_run clusters sessions nodes starts says d past run).fresh
+        fresh = (fresh_run clusters sessions nodes None starts says d past run).fresh
 
         equal : (a b : ℕ) → (a == b) ≡ true → a ≡ b
         equal a b h = grind (arith, nat_tests)

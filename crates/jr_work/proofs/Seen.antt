@@ -75,7 +75,7 @@ module _ (clusters : ℕ) (sessions : List ℕ) (nodes : AreNodes clusters sessi
   known past d run r f h = by (is_same r d.revision) refl
     where
       by : (b : Bool) → is_same r d.revision ≡ b → cond b (Some d) (draw_of past r) ≡ Some f
-      by true same = none_is_some f (sym (fresh_run clusters sessions nodes starts says d past run).fresh ∙ subst (λ (x : Revision). draw_of past x ≡ Some f) (same_revision r d.revision same) h)
+      by true same = none_is_some f (sym (fresh_run clusters sessions nodes None starts says d past run).fresh ∙ subst (λ (x : Revision). draw_of past x ≡ Some f) (same_revision r d.revision same) h)
       by false same = h
 
   pub known_of : (past : Past) (d : Draw) → IsRunOf starts says clusters sessions None (event.Draw d ∷ past) → (s : ℕ) (r : Revision) → is_revision_of past s r ≡ true → is_revision_of (event.Draw d ∷ past) s r ≡ true
@@ -108,7 +108,7 @@ module _ (clusters : ℕ) (sessions : List ℕ) (nodes : AreNodes clusters sessi
     where
       by : (o : Option Draw) → draw_of past r ≡ o → option_map_or (λ x. x.session == s) o false ≡ true → IsNode clusters r.cluster
       by None is k = absurd (false≢true k)
-      by (Some d) is k = ((sound_run clusters sessions nodes starts says past run).draws r d is).node
+      by (Some d) is k = ((sound_run clusters sessions nodes None starts says past run).draws r d is).node
 
   pub cluster_of : (past : Past) → IsRunOf starts says clusters sessions None past → (s : ℕ) (r : Revision) → is_revision_of past s r ≡ true → slice_get sessions s ≡ Some r.cluster
   cluster_of [] run s r h = absurd (false≢true h)
@@ -144,12 +144,12 @@ module _ (clusters : ℕ) (sessions : List ℕ) (nodes : AreNodes clusters sessi
     pub moving_reaches : is_same (local None later q.cluster) (local None past q.cluster) ≡ false → is_at_most q (local None later q.cluster) ≡ true
     moving_reaches moves = elim (is_at_most q (local None later q.cluster)) as (λ b. is_at_most q (local None later q.cluster) ≡ b → b ≡ true) [
       | true ↦ λ h. refl
-      | false ↦ λ h. absurd (false≢true (sym moves ∙ both_at_most (local None later q.cluster) (local None past q.cluster) (stays h (local_is later q.cluster)) (local_grows past later q.cluster settled_later)))
+      | false ↦ λ h. absurd (false≢true (sym moves ∙ both_at_most (local None later q.cluster) (local None past q.cluster) (stays h (local_is None later q.cluster)) (local_grows None past later q.cluster settled_later)))
     ] refl
       where
         stays : is_at_most q (local None later q.cluster) ≡ false → (local None later q.cluster ≡ start_of q.cluster) ⊎ IsSettledDraw later q.cluster (local None later q.cluster) → is_at_most (local None later q.cluster) (local None past q.cluster) ≡ true
-        stays h (inl start) = subst (λ (x : Revision). is_at_most x (local None past q.cluster) ≡ true) (sym start) (local_first past q.cluster)
-        stays h (inr settled) = local_each past q.cluster (local None later q.cluster) (record {
+        stays h (inl start) = subst (λ (x : Revision). is_at_most x (local None past q.cluster) ≡ true) (sym start) (local_first None past q.cluster)
+        stays h (inr settled) = local_each None past q.cluster (local None later q.cluster) (record {
           drawn = settled.drawn;
           cluster = settled.cluster;
           below = λ o flies same. before o flies same (is_same o q) refl;
@@ -163,8 +163,8 @@ module _ (clusters : ℕ) (sessions : List ℕ) (nodes : AreNodes clusters sessi
                 still d b k = ap (λ c. is_drawn past o && not (c || is_ended past o)) it ∙ flies
 
     pub moving_sees : is_same (local None later q.cluster) (local None past q.cluster) ≡ false → sees (head_of clusters None later q.cluster) q ≡ true
-    moving_sees moves = head_own clusters later q.cluster q node.0 (let e = nodes.eight in let n = node.1 in omega arith)
-        ((sound_run clusters sessions nodes starts says later run).ins q.cluster node).eight refl (moving_reaches moves)
+    moving_sees moves = head_own clusters None later q.cluster q node.0 (let e = nodes.eight in let n = node.1 in omega arith)
+        ((sound_run clusters sessions nodes None starts says later run).ins q.cluster node).eight refl (moving_reaches moves)
 
   -- ---- what isn't seen
 
@@ -188,7 +188,7 @@ module _ (clusters : ℕ) (sessions : List ℕ) (nodes : AreNodes clusters sessi
       where
         by : (b : Bool) → sees (head_of script.clusters None past r.cluster) r ≡ b → b ≡ false
         by false k = refl
-        by true k = absurd (false≢true (sym h ∙ (head_at (e ∷ past) r ∙ below_seen _ _ r (grow_run clusters sessions nodes starts says (e ∷ []) past run r.cluster node) (sym (head_at past r) ∙ k))))
+        by true k = absurd (false≢true (sym h ∙ (head_at (e ∷ past) r ∙ below_seen _ _ r (grow_run clusters sessions nodes None starts says (e ∷ []) past run r.cluster node) (sym (head_at past r) ∙ k))))
 
     -- what isn't seen once an event more has come wasn't seen before, or has ended with it
     abbrev pub WasUnseen : Event → Past → ℕ → Revision → Type 0
@@ -209,7 +209,7 @@ module _ (clusters : ℕ) (sessions : List ℕ) (nodes : AreNodes clusters sessi
 
           by : (b : Bool) → is_same r d.revision ≡ b → option_map_or (λ x. x.session == s) (cond b (Some d) (draw_of past r)) false ≡ true → WasUnseen (event.Draw d) past s r
           by true same k =
-              let fresh = (fresh_run clusters sessions nodes starts says d past run).fresh in
+              let fresh = (fresh_run clusters sessions nodes None starts says d past run).fresh in
               absurd (false≢true (sym (unended past run.1 r (ap is_some (ap (draw_of past) (same_revision r d.revision same) ∙ fresh))) ∙ ended))
           by false same k = plain (event.Draw d) run k parts.0 ended parts.2
       was_unseen (event.Commit q) run own h = by (is_same r q) refl (unseen_parts _ _ _ h)

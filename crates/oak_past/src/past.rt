@@ -1,10 +1,12 @@
 // What the events of a journal say of revisions.
-ghost use Rattle.std.specs.Prelude.{◌≡◌, ◌↔◌, ◌&&◌, ◌||◌, IsTrue, reverse};
+ghost use Rattle.std.specs.Prelude.{◌≡◌, ◌↔◌, ◌&&◌, ◌||◌, IsTrue, option_map, reverse};
+ghost use Rattle.std.specs.Map.Iter.{deref_pair};
 ghost use Rattle.std.specs.Option.{option_copied};
-ghost use Rattle.oak_machine.specs.Commits.{draw_of, is_committed, is_drawn, is_ended, is_in_base, is_in_flight, is_refused, marks_of};
+ghost use Rattle.oak_machine.specs.Commits.{draw_of, is_committed, is_drawn, is_ended, is_in_base, is_in_flight, is_refused, marks_of, refusal_of};
 ghost use Rattle.oak_machine.specs.Runs.{IsOpen, was_live_beside};
 
 use crate::sessions::is_stopped;
+use jr_path::Item;
 use jr_rev::Revision;
 use oak_clash::MarkAt;
 use oak_machine::{Draw, Event};
@@ -77,6 +79,22 @@ fn is_refused(events: &[Event], r: Revision) -> bool
         }
     }
     refused
+}
+
+/// What a revision was refused for: its item and the other revision.
+#[tactic(auto, using(oak_machine::proofs::Forward::past_more))]
+pub fn refusal_of(events: &[Event], r: Revision) -> Option<(&Item, &Revision)>
+    ensures { option_map deref_pair result ≡ refusal_of (reverse events.now) r }
+{
+    let mut refusal = None;
+    for event in events {
+        if let Event::Refuse(q, item, other) = event {
+            if r == *q {
+                refusal = Some((item, other));
+            }
+        }
+    }
+    refusal
 }
 
 // Whether a revision is in flight, neither committed nor refused, and of a cluster node that wasn't stopped.

@@ -103,9 +103,10 @@ pub fn base_of(events: &[Event], session: u32) -> Option<RevVec>
     base
 }
 
-// Whether the latest of these events of a session is an attachment.
+/// Whether a session is attached to a checkpoint: the latest of these events of a session is an attachment
+/// (Oak, Checkpoints).
 #[tactic(auto, using(oak_machine::proofs::Forward::past_more))]
-pub(crate) fn is_attached(events: &[Event], session: u32) -> bool
+pub fn is_attached(events: &[Event], session: u32) -> bool
     ensures { result ≡ is_attached (reverse events.now) session }
 {
     let mut attached = false;
@@ -151,9 +152,9 @@ pub(crate) fn has_reader(events: &[Event], session: u32) -> bool
     reader
 }
 
-// Whether a draw of a session is in flight.
+/// Whether a draw of a session is in flight.
 #[tactic(auto, using(oak_machine::proofs::Forward::past_more))]
-pub(crate) fn is_drawing(events: &[Event], session: u32) -> bool
+pub fn is_drawing(events: &[Event], session: u32) -> bool
     ensures { result ≡ is_drawing (reverse events.now) session }
 {
     let mut drawing = false;

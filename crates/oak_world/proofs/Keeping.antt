@@ -213,7 +213,7 @@ module _ (starts : Starts) (says : Says) (proper : StartsProper starts) (last : 
 
   moved_ended : (r : Revision) → May starts (live w.history) s (work.Move r) → HasEnded (memory_of (state_of w) s) r
   moved_ended r may =
-      has_ended w.history.clusters w.history.sessions is.kept.sessions.nodes w.history.past (sound_run w.history.clusters w.history.sessions is.kept.sessions.nodes starts says w.history.past is.kept.sessions.run) (node_in w.history s) node (memory_of (state_of w) s) (is.kept.sessions.memories.memory (node_in w.history s) node) r
+      has_ended w.history.clusters w.history.sessions is.kept.sessions.nodes w.history.past (sound_run w.history.clusters w.history.sessions is.kept.sessions.nodes None starts says w.history.past is.kept.sessions.run) (node_in w.history s) node (memory_of (state_of w) s) (is.kept.sessions.memories.memory (node_in w.history s) node) r
       (let k : Some r.cluster ≡ Some (node_in w.history s) = sym may.2 ∙ on in cc)
       (ended_was_drawn starts says w.history.clusters w.history.sessions w.history.past is.kept.sessions.run r may.1) may.1
 

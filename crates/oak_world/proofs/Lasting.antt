@@ -21,7 +21,7 @@ pub local_lasts : (starts : Starts) (says : Says) (clusters : ℕ) (sessions : L
 local_lasts starts says clusters sessions nodes [] before run r k h = h
 local_lasts starts says clusters sessions nodes (e ∷ own) before run r k h =
     at_most_trans r (local None (own ++ before) k) (local None (e ∷ (own ++ before)) k) (local_lasts starts says clusters sessions nodes own before run.1 r k h)
-    ((later_run clusters sessions nodes starts says e (own ++ before) run).locals k)
+    ((later_run clusters sessions nodes None starts says e (own ++ before) run).locals k)
 
 -- what the root told once, it has told
 pub were_lasts : (clusters : ℕ) (own before : Past) (last sweep : RevVec) → WereOnRoot clusters before last sweep → WereOnRoot clusters (own ++ before) last sweep

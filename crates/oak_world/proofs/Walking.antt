@@ -257,7 +257,7 @@ module _ (starts : Starts) (says : Says) (proper : StartsProper starts) (w : Sta
   -- what r awaits by the memory is in flight by the past
   held_back : (r q : Revision) → AwaitsEarlier (memory_of w s) r q → slice_get w.sessions s ≡ Some r.cluster → HoldsBack w.past q r
   held_back r q awaits on =
-      let flies = (flying_is w.clusters w.sessions kept.sessions.nodes w.past (sound_run w.clusters w.sessions kept.sessions.nodes starts says w.past kept.sessions.run) r.cluster (kept.sessions.nodes.node s r.cluster on) (memory_of w s) (memory_is r on) q).0 awaits.flying in
+      let flies = (flying_is w.clusters w.sessions kept.sessions.nodes w.past (sound_run w.clusters w.sessions kept.sessions.nodes None starts says w.past kept.sessions.run) r.cluster (kept.sessions.nodes.node s r.cluster on) (memory_of w s) (memory_is r on) q).0 awaits.flying in
       record { node = flies.0; earlier = awaits.earlier; flying = flies.1 }
 
   waits_step : (r q : Revision) → AwaitsEarlier (memory_of w s) r q → HasCome h s → is_ended w.past r ≡ true → slice_get w.sessions s ≡ Some r.cluster → StepOf (work.Move r) w (work.Move r) (answers.Wait q)
@@ -635,8 +635,8 @@ module _ (starts : Starts) (says : Says) (proper : StartsProper starts) (w : Sta
           is_node : IsNode w.clusters k
           is_node = kept.sessions.nodes.node s k on
 
-          sound : IsSound w.clusters w.sessions w.past
-          sound = sound_run w.clusters w.sessions kept.sessions.nodes starts says w.past kept.sessions.run
+          sound : IsSound w.clusters w.sessions None w.past
+          sound = sound_run w.clusters w.sessions kept.sessions.nodes None starts says w.past kept.sessions.run
 
           its_memory : IsMemoryOf w.clusters w.past k memory
           its_memory = subst (λ (j : ℕ). IsMemoryOf w.clusters w.past k (memory_at w.memories j)) (sym at_node) (kept.sessions.memories.memory k is_node)
@@ -644,12 +644,12 @@ module _ (starts : Starts) (says : Says) (proper : StartsProper starts) (w : Sta
           rises : moved ≡ is_before (local None w.past k) (local None later k)
           rises =
               ap (λ e. is_before e (own_entry done)) (own_is w.clusters w.sessions kept.sessions.nodes w.past sound k is_node memory its_memory)
-              ∙ ap (is_before (local None w.past k)) (own_is w.clusters w.sessions kept.sessions.nodes later (sound_run w.clusters w.sessions kept.sessions.nodes starts says later run) k is_node done (end_run starts says w.clusters w.sessions kept.sessions.nodes c.revision w.past run memory its_memory))
+              ∙ ap (is_before (local None w.past k)) (own_is w.clusters w.sessions kept.sessions.nodes later (sound_run w.clusters w.sessions kept.sessions.nodes None starts says later run) k is_node done (end_run starts says w.clusters w.sessions kept.sessions.nodes c.revision w.past run memory its_memory))
 
           before : (b : Bool) → is_before (local None w.past k) (local None later k) ≡ b → is_same (local None later k) (local None w.past k) ≡ false → b ≡ true
           before true e apart = refl
           before false e apart =
-              let same : local None w.past k ≡ local None later k = at_most_both (local None w.past k) (local None later k) ((later_end w.clusters w.sessions kept.sessions.nodes w.past sound c.revision).locals k) (not_before (local None w.past k) (local None later k) e) in
+              let same : local None w.past k ≡ local None later k = at_most_both (local None w.past k) (local None later k) ((later_end w.clusters w.sessions kept.sessions.nodes None w.past sound c.revision).locals k) (not_before (local None w.past k) (local None later k) e) in
               sym apart ∙ (ap (λ (r : Revision). is_same r (local None w.past k)) (sym same) ∙ is_same_self (local None w.past k))
 
           by : (b : Bool) → is_same (local None later k) (local None w.past k) ≡ b → is_before (local None w.past k) (local None later k) ≡ not b

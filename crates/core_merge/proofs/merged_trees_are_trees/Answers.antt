@@ -1,4 +1,5 @@
 -- By the merging theorem, and what runs say of heads, bases and checkpoints.
+use Rattle.std.proofs.Common.{None}
 use Rattle.core_heads.proofs.Runs.{closed_run, head_run, sound_run}
 use Rattle.core_merge.proofs.Merged.{base_tree_merged, tree_merged}
 use Rattle.core_merge.proofs.Order.{order_is_same, tree_in_order}
@@ -10,21 +11,21 @@ returns-clause-closed g c = λ h v m closed.
 
 pub returns-clause-heads : goal.returns-clause-heads
 returns-clause-heads g c = λ h k m node.
-    let held = head_run h.clusters h.sessions m.nodes (g.L.Law.may_start c.args.law.now) (g.L.Law.may_say c.args.law.now) h.past m.run k node in
+    let held = head_run h.clusters h.sessions m.nodes None (g.L.Law.may_start c.args.law.now) (g.L.Law.may_say c.args.law.now) h.past m.run k node in
     tree_merged h.clusters h.sessions m.nodes (g.L.Law.may_start c.args.law.now) (g.L.Law.may_say c.args.law.now) (g.L.Law.proper c.args.law.now) m.marking h.past m.run _
-    (closed_run h.clusters h.sessions m.nodes (g.L.Law.may_start c.args.law.now) (g.L.Law.may_say c.args.law.now) h.past m.run _ held)
+    (closed_run h.clusters h.sessions m.nodes None (g.L.Law.may_start c.args.law.now) (g.L.Law.may_say c.args.law.now) h.past m.run _ held)
 
 pub returns-clause-bases : goal.returns-clause-bases
 returns-clause-bases g c = λ h s v m is.
-    let held = (sound_run h.clusters h.sessions m.nodes (g.L.Law.may_start c.args.law.now) (g.L.Law.may_say c.args.law.now) h.past m.run).bases s v is in
+    let held = (sound_run h.clusters h.sessions m.nodes None (g.L.Law.may_start c.args.law.now) (g.L.Law.may_say c.args.law.now) h.past m.run).bases s v is in
     tree_merged h.clusters h.sessions m.nodes (g.L.Law.may_start c.args.law.now) (g.L.Law.may_say c.args.law.now) (g.L.Law.proper c.args.law.now) m.marking h.past m.run v
-    (closed_run h.clusters h.sessions m.nodes (g.L.Law.may_start c.args.law.now) (g.L.Law.may_say c.args.law.now) h.past m.run v held)
+    (closed_run h.clusters h.sessions m.nodes None (g.L.Law.may_start c.args.law.now) (g.L.Law.may_say c.args.law.now) h.past m.run v held)
 
 pub returns-clause-kept : goal.returns-clause-kept
 returns-clause-kept g c = λ h id v m is.
-    let held = (sound_run h.clusters h.sessions m.nodes (g.L.Law.may_start c.args.law.now) (g.L.Law.may_say c.args.law.now) h.past m.run).kept id v is in
+    let held = (sound_run h.clusters h.sessions m.nodes None (g.L.Law.may_start c.args.law.now) (g.L.Law.may_say c.args.law.now) h.past m.run).kept id v is in
     tree_merged h.clusters h.sessions m.nodes (g.L.Law.may_start c.args.law.now) (g.L.Law.may_say c.args.law.now) (g.L.Law.proper c.args.law.now) m.marking h.past m.run v
-    (closed_run h.clusters h.sessions m.nodes (g.L.Law.may_start c.args.law.now) (g.L.Law.may_say c.args.law.now) h.past m.run v held)
+    (closed_run h.clusters h.sessions m.nodes None (g.L.Law.may_start c.args.law.now) (g.L.Law.may_say c.args.law.now) h.past m.run v held)
 
 pub returns-clause-order : goal.returns-clause-order
 returns-clause-order g c = λ h m.

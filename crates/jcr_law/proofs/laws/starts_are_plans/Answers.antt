@@ -1,4 +1,4 @@
-use Rattle.jcr_law.proofs.Starting.{proper_starts, starts_plan}
+use Rattle.jcr_law.specs.Starting.{proper_starts, starts_plan}
 use Rattle.jcr_law.proofs.laws.starts_are_plans.Goals as goal
 
 pub returns-clause-plan : goal.returns-clause-plan

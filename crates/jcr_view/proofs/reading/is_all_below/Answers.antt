@@ -1,4 +1,4 @@
-use Rattle.jcr_view.proofs.Whole.{all_below}
+use Rattle.jcr_view.proofs.Below.{all_below}
 use Rattle.jcr_view.proofs.reading.is_all_below.Goals as goal
 
 pub returns : goal.returns

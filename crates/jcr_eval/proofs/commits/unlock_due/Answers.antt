@@ -1,0 +1,13 @@
+use Rattle.std.proofs.Common.{Some, ap, ◌∙◌}
+use Rattle.std.specs.Prelude.{map, string_bytes}
+use Rattle.std.proofs.lemmas.Result.{IfOk-weaker}
+use Rattle.jcr_lock.specs.Locks.{unlock_edit}
+use Rattle.jcr_eval.proofs.commits.unlock_due.Goals as goal
+
+pub returns : goal.returns
+returns c = IfOk-weaker c.made_due.result _ _
+    (λ found is. is ∙ ap (λ ts. Some (unlock_edit c.args.call.now.base c.args.path.now ts))
+    (ap (map string_bytes) c.as_slice-2.ensures.value ∙ (c.in_ok-tokens.ensures ∙ c.as_slice.ensures)))
+    (c.made_due.ensures
+    (unlock_edit c.args.call.now.base c.args.path.now (map string_bytes c.as_slice-2.result.now))
+    c.unlock_edit.ensures.ok c.unlock_edit.ensures.err)

@@ -1,0 +1,252 @@
+// Whether the law lets a text be said.
+ghost use Rattle.std.specs.Prelude.{◌≡◌, ◌↔◌, cond, IfOk, IsTrue, Some, option_and_then, option_map, slice_get, string_bytes};
+ghost use Rattle.oak_machine.specs.History.{history_of};
+ghost use Rattle.oak_machine.specs.Sessions.{is_attached};
+ghost use Rattle.jr_rev.specs.declared.vector.RevVec.{RevVec};
+ghost use Rattle.jcr_view.specs.Outcomes.{is_viewed};
+ghost use Rattle.jcr_law.specs.Built.{Allowed, Unsupported};
+ghost use Rattle.jcr_law.specs.Law.{MaySay, SaysBy, asked_by, no_support, no_text};
+ghost use Rattle.jcr_law.specs.Since.{before_turn, stop_position};
+ghost use Rattle.jcr_law.specs.Tasks.{stopped_at};
+ghost use Rattle.jcr_eval.specs.Causes.{AllowedCause, AnyCause, OwnCause, may_want_memory, memory_reply, stopped_reply, vector_text, ViewCause};
+
+use crate::built::is_allowed;
+use crate::commits::commit_says;
+use crate::replies::{cause_reply, is_reply, refusal_reply};
+use crate::since::stop_position;
+use crate::state::command_at;
+use crate::tasks::task_says;
+use crate::turn::before_turn;
+use crate::view::view_says;
+use jcr_law::JcrLaw;
+use jcr_trans::{Command, vector_reply};
+use jcr_view::is_viewed;
+use jr_items::unsupported;
+use jr_path::List;
+use jr_rev::RevVec;
+use jr_tree::{Datum, Refusal};
+use oak_machine::Journal;
+use oak_past::{base_of, drawn_since, is_attached, is_committed, is_drawing, refreshed_since};
+use std::alloc::{AllocError, Global};
+
+/// Whether the law lets a text be said as the reply of that index of a session at a journal. It
+/// goes over the whole journal for each of its events.
+#[tactic(auto, using(crate::proofs::Causes::says_by_command, crate::proofs::Causes::says_nothing))]
+pub fn eval(
+    alloc: Global,
+    law: &JcrLaw,
+    journal: &Journal,
+    session: u32,
+    index: u32,
+    text: &str,
+) -> Result<bool, AllocError>
+    ensures { IfOk result (λ answer. IsTrue answer
+        ↔ SaysBy law.now (history_of journal.now) session index text.now) }
+{
+    match command_at(law, session, index as usize) {
+        Some(command) => may_say(alloc, law, journal, session, command, text),
+        None => Ok(false),
+    }
+}
+
+// Whether the law lets a text be said as a reply of a session to a command.
+fn may_say(
+    alloc: Global,
+    law: &JcrLaw,
+    journal: &Journal,
+    session: u32,
+    command: &Command,
+    text: &str,
+) -> Result<bool, AllocError>
+    ensures { let h = history_of journal.now in IfOk result (λ b. IsTrue b
+        ↔ MaySay law.now h session (asked_by h session command.now) text.now) }
+{
+    if any_says(alloc, journal, session, text)? {
+        return Ok(true);
+    }
+    if is_asked(journal, session, command) {
+        allowed_says(alloc, law, journal, session, command, text)
+    } else {
+        barred_says(alloc, command, text)
+    }
+}
+
+// Whether a session may run a command, as it was attached or not when the command began.
+fn is_asked(journal: &Journal, session: u32, command: &Command) -> bool
+    ensures { asked_by (history_of journal.now) session command.now
+        ≡ cond result (Allowed command.now) (Unsupported command.now) }
+{
+    let before = before_turn(journal.events.as_slice(), session);
+    is_allowed(is_attached(before, session), command)
+}
+
+// Whether a text is a reply that every command may have.
+fn any_says(alloc: Global, journal: &Journal, session: u32, text: &str) -> Result<bool, AllocError>
+    ensures { IfOk result (λ b. IsTrue b ↔ AnyCause (history_of journal.now) session text.now) }
+{
+    let stopped = stopped_reply(alloc, journal, session)?;
+    if is_reply(stopped, text) {
+        return Ok(true);
+    }
+    let memory = memory_reply(alloc, journal, session)?;
+    Ok(is_reply(memory, text))
+}
+
+// The reply where the cluster node of a session was stopped.
+fn stopped_reply(
+    alloc: Global,
+    journal: &Journal,
+    session: u32,
+) -> Result<Option<String>, AllocError>
+    ensures { IfOk result (λ reply. option_map string_bytes reply
+        ≡ stopped_reply (history_of journal.now) session) }
+{
+    match stop_of(journal, session) {
+        Some(position) => stopped_text(alloc, position),
+        None => Ok(None),
+    }
+}
+
+// The position at which the cluster node of a session was stopped.
+fn stop_of(journal: &Journal, session: u32) -> Option<usize>
+    ensures { let h = history_of journal.now in result
+        ≡ option_and_then (stop_position h.past) (slice_get h.sessions session) }
+{
+    match journal.sessions.as_slice().get(session as usize) {
+        Some(cluster) => stop_position(journal.events.as_slice(), *cluster),
+        None => None,
+    }
+}
+
+fn stopped_text(alloc: Global, position: usize) -> Result<Option<String>, AllocError>
+    ensures { IfOk result (λ reply. option_map string_bytes reply
+        ≡ Some (no_text (stopped_at position))) }
+{
+    let refusal = stopped_at(alloc, position)?;
+    refusal_reply(alloc, &refusal)
+}
+
+// The refusal where a cluster node was stopped at that position.
+fn stopped_at(alloc: Global, position: usize) -> Result<Refusal, AllocError>
+    ensures { IfOk result (λ refusal. refusal ≡ stopped_at position) }
+{
+    let mut parts = List::new(alloc);
+    parts.push(Datum::Number(position as u64))?;
+    Ok(Refusal { number: 14, parts })
+}
+
+// The reply where memory was wanted.
+fn memory_reply(
+    alloc: Global,
+    journal: &Journal,
+    session: u32,
+) -> Result<Option<String>, AllocError>
+    ensures { IfOk result (λ reply. option_map string_bytes reply
+        ≡ memory_reply (history_of journal.now) session) }
+{
+    if may_want_memory(journal, session) {
+        refusal_reply(alloc, &Refusal::memory(alloc))
+    } else {
+        Ok(None)
+    }
+}
+
+// Whether nothing of a session is in flight, and nothing was committed for its command.
+fn may_want_memory(journal: &Journal, session: u32) -> bool
+    ensures { result ≡ may_want_memory (history_of journal.now) session }
+{
+    let events = journal.events.as_slice();
+    if is_drawing(events, session) {
+        return false;
+    }
+    match drawn_since(events, session) {
+        Some(r) => !is_committed(events, r),
+        None => true,
+    }
+}
+
+// Whether a text refuses a command that isn't built or that the session may not run.
+fn barred_says(alloc: Global, command: &Command, text: &str) -> Result<bool, AllocError>
+    ensures { IfOk result (λ b. IsTrue b ↔ (text.now ≡ no_support command.now)) }
+{
+    let reply = cause_reply(alloc, &unsupported(alloc, command.word()))?;
+    Ok(is_reply(reply, text))
+}
+
+// Whether a text is a reply to a command that the session may run, beside those that every command
+// may have.
+fn allowed_says(
+    alloc: Global,
+    law: &JcrLaw,
+    journal: &Journal,
+    session: u32,
+    command: &Command,
+    text: &str,
+) -> Result<bool, AllocError>
+    ensures { IfOk result (λ b. IsTrue b
+        ↔ AllowedCause law.now (history_of journal.now) session command.now text.now) }
+{
+    if viewed_says(alloc, law, journal, session, command, text)? {
+        return Ok(true);
+    }
+    if commit_says(alloc, law, journal, session, command, text)? {
+        return Ok(true);
+    }
+    own_says(alloc, law, journal, session, command, text)
+}
+
+// Whether the command is answered by the view, and a text is its answer.
+fn viewed_says(
+    alloc: Global,
+    law: &JcrLaw,
+    journal: &Journal,
+    session: u32,
+    command: &Command,
+    text: &str,
+) -> Result<bool, AllocError>
+    ensures { IfOk result (λ b. IsTrue b ↔ (IsTrue (is_viewed command.now)
+        × ViewCause law.now (history_of journal.now) session command.now text.now)) }
+{
+    if is_viewed(command) {
+        view_says(alloc, law, journal, session, command, text)
+    } else {
+        Ok(false)
+    }
+}
+
+// Whether a text is a reply of a command's own, beside the view's and those of commits.
+fn own_says(
+    alloc: Global,
+    law: &JcrLaw,
+    journal: &Journal,
+    session: u32,
+    command: &Command,
+    text: &str,
+) -> Result<bool, AllocError>
+    ensures { IfOk result (λ b. IsTrue b
+        ↔ OwnCause law.now (history_of journal.now) session command.now text.now) }
+{
+    let events = journal.events.as_slice();
+    match command {
+        Command::Head => vector_says(alloc, base_of(events, session), text),
+        Command::Refresh(_) => vector_says(alloc, refreshed_since(events, session), text),
+        _ => task_says(alloc, law, journal, session, command, text),
+    }
+}
+
+// Whether a text shows a vector, where there is one.
+fn vector_says(alloc: Global, vector: Option<RevVec>, text: &str) -> Result<bool, AllocError>
+    ensures { IfOk result (λ b. IsTrue b ↔ (option_map vector_text vector ≡ Some text.now)) }
+{
+    match vector {
+        Some(v) => shows_vector(alloc, &v, text),
+        None => Ok(false),
+    }
+}
+
+fn shows_vector(alloc: Global, v: &RevVec, text: &str) -> Result<bool, AllocError>
+    ensures { IfOk result (λ b. IsTrue b ↔ (text.now ≡ vector_text v.now)) }
+{
+    let shown = vector_reply(alloc, v)?;
+    Ok(shown.as_str() == text)
+}

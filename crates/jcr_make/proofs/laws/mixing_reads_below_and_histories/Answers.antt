@@ -1,5 +1,0 @@
-use Rattle.jcr_make.proofs.ReadBelow.{mixin_same}
-use Rattle.jcr_make.proofs.laws.mixing_reads_below_and_histories.Goals as goal
-
-pub returns : goal.returns
-returns c = mixin_same
