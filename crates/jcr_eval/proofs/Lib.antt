@@ -1,13 +1,14 @@
-pub mod Came
-pub mod Causes
 mod Childless
-pub mod Events
 mod Identifiers
+mod States
+mod Viewed
+pub mod Causes
 pub mod Iffs
 pub mod Known
 pub mod NoFloat
 pub mod Options
+pub mod Passing
 pub mod QueryCauses
-mod States
+pub mod Refusing
+pub mod Showing
 pub mod TaskCauses
-mod Viewed

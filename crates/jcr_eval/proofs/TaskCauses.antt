@@ -1,11 +1,12 @@
 -- The causes of replies of commands of the cluster and of observation, decided of what came since they began.
 use Rattle.std.proofs.Common.{◌≡◌, ℕ, ◌+◌, Bool, true, false, not, ◌&&◌, ◌||◌, ◌⊎◌, inl, inr, List, [], Option, None, Some, refl, sym, ap, subst, ◌∙◌}
-use Rattle.std.specs.Prelude.{◌↔◌, ◌×◌, ◌==◌, bytes_eq, slice_get, Contains, IsTrue, is_none}
+use Rattle.std.specs.Prelude.{◌↔◌, ◌==◌, bytes_eq, slice_get, Contains, IfOk, IsTrue, Result, is_none}
 use Rattle.std.specs.Bool.{Decides}
 use Rattle.std.specs.List.{list_any}
 use Rattle.std.specs.Option.{option_map_or}
 use Rattle.std.proofs.lemmas.Bool.{true≢false}
 use Rattle.std.proofs.lemmas.Bool.Decides.{Decides-eqb}
+use Rattle.std.proofs.lemmas.Result.{IfOk-weaker}
 use Rattle.std.proofs.lemmas.Slice.Eq.{bytes_eq-Decides}
 use Rattle.jr_path.specs.declared.path.Path.{Path}
 use Rattle.jr_path.specs.declared.text.Text.{Text}
@@ -21,6 +22,7 @@ use Rattle.oak_machine.specs.Sessions.{base_of, is_stop_of, is_stopped, since}
 use Rattle.jcr_ref.specs.Drawn.{too_many_ids}
 use Rattle.jcr_trans.specs.Answers.{Done, ShowsRevision, ShowsText, ShowsVector}
 use Rattle.jcr_trans.specs.Texts.{answer_text, ok_text}
+use Rattle.jcr_trans.specs.declared.command.Command.{Command}
 use Rattle.jcr_trans.specs.declared.command.Command.TheVariants as command
 use Rattle.jcr_law.specs.declared.law.JcrLaw.{JcrLaw}
 use Rattle.jcr_law.specs.declared.state.Cursor.{Cursor}
@@ -29,11 +31,11 @@ use Rattle.jcr_law.specs.Queries.{events_reply, events_since}
 use Rattle.jcr_law.specs.Since.{before_turn, came, detached_among, is_pinning}
 use Rattle.jcr_law.specs.State.{Call, call_of, next_id}
 use Rattle.jcr_law.specs.Tasks.{collected_data, finds_stopped, is_out, is_recovering, is_sweep, misses, split_data, split_refusal}
-use Rattle.jcr_eval.proofs.Came.{Passed, and_parts, and_whole, came_any, came_contains, came_some, contains_came, false_of, or_left, or_parts, or_right, some_came}
-use Rattle.jcr_eval.proofs.Events.{attach_is, attach_passes, collection_is, collection_shown, in_is, in_shown, is_shown, keep_is, keep_passes, out_is, out_shown, recovery_is, recovery_shown, release_is, release_passes, shown_is, split_is, split_shown, sweep_is, sweep_shown}
+use Rattle.jcr_eval.proofs.Passing.{Passed, and_parts, and_whole, came_any, came_contains, came_some, contains_came, false_of, or_left, or_parts, or_right, some_came}
+use Rattle.jcr_eval.proofs.Showing.{attach_is, attach_passes, collection_is, collection_shown, in_is, in_shown, is_shown, keep_is, keep_passes, out_is, out_shown, recovery_is, recovery_shown, release_is, release_passes, shown_is, split_is, split_shown, sweep_is, sweep_shown}
 use Rattle.jcr_eval.specs.Said.{has_in, has_out, has_sweep, is_own, refuses_checkpoint, refuses_id, refuses_split, says_attach, says_checkpoint, says_collect, says_detach, says_events, says_in, says_observe, says_out, says_recover, says_release, says_split, says_stop, says_sweep, shows_checkpoint, shows_events, shows_vector}
 use Rattle.jcr_eval.specs.Shown.{attaches, is_answer, is_refusal, keeps, releases, shows_collection, shows_in, shows_out, shows_recovery, shows_split, shows_sweep}
-use Rattle.jcr_eval.specs.TaskCauses.{AttachCause, CheckpointCause, CollectCause, DetachCause, EventsCause, InCause, ObserveCause, OutCause, RecoverCause, ReleaseCause, SplitCause, StopCause, SweepCause}
+use Rattle.jcr_eval.specs.TaskCauses.{AttachCause, CheckpointCause, CollectCause, DetachCause, EventsCause, InCause, ObserveCause, OutCause, RecoverCause, ReleaseCause, SplitCause, StopCause, SweepCause, TaskCause}
 
 abbrev Said : Bool → Type 0 → Type 0
 Said b P = IsTrue b ↔ P
@@ -293,3 +295,27 @@ module _ (h : History) (s : ℕ) (text : List ℕ) where
       none_is : (o : Option Cursor) → is_none o ≡ true → o ≡ None
       none_is None k = refl
       none_is (Some x) k = absurd (true≢false (sym k))
+
+  -- of a number that no cluster node can have there is none
+  pub any_stop_said : (law : JcrLaw) (o : Option ℕ) → Said (option_map_or (λ k. says_stop h s k text) o false) (TaskCause law h s (command.Stop o) text)
+  any_stop_said law (Some k) = stop_said k
+  any_stop_said law None = (λ t. true≢false (sym t), λ c. absurd c)
+
+  pub any_recover_said : (law : JcrLaw) (o : Option ℕ) → Said (option_map_or (λ k. says_recover h s k text) o false) (TaskCause law h s (command.Recover o) text)
+  any_recover_said law (Some k) = recover_said k
+  any_recover_said law None = (λ t. true≢false (sym t), λ c. absurd c)
+
+-- a command by what it is, and a test by what it says
+pub task_said : (law : JcrLaw) (h : History) (s : ℕ) (m n : Command) (text : List ℕ) (r said : Bool) → m ≡ n → r ≡ said → Said said (TaskCause law h s n text) → Said r (TaskCause law h s m text)
+task_said law h s m n text r said is was decides = (
+  λ t. subst (λ (x : Command). TaskCause law h s x text) (sym is) (decides.0 (sym was ∙ t)),
+  λ c. was ∙ decides.1 (subst (λ (x : Command). TaskCause law h s x text) is c),
+)
+
+pub task_read : {E : Type 0} (law : JcrLaw) (h : History) (s : ℕ) (m n : Command) (text : List ℕ) (r : Result Bool E) (said : Bool) → m ≡ n → Said said (TaskCause law h s n text)
+    → IfOk r (λ b. b ≡ said) → IfOk r (λ b. Said b (TaskCause law h s m text))
+task_read law h s m n text r said is decides ok = IfOk-weaker r _ _ (λ b was. task_said law h s m n text b said is was decides) ok
+
+pub task_asked : {E : Type 0} (law : JcrLaw) (h : History) (s : ℕ) (m n : Command) (text : List ℕ) (r : Result Bool E) → m ≡ n
+    → IfOk r (λ b. Said b (TaskCause law h s n text)) → IfOk r (λ b. Said b (TaskCause law h s m text))
+task_asked law h s m n text r is ok = IfOk-weaker r _ _ (λ b said. subst (λ (x : Command). Said b (TaskCause law h s x text)) (sym is) said) ok

@@ -47,10 +47,14 @@ has_sweep h s text k =
 abbrev pub says_sweep : History → ℕ → List ℕ → Bool
 says_sweep h s text = option_map_or (has_sweep h s text) (slice_get h.sessions s) false
 
--- a checkpoint of the base was made under the next identifier, which is shown
+-- a checkpoint was made at a vector under an id, which is shown
+abbrev pub shows_kept : Past → ℕ → List ℕ → Text → RevVec → Bool
+shows_kept past s text id v =
+    came s (λ earlier e. keeps id v e) past && is_answer text (ShowsText id)
+
+-- so at the base, under the next identifier
 abbrev pub shows_checkpoint : Past → ℕ → List ℕ → Who → Bool
-shows_checkpoint past s text who = came s (λ earlier e. keeps (next_id who) who.base e) past
-    && is_answer text (ShowsText (next_id who))
+shows_checkpoint past s text who = shows_kept past s text (next_id who) who.base
 
 -- the text refuses one identifier more
 abbrev pub refuses_id : List ℕ → Who → Bool

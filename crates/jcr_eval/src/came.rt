@@ -25,7 +25,8 @@ pub(crate) fn has_pin(events: &[Event], session: u32) -> bool
 {
     let mut pinned = false;
     for at in 0..events.len() {
-        pinned = !is_beginning(&events[at], session) && (is_pinning(&events[at], session) || pinned);
+        pinned = !is_beginning(&events[at], session)
+            && (is_pinning(&events[at], session) || pinned);
     }
     pinned
 }
@@ -92,8 +93,8 @@ pub(crate) fn has_stop(events: &[Event], session: u32, cluster: u64) -> bool
 {
     let mut stopped = false;
     for at in 0..events.len() {
-        stopped =
-            !is_beginning(&events[at], session) && (is_stop_of(&events[at], cluster) || stopped);
+        stopped = !is_beginning(&events[at], session)
+            && (is_stop_of(&events[at], cluster) || stopped);
     }
     stopped
 }
@@ -116,7 +117,8 @@ pub(crate) fn has_out(
     least: Revision,
     text: &str,
 ) -> bool
-    ensures { result ≡ came session (λ earlier e. shows_out cluster least text.now e) (reverse events.now) }
+    ensures { result
+        ≡ came session (λ earlier e. shows_out cluster least text.now e) (reverse events.now) }
 {
     let mut shown = false;
     for at in 0..events.len() {
@@ -144,7 +146,8 @@ pub(crate) fn has_sweep(
     least: Revision,
     text: &str,
 ) -> bool
-    ensures { result ≡ came session (λ earlier e. shows_sweep cluster least text.now e) (reverse events.now) }
+    ensures { result
+        ≡ came session (λ earlier e. shows_sweep cluster least text.now e) (reverse events.now) }
 {
     let mut shown = false;
     for at in 0..events.len() {
@@ -292,7 +295,8 @@ pub(crate) fn has_in(
     text: &str,
 ) -> Result<bool, AllocError>
     ensures { let h = history_of journal.now in IfOk result (λ shown. shown ≡ came session
-        (λ earlier e. shows_in h.clusters h.begin (before_turn h.past session) cluster text.now e) h.past) }
+        (λ earlier e. shows_in h.clusters h.begin (before_turn h.past session) cluster text.now e)
+        h.past) }
 {
     let events = journal.events.as_slice();
     let before = before_turn(events, session);
@@ -337,22 +341,18 @@ fn knows_published(journal: &Journal, before: &[Event], cluster: u32, v: &RevVec
 }
 
 // The same of one cluster node.
-fn knows_one(
-    journal: &Journal,
-    before: &[Event],
-    cluster: u32,
-    other: u32,
-    v: &RevVec,
-) -> bool
+fn knows_one(journal: &Journal, before: &[Event], cluster: u32, other: u32, v: &RevVec) -> bool
     ensures { result ≡ ((other == cluster) || option_map_or
-        (is_at_most (published journal.now.start (reverse before.now) other)) (entry v.now other) false) }
+        (is_at_most (published journal.now.start (reverse before.now) other))
+        (entry v.now other) false) }
 {
     other == cluster || has_published(journal, before, other, v)
 }
 
 fn has_published(journal: &Journal, before: &[Event], other: u32, v: &RevVec) -> bool
     ensures { result ≡ option_map_or
-        (is_at_most (published journal.now.start (reverse before.now) other)) (entry v.now other) false }
+        (is_at_most (published journal.now.start (reverse before.now) other))
+        (entry v.now other) false }
 {
     match v.get(other) {
         Some(r) => published(journal, before, other) <= r,

@@ -24,9 +24,22 @@ pub(crate) fn events_says(
 ) -> Result<bool, AllocError>
     ensures { IfOk result (λ b. b ≡ says_events law.now (history_of journal.now) session text.now) }
 {
-    match call_of(alloc, law, &journal.start, journal.events.as_slice(), session)? {
+    match call_of(
+        alloc,
+        law,
+        &journal.start,
+        journal.events.as_slice(),
+        session,
+    )? {
         Some(call) => {
-            shows_events(alloc, journal, session, text, &call.who.base, &call.state.cursor)
+            shows_events(
+                alloc,
+                journal,
+                session,
+                text,
+                &call.who.base,
+                &call.state.cursor,
+            )
         }
         None => Ok(false),
     }

@@ -2,6 +2,7 @@
 ghost use Rattle.std.specs.Prelude.{◌≡◌, ◌≢◌, ◌↔◌, IfOk, IsTrue, OnOk, bytes_eq, is_none, map};
 ghost use Rattle.std.specs.Option.{option_copied};
 ghost use Rattle.oak_machine.specs.History.{history_of};
+ghost use Rattle.jr_items.specs.Refusals.{no_query, no_type, wrong_kind};
 ghost use Rattle.jr_types.specs.Types.{subtypes, type_named};
 ghost use Rattle.sql_parse.specs.declared.fault.SqlFault.TheVariants.{Memory};
 ghost use Rattle.sql_eval.specs.RowTexts.{rows_data};
@@ -9,6 +10,7 @@ ghost use Rattle.sql_eval.specs.Rows.{AreRows};
 ghost use Rattle.jcr_trans.specs.Texts.{ok_text};
 ghost use Rattle.jcr_law.specs.Queries.{unknown_selector};
 ghost use Rattle.jcr_eval.specs.Asked.{AnswersQuery, IsReadSo, ShowsRows, refuses_fault};
+ghost use Rattle.jcr_eval.specs.Shown.{is_refusal};
 ghost use Rattle.jcr_eval.specs.TaskCauses.{QueryCause};
 
 use crate::call::call_of;
@@ -18,7 +20,7 @@ use jr_items::{no_query, no_type, wrong_kind};
 use jr_path::{DeepCopy, Keyed, Name, Text};
 use jr_tree::Tree;
 use jr_types::Registry;
-use jr_value::Value;
+use jr_value::{Kind, Value};
 use oak_machine::Journal;
 use sql_eval::{Row, rows, rows_are_one, rows_text};
 use sql_parse::{Query, SqlFault, parse};
@@ -36,7 +38,13 @@ pub(crate) fn query_says(
     ensures { IfOk result (λ b. IsTrue b
         ↔ QueryCause law.now (history_of journal.now) session query.now vars.now text.now) }
 {
-    match call_of(alloc, law, &journal.start, journal.events.as_slice(), session)? {
+    match call_of(
+        alloc,
+        law,
+        &journal.start,
+        journal.events.as_slice(),
+        session,
+    )? {
         Some(call) => answers(alloc, &law.types, &call.base, query, vars, text),
         None => Ok(false),
     }
@@ -77,10 +85,31 @@ fn answers_fault(alloc: Global, fault: SqlFault, text: &str) -> Result<bool, All
     ensures read { OnOk result (fault ≢ Memory) }
 {
     match fault {
-        SqlFault::InvalidQuery(offset) => is_refusal(alloc, text, &no_query(alloc, offset)),
-        SqlFault::Cast(asked, given) => is_refusal(alloc, text, &wrong_kind(alloc, asked, given)),
+        SqlFault::InvalidQuery(offset) => is_no_query(alloc, offset, text),
+        SqlFault::Cast(asked, given) => is_wrong_kind(alloc, asked, given, text),
         SqlFault::Memory => Err(AllocError),
     }
+}
+
+fn is_no_query(alloc: Global, offset: usize, text: &str) -> Result<bool, AllocError>
+    ensures { IfOk result (λ b. b ≡ is_refusal text.now (no_query offset)) }
+{
+    let refusal = no_query(alloc, offset);
+    is_refusal(alloc, text, &refusal)
+}
+
+fn is_wrong_kind(alloc: Global, asked: Kind, given: Kind, text: &str) -> Result<bool, AllocError>
+    ensures { IfOk result (λ b. b ≡ is_refusal text.now (wrong_kind asked given)) }
+{
+    let refusal = wrong_kind(alloc, asked, given);
+    is_refusal(alloc, text, &refusal)
+}
+
+fn is_no_type(alloc: Global, name: &Name, text: &str) -> Result<bool, AllocError>
+    ensures { IfOk result (λ b. b ≡ is_refusal text.now (no_type name.now)) }
+{
+    let refusal = no_type(alloc, name);
+    is_refusal(alloc, text, &refusal)
 }
 
 // Whether the text is what a query that was read answers.
@@ -94,7 +123,7 @@ fn answers_query(
     ensures { IfOk result (λ b. IsTrue b ↔ AnswersQuery types.now base.now query.now text.now) }
 {
     match unknown_selector(types, query) {
-        Some(name) => is_refusal(alloc, text, &no_type(alloc, name)),
+        Some(name) => is_no_type(alloc, name, text),
         None => shows_rows(alloc, types, base, query, text),
     }
 }
@@ -103,7 +132,10 @@ fn answers_query(
 fn unknown_selector<'a>(types: &Registry, query: &'a Query) -> Option<&'a Name>
     ensures { option_copied result ≡ unknown_selector types.now query.now }
 {
-    query.selector_types().iter().find(|name| is_unknown(types, name))
+    query
+        .selector_types()
+        .iter()
+        .find(|name| is_unknown(types, name))
 }
 
 fn is_unknown(types: &Registry, name: &Name) -> bool
@@ -150,7 +182,8 @@ fn rows_of(
 
 // The names of the types of each selector.
 fn sets_of(alloc: Global, types: &Registry, names: &[Name]) -> Result<Vec<Vec<Name>>, AllocError>
-    ensures { IfOk result (λ sets. map (λ set. set.items) sets.items ≡ map (subtypes types.now) names.now) }
+    ensures { IfOk result (λ sets. map (λ set. set.items) sets.items
+        ≡ map (subtypes types.now) names.now) }
 {
     let mut sets = Vec::new(alloc);
     for name in names {

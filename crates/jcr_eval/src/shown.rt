@@ -3,7 +3,7 @@ ghost use Rattle.std.specs.Prelude.{◌≡◌, IfOk, OnOk, bytes_eq, false, map,
 ghost use Rattle.serde_json.specs.Data.{array, no_members, object, put};
 ghost use Rattle.serde_json.specs.View.{items_of, members_view, view};
 ghost use Rattle.serde_json.specs.Written.{has_float};
-ghost use Rattle.jr_items.specs.Refusals.{IsOrMemory};
+ghost use Rattle.jr_items.specs.Refusals.{out_of_memory};
 ghost use Rattle.jcr_trans.specs.Answers.{Done, ShowsRevision, ShowsText, ShowsVector};
 ghost use Rattle.jcr_trans.specs.Texts.{ok_text};
 ghost use Rattle.jcr_law.specs.Tasks.{collected_data, skip_data, skipped_data, split_data};
@@ -46,7 +46,8 @@ pub(crate) fn is_text(alloc: Global, text: &str, shown: &str) -> Result<bool, Al
 
 // Whether a text refuses so. Where memory was wanted for the refusal, it is wanted here.
 pub(crate) fn is_refusal(alloc: Global, text: &str, refusal: &Refusal) -> Result<bool, AllocError>
-    ensures { IfOk result (λ is. (cause : _) → IsOrMemory cause refusal.now → is ≡ is_refusal text.now cause) }
+    ensures { IfOk result (λ is. ¬ (refusal.now ≡ out_of_memory)
+        × (is ≡ is_refusal text.now refusal.now)) }
 {
     if refusal.number == 16 {
         return Err(AllocError);
@@ -66,11 +67,7 @@ pub(crate) fn is_split_end(alloc: Global, text: &str, end: &SplitEnd) -> Result<
 
 // Whether a text shows what a collection did.
 #[tactic(auto, using(crate::proofs::NoFloat::collected_plain))]
-pub(crate) fn is_collected(
-    alloc: Global,
-    text: &str,
-    done: &Collected,
-) -> Result<bool, AllocError>
+pub(crate) fn is_collected(alloc: Global, text: &str, done: &Collected) -> Result<bool, AllocError>
     ensures { IfOk result (λ is. is ≡ bytes_eq text.now (ok_text (collected_data done.now))) }
 {
     let json = collected_json(alloc, done)?;

@@ -1,21 +1,22 @@
 // What the commands of the cluster, queries and those of observation may be answered with.
-ghost use Rattle.std.specs.Prelude.{◌≡◌, ◌↔◌, ◌||◌, IfErr, IfOk, IsTrue, None, OnOk, false, reverse, slice_get};
+ghost use Rattle.std.specs.Prelude.{◌≡◌, ◌↔◌, ◌+◌, ◌||◌, IfErr, IfOk, IsTrue, None, OnOk, false, reverse, slice_get};
 ghost use Rattle.std.specs.Option.{option_map_or};
-ghost use Rattle.jr_items.specs.Refusals.{IsTheRefusal, unsupported};
+ghost use Rattle.jr_items.specs.Refusals.{IsTheRefusal, no_checkpoint, unsupported};
+ghost use Rattle.jcr_ref.specs.Drawn.{too_many_ids};
 ghost use Rattle.jcr_law.specs.State.{call_of};
 ghost use Rattle.jcr_law.specs.Tasks.{split_refusal};
 ghost use Rattle.jcr_eval.specs.Shown.{is_refusal};
 ghost use Rattle.oak_machine.specs.History.{history_of};
-ghost use Rattle.jcr_eval.specs.Said.{has_in, has_out, has_sweep, is_own, refuses_checkpoint, refuses_id, refuses_split, says_attach, says_checkpoint, says_collect, says_detach, says_in, says_observe, says_out, says_recover, says_release, says_split, says_stop, says_sweep, shows_checkpoint, shows_vector};
+ghost use Rattle.jcr_eval.specs.Said.{has_in, has_out, has_sweep, is_own, refuses_checkpoint, refuses_id, refuses_split, says_attach, says_checkpoint, says_collect, says_detach, says_in, says_observe, says_out, says_recover, says_release, says_split, says_stop, says_sweep, shows_checkpoint, shows_kept, shows_vector};
 ghost use Rattle.jcr_eval.specs.TaskCauses.{TaskCause};
 
 use crate::call::call_of;
-use crate::ids::next_id;
 use crate::came::{
     detached_since, has_attached, has_collection, has_found_stopped, has_in, has_kept, has_missed,
     has_out, has_pin, has_recovery, has_released, has_split, has_stop, has_sweep,
 };
 use crate::events::events_says;
+use crate::ids::next_id;
 use crate::queries::query_says;
 use crate::shown::{is_done, is_refusal, is_text, is_vector};
 use crate::turn::before_turn;
@@ -51,9 +52,9 @@ pub(crate) fn task_says(
         Command::Release(id) => release_says(alloc, journal, session, id, text),
         Command::Detach => detach_says(alloc, journal, session, text),
         Command::Split(path) => split_says(alloc, law, journal, session, path, text),
-        Command::Collect => has_collection(alloc, journal.events.as_slice(), session, text),
-        Command::Stop(Some(cluster)) => stop_says(alloc, journal, session, *cluster, text),
-        Command::Recover(Some(cluster)) => recover_says(alloc, journal, session, *cluster, text),
+        Command::Collect => collect_says(alloc, journal, session, text),
+        Command::Stop(cluster) => any_stop_says(alloc, journal, session, *cluster, text),
+        Command::Recover(cluster) => any_recover_says(alloc, journal, session, *cluster, text),
         Command::Observe(_, _, _) => Ok(observe_says(journal, session, text)),
         Command::Events => events_says(alloc, law, journal, session, text),
         Command::Query(query, vars) => query_says(alloc, law, journal, session, query, vars, text),
@@ -89,12 +90,7 @@ fn has_own_out(journal: &Journal, session: u32, cluster: u32, text: &str) -> boo
     has_out(events, session, cluster, least, text)
 }
 
-fn in_says(
-    alloc: Global,
-    journal: &Journal,
-    session: u32,
-    text: &str,
-) -> Result<bool, AllocError>
+fn in_says(alloc: Global, journal: &Journal, session: u32, text: &str) -> Result<bool, AllocError>
     ensures { IfOk result (λ b. b ≡ says_in (history_of journal.now) session text.now) }
 {
     match cluster_of(journal, session) {
@@ -128,7 +124,8 @@ fn checkpoint_says(
     session: u32,
     text: &str,
 ) -> Result<bool, AllocError>
-    ensures { IfOk result (λ b. b ≡ says_checkpoint law.now (history_of journal.now) session text.now) }
+    ensures { IfOk result (λ b. b
+        ≡ says_checkpoint law.now (history_of journal.now) session text.now) }
 {
     let events = journal.events.as_slice();
     match call_of(alloc, law, &journal.start, events, session)? {
@@ -144,7 +141,8 @@ fn is_checkpoint_text(
     who: &Who,
     text: &str,
 ) -> Result<bool, AllocError>
-    ensures { IfOk result (λ b. b ≡ (shows_checkpoint (reverse events.now) session text.now who.now || refuses_id text.now who.now)) }
+    ensures { IfOk result (λ b. b ≡ (shows_checkpoint (reverse events.now) session text.now who.now
+        || refuses_id text.now who.now)) }
 {
     let shown = shows_checkpoint(alloc, events, session, who, text)?;
     let refused = refuses_id(alloc, who, text)?;
@@ -158,20 +156,46 @@ fn shows_checkpoint(
     who: &Who,
     text: &str,
 ) -> Result<bool, AllocError>
-    ensures { IfOk result (λ b. b ≡ shows_checkpoint (reverse events.now) session text.now who.now) }
+    ensures { IfOk result (λ b. b
+        ≡ shows_checkpoint (reverse events.now) session text.now who.now) }
 {
     let id = next_id(alloc, who)?;
+    shows_kept(alloc, events, session, &id, &who.base, text)
+}
+
+// Whether the text shows the id of a checkpoint that was made since at the vector.
+fn shows_kept(
+    alloc: Global,
+    events: &[Event],
+    session: u32,
+    id: &Text,
+    v: &RevVec,
+    text: &str,
+) -> Result<bool, AllocError>
+    ensures { IfOk result (λ b. b ≡ shows_kept (reverse events.now) session text.now id.now v.now) }
+{
     let is = is_text(alloc, text, id.as_str())?;
-    Ok(has_kept(events, session, &id, &who.base) && is)
+    Ok(has_kept(events, session, id, v) && is)
 }
 
 fn refuses_id(alloc: Global, who: &Who, text: &str) -> Result<bool, AllocError>
     ensures { IfOk result (λ b. b ≡ refuses_id text.now who.now) }
 {
-    if who.ids < MAX_IDS {
-        return Ok(false);
+    match check_id(alloc, who) {
+        Ok(()) => Ok(false),
+        Err(refusal) => is_refusal(alloc, text, &refusal),
     }
-    is_refusal(alloc, text, &over_limit(alloc, "ids", 16_777_215))
+}
+
+// A session draws one identifier more, where it hasn't drawn all.
+fn check_id(alloc: Global, who: &Who) -> Result<(), Refusal>
+    ensures ok { OnOk result (too_many_ids (who.now.ids + 1) ≡ None) }
+    ensures err { IfErr result (IsTheRefusal (too_many_ids (who.now.ids + 1))) }
+{
+    if who.ids >= MAX_IDS {
+        return Err(over_limit(alloc, "ids", 16_777_215));
+    }
+    Ok(())
 }
 
 fn attach_says(
@@ -206,10 +230,19 @@ fn refuses_checkpoint(
     id: &Text,
     text: &str,
 ) -> Result<bool, AllocError>
-    ensures { IfOk result (λ b. b ≡ refuses_checkpoint (history_of journal.now) session id.now text.now) }
+    ensures { IfOk result (λ b. b
+        ≡ refuses_checkpoint (history_of journal.now) session id.now text.now) }
 {
-    let is = is_refusal(alloc, text, &no_checkpoint(alloc, id.as_str()))?;
+    let is = is_no_checkpoint(alloc, id, text)?;
     Ok(has_missed(journal.events.as_slice(), session, id) && is)
+}
+
+// Whether the text is that there is no checkpoint of that id.
+fn is_no_checkpoint(alloc: Global, id: &Text, text: &str) -> Result<bool, AllocError>
+    ensures { IfOk result (λ b. b ≡ is_refusal text.now (no_checkpoint id.now)) }
+{
+    let refusal = no_checkpoint(alloc, id.as_str());
+    is_refusal(alloc, text, &refusal)
 }
 
 fn release_says(
@@ -234,7 +267,11 @@ fn detach_says(
 ) -> Result<bool, AllocError>
     ensures { IfOk result (λ b. b ≡ says_detach (history_of journal.now) session text.now) }
 {
-    shows_vector(alloc, text, detached_since(journal.events.as_slice(), session))
+    shows_vector(
+        alloc,
+        text,
+        detached_since(journal.events.as_slice(), session),
+    )
 }
 
 fn split_says(
@@ -245,7 +282,8 @@ fn split_says(
     path: &Path,
     text: &str,
 ) -> Result<bool, AllocError>
-    ensures { IfOk result (λ b. b ≡ says_split law.now (history_of journal.now) session path.now text.now) }
+    ensures { IfOk result (λ b. b
+        ≡ says_split law.now (history_of journal.now) session path.now text.now) }
 {
     let shown = has_split(alloc, journal.events.as_slice(), session, path, text)?;
     let refused = refuses_split_of(alloc, law, journal, session, path, text)?;
@@ -262,9 +300,16 @@ fn refuses_split_of(
     text: &str,
 ) -> Result<bool, AllocError>
     ensures { let h = history_of journal.now in IfOk result (λ b. b ≡ option_map_or
-        (λ c. refuses_split path.now text.now c.base) (call_of law.now h.begin h.past session) false) }
+        (λ c. refuses_split path.now text.now c.base)
+        (call_of law.now h.begin h.past session) false) }
 {
-    match call_of(alloc, law, &journal.start, journal.events.as_slice(), session)? {
+    match call_of(
+        alloc,
+        law,
+        &journal.start,
+        journal.events.as_slice(),
+        session,
+    )? {
         Some(call) => refuses_split(alloc, &call.base, path, text),
         None => Ok(false),
     }
@@ -286,6 +331,33 @@ fn check_split(alloc: Global, tree: &Tree, path: &Path) -> Result<(), Refusal>
 {
     check_limits(alloc, path)?;
     check_node(alloc, tree, path)
+}
+
+fn collect_says(
+    alloc: Global,
+    journal: &Journal,
+    session: u32,
+    text: &str,
+) -> Result<bool, AllocError>
+    ensures { IfOk result (λ b. b ≡ says_collect (history_of journal.now) session text.now) }
+{
+    has_collection(alloc, journal.events.as_slice(), session, text)
+}
+
+fn any_stop_says(
+    alloc: Global,
+    journal: &Journal,
+    session: u32,
+    cluster: Option<u64>,
+    text: &str,
+) -> Result<bool, AllocError>
+    ensures { let h = history_of journal.now in IfOk result (λ b. b
+        ≡ option_map_or (λ k. says_stop h session k text.now) cluster false) }
+{
+    match cluster {
+        Some(cluster) => stop_says(alloc, journal, session, cluster, text),
+        None => Ok(false),
+    }
 }
 
 fn stop_says(
@@ -317,7 +389,24 @@ fn is_own(journal: &Journal, session: u32, cluster: u64) -> bool
 fn is_unsupported(alloc: Global, text: &str, word: &str) -> Result<bool, AllocError>
     ensures { IfOk result (λ b. b ≡ is_refusal text.now (unsupported word.now)) }
 {
-    is_refusal(alloc, text, &unsupported(alloc, word))
+    let refusal = unsupported(alloc, word);
+    is_refusal(alloc, text, &refusal)
+}
+
+fn any_recover_says(
+    alloc: Global,
+    journal: &Journal,
+    session: u32,
+    cluster: Option<u64>,
+    text: &str,
+) -> Result<bool, AllocError>
+    ensures { let h = history_of journal.now in IfOk result (λ b. b
+        ≡ option_map_or (λ k. says_recover h session k text.now) cluster false) }
+{
+    match cluster {
+        Some(cluster) => recover_says(alloc, journal, session, cluster, text),
+        None => Ok(false),
+    }
 }
 
 fn recover_says(
@@ -327,7 +416,8 @@ fn recover_says(
     cluster: u64,
     text: &str,
 ) -> Result<bool, AllocError>
-    ensures { IfOk result (λ b. b ≡ says_recover (history_of journal.now) session cluster text.now) }
+    ensures { IfOk result (λ b. b
+        ≡ says_recover (history_of journal.now) session cluster text.now) }
 {
     let events = journal.events.as_slice();
     let lacking = is_unsupported(alloc, text, "recover")?;

@@ -14,5 +14,6 @@ pub fn rows_are_one()
 
 /// Queries that are the same but for where their parts lie in memory have the same rows.
 pub fn same_queries_have_same_rows()
-    ensures { (q r : Query) (sets : Seq (Seq Name)) (tree : Nodes) (rows : Seq Row) → asked_of q ≡ asked_of r → AreRows q sets tree rows → AreRows r sets tree rows }
+    ensures { (q r : Query) (sets : Seq (Seq Name)) (tree : Nodes) (rows : Seq Row)
+        → asked_of q ≡ asked_of r → AreRows q sets tree rows → AreRows r sets tree rows }
 {}

@@ -8,5 +8,6 @@ ghost use Rattle.sql_parse.specs.declared.query.Query.{Query};
 
 /// A text is answered in one way: `parse` can answer no other, but for where the parts of the query lie in memory.
 pub fn answers_are_one()
-    ensures { (text : Seq ℕ) (vars : Seq (Seq ℕ × Value)) (a b : Result Query SqlFault) → IsParsed text vars a → IsParsed text vars b → AreSame a b }
+    ensures { (text : Seq ℕ) (vars : Seq (Seq ℕ × Value)) (a b : Result Query SqlFault)
+        → IsParsed text vars a → IsParsed text vars b → AreSame a b }
 {}

@@ -91,20 +91,22 @@ nothing_in e (k, less, is) = omega arith
 
 pub contains_came : (s : ℕ) (past : Past) (e : Event) → Contains (since past s) e → (earlier : Past) × CameAt s past earlier e
 contains_came s [] e h = absurd (nothing_in e h)
-contains_came s (x ∷ past) e h = by (is_beginning s x) refl h
+contains_came s (x ∷ past) e h = by (is_beginning s x) refl h (contains_came s past e)
   where
-    by : (b : Bool) → is_beginning s x ≡ b → Contains (cond b [] (x ∷ since past s)) e → (earlier : Past) × CameAt s (x ∷ past) earlier e
-    by true is k = absurd (nothing_in e k)
-    by false is k = elim (Contains-append_cases (x ∷ []) (since past s) e k) [
-      | inl one ↦ (past, is, inl (refl, of_one x e one))
-      | inr more ↦ let q = contains_came s past e more in (q.0, is, inr q.1)
+    by : (b : Bool) → is_beginning s x ≡ b → Contains (cond b [] (x ∷ since past s)) e → (Contains (since past s) e → (earlier : Past) × CameAt s past earlier e)
+        → (earlier : Past) × CameAt s (x ∷ past) earlier e
+    by true is k rest = absurd (nothing_in e k)
+    by false is k rest = elim (Contains-append_cases (x ∷ []) (since past s) e k) [
+      | inl one ↦ (past, (is, inl (refl, of_one x e one)))
+      | inr more ↦ let q = rest more in (q.0, (is, inr q.1))
     ]
 
 -- the events since that pass a test of the event alone
 pub came_any : (s : ℕ) (test : Event → Bool) (past : Past) → came s (λ earlier e. test e) past ≡ list_any test (since past s)
 came_any s test [] = refl
-came_any s test (x ∷ past) = by (is_beginning s x)
+came_any s test (x ∷ past) = by (is_beginning s x) (came_any s test past)
   where
-    by : (b : Bool) → (not b && (test x || came s (λ earlier e. test e) past)) ≡ list_any test (cond b [] (x ∷ since past s))
-    by true = refl
-    by false = ap (λ (r : Bool). test x || r) (came_any s test past)
+    by : (b : Bool) → came s (λ earlier e. test e) past ≡ list_any test (since past s)
+        → (not b && (test x || came s (λ earlier e. test e) past)) ≡ list_any test (cond b [] (x ∷ since past s))
+    by true rest = refl
+    by false rest = ap (λ (r : Bool). test x || r) rest
