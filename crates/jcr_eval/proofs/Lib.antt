@@ -4,4 +4,11 @@ mod States
 mod Viewed
 pub mod Causes
 pub mod Iffs
+pub mod Known
+pub mod NoFloat
 pub mod Options
+pub mod Passing
+pub mod QueryCauses
+pub mod Refusing
+pub mod Showing
+pub mod TaskCauses

@@ -5,10 +5,14 @@
 
 mod built;
 mod call;
+mod came;
 mod commits;
+mod events;
 mod ids;
+mod queries;
 mod replies;
 mod say;
+mod shown;
 mod since;
 mod state;
 mod tasks;

@@ -59,8 +59,9 @@ fn begin_of(journal: &Journal, cluster: u32) -> Revision
     own
 }
 
-// The greatest of them, or what the cluster node begins from.
-pub(crate) fn local(journal: &Journal, events: &[Event], cluster: u32) -> Revision
+/// The greatest revision that a cluster node drew below every one of it in flight, or what it begins from (Oak,
+/// DocumentNodeStore: Revisions). It goes over all the events, which are of the journal.
+pub fn local(journal: &Journal, events: &[Event], cluster: u32) -> Revision
     ensures greatest { result ≡ local journal.now.start (reverse events.now) cluster }
     ensures own { result.cluster ≡ cluster }
 {
@@ -116,8 +117,9 @@ fn greater_of(a: Revision, b: Revision) -> Revision
     if a < b { b } else { a }
 }
 
-// The greatest revision that a cluster node has published, or what it begins from.
-pub(crate) fn published(journal: &Journal, events: &[Event], cluster: u32) -> Revision
+/// The greatest revision that a cluster node has published, or what it begins from (Oak, Background Operations). It goes
+/// over all the events, which are of the journal.
+pub fn published(journal: &Journal, events: &[Event], cluster: u32) -> Revision
     ensures { result ≡ published journal.now.start (reverse events.now) cluster }
 {
     let mut published = begin_of(journal, cluster);

@@ -55,9 +55,9 @@ pub fn last_checkpoint(events: &[Event], id: &Text) -> Option<RevVec>
     last
 }
 
-// The checkpoint of that id, where it was not released since.
+/// The checkpoint of that id, where it was not released since (Oak, Checkpoints).
 #[tactic(auto, using(oak_machine::proofs::Forward::past_more))]
-pub(crate) fn kept_checkpoint(events: &[Event], id: &Text) -> Option<RevVec>
+pub fn kept_checkpoint(events: &[Event], id: &Text) -> Option<RevVec>
     ensures { result ≡ kept_checkpoint (reverse events.now) id.now }
 {
     let mut kept = None;
@@ -169,14 +169,21 @@ pub fn is_drawing(events: &[Event], session: u32) -> bool
 }
 
 // Whether a cluster node was stopped.
-#[tactic(auto, using(oak_machine::proofs::Forward::past_more))]
 pub(crate) fn is_stopped(events: &[Event], cluster: u32) -> bool
+    ensures { result ≡ is_stopped (reverse events.now) cluster }
+{
+    was_stopped(events, u64::from(cluster))
+}
+
+/// Whether a cluster node was stopped; its number may be one that no cluster node has.
+#[tactic(auto, using(oak_machine::proofs::Forward::past_more))]
+pub fn was_stopped(events: &[Event], cluster: u64) -> bool
     ensures { result ≡ is_stopped (reverse events.now) cluster }
 {
     let mut stopped = false;
     for event in events {
         if let Event::Stop(of) = event {
-            if *of == cluster {
+            if u64::from(*of) == cluster {
                 stopped = true;
             }
         }
@@ -184,9 +191,9 @@ pub(crate) fn is_stopped(events: &[Event], cluster: u32) -> bool
     stopped
 }
 
-// Whether a cluster node was recovered.
+/// Whether a cluster node was recovered.
 #[tactic(auto, using(oak_machine::proofs::Forward::past_more))]
-pub(crate) fn is_recovered(events: &[Event], cluster: u32) -> bool
+pub fn is_recovered(events: &[Event], cluster: u32) -> bool
     ensures { result ≡ is_recovered (reverse events.now) cluster }
 {
     let mut recovered = false;

@@ -73,7 +73,7 @@ pub fn begin_tree(alloc: Global, start: &Option<Start>) -> Result<Tree, AllocErr
 
 // The writes of each committed revision.
 #[tactic(auto, using(oak_machine::proofs::Forward::past_more))]
-fn committed_edits(
+pub(crate) fn committed_edits(
     alloc: Global,
     events: &[Event],
 ) -> Result<Keyed<Revision, List<Write>>, AllocError>

@@ -6,3 +6,4 @@ pub mod Places
 pub mod OneOrder
 pub mod OneRows
 pub mod PlainRows
+pub mod SameQuery

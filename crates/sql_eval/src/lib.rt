@@ -21,7 +21,7 @@ pub use compare::{kinds_first, values_in};
 pub use condition::holds;
 pub use evaluate::{rows, rows_in_order, that_pass};
 pub use join::{has_type, joins, singles, type_properties};
-pub use laws::rows_are_one;
+pub use laws::{rows_are_one, same_queries_have_same_rows};
 pub use row::{Cell, Row};
 pub use text::rows_text;
 pub use tuple::{Spot, Tuple, property_in};

@@ -4,3 +4,4 @@ pub mod Leaves
 pub mod Pieces
 pub mod Reading
 pub mod Trees
+pub mod Answers

@@ -6,6 +6,7 @@ mod conditions;
 mod cursor;
 mod depth;
 mod fault;
+mod laws;
 mod leaves;
 mod names;
 mod operands;
@@ -17,6 +18,7 @@ mod query;
 mod sources;
 
 pub use fault::SqlFault;
+pub use laws::answers_are_one;
 pub use parser::parse;
 pub use query::{
     Column, Condition, DEEPEST, Direction, Join, JoinKind, On, Operand, Operator, Order,

@@ -1,0 +1,8 @@
+use Rattle.std.proofs.Common.{◌≡◌, Bool, reverse, subst}
+use Rattle.std.specs.Prelude.{IfOk}
+use Rattle.jr_path.specs.declared.text.Text.{Text}
+use Rattle.jcr_eval.specs.Said.{shows_kept}
+use Rattle.jcr_eval.proofs.tasks.shows_checkpoint.Goals as goal
+
+pub returns : goal.returns
+returns c = subst (λ (id : Text). IfOk c.shows_kept.result (λ b. b ≡ shows_kept (reverse c.args.events.now) c.args.session c.args.text.now id c.args.who.now.base)) c.in_ok-id.ensures c.shows_kept.ensures
