@@ -14,4 +14,5 @@ mod Needed
 mod OnePass
 mod Replied
 mod Rounds
+mod RoundsEnd
 mod WholeLacks

@@ -119,13 +119,13 @@ module _ (k : Knowledge) (p : Path) where
 -- ---- rounds one after another
 
 module _ (t : Nodes) where
-  answer_known : (k : Knowledge) (load : Need) → is_of_one_node load ≡ true → knows (answered t k load) load ≡ true
+  pub answer_known : (k : Knowledge) (load : Need) → is_of_one_node load ≡ true → knows (answered t k load) load ≡ true
   answer_known k (need.Node p) one = node_known k p (node_at t p)
   answer_known k (need.Children p) one = children_known k p (dated_children_of t p)
   answer_known k (need.Subtree p) one = absurd (false≢true one)
   answer_known k need.All one = absurd (false≢true one)
 
-  answer_keeps : (k : Knowledge) (load other : Need) → knows k other ≡ true → knows (answered t k load) other ≡ true
+  pub answer_keeps : (k : Knowledge) (load other : Need) → knows k other ≡ true → knows (answered t k load) other ≡ true
   answer_keeps k (need.Node p) other h = node_keeps k p (node_at t p) other h
   answer_keeps k (need.Children p) other h = children_keep k p (dated_children_of t p) other h
   answer_keeps k (need.Subtree p) other h = h

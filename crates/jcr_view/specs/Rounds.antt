@@ -1,5 +1,5 @@
 -- Rounds of loading: what lacks first of what is asked is loaded, and then it is asked again.
-use Rattle.std.specs.Prelude.{◌≡◌, Bool, true, false, List, [], ◌∷◌, None, Some, ⊤}
+use Rattle.std.specs.Prelude.{◌≡◌, Bool, true, false, List, [], ◌∷◌, None, Some, Contains, ⊤}
 use Rattle.jr_tree.specs.Trees.{Nodes, dated_children_of, node_at}
 use Rattle.jr_part.specs.Parts.{Knowledge, Lacks, with_children, with_node}
 use Rattle.jr_part.specs.declared.need.Need.{Need}
@@ -24,6 +24,14 @@ abbrev pub AreLoads : Nodes → Knowledge → List Need → Type 0
 AreLoads t k [] = ⊤
 AreLoads t k (load ∷ loads) =
     (wanted : Need) × Lacks k wanted (Some load) × AreLoads t (answered t k load) loads
+
+-- loads one after another, where what is asked goes by what is known: each is what lacks first of
+-- one of the needs asked by then, and a tree answers it
+abbrev pub AreLoadsOf : (asks : Knowledge → List Need) → Nodes → Knowledge → List Need → Type 0
+AreLoadsOf asks t k [] = ⊤
+AreLoadsOf asks t k (load ∷ loads) =
+    (wanted : Need) × Contains (asks k) wanted × Lacks k wanted (Some load)
+    × AreLoadsOf asks t (answered t k load) loads
 
 -- the need is of a node that isn't there
 abbrev pub IsOfNone : Nodes → Need → Type 0

@@ -1,5 +1,6 @@
 // Laws of views.
-ghost use Rattle.std.specs.Prelude.{◌≡◌, ◌≢◌, ◌∷◌, [], IsFalse, IsTrue, List, Option, Some, is_some};
+ghost use Rattle.std.specs.Prelude.{◌≡◌, ◌≢◌, ◌∷◌, ◌+◌, ◌*◌, ◌≤◌, [], IsFalse, IsTrue, List, Option};
+ghost use Rattle.std.specs.Prelude.{Some, is_some, length};
 ghost use Rattle.std.specs.List.{All, AllPairs};
 ghost use Rattle.jr_path.specs.declared.path.Path.{Path};
 ghost use Rattle.jr_tree.specs.Edits.{IsProper};
@@ -21,7 +22,7 @@ ghost use Rattle.jcr_view.specs.Needs.{needs_of, needs_to_rebase, reads_all};
 ghost use Rattle.jcr_view.specs.Outcomes.{eval, outcome};
 ghost use Rattle.jcr_view.specs.Parts.{IsPartOf};
 ghost use Rattle.jcr_view.specs.Rebases.{rebased, tree_again};
-ghost use Rattle.jcr_view.specs.Rounds.{AreLoads, IsOfNone, is_of_one_node};
+ghost use Rattle.jcr_view.specs.Rounds.{AreLoads, AreLoadsOf, IsOfNone, is_of_one_node};
 
 /// What a command asks for is enough: where nothing of it lacks, the command comes to the same on what is known as on
 /// the whole view of each tree that the part agrees with.
@@ -118,4 +119,13 @@ pub fn whole_trees_lack_no_node()
         → AgreesWith t k → LacksNothing k need.All
         → All (λ wanted. (lacking : Need) → Lacks k wanted (Some lacking) → IsOfNone t lacking)
         (needs_of who k c command) }
+{}
+
+/// The rounds of loading for a command end, whatever is known at the start: there are at most two for each node of the
+/// tree, and three more.
+pub fn rounds_end()
+    ensures { (who : Who) (t : Nodes) (k : Knowledge) (c : Changed) (command : Command)
+        (loads : List Need) → AgreesWith t k → AreOver t c
+        → AreLoadsOf (λ known. needs_of who known c command) t k loads
+        → length loads ≤ 2 * length t + 3 }
 {}

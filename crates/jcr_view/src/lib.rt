@@ -14,7 +14,7 @@ mod writing;
 pub use commands::is_viewed;
 pub use laws::{
     commands_keep_trees, each_round_learns, needs_are_enough, rebases_count, rebases_keep_trees,
-    rebasing_on_the_same_tree_changes_nothing, steps_count, whole_trees_are_asked_for,
+    rebasing_on_the_same_tree_changes_nothing, rounds_end, steps_count, whole_trees_are_asked_for,
     whole_trees_lack_no_node,
 };
 pub use pending::Pending;
