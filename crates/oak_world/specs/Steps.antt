@@ -111,7 +111,7 @@ pub record IsIdle {L : Type 0} (w : WorldOf L) (s : ℕ) : Type 0 where
   pub idle : work_in w.actors s ≡ work.Rest
 
 -- the text is the next reply of session s, which the law lets it say, and its bytes are reserved
-pub record MaySay (says : Says) (h : History) (reply : Option ℕ) (s i : ℕ) (text : Text) : Type 0 where
+pub record HasPlace (says : Says) (h : History) (reply : Option ℕ) (s i : ℕ) (text : Text) : Type 0 where
   pub next : i ≡ next_index h.past s
   pub lawful : says h s i text
   pub room : IsSomeAnd reply (λ bytes. length text ≤ bytes)

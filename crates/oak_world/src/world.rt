@@ -25,7 +25,7 @@ ghost use Rattle.oak_world.specs.declared.actor.Work.TheVariants as work;
 ghost use Rattle.oak_world.specs.Clashes.{MeetsNone, Wanted};
 ghost use Rattle.oak_world.specs.Ending.{TaskEndsIn};
 ghost use Rattle.oak_world.specs.Seen.{shown_at};
-ghost use Rattle.oak_world.specs.Steps.{Begins, IsIdle, MaySay, Plays, StepsIn, Turns, kind_due};
+ghost use Rattle.oak_world.specs.Steps.{Begins, HasPlace, IsIdle, Plays, StepsIn, Turns, kind_due};
 ghost use Rattle.oak_world.specs.Worlds.{actor_in, live, said_in, start_world, state_of, with_reply, with_work, work_in};
 
 use crate::actor::{Actor, Room, Work};
@@ -240,7 +240,7 @@ impl<L: Law + Drop> World<L> {
     /// Says the session's next reply, which the law lets it say, and whose bytes are reserved. It can't be refused.
     pub fn say(&mut self, actor: u32, index: u32, text: &str)
         requires idle { IsIdle self.old actor }
-        requires may { MaySay (L.may_say self.old.law) (live self.old.history) (actor_in self.old.actors actor).reply actor index text.now }
+        requires may { HasPlace (L.may_say self.old.law) (live self.old.history) (actor_in self.old.actors actor).reply actor index text.now }
         ensures { self.new ≡ said_in self.old actor index text.now }
     {
         let seat = &mut self.actors[actor as usize];
