@@ -1,18 +1,24 @@
 // Each commit of the product obeys.
-ghost use Rattle.std.specs.Prelude.{◌≡◌, ℕ, None, Some, IsTrue};
+ghost use Rattle.std.specs.Prelude.{◌≡◌, ◌≢◌, ℕ, List, None, Some, IsTrue};
+ghost use Rattle.jr_path.specs.declared.path.Item.{Item};
 ghost use Rattle.jr_rev.specs.declared.revision.Revision.{Revision};
 ghost use Rattle.jr_rev.specs.declared.vector.RevVec.{RevVec};
 ghost use Rattle.jr_tree.specs.Trees.{IsTree};
+ghost use Rattle.jr_items.specs.Refusals.{clash};
 ghost use Rattle.jr_types.specs.Rules.{TypesOk};
+ghost use Rattle.jcr_trans.specs.declared.command.Command.{Command};
 ghost use Rattle.jcr_law.specs.declared.law.JcrLaw.{JcrLaw};
 ghost use Rattle.jcr_law.specs.Lasting.{says_of, starts_of};
+ghost use Rattle.jcr_law.specs.Law.{SaysBy, no_text};
+ghost use Rattle.jcr_law.specs.Since.{draw_since};
+ghost use Rattle.jcr_law.specs.State.{command_at};
 ghost use Rattle.jcr_plan.specs.Plans.{IsFree};
 ghost use Rattle.jcr_ref.specs.References.{ReferencesOk};
 ghost use Rattle.oak_machine.specs.declared.event.Draw.{Draw};
 ghost use Rattle.oak_machine.specs.Commits.{draw_of, is_drawn, refusal_of, tree_at};
 ghost use Rattle.oak_machine.specs.History.{History};
 ghost use Rattle.oak_machine.specs.Runs.{AreNodes, IsRunOf, MayCommit};
-ghost use Rattle.oak_machine.specs.Sessions.{base_of};
+ghost use Rattle.oak_machine.specs.Sessions.{base_of, next_index};
 ghost use Rattle.core_merge.specs.Orders.{tree_by_commits};
 ghost use Rattle.core_obeys.specs.Plans.{tokens_at_draw};
 ghost use Rattle.core_obeys.specs.Product.{IsProductRun, IsUnclashing, tokens_by};
@@ -35,10 +41,16 @@ pub fn the_product_obeys()
         → ReferencesOk (tree_by_commits h.past) }
 {}
 
-/// Where a commit of a run clashes with no draw outside its base, it isn't refused: so by `AfterDraw` its command
-/// isn't answered with 10 (JSR 283, 10.11 Saving).
+/// Where a commit of a run clashes with no draw outside its base, it isn't refused, and the next reply of its session is no 10
+/// (JSR 283, 10.11 Saving).
 pub fn what_clashes_with_nothing_is_not_refused()
-    ensures { (law : JcrLaw) (h : History) (r : Revision) → AreNodes h.clusters h.sessions
+    ensures refusal { (law : JcrLaw) (h : History) (r : Revision) → AreNodes h.clusters h.sessions
         → IsRunOf (starts_of law) (says_of law) h.clusters h.sessions h.begin h.past
         → IsTrue (is_drawn h.past r) → IsUnclashing h.past r → refusal_of h.past r ≡ None }
+    ensures reply { (law : JcrLaw) (h : History) (s : ℕ) (m : Command) (d : Draw) (text : List ℕ)
+        (item : Item) (o : Revision) → AreNodes h.clusters h.sessions
+        → IsRunOf (starts_of law) (says_of law) h.clusters h.sessions h.begin h.past
+        → draw_since h.past s ≡ Some d → command_at law s (next_index h.past s) ≡ Some m
+        → IsUnclashing h.past d.revision → SaysBy law h s (next_index h.past s) text
+        → text ≢ no_text (clash item o) }
 {}

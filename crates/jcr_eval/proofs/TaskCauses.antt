@@ -33,6 +33,7 @@ use Rattle.jcr_law.specs.State.{Call, call_of, next_id}
 use Rattle.jcr_law.specs.Tasks.{collected_data, finds_stopped, is_out, is_recovering, is_sweep, misses, split_data, split_refusal}
 use Rattle.jcr_eval.proofs.Passing.{Passed, and_parts, and_whole, came_any, came_contains, came_some, contains_came, false_of, or_left, or_parts, or_right, some_came}
 use Rattle.jcr_eval.proofs.Showing.{attach_is, attach_passes, collection_is, collection_shown, in_is, in_shown, is_shown, keep_is, keep_passes, out_is, out_shown, recovery_is, recovery_shown, release_is, release_passes, shown_is, split_is, split_shown, sweep_is, sweep_shown}
+use Rattle.jcr_eval.proofs.Options.{some_passed}
 use Rattle.jcr_eval.specs.Said.{has_in, has_out, has_sweep, is_own, refuses_checkpoint, refuses_id, refuses_split, says_attach, says_checkpoint, says_collect, says_detach, says_events, says_in, says_observe, says_out, says_recover, says_release, says_split, says_stop, says_sweep, shows_checkpoint, shows_events, shows_vector}
 use Rattle.jcr_eval.specs.Shown.{attaches, is_answer, is_refusal, keeps, releases, shows_collection, shows_in, shows_out, shows_recovery, shows_split, shows_sweep}
 use Rattle.jcr_eval.specs.TaskCauses.{AttachCause, CheckpointCause, CollectCause, DetachCause, EventsCause, InCause, ObserveCause, OutCause, RecoverCause, ReleaseCause, SplitCause, StopCause, SweepCause, TaskCause}
@@ -41,10 +42,6 @@ abbrev Said : Bool → Type 0 → Type 0
 Said b P = IsTrue b ↔ P
 
 -- what holds of a thing that is there, or not at all
-some_there : {X : Type 0} (f : X → Bool) (o : Option X) → option_map_or f o false ≡ true → (x : X) × (o ≡ Some x) × (f x ≡ true)
-some_there f None h = absurd (true≢false (sym h))
-some_there f (Some x) h = (x, refl, h)
-
 there_some : {X : Type 0} (f : X → Bool) (o : Option X) (x : X) → o ≡ Some x → f x ≡ true → option_map_or f o false ≡ true
 there_some f o x is h = ap (λ p. option_map_or f p false) is ∙ h
 
@@ -61,7 +58,7 @@ module _ (h : History) (s : ℕ) (text : List ℕ) where
   pub out_said : Said (says_out h s text) (OutCause h s text)
   out_said = (
     λ t.
-        let o = some_there (has_out h s text) (slice_get h.sessions s) t in
+        let o = some_passed (has_out h s text) (slice_get h.sessions s) t in
         let p = came_some s (λ earlier e. shows_out o.0 (local h.begin (before_turn h.past s) o.0) text e) h.past o.2 in
         let e = out_is o.0 (local h.begin (before_turn h.past s) o.0) text p.which p.passes in
         (o.0, e.r, o.1, some_came s (λ earlier e'. is_out o.0 e.r e') h.past p.earlier p.which p.at e.out, e.low, e.shown),
@@ -75,7 +72,7 @@ module _ (h : History) (s : ℕ) (text : List ℕ) where
   pub sweep_said : Said (says_sweep h s text) (SweepCause h s text)
   sweep_said = (
     λ t.
-        let o = some_there (has_sweep h s text) (slice_get h.sessions s) t in
+        let o = some_passed (has_sweep h s text) (slice_get h.sessions s) t in
         let p = came_some s (λ earlier e. shows_sweep o.0 (published h.begin (before_turn h.past s) o.0) text e) h.past o.2 in
         let e = sweep_is o.0 (published h.begin (before_turn h.past s) o.0) text p.which p.passes in
         (o.0, e.r, o.1, some_came s (λ earlier e'. is_sweep o.0 e.r e') h.past p.earlier p.which p.at e.sweep, e.low, e.shown),
@@ -89,7 +86,7 @@ module _ (h : History) (s : ℕ) (text : List ℕ) where
   pub in_said : Said (says_in h s text) (InCause h s text)
   in_said = (
     λ t.
-        let o = some_there (has_in h s text) (slice_get h.sessions s) t in
+        let o = some_passed (has_in h s text) (slice_get h.sessions s) t in
         let p = came_some s (λ earlier e. shows_in h.clusters h.begin (before_turn h.past s) o.0 text e) h.past o.2 in
         let e = in_is h.clusters h.begin (before_turn h.past s) o.0 text p.which p.passes in
         (o.0, e.v, o.1, subst (λ (x : Event). Contains (since h.past s) x) e.which (came_contains s h.past p.earlier p.which p.at), e.known, e.shown),
@@ -114,7 +111,7 @@ module _ (h : History) (s : ℕ) (text : List ℕ) where
   pub detach_said : Said (says_detach h s text) (DetachCause h s text)
   detach_said = (
     λ t.
-        let o = some_there (λ v. is_answer text (ShowsVector v)) (detached_among (since h.past s) s) t in
+        let o = some_passed (λ v. is_answer text (ShowsVector v)) (detached_among (since h.past s) s) t in
         (o.0, o.1, is_shown text (ShowsVector o.0) o.2),
     λ c. there_some (λ v. is_answer text (ShowsVector v)) (detached_among (since h.past s) s) c.0 c.1 (shown_is text (ShowsVector c.0) c.2),
   )
@@ -131,7 +128,7 @@ module _ (h : History) (s : ℕ) (text : List ℕ) where
       | inl here ↦
           let p = and_parts (came s (λ earlier e. attaches s id e) h.past) _ here in
           let q = came_some s (λ earlier e. attaches s id e) h.past p.0 in
-          let o = some_there (λ v. is_answer text (ShowsVector v)) (base_of h.past s) p.1 in
+          let o = some_passed (λ v. is_answer text (ShowsVector v)) (base_of h.past s) p.1 in
           inl (o.0, subst (λ (x : Event). Contains (since h.past s) x) (attach_is s id q.which q.passes) (came_contains s h.past q.earlier q.which q.at), o.1, is_shown text (ShowsVector o.0) o.2)
       | inr there ↦ let p = and_parts (came s (misses s id) h.past) _ there in inr (p.0, is_refused text (no_checkpoint id) p.1)
     ],
@@ -172,13 +169,13 @@ module _ (h : History) (s : ℕ) (text : List ℕ) where
   pub checkpoint_said : (law : JcrLaw) → Said (says_checkpoint law h s text) (CheckpointCause law h s text)
   checkpoint_said law = (
     λ t.
-        let o = some_there (λ c. shows_checkpoint h.past s text c.who || refuses_id text c.who) (call_of law h.begin h.past s) t in
+        let o = some_passed (λ c. shows_checkpoint h.past s text c.who || refuses_id text c.who) (call_of law h.begin h.past s) t in
         elim (or_parts (shows_checkpoint h.past s text o.0.who) (refuses_id text o.0.who) o.2) [
           | inl here ↦
               let p = and_parts (came s (λ earlier e. keeps (next_id o.0.who) o.0.who.base e) h.past) _ here in
               let q = came_some s (λ earlier e. keeps (next_id o.0.who) o.0.who.base e) h.past p.0 in
               inl (o.0, o.1, subst (λ (x : Event). Contains (since h.past s) x) (keep_is (next_id o.0.who) o.0.who.base q.which q.passes) (came_contains s h.past q.earlier q.which q.at), is_shown text (ShowsText (next_id o.0.who)) p.1)
-          | inr there ↦ let r = some_there (is_refusal text) (too_many_ids (o.0.who.ids + 1)) there in inr (o.0, r.0, o.1, r.1, is_refused text r.0 r.2)
+          | inr there ↦ let r = some_passed (is_refusal text) (too_many_ids (o.0.who.ids + 1)) there in inr (o.0, r.0, o.1, r.1, is_refused text r.0 r.2)
         ],
     λ c. elim c [
       | inl here ↦
@@ -203,8 +200,8 @@ module _ (h : History) (s : ℕ) (text : List ℕ) where
           let e = split_is s p text q.which q.passes in
           inl (e.end, subst (λ (x : Event). Contains (since h.past s) x) e.which (came_contains s h.past q.earlier q.which q.at), e.shown)
       | inr there ↦
-          let o = some_there (λ c. refuses_split p text c.base) (call_of law h.begin h.past s) there in
-          let r = some_there (is_refusal text) (split_refusal o.0.base p) o.2 in
+          let o = some_passed (λ c. refuses_split p text c.base) (call_of law h.begin h.past s) there in
+          let r = some_passed (is_refusal text) (split_refusal o.0.base p) o.2 in
           inr (o.0, r.0, o.1, r.1, is_refused text r.0 r.2)
     ],
     λ c. elim c [
@@ -229,7 +226,7 @@ module _ (h : History) (s : ℕ) (text : List ℕ) where
           let p = and_parts (is_own h s k || came s (finds_stopped s k) h.past) _ there in
           let is : text ≡ no_support (command.Stop (Some k)) = (bytes_eq-Decides text (no_support (command.Stop (Some k)))).0 p.1 in
           elim (or_parts (is_own h s k) (came s (finds_stopped s k) h.past) p.0) [
-            | inl own ↦ let o = some_there (λ m. m == k) (slice_get h.sessions s) own in inr (inl (o.1 ∙ ap Some ((Decides-eqb o.0 k).0 o.2), is))
+            | inl own ↦ let o = some_passed (λ m. m == k) (slice_get h.sessions s) own in inr (inl (o.1 ∙ ap Some ((Decides-eqb o.0 k).0 o.2), is))
             | inr found ↦ inr (inr (found, is))
           ]
     ],
@@ -272,7 +269,7 @@ module _ (h : History) (s : ℕ) (text : List ℕ) where
   pub events_said : (law : JcrLaw) → Said (says_events law h s text) (EventsCause law h s text)
   events_said law = (
     λ t.
-        let o = some_there (λ c. shows_events h s text c.who.base c.state.cursor) (call_of law h.begin h.past s) t in
+        let o = some_passed (λ c. shows_events h s text c.who.base c.state.cursor) (call_of law h.begin h.past s) t in
         let p = and_parts (is_none o.0.state.cursor || came s (λ earlier e. is_pinning s e) h.past) _ o.2 in
         let is : text ≡ events_reply (events_since h.begin h.past o.0.who.base o.0.state.cursor) = (bytes_eq-Decides text _).0 p.1 in
         elim (or_parts (is_none o.0.state.cursor) _ p.0) [

@@ -1,5 +1,5 @@
 -- The answer of a command of the view, by what the next command of the session is run with.
-use Rattle.std.proofs.Common.{◌≡◌, ◌↔◌, ℕ, Bool, true, false, List, Option, None, Some, sym, ap, ◌∙◌}
+use Rattle.std.proofs.Common.{◌≡◌, ◌↔◌, ℕ, Bool, false, List, Option, None, Some, sym, ap, ◌∙◌}
 use Rattle.std.specs.Prelude.{IsTrue, is_some}
 use Rattle.std.specs.Option.{unwrap_or}
 use Rattle.std.proofs.lemmas.Bool.{false≢true}
@@ -19,8 +19,11 @@ module _ (law : JcrLaw) (h : History) (s : ℕ) (m : Command) (text : List ℕ) 
   -- it is run so
   pub viewed_there : (c : Call) (b : Bool) → Some c ≡ call_of law h.begin h.past s
       → (IsTrue b ↔ (text ≡ answered_by c m)) → IsTrue b ↔ ViewCause law h s m text
-  viewed_there c b is i = (λ t. (c, sym is, i.0 t), λ v. i.1 (v.2 ∙ sym (ap (λ (d : Call). answered_by d m)
-      (ap (λ (o : Option Call). unwrap_or o c) (is ∙ v.1)))))
+  viewed_there c b is i = (
+    λ t. (c, sym is, i.0 t),
+    λ v. i.1 (v.2 ∙ sym (ap (λ (d : Call). answered_by d m)
+        (ap (λ (o : Option Call). unwrap_or o c) (is ∙ v.1)))),
+  )
 
   -- the session has no base
   pub viewed_nowhere : None ≡ call_of law h.begin h.past s → IsTrue false ↔ ViewCause law h s m text

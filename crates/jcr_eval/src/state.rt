@@ -41,7 +41,15 @@ pub(crate) fn state_of(
 {
     let mut state = new_state(alloc, begin_tree(alloc, start)?);
     for at in 0..events.len() {
-        state = state_next(alloc, law, start, &events[..at], session, &events[at], state)?;
+        state = state_next(
+            alloc,
+            law,
+            start,
+            &events[..at],
+            session,
+            &events[at],
+            state,
+        )?;
     }
     Ok(state)
 }

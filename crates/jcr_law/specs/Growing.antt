@@ -44,7 +44,7 @@ abbrev pub seen_edits : Past → RevVec → List (Revision × List Write)
 seen_edits past v = filter (λ e. sees v e.0) (committed_edits past)
 
 -- a later past has of session s all that an earlier one has
-pub record Grows (law : JcrLaw) (begin : Begin) (s : ℕ) (old new : Past) : Type 0 where
+pub record HasAllOf (law : JcrLaw) (begin : Begin) (s : ℕ) (old new : Past) : Type 0 where
   pub index : next_index new s ≡ next_index old s
   pub drawn : drawn_since new s ≡ drawn_since old s
   pub draw : draw_since new s ≡ draw_since old s
@@ -109,7 +109,7 @@ module _ (begin : Begin) (old new : Past) (v : RevVec) (same : seen_edits new v 
       all (e ∷ es) = ap (λ (t : Nodes). of e t ∷ map {B = CommitChanges} (λ e. of e (tree_below begin new v e.0)) es) (below_same e.0)
           ∙ ap (λ (rest : List CommitChanges). of e (tree_below begin old v e.0) ∷ rest) (all es)
 
-module _ (law : JcrLaw) (clusters : ℕ) (sessions : List ℕ) (begin : Begin) (s : ℕ) (old new : Past) (grows : Grows law begin s old new) where
+module _ (law : JcrLaw) (clusters : ℕ) (sessions : List ℕ) (begin : Begin) (s : ℕ) (old new : Past) (grows : HasAllOf law begin s old new) where
   abbrev pub at_old : History
   at_old = record { clusters = clusters; sessions = sessions; begin = begin; past = old }
 

@@ -28,7 +28,7 @@ use Rattle.jcr_law.specs.declared.law.JcrLaw.{JcrLaw}
 use Rattle.jcr_law.specs.Law.{MayStart, SaysBy}
 use Rattle.jcr_law.specs.Since.{draw_among, draw_since, is_beginning, is_pinning}
 use Rattle.jcr_law.specs.Tasks.{finds_stopped, is_out, is_recovering, is_sweep, misses}
-use Rattle.jcr_law.specs.Growing.{Grows, said_at, seen_edits, starts_grow}
+use Rattle.jcr_law.specs.Growing.{HasAllOf, said_at, seen_edits, starts_grow}
 use Rattle.jcr_law.specs.Passing.{before_stays, came_stays, contains_stays, detached_stays, draw_stays, position_stays, state_stays, stopped_stays}
 
 module _ (law : JcrLaw) (starts : Starts) (says : Says) (clusters : ℕ) (sessions : List ℕ) (begin : Begin) (s : ℕ) (added past : Past)
@@ -41,7 +41,7 @@ module _ (law : JcrLaw) (starts : Starts) (says : Says) (clusters : ℕ) (sessio
   still_open None ended h = refl
   still_open (Some r) ended h = uncommitted_stays starts says clusters sessions begin past r (ended r refl) added later h
 
-  pub grows_above : Grows law begin s past (added ++ past)
+  pub grows_above : HasAllOf law begin s past (added ++ past)
   grows_above = record {
     index = next_stays (added ++ past) added past s others;
     drawn = drawn_stays (added ++ past) added past s others;
@@ -77,8 +77,8 @@ with_event e old new x more is = elim (Contains-append_cases (e ∷ []) old x is
 ]
 
 -- the end of a split or of a collection on top of both
-module _ (law : JcrLaw) (begin : Begin) (s : ℕ) (past now : Past) (grows : Grows law begin s past now) where
-  pub grows_under : (e : Event) → is_task_end s e ≡ true → Grows law begin s (e ∷ past) (e ∷ now)
+module _ (law : JcrLaw) (begin : Begin) (s : ℕ) (past now : Past) (grows : HasAllOf law begin s past now) where
+  pub grows_under : (e : Event) → is_task_end s e ≡ true → HasAllOf law begin s (e ∷ past) (e ∷ now)
   grows_under (event.Split t path end) h = record {
     index = next_more s (event.Split t path end) now ∙ (ap (λ (n : ℕ). n + 0) grows.index ∙ sym (next_more s (event.Split t path end) past));
     drawn = grows.drawn;
@@ -171,7 +171,7 @@ module _ (clusters : ℕ) (sessions : List ℕ) (nodes : AreNodes clusters sessi
     before : IsRunOf starts says clusters sessions begin past
     before = earlier_run clusters sessions nodes begin starts says added past later
 
-    pub grows_by_others : Grows law begin s past (added ++ past)
+    pub grows_by_others : HasAllOf law begin s past (added ++ past)
     grows_by_others = grows_above law starts says clusters sessions begin s added past later others
         (λ v is. held_edits added past later v ((sound_run clusters sessions nodes begin starts says past before).bases s v is))
         (λ d is. held_edits added past later d.base (draw_held past d before is))
@@ -190,10 +190,10 @@ starts_last law h added s edit marks nodes run later others may =
 
 pub says_last : (law : JcrLaw) → SaysLast (starts_of law) (says_of law)
 says_last law h added s i text nodes run later others (m, command, may) =
-    let grows : Grows law h.begin s h.past (added ++ h.past) = grows_by_others h.clusters h.sessions nodes h.begin (starts_of law) (says_of law) s law added h.past later others in
+    let grows : HasAllOf law h.begin s h.past (added ++ h.past) = grows_by_others h.clusters h.sessions nodes h.begin (starts_of law) (says_of law) s law added h.past later others in
     (m, command, said_at law h.clusters h.sessions h.begin s h.past (added ++ h.past) grows m text may)
 
 pub says_last_behind : (law : JcrLaw) → SaysLastBehind (starts_of law) (says_of law)
 says_last_behind law h added e s i text nodes end run later others (m, command, may) =
-    let grows : Grows law h.begin s h.past (added ++ h.past) = grows_by_others h.clusters h.sessions nodes h.begin (starts_of law) (says_of law) s law added h.past later.1 others in
+    let grows : HasAllOf law h.begin s h.past (added ++ h.past) = grows_by_others h.clusters h.sessions nodes h.begin (starts_of law) (says_of law) s law added h.past later.1 others in
     (m, command, said_at law h.clusters h.sessions h.begin s (e ∷ h.past) (e ∷ (added ++ h.past)) (grows_under law h.begin s h.past (added ++ h.past) grows e end) m text may)
