@@ -54,11 +54,7 @@ fn add_case(
     }
 }
 
-fn journal_of(
-    alloc: Global,
-    script: &Script,
-    case: &Json,
-) -> Result<Option<Journal>, AllocError> {
+fn journal_of(alloc: Global, script: &Script, case: &Json) -> Result<Option<Journal>, AllocError> {
     let sessions = clusters_of(alloc, script.sessions.as_slice())?;
     let journal = Journal {
         clusters: script.clusters,

@@ -1,7 +1,5 @@
 // Events: lists that begin with the name of an event.
-use crate::json::{
-    items_of, large, name_of, path_of, revision, small, text_in, text_of, vector,
-};
+use crate::json::{items_of, large, name_of, path_of, revision, small, text_in, text_of, vector};
 use crate::writes::edit_of;
 use jr_path::{Item, List, Path};
 use jr_rev::{RevVec, Revision};
@@ -144,7 +142,14 @@ fn push_draw(alloc: Global, events: &mut Events, rest: &[Json]) -> Result<bool, 
     match rest {
         [session, drawn, base, edit] => {
             let edit = edit_of(alloc, edit)?;
-            push_drawn(alloc, events, small(session), revision(drawn), vector(base), edit)
+            push_drawn(
+                alloc,
+                events,
+                small(session),
+                revision(drawn),
+                vector(base),
+                edit,
+            )
         }
         _ => Ok(false),
     }

@@ -31,11 +31,7 @@ fn push_writes(
     Ok(true)
 }
 
-fn push_write(
-    writes: &mut List<Write>,
-    alloc: Global,
-    item: &Json,
-) -> Result<bool, AllocError> {
+fn push_write(writes: &mut List<Write>, alloc: Global, item: &Json) -> Result<bool, AllocError> {
     match items_of(item) {
         Some([word, path, rest @ ..]) => push_at(writes, alloc, text_in(word), path, rest),
         _ => Ok(false),
