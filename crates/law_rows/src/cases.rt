@@ -48,16 +48,50 @@ fn add_case(
     case: &Json,
     out: &mut String,
 ) -> Result<(), AllocError> {
-    match journal_of(alloc, &script, case)? {
-        Some(journal) => add_journal(alloc, script, &journal, case, out),
+    let clusters = script.clusters;
+    let law = law_of(alloc, script, earlier_in(case))?;
+    add_law(alloc, &law, clusters, case, out)
+}
+
+fn law_of(alloc: Global, script: Script, earlier: u32) -> Result<JcrLaw, AllocError> {
+    let types = Registry::builtin(alloc)?;
+    let Script { sessions, .. } = script;
+    Ok(JcrLaw {
+        types,
+        earlier,
+        sessions,
+    })
+}
+
+fn earlier_in(case: &Json) -> u32 {
+    match case.get("earlier") {
+        Some(earlier) => small(earlier),
+        None => 0,
+    }
+}
+
+fn add_law(
+    alloc: Global,
+    law: &JcrLaw,
+    clusters: u32,
+    case: &Json,
+    out: &mut String,
+) -> Result<(), AllocError> {
+    match journal_of(alloc, clusters, law.sessions.as_slice(), case)? {
+        Some(journal) => add_asks(alloc, law, &journal, items_in(case, "asks"), out),
         None => out.push_str(" no events"),
     }
 }
 
-fn journal_of(alloc: Global, script: &Script, case: &Json) -> Result<Option<Journal>, AllocError> {
-    let sessions = clusters_of(alloc, script.sessions.as_slice())?;
+fn journal_of(
+    alloc: Global,
+    clusters: u32,
+    sessions: &[SessionScript],
+    case: &Json,
+) -> Result<Option<Journal>, AllocError> {
+    let sessions = clusters_of(alloc, sessions)?;
     let journal = Journal {
-        clusters: script.clusters,
+        clusters,
         sessions,
         events: Events::new(alloc),
         start: None,
@@ -120,34 +154,6 @@ fn tree_of(alloc: Global, edit: &Edit, born: Option<Revision>) -> Result<Tree, A
     Ok(tree)
 }
 
-fn add_journal(
-    alloc: Global,
-    script: Script,
-    journal: &Journal,
-    case: &Json,
-    out: &mut String,
-) -> Result<(), AllocError> {
-    let law = law_of(alloc, script, earlier_in(case))?;
-    add_asks(alloc, &law, journal, items_in(case, "asks"), out)
-}
-
-fn earlier_in(case: &Json) -> u32 {
-    match case.get("earlier") {
-        Some(earlier) => small(earlier),
-        None => 0,
-    }
-}
-
-fn law_of(alloc: Global, script: Script, earlier: u32) -> Result<JcrLaw, AllocError> {
-    let types = Registry::builtin(alloc)?;
-    let Script { sessions, .. } = script;
-    Ok(JcrLaw {
-        types,
-        earlier,
-        sessions,
-    })
-}
-
 fn add_asks(
     alloc: Global,
     law: &JcrLaw,
@@ -181,7 +187,6 @@ fn add_ask(
     }
 }
 
-// Whether the law lets a text be said as the reply of that session and index.
 fn add_answer(
     alloc: Global,
     law: &JcrLaw,
@@ -190,6 +195,18 @@ fn add_answer(
     text: &str,
     out: &mut String,
 ) -> Result<(), AllocError> {
-    let may = eval(alloc, law, journal, reply.0, reply.1, text)?;
+    let may = may_be_said(alloc, law, journal, reply.0, reply.1, text)?;
     out.push_str(if may { " yes" } else { " no" })
+}
+
+// Whether the law lets a text be said as the reply of that index of a session.
+fn may_be_said(
+    alloc: Global,
+    law: &JcrLaw,
+    journal: &Journal,
+    session: u32,
+    index: u32,
+    text: &str,
+) -> Result<bool, AllocError> {
+    eval(alloc, law, journal, session, index, text)
 }
