@@ -19,6 +19,7 @@ use Rattle.jr_overlay.specs.declared.overlay.Change.{Change}
 abbrev pub Changed : Type 0
 Changed = List (Path × Change)
 
+-- the change at p, if there is one
 abbrev pub change_at : Changed → Path → Option Change
 change_at c p = lookup (is_at (path_cmp p)) c
 
@@ -53,10 +54,11 @@ pub record AreOver (t : Nodes) (c : Changed) : Type 0 where
   pub paths : IsTrue (is_sorted path_cmp c)
   pub kept : (p : Path) (x : Change) → change_at c p ≡ Some x → IsChangeOf t (p, x)
 
--- the nodes at the changed paths, at the base and in the view
+-- the nodes at the changed paths at the base
 abbrev pub old_nodes : Changed → Nodes
 old_nodes c = filter_map (λ e. option_map (λ node. (e.0, node)) e.1.old) c
 
+-- the nodes at the changed paths in the view
 abbrev pub new_nodes : Changed → Nodes
 new_nodes c = filter_map (λ e. option_map (λ node. (e.0, node)) e.1.new) c
 
