@@ -13,4 +13,4 @@ pub use calls::{
 };
 pub use commits::{draws_are_known, own_commit_alone};
 pub use replies::replies_begin_with_ok;
-pub use turns::{commands_begin_behind_replies, sessions_stay_unattached};
+pub use turns::{commands_begin_behind_replies, commands_tell_what_came, sessions_stay_unattached};

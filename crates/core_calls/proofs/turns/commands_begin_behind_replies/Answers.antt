@@ -1,5 +1,5 @@
 -- The reply, or the login, is the session's.
-use Rattle.core_calls.proofs.Unattached.{begins_at_login, begins_at_reply, begun_before}
+use Rattle.core_calls.proofs.Beginning.{begins_at_login, begins_at_reply, begun_before}
 use Rattle.core_calls.proofs.turns.commands_begin_behind_replies.Goals as goal
 
 pub returns-clause-reply : goal.returns-clause-reply

@@ -1,7 +1,7 @@
 -- Event by event.
 use Rattle.std.proofs.Common.{Bool, ap, ◌++◌}
 use Rattle.jcr_law.specs.Built.{asked}
-use Rattle.core_calls.proofs.Unattached.{attaches_none, unattached_new, unattached_stays}
+use Rattle.core_calls.proofs.Beginning.{attaches_none, unattached_new, unattached_stays}
 use Rattle.core_calls.proofs.turns.sessions_stay_unattached.Goals as goal
 
 pub returns-clause-begin : goal.returns-clause-begin

@@ -1,17 +1,19 @@
--- When the command of a session begins, and that the session stays unattached.
-use Rattle.std.proofs.Common.{◌≡◌, ℕ, Bool, true, false, cond, List, [], ◌∷◌, ◌++◌, refl, ap, ◌∙◌}
+-- When the command of a session begins, what came since, and that the session stays unattached.
+use Rattle.std.proofs.Common.{◌≡◌, ℕ, ◌+◌, Bool, true, false, cond, Some, List, [], ◌∷◌, ◌++◌, refl, ap, ◌∙◌}
 use Rattle.std.specs.Prelude.{◌==◌, ◌||◌}
 use Rattle.std.specs.List.{list_any}
 use Rattle.basics.proofs.Bools.{number_itself}
 use Rattle.jr_path.specs.declared.text.Text.{Text}
 use Rattle.jr_rev.specs.declared.vector.RevVec.{RevVec}
+use Rattle.oak_machine.specs.declared.event.Draw.{Draw}
 use Rattle.oak_machine.specs.declared.event.Event.{Event}
 use Rattle.oak_machine.specs.declared.event.Event.TheVariants as event
 use Rattle.oak_machine.specs.History.{Past}
 use Rattle.oak_machine.specs.Laws.{is_event_of}
-use Rattle.oak_machine.specs.Sessions.{is_attached}
+use Rattle.oak_machine.specs.Sessions.{is_attached, next_index, refreshed_since, since}
 use Rattle.oak_machine.proofs.Induction.{neither, other}
-use Rattle.jcr_law.specs.Since.{before_turn, is_beginning}
+use Rattle.core_heads.proofs.Passing.{next_more}
+use Rattle.jcr_law.specs.Since.{before_turn, draw_since, is_beginning}
 use Rattle.core_calls.specs.Events.{IsUnattached, is_attach_of}
 
 pub begins_at_reply : (past : Past) (s i : ℕ) (text : Text) → before_turn (event.Said s i text ∷ past) s ≡ event.Said s i text ∷ past
@@ -22,6 +24,25 @@ begins_at_login past s v = ap (λ (b : Bool). cond b (event.Login s v ∷ past) 
 
 pub begun_before : (e : Event) (past : Past) (s : ℕ) → is_beginning s e ≡ false → before_turn (e ∷ past) s ≡ before_turn past s
 begun_before e past s h = ap (λ (b : Bool). cond b (e ∷ past) (before_turn past s)) h
+
+-- ---- what came since
+
+pub since_reply : (past : Past) (s i : ℕ) (text : Text) → since (event.Said s i text ∷ past) s ≡ []
+since_reply past s i text = ap (λ (b : Bool). cond (b || false) [] (event.Said s i text ∷ since past s)) (number_itself s)
+
+pub since_login : (past : Past) (s : ℕ) (v : RevVec) → since (event.Login s v ∷ past) s ≡ []
+since_login past s v = ap (λ (b : Bool). cond b [] (event.Login s v ∷ since past s)) (number_itself s)
+
+pub next_reply : (past : Past) (s i : ℕ) (text : Text) → next_index (event.Said s i text ∷ past) s ≡ next_index past s + 1
+next_reply past s i text = next_more s (event.Said s i text) past ∙ ap (λ (b : Bool). next_index past s + cond b 1 0) (number_itself s)
+
+pub drawn_now : (past : Past) (d : Draw) → draw_since (event.Draw d ∷ past) d.session ≡ Some d
+drawn_now past d = ap (λ (b : Bool). cond b (Some d) (draw_since past d.session)) (number_itself d.session)
+
+pub refreshed_now : (past : Past) (s : ℕ) (v : RevVec) → refreshed_since (event.Refresh s v ∷ past) s ≡ Some v
+refreshed_now past s v = ap (λ (b : Bool). cond b (Some v) (refreshed_since past s)) (number_itself s)
+
+-- ---- attached to no checkpoint
 
 off_either : (b c : Bool) → c ≡ false → cond b false c ≡ false
 off_either true c h = refl
