@@ -26,10 +26,10 @@ ghost use Rattle.core_obeys.specs.Product.{IsProductRun, IsUnclashing, tokens_by
 ghost use Rattle.core_obeys.specs.Tidy.{IsTidy};
 
 /// In each run by the law of the product the tree of all commits, in the order in which they were made, is a tree and meets
-/// the rules of node types (JSR 283, 3.7 Node Types), and so does what a session sees at its base, which is a tree whatever
-/// the types say of the initial tree; no commit changes what is
-/// locked against the tokens that its session held when it was drawn, or what a checked-in node covers (17 Locking, 15
-/// Versioning); and where identifiers stand once, each REFERENCE names a node (3.8 Referential Integrity).
+/// the rules of node types (JSR 283, 3.7 Node Types), and so does what a session sees at its base, which is a tree whether or
+/// not the initial tree meets them; no commit changes what is locked against the tokens that its session held when it was
+/// drawn, or what a checked-in node covers (17 Locking, 15 Versioning); and where identifiers stand once, each REFERENCE names
+/// a node (3.8 Referential Integrity).
 pub fn the_product_obeys()
     ensures trees { (law : JcrLaw) (h : History) → IsProductRun law h → IsTree (tree_by_commits h.past) }
     ensures types { (law : JcrLaw) (h : History) → IsProductRun law h
