@@ -7,7 +7,7 @@ use Rattle.std.proofs.lemmas.Bool.{false≢true}
 use Rattle.basics.proofs.Bools.{number_itself}
 use Rattle.jr_path.specs.declared.text.Text.{Text}
 use Rattle.jr_rev.specs.declared.vector.RevVec.{RevVec}
-use Rattle.jr_tree.specs.Trees.{IsTree, Nodes}
+use Rattle.jr_tree.specs.Trees.{Nodes}
 use Rattle.oak_machine.specs.declared.event.Event.{Event}
 use Rattle.oak_machine.specs.declared.event.Event.TheVariants as event
 use Rattle.oak_machine.specs.Commits.{tree_at}
