@@ -31,8 +31,8 @@ pub fn draws_are_known()
 {}
 
 /// Where a vector has the next revision of a cluster node alone more than the base on which that
-/// revision was drawn, and the revision was committed, no other commit lies between them: the vector
-/// sees the tree at that base with the edit applied.
+/// revision was drawn, and the revision was committed, no other commit lies between them: the
+/// vector sees the tree at that base with the edit applied.
 pub fn own_commit_alone()
     ensures { (law : JcrLaw) (h : History) (v : RevVec) (r : Revision) (d : Draw)
         → IsNodesRun (starts_of law) (says_of law) h → draw_of h.past r ≡ Some d

@@ -25,8 +25,8 @@ pub fn commands_begin_behind_replies()
         → before_turn (e ∷ past) s ≡ before_turn past s }
 {}
 
-/// Behind a reply or a login nothing came for the next command yet, and a reply counts it on; a draw
-/// and a refresh of the session are told from then on.
+/// Behind a reply or a login nothing came for the next command yet, and a reply counts it on; a
+/// draw and a refresh of the session are told from then on.
 pub fn commands_tell_what_came()
     ensures reply { (past : Past) (s i : ℕ) (text : List ℕ)
         → since (event.Said s i text ∷ past) s ≡ [] }
@@ -38,8 +38,8 @@ pub fn commands_tell_what_came()
         → refreshed_since (event.Refresh s v ∷ past) s ≡ Some v }
 {}
 
-/// A session begins unattached, and stays so where it attaches to no checkpoint; then its command is
-/// asked for as by one that is not attached.
+/// A session begins unattached, and stays so where it attaches to no checkpoint; then its command
+/// is asked for as by one that is not attached.
 pub fn sessions_stay_unattached()
     ensures begin { (s : ℕ) → IsUnattached [] s }
     ensures stays { (added past : Past) (s : ℕ) → IsFalse (list_any (is_attach_of s) added)
