@@ -11,7 +11,8 @@ pub record IsSessionWithin (clusters : ℕ) (session : SessionScript) : Type 0 w
   pub near : session.cluster ≤ clusters
   pub few : length session.commands ≤ 10000
 
--- one to eight cluster nodes, types that begin with the built-in ones, at most 64 sessions, and a schedule of at most 1,000,000 entries for these
+-- one to eight cluster nodes, types that begin with the built-in ones, at most 64 sessions, and a
+-- schedule of at most 1,000,000 entries for these
 pub record IsWithin (script : Script) : Type 0 where
   pub some : 1 ≤ script.clusters
   pub nodes : script.clusters ≤ 8

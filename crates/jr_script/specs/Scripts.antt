@@ -103,7 +103,8 @@ script_over d clusters types =
     }))))
 
 -- what follows types; where their text has none, nothing does
-abbrev pub where_read : (List TypeDef → Reading (Result Script TextFault)) → Types → Reading (Result Script TextFault)
+abbrev pub where_read : (List TypeDef → Reading (Result Script TextFault)) → Types
+    → Reading (Result Script TextFault)
 where_read M (Ok types) = M types
 where_read M (Err fault) = is (Means (Err fault))
 
@@ -141,6 +142,7 @@ IsBadText bytes rule pointer offset = (rule ≡ 10) × (pointer ≡ codes "/type
 
 -- why the bytes are no script, with an offset where a text in it fails; or memory was refused
 abbrev pub IsFault : List ℕ → ScriptFault → Type 0
-IsFault bytes (fault.Bad rule pointer None) = IsNoJson bytes rule pointer ⊎ IsBroken bytes rule pointer
+IsFault bytes (fault.Bad rule pointer None) =
+    IsNoJson bytes rule pointer ⊎ IsBroken bytes rule pointer
 IsFault bytes (fault.Bad rule pointer (Some offset)) = IsBadText bytes rule pointer offset
 IsFault bytes fault.Memory = Unit {0}

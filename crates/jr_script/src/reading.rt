@@ -185,7 +185,8 @@ fn clusters(alloc: Global, json: &Json) -> Result<u32, Fault>
 }
 
 fn types_in(alloc: Global, json: &Json) -> Result<Types, Fault>
-    ensures { Answers (optional_of (codes "types") (Ok builtin) types_of (get (codes "types") (view json.now))) result }
+    ensures { Answers (optional_of (codes "types") (Ok builtin) types_of
+        (get (codes "types") (view json.now))) result }
 {
     match json.get("types") {
         None => Ok(Ok(Registry::builtin(alloc)?)),
