@@ -1,0 +1,6 @@
+mod Childless
+mod Identifiers
+mod Improper
+mod Replying
+mod Written
+pub mod QueryRead

@@ -1,0 +1,36 @@
+// The identifiers that a session draws.
+ghost use Rattle.std.specs.Prelude.{◌≡◌, ◌+◌, ◌%◌, ◌^◌, IfOk, string_bytes};
+ghost use Rattle.jcr_law.specs.State.{next_id};
+
+use jcr_ref::{identifier, identifiers_are_uuids};
+use jr_path::Text;
+use jr_tree::Who;
+use std::alloc::{AllocError, Global};
+
+/// The text of the next identifier of a session (JSR 283, 3.8 Referenceable Identifiers).
+pub fn next_id(alloc: Global, who: &Who) -> Result<Text, AllocError>
+    ensures { IfOk result (λ id. id ≡ next_id who.now) }
+{
+    Ok(Text::of(next_text(alloc, who)?))
+}
+
+fn next_text(alloc: Global, who: &Who) -> Result<String, AllocError>
+    ensures { IfOk result (λ id. string_bytes id ≡ next_id who.now) }
+{
+    identifiers_are_uuids();
+    identifier(alloc, session_of(who), next_count(who))
+}
+
+// The number of the session, of which identifiers have the last 24 bits.
+fn session_of(who: &Who) -> u32
+    ensures { result % 2 ^ 24 ≡ (who.now.session + who.now.earlier) % 2 ^ 24 }
+{
+    who.session.wrapping_add(who.earlier)
+}
+
+// The count of the next identifier, of which it has the last 24 bits.
+fn next_count(who: &Who) -> u32
+    ensures { result % 2 ^ 24 ≡ (who.now.ids + 1) % 2 ^ 24 }
+{
+    who.ids.wrapping_add(1)
+}
