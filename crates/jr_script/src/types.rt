@@ -60,7 +60,8 @@ fn add_listed(alloc: Global, registry: &mut Registry, items: &[Json]) -> Result<
 fn add_json(alloc: Global, registry: &mut Registry, json: &Json) -> Result<(), Fault>
     ensures { Adds (with_type registry.old (view json.now)) registry.new result }
 {
-    match registry.add(definition(alloc, json)?) {
+    let definition = definition(alloc, json)?;
+    match registry.add(definition) {
         Ok(()) => Ok(()),
         Err(TypeFault::BadType(_)) => Err(Fault::here(alloc, TYPES)),
         Err(TypeFault::Memory) => Err(Fault::Memory),
