@@ -1,7 +1,7 @@
 use Rattle.std.proofs.Common.{◌∙◌, ◌+◌}
 use Rattle.std.proofs.lemmas.Result.{IfOk-weaker}
-use Rattle.jcr_eval.proofs.Identifiers.{same_bits}
-use Rattle.jcr_eval.proofs.ids.next_text.Goals as goal
+use Rattle.jcr_call.proofs.Identifiers.{same_bits}
+use Rattle.jcr_call.proofs.ids.next_text.Goals as goal
 
 pub returns : goal.returns
 returns c =

@@ -1,7 +1,7 @@
 use Rattle.std.proofs.Common.{subst}
 use Rattle.jr_path.specs.Grammar.{IsName, RefusesName}
 use Rattle.jr_value.proofs.Texts.{fault_refuses}
-use Rattle.jcr_eval.proofs.versions.version_of.Goals as goal
+use Rattle.jcr_call.proofs.versions.version_of.Goals as goal
 
 pub first_version-requires : goal.first_version-requires
 first_version-requires c = record {

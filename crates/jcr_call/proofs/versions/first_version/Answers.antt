@@ -3,8 +3,8 @@ use Rattle.jr_path.proofs.OwnNames.{plain_name}
 use Rattle.jr_tree.specs.Trees.{children_of}
 use Rattle.jr_items.specs.Items.{child_path}
 use Rattle.jr_items.specs.Names.{version_storage}
-use Rattle.jcr_eval.proofs.Childless.{first_of}
-use Rattle.jcr_eval.proofs.versions.first_version.Goals as goal
+use Rattle.jcr_call.proofs.Childless.{first_of}
+use Rattle.jcr_call.proofs.versions.first_version.Goals as goal
 
 pub of-requires : goal.of-requires
 of-requires c = plain_name (118 ∷ 48 ∷ []) refl

@@ -2,8 +2,8 @@ use Rattle.std.proofs.Common.{sym, ap, ◌∙◌}
 use Rattle.jr_items.specs.Items.{child_path}
 use Rattle.jr_items.specs.Names.{version_storage}
 use Rattle.jr_tree.specs.Trees.{Nodes, children_of}
-use Rattle.jcr_eval.proofs.Childless.{child_passed}
-use Rattle.jcr_eval.proofs.versions.know_childless.Goals as goal
+use Rattle.jcr_call.proofs.Childless.{child_passed}
+use Rattle.jcr_call.proofs.versions.know_childless.Goals as goal
 
 pub loop-at-preserved : goal.loop-at-preserved
 loop-at-preserved c =

@@ -97,7 +97,7 @@ fn identifier_of(alloc: Global, tree: &Tree, path: &Path) -> Result<String, Allo
 }
 
 // The node above all version histories.
-fn storage(alloc: Global) -> Result<Path, AllocError>
+pub(crate) fn storage(alloc: Global) -> Result<Path, AllocError>
     ensures { IfOk result (λ path. path ≡ version_storage) }
 {
     let system = own_child(alloc, &Path::root(alloc), OwnName::System)?;
