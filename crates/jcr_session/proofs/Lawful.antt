@@ -13,6 +13,7 @@ use Rattle.jr_part.specs.declared.need.Need.{Need}
 use Rattle.jr_tree.specs.declared.edit.Write.{Write}
 use Rattle.jr_tree.specs.declared.shared.Refusal.{Refusal}
 use Rattle.jr_tree.specs.declared.shared.Who.{Who}
+use Rattle.jr_tree.specs.Trees.{IsTree}
 use Rattle.jr_items.specs.Refusals.{out_of_memory, unsupported}
 use Rattle.jcr_trans.specs.Commands.{word_of}
 use Rattle.oak_machine.specs.History.{History, Past}
@@ -31,7 +32,7 @@ use Rattle.jcr_law.specs.Commits.{edit_due, refusal_of_due, refusal_of_plan, unw
 use Rattle.jcr_law.specs.Law.{MaySay, SaysBy, asked_by, barred, head, memory, no_support, no_text, queried, refreshed, refused_edit, unwritten, viewed}
 use Rattle.jcr_law.specs.Queries.{QueryAnswers}
 use Rattle.jcr_law.specs.Since.{before_turn}
-use Rattle.jcr_law.specs.Starting.{call_has_base}
+use Rattle.jcr_law.specs.Starting.{call_based, call_has_base}
 use Rattle.jcr_law.specs.State.{Call, accepted, command_at, is_ok_text}
 use Rattle.jcr_call.specs.Calls.{call_after}
 use Rattle.jcr_call.specs.Comings.{reply_to_due}
@@ -212,6 +213,11 @@ module _ (law : JcrLaw) (p : Shown) (run : SessionRun) (stands : Stands law p ru
       abbrev c : Call
       c = at_between.1.call
 
+      base_is_tree : IsTree c.base
+      base_is_tree =
+          subst (λ (y : Call). IsTree y.base) (sym (call_based law p.history.begin p.history.past p.session c at_between.1.is))
+          (at_between.0.trees p.history.past at_between.0.run p.session c.who.base (call_has_base law p.history.begin p.history.past p.session c at_between.1.is))
+
       allowed : is_allowed m ≡ true
       allowed = (allowed_due m due.Commit commits refl).0
 
@@ -232,7 +238,7 @@ module _ (law : JcrLaw) (p : Shown) (run : SessionRun) (stands : Stands law p ru
           subst (λ (t : Text). MaySettle law p run t) (ap (λ (x : Option Text). elim x [ Some t ↦ t | None ↦ text ]) told)
           (settles_by (answer_text (unwritten_answer c m))
           (says_allowed law p run m c between_asked (answer_text (unwritten_answer c m)) allowed (unwritten m c at_between.1.fresh.first at_between.1.is is)) unviewed_now
-          (λ ok. lock_writes_some m c is (allowed_due m due.Commit commits refl).1))
+          (λ ok. lock_writes_some m c base_is_tree is (allowed_due m due.Commit commits refl).1))
       said_settles (Ok (w ∷ ws)) text is told =
           let r = some_text (refusal_of_plan c (w ∷ ws)) text told in
           subst (λ (t : Text). MaySettle law p run t) (sym r.2) (refuses (Ok (w ∷ ws)) r.0 is r.1)
