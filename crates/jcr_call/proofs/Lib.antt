@@ -1,4 +1,7 @@
+pub mod AtOnce
 mod Childless
 mod Identifiers
-pub mod Improper
-pub mod Written
+mod Improper
+mod Replying
+mod Written
+pub mod QueryRead

@@ -24,23 +24,25 @@ use jr_path::{List, Path, Text};
 use jr_tree::Edit;
 use std::alloc::{AllocError, Global};
 
-/// What a command that commits comes to before its commit: a reply, or a plan, and what is told once that is committed.
+/// What a command that commits comes to before its commit: a reply, or a plan, and what is told
+/// once that is committed.
 #[derive(Drop)]
 pub enum Coming {
     Said(String),
     Planned(Plan, Accepted),
 }
 
-/// What an accepted commit tells: its reply, where that isn't the revision; and the lock tokens that the session then holds
-/// (JSR 283, 17.5 Lock Token).
+/// What an accepted commit tells: its reply, where that isn't the revision; and the lock tokens
+/// that the session then holds (JSR 283, 17.5 Lock Token).
 #[derive(Drop)]
 pub struct Accepted {
     pub text: Option<String>,
     pub tokens: List<Text>,
 }
 
-/// What a command comes to by what is due for it (JSR 283, 10.11 Saving): a reply, where that is a refusal, has nothing to
-/// write, isn't proper or can't be planned; else a plan. It goes over the whole tree.
+/// What a command comes to by what is due for it (JSR 283, 10.11 Saving): a reply, where that is a
+/// refusal, has nothing to write, isn't proper or can't be planned; else a plan. It goes over the
+/// whole tree.
 pub fn come(
     alloc: Global,
     footing: &Footing<'_>,
@@ -98,17 +100,13 @@ fn come_plan(
 {
     let tokens = strings(alloc, footing.tokens)?;
     match plan_of(alloc, footing.types, footing.base, edit, tokens.as_slice()) {
-        Ok(plan) => Ok(Coming::Planned(plan, accepted(alloc, footing, command)?)),
+        Ok(plan) => Ok(Coming::Planned(plan, told(alloc, footing, command)?)),
         Err(refusal) => Ok(Coming::Said(cause_text(alloc, &refusal)?)),
     }
 }
 
 // What is told of a command once its commit is made.
-fn accepted(
-    alloc: Global,
-    footing: &Footing<'_>,
-    command: &Command,
-) -> Result<Accepted, AllocError>
+fn told(alloc: Global, footing: &Footing<'_>, command: &Command) -> Result<Accepted, AllocError>
     ensures { (c : Call) (due : Result (List Write) Refusal) → IsOn footing.now c
         → edit_due c command.now ≡ Some due → IfOk result (IsAcceptedOf c command.now) }
 {
@@ -122,7 +120,8 @@ fn accepted(
 // What is told of a lock: its token, which the session then holds.
 fn locked(alloc: Global, footing: &Footing<'_>) -> Result<Accepted, AllocError>
     ensures { (c : Call) → IsOn footing.now c → IfOk result (IsTold
-        (Some (answer_text (ShowsText (next_id c.who)))) (with_token c.state.tokens (next_id c.who))) }
+        (Some (answer_text (ShowsText (next_id c.who))))
+        (with_token c.state.tokens (next_id c.who))) }
 {
     let token = next_id(alloc, footing.who)?;
     let text = Some(text_reply(alloc, token.as_str())?);
@@ -131,11 +130,7 @@ fn locked(alloc: Global, footing: &Footing<'_>) -> Result<Accepted, AllocError>
 }
 
 // What is told of a check-in: the version that it makes.
-fn checked_in(
-    alloc: Global,
-    footing: &Footing<'_>,
-    path: &Path,
-) -> Result<Accepted, AllocError>
+fn checked_in(alloc: Global, footing: &Footing<'_>, path: &Path) -> Result<Accepted, AllocError>
     ensures { (c : Call) → IsOn footing.now c → IfOk result (IsTold
         (Some (answer_text (version_answer (checked_in_version c.base path.now)))) c.state.tokens) }
 {

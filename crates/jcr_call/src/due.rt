@@ -25,16 +25,17 @@ use jr_path::{Name, Path};
 use jr_tree::{Edit, Refusal, Tree, Who};
 use std::alloc::{AllocError, Global};
 
-/// What is due of a command that commits (JSR 283, 10.11 Saving): an edit, or the command's refusal.
+/// What is due of a command that commits (JSR 283, 10.11 Saving): an edit, or the command's
+/// refusal.
 #[derive(Drop)]
 pub enum Due {
     Edited(Edit),
     Refused(Refusal),
 }
 
-/// The edit that is due for a command that commits whatever is pending, or its refusal: for those of locks (JSR 283, 17
-/// Locking) and of versions (15 Versioning). There is none for `save`, whose edit is what is pending, nor for a command that
-/// doesn't commit.
+/// The edit that is due for a command that commits whatever is pending, or its refusal: for those
+/// of locks (JSR 283, 17 Locking) and of versions (15 Versioning). There is none for `save`, whose
+/// edit is what is pending, nor for a command that doesn't commit.
 pub fn edit_due(
     alloc: Global,
     footing: &Footing<'_>,
@@ -123,11 +124,7 @@ fn drawing_one(alloc: Global, who: &Who, edit: Edit) -> Result<Option<Due>, Allo
 }
 
 // The edit that unlocks a node, for the tokens that the session holds.
-fn unlock_due(
-    alloc: Global,
-    footing: &Footing<'_>,
-    path: &Path,
-) -> Result<Option<Due>, AllocError>
+fn unlock_due(alloc: Global, footing: &Footing<'_>, path: &Path) -> Result<Option<Due>, AllocError>
     ensures { (c : Call) → IsOn footing.now c → IfOk result (λ found. option_map due_of found
         ≡ Some (unlock_edit c.base path.now c.state.tokens)) }
 {
@@ -136,11 +133,7 @@ fn unlock_due(
 }
 
 // The edit that checks a node in.
-fn checkin_due(
-    alloc: Global,
-    footing: &Footing<'_>,
-    path: &Path,
-) -> Result<Option<Due>, AllocError>
+fn checkin_due(alloc: Global, footing: &Footing<'_>, path: &Path) -> Result<Option<Due>, AllocError>
     ensures { (c : Call) → IsOn footing.now c → IfOk result (λ found. option_map due_of found
         ≡ Some (checkin_edit c.types c.base path.now c.who)) }
 {
@@ -194,11 +187,5 @@ fn restore_due(
     ensures { (c : Call) → IsOn footing.now c → IfOk result (λ found. option_map due_of found
         ≡ Some (restore_edit c.types c.base path.now version.now)) }
 {
-    made_due(restore_edit(
-        alloc,
-        footing.types,
-        footing.base,
-        path,
-        version,
-    ))
+    made_due(restore_edit(alloc, footing.types, footing.base, path, version))
 }

@@ -8,7 +8,7 @@ ghost use Rattle.jcr_view.specs.Needs.{needs_of, needs_to_rebase};
 ghost use Rattle.jcr_view.specs.Outcomes.{is_viewed};
 ghost use Rattle.jcr_view.specs.Rounds.{is_of_one_node};
 ghost use Rattle.jcr_law.specs.State.{Call};
-ghost use Rattle.jcr_held.specs.Alike.{AreAlike};
+ghost use Rattle.jcr_held.specs.Alike.{AreAlike, ChangesPendingOnly};
 ghost use Rattle.jcr_held.specs.Holds.{Holds, IsReady, asks_for};
 
 use crate::Held;
@@ -20,23 +20,33 @@ use jr_rev::Revision;
 use std::alloc::{AllocError, Global};
 
 impl Held {
-    /// What to read next of the tree at the base, a node or the children of one, before a command is run; None where all
-    /// is known that it asks for, and nothing is kept from an earlier base. Commands that commit, and queries, ask for
-    /// the whole tree (JSR 283, 6 Query; 10.11 Saving); `head` and `refresh` for nothing.
+    /// What to read next of the tree at the base, a node or the children of one, before a command
+    /// is run; None where all is known that it asks for, and nothing is kept from an earlier base.
+    /// Commands that commit, and queries, ask for the whole tree (JSR 283, 6 Query; 10.11 Saving);
+    /// `head` and `refresh` for nothing.
     pub fn next_load(&mut self, command: &Command) -> Result<Option<Need>, AllocError>
         ensures ready { IfOk result (λ load. load ≡ None → IsReady self.new command.now) }
         ensures one { IfOk result (λ load. IfSome load (λ n. IsTrue (is_of_one_node n))) }
         ensures holds { (c : Call) → Holds c self.old → Holds c self.new }
+        ensures others { ChangesPendingOnly self.old self.new }
     {
-        let load = load_left(self.alloc, &self.part, &mut self.left)?;
-        if load.is_some() {
-            return Ok(load);
+        match load_left(self.alloc, &self.part, &mut self.left)? {
+            Some(load) => Ok(Some(load)),
+            None => self.load_anew(command),
         }
-        let load = self.load_kept()?;
-        if load.is_some() {
-            return Ok(load);
+    }
+
+    // What to read next where nothing is left to be looked at.
+    fn load_anew(&mut self, command: &Command) -> Result<Option<Need>, AllocError>
+        ensures ready { IfOk result (λ load. load ≡ None → IsReady self.new command.now) }
+        ensures one { IfOk result (λ load. IfSome load (λ n. IsTrue (is_of_one_node n))) }
+        ensures holds { (c : Call) → Holds c self.old → Holds c self.new }
+        ensures others { ChangesPendingOnly self.old self.new }
+    {
+        match self.load_kept()? {
+            Some(load) => Ok(Some(load)),
+            None => self.load_for(command),
         }
-        self.load_for(command)
     }
 
     // What to read next before what is kept is made again; None where that is done.
@@ -44,30 +54,32 @@ impl Held {
         ensures settled { IfOk result (λ load. load ≡ None → IsFalse self.new.is_kept) }
         ensures one { IfOk result (λ load. IfSome load (λ n. IsTrue (is_of_one_node n))) }
         ensures holds { (c : Call) → Holds c self.old → Holds c self.new }
+        ensures others { ChangesPendingOnly self.old self.new }
     {
         if !self.is_kept {
             return Ok(None);
         }
         let needs = self.pending.needs_to_rebase()?;
-        let load = self.load_of(needs)?;
-        if load.is_none() {
-            self.make_again()?;
+        match self.load_of(needs)? {
+            Some(load) => Ok(Some(load)),
+            None => self.make_again(),
         }
-        Ok(load)
     }
 
-    // Makes what is kept again over the tree at the base.
-    fn make_again(&mut self) -> Result<(), AllocError>
+    // Makes what is kept again over the tree at the base. Nothing is to be read for it.
+    fn make_again(&mut self) -> Result<Option<Need>, AllocError>
         requires kept { IsTrue self.old.is_kept }
         requires known { All (LacksNothing self.old.part)
             (needs_to_rebase (edit_of self.old.pending)) }
+        ensures none { IfOk result (λ load. load ≡ None) }
         ensures settled { OnOk result (IsFalse self.new.is_kept) }
         ensures holds { (c : Call) → Holds c self.old → Holds c self.new }
+        ensures others { ChangesPendingOnly self.old self.new }
     {
         rebases_count();
         self.pending.rebase(&self.part)?;
         self.is_kept = false;
-        Ok(())
+        Ok(None)
     }
 
     // What to read next of what a command asks for, where nothing is kept from an earlier base.
@@ -76,6 +88,7 @@ impl Held {
         ensures ready { IfOk result (λ load. load ≡ None → IsReady self.new command.now) }
         ensures one { IfOk result (λ load. IfSome load (λ n. IsTrue (is_of_one_node n))) }
         ensures holds { (c : Call) → Holds c self.old → Holds c self.new }
+        ensures others { ChangesPendingOnly self.old self.new }
     {
         let needs = self.asked(command)?;
         self.load_of(needs)
@@ -103,7 +116,8 @@ impl Held {
         }
     }
 
-    // What to read next of some needs; None where nothing of them lacks. They are left to be looked at.
+    // What to read next of some needs; None where nothing of them lacks. They are left to be looked
+    // at.
     fn load_of(&mut self, needs: Vec<Need>) -> Result<Option<Need>, AllocError>
         ensures known { IfOk result (λ load. load ≡ None
             → All (LacksNothing self.new.part) needs.items) }
@@ -140,13 +154,10 @@ fn first_lacking(part: &Part, needs: &[Need]) -> Result<Option<Need>, AllocError
     Ok(None)
 }
 
-// The next load of the needs that are left, of which it looks at the last first; None where none is left. A subtree is
-// left until its node and its children are known, and then the subtrees of these are: each known node is looked at once.
-fn load_left(
-    alloc: Global,
-    part: &Part,
-    left: &mut Vec<Need>,
-) -> Result<Option<Need>, AllocError>
+// The next load of the needs that are left, of which it looks at the last first; None where none is
+// left. A subtree is left until its node and its children are known, and then the subtrees of these
+// are: each known node is looked at once.
+fn load_left(alloc: Global, part: &Part, left: &mut Vec<Need>) -> Result<Option<Need>, AllocError>
     ensures { IfOk result (λ load. IfSome load (λ n. IsTrue (is_of_one_node n))) }
 {
     for _ in 0..u64::MAX {
@@ -196,12 +207,9 @@ fn lacking_children(part: &Part, path: Path) -> Option<Need>
     }
 }
 
-// The node at a path lacks, or its children, or none of both: then what is below is left to be looked at.
-fn look_below(
-    part: &Part,
-    left: &mut Vec<Need>,
-    path: Path,
-) -> Result<Option<Need>, AllocError>
+// The node at a path lacks, or its children, or none of both: then what is below is left to be
+// looked at.
+fn look_below(part: &Part, left: &mut Vec<Need>, path: Path) -> Result<Option<Need>, AllocError>
     ensures { IfOk result (λ load. IfSome load (λ n. IsTrue (is_of_one_node n))) }
 {
     match part.node(&path) {
