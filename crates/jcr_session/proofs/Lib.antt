@@ -7,7 +7,6 @@ pub mod Lawful
 pub mod Lengths
 pub mod Living
 pub mod Loads
-pub mod Locking
 pub mod Looking
 pub mod Nexts
 pub mod Others

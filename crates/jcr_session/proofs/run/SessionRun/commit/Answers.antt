@@ -13,7 +13,7 @@ come-requires g c = let here = (at_between (g.P.Port.law c.args.port.now) (g.P.P
 pub say_settled-requires-clause-settles : goal.say_settled-requires-clause-settles
 say_settled-requires-clause-settles g c =
     let m = next_due c.args.self.now due.Commit c.requires.next refl in
-    commit_settles (g.P.Port.law c.args.port.now) (g.P.Port.shown c.args.port.now) c.args.self.now c.requires.stands c.requires.between m.0 m.1 c.requires.ready.done m.2 c.in-Ok-Said.text (subst (λ (x : Coming). ComesNext c.args.self.now x) c.in-Ok-Said.field-0-is c.in-Ok-Said.ensures)
+    commit_settles (g.P.Port.law c.args.port.now) (g.P.Port.shown c.args.port.now) c.args.self.now c.requires.stands c.requires.between m.0 m.1 c.requires.ready.done m.2 c.in-Ok-Said.text (subst (λ (x : Coming). ComesNext c.args.self.now x) c.in-Ok-Said.field-0-is c.in-Ok-Said.ensures) c.replies_without_commit_keep_tokens.ensures
 
 pub begin-requires-clause-comes : goal.begin-requires-clause-comes
 begin-requires-clause-comes g c = subst (λ (x : Coming). ComesNext c.args.self.now x) c.in-Ok-Planned.field-0-is c.in-Ok-Planned.ensures
