@@ -22,9 +22,10 @@ use Rattle.jcr_law.specs.State.{Call}
 use Rattle.jcr_call.specs.declared.coming.Coming.{Coming}
 use Rattle.jcr_held.specs.Comes.{ComesTo}
 use Rattle.jcr_held.specs.Holds.{Holds}
+use Rattle.jcr_held.specs.declared.held.Held.{Held}
 use Rattle.jcr_session.specs.declared.run.SessionRun.{SessionRun}
 use Rattle.jcr_session.specs.declared.turn.Turn.{Turn}
-use Rattle.jcr_session.specs.Asked.{ComesNext, IsQueried, MayAnswer, MayDrawFor, MayForgo, MaySettle}
+use Rattle.jcr_session.specs.Asked.{ComesNext, IsQueriedAs, MayAnswer, MayDrawFor, MayForgo, MaySettle}
 use Rattle.jcr_session.specs.Standing.{HasTurned, IsBeside, Stands}
 use Rattle.jcr_session.proofs.Nexts.{same_next}
 use Rattle.jcr_session.proofs.Saying.{answer_later, answer_waits, forgo_waits, idle_later, said_later}
@@ -90,12 +91,12 @@ same_text a b u v h = (
   ap (λ (x : Command). elim x [ command.Query t w ↦ w | _ ↦ u ]) h,
 )
 
-pub queried_by : (run : SessionRun) (text : Text) (vars : List (Name × Value)) (made : Result (String Global) AllocError) → slice_get run.commands run.index ≡ Some (command.Query text vars)
-    → ((c : Call) → Holds c run.held → IfOk made (λ reply. QueryAnswers c text vars (string_bytes reply))) → IfOk made (IsQueried run)
-queried_by run text vars (Ok reply) next h = λ q w c holds is.
-    let s = same_text text q vars w (same_next run.commands run.index (command.Query text vars) (command.Query q w) next is) in
+pub queried_as : (held : Held) (m : Command) (text : Text) (vars : List (Name × Value)) (made : Result (String Global) AllocError) → m ≡ command.Query text vars
+    → ((c : Call) → Holds c held → IfOk made (λ reply. QueryAnswers c text vars (string_bytes reply))) → IfOk made (IsQueriedAs held m)
+queried_as held m text vars (Ok reply) at h = λ q w c holds is.
+    let s = same_text text q vars w (sym at ∙ is) in
     subst (λ (t : Text). QueryAnswers c t w (string_bytes reply)) s.0 (subst (λ (v : List (Name × Value)). QueryAnswers c text v (string_bytes reply)) s.1 (h c holds))
-queried_by run text vars (Err e) next h = tt
+queried_as held m text vars (Err e) at h = tt
 
 -- ---- a text that was made, or for which memory was refused
 

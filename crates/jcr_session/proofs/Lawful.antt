@@ -202,7 +202,7 @@ module _ (law : JcrLaw) (p : Shown) (run : SessionRun) (stands : Stands law p ru
         (says_allowed law p run m at_between.1.call between_asked (string_bytes text) (allowed_due m due.Query is refl).0
         (subst (λ (x : Command). MaySay law p.history p.session (Allowed x) (string_bytes text)) (sym q.2)
         (queried q.0 q.1 at_between.1.call (string_bytes text) at_between.1.is
-        (queries q.0 q.1 at_between.1.call at_between.1.holds (next ∙ ap (λ (x : Command). Some x) q.2)))))
+        (queries m next q.0 q.1 at_between.1.call at_between.1.holds q.2))))
         (unviewed_due m (ap (λ (d : _). nat_eq (due_number d) 6) is))
         (λ ok. subst (λ (x : Command). (accepted at_between.1.call x).tokens ≡ at_between.1.call.state.tokens) (sym q.2) refl)
 
