@@ -1,10 +1,12 @@
 -- Which answers come to the steps of a session's tasks.
-use Rattle.std.proofs.Common.{◌≡◌, refl, subst}
+use Rattle.std.proofs.Common.{◌≡◌, Some, None, Option, is_some, refl, sym, ap, subst}
+use mathlib.Core.Bool.{false≢true}
 use Rattle.jr_path.specs.declared.path.Path.{Path}
+use Rattle.jr_rev.specs.declared.vector.Pin.{Pin}
 use Rattle.jr_tree.specs.declared.edit.Edit.{Edit}
-use Rattle.std.specs.Prelude.{List, ℕ}
-use Rattle.jr_tree.specs.Trees.{Nodes}
+use Rattle.std.specs.Prelude.{true, List, ℕ}
 use Rattle.oak_clash.specs.declared.mark.MarkAt.{MarkAt}
+use Rattle.oak_machine.specs.declared.event.StepKind.{StepKind}
 use Rattle.oak_machine.specs.History.{History, Past}
 use Rattle.oak_machine.specs.Laws.{Says, Starts, after}
 use Rattle.oak_port.specs.Ports.{Awaiting, Deciding, Makes, Shown, Starting, Steps, Undoing, Work, Writing}
@@ -13,15 +15,14 @@ use Rattle.oak_port.specs.declared.task.StepOut.TheVariants as out
 use Rattle.oak_port.specs.declared.task.Task.{Task}
 use Rattle.oak_port.specs.declared.task.Task.TheVariants as task
 use Rattle.oak_port.specs.declared.task.TaskEnd.TheVariants as end
-use Rattle.core_law.specs.State.{Orders}
-use Rattle.jcr_session.specs.declared.law.JcrLaw.{JcrLaw}
+use Rattle.jcr_law.specs.declared.law.JcrLaw.{JcrLaw}
+use Rattle.jcr_call.specs.declared.coming.Accepted.{Accepted}
 use Rattle.jcr_session.specs.declared.run.Phase.{Phase}
 use Rattle.jcr_session.specs.declared.run.Phase.TheVariants as phase
 use Rattle.jcr_session.specs.declared.run.SessionRun.{SessionRun}
-use Rattle.jcr_session.specs.declared.sight.Sight.{Sight}
-use Rattle.jcr_session.specs.declared.sight.Sight.TheVariants as sight
-use Rattle.jcr_session.specs.Answered.{IsCommitAnswer, IsDrawAnswer, IsLeaveAnswer, IsListAnswer, IsLoadAnswer, IsPinAnswer}
-use Rattle.jcr_session.specs.Standing.{IsCommitting, IsInSave, Stands, StandsAt}
+use Rattle.jcr_session.specs.Answered.{IsCommitAnswer, IsDrawAnswer, IsLeaveAnswer, IsListAnswer, IsLoadAnswer, IsPinAnswer, ended_by, has_went, pinned_by}
+use Rattle.jcr_session.specs.Standing.{IsCommitting, Stands, StandsAt, is_committing}
+use Rattle.jcr_session.proofs.Starting.{some_is}
 
 -- ---- of a task that was begun
 
@@ -82,38 +83,65 @@ module _ (starts : Starts) (says : Says) (mid new : Shown) (answer : StepOut) (s
 -- ---- of a commit that has drawn
 
 -- a step that isn't refused memory
-commit_by : (law : Orders) (past : Past) (base view : Nodes) (h : History) (s : ℕ) (w : Work) (a : StepOut) (own : Past) (now : Work) → IsCommitting law past s base view w → Makes h s w a own now → (a ≡ out.Memory → ⊥) → IsCommitAnswer a
-commit_by law past base view h s w (out.Went k) own now c m never = tt
-commit_by law past base view h s w (out.Wait q) own now c m never = tt
-commit_by law past base view h s w (out.Ready (end.Commit e)) own now c m never = tt
-commit_by law past base view h s w out.Memory own now c m never = absurd (never refl)
-commit_by law past base view h s (Writing r) a own now c m never = absurd m
-commit_by law past base view h s (Undoing r e) a own now c m never = absurd m
-commit_by law past base view h s (Deciding r) a own now c m never = absurd m
-commit_by law past base view h s (Awaiting r) a own now c m never = absurd m
-commit_by law past base view h s w a own now c m never = absurd c
+commit_by : (past : Past) (h : History) (s : ℕ) (w : Work) (a : StepOut) (own : Past) (now : Work) → IsCommitting past s w → Makes h s w a own now → (a ≡ out.Memory → ⊥) → IsCommitAnswer a
+commit_by past h s w (out.Went k) own now c m never = tt
+commit_by past h s w (out.Wait q) own now c m never = tt
+commit_by past h s w (out.Ready (end.Commit e)) own now c m never = tt
+commit_by past h s w out.Memory own now c m never = absurd (never refl)
+commit_by past h s (Writing r) a own now c m never = absurd m
+commit_by past h s (Undoing r e) a own now c m never = absurd m
+commit_by past h s (Deciding r) a own now c m never = absurd m
+commit_by past h s (Awaiting r) a own now c m never = absurd m
+commit_by past h s w a own now c m never = absurd c
 
-pub commit_comes : (law : JcrLaw) (p new : Shown) (run : SessionRun) (starts : Starts) (says : Says) (answer : StepOut) → Stands law p run → run.phase ≡ phase.Saving → Steps starts says p new answer → (answer ≡ out.Memory → ⊥) → IsCommitAnswer answer
-commit_comes law p new run starts says answer stands saving steps never = by run.sight (subst (λ (f : Phase). StandsAt law p run f) saving stands.at).1
-  where
-    by : (x : Sight) → IsInSave law p run x → IsCommitAnswer answer
-    by sight.Unread h = absurd h
-    by (sight.Reading w) h = absurd h
-    by (sight.Seen seen) h = commit_by law.sessions p.history.past seen.base seen.view (after steps.others p.history) p.session p.work answer steps.own new.work h.1 steps.makes never
+-- what is accepted, of a session in its commit
+pub commits_by : (f : Phase) → is_committing f ≡ true → (a : Accepted) × (f ≡ phase.Committing a)
+commits_by phase.Outside h = absurd (false≢true h)
+commits_by phase.Between h = absurd (false≢true h)
+commits_by (phase.Refreshed v) h = absurd (false≢true h)
+commits_by (phase.Committing a) h = (a, refl)
+commits_by (phase.Committed e a) h = absurd (false≢true h)
+commits_by phase.Over h = absurd (false≢true h)
 
--- a commit that was refused memory undoes, and undoing is refused none
-undoes_on : (law : Orders) (past : Past) (base view : Nodes) (h g : History) (s t : ℕ) (w mid now : Work) (first second : Past) → IsCommitting law past s base view w → Makes h s w out.Memory first mid → Makes g t mid out.Memory second now → ⊥
-undoes_on law past base view h g s t (Writing r) mid now first second c once twice = subst (λ (w : Work). Makes g t w out.Memory second now) once.1 twice
-undoes_on law past base view h g s t (Undoing r e) mid now first second c once twice = once
-undoes_on law past base view h g s t (Deciding r) mid now first second c once twice = once
-undoes_on law past base view h g s t (Awaiting r) mid now first second c once twice = once
-undoes_on law past base view h g s t w mid now first second c once twice = absurd c
+module _ (law : JcrLaw) (p : Shown) (run : SessionRun) (a : Accepted) (stands : Stands law p run) (commits : run.phase ≡ phase.Committing a) where
+  committing_is : IsCommitting p.history.past p.session p.work
+  committing_is = (subst (λ (f : Phase). StandsAt law p run f) commits stands.at).1.commits
 
-pub memory_once : (law : JcrLaw) (p mid new : Shown) (run : SessionRun) (starts later_starts : Starts) (says later_says : Says) → Stands law p run → run.phase ≡ phase.Saving → Steps starts says p mid out.Memory → Steps later_starts later_says mid new out.Memory → ⊥
-memory_once law p mid new run starts later_starts says later_says stands saving once twice = by run.sight (subst (λ (f : Phase). StandsAt law p run f) saving stands.at).1
-  where
-    by : (x : Sight) → IsInSave law p run x → ⊥
-    by sight.Unread h = h
-    by (sight.Reading w) h = h
-    by (sight.Seen seen) h =
-        undoes_on law.sessions p.history.past seen.base seen.view (after once.others p.history) (after twice.others mid.history) p.session mid.session p.work mid.work new.work once.own twice.own h.1 once.makes twice.makes
+  pub commit_comes : (new : Shown) (starts : Starts) (says : Says) (answer : StepOut) → Steps starts says p new answer → (answer ≡ out.Memory → ⊥) → IsCommitAnswer answer
+  commit_comes new starts says answer steps never = commit_by p.history.past (after steps.others p.history) p.session p.work answer steps.own new.work committing_is steps.makes never
+
+  -- a commit that was refused memory undoes, and undoing is refused none
+  undoes_on : (past : Past) (h g : History) (s t : ℕ) (w mid now : Work) (first second : Past) → IsCommitting past s w → Makes h s w out.Memory first mid → Makes g t mid out.Memory second now → ⊥
+  undoes_on past h g s t (Writing r) mid now first second c once twice = subst (λ (w : Work). Makes g t w out.Memory second now) once.1 twice
+  undoes_on past h g s t (Undoing r e) mid now first second c once twice = once
+  undoes_on past h g s t (Deciding r) mid now first second c once twice = once
+  undoes_on past h g s t (Awaiting r) mid now first second c once twice = once
+  undoes_on past h g s t w mid now first second c once twice = absurd c
+
+  pub memory_once : (mid new : Shown) (starts later_starts : Starts) (says later_says : Says) → Steps starts says p mid out.Memory → Steps later_starts later_says mid new out.Memory → ⊥
+  memory_once mid new starts later_starts says later_says once twice =
+      undoes_on p.history.past (after once.others p.history) (after twice.others mid.history) p.session mid.session p.work mid.work new.work once.own twice.own committing_is once.makes twice.makes
+
+-- ---- by what the session finds
+
+pub pinned_is : (answer : StepOut) (pin : Pin) → pinned_by answer ≡ Some pin → answer ≡ out.Ready (end.Pinned pin)
+pinned_is (out.Ready (end.Pinned p)) pin h = ap (λ (x : Pin). out.Ready (end.Pinned x)) (some_is h)
+pinned_is a pin h = absurd (false≢true (ap is_some h))
+
+pub ended_is : (answer : StepOut) → ended_by answer ≡ true → answer ≡ out.Ready end.Ended
+ended_is (out.Ready end.Ended) h = refl
+ended_is a h = absurd (false≢true h)
+
+pub went_is : (answer : StepOut) → has_went answer ≡ true → (k : StepKind) × (answer ≡ out.Went k)
+went_is (out.Went k) h = (k, refl)
+went_is a h = absurd (false≢true h)
+
+pub unpinned_is : (answer : StepOut) → IsPinAnswer answer → pinned_by answer ≡ None → answer ≡ out.Memory
+unpinned_is (out.Ready (end.Pinned p)) is h = absurd (false≢true (ap is_some (sym h)))
+unpinned_is out.Memory is h = refl
+unpinned_is a is h = absurd is
+
+pub undrawn_is : (answer : StepOut) → IsDrawAnswer answer → has_went answer ≡ Rattle.std.specs.Prelude.false → answer ≡ out.Memory
+undrawn_is (out.Went k) is h = absurd (false≢true (sym h))
+undrawn_is out.Memory is h = refl
+undrawn_is a is h = absurd is

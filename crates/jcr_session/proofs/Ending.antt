@@ -1,170 +1,237 @@
--- What a session answers to a refresh once its base has moved, and to a save once its commit has ended.
-use Rattle.std.proofs.Common.{◌≡◌, false, Some, [], ◌∷◌, ◌++◌, refl, sym, ap, ◌∙◌, subst, None}
+-- What a session answers once its commit has ended.
+use Rattle.std.proofs.Common.{◌≡◌, ℕ, Bool, true, false, cond, not, Some, None, Option, List, is_some, refl, sym, ap, ◌∙◌, subst}
+use Rattle.std.specs.Prelude.{option_map, slice_get, string_bytes}
+use Rattle.std.specs.Option.{option_map_or}
+use Rattle.std.specs.declared.alloc.Global.{Global}
+use Rattle.std.specs.declared.string.String.{String}
+use mathlib.Core.Bool.{false≢true}
+use Rattle.jr_path.specs.declared.name.Name.{Name}
 use Rattle.jr_path.specs.declared.path.Item.{Item}
 use Rattle.jr_path.specs.declared.text.Text.{Text}
 use Rattle.jr_rev.specs.declared.revision.Revision.{Revision}
+use Rattle.jr_rev.specs.declared.vector.Pin.{Pin}
 use Rattle.jr_rev.specs.declared.vector.RevVec.{RevVec}
-use Rattle.jr_tree.specs.declared.shared.Datum.TheVariants as datum
 use Rattle.jr_tree.specs.Trees.{IsTree, Nodes}
-use Rattle.oak_machine.specs.History.{Past}
-use Rattle.oak_machine.specs.Laws.{AreOthers, after}
-use Rattle.oak_machine.specs.Runs.{IsRun}
+use Rattle.jr_items.specs.Refusals.{clash}
+use Rattle.oak_machine.specs.Commits.{is_committed, is_ended, tree_at}
+use Rattle.oak_machine.specs.Sessions.{base_of, drawn_since, is_drawing}
 use Rattle.oak_port.specs.Ports.{HasRoom, Idle, Shown}
 use Rattle.oak_commit.specs.declared.outcome.CommitEnd.{CommitEnd}
 use Rattle.oak_commit.specs.declared.outcome.CommitEnd.TheVariants as commit
-use Rattle.jcr_trans.specs.declared.command.Command.TheVariants as command
-use Rattle.jcr_trans.specs.Answers.{Refused, ShowsRevision, ShowsVector}
+use Rattle.jcr_trans.specs.Answers.{Answer, ShowsRevision}
 use Rattle.jcr_trans.specs.Texts.{answer_text, memory_text}
-use Rattle.core_law.specs.Law.{clashed}
-use Rattle.core_law.specs.State.{base_tree, command_at}
-use Rattle.core_law.specs.Turns.{IsOver}
-use Rattle.core_heads.proofs.Passing.{idle_stays}
-use Rattle.core_law.proofs.Turns.{says_memory, says_refreshed, says_saved, turn_memory, turn_refreshed, turn_refused, turn_saved}
+use Rattle.jcr_trans.specs.declared.command.Command.{Command}
+use Rattle.jcr_trans.specs.declared.command.Command.TheVariants as command
+use Rattle.jcr_law.specs.declared.law.JcrLaw.{JcrLaw}
+use Rattle.jcr_law.specs.Built.{Allowed}
+use Rattle.jcr_law.specs.Commits.{committed_answer, version_answer}
+use Rattle.jcr_law.specs.Law.{MaySay, clashed, committed, no_text}
+use Rattle.jcr_law.specs.Starting.{call_has_base}
+use Rattle.jcr_law.specs.State.{Call, accepted, is_ok_text}
+use Rattle.jcr_call.specs.Calls.{call_moved}
+use Rattle.jcr_call.specs.Comings.{accepted_text}
+use Rattle.jcr_call.specs.declared.coming.Accepted.{Accepted}
+use Rattle.jcr_held.specs.Accepts.{TokensFit}
+use Rattle.jcr_held.specs.Holds.{Holds}
+use Rattle.jcr_held.specs.declared.held.Held.{Held}
+use Rattle.core_calls.specs.Replies.{is_refusal}
+use Rattle.core_calls.proofs.Accepting.{answer_accepts}
 use Rattle.jcr_session.specs.declared.limits.TheConstants.{COMMIT_REPLY_BYTES}
-use Rattle.jcr_session.specs.declared.law.JcrLaw.{JcrLaw}
+use Rattle.jcr_session.specs.declared.next.Due.TheVariants as due
 use Rattle.jcr_session.specs.declared.run.Phase.{Phase}
 use Rattle.jcr_session.specs.declared.run.Phase.TheVariants as phase
 use Rattle.jcr_session.specs.declared.run.SessionRun.{SessionRun}
-use Rattle.jcr_session.specs.declared.sight.Seen.{Seen}
-use Rattle.jcr_session.specs.declared.sight.Sight.{Sight}
-use Rattle.jcr_session.specs.declared.sight.Sight.TheVariants as sight
-use Rattle.jcr_session.specs.Sights.{IsIn, says_of, starts_of}
-use Rattle.jcr_session.specs.Standing.{HasCommitted, HasSaved, IsRefreshed, IsSaving, MayAnswer, SeesThen, Stands, StandsAt}
-use Rattle.jcr_session.proofs.Replying.{may_like}
-use Rattle.jcr_session.proofs.Waiting.{over_still, tree_still}
+use Rattle.jcr_session.specs.Asked.{HasClashed, IsAsked, MayAnswer, MayForgo, Settles}
+use Rattle.jcr_session.specs.Standing.{IsAtEnd, IsBeside, IsCalled, IsClash, IsFor, IsIn, IsMadeFor, IsUnmade, Stands, due_by, due_for}
+use Rattle.jcr_session.proofs.Drawing.{commit_allowed}
+use Rattle.jcr_session.proofs.Lawful.{forgo_answers, refused_text, says_allowed, settled_asked, settled_leaves, settled_says}
+use Rattle.jcr_session.proofs.Nexts.{allowed_due, apart, due_at, due_number, unviewed_due}
+use Rattle.jcr_session.proofs.Saying.{answer_waits, asked_like, asked_waits}
 
-module _ (law : JcrLaw) (p : Shown) (run : SessionRun) (stands : Stands law p run) where
-  -- ---- a refresh
+-- ---- the command whose commit has ended
 
-  module _ (v : RevVec) (is : run.phase ≡ phase.Refreshed v) where
-    at_refreshed : IsIn law p × IsRefreshed law p run v
-    at_refreshed = subst (λ (f : Phase). StandsAt law p run f) is stands.at
+module _ (law : JcrLaw) (p : Shown) (run : SessionRun) (e : CommitEnd) (a : Accepted) (stands : Stands law p (record run { phase = phase.Committed e a })) where
+  abbrev ended : IsAtEnd law p (record run { phase = phase.Committed e a }) e a
+  ended = stands.at.1
 
-    command_is : command_at law.sessions p.session run.index ≡ Some (command.Refresh false)
-    command_is = ap (λ s. command_at law.sessions s run.index) stands.session ∙ at_refreshed.1.refreshing
+  pub end_room : HasRoom p.room COMMIT_REPLY_BYTES
+  end_room = ended.for.place.told
 
-    pub shows_vector : MayAnswer law p run (answer_text (ShowsVector v))
-    shows_vector = record {
-      inside = at_refreshed.0;
-      session = stands.session;
-      few = stands.few;
-      commands = stands.commands;
-      index = stands.index;
-      idle = at_refreshed.1.idle;
-      says = says_refreshed law.sessions p.history stands.begun p.session run.index [] [] v command_is at_refreshed.1.moved;
-      leaves = λ added later others. subst (λ (x : Sight). SeesThen law.sessions (added ++ p.history.past) p.session run.index (answer_text (ShowsVector v)) x) (sym at_refreshed.1.unread)
-          (turn_refreshed law.sessions (added ++ p.history.past) p.session run.index v (base_tree (added ++ p.history.past) p.session) command_is refl
-          (idle_stays (added ++ p.history.past) added p.history.past p.session others at_refreshed.1.still)
-          (subst IsTree (sym (tree_still law p.history.clusters p.history.sessions at_refreshed.0.nodes p.session added p.history.past at_refreshed.0.begun at_refreshed.0.run later others)) at_refreshed.0.tree));
-    }
+  end_asked : (c : Call) → is_drawing p.history.past p.session ≡ false → IsCalled law p c → IsAsked law p run ended.for.command c
+  end_asked c still is = record {
+    inside = stands.at.0;
+    session = stands.session;
+    few = stands.few;
+    commands = stands.commands;
+    index = stands.index;
+    idle = ended.idle;
+    unread = ended.unread;
+    still = still;
+    next = ended.for.next;
+    call = is;
+  }
 
-  -- ---- a save
+-- it wasn't made
+unmade_forgoes : (law : JcrLaw) (p : Shown) (run : SessionRun) (m : Command) (c : Call) (r : Revision) → IsAsked law p run m c → IsUnmade p.history.past p.session r → Holds c run.held → MayForgo law p run true
+unmade_forgoes law p run m c r asked is holds = record {
+  command = m;
+  call = c;
+  asked = asked;
+  drew_is = ap is_some is.drawn;
+  uncommitted = ap (λ (o : Option Revision). option_map_or (is_committed p.history.past) o false) is.drawn ∙ is.unmade;
+  holds = holds;
+}
 
-  module _ (e : CommitEnd) (is : run.phase ≡ phase.Saved e) where
-    pub at_saved : IsIn law p × HasSaved law p run e run.sight
-    at_saved = subst (λ (f : Phase). StandsAt law p run f) is stands.at
+module _ (law : JcrLaw) (p : Shown) (run : SessionRun) (a : Accepted) where
+  pub memory_forgoes : Stands law p (record run { phase = phase.Committed commit.Memory a }) → MayForgo law p run true
+  memory_forgoes stands =
+      let x = stands.at.1 in
+      unmade_forgoes law p run x.for.command x.call x.ended.0 (end_asked law p run commit.Memory a stands x.call x.ended.2.idle x.ended.1) x.ended.2 x.for.holds
 
-    inside : IsIn law p
-    inside = at_saved.0
-
-    pub seen_by : (x : Sight) → HasSaved law p run e x → (seen : Seen) × (x ≡ sight.Seen seen) × IsSaving law p run × (p.work ≡ Idle) × HasCommitted law.sessions p.history.past p.session seen.base seen.view e
-    seen_by sight.Unread h = absurd h
-    seen_by (sight.Reading w) h = absurd h
-    seen_by (sight.Seen seen) h = (seen, refl, h.0, h.1, h.2)
-
-    abbrev here : (seen : Seen) × (run.sight ≡ sight.Seen seen) × IsSaving law p run × (p.work ≡ Idle) × HasCommitted law.sessions p.history.past p.session seen.base seen.view e
-    here = seen_by run.sight at_saved.1
-
-    save_is : command_at law.sessions p.session run.index ≡ Some command.Save
-    save_is = ap (λ s. command_at law.sessions s run.index) stands.session ∙ here.2.saving
-
-    pub saved_room : HasRoom p.room COMMIT_REPLY_BYTES
-    saved_room = here.2.room
-
-    over_then : (base view : Nodes) → IsOver law.sessions p.history.past p.session base view → (added : Past) → IsRun (starts_of law) (says_of law) (after added p.history) → AreOthers p.session added p.history.past → IsOver law.sessions (added ++ p.history.past) p.session base view
-    over_then base view over added later others = over_still law p.history.clusters p.history.sessions inside.nodes p.session added p.history.past inside.begun inside.run later others base view over
-
-    -- it is committed, and the base sees it: the tree there isn't read yet
-    pub shows_revision : (r : Revision) → e ≡ commit.Committed r → MayAnswer law p (record run { sight = sight.Unread }) (answer_text (ShowsRevision r))
-    shows_revision r end =
-        let c : HasCommitted law.sessions p.history.past p.session here.0.base here.0.view (commit.Committed r) = subst (λ (f : CommitEnd). HasCommitted law.sessions p.history.past p.session here.0.base here.0.view f) end here.4 in record {
-          inside = inside;
-          session = stands.session;
-          few = stands.few;
-          commands = stands.commands;
-          index = stands.index;
-          idle = here.3;
-          says = says_saved law.sessions p.history stands.begun p.session run.index [] [] r c.0 save_is c.1 c.2 c.3 c.4 c.5;
-          leaves = λ added later others.
-              turn_saved law.sessions (added ++ p.history.past) p.session run.index r (base_tree (added ++ p.history.past) p.session) save_is refl
-              (idle_stays (added ++ p.history.past) added p.history.past p.session others c.6)
-              (subst IsTree (sym (tree_still law p.history.clusters p.history.sessions inside.nodes p.session added p.history.past inside.begun inside.run later others)) inside.tree);
-        }
-
-    -- it isn't: the session stands where it stood
-    module _ (over : IsOver law.sessions p.history.past p.session here.0.base here.0.view) where
-      pub forgoes_save : MayAnswer law p run memory_text
-      forgoes_save = record {
-        inside = inside;
-        session = stands.session;
-        few = stands.few;
-        commands = stands.commands;
-        index = stands.index;
-        idle = here.3;
-        says = says_memory law.sessions p.history stands.begun p.session run.index here.0.base here.0.view command.Save over save_is;
-        leaves = λ added later others. subst (λ (x : Sight). SeesThen law.sessions (added ++ p.history.past) p.session run.index memory_text x) (sym here.1)
-            (turn_memory law.sessions (record (after added p.history) { begin = None }) refl p.session run.index here.0.base here.0.view (over_then here.0.base here.0.view over added later others));
+  pub clash_ended : (item : Item) (o : Revision) → Stands law p (record run { phase = phase.Committed (commit.Clash item o) a }) → HasClashed law p run item o
+  clash_ended item o stands =
+      let x = stands.at.1 in record {
+        command = x.for.command;
+        call = x.call;
+        asked = end_asked law p run (commit.Clash item o) a stands x.call x.ended.2.unmade.idle x.ended.1;
+        revision = x.ended.0;
+        clash = x.ended.2;
+        commits = x.for.commits;
+        holds = x.for.holds;
+        room = x.for.place.told;
       }
 
-    pub shows_clash : (item : Item) (o : Revision) → e ≡ commit.Clash item o → MayAnswer law p run (answer_text (Refused 10 (datum.Item item ∷ datum.Revision o ∷ [])))
-    shows_clash item o end =
-        let c : HasCommitted law.sessions p.history.past p.session here.0.base here.0.view (commit.Clash item o) = subst (λ (f : CommitEnd). HasCommitted law.sessions p.history.past p.session here.0.base here.0.view f) end here.4 in record {
-          inside = inside;
-          session = stands.session;
-          few = stands.few;
-          commands = stands.commands;
-          index = stands.index;
-          idle = here.3;
-          says = (stands.begun, (command.Save, Refused 10 (datum.Item item ∷ datum.Revision o ∷ []), save_is, refl, clashed c.0 o item c.1 c.2 c.3));
-          leaves = λ added later others. subst (λ (x : Sight). SeesThen law.sessions (added ++ p.history.past) p.session run.index (answer_text (Refused 10 (datum.Item item ∷ datum.Revision o ∷ []))) x) (sym here.1)
-              (turn_refused law.sessions (added ++ p.history.past) p.session run.index (answer_text (Refused 10 (datum.Item item ∷ datum.Revision o ∷ []))) here.0.base here.0.view
-              (over_then here.0.base here.0.view c.4 added later others) refl);
-        }
+module _ (law : JcrLaw) (p : Shown) (run now : SessionRun) (item : Item) (o : Revision) (has : HasClashed law p run item o) (settles : Settles run now false true None) where
+  pub clash_forgoes : MayForgo law p run true
+  clash_forgoes = unmade_forgoes law p run has.command has.call has.revision has.asked has.clash.unmade has.holds
 
-    pub forgoes_clash : (item : Item) (o : Revision) → e ≡ commit.Clash item o → MayAnswer law p run memory_text
-    forgoes_clash item o end = forgoes_save (subst (λ (f : CommitEnd). HasCommitted law.sessions p.history.past p.session here.0.base here.0.view f) end here.4).4
+  pub clash_memory : MayAnswer law p now memory_text
+  clash_memory = forgo_answers law p run now true clash_forgoes settles
 
-    pub forgoes_ended : e ≡ commit.Memory → MayAnswer law p run memory_text
-    forgoes_ended end = forgoes_save (subst (λ (f : CommitEnd). HasCommitted law.sessions p.history.past p.session here.0.base here.0.view f) end here.4)
+  pub clash_answers : MayAnswer law p now (no_text (clash item o))
+  clash_answers = record {
+    command = has.command;
+    call = has.call;
+    asked = settled_asked law p run now false true None settles has.command has.call has.asked;
+    says = settled_says law p run now false true None settles (no_text (clash item o))
+        (says_allowed law p run has.command has.call has.asked (no_text (clash item o)) (commit_allowed run has.command has.asked.next has.commits)
+        (clashed has.command has.revision o item has.clash.unmade.drawn has.clash.ended has.clash.told));
+    leaves = settled_leaves law p run now false true None settles has.command has.call (no_text (clash item o)) has.asked.next has.holds (λ ok. absurd (false≢true ok)) (refused_text (clash item o)) clash_forgoes.drew_is;
+  }
 
--- ---- by the end of the commit, where the run has left its phase
+-- ---- it was made
 
-module _ (law : JcrLaw) (p : Shown) (run : SessionRun) where
-  pub ended_room : (e : CommitEnd) → Stands law p (record run { phase = phase.Saved e }) → HasRoom p.room COMMIT_REPLY_BYTES
-  ended_room e stands = saved_room law p (record run { phase = phase.Saved e }) stands e refl
+-- moving the base changes nothing of what is told of a commit
+moved_answer : (c : Call) (v : RevVec) (t on : Nodes) (r : Revision) (m : Command) → committed_answer (call_moved c v t) on r m ≡ committed_answer c on r m
+moved_answer c v t on r (command.Lock p deep) = refl
+moved_answer c v t on r (command.Checkin p) = refl
+moved_answer c v t on r m = refl
 
-  pub ended_revision : (r : Revision) → Stands law p (record run { phase = phase.Saved (commit.Committed r) }) → (now : SessionRun) (text : Text) → now ≡ record run { sight = sight.Unread } → text ≡ answer_text (ShowsRevision r) → MayAnswer law p now text
-  ended_revision r stands now text is told =
-      subst (λ (t : Text). MayAnswer law p now t) (sym told)
-      (may_like law p (record run { phase = phase.Saved (commit.Committed r); sight = sight.Unread }) now (answer_text (ShowsRevision r))
-      (shows_revision law p (record run { phase = phase.Saved (commit.Committed r) }) stands (commit.Committed r) refl r refl)
-      (ap (λ (x : SessionRun). x.session) is) (ap (λ (x : SessionRun). x.commands) is) (ap (λ (x : SessionRun). x.index) is) (ap (λ (x : SessionRun). x.sight) is))
+-- nor of the tokens that are held then
+moved_tokens : (c : Call) (v : RevVec) (t : Nodes) (m : Command) → due_by m ≡ due.Commit → (accepted (call_moved c v t) m).tokens ≡ (accepted c m).tokens
+moved_tokens c v t command.Save h = refl
+moved_tokens c v t (command.Lock p deep) h = refl
+moved_tokens c v t (command.Unlock p) h = refl
+moved_tokens c v t (command.Checkin p) h = refl
+moved_tokens c v t (command.Checkout p) h = refl
+moved_tokens c v t (command.Label p version label take) h = refl
+moved_tokens c v t (command.Unlabel p label) h = refl
+moved_tokens c v t (command.Restore p version) h = refl
+moved_tokens c v t command.Head h = apart due.ShowBase due.Commit refl h
+moved_tokens c v t (command.Refresh keep) h = apart due.Refresh due.Commit refl h
+moved_tokens c v t (command.Query text vars) h = apart due.Query due.Commit refl h
+moved_tokens c v t m h = apart due.See due.Commit refl h
 
-  module _ (item : Item) (o : Revision) (stands : Stands law p (record run { phase = phase.Saved (commit.Clash item o) })) where
-    pub ended_clash : (text : Text) → text ≡ answer_text (Refused 10 (datum.Item item ∷ datum.Revision o ∷ [])) → MayAnswer law p run text
-    ended_clash text told =
-        subst (λ (t : Text). MayAnswer law p run t) (sym told)
-        (may_like law p (record run { phase = phase.Saved (commit.Clash item o) }) run (answer_text (Refused 10 (datum.Item item ∷ datum.Revision o ∷ [])))
-        (shows_clash law p (record run { phase = phase.Saved (commit.Clash item o) }) stands (commit.Clash item o) refl item o refl) refl refl refl refl)
+-- and it is no refusal
+version_shown : (n : Option Name) → is_refusal (version_answer n) ≡ false
+version_shown None = refl
+version_shown (Some n) = refl
 
-    pub ended_unshown : MayAnswer law p run memory_text
-    ended_unshown = may_like law p (record run { phase = phase.Saved (commit.Clash item o) }) run memory_text (forgoes_clash law p (record run { phase = phase.Saved (commit.Clash item o) }) stands (commit.Clash item o) refl item o refl) refl refl refl refl
+committed_shown : (c : Call) (on : Nodes) (r : Revision) (m : Command) → is_refusal (committed_answer c on r m) ≡ false
+committed_shown c on r (command.Lock p deep) = refl
+committed_shown c on r (command.Checkin p) = version_shown _
+committed_shown c on r m = refl
 
-  pub ended_memory : Stands law p (record run { phase = phase.Saved commit.Memory }) → MayAnswer law p run memory_text
-  ended_memory stands = may_like law p (record run { phase = phase.Saved commit.Memory }) run memory_text (forgoes_ended law p (record run { phase = phase.Saved commit.Memory }) stands commit.Memory refl refl) refl refl refl refl
+module _ (law : JcrLaw) (p : Shown) (run : SessionRun) (r : Revision) (a : Accepted) (stands : Stands law p (record run { phase = phase.Committed (commit.Committed r) a })) where
+  abbrev here : IsAtEnd law p (record run { phase = phase.Committed (commit.Committed r) a }) (commit.Committed r) a
+  here = stands.at.1
 
--- the phase is put back
-pub stands_saved : (law : JcrLaw) (p : Shown) (run now : SessionRun) (f : Phase) (e : CommitEnd) → Stands law p run → f ≡ run.phase → f ≡ phase.Saved e → now ≡ record run { phase = phase.Between } → Stands law p (record now { phase = phase.Saved e })
-stands_saved law p run now f e stands same saved is =
-    subst (λ (x : SessionRun). Stands law p (record x { phase = phase.Saved e })) (sym is)
-    (subst (λ (g : Phase). Stands law p (record run { phase = g })) (sym same ∙ saved) stands)
+  abbrev c : Call
+  c = here.call
+
+  abbrev made : IsMadeFor law p.history p.session c r
+  made = here.ended
+
+  abbrev moved : Call
+  moved = call_moved c made.base made.tree
+
+  asked_made : IsAsked law p run here.for.command moved
+  asked_made = end_asked law p run (commit.Committed r) a stands moved made.idle made.call
+
+  allowed : due_by here.for.command ≡ due.Commit
+  allowed = (allowed_due here.for.command due.Commit (sym (due_at run here.for.command here.for.next) ∙ here.for.commits) refl).1
+
+  -- the base has moved to where the pin is
+  pub made_pin : (o : Option Pin) (pin : Pin) → o ≡ Some pin → (Rattle.oak_machine.specs.Sessions.has_left p.history.past p.session ≡ false → option_map (λ x. x.base) o ≡ base_of p.history.past p.session) → pin.base ≡ made.base
+  made_pin o pin is told =
+      ap (λ (x : Option RevVec). elim x [ Some v ↦ v | None ↦ pin.base ])
+      (sym (ap (option_map (λ (x : Pin). x.base)) is) ∙ (told stands.at.0.stays ∙ call_has_base law p.history.begin p.history.past p.session moved made.call))
+
+  pub made_tree : IsTree made.tree
+  made_tree = made.tree_is
+
+  answer_is : accepted_text a r ≡ answer_text (committed_answer moved (tree_at p.history.begin p.history.past made.made.base) made.made.revision here.for.command)
+  answer_is =
+      here.for.accepts.text r
+      ∙ (ap (λ (t : Nodes). answer_text (committed_answer c t r here.for.command)) (sym made.on)
+      ∙ (ap (λ (q : Revision). answer_text (committed_answer c (tree_at p.history.begin p.history.past made.made.base) q here.for.command)) (sym made.revision)
+      ∙ ap answer_text (sym (moved_answer c made.base made.tree (tree_at p.history.begin p.history.past made.made.base) made.made.revision here.for.command))))
+
+  accepts : is_ok_text (accepted_text a r) ≡ true
+  accepts = ap is_ok_text answer_is ∙ (answer_accepts (committed_answer moved (tree_at p.history.begin p.history.past made.made.base) made.made.revision here.for.command)
+      ∙ ap not (committed_shown moved (tree_at p.history.begin p.history.past made.made.base) made.made.revision here.for.command))
+
+  ended_made : is_ended p.history.past made.made.revision ≡ true
+  ended_made = ap (is_ended p.history.past) made.revision ∙ made.ended
+
+  committed_made : is_committed p.history.past made.made.revision ≡ true
+  committed_made = ap (is_committed p.history.past) made.revision ∙ made.committed
+
+  -- once what is held is moved to there, and accepted
+  module _ (held : Held) (holds : Holds moved held) (now : SessionRun) (settles : Settles (record run { held = held }) now true true (Some a.tokens)) where
+    pub made_answers : MayAnswer law p now (accepted_text a r)
+    made_answers = record {
+      command = here.for.command;
+      call = moved;
+      asked = settled_asked law p (record run { held = held }) now true true (Some a.tokens) settles here.for.command moved (asked_like law here.for.command moved p run (record run { held = held }) refl refl refl refl asked_made);
+      says = settled_says law p (record run { held = held }) now true true (Some a.tokens) settles (accepted_text a r)
+          (says_allowed law p run here.for.command moved asked_made (accepted_text a r) (commit_allowed run here.for.command here.for.next here.for.commits)
+          (subst (λ (t : Text). MaySay law p.history p.session (Allowed here.for.command) t) (sym answer_is)
+          (committed here.for.command moved made.made made.base made.draw ended_made committed_made made.moved
+          (ap (Rattle.jr_rev.specs.Vectors.sees made.base) made.revision ∙ made.seen) made.call)));
+      leaves = settled_leaves law p (record run { held = held }) now true true (Some a.tokens) settles here.for.command moved (accepted_text a r) here.for.next holds
+          (λ ok. here.for.accepts.tokens ∙ sym (moved_tokens c made.base made.tree here.for.command allowed)) accepts (ap is_some made.drawn);
+    }
+
+-- the text that is told: that which was made before, or the revision
+abbrev pub told_as : Revision → Option (String Global) → Text
+told_as r o = option_map_or string_bytes o (answer_text (ShowsRevision r))
+
+module _ (law : JcrLaw) (p : Shown) (run : SessionRun) (r : Revision) (a : Accepted) (stands : Stands law p (record run { phase = phase.Committed (commit.Committed r) a })) where
+  abbrev at_end : IsAtEnd law p (record run { phase = phase.Committed (commit.Committed r) a }) (commit.Committed r) a
+  at_end = stands.at.1
+
+  abbrev made_it : IsMadeFor law p.history p.session at_end.call r
+  made_it = at_end.ended
+
+  -- the session has a base
+  pub made_base : {A : Type 0} (o : Option Pin) → o ≡ None → (Rattle.oak_machine.specs.Sessions.has_left p.history.past p.session ≡ false → option_map (λ x. x.base) o ≡ base_of p.history.past p.session) → A
+  made_base o none told = absurd (false≢true (ap is_some (sym (ap (option_map (λ (x : Pin). x.base)) none) ∙ (told stands.at.0.stays ∙ call_has_base law p.history.begin p.history.past p.session (call_moved at_end.call made_it.base made_it.tree) made_it.call))))
+
+  -- what is held once it moved there
+  pub made_holds : (pin : Pin) → pin.base ≡ made_it.base → (held : Held) → ((c : Call) (t : Nodes) → Holds c run.held → run.held.is_kept ≡ false → IsTree t → Holds (call_moved c pin.base t) held)
+      → Holds (call_moved at_end.call made_it.base made_it.tree) held
+  made_holds pin is held moves = subst (λ (v : RevVec). Holds (call_moved at_end.call v made_it.tree) held) is (moves at_end.call made_it.tree at_end.for.holds at_end.for.settled made_it.tree_is)
+
+  pub made_next : (m : Command) × (slice_get run.commands run.index ≡ Some m) × (Rattle.jcr_view.specs.Outcomes.is_viewed m ≡ false)
+  made_next = (at_end.for.command, at_end.for.next, unviewed_due at_end.for.command (ap (λ (d : _). Rattle.std.proofs.Common.nat_eq (due_number d) 6) (sym (due_at run at_end.for.command at_end.for.next) ∙ at_end.for.commits)))

@@ -1,24 +1,19 @@
+pub mod Calling
+pub mod Coming
+pub mod Committing
+pub mod Drawing
+pub mod Ending
 pub mod Lawful
-pub mod Without
-mod Others
-mod Waiting
-mod Walking
-mod Reading
-mod Saying
-mod Committing
-mod Trees
-mod Turning
-mod Replying
-mod Living
-mod Starting
-mod Ending
-mod Looking
-mod Answering
-mod Drawing
+pub mod Lengths
+pub mod Living
+pub mod Loads
+pub mod Looking
+pub mod Nexts
+pub mod Others
+pub mod Reading
+pub mod Saying
+pub mod Starting
 pub mod Staying
-mod Lengths
-mod Seeing
-mod Calling
-mod Beginning
-mod Leaving
-mod Coming
+pub mod Stepping
+pub mod Turning
+pub mod Waiting

@@ -1,44 +1,44 @@
--- A session logs in, moves its base, and leaves.
-use Rattle.std.proofs.Common.{◌≡◌, inl, ℕ, true, false, cond, ◌||◌, None, Option, List, [], ◌∷◌, ◌++◌, refl, sym, ap, ◌∙◌, subst, arith}
+-- A session logs in.
+use Rattle.std.proofs.Common.{◌≡◌, inl, ℕ, true, false, cond, ◌||◌, None, Some, Option, List, [], ◌∷◌, ◌++◌, is_some, refl, sym, ap, ◌∙◌, subst, arith}
 use Rattle.std.specs.Prelude.{◌==◌}
-use Rattle.std.specs.Option.{option_map_or}
 use Rattle.std.proofs.lemmas.Bool.Decides.{nat_tests}
 use mathlib.Core.Bool.{false≢true}
-use Rattle.jr_rev.specs.declared.revision.Revision.{Revision}
 use Rattle.jr_rev.specs.declared.vector.Pin.{Pin}
-use Rattle.jr_tree.specs.Trees.{IsTree}
-use Rattle.jr_tree.proofs.ProperChanges.{no_changes}
+use Rattle.jr_rev.specs.declared.vector.RevVec.{RevVec}
+use Rattle.jr_part.specs.declared.need.Need.{Need}
+use Rattle.jr_tree.specs.declared.shared.Who.{Who}
 use Rattle.oak_machine.specs.declared.event.Event.TheVariants as event
 use Rattle.oak_machine.specs.declared.event.StepKind.TheVariants as kind
 use Rattle.oak_machine.specs.History.{Begin, History, Past}
-use Rattle.oak_machine.specs.Commits.{is_committed}
+use Rattle.oak_machine.specs.Commits.{tree_at}
 use Rattle.oak_machine.specs.Laws.{Says, Starts, after}
 use Rattle.oak_machine.specs.Runs.{AreNodes, IsRun, IsRunOf}
-use Rattle.oak_machine.specs.Sessions.{drawn_since, has_left, has_login, is_attached, is_drawing, next_index, refreshed_since}
+use Rattle.oak_machine.specs.Sessions.{base_of, drawn_since, has_left, has_login, is_attached, is_drawing, next_index}
 use Rattle.oak_machine.proofs.Induction.{neither}
 use Rattle.oak_port.specs.Ports.{AreOfStep, Idle, Makes, MayBegin, Shown, Starting, Steps, OthersAlone, Work}
 use Rattle.oak_port.specs.declared.task.StepOut.TheVariants as out
 use Rattle.oak_port.specs.declared.task.Task.TheVariants as task
 use Rattle.oak_port.specs.declared.task.TaskEnd.TheVariants as end
-use Rattle.core_law.specs.State.{base_tree, pending_of}
-use Rattle.core_law.specs.Turns.{IsTurn}
 use Rattle.core_heads.proofs.Passing.{among_same, idle_stays, next_stays}
-use Rattle.core_law.proofs.Pending.{pending_stays}
-use Rattle.jcr_session.specs.declared.law.JcrLaw.{JcrLaw}
+use Rattle.jcr_law.specs.declared.law.JcrLaw.{JcrLaw}
+use Rattle.jcr_law.specs.Lasting.{says_of, starts_of}
+use Rattle.jcr_law.specs.Since.{before_turn}
+use Rattle.jcr_law.specs.State.{Call, call_at, call_of}
+use Rattle.jcr_held.specs.Begins.{IsFirstCall, IsNewHeld}
+use Rattle.jcr_held.specs.Holds.{Holds}
+use Rattle.jcr_held.specs.declared.held.Held.{Held}
+use Rattle.core_calls.specs.Events.{state_at_login}
+use Rattle.core_calls.specs.Seeing.{SeesTrees}
+use Rattle.core_calls.proofs.Called.{login_call}
 use Rattle.jcr_session.specs.declared.run.Phase.{Phase}
 use Rattle.jcr_session.specs.declared.run.Phase.TheVariants as phase
 use Rattle.jcr_session.specs.declared.run.SessionRun.{SessionRun}
-use Rattle.jcr_session.specs.declared.sight.Sight.{Sight}
 use Rattle.jcr_session.specs.declared.turn.Turn.{Turn}
 use Rattle.jcr_session.specs.declared.turn.Turn.TheVariants as turn
-use Rattle.jcr_session.specs.Sights.{IsIn, says_of, starts_of}
-use Rattle.jcr_session.specs.Standing.{HasTurned, IsOutside, Sees, Stands, StandsAt, is_writing}
-use Rattle.jcr_session.proofs.Trees.{base_is_tree}
+use Rattle.jcr_session.specs.Standing.{HasTurned, IsBetween, IsFresh, IsIn, IsOutside, IsReading, Stands, StandsAt, is_writing}
+use Rattle.jcr_session.proofs.Committing.{own}
 use Rattle.jcr_session.proofs.Turning.{free, is_awaiting, not_ended, plain_step, turned_later}
 use Rattle.jcr_session.proofs.Waiting.{by_waits, login_stays}
-
-own : (s : ℕ) → (s == s) ≡ true
-own s = grind (arith, nat_tests)
 
 same_number : (t s : ℕ) → (t == s) ≡ true → t ≡ s
 same_number t s h = grind (arith, nat_tests)
@@ -56,7 +56,7 @@ not_left starts says clusters sessions begin (e ∷ past) run s h = not_left sta
 
 -- ---- outside
 
-outside_at : (law : JcrLaw) (p : Shown) (run : SessionRun) → Stands law p run → run.phase ≡ phase.Outside → IsOutside law p run
+pub outside_at : (law : JcrLaw) (p : Shown) (run : SessionRun) → Stands law p run → run.phase ≡ phase.Outside → IsOutside law p run
 outside_at law p run stands outside = subst (λ (f : Phase). StandsAt law p run f) outside stands.at
 
 pub outside_idle : (law : JcrLaw) (p : Shown) (run : SessionRun) → Stands law p run → run.phase ≡ phase.Outside → p.work ≡ Idle
@@ -65,10 +65,18 @@ outside_idle law p run stands outside = (outside_at law p run stands outside).id
 pub outside_begins : (law : JcrLaw) (p : Shown) (run : SessionRun) → Stands law p run → run.phase ≡ phase.Outside → MayBegin (starts_of law) p.history p.session task.Login
 outside_begins law p run stands outside = (outside_at law p run stands outside).out
 
+-- the session of its number, before which there were so many, at a base
+who_is : (w : Who) (s earlier : ℕ) (v : RevVec) → w.session ≡ s → w.earlier ≡ earlier → w.ids ≡ 0 → ◌≡◌ {A = Who} (record { session = s; earlier = earlier; ids = 0; base = v }) (record w { base = v })
+who_is w s earlier v session before ids =
+    sym (ap (λ (n : ℕ). record w { session = n; base = v }) session
+    ∙ (ap (λ (n : ℕ). record w { session = s; earlier = n; base = v }) before
+    ∙ ap (λ (n : ℕ). record { session = s; earlier = earlier; ids = n; base = v }) ids))
+
 -- ---- a login
 
 -- its start, and its step
-module _ (law : JcrLaw) (old mid new : Shown) (run : SessionRun) (stands : Stands law old run) (outside : run.phase ≡ phase.Outside) (room : Option ℕ) (waits : OthersAlone (starts_of law) (says_of law) old mid (Starting task.Login) room) (pin : Pin) (steps : Steps (starts_of law) (says_of law) mid new (out.Ready (end.Pinned pin))) where
+module _ (law : JcrLaw) (old mid new : Shown) (run : SessionRun) (stands : Stands law old run) (outside : run.phase ≡ phase.Outside) (room : Option ℕ) (waits : OthersAlone (starts_of law) (says_of law) old mid (Starting task.Login) room) (pin : Pin)
+    (steps : Steps (starts_of law) (says_of law) mid new (out.Ready (end.Pinned pin))) where
   abbrev is_out : IsOutside law old run
   is_out = outside_at law old run stands outside
 
@@ -91,17 +99,11 @@ module _ (law : JcrLaw) (old mid new : Shown) (run : SessionRun) (stands : Stand
   out_mid : has_login mid.history.past s ≡ false
   out_mid = lasts (λ p n. has_login p n ≡ false) (login_stays (waits.others ++ old.history.past) waits.others old.history.past old.session waits.grows.theirs is_out.out)
 
-  none_mid : pending_of law.sessions mid.history.past s ≡ []
-  none_mid = lasts (λ p n. pending_of law.sessions p n ≡ []) (pending_stays law.sessions (waits.others ++ old.history.past) waits.others old.history.past old.session waits.grows.theirs ∙ is_out.none)
-
   still_mid : is_drawing mid.history.past s ≡ false
   still_mid = lasts (λ p n. is_drawing p n ≡ false) (idle_stays (waits.others ++ old.history.past) waits.others old.history.past old.session waits.grows.theirs is_out.still)
 
   out_now : has_login q s ≡ false
   out_now = login_stays q steps.others mid.history.past s steps.grows.theirs out_mid
-
-  none_now : pending_of law.sessions q s ≡ []
-  none_now = pending_stays law.sessions q steps.others mid.history.past s steps.grows.theirs ∙ none_mid
 
   still_now : is_drawing q s ≡ false
   still_now = idle_stays q steps.others mid.history.past s steps.grows.theirs still_mid
@@ -118,8 +120,8 @@ module _ (law : JcrLaw) (old mid new : Shown) (run : SessionRun) (stands : Stand
   nodes_mid : AreNodes mid.history.clusters mid.history.sessions
   nodes_mid = subst (λ (h : History). AreNodes h.clusters h.sessions) (sym waits.grows.grown) stands.nodes
 
-  begun_mid : mid.history.begin ≡ None
-  begun_mid = subst (λ (h : History). h.begin ≡ None) (sym waits.grows.grown) stands.begun
+  trees_mid : SeesTrees law mid.history.clusters mid.history.sessions mid.history.begin
+  trees_mid = subst (λ (h : History). SeesTrees law h.clusters h.sessions h.begin) (sym waits.grows.grown) stands.trees
 
   moved : (F : History → ℕ → Type 0) → F logged s → F new.history new.session
   moved F x = subst (λ (h : History). F h new.session) (sym is_logged) (subst (λ (n : ℕ). F logged n) (sym steps.session) x)
@@ -127,69 +129,93 @@ module _ (law : JcrLaw) (old mid new : Shown) (run : SessionRun) (stands : Stand
   login_now : has_login logged.past s ≡ true
   login_now = ap (λ b. b || has_login q s) (own s)
 
-  tree_now : IsTree (base_tree logged.past s)
-  tree_now = base_is_tree law logged s nodes_mid begun_mid run_logged
+  detached_now : is_attached logged.past s ≡ false
+  detached_now = ap (λ b. cond b false (is_attached q s)) (own s)
 
   inside_now : IsIn law new
   inside_now = record {
     nodes = moved (λ h n. AreNodes h.clusters h.sessions) nodes_mid;
-    begun = moved (λ h n. h.begin ≡ None) begun_mid;
+    trees = moved (λ h n. SeesTrees law h.clusters h.sessions h.begin) trees_mid;
     run = steps.grows.run;
     login = moved (λ h n. has_login h.past n ≡ true) login_now;
     stays = moved (λ h n. has_left h.past n ≡ false) (not_left (starts_of law) (says_of law) mid.history.clusters mid.history.sessions mid.history.begin q run_logged.1 s out_now);
-    detached = moved (λ h n. is_attached h.past n ≡ false) (ap (λ b. cond b false (is_attached q s)) (own s));
-    tree = moved (λ h n. IsTree (base_tree h.past n)) tree_now;
+    detached = moved (λ h n. is_attached h.past n ≡ false) detached_now;
+    unattached = moved (λ h n. is_attached (before_turn h.past n) n ≡ false)
+        (subst (λ (p : Past). is_attached p s ≡ false) (sym (ap (λ b. cond b logged.past (before_turn q s)) (own s))) detached_now);
   }
 
-  drawn_none : drawn_since logged.past s ≡ None
-  drawn_none = ap (λ b. Rattle.oak_machine.specs.Sessions.drawn_among (cond b [] (event.Login s pin.base ∷ Rattle.oak_machine.specs.Sessions.since q s)) s) (own s)
-
-  turn_now : IsTurn law.sessions logged.past s (base_tree logged.past s) (base_tree logged.past s)
-  turn_now = record {
-    over = record {
-      base_is = refl;
-      pending = none_now ∙ sym (no_changes (base_tree logged.past s) tree_now);
-      from = tree_now;
-      to = tree_now;
-      born = λ p. refl;
-      idle = among_same q (event.Login s pin.base) (λ r. refl) q s ∙ still_now;
-      uncommitted = ap (λ (o : Option Revision). option_map_or (is_committed logged.past) o false) drawn_none;
-    };
-    fresh = drawn_none;
+  fresh_now : IsFresh logged.past s
+  fresh_now = record {
+    first = ap (λ b. Rattle.oak_machine.specs.Sessions.drawn_among (cond b [] (event.Login s pin.base ∷ Rattle.oak_machine.specs.Sessions.since q s)) s) (own s);
+    idle = among_same q (event.Login s pin.base) (λ r. refl) q s ∙ still_now;
   }
 
-  abbrev run_now : SessionRun
-  run_now = record run { phase = phase.Between }
+  -- what its first command is run with
+  abbrev first : Call
+  first = call_at law mid.history.begin q s pin.base (state_at_login mid.history.begin (tree_at mid.history.begin q pin.base))
+
+  called_now : call_of law new.history.begin new.history.past new.session ≡ Some first
+  called_now = moved (λ h n. call_of law h.begin h.past n ≡ Some first) (login_call law mid.history.begin q s pin.base)
+
+  based_now : base_of logged.past s ≡ Some pin.base
+  based_now = ap (λ b. cond b (Some pin.base) (base_of q s)) (own s)
+
+  same_session : s ≡ run.session
+  same_session = waits.session ∙ stands.session
+
+  pub first_call : IsFirstCall run.held pin.base first
+  first_call = record {
+    types = sym is_out.holds.types_are;
+    who = who_is run.held.who s law.earlier pin.base (is_out.holds.session_is ∙ sym same_session) is_out.holds.earlier_is is_out.holds.nothing.ids;
+    tree = trees_mid logged.past run_logged s pin.base based_now;
+    view = refl;
+    tokens = refl;
+    ids = refl;
+  }
 
   next_now : next_index logged.past s ≡ next_index old.history.past old.session
   next_now = next_stays q steps.others mid.history.past s steps.grows.theirs ∙ lasts (λ p n. next_index p n ≡ next_index old.history.past old.session) (next_stays (waits.others ++ old.history.past) waits.others old.history.past old.session waits.grows.theirs)
 
-  stands_now : Stands law new run_now
-  stands_now = record {
-    nodes = moved (λ h n. AreNodes h.clusters h.sessions) nodes_mid;
-    begun = moved (λ h n. h.begin ≡ None) begun_mid;
-    run_is = steps.grows.run;
-    session = steps.session ∙ (waits.session ∙ stands.session);
-    few = stands.few;
-    commands = stands.commands;
-    within = stands.within;
-    index = stands.index ∙ (ap (next_index old.history.past) (sym stands.session) ∙ (sym (moved (λ h n. next_index h.past n ≡ next_index old.history.past old.session) next_now) ∙ ap (next_index new.history.past) (steps.session ∙ (waits.session ∙ stands.session))));
-    at = (inside_now, subst (λ (x : Sight). Sees law new run_now x) (sym is_out.unread) (made.1, moved (λ h n. IsTurn law.sessions h.past n (base_tree h.past n) (base_tree h.past n)) turn_now));
-  }
+  module _ (held : Held) (holds : (c : Call) → IsNewHeld run.held → IsFirstCall run.held pin.base c → Holds c held) where
+    abbrev run_now : SessionRun
+    run_now = record run { held = held; phase = phase.Between }
 
-  pub logged_in : (now : SessionRun) (t : Turn) → now ≡ record run { phase = phase.Between } → t ≡ turn.Stepped kind.Login → HasTurned law old new run now t
-  logged_in now t is told =
-      subst (λ (x : Turn). HasTurned law old new run now x) (sym told)
-      (subst (λ (x : SessionRun). HasTurned law old new run x (turn.Stepped kind.Login)) (sym is)
-      (turned_later law old mid new run run_now (turn.Stepped kind.Login) stands.nodes stands.begun (free (ap is_writing waits.work_is) (ap is_awaiting waits.work_is) (ap is_awaiting is_out.idle)) (by_waits law old mid (Starting task.Login) room waits) (not_ended (turn.Stepped kind.Login) refl)
-      record {
-        others = steps.others;
-        own = steps.own;
-        grows = steps.grows;
-        beside = steps.beside;
-        alone = steps.alone;
-        tells = (of_step, inl (event.Login s pin.base, made.0, refl));
-        made = plain_step (after steps.others mid.history) mid new steps.own (event.Login s pin.base ∷ []) made.0 (not_left (starts_of law) (says_of law) mid.history.clusters mid.history.sessions mid.history.begin q run_logged.1 s out_now) (ap is_awaiting waits.work_is) refl tt;
-        same = (refl, refl);
-        stands = stands_now;
-      }))
+    between_now : IsBetween law new run_now
+    between_now = record {
+      call = first;
+      is = called_now;
+      holds = holds first is_out.holds.nothing first_call;
+      fresh = moved (λ h n. IsFresh h.past n) fresh_now;
+      reads = subst (λ (o : Option Need). IsReading new.work o) (sym is_out.unread) made.1;
+      due = λ some. absurd (false≢true (sym (ap is_some is_out.unread) ∙ some));
+    }
+
+    stands_now : Stands law new run_now
+    stands_now = record {
+      nodes = moved (λ h n. AreNodes h.clusters h.sessions) nodes_mid;
+      trees = moved (λ h n. SeesTrees law h.clusters h.sessions h.begin) trees_mid;
+      run_is = steps.grows.run;
+      session = steps.session ∙ (waits.session ∙ stands.session);
+      few = stands.few;
+      commands = stands.commands;
+      within = stands.within;
+      index = stands.index ∙ (ap (next_index old.history.past) (sym stands.session) ∙ (sym (moved (λ h n. next_index h.past n ≡ next_index old.history.past old.session) next_now) ∙ ap (next_index new.history.past) (steps.session ∙ (waits.session ∙ stands.session))));
+      at = (inside_now, between_now);
+    }
+
+    pub logged_in : (now : SessionRun) (t : Turn) → now ≡ record run { held = held; phase = phase.Between } → t ≡ turn.Stepped kind.Login → HasTurned law old new run now t
+    logged_in now t is told =
+        subst (λ (x : Turn). HasTurned law old new run now x) (sym told)
+        (subst (λ (x : SessionRun). HasTurned law old new run x (turn.Stepped kind.Login)) (sym is)
+        (turned_later law old mid new run run_now (turn.Stepped kind.Login) stands.nodes (free (ap is_writing waits.work_is) (ap is_awaiting waits.work_is) (ap is_awaiting is_out.idle)) (by_waits law old mid (Starting task.Login) room waits) (not_ended (turn.Stepped kind.Login) refl)
+        record {
+          others = steps.others;
+          own = steps.own;
+          grows = steps.grows;
+          beside = steps.beside;
+          alone = steps.alone;
+          tells = (of_step, inl (event.Login s pin.base, made.0, refl));
+          made = plain_step (after steps.others mid.history) mid new steps.own (event.Login s pin.base ∷ []) made.0 (not_left (starts_of law) (says_of law) mid.history.clusters mid.history.sessions mid.history.begin q run_logged.1 s out_now) (ap is_awaiting waits.work_is) refl tt;
+          same = (refl, refl);
+          stands = stands_now;
+        }))

@@ -1,9 +1,11 @@
-use Rattle.std.proofs.Common.{refl, sym, ◌∙◌}
+use Rattle.std.proofs.Common.{refl, sym, subst, ◌∙◌}
+use Rattle.oak_port.specs.Ports.{Steps}
+use Rattle.oak_port.specs.declared.task.StepOut.{StepOut}
 use Rattle.oak_port.specs.declared.task.Task.TheVariants as task
-use Rattle.jcr_session.specs.Sights.{says_of, starts_of}
-use Rattle.jcr_session.proofs.Coming.{login_comes}
-use Rattle.jcr_session.proofs.Calling.{busy_by, login_by}
-use Rattle.jcr_session.proofs.Living.{outside_begins, outside_idle}
+use Rattle.jcr_law.specs.Lasting.{says_of, starts_of}
+use Rattle.jcr_session.proofs.Calling.{busy_by, steps_law}
+use Rattle.jcr_session.proofs.Coming.{login_comes, pinned_is}
+use Rattle.jcr_session.proofs.Living.{logged_in, outside_begins, outside_idle}
 use Rattle.jcr_session.proofs.run.SessionRun.log_in.Goals as goal
 
 pub start-requires-clause-idle : goal.start-requires-clause-idle
@@ -18,10 +20,11 @@ step-requires g c = record { busy = λ idle. busy_by (g.P.Port.shown c.start.new
 -- it is logged in
 pub returns-in-Some-clause-turned : goal.returns-in-Some-clause-turned
 returns-in-Some-clause-turned g c =
-    let law = g.P.Port.law c.args.port.now in
-    let p = g.P.Port.shown c.args.port.now in
-    login_by law (g.P.Port.law c.start.new.self) c.in-Ok.ensures.law p (g.P.Port.shown c.start.new.self) (g.P.Port.shown c.step.new.self) p.room c.args.self.now c.step.result c.requires.stands c.step.ensures.steps
-    c.requires.outside c.in-Ok.ensures.ok c.in-Some.field-0 (sym c.in-Some.ensures) _ _ refl refl
+    let mid = g.P.Port.shown c.start.new.self in
+    let new = g.P.Port.shown c.step.new.self in
+    logged_in (g.P.Port.law c.args.port.now) (g.P.Port.shown c.args.port.now) mid new c.args.self.now c.requires.stands c.requires.outside (g.P.Port.shown c.args.port.now).room c.in-Ok.ensures.ok c.in-Some.pin
+    (subst (λ (a : StepOut). Steps (starts_of (g.P.Port.law c.args.port.now)) (says_of (g.P.Port.law c.args.port.now)) mid new a) (pinned_is c.step.result c.in-Some.pin (sym c.in-Some.ensures)) (steps_law (g.P.Port.law c.args.port.now) (g.P.Port.law c.start.new.self) c.in-Ok.ensures.law mid new c.step.result c.step.ensures.steps))
+    c.move_to.new.self c.move_to.ensures.begins _ _ refl refl
 
 pub returns-in-Some-clause-law : goal.returns-in-Some-clause-law
 returns-in-Some-clause-law g c = c.step.ensures.law ∙ c.in-Ok.ensures.law

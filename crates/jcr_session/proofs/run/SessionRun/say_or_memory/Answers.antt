@@ -2,23 +2,21 @@ use Rattle.std.proofs.Common.{Some, length, subst}
 use Rattle.jr_path.specs.declared.text.Text.{Text}
 use Rattle.oak_port.specs.Ports.{HasRoom}
 use Rattle.jcr_trans.specs.Texts.{memory_text}
-use Rattle.jcr_session.specs.Standing.{MayAnswer}
-use Rattle.jcr_session.specs.Sights.{says_of, starts_of}
+use Rattle.jcr_law.specs.Lasting.{says_of, starts_of}
+use Rattle.jcr_session.specs.Asked.{MayAnswer}
 use Rattle.jcr_session.proofs.Calling.{may_behind, turned_behind_place}
 use Rattle.jcr_session.proofs.Lengths.{memory_reply_is, memory_room}
-use Rattle.jcr_session.proofs.Turning.{room_kept, room_stays}
+use Rattle.jcr_session.proofs.Saying.{room_kept, room_stays}
 use Rattle.jcr_session.proofs.run.SessionRun.say_or_memory.Goals as goal
 
 -- there is a place for the text
 pub say_kept-requires-clause-answer : goal.say_kept-requires-clause-answer
 say_kept-requires-clause-answer g c =
-    may_behind (g.P.Port.law c.args.port.now) (g.P.Port.law c.reserve_say.new.self) c.in-Ok.ensures.law (g.P.Port.shown c.args.port.now) (g.P.Port.shown c.reserve_say.new.self) c.args.self.now c.args.text.now
-    c.requires.answer (Some (length c.args.text.now)) c.in-Ok.ensures.ok
+    may_behind (g.P.Port.law c.args.port.now) (g.P.Port.law c.reserve_say.new.self) c.in-Ok.ensures.law (g.P.Port.shown c.args.port.now) (g.P.Port.shown c.reserve_say.new.self) c.args.self.now c.args.text.now c.requires.answer (Some (length c.args.text.now)) c.in-Ok.ensures.ok
 
 pub say_kept-requires-clause-room : goal.say_kept-requires-clause-room
 say_kept-requires-clause-room g c =
-    let law = g.P.Port.law c.args.port.now in
-    room_kept (starts_of law) (says_of law) (g.P.Port.shown c.args.port.now) (g.P.Port.shown c.reserve_say.new.self) (g.P.Port.shown c.args.port.now).work (length c.args.text.now) c.in-Ok.ensures.ok
+    room_kept (starts_of (g.P.Port.law c.args.port.now)) (says_of (g.P.Port.law c.args.port.now)) (g.P.Port.shown c.args.port.now) (g.P.Port.shown c.reserve_say.new.self) (g.P.Port.shown c.args.port.now).work (length c.args.text.now) c.in-Ok.ensures.ok
 
 pub returns-in-Ok-clause-turned : goal.returns-in-Ok-clause-turned
 returns-in-Ok-clause-turned g c =
@@ -29,15 +27,12 @@ returns-in-Ok-clause-turned g c =
 pub say_kept-requires-in-Err-clause-answer : goal.say_kept-requires-in-Err-clause-answer
 say_kept-requires-in-Err-clause-answer g c =
     subst (λ (text : Text). MayAnswer (g.P.Port.law c.reserve_say.new.self) (g.P.Port.shown c.reserve_say.new.self) c.args.self.now text) memory_reply_is
-    (may_behind (g.P.Port.law c.args.port.now) (g.P.Port.law c.reserve_say.new.self) c.in-Err.ensures.law (g.P.Port.shown c.args.port.now) (g.P.Port.shown c.reserve_say.new.self) c.args.self.now memory_text
-    c.requires.memory (g.P.Port.shown c.args.port.now).room c.in-Err.ensures.err)
+    (may_behind (g.P.Port.law c.args.port.now) (g.P.Port.law c.reserve_say.new.self) c.in-Err.ensures.law (g.P.Port.shown c.args.port.now) (g.P.Port.shown c.reserve_say.new.self) c.args.self.now memory_text c.requires.memory (g.P.Port.shown c.args.port.now).room c.in-Err.ensures.err)
 
 pub say_kept-requires-in-Err-clause-room : goal.say_kept-requires-in-Err-clause-room
 say_kept-requires-in-Err-clause-room g c =
-    let law = g.P.Port.law c.args.port.now in
-    let p = g.P.Port.shown c.args.port.now in
     subst (λ (text : Text). HasRoom (g.P.Port.shown c.reserve_say.new.self).room (length text)) memory_reply_is
-    (memory_room (g.P.Port.shown c.reserve_say.new.self).room (room_stays (starts_of law) (says_of law) p (g.P.Port.shown c.reserve_say.new.self) p.work 40 c.in-Err.ensures.err c.requires.room))
+    (memory_room (g.P.Port.shown c.reserve_say.new.self).room (room_stays (starts_of (g.P.Port.law c.args.port.now)) (says_of (g.P.Port.law c.args.port.now)) (g.P.Port.shown c.args.port.now) (g.P.Port.shown c.reserve_say.new.self) (g.P.Port.shown c.args.port.now).work 40 c.in-Err.ensures.err c.requires.room))
 
 pub returns-in-Err-clause-turned : goal.returns-in-Err-clause-turned
 returns-in-Err-clause-turned g c =
