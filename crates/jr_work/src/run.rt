@@ -7,7 +7,7 @@ ghost use Rattle.jr_work.specs.Runs.{HasRun};
 ghost use Rattle.jr_work.specs.Stages.{AreOver, ClosesAll, IsStage};
 
 use crate::stage::Stage;
-use jcr_session::JcrLaw;
+use jcr_law::JcrLaw;
 use jr_script::Script;
 use oak_world::World;
 use std::alloc::{AllocError, Global};

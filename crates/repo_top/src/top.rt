@@ -7,7 +7,7 @@ ghost use Rattle.repo_top.specs.declared.status.Unrun.TheVariants as unrun;
 
 use crate::status::{Status, Unrun, script_line};
 use crate::words::{Words, words_meant};
-use jcr_session::JcrLaw;
+use jcr_law::JcrLaw;
 use jr_io::{Failed, Sink, Source, read_all, write_all};
 use jr_path::Text;
 use jr_print::lines;
