@@ -1,97 +1,155 @@
 -- Where a session stands between its turns, and what a turn makes of that.
-use Rattle.std.specs.Prelude.{◌≡◌, ◌≢◌, ◌⊎◌, ◌≤◌, ℕ, ◌++◌, Bool, true, false, cond, ◌&&◌, ⊤, List, [], ◌∷◌, length, slice_get, reverse, Option, None, Some, IfSome, IsTrue, IsFalse}
+use Rattle.std.specs.Prelude.{◌≡◌, ◌⊎◌, ◌≤◌, ℕ, ◌++◌, Bool, true, false, cond, ◌&&◌, not, ⊤, List}
+use Rattle.std.specs.Prelude.{[], ◌∷◌, length, slice_get, reverse, Option, None, Some, is_some}
+use Rattle.std.specs.Prelude.{IfSome, IsTrue, IsFalse, string_bytes}
 use Rattle.std.specs.Option.{option_map_or}
 use Rattle.jr_path.specs.declared.text.Text.{Text}
 use Rattle.jr_rev.specs.declared.revision.Revision.{Revision}
 use Rattle.jr_rev.specs.declared.vector.RevVec.{RevVec}
 use Rattle.jr_rev.specs.Vectors.{sees}
-use Rattle.jr_path.specs.declared.path.Path.{Path}
-use Rattle.jr_tree.specs.Trees.{IsTree, Nodes, born_at}
-use Rattle.jr_tree.specs.Edits.{changes}
+use Rattle.jr_tree.specs.Trees.{IsTree, Nodes}
+use Rattle.jr_part.specs.declared.need.Need.{Need}
+use Rattle.jr_part.specs.declared.need.Need.TheVariants as need
+use Rattle.oak_machine.specs.declared.event.Draw.{Draw}
 use Rattle.oak_machine.specs.declared.event.Event.{Event}
 use Rattle.oak_machine.specs.declared.event.Event.TheVariants as event
 use Rattle.oak_machine.specs.History.{History, Past}
-use Rattle.oak_machine.specs.Marks.{marks_for}
-use Rattle.oak_machine.specs.Commits.{is_committed, is_ended, refusal_of}
+use Rattle.oak_machine.specs.Commits.{is_committed, is_ended, refusal_of, tree_at}
 use Rattle.oak_machine.specs.Heads.{head_of}
-use Rattle.oak_machine.specs.Laws.{AreOthers, after, is_revision_of}
+use Rattle.oak_machine.specs.Laws.{after, is_revision_of}
 use Rattle.oak_machine.specs.Runs.{AreNodes, IsRun}
-use Rattle.oak_machine.specs.Sessions.{drawn_since, has_left, has_login, is_drawing, next_index, refreshed_since}
+use Rattle.oak_machine.specs.Sessions.{base_of, drawn_since, has_left, has_login, is_attached}
+use Rattle.oak_machine.specs.Sessions.{is_drawing, next_index, refreshed_since}
 use Rattle.oak_machine.specs.Steps.{is_appended_by}
-use Rattle.oak_port.specs.Ports.{Awaiting, Deciding, Grows, HasRoom, HoldsBack, Idle, Shown, Undoing, Work, Writing, is_by_due}
+use Rattle.oak_port.specs.Ports.{Awaiting, Deciding, Grows, HasRoom, HoldsBack, Idle, Shown}
+use Rattle.oak_port.specs.Ports.{Starting, Undoing, Work, Writing, is_by_due}
+use Rattle.oak_port.specs.declared.task.Task.TheVariants as task
 use Rattle.oak_commit.specs.declared.outcome.CommitEnd.{CommitEnd}
 use Rattle.oak_commit.specs.declared.outcome.CommitEnd.TheVariants as commit
+use Rattle.jr_types.specs.declared.TypeDef.{TypeDef}
 use Rattle.jcr_trans.specs.declared.command.Command.{Command}
 use Rattle.jcr_trans.specs.declared.command.Command.TheVariants as command
-use Rattle.jcr_trans.specs.Texts.{answer_text, memory_text}
-use Rattle.jcr_trans.specs.Views.{answered, view_after}
-use Rattle.jcr_trans.specs.Commands.{Built, Saves, Refreshes, ShowsBase, built}
-use Rattle.core_law.specs.Law.{SaysBy, has_few_nodes}
-use Rattle.core_law.specs.State.{Orders, base_tree, command_at, pending_of}
-use Rattle.core_law.specs.Turns.{IsOver, IsTurn}
-use Rattle.jcr_session.specs.declared.law.JcrLaw.{JcrLaw}
+use Rattle.jcr_law.specs.declared.law.JcrLaw.{JcrLaw}
+use Rattle.jcr_law.specs.Built.{is_built, is_forbidden}
+use Rattle.jcr_law.specs.Lasting.{says_of, starts_of}
+use Rattle.jcr_law.specs.Law.{SaysBy}
+use Rattle.jcr_law.specs.Since.{before_turn, draw_since}
+use Rattle.jcr_law.specs.State.{Call, call_of, command_at, is_ok_text}
+use Rattle.jcr_call.specs.Calls.{call_after, call_moved}
+use Rattle.jcr_call.specs.Comings.{IsAcceptedOf}
+use Rattle.jcr_call.specs.declared.coming.Accepted.{Accepted}
+use Rattle.jcr_held.specs.Holds.{Holds, IsNewHeld, IsReady}
+use Rattle.jcr_held.specs.declared.held.Held.{Held}
+use Rattle.core_calls.specs.SeesTrees.{SeesTrees}
 use Rattle.jcr_session.specs.declared.limits.TheConstants.{COMMIT_REPLY_BYTES, MOST_COMMANDS}
-use Rattle.jcr_session.specs.declared.run.Due.{Due}
-use Rattle.jcr_session.specs.declared.run.Due.TheVariants as due
+use Rattle.jcr_session.specs.declared.next.Due.{Due}
+use Rattle.jcr_session.specs.declared.next.Due.TheVariants as due
 use Rattle.jcr_session.specs.declared.run.Phase.{Phase}
 use Rattle.jcr_session.specs.declared.run.Phase.TheVariants as phase
-use Rattle.jcr_session.specs.declared.run.Plan.{Plan}
-use Rattle.jcr_session.specs.declared.run.Plan.TheVariants as plan
 use Rattle.jcr_session.specs.declared.run.SessionRun.{SessionRun}
-use Rattle.jcr_session.specs.declared.sight.Sight.{Sight}
-use Rattle.jcr_session.specs.declared.sight.Sight.TheVariants as sight
 use Rattle.jcr_session.specs.declared.turn.Turn.{Turn}
 use Rattle.jcr_session.specs.declared.turn.Turn.TheVariants as turn
-use Rattle.jcr_session.specs.Sights.{IsBeside, IsIn, Reads, says_of, starts_of}
 
 -- ---- the next command
 
--- what is to be done for a command: a save; a refresh; the base; or an answer by the view
-abbrev pub due_by : Built → Due
-due_by Saves = due.Save
-due_by Refreshes = due.Refresh
-due_by ShowsBase = due.ShowBase
+-- a session that isn't attached to a checkpoint may run the command
+abbrev pub is_allowed : Command → Bool
+is_allowed m = is_built m && not (is_forbidden false m)
+
+-- what is to be done for a command that the session may run
+abbrev pub due_by : Command → Due
+due_by command.Head = due.ShowBase
+due_by (command.Refresh keep) = due.Refresh
+due_by (command.Query text vars) = due.Query
+due_by command.Save = due.Commit
+due_by (command.Lock p deep) = due.Commit
+due_by (command.Unlock p) = due.Commit
+due_by (command.Checkin p) = due.Commit
+due_by (command.Checkout p) = due.Commit
+due_by (command.Label p version label take) = due.Commit
+due_by (command.Unlabel p label) = due.Commit
+due_by (command.Restore p version) = due.Commit
 due_by _ = due.See
 
-abbrev pub due_of : List Command → ℕ → Due
-due_of commands i = option_map_or (λ c. due_by (built c)) (slice_get commands i) due.Leave
+-- what is to be done for a command; another one is refused
+abbrev pub due_to : Command → Due
+due_to m = cond (is_allowed m) (due_by m) due.Bar
 
--- what is to be done needs the tree at the base
-abbrev pub needs_tree : Due → Bool
-needs_tree due.Save = true
-needs_tree due.See = true
-needs_tree _ = false
+abbrev pub due_of : List Command → ℕ → Due
+due_of commands i = option_map_or due_to (slice_get commands i) due.Leave
 
 abbrev pub due_for : SessionRun → Due
 due_for run = due_of run.commands run.index
+
+-- what is to be done may ask for nodes of the tree at the base, or for what is pending there
+abbrev pub reads_for : Due → Bool
+reads_for due.Refresh = true
+reads_for due.Query = true
+reads_for due.Commit = true
+reads_for due.See = true
+reads_for _ = false
 
 abbrev pub is_between : Phase → Bool
 is_between phase.Between = true
 is_between _ = false
 
-abbrev pub is_seen : Sight → Bool
-is_seen (sight.Seen seen) = true
-is_seen _ = false
+-- the session is before a command for which it may have to read
+abbrev pub may_read : SessionRun → Bool
+may_read run = is_between run.phase && reads_for (due_for run)
 
--- the next command needs the tree, which isn't read yet
-abbrev pub is_unread : SessionRun → Bool
-is_unread run = cond (is_seen run.sight) false (is_between run.phase && needs_tree (due_for run))
+-- nothing is being read, and nothing lacks of what the next command asks for
+pub record IsPrepared (run : SessionRun) : Type 0 where
+  pub done : run.fetch ≡ None
+  pub ready : (m : Command) → slice_get run.commands run.index ≡ Some m → IsReady run.held m
+
+-- ---- the session in its history
+
+-- only events of others were added, none where nobody else steps the world
+pub record IsBeside (law : JcrLaw) (old new : Shown) : Type 0 where
+  pub others : Past
+  pub grows : Grows (starts_of law) (says_of law) old.session old.history new.history others []
+  pub session : new.session ≡ old.session
+  pub beside : new.beside ≡ old.beside
+  pub alone : IfSome old.beside.seats (λ seats. others ≡ [])
+
+-- the history is a run by the law, where sessions see trees; in it the session has logged in, hasn't
+-- left, and neither is attached to a checkpoint nor was when its next command began
+pub record IsIn (law : JcrLaw) (p : Shown) : Type 0 where
+  pub nodes : AreNodes p.history.clusters p.history.sessions
+  pub trees : SeesTrees law p.history.clusters p.history.sessions p.history.begin
+  pub run : IsRun (starts_of law) (says_of law) p.history
+  pub login : IsTrue (has_login p.history.past p.session)
+  pub stays : IsFalse (has_left p.history.past p.session)
+  pub detached : IsFalse (is_attached p.history.past p.session)
+  pub unattached : IsFalse (is_attached (before_turn p.history.past p.session) p.session)
+
+-- what the next command of the session is run with
+abbrev pub IsCalled : JcrLaw → Shown → Call → Type 0
+IsCalled law p c = call_of law p.history.begin p.history.past p.session ≡ Some c
+
+-- nothing was drawn for the next command of s, and nothing of s is in flight
+pub record IsFresh (past : Past) (s : ℕ) : Type 0 where
+  pub first : drawn_since past s ≡ None
+  pub idle : IsFalse (is_drawing past s)
+
+-- a node is being read, or the names of the children of one, or nothing
+abbrev pub IsReading : Work → Option Need → Type 0
+IsReading work None = work ≡ Idle
+IsReading work (Some (need.Node p)) = work ≡ Starting (task.Load p)
+IsReading work (Some (need.Children p)) = work ≡ Starting (task.List p)
+IsReading work (Some _) = ⊥
 
 -- ---- a commit
 
--- the session drew r for the save of what is pending: of what it has in flight this is all
-pub record HasDrawn (law : Orders) (past : Past) (s : ℕ) (r : Revision) : Type 0 where
+-- on its base the session drew for its next command, and this is all of it that is in flight
+pub record HasDrawn (past : Past) (s : ℕ) (r : Revision) : Type 0 where
+  pub made : Draw
+  pub revision : made.revision ≡ r
+  pub draw : draw_since past s ≡ Some made
   pub drawn : drawn_since past s ≡ Some r
+  pub base : base_of past s ≡ Some made.base
   pub theirs : IsTrue (is_revision_of past s r)
   pub last : IsFalse (is_drawing (event.End r ∷ past) s)
-
--- what the session sees is the tree at its base with what is pending, where a node that is added has no revision yet
-pub record HasView (law : Orders) (past : Past) (s : ℕ) (base view : Nodes) : Type 0 where
-  pub base_is : base ≡ base_tree past s
-  pub pending : pending_of law past s ≡ changes base view
-  pub from : IsTree base
-  pub to : IsTree view
-  pub born : (p : Path) → born_at view p ≡ born_at base p
 
 -- how a commit that isn't made ends is what the history tells: a clash by its refusal
 abbrev pub IsToldEnd : Past → Revision → CommitEnd → Type 0
@@ -100,81 +158,141 @@ IsToldEnd past r commit.Memory = ⊤
 IsToldEnd past r (commit.Committed q) = ⊥
 
 -- the commit under way, by what is being done: it isn't made yet, or will not be, or is made
-abbrev pub IsCommitting : Orders → Past → ℕ → Nodes → Nodes → Work → Type 0
-IsCommitting law past s base view (Writing r) = HasDrawn law past s r × HasView law past s base view × IsFalse (is_committed past r)
-IsCommitting law past s base view (Undoing r e) = HasDrawn law past s r × HasView law past s base view × IsFalse (is_committed past r) × IsToldEnd past r e
-IsCommitting law past s base view (Deciding r) = HasDrawn law past s r × IsTrue (is_committed past r)
-IsCommitting law past s base view (Awaiting r) = HasDrawn law past s r × IsTrue (is_committed past r) × IsTrue (is_ended past r)
-IsCommitting law past s base view _ = ⊥
+abbrev pub IsCommitting : Past → ℕ → Work → Type 0
+IsCommitting past s (Writing r) = HasDrawn past s r × IsFalse (is_committed past r)
+IsCommitting past s (Undoing r e) =
+    HasDrawn past s r × IsFalse (is_committed past r) × IsToldEnd past r e
+IsCommitting past s (Deciding r) = HasDrawn past s r × IsTrue (is_committed past r)
+IsCommitting past s (Awaiting r) =
+    HasDrawn past s r × IsTrue (is_committed past r) × IsTrue (is_ended past r)
+IsCommitting past s _ = ⊥
 
--- the commit that has ended
-abbrev pub HasCommitted : Orders → Past → ℕ → Nodes → Nodes → CommitEnd → Type 0
-HasCommitted law past s base view (commit.Committed r) =
-    (v : RevVec) × (drawn_since past s ≡ Some r) × IsTrue (is_ended past r) × IsTrue (is_committed past r) × (refreshed_since past s ≡ Some v) × IsTrue (sees v r) × IsFalse (is_drawing past s)
-HasCommitted law past s base view (commit.Clash item o) =
-    (r : Revision) × (drawn_since past s ≡ Some r) × IsTrue (is_ended past r) × (refusal_of past r ≡ Some (item, o)) × IsOver law past s base view
-HasCommitted law past s base view commit.Memory = IsOver law past s base view
+-- the commit that has ended was not made
+pub record IsUnmade (past : Past) (s : ℕ) (r : Revision) : Type 0 where
+  pub drawn : drawn_since past s ≡ Some r
+  pub unmade : IsFalse (is_committed past r)
+  pub idle : IsFalse (is_drawing past s)
+
+-- it was refused for a clash
+pub record IsClash (past : Past) (s : ℕ) (r : Revision) (e : CommitEnd) : Type 0 where
+  pub unmade : IsUnmade past s r
+  pub ended : IsTrue (is_ended past r)
+  pub told : IsToldEnd past r e
+
+-- it was made for a command that was run with c, and the base has moved to a tree that sees it
+pub record IsMadeFor (law : JcrLaw) (h : History) (s : ℕ) (c : Call) (r : Revision) : Type 0 where
+  pub made : Draw
+  pub revision : made.revision ≡ r
+  pub draw : draw_since h.past s ≡ Some made
+  pub drawn : drawn_since h.past s ≡ Some r
+  pub on : tree_at h.begin h.past made.base ≡ c.base
+  pub ended : IsTrue (is_ended h.past r)
+  pub committed : IsTrue (is_committed h.past r)
+  pub base : RevVec
+  pub tree : Nodes
+  pub tree_is : IsTree tree
+  pub moved : refreshed_since h.past s ≡ Some base
+  pub seen : IsTrue (sees base r)
+  pub idle : IsFalse (is_drawing h.past s)
+  pub call : call_of law h.begin h.past s ≡ Some (call_moved c base tree)
+
+-- how the commit for a command has ended that was run with c
+abbrev pub HasCommitted : JcrLaw → Shown → Call → CommitEnd → Type 0
+HasCommitted law p c (commit.Committed r) = IsMadeFor law p.history p.session c r
+HasCommitted law p c (commit.Clash item o) =
+    (r : Revision) × IsCalled law p c
+    × IsClash p.history.past p.session r (commit.Clash item o)
+HasCommitted law p c commit.Memory =
+    (r : Revision) × IsCalled law p c × IsUnmade p.history.past p.session r
+
+-- the place of the reply has room for each reply to the command
+pub record IsPlace (room : Option ℕ) (accepted : Accepted) : Type 0 where
+  pub told : HasRoom room COMMIT_REPLY_BYTES
+  pub text : IfSome accepted.text (λ text. HasRoom room (length (string_bytes text)))
+
+-- the session commits for its next command m, which is run with c and then accepted so
+pub record IsFor (p : Shown) (run : SessionRun) (c : Call) (accepted : Accepted) : Type 0 where
+  pub command : Command
+  pub next : slice_get run.commands run.index ≡ Some command
+  pub commits : due_for run ≡ due.Commit
+  pub holds : Holds c run.held
+  pub settled : run.held.is_kept ≡ false
+  pub accepts : IsAcceptedOf c command accepted
+  pub place : IsPlace p.room accepted
 
 -- ---- where it stands
 
--- the next command is a save, and its reply has a place for the longest text that tells of a commit
-pub record IsSaving (law : JcrLaw) (p : Shown) (run : SessionRun) : Type 0 where
-  pub saving : command_at law.sessions run.session run.index ≡ Some command.Save
-  pub room : HasRoom p.room COMMIT_REPLY_BYTES
-
--- between two commands: the tree isn't read yet, and nothing is pending; or it is read in part, for the next command; or it is seen, with the view
-abbrev pub Sees : JcrLaw → Shown → SessionRun → Sight → Type 0
-Sees law p run sight.Unread = (p.work ≡ Idle) × IsTurn law.sessions p.history.past p.session (base_tree p.history.past p.session) (base_tree p.history.past p.session)
-Sees law p run (sight.Reading walk) = Reads p walk × IsTrue (needs_tree (due_for run)) × IsTurn law.sessions p.history.past p.session (base_tree p.history.past p.session) (base_tree p.history.past p.session)
-Sees law p run (sight.Seen seen) = (p.work ≡ Idle) × IsTurn law.sessions p.history.past p.session seen.base seen.view
-
--- during a save, by what it sees
-abbrev pub IsInSave : JcrLaw → Shown → SessionRun → Sight → Type 0
-IsInSave law p run (sight.Seen seen) = IsSaving law p run × IsCommitting law.sessions p.history.past p.session seen.base seen.view p.work
-IsInSave law p run _ = ⊥
-
-abbrev pub HasSaved : JcrLaw → Shown → SessionRun → CommitEnd → Sight → Type 0
-HasSaved law p run e (sight.Seen seen) = IsSaving law p run × (p.work ≡ Idle) × HasCommitted law.sessions p.history.past p.session seen.base seen.view e
-HasSaved law p run e _ = ⊥
-
--- the session has not logged in, and nothing is pending
-pub record IsOutside (law : JcrLaw) (p : Shown) (run : SessionRun) : Type 0 where
+-- the session has not logged in
+pub record IsOutside (p : Shown) (run : SessionRun) : Type 0 where
   pub idle : p.work ≡ Idle
   pub out : IsFalse (has_login p.history.past p.session)
-  pub unread : run.sight ≡ sight.Unread
-  pub none : pending_of law.sessions p.history.past p.session ≡ []
+  pub unread : run.fetch ≡ None
+  pub holds_none : IsNewHeld run.held
+  pub session : run.held.who.session ≡ run.session
   pub still : IsFalse (is_drawing p.history.past p.session)
 
--- the session's base moved to v for a refresh
+-- it is between two commands, and what it holds is what the next one is run with; what is being
+-- read is for that one
+pub record IsBetween (law : JcrLaw) (p : Shown) (run : SessionRun) : Type 0 where
+  pub call : Call
+  pub is : IsCalled law p call
+  pub holds : Holds call run.held
+  pub fresh : IsFresh p.history.past p.session
+  pub reads : IsReading p.work run.fetch
+  pub due : IsTrue (is_some run.fetch) → IsTrue (reads_for (due_for run))
+
+-- its base moved to v for a refresh
 pub record IsRefreshed (law : JcrLaw) (p : Shown) (run : SessionRun) (v : RevVec) : Type 0 where
   pub idle : p.work ≡ Idle
+  pub unread : run.fetch ≡ None
+  pub refreshes : due_for run ≡ due.Refresh
   pub moved : refreshed_since p.history.past p.session ≡ Some v
-  pub unread : run.sight ≡ sight.Unread
-  pub refreshing : command_at law.sessions run.session run.index ≡ Some (command.Refresh false)
-  pub still : IsFalse (is_drawing p.history.past p.session)
+  pub fresh : IsFresh p.history.past p.session
+  pub call : Call
+  pub is : IsCalled law p call
+  pub holds : Holds call run.held
 
--- the session has answered all its commands, and has left
+-- it commits for its next command
+pub record IsInCommit (law : JcrLaw) (p : Shown) (run : SessionRun) (a : Accepted) : Type 0 where
+  pub unread : run.fetch ≡ None
+  pub call : Call
+  pub is : IsCalled law p call
+  pub for : IsFor p run call a
+  pub commits : IsCommitting p.history.past p.session p.work
+
+-- its commit has ended
+pub record IsAtEnd (law : JcrLaw) (p : Shown) (run : SessionRun) (e : CommitEnd) (a : Accepted)
+    : Type 0 where
+  pub idle : p.work ≡ Idle
+  pub unread : run.fetch ≡ None
+  pub call : Call
+  pub for : IsFor p run call a
+  pub ended : HasCommitted law p call e
+
+-- it has answered all its commands, and has left
 pub record IsGone (p : Shown) (run : SessionRun) : Type 0 where
   pub idle : p.work ≡ Idle
   pub left : IsTrue (has_left p.history.past p.session)
   pub all : run.index ≡ length run.commands
 
 abbrev pub StandsAt : JcrLaw → Shown → SessionRun → Phase → Type 0
-StandsAt law p run phase.Outside = IsOutside law p run
-StandsAt law p run phase.Between = IsIn law p × Sees law p run run.sight
+StandsAt law p run phase.Outside = IsOutside p run
+StandsAt law p run phase.Between = IsIn law p × IsBetween law p run
 StandsAt law p run (phase.Refreshed v) = IsIn law p × IsRefreshed law p run v
-StandsAt law p run phase.Saving = IsIn law p × IsInSave law p run run.sight
-StandsAt law p run (phase.Saved e) = IsIn law p × HasSaved law p run e run.sight
+StandsAt law p run (phase.Committing a) = IsIn law p × IsInCommit law p run a
+StandsAt law p run (phase.Committed e a) = IsIn law p × IsAtEnd law p run e a
 StandsAt law p run phase.Over = IsGone p run
 
--- the port is the session's, its history a run by the law that begins before any commit, which has the session's commands; the session's replies are those of the history, and it stands where these say
+-- the port is the session's; its history is a run by the law, where sessions see trees, and the law
+-- has the session's commands; the session's replies are those of the history, and it stands where
+-- these say
 pub record Stands (law : JcrLaw) (p : Shown) (run : SessionRun) : Type 0 where
   pub nodes : AreNodes p.history.clusters p.history.sessions
-  pub begun : p.history.begin ≡ None
+  pub trees : SeesTrees law p.history.clusters p.history.sessions p.history.begin
   pub run_is : IsRun (starts_of law) (says_of law) p.history
   pub session : p.session ≡ run.session
   pub few : length run.commands ≤ MOST_COMMANDS
-  pub commands : (i : ℕ) → command_at law.sessions run.session i ≡ slice_get run.commands i
+  pub commands : (i : ℕ) → command_at law run.session i ≡ slice_get run.commands i
   pub index : run.index ≡ next_index p.history.past run.session
   pub within : run.index ≤ length run.commands
   pub at : StandsAt law p run run.phase
@@ -261,8 +379,8 @@ HasTurned law old new run now answer = IsTurned law old new run now answer
 
 -- from the draw of its commit until its reply
 abbrev pub is_saving : Phase → Bool
-is_saving phase.Saving = true
-is_saving (phase.Saved e) = true
+is_saving (phase.Committing a) = true
+is_saving (phase.Committed e a) = true
 is_saving _ = false
 
 -- a turn doesn't answer that memory was refused
@@ -270,13 +388,15 @@ abbrev pub IsGranted : Turn → Type 0
 IsGranted turn.Memory = ⊥
 IsGranted _ = ⊤
 
--- a session that has not logged in, with these commands
-pub record IsNew (session : ℕ) (commands : List Command) (run : SessionRun) : Type 0 where
+-- a session that has not logged in, with these commands, before which there were so many sessions
+pub record IsNew (session earlier : ℕ) (commands : List Command) (types : List TypeDef)
+    (run : SessionRun) : Type 0 where
   pub session_is : run.session ≡ session
   pub commands_are : run.commands ≡ commands
   pub first : run.index ≡ 0
   pub outside : run.phase ≡ phase.Outside
-  pub unread : run.sight ≡ sight.Unread
+  pub unread : run.fetch ≡ None
+  pub holds_none : IsNewHeld session earlier types run.held
 
 -- commands, replies and phase stay
 pub record IsSame (old new : SessionRun) : Type 0 where
@@ -285,63 +405,71 @@ pub record IsSame (old new : SessionRun) : Type 0 where
   pub index : new.index ≡ old.index
   pub phase : new.phase ≡ old.phase
 
--- reading steps: the session stands where it stood with what was read by now; none were made where none is due
+-- reading steps: the session stands where it stood with what was read by now; none were made where
+-- none can be due
 pub record HasLooked (law : JcrLaw) (old new : Shown) (run now : SessionRun) : Type 0 where
   pub stands : Stands law new now
   pub same : IsSame run now
   pub beside : IsBeside law old new
-  pub still : IsFalse (is_unread run) → (new ≡ old) × (now ≡ run)
+  pub still : IsFalse (may_read run) → (new ≡ old) × (now ≡ run)
 
--- memory was refused for reading: nothing is being read, and the next command needs the tree
+-- what comes of whether a reading step was made: where none was, nothing was shown anew, and the
+-- session has all that its next command asks for
+pub record HasRead (old new : Shown) (run now : SessionRun) (made : Bool) : Type 0 where
+  pub none : IsFalse made → new ≡ old
+  pub prepared : IsFalse made → IsTrue (may_read run) → IsPrepared now
+  pub due : IsTrue made → IsTrue (may_read run)
+
+-- memory was refused for reading: nothing is being read, before a command that reads
 pub record IsRefused (p : Shown) (run : SessionRun) : Type 0 where
   pub idle : p.work ≡ Idle
-  pub between : IsTrue (is_between run.phase)
-  pub needs : IsTrue (needs_tree (due_for run))
+  pub unread : run.fetch ≡ None
+  pub reads : IsTrue (may_read run)
 
 -- ---- a reply
 
--- what the session sees once the text is said
-abbrev pub SeesThen : Orders → Past → ℕ → ℕ → Text → Sight → Type 0
-SeesThen law past s i text sight.Unread = IsTurn law (event.Said s i text ∷ past) s (base_tree past s) (base_tree past s)
-SeesThen law past s i text (sight.Seen seen) = IsTurn law (event.Said s i text ∷ past) s seen.base seen.view
-SeesThen law past s i text (sight.Reading walk) = ⊥
-
--- the text may be said now as the reply to the next command; and whatever others add before, the session then stands before the command after it
-pub record MayAnswer (law : JcrLaw) (p : Shown) (run : SessionRun) (text : Text) : Type 0 where
+-- the session is in, with nothing being done for it and nothing of it in flight; its next command is
+-- m, which is run with c
+pub record IsAsked (law : JcrLaw) (p : Shown) (run : SessionRun) (m : Command) (c : Call)
+    : Type 0 where
   pub inside : IsIn law p
   pub session : p.session ≡ run.session
   pub few : length run.commands ≤ MOST_COMMANDS
-  pub commands : (i : ℕ) → command_at law.sessions run.session i ≡ slice_get run.commands i
+  pub commands : (i : ℕ) → command_at law run.session i ≡ slice_get run.commands i
   pub index : run.index ≡ next_index p.history.past run.session
   pub idle : p.work ≡ Idle
-  pub says : SaysBy law.sessions p.history p.session run.index text
-  pub leaves : (added : Past) → IsRun (starts_of law) (says_of law) (after added p.history) → AreOthers p.session added p.history.past → SeesThen law.sessions (added ++ p.history.past) p.session run.index text run.sight
+  pub unread : run.fetch ≡ None
+  pub still : IsFalse (is_drawing p.history.past p.session)
+  pub next : slice_get run.commands run.index ≡ Some m
+  pub call : IsCalled law p c
+
+-- a revision was drawn for the next command
+abbrev pub has_drawn : Shown → Bool
+has_drawn p = is_some (drawn_since p.history.past p.session)
+
+-- the text may be said now as the reply to the next command; what the session holds is what the
+-- command after it is run with then
+pub record MayAnswer (law : JcrLaw) (p : Shown) (run : SessionRun) (text : Text) : Type 0 where
+  pub command : Command
+  pub call : Call
+  pub asked : IsAsked law p run command call
+  pub says : SaysBy law p.history p.session run.index text
+  pub leaves : Holds (call_after (is_ok_text text) (has_drawn p) call command) run.held
+
+-- want of memory may be answered now; what the session holds is what the next command is run with,
+-- for which a revision was drawn or none
+pub record MayForgo (law : JcrLaw) (p : Shown) (run : SessionRun) (drew : Bool) : Type 0 where
+  pub command : Command
+  pub call : Call
+  pub asked : IsAsked law p run command call
+  pub drew_is : has_drawn p ≡ drew
+  pub uncommitted : IsFalse (option_map_or (is_committed p.history.past)
+      (drawn_since p.history.past p.session) false)
+  pub holds : Holds call run.held
 
 -- ---- what the session's own functions find
 
--- a reading or view command, or one that isn't built, is answered by the view and changes it; or memory was refused, and the view stays
-abbrev pub IsReply : Command → Nodes → Nodes → Text → Type 0
-IsReply c old new text = ((text ≡ answer_text (answered c old)) × (new ≡ view_after c old)) ⊎ ((text ≡ memory_text) × (new ≡ old))
-
--- the reply to the next command by the view
-abbrev pub RepliesBy : Option Command → Sight → Sight → Text → Type 0
-RepliesBy (Some c) (sight.Seen old) (sight.Seen new) text = (new.base ≡ old.base) × IsReply c old.view new.view text
-RepliesBy _ _ _ text = ⊥
-
-abbrev pub HasSeen : SessionRun → SessionRun → Text → Type 0
-HasSeen old new text = RepliesBy (slice_get old.commands old.index) old.sight new.sight text
-
--- what a save comes to: nothing is pending, the view has too many nodes, or what is pending is committed with its marks
-abbrev pub IsPlanFor : Nodes → Nodes → Plan → Type 0
-IsPlanFor base view plan.Nothing = changes base view ≡ []
-IsPlanFor base view plan.TooMany = (changes base view ≢ []) × IsFalse (has_few_nodes view)
-IsPlanFor base view (plan.Commit edit marks) = (changes base view ≢ []) × IsTrue (has_few_nodes view) × (edit.writes ≡ changes base view) × (marks ≡ marks_for [] (changes base view))
-
-abbrev pub IsPlanOf : Sight → Plan → Type 0
-IsPlanOf (sight.Seen seen) plan = IsPlanFor seen.base seen.view plan
-IsPlanOf _ plan = ⊥
-
 -- the session's commit has ended
 abbrev pub HasEnded : Phase → Type 0
-HasEnded (phase.Saved e) = ⊤
+HasEnded (phase.Committed e a) = ⊤
 HasEnded _ = ⊥

@@ -1,0 +1,4 @@
+pub mod Accepts
+pub mod Comes
+pub mod Holds
+pub mod Begins
