@@ -15,8 +15,8 @@ use Rattle.oak_port.specs.Ports.{Idle}
 use Rattle.oak_world.specs.Seen.{shown_at, shown_work}
 use Rattle.oak_world.specs.Worlds.{ActorState, WorldOf, idle, live, start_world, work_in}
 use Rattle.jcr_trans.specs.declared.command.Command.{Command}
-use Rattle.core_law.specs.State.{command_at}
-use Rattle.jcr_session.specs.declared.law.JcrLaw.{JcrLaw}
+use Rattle.jcr_law.specs.State.{command_at}
+use Rattle.jcr_law.specs.declared.law.JcrLaw.{JcrLaw}
 use Rattle.jcr_session.specs.declared.run.SessionRun.{SessionRun}
 use Rattle.jcr_session.specs.Standing.{IsNew, Stands}
 use Rattle.jcr_session.proofs.Staying.{new_stands}

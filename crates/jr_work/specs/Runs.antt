@@ -13,8 +13,8 @@ use Rattle.oak_machine.specs.Runs.{IsRun}
 use Rattle.core_clash.specs.Sound.{Cause}
 use Rattle.oak_world.specs.Clashes.{MeetsNone, Wanted}
 use Rattle.oak_world.specs.Worlds.{WorldOf, live}
-use Rattle.jcr_session.specs.declared.law.JcrLaw.{JcrLaw}
-use Rattle.jcr_session.specs.Sights.{says_of, starts_of}
+use Rattle.jcr_law.specs.declared.law.JcrLaw.{JcrLaw}
+use Rattle.jcr_law.specs.Lasting.{says_of, starts_of}
 use Rattle.jr_work.specs.Schedules.{Scheduled}
 use Rattle.jr_work.specs.Stages.{law_of}
 
