@@ -1,1 +1,5 @@
+pub mod Accepting
 pub mod Alone
+pub mod Beginning
+pub mod Called
+pub mod Draws

@@ -1,2 +1,4 @@
 pub mod Alone
+pub mod Events
 pub mod Replies
+pub mod Seeing

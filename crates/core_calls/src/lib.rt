@@ -1,23 +1,16 @@
-//! What each event of a history makes of what a session's next command is run with.
+//! Laws of calls: what each event of a history makes of what the next command of a session is run with (its types, its base,
+//! the tree there, and its state), and what the session's replies and commits come to.
 #![tactic(auto)]
 
-ghost use Rattle.std.specs.Prelude.{◌≡◌, ℕ, List, Some, IsTrue};
-ghost use Rattle.jr_rev.specs.declared.revision.Revision.{Revision};
-ghost use Rattle.jr_rev.specs.declared.vector.RevVec.{RevVec};
-ghost use Rattle.jr_tree.specs.Edits.{applied};
-ghost use Rattle.oak_machine.specs.declared.event.Draw.{Draw};
-ghost use Rattle.oak_machine.specs.Commits.{draw_of, is_committed, tree_at};
-ghost use Rattle.oak_machine.specs.History.{History};
-ghost use Rattle.core_heads.specs.Sound.{IsNodesRun};
-ghost use Rattle.core_calls.specs.Alone.{IsNextAlone};
+mod calls;
+mod commits;
+mod replies;
+mod turns;
 
-use oak_machine::Law;
-
-/// Where a vector has the next revision of a cluster node alone more than the base on which that revision was drawn, and
-/// the revision was committed, no other commit lies between them: the vector sees the tree at that base with the edit applied.
-pub fn own_commit_alone<L: Law>(law: &L)
-    ensures { (h : History) (v : RevVec) (r : Revision) (d : Draw)
-        → IsNodesRun (L.may_start law.now) (L.may_say law.now) h → draw_of h.past r ≡ Some d
-        → IsTrue (is_committed h.past r) → IsNextAlone d.base v r
-        → tree_at h.begin h.past v ≡ applied (Some r) (tree_at h.begin h.past d.base) d.edit.writes }
-{}
+pub use calls::{
+    calls_are_at_bases, calls_are_on_trees, logins_begin_calls, other_events_leave_calls, others_leave_what_is_asked,
+    refreshes_move_calls, replies_answer_calls, sessions_begin_new,
+};
+pub use commits::{draws_are_known, own_commit_alone};
+pub use replies::replies_begin_with_ok;
+pub use turns::{commands_begin_behind_replies, commands_tell_what_came, sessions_stay_unattached};

@@ -19,21 +19,25 @@ ghost use Rattle.oak_machine.specs.Commits.{draw_of, is_drawn, refusal_of, tree_
 ghost use Rattle.oak_machine.specs.History.{History};
 ghost use Rattle.oak_machine.specs.Runs.{AreNodes, IsRunOf, MayCommit};
 ghost use Rattle.oak_machine.specs.Sessions.{base_of, next_index};
+ghost use Rattle.core_calls.specs.Seeing.{SeesTrees};
 ghost use Rattle.core_merge.specs.Orders.{tree_by_commits};
 ghost use Rattle.core_obeys.specs.Plans.{tokens_at_draw};
 ghost use Rattle.core_obeys.specs.Product.{IsProductRun, IsUnclashing, tokens_by};
 ghost use Rattle.core_obeys.specs.Tidy.{IsTidy};
 
 /// In each run by the law of the product the tree of all commits, in the order in which they were made, is a tree and meets
-/// the rules of node types (JSR 283, 3.7 Node Types), and so does what a session sees at its base; no commit changes what is
-/// locked against the tokens that its session held when it was drawn, or what a checked-in node covers (17 Locking, 15
-/// Versioning); and where identifiers stand once, each REFERENCE names a node (3.8 Referential Integrity).
+/// the rules of node types (JSR 283, 3.7 Node Types), and so does what a session sees at its base, which is a tree whether or
+/// not the initial tree meets them; no commit changes what is locked against the tokens that its session held when it was
+/// drawn, or what a checked-in node covers (17 Locking, 15 Versioning); and where identifiers stand once, each REFERENCE names
+/// a node (3.8 Referential Integrity).
 pub fn the_product_obeys()
     ensures trees { (law : JcrLaw) (h : History) → IsProductRun law h → IsTree (tree_by_commits h.past) }
     ensures types { (law : JcrLaw) (h : History) → IsProductRun law h
         → TypesOk law.types (tree_by_commits h.past) }
     ensures bases { (law : JcrLaw) (h : History) (s : ℕ) (v : RevVec) → IsProductRun law h
         → base_of h.past s ≡ Some v → TypesOk law.types (tree_at None h.past v) }
+    ensures bases_are_trees { (law : JcrLaw) (clusters : ℕ) (sessions : List ℕ)
+        → AreNodes clusters sessions → SeesTrees law clusters sessions None }
     ensures free { (law : JcrLaw) (h : History) (r : Revision) (d : Draw) → IsProductRun law h
         → draw_of h.past r ≡ Some d → MayCommit h.past r
         → IsFree law.types (tree_by_commits h.past) (tokens_at_draw (tokens_by law) h r d.session) d.edit.writes }

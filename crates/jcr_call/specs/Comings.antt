@@ -1,5 +1,5 @@
 -- What a command that commits comes to before its commit.
-use Rattle.std.specs.Prelude.{◌≡◌, ◌≢◌, List, [], ◌∷◌, Option, Some, option_map, Result, Ok, Err}
+use Rattle.std.specs.Prelude.{◌≡◌, ◌≢◌, ℕ, List, [], ◌∷◌, Option, None, Some, option_map, Result, Ok, Err}
 use Rattle.std.specs.Option.{option_map_or}
 use Rattle.std.specs.String.{string_bytes}
 use Rattle.jr_rev.specs.declared.revision.Revision.{Revision}
@@ -27,10 +27,20 @@ reply_to_due c m (Err r) = Some (no_text r)
 abbrev pub accepted_text : Accepted → Revision → List ℕ
 accepted_text a r = option_map_or string_bytes a.text (answer_text (ShowsRevision r))
 
+-- of an accepted commit this text is told, or its revision, and the session then holds these tokens
+pub record IsTold (text : Option (List ℕ)) (tokens : List (List ℕ)) (a : Accepted) : Type 0 where
+  pub text : option_map string_bytes a.text ≡ text
+  pub tokens : a.tokens ≡ tokens
+
 -- what is told of an accepted commit is what the law has of it
 pub record IsAcceptedOf (c : Call) (m : Command) (a : Accepted) : Type 0 where
   pub text : (r : Revision) → accepted_text a r ≡ answer_text (committed_answer c c.base r m)
   pub tokens : a.tokens ≡ (accepted c m).tokens
+
+-- the reply, where it comes to one
+abbrev pub said_of : Coming → Option (List ℕ)
+said_of (coming.Said text) = Some (string_bytes text)
+said_of (coming.Planned plan a) = None
 
 -- what a command comes to by what is due for it: a reply, or a plan and its accepted reply
 abbrev pub IsComing : Call → Command → Result (List Write) Refusal → Coming → Type 0

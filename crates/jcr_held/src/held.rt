@@ -1,5 +1,5 @@
 // What a session holds between its commands.
-ghost use Rattle.std.specs.Prelude.{◌≡◌, IsFalse, IsTrue, None, OnErr, OnOk};
+ghost use Rattle.std.specs.Prelude.{◌≡◌, IsFalse, IsTrue, OnErr, OnOk, false, true};
 ghost use Rattle.std.specs.FinMap.{is_sorted};
 ghost use Rattle.jr_path.specs.Names.{name_cmp};
 ghost use Rattle.jr_tree.specs.Trees.{IsTree, Nodes, dated_children_of, node_at};
@@ -7,6 +7,7 @@ ghost use Rattle.jr_part.specs.Parts.{with_children, with_node};
 ghost use Rattle.jcr_view.specs.Outcomes.{is_viewed};
 ghost use Rattle.jcr_law.specs.State.{Call, used};
 ghost use Rattle.jcr_call.specs.Calls.{call_after, call_moved};
+ghost use Rattle.jcr_held.specs.Alike.{AreAlike, with_drawn};
 ghost use Rattle.jcr_held.specs.Accepts.{TokensFit, drops_pending};
 ghost use Rattle.jcr_held.specs.Begins.{IsFirstCall, IsNewHeld};
 ghost use Rattle.jcr_held.specs.Holds.{Holds};
@@ -156,14 +157,7 @@ impl Held {
 
     // A command is done, which drew so many identifiers beside those of the view.
     pub(crate) fn count(&mut self, drawn: u32)
-        ensures ids { self.new.who ≡ record self.old.who {
-          ids = min (self.old.who.ids + drawn) 16777215;
-        } }
-        ensures types { self.new.types ≡ self.old.types }
-        ensures part { self.new.part ≡ self.old.part }
-        ensures pending { self.new.pending ≡ self.old.pending }
-        ensures is_kept { self.new.is_kept ≡ self.old.is_kept }
-        ensures tokens { self.new.tokens ≡ self.old.tokens }
+        ensures { AreAlike (with_drawn self.old drawn) self.new }
     {
         self.who.ids = self.who.ids.saturating_add(drawn).min(MOST_IDS);
         self.left.clear();

@@ -1,11 +1,12 @@
 -- Commands that commit: the edit that is due, and what is answered before and after a commit.
-use Rattle.std.specs.Prelude.{ℕ, ◌+◌, Bool, true, false, List, [], ◌∷◌, codes, Option, None, Some, option_map, Result, Ok, Err}
+use Rattle.std.specs.Prelude.{ℕ, ◌+◌, Bool, true, false, cond, List, [], ◌∷◌, codes, Option, None, Some, option_map, Result, Ok, Err}
 use Rattle.std.specs.Option.{option_map_or}
 use Rattle.jr_rev.specs.declared.revision.Revision.{Revision}
 use Rattle.jr_tree.specs.declared.edit.Write.{Write}
 use Rattle.jr_tree.specs.declared.shared.Refusal.{Refusal}
 use Rattle.jr_tree.specs.Trees.{Nodes}
-use Rattle.jr_items.specs.Refusals.{or_else}
+use Rattle.jr_items.specs.Names.{version_storage}
+use Rattle.jr_items.specs.Refusals.{or_else, own_rule}
 use Rattle.jr_path.specs.declared.name.Name.{Name}
 use Rattle.jcr_lock.specs.Locks.{lock_edit, unlock_edit}
 use Rattle.jcr_plan.specs.Refusals.{plan_refusal}
@@ -15,6 +16,7 @@ use Rattle.jcr_trans.specs.Answers.{Answer, ShowsNothing, ShowsRevision, ShowsTe
 use Rattle.jcr_trans.specs.declared.command.Command.{Command}
 use Rattle.jcr_trans.specs.declared.command.Command.TheVariants as command
 use Rattle.jcr_version.specs.Edits.{checked_in_version, checkin_edit, checkout_edit, label_edit, unlabel_edit}
+use Rattle.jcr_law.specs.Proper.{is_proper}
 use Rattle.jcr_law.specs.State.{Call, next_id, pending}
 
 -- writes for which one identifier is drawn
@@ -36,10 +38,12 @@ edit_due c (command.Unlabel p label) = Some (unlabel_edit c.base p label)
 edit_due c (command.Restore p version) = Some (restore_edit c.types c.base p version)
 edit_due c _ = None
 
--- why the writes of a command can't be committed on the tree at the base
+-- why the writes of a command can't be committed on the tree at the base: they are not proper there,
+-- which comes of a version storage that isn't whole, or the plan is refused
 abbrev pub refusal_of_plan : Call → List Write → Option Refusal
 refusal_of_plan c [] = None
-refusal_of_plan c (w ∷ ws) = plan_refusal c.types c.base c.state.tokens (w ∷ ws)
+refusal_of_plan c (w ∷ ws) = cond (is_proper c.base (w ∷ ws))
+    (plan_refusal c.types c.base c.state.tokens (w ∷ ws)) (Some (own_rule version_storage))
 
 -- the first refusal of an edit that is due: the command's own, or the plan's
 abbrev pub refusal_of_due : Call → Result (List Write) Refusal → Option Refusal

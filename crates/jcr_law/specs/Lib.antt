@@ -5,6 +5,7 @@ pub mod Growing
 pub mod Lasting
 pub mod Law
 pub mod Passing
+pub mod Proper
 pub mod Queries
 pub mod Since
 pub mod Starting

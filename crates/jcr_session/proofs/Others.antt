@@ -27,12 +27,6 @@ any_both : {X : Type 0} (test : X → Bool) (a b : List X) → list_any test a �
 any_both test [] b h k = k
 any_both test (x ∷ a) b h k = let n = neither (test x) _ h in ap (λ c. c || list_any test (a ++ b)) n.0 ∙ any_both test a b n.1 k
 
--- ---- where it begins
-
--- a run that begins before any commit
-pub run_none : (starts : Starts) (says : Says) (clusters : ℕ) (sessions : List ℕ) {begin : Begin} → begin ≡ None → (past : Past) → IsRunOf starts says clusters sessions begin past → IsRunOf starts says clusters sessions None past
-run_none starts says clusters sessions begun past run = subst (λ (b : Begin). IsRunOf starts says clusters sessions b past) begun run
-
 -- ---- draws
 
 -- what is drawn in one past is so in another
@@ -43,21 +37,21 @@ drawn_some : (o : Option Draw) → is_some o ≡ true → (d : Draw) × (o ≡ S
 drawn_some None h = absurd (false≢true h)
 drawn_some (Some d) h = (d, refl)
 
-module _ (clusters : ℕ) (sessions : List ℕ) (nodes : AreNodes clusters sessions) (starts : Starts) (says : Says) where
-  keeps_one : (e : Event) (past : Past) → IsRunOf starts says clusters sessions None (e ∷ past) → Keeps past (e ∷ past)
+module _ (clusters : ℕ) (sessions : List ℕ) (nodes : AreNodes clusters sessions) (begin : Begin) (starts : Starts) (says : Says) where
+  keeps_one : (e : Event) (past : Past) → IsRunOf starts says clusters sessions begin (e ∷ past) → Keeps past (e ∷ past)
   keeps_one (event.Draw d) past run r f h =
       elim (is_same r d.revision) as (λ b. is_same r d.revision ≡ b → cond b (Some d) (draw_of past r) ≡ Some f) [
-        | true ↦ λ same. absurd (false≢true (ap is_some (sym (fresh_run clusters sessions nodes None starts says d past run).fresh ∙ subst (λ (q : Revision). draw_of past q ≡ Some f) (same_revision r d.revision same) h)))
+        | true ↦ λ same. absurd (false≢true (ap is_some (sym (fresh_run clusters sessions nodes begin starts says d past run).fresh ∙ subst (λ (q : Revision). draw_of past q ≡ Some f) (same_revision r d.revision same) h)))
         | false ↦ λ same. h
       ] refl
   keeps_one e past run r f h = h
 
-  pub draw_stays : (added past : Past) → IsRunOf starts says clusters sessions None (added ++ past) → (r : Revision) (d : Draw) → draw_of past r ≡ Some d → draw_of (added ++ past) r ≡ Some d
+  pub draw_stays : (added past : Past) → IsRunOf starts says clusters sessions begin (added ++ past) → (r : Revision) (d : Draw) → draw_of past r ≡ Some d → draw_of (added ++ past) r ≡ Some d
   draw_stays [] past run r d h = h
   draw_stays (e ∷ added) past run r d h = keeps_one e (added ++ past) run r d (draw_stays added past run.1 r d h)
 
   -- a revision of the session stays one
-  pub revision_stays : (added past : Past) → IsRunOf starts says clusters sessions None (added ++ past) → (s : ℕ) (r : Revision) → is_revision_of past s r ≡ true → is_revision_of (added ++ past) s r ≡ true
+  pub revision_stays : (added past : Past) → IsRunOf starts says clusters sessions begin (added ++ past) → (s : ℕ) (r : Revision) → is_revision_of past s r ≡ true → is_revision_of (added ++ past) s r ≡ true
   revision_stays added past run s r h = by (draw_of past r) refl h
     where
       by : (o : Option Draw) → draw_of past r ≡ o → option_map_or (λ d. d.session == s) o false ≡ true → option_map_or (λ d. d.session == s) (draw_of (added ++ past) r) false ≡ true
@@ -72,7 +66,7 @@ module _ (clusters : ℕ) (sessions : List ℕ) (nodes : AreNodes clusters sessi
         ap (λ (o : Option Draw). option_map_or (λ d. d.session == s) o false) (kw r d.0 d.1 ∙ sym (kv r d.0 d.1))
 
     -- events are of the session in each later past alike
-    any_same : (added past w v : Past) → IsRunOf starts says clusters sessions None (added ++ past) → Keeps (added ++ past) w → Keeps (added ++ past) v → list_any (is_event_of w s) added ≡ list_any (is_event_of v s) added
+    any_same : (added past w v : Past) → IsRunOf starts says clusters sessions begin (added ++ past) → Keeps (added ++ past) w → Keeps (added ++ past) v → list_any (is_event_of w s) added ≡ list_any (is_event_of v s) added
     any_same [] past w v run kw kv = refl
     any_same (event.Commit r ∷ added) past w v run kw kv =
         ap (λ b. b || list_any (is_event_of w s) added) (same_owner (added ++ past) w v kw kv r (first_of_both _ _ run.0.open_.in_flight))
@@ -102,17 +96,17 @@ module _ (clusters : ℕ) (sessions : List ℕ) (nodes : AreNodes clusters sessi
     any_same (event.Recover k ∷ added) past w v run kw kv = any_same added past w v run.1 kw kv
 
     -- what others added at two times
-    pub others_both : {begin : Begin} → begin ≡ None → (later added past : Past) → IsRunOf starts says clusters sessions begin (later ++ (added ++ past)) → IsRunOf starts says clusters sessions begin (added ++ past)
+    pub others_both : (later added past : Past) → IsRunOf starts says clusters sessions begin (later ++ (added ++ past)) → IsRunOf starts says clusters sessions begin (added ++ past)
         → list_any (is_event_of (added ++ past) s) added ≡ false → list_any (is_event_of (later ++ (added ++ past)) s) later ≡ false
         → list_any (is_event_of ((later ++ added) ++ past) s) (later ++ added) ≡ false
-    others_both begun later added past run early first second =
+    others_both later added past run early first second =
         subst (λ (w : Past). list_any (is_event_of w s) (later ++ added) ≡ false) (sym (append_assoc later added past))
         (any_both (is_event_of (later ++ (added ++ past)) s) later added second
-        (any_same added past (later ++ (added ++ past)) (added ++ past) (run_none starts says clusters sessions begun (added ++ past) early) (draw_stays later (added ++ past) (run_none starts says clusters sessions begun (later ++ (added ++ past)) run)) (λ r d h. h) ∙ first))
+        (any_same added past (later ++ (added ++ past)) (added ++ past) early (draw_stays later (added ++ past) run) (λ r d h. h) ∙ first))
 
     module _ (r : Revision) where
       -- others neither commit nor refuse what the session drew
-      pub uncommitted_own : (added past : Past) → IsRunOf starts says clusters sessions None (added ++ past) → (whole : Past) → is_revision_of whole s r ≡ true → list_any (is_event_of whole s) added ≡ false → is_committed past r ≡ false → is_committed (added ++ past) r ≡ false
+      pub uncommitted_own : (added past : Past) → IsRunOf starts says clusters sessions begin (added ++ past) → (whole : Past) → is_revision_of whole s r ≡ true → list_any (is_event_of whole s) added ≡ false → is_committed past r ≡ false → is_committed (added ++ past) r ≡ false
       uncommitted_own [] past run whole theirs others h = h
       uncommitted_own (event.Commit q ∷ added) past run whole theirs others h =
           let n = neither (is_revision_of whole s q) _ others in

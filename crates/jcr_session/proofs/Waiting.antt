@@ -1,32 +1,29 @@
 -- While others add events, a session stands where it stood.
-use Rattle.std.proofs.Common.{◌≡◌, ℕ, true, false, ◌||◌, cond, is_some, Some, refl, Option, List, [], ◌∷◌, ◌++◌, sym, ap, ◌∙◌, subst, None}
+use Rattle.std.proofs.Common.{◌≡◌, ℕ, true, false, ◌||◌, cond, Some, refl, Option, List, [], ◌∷◌, ◌++◌, sym, ap, ◌∙◌, subst, None}
 use Rattle.std.specs.Prelude.{◌==◌}
+use Rattle.std.specs.Option.{option_map_or}
 use Rattle.std.specs.List.{list_any}
-use mathlib.Core.Bool.{false≢true}
 use Rattle.jr_rev.specs.declared.revision.Revision.{Revision}
-use Rattle.jr_tree.specs.Trees.{IsTree, Nodes}
 use Rattle.oak_machine.specs.declared.event.Event.TheVariants as event
 use Rattle.oak_machine.specs.declared.event.StepKind.TheVariants as kind
-use Rattle.oak_machine.specs.History.{Begin, History, Past}
-use Rattle.oak_machine.specs.Commits.{is_commit_of, is_committed, is_ended, is_end_of, refusal_of}
-use Rattle.oak_machine.specs.Laws.{after, is_event_of}
-use Rattle.oak_machine.specs.Runs.{AreNodes, IsRun, IsRunOf}
-use Rattle.oak_machine.specs.Sessions.{base_of, has_left, has_login, is_attached, is_login_of, last_checkpoint, next_index}
+use Rattle.oak_machine.specs.History.{History, Past}
+use Rattle.oak_machine.specs.Commits.{is_commit_of, is_committed, is_end_of}
+use Rattle.oak_machine.specs.Laws.{AreOthers, after, is_event_of}
+use Rattle.oak_machine.specs.Runs.{AreNodes, IsRun}
+use Rattle.oak_machine.specs.Sessions.{has_left, has_login, is_attached, is_login_of, next_index}
 use Rattle.oak_machine.proofs.Induction.{neither, other}
 use Rattle.oak_machine.proofs.Stays.{any_later}
 use Rattle.oak_port.specs.Ports.{Awaiting, Deciding, Idle, Shown, Starting, Undoing, OthersAlone, Work, Writing, Publishing, Learning}
 use Rattle.oak_commit.specs.declared.outcome.CommitEnd.{CommitEnd}
 use Rattle.oak_commit.specs.declared.outcome.CommitEnd.TheVariants as commit
-use Rattle.core_law.specs.State.{base_tree}
-use Rattle.core_law.specs.Turns.{IsOver, IsTurn}
-use Rattle.core_law.proofs.Bases.{base_tree_stays}
-use Rattle.core_law.proofs.Lasting.{over_same, turn_same}
-use Rattle.core_heads.proofs.Passing.{drawn_stays, idle_stays, next_stays, refreshed_stays}
-use Rattle.core_law.proofs.Pending.{pending_stays}
-use Rattle.jcr_session.specs.declared.law.JcrLaw.{JcrLaw}
-use Rattle.jcr_session.specs.Sights.{IsBeside, IsIn, says_of, starts_of}
-use Rattle.jcr_session.specs.Standing.{HasCommitted, HasDrawn, HasView, IsCommitting, IsToldEnd}
-use Rattle.jcr_session.proofs.Others.{last_others, refusal_own, revision_stays, run_none, uncommitted_own}
+use Rattle.core_heads.proofs.Passing.{next_stays}
+use Rattle.jcr_law.specs.declared.law.JcrLaw.{JcrLaw}
+use Rattle.jcr_law.specs.Growing.{HasAllOf, call_same, trees_same}
+use Rattle.jcr_law.specs.Lasting.{grows_by_others, says_of, starts_of}
+use Rattle.jcr_law.specs.Since.{before_turn}
+use Rattle.jcr_law.specs.State.{Call, call_of}
+use Rattle.jcr_session.specs.Standing.{HasCommitted, HasDrawn, IsBeside, IsCalled, IsClash, IsCommitting, IsFresh, IsIn, IsToldEnd, IsUnmade}
+use Rattle.jcr_session.proofs.Others.{last_others, refusal_own, revision_stays, uncommitted_own}
 
 -- ---- whether it is in
 
@@ -47,94 +44,67 @@ attached_stays whole (event.Refresh t v ∷ added) past s others h = let n = nei
 attached_stays whole (event.Attach t id ∷ added) past s others h = let n = neither _ _ others in other (t == s) _ _ _ n.0 (attached_stays whole added past s n.1 h)
 attached_stays whole (e ∷ added) past s others h = attached_stays whole added past s (neither (is_event_of whole s e) _ others).1 h
 
--- a session that has logged in and isn't attached has a base
-pub has_base : (past : Past) (s : ℕ) → has_login past s ≡ true → is_attached past s ≡ false → is_some (base_of past s) ≡ true
-has_base [] s login detached = absurd (false≢true login)
-has_base (event.Login t v ∷ past) s login detached =
-    elim (t == s) as (λ b. (b || has_login past s) ≡ true → cond b false (is_attached past s) ≡ false → is_some (cond b (Some v) (base_of past s)) ≡ true) [
-      | true ↦ λ l d. refl
-      | false ↦ λ l d. has_base past s l d
-    ] login detached
-has_base (event.Refresh t v ∷ past) s login detached =
-    elim (t == s) as (λ b. cond b false (is_attached past s) ≡ false → is_some (cond b (Some v) (base_of past s)) ≡ true) [
-      | true ↦ λ d. refl
-      | false ↦ λ d. has_base past s login d
-    ] detached
-has_base (event.Attach t id ∷ past) s login detached =
-    elim (t == s) as (λ b. cond b true (is_attached past s) ≡ false → is_some (cond b (last_checkpoint past id) (base_of past s)) ≡ true) [
-      | true ↦ λ d. absurd (false≢true (sym d))
-      | false ↦ λ d. has_base past s login d
-    ] detached
-has_base (e ∷ past) s login detached = has_base past s login detached
-
--- the port has the pin of a session that is in
-pub pin_is_there : {A : Type 0} (law : JcrLaw) (p : Shown) → IsIn law p → (has_left p.history.past p.session ≡ false → None ≡ base_of p.history.past p.session) → A
-pin_is_there law p inside told = absurd (false≢true (ap is_some (told inside.stays) ∙ has_base p.history.past p.session inside.login inside.detached))
-
 -- ---- by pasts
 
-module _ (law : JcrLaw) (clusters : ℕ) (sessions : List ℕ) (nodes : AreNodes clusters sessions) (s : ℕ) (added past : Past) {begin : Begin} (begun : begin ≡ None) (begun_run : IsRunOf (starts_of law) (says_of law) clusters sessions begin past) (begun_later : IsRunOf (starts_of law) (says_of law) clusters sessions begin (added ++ past)) (others : list_any (is_event_of (added ++ past) s) added ≡ false) where
-  past_run : IsRunOf (starts_of law) (says_of law) clusters sessions None past
-  past_run = run_none (starts_of law) (says_of law) clusters sessions begun past begun_run
+module _ (law : JcrLaw) (h : History) (s : ℕ) (added : Past) (nodes : AreNodes h.clusters h.sessions) (later : IsRun (starts_of law) (says_of law) (after added h)) (others : AreOthers s added h.past) where
+  abbrev whole : Past
+  whole = added ++ h.past
 
-  past_later : IsRunOf (starts_of law) (says_of law) clusters sessions None (added ++ past)
-  past_later = run_none (starts_of law) (says_of law) clusters sessions begun (added ++ past) begun_later
+  pub all_same : HasAllOf law h.begin s h.past whole
+  all_same = grows_by_others h.clusters h.sessions nodes h.begin (starts_of law) (says_of law) s law added h.past later others
 
-  pub tree_still : base_tree (added ++ past) s ≡ base_tree past s
-  tree_still = base_tree_stays clusters sessions nodes (starts_of law) (says_of law) s (added ++ past) added past past_later others
+  -- what the next command is run with
+  pub call_still : call_of law h.begin whole s ≡ call_of law h.begin h.past s
+  call_still = call_same law h.clusters h.sessions h.begin s h.past whole all_same
 
-  pub over_still : (base view : Nodes) → IsOver law.sessions past s base view → IsOver law.sessions (added ++ past) s base view
-  over_still = over_same law.sessions (starts_of law) (says_of law) clusters sessions nodes s added past past_run past_later others
+  pub fresh_still : IsFresh h.past s → IsFresh whole s
+  fresh_still fresh = record { first = all_same.drawn ∙ fresh.first; idle = all_same.idle fresh.idle }
 
-  pub turn_still : (base view : Nodes) → IsTurn law.sessions past s base view → IsTurn law.sessions (added ++ past) s base view
-  turn_still = turn_same law.sessions (starts_of law) (says_of law) clusters sessions nodes s added past past_run past_later others
-
-  turn_at_base : IsTurn law.sessions past s (base_tree past s) (base_tree past s) → IsTurn law.sessions (added ++ past) s (base_tree (added ++ past) s) (base_tree (added ++ past) s)
-  turn_at_base turn = subst (λ (t : Nodes). IsTurn law.sessions (added ++ past) s t t) (sym tree_still) (turn_still (base_tree past s) (base_tree past s) turn)
-
-  view_still : (base view : Nodes) → HasView law.sessions past s base view → HasView law.sessions (added ++ past) s base view
-  view_still base view has = record {
-    base_is = has.base_is ∙ sym tree_still;
-    pending = pending_stays law.sessions (added ++ past) added past s others ∙ has.pending;
-    from = has.from;
-    to = has.to;
-    born = has.born;
-  }
-
-  drawn_still : (r : Revision) → HasDrawn law.sessions past s r → HasDrawn law.sessions (added ++ past) s r
+  drawn_still : (r : Revision) → HasDrawn h.past s r → HasDrawn whole s r
   drawn_still r has = record {
-    drawn = drawn_stays (added ++ past) added past s others ∙ has.drawn;
-    theirs = revision_stays clusters sessions nodes (starts_of law) (says_of law) added past past_later s r has.theirs;
-    last = last_others (added ++ past) r added past s others has.last;
+    made = has.made;
+    revision = has.revision;
+    draw = all_same.draw ∙ has.draw;
+    drawn = all_same.drawn ∙ has.drawn;
+    base = all_same.base ∙ has.base;
+    theirs = revision_stays h.clusters h.sessions nodes h.begin (starts_of law) (says_of law) added h.past later s r has.theirs;
+    last = last_others whole r added h.past s others has.last;
   }
 
-  open_still : (r : Revision) → HasDrawn law.sessions past s r → is_committed past r ≡ false → is_committed (added ++ past) r ≡ false
-  open_still r has h = uncommitted_own clusters sessions nodes (starts_of law) (says_of law) s r added past past_later (added ++ past) (drawn_still r has).theirs others h
+  open_still : (r : Revision) → HasDrawn h.past s r → is_committed h.past r ≡ false → is_committed whole r ≡ false
+  open_still r has h1 = uncommitted_own h.clusters h.sessions nodes h.begin (starts_of law) (says_of law) s r added h.past later whole (drawn_still r has).theirs others h1
 
-  told_still : (r : Revision) (e : CommitEnd) → HasDrawn law.sessions past s r → IsToldEnd past r e → IsToldEnd (added ++ past) r e
-  told_still r (commit.Clash item o) has h = refusal_own clusters sessions nodes (starts_of law) (says_of law) s r added past (added ++ past) (drawn_still r has).theirs others ∙ h
-  told_still r commit.Memory has h = tt
-  told_still r (commit.Committed q) has h = h
+  told_still : (r : Revision) (e : CommitEnd) → HasDrawn h.past s r → IsToldEnd h.past r e → IsToldEnd whole r e
+  told_still r (commit.Clash item o) has h1 = refusal_own h.clusters h.sessions nodes h.begin (starts_of law) (says_of law) s r added h.past whole (drawn_still r has).theirs others ∙ h1
+  told_still r commit.Memory has h1 = tt
+  told_still r (commit.Committed q) has h1 = h1
 
-  pub committing_still : (base view : Nodes) (work : Work) → IsCommitting law.sessions past s base view work → IsCommitting law.sessions (added ++ past) s base view work
-  committing_still base view (Writing r) (has, view_is, unmade) = (drawn_still r has, view_still base view view_is, open_still r has unmade)
-  committing_still base view (Undoing r e) (has, view_is, unmade, told) = (drawn_still r has, view_still base view view_is, open_still r has unmade, told_still r e has told)
-  committing_still base view (Deciding r) (has, made) = (drawn_still r has, any_later (is_commit_of r) added past made)
-  committing_still base view (Awaiting r) (has, made, ended) = (drawn_still r has, any_later (is_commit_of r) added past made, any_later (is_end_of r) added past ended)
-  committing_still base view Idle h = h
-  committing_still base view (Starting t) h = h
-  committing_still base view (Publishing r) h = h
-  committing_still base view (Learning u) h = h
+  pub committing_still : (work : Work) → IsCommitting h.past s work → IsCommitting whole s work
+  committing_still (Writing r) (has, unmade) = (drawn_still r has, open_still r has unmade)
+  committing_still (Undoing r e) (has, unmade, told) = (drawn_still r has, open_still r has unmade, told_still r e has told)
+  committing_still (Deciding r) (has, made) = (drawn_still r has, any_later (is_commit_of r) added h.past made)
+  committing_still (Awaiting r) (has, made, ended) = (drawn_still r has, any_later (is_commit_of r) added h.past made, any_later (is_end_of r) added h.past ended)
+  committing_still Idle h1 = h1
+  committing_still (Starting t) h1 = h1
+  committing_still (Publishing r) h1 = h1
+  committing_still (Learning u) h1 = h1
 
-  refused_still : (r : Revision) (o : _) → is_ended past r ≡ true → refusal_of past r ≡ o → refusal_of (added ++ past) r ≡ o
-  refused_still r o ended h = Rattle.core_heads.proofs.Passing.refusal_stays (starts_of law) (says_of law) clusters sessions None past r ended added past_later ∙ h
+  pub unmade_still : (r : Revision) → IsUnmade h.past s r → IsUnmade whole s r
+  unmade_still r is = record {
+    drawn = all_same.drawn ∙ is.drawn;
+    unmade =
+        subst (λ (o : Option Revision). option_map_or (is_committed whole) o false ≡ false) is.drawn
+        (all_same.uncommitted is.idle (ap (λ (o : Option Revision). option_map_or (is_committed h.past) o false) is.drawn ∙ is.unmade));
+    idle = all_same.idle is.idle;
+  }
 
-  pub committed_still : (base view : Nodes) (e : CommitEnd) → HasCommitted law.sessions past s base view e → HasCommitted law.sessions (added ++ past) s base view e
-  committed_still base view (commit.Committed r) (v, drawn, ended, made, moved, seen, idle) =
-      (v, drawn_stays (added ++ past) added past s others ∙ drawn, any_later (is_end_of r) added past ended, any_later (is_commit_of r) added past made, refreshed_stays (added ++ past) added past s others ∙ moved, seen, idle_stays (added ++ past) added past s others idle)
-  committed_still base view (commit.Clash item o) (r, drawn, ended, refused, over) =
-      (r, drawn_stays (added ++ past) added past s others ∙ drawn, any_later (is_end_of r) added past ended, refused_still r _ ended refused, over_still base view over)
-  committed_still base view commit.Memory over = over_still base view over
+  pub clash_still : (r : Revision) (e : CommitEnd) → IsClash h.past s r e → IsClash whole s r e
+  clash_still r e is = record { unmade = unmade_still r is.unmade; ended = all_same.ended r is.ended; told = by e is.told }
+    where
+      by : (e : CommitEnd) → IsToldEnd h.past r e → IsToldEnd whole r e
+      by (commit.Clash item o) told = all_same.refusal r is.ended ∙ told
+      by commit.Memory told = tt
+      by (commit.Committed q) told = told
 
 -- ---- by what a port shows
 
@@ -152,52 +122,58 @@ module _ (law : JcrLaw) (old new : Shown) (beside : IsBeside law old new) where
   pub next_beside : next_index new.history.past new.session ≡ next_index old.history.past old.session
   next_beside = shown_beside (λ h n. next_index h.past n ≡ next_index old.history.past old.session) (next_stays (added ++ old.history.past) added old.history.past old.session beside.grows.theirs)
 
-  module _ (nodes : AreNodes old.history.clusters old.history.sessions) (begun : old.history.begin ≡ None) (run : IsRun (starts_of law) (says_of law) old.history) where
+  module _ (nodes : AreNodes old.history.clusters old.history.sessions) where
     later : IsRun (starts_of law) (says_of law) (after added old.history)
     later = subst (λ (h : History). IsRun (starts_of law) (says_of law) h) same beside.grows.run
 
     pub nodes_beside : AreNodes new.history.clusters new.history.sessions
     nodes_beside = shown_beside (λ h n. AreNodes h.clusters h.sessions) nodes
 
-    pub begun_beside : new.history.begin ≡ None
-    begun_beside = shown_beside (λ h n. h.begin ≡ None) begun
-
-    pub tree_beside : base_tree new.history.past new.session ≡ base_tree old.history.past old.session
-    tree_beside = shown_beside (λ h n. base_tree h.past n ≡ base_tree old.history.past old.session) (tree_still law old.history.clusters old.history.sessions nodes old.session added old.history.past begun run later beside.grows.theirs)
+    pub all_beside : HasAllOf law old.history.begin old.session old.history.past (added ++ old.history.past)
+    all_beside = all_same law old.history old.session added nodes later beside.grows.theirs
 
     pub in_beside : IsIn law old → IsIn law new
     in_beside inside = record {
       nodes = nodes_beside;
-      begun = begun_beside;
+      trees = shown_beside (λ h n. Rattle.core_calls.specs.Seeing.SeesTrees law h.clusters h.sessions h.begin) inside.trees;
       run = beside.grows.run;
       login = shown_beside (λ h n. has_login h.past n ≡ true) (any_later (is_login_of old.session) added old.history.past inside.login);
       stays = shown_beside (λ h n. has_left h.past n ≡ false) (left_stays (added ++ old.history.past) added old.history.past old.session beside.grows.theirs inside.stays);
       detached = shown_beside (λ h n. is_attached h.past n ≡ false) (attached_stays (added ++ old.history.past) added old.history.past old.session beside.grows.theirs inside.detached);
-      tree = subst IsTree (sym tree_beside) inside.tree;
+      unattached = shown_beside (λ h n. is_attached (before_turn h.past n) n ≡ false) (ap (λ (p : Past). is_attached p old.session) all_beside.before ∙ inside.unattached);
     }
 
-    pub turn_beside : (base view : Nodes) → IsTurn law.sessions old.history.past old.session base view → IsTurn law.sessions new.history.past new.session base view
-    turn_beside base view turn = shown_beside (λ h n. IsTurn law.sessions h.past n base view) (turn_still law old.history.clusters old.history.sessions nodes old.session added old.history.past begun run later beside.grows.theirs base view turn)
+    pub called_beside : (c : Call) → IsCalled law old c → IsCalled law new c
+    called_beside c is = shown_beside (λ h n. call_of law h.begin h.past n ≡ Some c) (call_still law old.history old.session added nodes later beside.grows.theirs ∙ is)
 
-    pub committing_beside : (base view : Nodes) (work : Work) → IsCommitting law.sessions old.history.past old.session base view work → IsCommitting law.sessions new.history.past new.session base view work
-    committing_beside base view work is = shown_beside (λ h n. IsCommitting law.sessions h.past n base view work) (committing_still law old.history.clusters old.history.sessions nodes old.session added old.history.past begun run later beside.grows.theirs base view work is)
+    pub fresh_beside : IsFresh old.history.past old.session → IsFresh new.history.past new.session
+    fresh_beside is = shown_beside (λ h n. IsFresh h.past n) (fresh_still law old.history old.session added nodes later beside.grows.theirs is)
 
-    pub committed_beside : (base view : Nodes) (e : CommitEnd) → HasCommitted law.sessions old.history.past old.session base view e → HasCommitted law.sessions new.history.past new.session base view e
-    committed_beside base view e is = shown_beside (λ h n. HasCommitted law.sessions h.past n base view e) (committed_still law old.history.clusters old.history.sessions nodes old.session added old.history.past begun run later beside.grows.theirs base view e is)
+    pub committing_beside : (work : Work) → IsCommitting old.history.past old.session work → IsCommitting new.history.past new.session work
+    committing_beside work is = shown_beside (λ h n. IsCommitting h.past n work) (committing_still law old.history old.session added nodes later beside.grows.theirs work is)
+
+    pub clash_beside : (r : Revision) (e : CommitEnd) → IsClash old.history.past old.session r e → IsClash new.history.past new.session r e
+    clash_beside r e is = shown_beside (λ h n. IsClash h.past n r e) (clash_still law old.history old.session added nodes later beside.grows.theirs r e is)
+
+    pub committed_beside : (c : Call) (e : CommitEnd) → HasCommitted law old c e → HasCommitted law new c e
+    committed_beside c (commit.Committed r) is = shown_beside (λ h n. Rattle.jcr_session.specs.Standing.IsMadeFor law h n c r) record {
+      made = is.made;
+      revision = is.revision;
+      draw = all_beside.draw ∙ is.draw;
+      drawn = all_beside.drawn ∙ is.drawn;
+      on = trees_same old.history.begin old.history.past (added ++ old.history.past) is.made.base (all_beside.draw_edits is.made is.draw) ∙ is.on;
+      ended = all_beside.ended r is.ended;
+      committed = all_beside.committed r is.committed;
+      base = is.base;
+      tree = is.tree;
+      tree_is = is.tree_is;
+      moved = all_beside.refreshed ∙ is.moved;
+      seen = is.seen;
+      idle = all_beside.idle is.idle;
+      call = call_still law old.history old.session added nodes later beside.grows.theirs ∙ is.call;
+    }
+    committed_beside c (commit.Clash item o) (r, is, clash) = (r, called_beside c is, clash_beside r (commit.Clash item o) clash)
+    committed_beside c commit.Memory (r, is, unmade) = (r, called_beside c is, shown_beside (λ h n. IsUnmade h.past n r) (unmade_still law old.history old.session added nodes later beside.grows.theirs r unmade))
 
 pub by_waits : (law : JcrLaw) (old new : Shown) (work : Work) (room : Option ℕ) → OthersAlone (starts_of law) (says_of law) old new work room → IsBeside law old new
 by_waits law old new work room waits = record { others = waits.others; grows = waits.grows; session = waits.session; beside = waits.beside; alone = waits.alone }
-
-module _ (law : JcrLaw) (old new : Shown) (work : Work) (room : Option ℕ) (waits : OthersAlone (starts_of law) (says_of law) old new work room) where
-  module _ (nodes : AreNodes old.history.clusters old.history.sessions) (begun : old.history.begin ≡ None) (run : IsRun (starts_of law) (says_of law) old.history) where
-    pub tree_then : base_tree new.history.past new.session ≡ base_tree old.history.past old.session
-    tree_then = tree_beside law old new (by_waits law old new work room waits) nodes begun run
-
-    pub in_then : IsIn law old → IsIn law new
-    in_then inside = in_beside law old new (by_waits law old new work room waits) nodes begun run inside
-
-    pub turn_waits : (base view : Nodes) → IsTurn law.sessions old.history.past old.session base view → IsTurn law.sessions new.history.past new.session base view
-    turn_waits base view turn = turn_beside law old new (by_waits law old new work room waits) nodes begun run base view turn
-
-  pub next_waits : next_index new.history.past new.session ≡ next_index old.history.past old.session
-  next_waits = next_beside law old new (by_waits law old new work room waits)

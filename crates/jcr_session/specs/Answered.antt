@@ -10,10 +10,10 @@ use Rattle.oak_port.specs.declared.task.StepOut.TheVariants as out
 use Rattle.oak_port.specs.declared.task.TaskEnd.TheVariants as end
 use Rattle.jcr_session.specs.declared.run.Phase.{Phase}
 use Rattle.jcr_session.specs.declared.run.Phase.TheVariants as phase
-use Rattle.jcr_session.specs.declared.sight.Listed.{Listed}
-use Rattle.jcr_session.specs.declared.sight.Listed.TheVariants as listed
-use Rattle.jcr_session.specs.declared.sight.Loaded.{Loaded}
-use Rattle.jcr_session.specs.declared.sight.Loaded.TheVariants as loaded
+use Rattle.jcr_session.specs.declared.read.Listed.{Listed}
+use Rattle.jcr_session.specs.declared.read.Listed.TheVariants as listed
+use Rattle.jcr_session.specs.declared.read.Loaded.{Loaded}
+use Rattle.jcr_session.specs.declared.read.Loaded.TheVariants as loaded
 use Rattle.jcr_session.specs.declared.turn.Turn.{Turn}
 use Rattle.jcr_session.specs.declared.turn.Turn.TheVariants as turn
 
@@ -103,7 +103,12 @@ turn_by (out.Wait q) = turn.Waiting q
 turn_by (out.Ready (end.Commit e)) = turn.Stepped (kind_of_end e)
 turn_by _ = turn.Memory
 
--- where the session stands in its save, by what the step answered
+-- where the session stands whose commit has ended so
+abbrev pub ended_phase : CommitEnd → Phase → Phase
+ended_phase e (phase.Committing a) = phase.Committed e a
+ended_phase e now = now
+
+-- where the session stands in its commit, by what the step answered
 abbrev pub phase_by : StepOut → Phase → Phase
-phase_by (out.Ready (end.Commit e)) now = phase.Saved e
+phase_by (out.Ready (end.Commit e)) now = ended_phase e now
 phase_by _ now = now

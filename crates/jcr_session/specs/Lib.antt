@@ -1,4 +1,3 @@
 pub mod Answered
-pub mod Eval
-pub mod Sights
+pub mod Asked
 pub mod Standing

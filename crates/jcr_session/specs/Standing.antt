@@ -38,9 +38,10 @@ use Rattle.jcr_law.specs.State.{Call, call_of, command_at, is_ok_text}
 use Rattle.jcr_call.specs.Calls.{call_after, call_moved}
 use Rattle.jcr_call.specs.Comings.{IsAcceptedOf}
 use Rattle.jcr_call.specs.declared.coming.Accepted.{Accepted}
-use Rattle.jcr_held.specs.Holds.{Holds, IsNewHeld, IsReady}
+use Rattle.jcr_held.specs.Begins.{IsNewHeld}
+use Rattle.jcr_held.specs.Holds.{Holds, IsReady}
 use Rattle.jcr_held.specs.declared.held.Held.{Held}
-use Rattle.core_calls.specs.SeesTrees.{SeesTrees}
+use Rattle.core_calls.specs.Seeing.{SeesTrees}
 use Rattle.jcr_session.specs.declared.limits.TheConstants.{COMMIT_REPLY_BYTES, MOST_COMMANDS}
 use Rattle.jcr_session.specs.declared.next.Due.{Due}
 use Rattle.jcr_session.specs.declared.next.Due.TheVariants as due
@@ -93,14 +94,22 @@ abbrev pub is_between : Phase → Bool
 is_between phase.Between = true
 is_between _ = false
 
+abbrev pub is_committing : Phase → Bool
+is_committing (phase.Committing a) = true
+is_committing _ = false
+
 -- the session is before a command for which it may have to read
 abbrev pub may_read : SessionRun → Bool
 may_read run = is_between run.phase && reads_for (due_for run)
 
--- nothing is being read, and nothing lacks of what the next command asks for
+-- nothing lacks of what the next command asks for
+abbrev pub IsReadyNext : SessionRun → Type 0
+IsReadyNext run = (m : Command) → slice_get run.commands run.index ≡ Some m → IsReady run.held m
+
+-- and nothing is being read
 pub record IsPrepared (run : SessionRun) : Type 0 where
   pub done : run.fetch ≡ None
-  pub ready : (m : Command) → slice_get run.commands run.index ≡ Some m → IsReady run.held m
+  pub ready : IsReadyNext run
 
 -- ---- the session in its history
 
@@ -222,13 +231,19 @@ pub record IsFor (p : Shown) (run : SessionRun) (c : Call) (accepted : Accepted)
 
 -- ---- where it stands
 
+-- what is held is what a session of the law holds when it begins
+pub record HoldsNone (session earlier : ℕ) (types : List TypeDef) (held : Held) : Type 0 where
+  pub nothing : IsNewHeld held
+  pub session_is : held.who.session ≡ session
+  pub earlier_is : held.who.earlier ≡ earlier
+  pub types_are : held.types ≡ types
+
 -- the session has not logged in
-pub record IsOutside (p : Shown) (run : SessionRun) : Type 0 where
+pub record IsOutside (law : JcrLaw) (p : Shown) (run : SessionRun) : Type 0 where
   pub idle : p.work ≡ Idle
   pub out : IsFalse (has_login p.history.past p.session)
   pub unread : run.fetch ≡ None
-  pub holds_none : IsNewHeld run.held
-  pub session : run.held.who.session ≡ run.session
+  pub holds : HoldsNone run.session law.earlier law.types run.held
   pub still : IsFalse (is_drawing p.history.past p.session)
 
 -- it is between two commands, and what it holds is what the next one is run with; what is being
@@ -276,7 +291,7 @@ pub record IsGone (p : Shown) (run : SessionRun) : Type 0 where
   pub all : run.index ≡ length run.commands
 
 abbrev pub StandsAt : JcrLaw → Shown → SessionRun → Phase → Type 0
-StandsAt law p run phase.Outside = IsOutside p run
+StandsAt law p run phase.Outside = IsOutside law p run
 StandsAt law p run phase.Between = IsIn law p × IsBetween law p run
 StandsAt law p run (phase.Refreshed v) = IsIn law p × IsRefreshed law p run v
 StandsAt law p run (phase.Committing a) = IsIn law p × IsInCommit law p run a
@@ -396,7 +411,7 @@ pub record IsNew (session earlier : ℕ) (commands : List Command) (types : List
   pub first : run.index ≡ 0
   pub outside : run.phase ≡ phase.Outside
   pub unread : run.fetch ≡ None
-  pub holds_none : IsNewHeld session earlier types run.held
+  pub holds : HoldsNone session earlier types run.held
 
 -- commands, replies and phase stay
 pub record IsSame (old new : SessionRun) : Type 0 where
@@ -425,49 +440,6 @@ pub record IsRefused (p : Shown) (run : SessionRun) : Type 0 where
   pub idle : p.work ≡ Idle
   pub unread : run.fetch ≡ None
   pub reads : IsTrue (may_read run)
-
--- ---- a reply
-
--- the session is in, with nothing being done for it and nothing of it in flight; its next command is
--- m, which is run with c
-pub record IsAsked (law : JcrLaw) (p : Shown) (run : SessionRun) (m : Command) (c : Call)
-    : Type 0 where
-  pub inside : IsIn law p
-  pub session : p.session ≡ run.session
-  pub few : length run.commands ≤ MOST_COMMANDS
-  pub commands : (i : ℕ) → command_at law run.session i ≡ slice_get run.commands i
-  pub index : run.index ≡ next_index p.history.past run.session
-  pub idle : p.work ≡ Idle
-  pub unread : run.fetch ≡ None
-  pub still : IsFalse (is_drawing p.history.past p.session)
-  pub next : slice_get run.commands run.index ≡ Some m
-  pub call : IsCalled law p c
-
--- a revision was drawn for the next command
-abbrev pub has_drawn : Shown → Bool
-has_drawn p = is_some (drawn_since p.history.past p.session)
-
--- the text may be said now as the reply to the next command; what the session holds is what the
--- command after it is run with then
-pub record MayAnswer (law : JcrLaw) (p : Shown) (run : SessionRun) (text : Text) : Type 0 where
-  pub command : Command
-  pub call : Call
-  pub asked : IsAsked law p run command call
-  pub says : SaysBy law p.history p.session run.index text
-  pub leaves : Holds (call_after (is_ok_text text) (has_drawn p) call command) run.held
-
--- want of memory may be answered now; what the session holds is what the next command is run with,
--- for which a revision was drawn or none
-pub record MayForgo (law : JcrLaw) (p : Shown) (run : SessionRun) (drew : Bool) : Type 0 where
-  pub command : Command
-  pub call : Call
-  pub asked : IsAsked law p run command call
-  pub drew_is : has_drawn p ≡ drew
-  pub uncommitted : IsFalse (option_map_or (is_committed p.history.past)
-      (drawn_since p.history.past p.session) false)
-  pub holds : Holds call run.held
-
--- ---- what the session's own functions find
 
 -- the session's commit has ended
 abbrev pub HasEnded : Phase → Type 0

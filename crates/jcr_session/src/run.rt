@@ -67,8 +67,7 @@ impl SessionRun {
         requires few { length commands ≤ MOST_COMMANDS }
         ensures { IfOk result (IsNew session earlier commands types) }
     {
-        let base = RevVec::new();
-        let held = Held::new(alloc, session, earlier, base, types);
+        let held = Held::new(alloc, session, earlier, RevVec::none(), types);
         Ok(SessionRun {
             alloc,
             session,
@@ -208,11 +207,8 @@ impl SessionRun {
         ensures turned { HasTurned (P.law port.old) (P.shown port.old) (P.shown port.new)
             self.old self.new result }
     {
-        let Some(pin) = port.pin() else {
-            unreachable!()
-        };
-        let text = vector_reply(self.alloc, &pin.base);
-        self.say_made(port, text)
+        let text = vector_reply(self.alloc, &self.held.base());
+        self.say_settled(port, text)
     }
 
     // Moves the base to the head. What is pending is kept until the reply.
@@ -247,7 +243,7 @@ impl SessionRun {
             self.old self.new result }
     {
         let text = vector_reply(self.alloc, &vector);
-        self.say_accepted(port, text)
+        self.say_settled(port, text)
     }
 }
 

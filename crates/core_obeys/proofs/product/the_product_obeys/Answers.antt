@@ -6,6 +6,7 @@ use Rattle.jcr_law.specs.Lasting.{says_of, starts_of}
 use Rattle.jcr_law.specs.Starting.{proper_starts, starts_plan}
 use Rattle.jcr_plan.specs.Plans.{IsFree}
 use Rattle.core_heads.proofs.Runs.{closed_run, sound_run}
+use Rattle.core_merge.proofs.Merged.{tree_merged}
 use Rattle.core_merge.proofs.Order.{tree_in_order}
 use Rattle.core_merge.specs.Independent.{StartsMarkingParents}
 use Rattle.core_merge.specs.Orders.{tree_by_commits}
@@ -34,6 +35,12 @@ returns-clause-bases c = λ law h s v m is.
     let held = (sound_run h.clusters h.sessions m.nodes None (starts_of law) (says_of law) h.past m.run).bases s v is in
     types_seen h.clusters h.sessions m.nodes (starts_of law) (says_of law) (proper_starts law) law.types (tokens_by law) (plans law) m.typed h.past m.run v
     (closed_run h.clusters h.sessions m.nodes None (starts_of law) (says_of law) h.past m.run v held)
+
+pub returns-clause-bases_are_trees : goal.returns-clause-bases_are_trees
+returns-clause-bases_are_trees c = λ law clusters sessions nodes past run s v is.
+    let held = (sound_run clusters sessions nodes None (starts_of law) (says_of law) past run).bases s v is in
+    tree_merged clusters sessions nodes (starts_of law) (says_of law) (proper_starts law) (marking law) past run v
+    (closed_run clusters sessions nodes None (starts_of law) (says_of law) past run v held)
 
 pub returns-clause-free : goal.returns-clause-free
 returns-clause-free c = λ law h r d m drawn may.

@@ -1,0 +1,4 @@
+mod Childless
+mod Identifiers
+pub mod Improper
+pub mod Written

@@ -1,0 +1,6 @@
+pub mod Calls
+pub mod Comings
+pub mod Dues
+pub mod Footings
+pub mod Reading
+pub mod Unset

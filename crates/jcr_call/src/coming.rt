@@ -1,0 +1,153 @@
+// What a command that commits comes to before its commit.
+ghost use Rattle.std.specs.Prelude.{◌≡◌, ◌≢◌, [], IfOk, List, None, Ok, Result, Some, true};
+ghost use Rattle.jr_tree.specs.declared.edit.Write.{Write};
+ghost use Rattle.jr_tree.specs.declared.shared.Refusal.{Refusal};
+ghost use Rattle.jcr_trans.specs.Answers.{ShowsText};
+ghost use Rattle.jcr_trans.specs.Texts.{answer_text};
+ghost use Rattle.jcr_version.specs.Edits.{checked_in_version};
+ghost use Rattle.jcr_law.specs.Commits.{edit_due, version_answer};
+ghost use Rattle.jcr_law.specs.Proper.{is_proper};
+ghost use Rattle.jcr_law.specs.State.{Call, next_id, with_token};
+ghost use Rattle.jcr_call.specs.Comings.{IsAcceptedOf, IsComing, IsTold, reply_to_due, said_of};
+ghost use Rattle.jcr_call.specs.Dues.{due_of};
+ghost use Rattle.jcr_call.specs.Footings.{IsOn};
+
+use crate::due::Due;
+use crate::footing::Footing;
+use crate::ids::next_id;
+use crate::proper::is_proper;
+use crate::replies::{cause_text, improper_reply, unwritten_reply, version_reply};
+use crate::tokens::{all, strings, with_token};
+use jcr_plan::{Plan, plan_of};
+use jcr_trans::{Command, refusal_text, text_reply};
+use jr_path::{List, Path, Text};
+use jr_tree::Edit;
+use std::alloc::{AllocError, Global};
+
+/// What a command that commits comes to before its commit: a reply, or a plan, and what is told once that is committed.
+#[derive(Drop)]
+pub enum Coming {
+    Said(String),
+    Planned(Plan, Accepted),
+}
+
+/// What an accepted commit tells: its reply, where that isn't the revision; and the lock tokens that the session then holds
+/// (JSR 283, 17.5 Lock Token).
+#[derive(Drop)]
+pub struct Accepted {
+    pub text: Option<String>,
+    pub tokens: List<Text>,
+}
+
+/// What a command comes to by what is due for it (JSR 283, 10.11 Saving): a reply, where that is a refusal, has nothing to
+/// write, isn't proper or can't be planned; else a plan. It goes over the whole tree.
+pub fn come(
+    alloc: Global,
+    footing: &Footing<'_>,
+    command: &Command,
+    due: Due,
+) -> Result<Coming, AllocError>
+    // what it says is the reply to what is due
+    ensures reply { (c : Call) → IsOn footing.now c → IfOk result (λ coming.
+        said_of coming ≡ reply_to_due c command.now (due_of due)) }
+    // what is due for the command comes to this
+    ensures comes { (c : Call) → IsOn footing.now c → edit_due c command.now ≡ Some (due_of due)
+        → IfOk result (IsComing c command.now (due_of due)) }
+{
+    match due {
+        Due::Edited(edit) => come_edit(alloc, footing, command, edit),
+        Due::Refused(refusal) => Ok(Coming::Said(refusal_text(alloc, &refusal)?)),
+    }
+}
+
+// What a command comes to by the edit that is due for it.
+fn come_edit(
+    alloc: Global,
+    footing: &Footing<'_>,
+    command: &Command,
+    edit: Edit,
+) -> Result<Coming, AllocError>
+    ensures reply { (c : Call) → IsOn footing.now c → IfOk result (λ coming.
+        said_of coming ≡ reply_to_due c command.now (Ok edit.writes)) }
+    ensures comes { (c : Call) → IsOn footing.now c → edit_due c command.now ≡ Some (Ok edit.writes)
+        → IfOk result (IsComing c command.now (Ok edit.writes)) }
+{
+    if edit.writes.is_empty() {
+        return Ok(Coming::Said(unwritten_reply(alloc, footing.base, command)?));
+    }
+    if is_proper(alloc, footing.base, &edit)? {
+        come_plan(alloc, footing, command, edit)
+    } else {
+        Ok(Coming::Said(improper_reply(alloc)?))
+    }
+}
+
+// What a command comes to by an edit that is proper.
+fn come_plan(
+    alloc: Global,
+    footing: &Footing<'_>,
+    command: &Command,
+    edit: Edit,
+) -> Result<Coming, AllocError>
+    requires some { edit.writes ≢ [] }
+    requires proper { is_proper footing.now.base.now edit.writes ≡ true }
+    ensures reply { (c : Call) → IsOn footing.now c → IfOk result (λ coming.
+        said_of coming ≡ reply_to_due c command.now (Ok edit.writes)) }
+    ensures comes { (c : Call) → IsOn footing.now c → edit_due c command.now ≡ Some (Ok edit.writes)
+        → IfOk result (IsComing c command.now (Ok edit.writes)) }
+{
+    let tokens = strings(alloc, footing.tokens)?;
+    match plan_of(alloc, footing.types, footing.base, edit, tokens.as_slice()) {
+        Ok(plan) => Ok(Coming::Planned(plan, accepted(alloc, footing, command)?)),
+        Err(refusal) => Ok(Coming::Said(cause_text(alloc, &refusal)?)),
+    }
+}
+
+// What is told of a command once its commit is made.
+fn accepted(
+    alloc: Global,
+    footing: &Footing<'_>,
+    command: &Command,
+) -> Result<Accepted, AllocError>
+    ensures { (c : Call) (due : Result (List Write) Refusal) → IsOn footing.now c
+        → edit_due c command.now ≡ Some due → IfOk result (IsAcceptedOf c command.now) }
+{
+    match command {
+        Command::Lock(_, _) => locked(alloc, footing),
+        Command::Checkin(path) => checked_in(alloc, footing, path),
+        _ => untold(alloc, footing.tokens),
+    }
+}
+
+// What is told of a lock: its token, which the session then holds.
+fn locked(alloc: Global, footing: &Footing<'_>) -> Result<Accepted, AllocError>
+    ensures { (c : Call) → IsOn footing.now c → IfOk result (IsTold
+        (Some (answer_text (ShowsText (next_id c.who)))) (with_token c.state.tokens (next_id c.who))) }
+{
+    let token = next_id(alloc, footing.who)?;
+    let text = Some(text_reply(alloc, token.as_str())?);
+    let tokens = with_token(alloc, footing.tokens, &token)?;
+    Ok(Accepted { text, tokens })
+}
+
+// What is told of a check-in: the version that it makes.
+fn checked_in(
+    alloc: Global,
+    footing: &Footing<'_>,
+    path: &Path,
+) -> Result<Accepted, AllocError>
+    ensures { (c : Call) → IsOn footing.now c → IfOk result (IsTold
+        (Some (answer_text (version_answer (checked_in_version c.base path.now)))) c.state.tokens) }
+{
+    let text = Some(version_reply(alloc, footing.base, path)?);
+    let tokens = all(alloc, footing.tokens)?;
+    Ok(Accepted { text, tokens })
+}
+
+// Only the revision is told.
+fn untold(alloc: Global, tokens: &[Text]) -> Result<Accepted, AllocError>
+    ensures { IfOk result (IsTold None tokens.now) }
+{
+    let tokens = all(alloc, tokens)?;
+    Ok(Accepted { text: None, tokens })
+}

@@ -1,0 +1,14 @@
+// What a command that commits is run on.
+use jr_path::Text;
+use jr_tree::{Tree, Who};
+use jr_types::Registry;
+
+/// What a command that commits is run on: the node types, the session at its base, the tree there, and the lock tokens that
+/// the session holds (JSR 283, 10.11 Saving).
+#[derive(Clone, Copy)]
+pub struct Footing<'a> {
+    pub types: &'a Registry,
+    pub who: &'a Who,
+    pub base: &'a Tree,
+    pub tokens: &'a [Text],
+}

@@ -1,0 +1,159 @@
+-- What a session finds before it answers its next command.
+use Rattle.std.specs.Prelude.{◌≡◌, ◌≢◌, ◌≤◌, ℕ, Bool, true, false, List, [], length, slice_get}
+use Rattle.std.specs.Prelude.{Option, None, Some, is_some, IsTrue, IsFalse, string_bytes, Ok}
+use Rattle.std.specs.Option.{option_map_or}
+use Rattle.std.specs.declared.string.String.{String}
+use Rattle.jr_path.specs.declared.name.Name.{Name}
+use Rattle.jr_path.specs.declared.path.Item.{Item}
+use Rattle.jr_path.specs.declared.text.Text.{Text}
+use Rattle.jr_rev.specs.declared.revision.Revision.{Revision}
+use Rattle.jr_value.specs.declared.value.Value.{Value}
+use Rattle.oak_commit.specs.declared.outcome.CommitEnd.TheVariants as commit
+use Rattle.oak_machine.specs.Commits.{is_committed}
+use Rattle.oak_machine.specs.Sessions.{drawn_since, is_drawing, next_index}
+use Rattle.oak_port.specs.Ports.{HasRoom, Idle, Shown}
+use Rattle.jcr_plan.specs.declared.plans.Plan.{Plan}
+use Rattle.jcr_plan.specs.Plans.{PlanOk}
+use Rattle.jcr_trans.specs.Texts.{answer_text}
+use Rattle.jcr_trans.specs.declared.command.Command.{Command}
+use Rattle.jcr_trans.specs.declared.command.Command.TheVariants as command
+use Rattle.jcr_view.specs.Outcomes.{eval, is_viewed}
+use Rattle.jcr_law.specs.declared.law.JcrLaw.{JcrLaw}
+use Rattle.jcr_law.specs.Commits.{edit_due}
+use Rattle.jcr_law.specs.Law.{SaysBy, no_support}
+use Rattle.jcr_law.specs.Queries.{QueryAnswers}
+use Rattle.jcr_law.specs.State.{Call, command_at, is_ok_text}
+use Rattle.jcr_call.specs.Calls.{call_after}
+use Rattle.jcr_call.specs.Comings.{IsAcceptedOf}
+use Rattle.jcr_call.specs.declared.coming.Accepted.{Accepted}
+use Rattle.jcr_call.specs.declared.coming.Coming.{Coming}
+use Rattle.jcr_held.specs.Accepts.{TokensFit}
+use Rattle.jcr_held.specs.Comes.{ComesTo}
+use Rattle.jcr_held.specs.Holds.{Holds}
+use Rattle.jcr_session.specs.declared.limits.TheConstants.{COMMIT_REPLY_BYTES, MOST_COMMANDS}
+use Rattle.jcr_session.specs.declared.next.Due.TheVariants as due
+use Rattle.jcr_session.specs.declared.run.Phase.TheVariants as phase
+use Rattle.jcr_session.specs.declared.run.SessionRun.{SessionRun}
+use Rattle.jcr_session.specs.Standing.{IsCalled, IsClash, IsIn, IsPlace, due_for}
+
+-- the session is in, with nothing being done for it and nothing of it in flight; its next command is
+-- m, which is run with c
+pub record IsAsked (law : JcrLaw) (p : Shown) (run : SessionRun) (m : Command) (c : Call)
+    : Type 0 where
+  pub inside : IsIn law p
+  pub session : p.session ≡ run.session
+  pub few : length run.commands ≤ MOST_COMMANDS
+  pub commands : (i : ℕ) → command_at law run.session i ≡ slice_get run.commands i
+  pub index : run.index ≡ next_index p.history.past run.session
+  pub idle : p.work ≡ Idle
+  pub unread : run.fetch ≡ None
+  pub still : IsFalse (is_drawing p.history.past p.session)
+  pub next : slice_get run.commands run.index ≡ Some m
+  pub call : IsCalled law p c
+
+-- a revision was drawn for the next command
+abbrev pub has_drawn : Shown → Bool
+has_drawn p = is_some (drawn_since p.history.past p.session)
+
+-- the text may be said now as the reply to the next command; what the session holds is what the
+-- command after it is run with then
+pub record MayAnswer (law : JcrLaw) (p : Shown) (run : SessionRun) (text : Text) : Type 0 where
+  pub command : Command
+  pub call : Call
+  pub asked : IsAsked law p run command call
+  pub says : SaysBy law p.history p.session run.index text
+  pub leaves : Holds (call_after (is_ok_text text) (has_drawn p) call command) run.held
+
+-- want of memory may be answered now; what the session holds is what the next command is run with,
+-- for which a revision was drawn or none
+pub record MayForgo (law : JcrLaw) (p : Shown) (run : SessionRun) (drew : Bool) : Type 0 where
+  pub command : Command
+  pub call : Call
+  pub asked : IsAsked law p run command call
+  pub drew_is : has_drawn p ≡ drew
+  pub uncommitted : IsFalse (option_map_or (is_committed p.history.past)
+      (drawn_since p.history.past p.session) false)
+  pub holds : Holds call run.held
+
+-- the same of a text for which nothing was drawn, to a command that isn't answered by the view,
+-- before what the session holds is brought up to it
+pub record MaySettle (law : JcrLaw) (p : Shown) (run : SessionRun) (text : Text) : Type 0 where
+  pub command : Command
+  pub call : Call
+  pub asked : IsAsked law p run command call
+  pub says : SaysBy law p.history p.session run.index text
+  pub first : has_drawn p ≡ false
+  pub unviewed : IsFalse (is_viewed command)
+  pub tokens : IsTrue (is_ok_text text) → TokensFit run.held None call command
+  pub holds : Holds call run.held
+
+-- the view doesn't answer the next command
+abbrev pub IsUnviewedNext : SessionRun → Type 0
+IsUnviewedNext run =
+    (m : Command) × (slice_get run.commands run.index ≡ Some m) × IsFalse (is_viewed m)
+
+-- what is held was brought up to a reply to the next command, after which these tokens are held, or
+-- those that were
+pub record Settles (old new : SessionRun) (ok drew : Bool) (tokens : Option (List (List ℕ)))
+    : Type 0 where
+  pub same : new ≡ record old { held = new.held }
+  pub holds : (m : Command) (c : Call) → slice_get old.commands old.index ≡ Some m
+      → Holds c old.held → (IsTrue ok → TokensFit old.held tokens c m)
+      → Holds (call_after ok drew c m) new.held
+
+-- ---- replies before a commit
+
+-- the reply to a command that isn't built, or that the session may not run
+abbrev pub IsBarred : SessionRun → String → Type 0
+IsBarred run text = (m : Command) → slice_get run.commands run.index ≡ Some m
+    → string_bytes text ≡ no_support m
+
+-- the reply to a query
+abbrev pub IsQueried : SessionRun → String → Type 0
+IsQueried run text = (q : Text) (vars : List (Name × Value)) (c : Call) → Holds c run.held
+    → slice_get run.commands run.index ≡ Some (command.Query q vars)
+    → QueryAnswers c q vars (string_bytes text)
+
+-- the reply by the view to a command that is run with c
+pub record IsSeenAs (c : Call) (m : Command) (new : SessionRun) (text : Text) : Type 0 where
+  pub text_is : text ≡ answer_text (eval c.types c.who c.base c.state.view m).answer
+  pub leaves : Holds (call_after (is_ok_text text) false c m) new.held
+
+abbrev pub HasSeen : SessionRun → SessionRun → String → Type 0
+HasSeen old new text = (m : Command) (c : Call) → slice_get old.commands old.index ≡ Some m
+    → Holds c old.held → IsSeenAs c m new (string_bytes text)
+
+-- ---- a commit
+
+-- what the next command comes to before its commit
+abbrev pub ComesNext : SessionRun → Coming → Type 0
+ComesNext run coming = (m : Command) (c : Call) → slice_get run.commands run.index ≡ Some m
+    → Holds c run.held → ComesTo c m coming
+
+-- the plan is that of the next command, for which nothing was drawn yet, and its reply has a place
+pub record MayDrawFor (law : JcrLaw) (p : Shown) (run : SessionRun) (plan : Plan) : Type 0 where
+  pub command : Command
+  pub call : Call
+  pub asked : IsAsked law p run command call
+  pub first : drawn_since p.history.past p.session ≡ None
+  pub commits : due_for run ≡ due.Commit
+  pub holds : Holds call run.held
+  pub settled : run.held.is_kept ≡ false
+  pub accepted : Accepted
+  pub phase_is : run.phase ≡ phase.Committing accepted
+  pub accepts : IsAcceptedOf call command accepted
+  pub place : IsPlace p.room accepted
+  pub due : edit_due call command ≡ Some (Ok plan.edit.writes)
+  pub some : plan.edit.writes ≢ []
+  pub ok : PlanOk call.types call.base call.state.tokens plan.edit.writes plan.marks
+
+-- the commit for the next command was refused for a clash of the item with o
+pub record HasClashed (law : JcrLaw) (p : Shown) (run : SessionRun) (item : Item) (o : Revision)
+    : Type 0 where
+  pub command : Command
+  pub call : Call
+  pub asked : IsAsked law p run command call
+  pub revision : Revision
+  pub clash : IsClash p.history.past p.session revision (commit.Clash item o)
+  pub holds : Holds call run.held
+  pub room : HasRoom p.room COMMIT_REPLY_BYTES

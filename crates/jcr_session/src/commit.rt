@@ -1,0 +1,179 @@
+// How a session commits for its next command.
+ghost use Rattle.std.specs.Prelude.{◌≡◌, ◌≤◌, IfOk, IsTrue, Some, false};
+ghost use Rattle.jcr_call.specs.declared.coming.Coming.TheVariants as coming;
+ghost use Rattle.jcr_law.specs.State.{Call};
+ghost use Rattle.jcr_held.specs.Holds.{Holds};
+ghost use Rattle.jcr_session.specs.Answered.{IsCommitAnswer, IsDrawAnswer, ended_phase, has_went, kind_of_end, phase_by, turn_by};
+ghost use Rattle.jcr_session.specs.Asked.{ComesNext, MayDrawFor};
+ghost use Rattle.jcr_session.specs.Standing.{HasTurned, IsGranted, IsPlace, IsPrepared, Stands, due_for, is_committing};
+ghost use Rattle.jcr_session.specs.declared.limits.TheConstants.{COMMIT_REPLY_BYTES};
+ghost use Rattle.jcr_session.specs.declared.next.Due.TheVariants as due;
+ghost use Rattle.jcr_session.specs.declared.run.Phase.TheVariants as phase;
+ghost use Rattle.jcr_session.specs.declared.turn.Turn.TheVariants as turn;
+
+use crate::limits::COMMIT_REPLY_BYTES;
+use crate::run::{Phase, SessionRun};
+use crate::turn::Turn;
+use jcr_call::{Accepted, Coming};
+use jcr_law::JcrLaw;
+use jcr_plan::Plan;
+use oak_commit::CommitEnd;
+use oak_machine::StepKind;
+use oak_port::{Port, StepOut, Task, TaskEnd};
+use std::alloc::AllocError;
+use std::mem;
+
+impl SessionRun {
+    // Answers a command for which nothing is to be committed, or begins its commit.
+    pub(crate) fn commit<P: Port<L = JcrLaw>>(&mut self, port: &mut P) -> Turn
+        requires stands { Stands (P.law port.old) (P.shown port.old) self.old }
+        requires between { self.old.phase ≡ phase.Between }
+        requires next { due_for self.old ≡ due.Commit }
+        requires ready { IsPrepared self.old }
+        ensures law { P.law port.new ≡ P.law port.old }
+        ensures turned { HasTurned (P.law port.old) (P.shown port.old) (P.shown port.new)
+            self.old self.new result }
+    {
+        match self.come() {
+            Ok(Coming::Said(text)) => self.say_settled(port, Ok(text)),
+            Ok(Coming::Planned(plan, accepted)) => self.begin(port, plan, accepted),
+            Err(AllocError) => self.say_memory(port),
+        }
+    }
+
+    // What the next command comes to before its commit.
+    fn come(&self) -> Result<Coming, AllocError>
+        requires next { due_for self.now ≡ due.Commit }
+        requires ready { IsPrepared self.now }
+        requires held { (c : Call) × Holds c self.now.held }
+        ensures { IfOk result (ComesNext self.now) }
+    {
+        match self.commands.as_slice().get(self.index as usize) {
+            Some(command) => self.held.come(command),
+            None => unreachable!(),
+        }
+    }
+
+    // Begins a commit. The place of its reply is kept before.
+    fn begin<P: Port<L = JcrLaw>>(&mut self, port: &mut P, plan: Plan, accepted: Accepted) -> Turn
+        requires stands { Stands (P.law port.old) (P.shown port.old) self.old }
+        requires between { self.old.phase ≡ phase.Between }
+        requires next { due_for self.old ≡ due.Commit }
+        requires ready { IsPrepared self.old }
+        requires comes { ComesNext self.old (coming.Planned plan accepted) }
+        ensures law { P.law port.new ≡ P.law port.old }
+        ensures turned { HasTurned (P.law port.old) (P.shown port.old) (P.shown port.new)
+            self.old self.new result }
+    {
+        let bytes = place_for(&accepted);
+        self.phase = Phase::Committing(accepted);
+        match port.reserve_say(bytes) {
+            Ok(()) => self.draw(port, plan),
+            Err(AllocError) => self.say_memory(port),
+        }
+    }
+
+    // Draws the revision of a commit.
+    fn draw<P: Port<L = JcrLaw>>(&mut self, port: &mut P, plan: Plan) -> Turn
+        requires draws { MayDrawFor (P.law port.old) (P.shown port.old) self.old plan }
+        ensures law { P.law port.new ≡ P.law port.old }
+        ensures turned { HasTurned (P.law port.old) (P.shown port.old) (P.shown port.new)
+            self.old self.new result }
+    {
+        let Plan { edit, marks } = plan;
+        match port.start(Task::Commit(edit, marks)) {
+            Ok(()) => {
+                if has_went(port.step()) {
+                    return Turn::Stepped(StepKind::Draw);
+                }
+                self.forgo(port, false)
+            }
+            Err(AllocError) => self.forgo(port, false),
+        }
+    }
+
+    // Makes a step of a commit. Where memory is refused, the commit turns to undoing, and makes a
+    // step of that.
+    pub(crate) fn commit_on<P: Port<L = JcrLaw>>(&mut self, port: &mut P) -> Turn
+        requires stands { Stands (P.law port.old) (P.shown port.old) self.old }
+        requires commits { IsTrue (is_committing self.old.phase) }
+        ensures law { P.law port.new ≡ P.law port.old }
+        ensures turned { HasTurned (P.law port.old) (P.shown port.old) (P.shown port.new)
+            self.old self.new result }
+        ensures granted { IsGranted result }
+    {
+        match port.step() {
+            StepOut::Memory => {
+                let answer = port.step();
+                self.committed_on(answer)
+            }
+            answer => self.committed_on(answer),
+        }
+    }
+
+    // What a step of a commit answered.
+    fn committed_on(&mut self, answer: StepOut) -> Turn
+        requires answer { IsCommitAnswer answer }
+        requires commits { IsTrue (is_committing self.old.phase) }
+        ensures granted { IsGranted result }
+        ensures turn { result ≡ turn_by answer }
+        ensures run { self.new ≡ record self.old { phase = phase_by answer self.old.phase } }
+    {
+        match answer {
+            StepOut::Went(kind) => Turn::Stepped(kind),
+            StepOut::Wait(earlier) => Turn::Waiting(earlier),
+            StepOut::Ready(TaskEnd::Commit(end)) => self.end(end),
+            _ => unreachable!(),
+        }
+    }
+
+    // A commit has ended so.
+    fn end(&mut self, end: CommitEnd) -> Turn
+        requires commits { IsTrue (is_committing self.old.phase) }
+        ensures granted { IsGranted result }
+        ensures turn { result ≡ turn.Stepped (kind_of_end end) }
+        ensures run { self.new ≡ record self.old { phase = ended_phase end self.old.phase } }
+    {
+        let kind = last_kind(&end);
+        match mem::replace(&mut self.phase, Phase::Between) {
+            Phase::Committing(accepted) => {
+                self.phase = Phase::Committed(end, accepted);
+                Turn::Stepped(kind)
+            }
+            _ => unreachable!(),
+        }
+    }
+}
+
+// The bytes of the place that is kept for the reply to a commit.
+fn place_for(accepted: &Accepted) -> usize
+    ensures told { COMMIT_REPLY_BYTES ≤ result }
+    ensures place { IsPlace (Some result) accepted.now }
+{
+    match &accepted.text {
+        Some(text) => text.len().max(COMMIT_REPLY_BYTES),
+        None => COMMIT_REPLY_BYTES,
+    }
+}
+
+// Whether a commit was drawn; else memory was refused.
+fn has_went(answer: StepOut) -> bool
+    requires { IsDrawAnswer answer }
+    ensures { result ≡ has_went answer }
+{
+    match &answer {
+        StepOut::Went(_) => true,
+        StepOut::Memory => false,
+        _ => unreachable!(),
+    }
+}
+
+// The kind of the step that ended a commit.
+fn last_kind(end: &CommitEnd) -> StepKind
+    ensures { result ≡ kind_of_end end.now }
+{
+    match end {
+        CommitEnd::Committed(_) => StepKind::Pin,
+        _ => StepKind::Finish,
+    }
+}

@@ -1,0 +1,127 @@
+// What a session answers once its commit has ended.
+ghost use Rattle.std.specs.Prelude.{◌≡◌, IfOk, string_bytes};
+ghost use Rattle.jr_items.specs.Refusals.{clash};
+ghost use Rattle.oak_commit.specs.declared.outcome.CommitEnd.TheVariants as commit;
+ghost use Rattle.oak_port.specs.Ports.{HasRoom};
+ghost use Rattle.jcr_trans.specs.Answers.{ShowsRevision};
+ghost use Rattle.jcr_trans.specs.Texts.{answer_text};
+ghost use Rattle.jcr_law.specs.Law.{no_text};
+ghost use Rattle.jcr_session.specs.Asked.{HasClashed, MayAnswer};
+ghost use Rattle.jcr_session.specs.Standing.{HasEnded, HasTurned, IsGranted, Stands};
+ghost use Rattle.jcr_session.specs.declared.limits.TheConstants.{COMMIT_REPLY_BYTES};
+ghost use Rattle.jcr_session.specs.declared.run.Phase.TheVariants as phase;
+
+use crate::run::{Phase, SessionRun};
+use crate::say::MEMORY_REPLY;
+use crate::turn::Turn;
+use jcr_call::Accepted;
+use jcr_law::JcrLaw;
+use jcr_trans::{refusal_text, revision_reply};
+use jr_items::clash;
+use jr_path::Item;
+use jr_rev::Revision;
+use oak_commit::CommitEnd;
+use oak_port::Port;
+use std::alloc::{AllocError, Global};
+use std::mem;
+
+impl SessionRun {
+    // Answers a command whose commit has ended.
+    pub(crate) fn say_end<P: Port<L = JcrLaw>>(&mut self, port: &mut P) -> Turn
+        requires stands { Stands (P.law port.old) (P.shown port.old) self.old }
+        requires ended { HasEnded self.old.phase }
+        ensures law { P.law port.new ≡ P.law port.old }
+        ensures turned { HasTurned (P.law port.old) (P.shown port.old) (P.shown port.new)
+            self.old self.new result }
+        ensures granted { IsGranted result }
+    {
+        match mem::replace(&mut self.phase, Phase::Between) {
+            Phase::Committed(end, accepted) => self.say_ended(port, end, accepted),
+            _ => unreachable!(),
+        }
+    }
+
+    // Answers a command whose commit has ended so.
+    fn say_ended<P: Port<L = JcrLaw>>(
+        &mut self,
+        port: &mut P,
+        end: CommitEnd,
+        accepted: Accepted,
+    ) -> Turn
+        requires stands { Stands (P.law port.old) (P.shown port.old)
+            (record self.old { phase = phase.Committed end accepted }) }
+        ensures law { P.law port.new ≡ P.law port.old }
+        ensures turned { HasTurned (P.law port.old) (P.shown port.old) (P.shown port.new)
+            self.old self.new result }
+        ensures granted { IsGranted result }
+    {
+        match end {
+            CommitEnd::Committed(r) => self.say_committed(port, r, accepted),
+            CommitEnd::Clash { item, other } => self.say_clash(port, item, other),
+            CommitEnd::Memory => self.forgo(port, true),
+        }
+    }
+
+    // Answers a command whose commit was made. The base has moved to where it is seen.
+    fn say_committed<P: Port<L = JcrLaw>>(
+        &mut self,
+        port: &mut P,
+        r: Revision,
+        accepted: Accepted,
+    ) -> Turn
+        requires stands { Stands (P.law port.old) (P.shown port.old)
+            (record self.old { phase = phase.Committed (commit.Committed r) accepted }) }
+        ensures law { P.law port.new ≡ P.law port.old }
+        ensures turned { HasTurned (P.law port.old) (P.shown port.old) (P.shown port.new)
+            self.old self.new result }
+        ensures granted { IsGranted result }
+    {
+        let Some(pin) = port.pin() else {
+            unreachable!()
+        };
+        let Accepted { text, tokens } = accepted;
+        self.held.move_to(pin.base);
+        self.accept(true, Some(tokens));
+        match text {
+            Some(text) => self.say_kept(port, text.as_str()),
+            None => self.say_revision(port, r),
+        }
+    }
+
+    // Answers a command with the revision of its commit.
+    fn say_revision<P: Port<L = JcrLaw>>(&mut self, port: &mut P, r: Revision) -> Turn
+        requires answer { MayAnswer (P.law port.old) (P.shown port.old) self.old
+            (answer_text (ShowsRevision r)) }
+        requires room { HasRoom (P.shown port.old).room COMMIT_REPLY_BYTES }
+        ensures law { P.law port.new ≡ P.law port.old }
+        ensures turned { HasTurned (P.law port.old) (P.shown port.old) (P.shown port.new)
+            self.old self.new result }
+        ensures granted { IsGranted result }
+    {
+        let text = revision_reply(&r);
+        self.say_kept(port, text.as_str())
+    }
+
+    // Answers a command with the clash for which its commit was refused, or that memory was refused
+    // for that.
+    fn say_clash<P: Port<L = JcrLaw>>(&mut self, port: &mut P, item: Item, other: Revision) -> Turn
+        requires clash { HasClashed (P.law port.old) (P.shown port.old) self.old item other }
+        ensures law { P.law port.new ≡ P.law port.old }
+        ensures turned { HasTurned (P.law port.old) (P.shown port.old) (P.shown port.new)
+            self.old self.new result }
+        ensures granted { IsGranted result }
+    {
+        self.refuse(true);
+        match clash_reply(self.alloc, item, other) {
+            Ok(text) => self.say_or_memory(port, text.as_str()),
+            Err(AllocError) => self.say_kept(port, MEMORY_REPLY),
+        }
+    }
+}
+
+// The reply of a commit that was refused for a clash.
+fn clash_reply(alloc: Global, item: Item, other: Revision) -> Result<String, AllocError>
+    ensures { IfOk result (λ text. string_bytes text ≡ no_text (clash item other)) }
+{
+    refusal_text(alloc, &clash(alloc, item, other)?)
+}

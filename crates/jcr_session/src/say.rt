@@ -1,0 +1,253 @@
+// What a session answers.
+ghost use Rattle.std.specs.Prelude.{◌≡◌, IfOk, IsSome, None, OnErr, false, length, slice_get, string_bytes, true};
+ghost use Rattle.oak_port.specs.Ports.{HasRoom};
+ghost use Rattle.jcr_law.specs.State.{Call, is_ok_text};
+ghost use Rattle.jcr_trans.specs.Texts.{memory_text};
+ghost use Rattle.jcr_held.specs.Holds.{Holds};
+ghost use Rattle.jcr_session.specs.Asked.{HasSeen, IsBarred, IsQueried, IsUnviewedNext, MayAnswer, MayForgo, MaySettle, Settles};
+ghost use Rattle.jcr_session.specs.Standing.{HasTurned, IsGranted, IsPrepared, Stands, due_for};
+ghost use Rattle.jcr_session.specs.declared.limits.TheConstants.{COMMIT_REPLY_BYTES};
+ghost use Rattle.jcr_session.specs.declared.next.Due.TheVariants as due;
+ghost use Rattle.jcr_session.specs.declared.run.Phase.TheVariants as phase;
+
+use crate::run::{Phase, SessionRun};
+use crate::turn::Turn;
+use jcr_law::JcrLaw;
+use jcr_trans::{Command, refusal_text};
+use jr_items::unsupported;
+use jr_path::{List, Text};
+use oak_port::Port;
+use std::alloc::AllocError;
+
+// The reply where memory was refused.
+pub(crate) const MEMORY_REPLY: &str = "no 16 []";
+
+impl SessionRun {
+    // Refuses a command that isn't built, or that the session may not run.
+    pub(crate) fn bar<P: Port<L = JcrLaw>>(&mut self, port: &mut P) -> Turn
+        requires stands { Stands (P.law port.old) (P.shown port.old) self.old }
+        requires between { self.old.phase ≡ phase.Between }
+        requires next { due_for self.old ≡ due.Bar }
+        ensures law { P.law port.new ≡ P.law port.old }
+        ensures turned { HasTurned (P.law port.old) (P.shown port.old) (P.shown port.new)
+            self.old self.new result }
+    {
+        let text = self.barred();
+        self.say_settled(port, text)
+    }
+
+    // The reply to a command that isn't built, or that the session may not run.
+    fn barred(&self) -> Result<String, AllocError>
+        requires { due_for self.now ≡ due.Bar }
+        ensures { IfOk result (IsBarred self.now) }
+    {
+        match self.commands.as_slice().get(self.index as usize) {
+            Some(command) => {
+                let refusal = unsupported(self.alloc, command.word())?;
+                refusal_text(self.alloc, &refusal)
+            }
+            None => unreachable!(),
+        }
+    }
+
+    // Answers a query by the tree at the base.
+    pub(crate) fn query<P: Port<L = JcrLaw>>(&mut self, port: &mut P) -> Turn
+        requires stands { Stands (P.law port.old) (P.shown port.old) self.old }
+        requires between { self.old.phase ≡ phase.Between }
+        requires next { due_for self.old ≡ due.Query }
+        requires ready { IsPrepared self.old }
+        ensures law { P.law port.new ≡ P.law port.old }
+        ensures turned { HasTurned (P.law port.old) (P.shown port.old) (P.shown port.new)
+            self.old self.new result }
+    {
+        let text = self.queried();
+        self.say_settled(port, text)
+    }
+
+    // The reply to a query.
+    fn queried(&self) -> Result<String, AllocError>
+        requires next { due_for self.now ≡ due.Query }
+        requires ready { IsPrepared self.now }
+        ensures { IfOk result (IsQueried self.now) }
+    {
+        match self.commands.as_slice().get(self.index as usize) {
+            Some(Command::Query(text, vars)) => self.held.query(text, vars),
+            _ => unreachable!(),
+        }
+    }
+
+    // Answers by the view.
+    pub(crate) fn see<P: Port<L = JcrLaw>>(&mut self, port: &mut P) -> Turn
+        requires stands { Stands (P.law port.old) (P.shown port.old) self.old }
+        requires between { self.old.phase ≡ phase.Between }
+        requires next { due_for self.old ≡ due.See }
+        requires ready { IsPrepared self.old }
+        ensures law { P.law port.new ≡ P.law port.old }
+        ensures turned { HasTurned (P.law port.old) (P.shown port.old) (P.shown port.new)
+            self.old self.new result }
+    {
+        match self.seen() {
+            Ok(text) => self.say(port, text.as_str()),
+            Err(AllocError) => self.say_memory(port),
+        }
+    }
+
+    // The reply by the view.
+    fn seen(&mut self) -> Result<String, AllocError>
+        requires next { due_for self.old ≡ due.See }
+        requires ready { IsPrepared self.old }
+        ensures same { self.new ≡ record self.old { held = self.new.held } }
+        ensures text { IfOk result (HasSeen self.old self.new) }
+        ensures err { (c : Call) → Holds c self.old.held → OnErr result (Holds c self.new.held) }
+    {
+        let SessionRun {
+            commands,
+            index,
+            held,
+            ..
+        } = self;
+        match commands.as_slice().get(*index as usize) {
+            Some(command) => held.see(command),
+            None => unreachable!(),
+        }
+    }
+
+    // Says a reply for which nothing was drawn, to a command that isn't answered by the view; or
+    // that memory was refused for it.
+    pub(crate) fn say_settled<P: Port<L = JcrLaw>>(
+        &mut self,
+        port: &mut P,
+        text: Result<String, AllocError>,
+    ) -> Turn
+        requires settles { IfOk text (λ text. MaySettle (P.law port.old) (P.shown port.old)
+            self.old (string_bytes text)) }
+        requires memory { OnErr text (MayForgo (P.law port.old) (P.shown port.old) self.old false) }
+        ensures law { P.law port.new ≡ P.law port.old }
+        ensures turned { HasTurned (P.law port.old) (P.shown port.old) (P.shown port.new)
+            self.old self.new result }
+    {
+        match text {
+            Ok(text) => {
+                self.settle(text.as_str());
+                self.say(port, text.as_str())
+            }
+            Err(AllocError) => self.say_memory(port),
+        }
+    }
+
+    // Says the reply where memory was refused for a command for which nothing was drawn.
+    pub(crate) fn say_memory<P: Port<L = JcrLaw>>(&mut self, port: &mut P) -> Turn
+        requires forgoes { MayForgo (P.law port.old) (P.shown port.old) self.old false }
+        ensures law { P.law port.new ≡ P.law port.old }
+        ensures turned { HasTurned (P.law port.old) (P.shown port.old) (P.shown port.new)
+            self.old self.new result }
+    {
+        self.refuse(false);
+        self.say(port, MEMORY_REPLY)
+    }
+
+    // Says the reply where memory was refused, for which there is a place.
+    pub(crate) fn forgo<P: Port<L = JcrLaw>>(&mut self, port: &mut P, drew: bool) -> Turn
+        requires forgoes { MayForgo (P.law port.old) (P.shown port.old) self.old drew }
+        requires room { HasRoom (P.shown port.old).room COMMIT_REPLY_BYTES }
+        ensures law { P.law port.new ≡ P.law port.old }
+        ensures turned { HasTurned (P.law port.old) (P.shown port.old) (P.shown port.new)
+            self.old self.new result }
+        ensures granted { IsGranted result }
+    {
+        self.refuse(drew);
+        self.say_kept(port, MEMORY_REPLY)
+    }
+
+    // Says a reply.
+    pub(crate) fn say<P: Port<L = JcrLaw>>(&mut self, port: &mut P, text: &str) -> Turn
+        requires answer { MayAnswer (P.law port.old) (P.shown port.old) self.old text.now }
+        ensures law { P.law port.new ≡ P.law port.old }
+        ensures turned { HasTurned (P.law port.old) (P.shown port.old) (P.shown port.new)
+            self.old self.new result }
+    {
+        let Ok(()) = port.reserve_say(text.len()) else {
+            return Turn::Memory;
+        };
+        self.say_kept(port, text)
+    }
+
+    // Says a reply, or that memory was refused, for which there is a place.
+    pub(crate) fn say_or_memory<P: Port<L = JcrLaw>>(&mut self, port: &mut P, text: &str) -> Turn
+        requires answer { MayAnswer (P.law port.old) (P.shown port.old) self.old text.now }
+        requires memory { MayAnswer (P.law port.old) (P.shown port.old) self.old memory_text }
+        requires room { HasRoom (P.shown port.old).room COMMIT_REPLY_BYTES }
+        ensures law { P.law port.new ≡ P.law port.old }
+        ensures turned { HasTurned (P.law port.old) (P.shown port.old) (P.shown port.new)
+            self.old self.new result }
+        ensures granted { IsGranted result }
+    {
+        match port.reserve_say(text.len()) {
+            Ok(()) => self.say_kept(port, text),
+            Err(AllocError) => self.say_kept(port, MEMORY_REPLY),
+        }
+    }
+
+    // Says a reply for which there is a place.
+    pub(crate) fn say_kept<P: Port<L = JcrLaw>>(&mut self, port: &mut P, text: &str) -> Turn
+        requires answer { MayAnswer (P.law port.old) (P.shown port.old) self.old text.now }
+        requires room { HasRoom (P.shown port.old).room (length text.now) }
+        ensures law { P.law port.new ≡ P.law port.old }
+        ensures turned { HasTurned (P.law port.old) (P.shown port.old) (P.shown port.new)
+            self.old self.new result }
+        ensures granted { IsGranted result }
+    {
+        let index = self.index;
+        port.say(index, text);
+        self.index = index + 1;
+        self.phase = Phase::Between;
+        Turn::Said(index)
+    }
+
+    // The next command is answered so, and nothing was drawn for it.
+    fn settle(&mut self, text: &str)
+        requires { IsUnviewedNext self.old }
+        ensures { Settles self.old self.new (is_ok_text text.now) false None }
+    {
+        if text.starts_with("ok") {
+            self.accept(false, None);
+        } else {
+            self.refuse(false);
+        }
+    }
+
+    // The next command, which the view doesn't answer, is accepted. The tokens that are held then
+    // are those given, or they stay.
+    pub(crate) fn accept(&mut self, drew: bool, tokens: Option<List<Text>>)
+        requires next { IsUnviewedNext self.old }
+        ensures { Settles self.old self.new true drew tokens }
+    {
+        let SessionRun {
+            commands,
+            index,
+            held,
+            ..
+        } = self;
+        match commands.as_slice().get(*index as usize) {
+            Some(command) => held.accept(command, drew, tokens),
+            None => unreachable!(),
+        }
+    }
+
+    // The next command is refused.
+    pub(crate) fn refuse(&mut self, drew: bool)
+        requires next { IsSome (slice_get self.old.commands self.old.index) }
+        ensures { Settles self.old self.new false drew None }
+    {
+        let SessionRun {
+            commands,
+            index,
+            held,
+            ..
+        } = self;
+        match commands.as_slice().get(*index as usize) {
+            Some(command) => held.refuse(command, drew),
+            None => unreachable!(),
+        }
+    }
+}
