@@ -28,7 +28,7 @@ module _ (law : JcrLaw) (p : Shown) (b : Beside) (d : Option StepKind) (run : Se
   committed_renamed c commit.Memory h = h
 
   at_renamed : (f : Phase) → StandsAt law p run f → StandsAt law q run f
-  at_renamed phase.Outside h = record { idle = h.idle; out = h.out; unread = h.unread; holds_none = h.holds_none; session = h.session; still = h.still }
+  at_renamed phase.Outside h = record { idle = h.idle; out = h.out; unread = h.unread; holds = h.holds; still = h.still }
   at_renamed phase.Between (i, h) = (in_renamed i, record { call = h.call; is = h.is; holds = h.holds; fresh = h.fresh; reads = h.reads; due = h.due })
   at_renamed (phase.Refreshed v) (i, h) = (
     in_renamed i,
