@@ -1,6 +1,6 @@
 -- Between two vectors of which one has the next revision of one cluster node alone more, no other commit lies.
-use Rattle.std.proofs.Common.{◌≡◌, ℕ, zero, suc, ◌+◌, ◌<◌, ◌≤◌, Bool, true, false, cond, ◌||◌, ◌⊎◌, inl, inr, Some, None, Option, List, [], ◌∷◌, ◌++◌, arith, is_some, refl, sym, ap, ◌∙◌, subst}
-use Rattle.std.specs.Prelude.{◌==◌, ◌-◌, option_map, slice_get}
+use Rattle.std.proofs.Common.{◌≡◌, ℕ, zero, suc, ◌+◌, ◌≤◌, Bool, true, false, cond, ◌||◌, inl, inr, Some, None, Option, List, [], ◌∷◌, ◌++◌, arith, is_some, refl, sym, ap, ◌∙◌, subst}
+use Rattle.std.specs.Prelude.{◌==◌, option_map, slice_get}
 use Rattle.std.specs.declared.cmp.Ordering.{Ordering}
 use Rattle.std.specs.declared.cmp.Ordering.TheVariants.{Less, Equal, Greater}
 use Rattle.std.specs.Ordering.{eq_by_cmp, is_eq, match_ordering}
@@ -28,7 +28,7 @@ use Rattle.oak_machine.specs.History.{Begin, Past, begin_tree}
 use Rattle.oak_machine.specs.Commits.{applied_all, committed_edits, draw_of, is_committed, is_drawn, tree_at}
 use Rattle.oak_machine.specs.Laws.{Says, Starts}
 use Rattle.oak_machine.specs.Runs.{AreNodes, IsRunOf}
-use Rattle.oak_machine.proofs.Induction.{committed_is_drawn, either}
+use Rattle.oak_machine.proofs.Induction.{committed_is_drawn}
 use Rattle.core_read.proofs.Entries.{first, second}
 use Rattle.core_read.proofs.Falling.{committed_sorted}
 use Rattle.core_heads.specs.Sound.{IsSoundDraw}
@@ -113,8 +113,7 @@ module _ (u v : RevVec) (r : Revision) (ws : List Write) (later : (x : Revision)
   none_after (e ∷ es) below sights =
       let rest = none_after es (second _ _ below) sights.1 in
       let unseen = unseen_after e.0 (first _ _ below) in
-      let apart = other_than e.0 (first _ _ below) in
-      (
+      let apart = other_than e.0 (first _ _ below) in (
         ap (λ b. cond b (e ∷ seen_by v es) (seen_by v es)) (sights.0 ∙ (ap (λ b. b || is_same e.0 r) unseen ∙ apart)) ∙ rest.0,
         ap (λ b. cond b (e ∷ seen_by u es) (seen_by u es)) unseen ∙ rest.1,
       )

@@ -2,12 +2,12 @@
 use Rattle.std.proofs.Common.{◌≡◌, ℕ, Bool, true, false, cond, Option, None, Some, List, [], ◌∷◌, ◌++◌, is_some, refl, sym, ap, ◌∙◌, subst}
 use Rattle.std.specs.Prelude.{◌==◌, ◌||◌, option_map}
 use Rattle.std.specs.List.{list_any}
-use Rattle.std.specs.Option.{option_map_or, unwrap_or}
+use Rattle.std.specs.Option.{option_map_or}
 use Rattle.std.proofs.lemmas.Bool.{false≢true}
 use Rattle.basics.proofs.Bools.{number_itself}
 use Rattle.jr_path.specs.declared.text.Text.{Text}
 use Rattle.jr_rev.specs.declared.vector.RevVec.{RevVec}
-use Rattle.jr_tree.specs.Trees.{IsTree, Nodes}
+use Rattle.jr_tree.specs.Trees.{Nodes}
 use Rattle.oak_machine.specs.declared.event.Event.{Event}
 use Rattle.oak_machine.specs.declared.event.Event.TheVariants as event
 use Rattle.oak_machine.specs.Commits.{tree_at}
@@ -25,15 +25,13 @@ use Rattle.jcr_law.specs.declared.law.JcrLaw.{JcrLaw}
 use Rattle.jcr_law.specs.declared.state.State.{State}
 use Rattle.jcr_law.specs.State.{Call, answered, base_tree, call_at, call_of, command_at, is_ok_text, moved, new_state, replied, state_of}
 use Rattle.jcr_law.specs.Passing.{state_stays}
+use Rattle.jcr_law.specs.Starting.{call_based, call_has_base}
 use Rattle.jcr_call.specs.Calls.{call_after, call_moved}
 use Rattle.core_calls.specs.Events.{is_attach_of, is_calling, state_at_login}
 
 -- of s itself
 own : {A : Type 0} (s : ℕ) (x y : A) → cond (s == s) x y ≡ x
 own s x y = ap (λ (b : Bool). cond b x y) (number_itself s)
-
-call_is : (c x : Call) → Some x ≡ Some c → x ≡ c
-call_is c x h = ap (λ (o : Option Call). unwrap_or o c) h
 
 or_neither : (a b : Bool) → a ≡ false → b ≡ false → (a || b) ≡ false
 or_neither true b h k = h
@@ -45,21 +43,9 @@ module _ (law : JcrLaw) (begin : Begin) where
   abbrev at : Past → ℕ → RevVec → Call
   at past s v = call_at law begin past s v (state_of law begin past s)
 
-  -- a call, by whether s has a base
+  -- the base of a call, and the call at it
   by_base : (past : Past) (s : ℕ) (c : Call) → call_of law begin past s ≡ Some c → (v : RevVec) × (base_of past s ≡ Some v) × (at past s v ≡ c)
-  by_base past s c is = by (base_of past s) refl is
-    where
-      by : (o : Option RevVec) → base_of past s ≡ o → option_map (at past s) o ≡ Some c → (v : RevVec) × (base_of past s ≡ Some v) × (at past s v ≡ c)
-      by None e h = absurd (false≢true (ap is_some h))
-      by (Some v) e h = (v, e, call_is c (at past s v) h)
-
-  -- the session has a base where it is called
-  pub call_has_base : (past : Past) (s : ℕ) (c : Call) → call_of law begin past s ≡ Some c → base_of past s ≡ Some c.who.base
-  call_has_base past s c is = let b = by_base past s c is in b.1 ∙ ap (λ (x : Call). Some x.who.base) b.2
-
-  -- and the call is that at the base
-  pub call_based : (past : Past) (s : ℕ) (c : Call) → call_of law begin past s ≡ Some c → c ≡ at past s c.who.base
-  call_based past s c is = let b = by_base past s c is in sym b.2 ∙ ap (λ (x : Call). at past s x.who.base) b.2
+  by_base past s c is = (c.who.base, call_has_base law begin past s c is, sym (call_based law begin past s c is))
 
   -- a session that has a base is called
   pub called_at : (past : Past) (s : ℕ) (v : RevVec) → base_of past s ≡ Some v → call_of law begin past s ≡ Some (at past s v)

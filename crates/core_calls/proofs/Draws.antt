@@ -1,11 +1,10 @@
 -- The draw that a session made for the command that it has not answered yet.
-use Rattle.std.proofs.Common.{◌≡◌, ℕ, Bool, true, false, cond, Option, None, Some, List, [], ◌∷◌, is_some, refl, sym, ap, ◌∙◌, subst}
+use Rattle.std.proofs.Common.{◌≡◌, ℕ, Bool, true, false, cond, Option, Some, List, [], ◌∷◌, is_some, refl, sym, ap, ◌∙◌, subst}
 use Rattle.std.specs.Prelude.{◌==◌, option_map}
 use Rattle.std.specs.Ordering.{is_eq}
 use Rattle.std.specs.Cmp.{tied_itself}
 use Rattle.std.specs.Option.{unwrap_or}
 use Rattle.std.proofs.lemmas.Bool.{false≢true}
-use Rattle.jr_rev.specs.declared.revision.Revision.{Revision}
 use Rattle.jr_rev.specs.Revisions.{is_same}
 use Rattle.jr_rev.proofs.Order.{revision_total, same_revision}
 use Rattle.oak_machine.specs.declared.event.Draw.{Draw}
@@ -14,24 +13,15 @@ use Rattle.oak_machine.specs.History.{Begin, Past}
 use Rattle.oak_machine.specs.Commits.{draw_of}
 use Rattle.oak_machine.specs.Laws.{Says, Starts}
 use Rattle.oak_machine.specs.Runs.{AreNodes, IsRunOf}
-use Rattle.oak_machine.specs.Sessions.{drawn_among, drawn_since, since}
+use Rattle.oak_machine.specs.Sessions.{drawn_since, since}
 use Rattle.core_heads.proofs.Orders.{same_number}
 use Rattle.core_heads.proofs.Runs.{fresh_run}
+use Rattle.jcr_law.proofs.Answered.{drawn_among_is}
 use Rattle.jcr_law.specs.Since.{draw_among, draw_since, is_beginning}
 
 -- its revision
-among : (past : Past) (s : ℕ) → drawn_among past s ≡ option_map (λ d. d.revision) (draw_among past s)
-among [] s = refl
-among (event.Draw d ∷ past) s = by (d.session == s) (among past s)
-  where
-    by : (b : Bool) → drawn_among past s ≡ option_map (λ d. d.revision) (draw_among past s)
-        → cond b (Some d.revision) (drawn_among past s) ≡ option_map (λ d. d.revision) (cond b (Some d) (draw_among past s))
-    by true rest = refl
-    by false rest = rest
-among (e ∷ past) s = among past s
-
 pub drawn_is : (past : Past) (s : ℕ) → drawn_since past s ≡ option_map (λ d. d.revision) (draw_since past s)
-drawn_is past s = among (since past s) s
+drawn_is past s = drawn_among_is (since past s) s
 
 module _ (starts : Starts) (says : Says) (clusters : ℕ) (sessions : List ℕ) (nodes : AreNodes clusters sessions) (begin : Begin) (s : ℕ) (d : Draw) where
   -- it is a draw of s, and that of its revision

@@ -14,13 +14,14 @@ ghost use Rattle.jcr_law.specs.Lasting.{says_of, starts_of};
 ghost use Rattle.jcr_law.specs.Since.{draw_since};
 ghost use Rattle.core_calls.specs.Alone.{IsNextAlone};
 
-/// What a session drew for the command that it has not answered yet is a draw of that session, the one of its revision; and the
-/// tree at its base stays as it is.
+/// What a session drew for the command that it has not answered yet is a draw of that session, the
+/// one of its revision; and the tree at its base stays as it is.
 pub fn draws_are_known()
     ensures revision { (past : Past) (s : ℕ)
         → drawn_since past s ≡ option_map (λ d. d.revision) (draw_since past s) }
     ensures session { (law : JcrLaw) (h : History) (s : ℕ) (d : Draw)
-        → IsNodesRun (starts_of law) (says_of law) h → draw_since h.past s ≡ Some d → d.session ≡ s }
+        → IsNodesRun (starts_of law) (says_of law) h → draw_since h.past s ≡ Some d
+        → d.session ≡ s }
     ensures known { (law : JcrLaw) (h : History) (s : ℕ) (d : Draw)
         → IsNodesRun (starts_of law) (says_of law) h → draw_since h.past s ≡ Some d
         → draw_of h.past d.revision ≡ Some d }
@@ -29,11 +30,13 @@ pub fn draws_are_known()
         → tree_at h.begin (added ++ h.past) d.base ≡ tree_at h.begin h.past d.base }
 {}
 
-/// Where a vector has the next revision of a cluster node alone more than the base on which that revision was drawn, and
-/// the revision was committed, no other commit lies between them: the vector sees the tree at that base with the edit applied.
+/// Where a vector has the next revision of a cluster node alone more than the base on which that
+/// revision was drawn, and the revision was committed, no other commit lies between them: the
+/// vector sees the tree at that base with the edit applied.
 pub fn own_commit_alone()
     ensures { (law : JcrLaw) (h : History) (v : RevVec) (r : Revision) (d : Draw)
         → IsNodesRun (starts_of law) (says_of law) h → draw_of h.past r ≡ Some d
         → IsTrue (is_committed h.past r) → IsNextAlone d.base v r
-        → tree_at h.begin h.past v ≡ applied (Some r) (tree_at h.begin h.past d.base) d.edit.writes }
+        → tree_at h.begin h.past v
+        ≡ applied (Some r) (tree_at h.begin h.past d.base) d.edit.writes }
 {}

@@ -8,8 +8,8 @@ ghost use Rattle.jcr_law.specs.Law.{no_text};
 ghost use Rattle.jcr_law.specs.State.{is_ok_text};
 ghost use Rattle.core_calls.specs.Replies.{is_refusal};
 
-/// The text of an answer begins with `ok` exactly where the answer is no refusal; that of a refusal, also of want of memory,
-/// does not.
+/// The text of an answer begins with `ok` exactly where the answer is no refusal; that of a
+/// refusal, also of want of memory, does not.
 pub fn replies_begin_with_ok()
     ensures answer { (a : Answer) → is_ok_text (answer_text a) ≡ not (is_refusal a) }
     ensures shown { (d : Data) → IsTrue (is_ok_text (ok_text d)) }

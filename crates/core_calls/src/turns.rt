@@ -14,7 +14,8 @@ ghost use Rattle.jcr_law.specs.Law.{asked_by};
 ghost use Rattle.jcr_law.specs.Since.{before_turn, draw_since, is_beginning};
 ghost use Rattle.core_calls.specs.Events.{IsUnattached, is_attach_of};
 
-/// The command that a session has not answered yet began with its last reply, or with its login; no other event begins one.
+/// The command that a session has not answered yet began with its last reply, or with its login; no
+/// other event begins one.
 pub fn commands_begin_behind_replies()
     ensures reply { (past : Past) (s i : ℕ) (text : List ℕ)
         → before_turn (event.Said s i text ∷ past) s ≡ event.Said s i text ∷ past }
@@ -24,10 +25,11 @@ pub fn commands_begin_behind_replies()
         → before_turn (e ∷ past) s ≡ before_turn past s }
 {}
 
-/// Behind a reply or a login nothing came for the next command yet, and a reply counts it on; a draw and a refresh of the session
-/// are told from then on.
+/// Behind a reply or a login nothing came for the next command yet, and a reply counts it on; a
+/// draw and a refresh of the session are told from then on.
 pub fn commands_tell_what_came()
-    ensures reply { (past : Past) (s i : ℕ) (text : List ℕ) → since (event.Said s i text ∷ past) s ≡ [] }
+    ensures reply { (past : Past) (s i : ℕ) (text : List ℕ)
+        → since (event.Said s i text ∷ past) s ≡ [] }
     ensures login { (past : Past) (s : ℕ) (v : RevVec) → since (event.Login s v ∷ past) s ≡ [] }
     ensures next { (past : Past) (s i : ℕ) (text : List ℕ)
         → next_index (event.Said s i text ∷ past) s ≡ next_index past s + 1 }
@@ -36,8 +38,8 @@ pub fn commands_tell_what_came()
         → refreshed_since (event.Refresh s v ∷ past) s ≡ Some v }
 {}
 
-/// A session begins unattached, and stays so where it attaches to no checkpoint; then its command is asked for as by one that is
-/// not attached.
+/// A session begins unattached, and stays so where it attaches to no checkpoint; then its command
+/// is asked for as by one that is not attached.
 pub fn sessions_stay_unattached()
     ensures begin { (s : ℕ) → IsUnattached [] s }
     ensures stays { (added past : Past) (s : ℕ) → IsFalse (list_any (is_attach_of s) added)

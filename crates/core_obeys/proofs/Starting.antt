@@ -1,8 +1,8 @@
 -- A plan is a proper edit with the Exists and Props of its writes.
-use Rattle.std.proofs.Common.{None, ◌≡◌, List, sym, ap, ◌∙◌, subst}
+use Rattle.std.proofs.Common.{◌≡◌, List, sym, ap, ◌∙◌, subst}
 use Rattle.std.specs.List.{filter}
 use Rattle.std.specs.Option.{option_map_or}
-use Rattle.jr_tree.specs.Trees.{Nodes, initial_tree}
+use Rattle.jr_tree.specs.Trees.{Nodes}
 use Rattle.jr_tree.specs.Edits.{IsProper}
 use Rattle.jr_types.specs.declared.TypeDef.{TypeDef}
 use Rattle.oak_machine.specs.Commits.{tree_at}

@@ -1,5 +1,5 @@
 -- A commit that clashes with no draw outside its base isn't refused, and its command isn't answered with 10.
-use Rattle.std.proofs.Common.{◌≡◌, ◌≢◌, ℕ, Bool, true, false, cond, ◌&&◌, Option, None, Some, List, [], ◌∷◌, is_some, arith, refl, sym, ap, ◌∙◌, subst}
+use Rattle.std.proofs.Common.{◌≡◌, ◌≢◌, ℕ, Bool, true, false, cond, Option, None, Some, List, [], ◌∷◌, is_some, arith, refl, sym, ap, ◌∙◌, subst}
 use Rattle.std.specs.Option.{option_map_or, unwrap_or}
 use Rattle.std.specs.Fmt.{digits}
 use Rattle.std.specs.Prelude.{◌||◌, ◌==◌, slice_get}
@@ -17,7 +17,7 @@ use Rattle.oak_machine.specs.declared.event.Draw.{Draw}
 use Rattle.oak_machine.specs.declared.event.Event.{Event}
 use Rattle.oak_machine.specs.declared.event.Event.TheVariants as event
 use Rattle.oak_machine.specs.History.{Begin, History, Past}
-use Rattle.oak_machine.specs.Commits.{are_clashing, draw_of, is_committed, is_drawn, is_ended, is_in_base, is_in_flight, marks_of, refusal_of, tree_at}
+use Rattle.oak_machine.specs.Commits.{draw_of, is_committed, is_drawn, is_in_flight, marks_of, refusal_of, tree_at}
 use Rattle.oak_machine.specs.Laws.{Says, Starts}
 use Rattle.oak_machine.specs.Runs.{AreNodes, IsRunOf, MayRefuse, was_live_beside}
 use Rattle.oak_machine.specs.Sessions.{since}

@@ -1,5 +1,5 @@
 -- Runs by the law of the product.
-use Rattle.std.specs.Prelude.{◌≡◌, None, ℕ, List, IsFalse, IsTrue}
+use Rattle.std.specs.Prelude.{◌≡◌, None, IsFalse, IsTrue}
 use Rattle.jr_rev.specs.declared.revision.Revision.{Revision}
 use Rattle.jr_tree.specs.Trees.{initial_tree}
 use Rattle.jr_types.specs.Rules.{TypesOk}

@@ -98,7 +98,7 @@ module _ (law : JcrLaw) (clusters : ℕ) (sessions : List ℕ) (begin : Begin) (
       ] refl is
 
 -- the revision of the draw
-drawn_among_is : (past : Past) (s : ℕ) → drawn_among past s ≡ option_map (λ d. d.revision) (draw_among past s)
+pub drawn_among_is : (past : Past) (s : ℕ) → drawn_among past s ≡ option_map (λ d. d.revision) (draw_among past s)
 drawn_among_is [] s = refl
 drawn_among_is (event.Draw d ∷ past) s = by (d.session == s) (drawn_among_is past s)
   where

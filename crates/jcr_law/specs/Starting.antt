@@ -18,14 +18,14 @@ use Rattle.jcr_law.specs.Law.{MayStart}
 use Rattle.jcr_law.specs.State.{Call, base_tree, call_at, call_of, state_of, tokens_of}
 
 -- the call of a session whose base is at v
-call_there : (law : JcrLaw) (begin : Begin) (past : Past) (s : ℕ) (c : Call) (v : RevVec) → call_of law begin past s ≡ Some c
+pub call_there : (law : JcrLaw) (begin : Begin) (past : Past) (s : ℕ) (c : Call) (v : RevVec) → call_of law begin past s ≡ Some c
     → base_of past s ≡ Some v → c ≡ call_at law begin past s v (state_of law begin past s)
 call_there law begin past s c v is base =
     ap (λ (o : Option Call). elim o [ Some x ↦ x | None ↦ c ])
     (sym is ∙ ap (λ (o : Option RevVec). option_map (λ w. call_at law begin past s w (state_of law begin past s)) o) base)
 
 -- the call is one at the base
-call_based : (law : JcrLaw) (begin : Begin) (past : Past) (s : ℕ) (c : Call) → call_of law begin past s ≡ Some c
+pub call_based : (law : JcrLaw) (begin : Begin) (past : Past) (s : ℕ) (c : Call) → call_of law begin past s ≡ Some c
     → c ≡ call_at law begin past s c.who.base (state_of law begin past s)
 call_based law begin past s c is = by (base_of past s) is
   where
@@ -37,7 +37,7 @@ call_based law begin past s c is = by (base_of past s) is
         sym same ∙ ap (λ (w : RevVec). call_at law begin past s w (state_of law begin past s)) (ap (λ (x : Call). x.who.base) same)
 
 -- the session has a base where it is called
-call_has_base : (law : JcrLaw) (begin : Begin) (past : Past) (s : ℕ) (c : Call) → call_of law begin past s ≡ Some c
+pub call_has_base : (law : JcrLaw) (begin : Begin) (past : Past) (s : ℕ) (c : Call) → call_of law begin past s ≡ Some c
     → base_of past s ≡ Some c.who.base
 call_has_base law begin past s c is = by (base_of past s) is
   where

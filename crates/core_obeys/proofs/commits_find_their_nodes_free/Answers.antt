@@ -1,5 +1,5 @@
 -- By the theorem on locks and checked-in nodes.
-use Rattle.std.proofs.Common.{◌≡◌, sym, subst}
+use Rattle.std.proofs.Common.{sym, subst}
 use Rattle.oak_machine.specs.History.{Begin}
 use Rattle.jcr_plan.specs.Plans.{IsFree}
 use Rattle.core_merge.specs.Orders.{tree_by_commits}

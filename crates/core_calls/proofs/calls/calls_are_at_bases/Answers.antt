@@ -1,5 +1,6 @@
 -- By whether the session has a base.
-use Rattle.core_calls.proofs.Called.{call_based, call_has_base, called_at}
+use Rattle.jcr_law.specs.Starting.{call_based, call_has_base}
+use Rattle.core_calls.proofs.Called.{called_at}
 use Rattle.core_calls.proofs.calls.calls_are_at_bases.Goals as goal
 
 pub returns-clause-base : goal.returns-clause-base

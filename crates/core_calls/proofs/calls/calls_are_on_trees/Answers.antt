@@ -1,8 +1,8 @@
 -- The call is made at the base.
-use Rattle.std.proofs.Common.{ap, subst, sym}
-use Rattle.jr_tree.specs.Trees.{IsTree, Nodes}
+use Rattle.std.proofs.Common.{subst, sym}
+use Rattle.jr_tree.specs.Trees.{IsTree}
 use Rattle.jcr_law.specs.State.{Call}
-use Rattle.core_calls.proofs.Called.{call_based, call_has_base}
+use Rattle.jcr_law.specs.Starting.{call_based, call_has_base}
 use Rattle.core_calls.proofs.calls.calls_are_on_trees.Goals as goal
 
 pub returns : goal.returns

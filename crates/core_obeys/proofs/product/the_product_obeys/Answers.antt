@@ -1,6 +1,6 @@
 -- By the theorems on runs by a law that lets only plans start.
-use Rattle.std.proofs.Common.{◌≡◌, None, sym, subst}
-use Rattle.oak_machine.specs.History.{Begin, History}
+use Rattle.std.proofs.Common.{None, sym, subst}
+use Rattle.oak_machine.specs.History.{Begin}
 use Rattle.jcr_law.specs.declared.law.JcrLaw.{JcrLaw}
 use Rattle.jcr_law.specs.Lasting.{says_of, starts_of}
 use Rattle.jcr_law.specs.Starting.{proper_starts, starts_plan}
@@ -11,7 +11,7 @@ use Rattle.core_merge.proofs.Order.{tree_in_order}
 use Rattle.core_merge.specs.Independent.{StartsMarkingParents}
 use Rattle.core_merge.specs.Orders.{tree_by_commits}
 use Rattle.core_obeys.specs.Plans.{StartsPlans, before_draw}
-use Rattle.core_obeys.specs.Product.{IsProductRun, tokens_by}
+use Rattle.core_obeys.specs.Product.{tokens_by}
 use Rattle.core_obeys.proofs.Obeys.{commit_free, references_kept, types_obeyed, types_seen}
 use Rattle.core_obeys.proofs.Runs.{plans_mark_parents}
 use Rattle.core_obeys.proofs.product.the_product_obeys.Goals as goal
