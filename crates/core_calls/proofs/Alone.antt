@@ -1,5 +1,5 @@
 -- Between two vectors of which one has the next revision of one cluster node alone more, no other commit lies.
-use Rattle.std.proofs.Common.{◌≡◌, ℕ, zero, suc, ◌+◌, ◌≤◌, Bool, true, false, cond, ◌||◌, inl, inr, Some, None, Option, List, [], ◌∷◌, ◌++◌, arith, is_some, refl, sym, ap, ◌∙◌, subst}
+use Rattle.std.proofs.Common.{length, get_or, ◌≡◌, ◌-◌, ℕ, zero, suc, ◌+◌, ◌≤◌, Bool, true, false, cond, ◌||◌, inl, inr, Some, None, Option, List, [], ◌∷◌, ◌++◌, arith, is_some, refl, sym, ap, ◌∙◌, subst}
 use Rattle.std.specs.Prelude.{◌==◌, option_map, slice_get}
 use Rattle.std.specs.declared.cmp.Ordering.{Ordering}
 use Rattle.std.specs.declared.cmp.Ordering.TheVariants.{Less, Equal, Greater}
@@ -10,13 +10,15 @@ use Rattle.std.specs.FinMap.Entries.{below_all}
 use Rattle.std.specs.BTreeMap.{insert_entry}
 use Rattle.std.specs.List.{filter}
 use Rattle.std.proofs.lemmas.Bool.Decides.{nat_tests}
+use Rattle.std.proofs.lemmas.List.{get_or-set_other, get_or-set_same}
 use Rattle.std.proofs.lemmas.List.Sums.{fold-append}
 use mathlib.Core.Bool.{false≢true}
 use Rattle.jr_path.proofs.Maps.{lookup-insert_entry}
 use Rattle.jr_rev.specs.declared.revision.Revision.{Revision}
 use Rattle.jr_rev.specs.declared.vector.RevVec.{RevVec}
 use Rattle.jr_rev.specs.Revisions.{is_at_most, is_before, is_same, revision_cmp}
-use Rattle.jr_rev.specs.Vectors.{entry, sees, stands_from}
+use Rattle.jr_rev.specs.Vectors.{IsVector, entry, sees, stands_from, with_entry}
+use Rattle.jr_rev.proofs.Bounds.{entry_at as numbered_entry}
 use Rattle.jr_rev.proofs.Order.{revision_total, same_revision}
 use Rattle.jr_tree.specs.declared.edit.Write.{Write}
 use Rattle.jr_tree.specs.Trees.{Nodes}
@@ -168,6 +170,28 @@ unlike x r apart = elim (test (is_same x r)) [
   | inl same ↦ absurd (apart (ap (λ (y : Revision). y.cluster) (same_revision x r same)))
   | inr k ↦ k
 ]
+
+-- an entry that is set, and those beside it
+module _ (v : RevVec) (r : Revision) (low : 1 ≤ r.cluster) where
+  set_own : r.cluster ≤ length v → (k : ℕ) → r.cluster ≡ k → entry (with_entry v r) k ≡ Some r
+  set_own high zero same = absurd (omega arith)
+  set_own high (suc k) same =
+      let before : r.cluster - 1 ≡ k = omega arith in
+      numbered_entry (with_entry v r) k
+      ∙ subst (λ (j : ℕ). get_or (with_entry v r) j None ≡ Some r) before (get_or-set_same v (r.cluster - 1) (Some r) None (omega arith))
+
+  set_other : (k : ℕ) → (k ≡ r.cluster → ⊥) → entry (with_entry v r) k ≡ entry v k
+  set_other zero apart = refl
+  set_other (suc k) apart =
+      numbered_entry (with_entry v r) k
+      ∙ (get_or-set_other v (r.cluster - 1) k (Some r) None (λ same. apart (omega arith)) ∙ sym (numbered_entry v k))
+
+  pub set_alone : r.cluster ≤ 8 → IsVector v → option_map (λ (e : Revision). e.time + 1) (entry v r.cluster) ≡ Some r.time → IsNextAlone v (with_entry v r) r
+  set_alone high vector tick = record {
+    own = set_own (let eight = vector.eight in omega arith) r.cluster refl;
+    next = tick;
+    others = λ k from to apart. set_other k apart;
+  }
 
 -- ---- a committed edit is found
 

@@ -1,7 +1,8 @@
 // Commits of a session: what it drew, and what its own commit makes of the tree.
-ghost use Rattle.std.specs.Prelude.{◌≡◌, ℕ, ◌++◌, Some, option_map, IsTrue};
+ghost use Rattle.std.specs.Prelude.{◌≡◌, ℕ, ◌+◌, ◌≤◌, ◌++◌, Some, option_map, IsTrue};
 ghost use Rattle.jr_rev.specs.declared.revision.Revision.{Revision};
 ghost use Rattle.jr_rev.specs.declared.vector.RevVec.{RevVec};
+ghost use Rattle.jr_rev.specs.Vectors.{IsVector, entry, with_entry};
 ghost use Rattle.jr_tree.specs.Edits.{applied};
 ghost use Rattle.oak_machine.specs.declared.event.Draw.{Draw};
 ghost use Rattle.oak_machine.specs.Commits.{draw_of, is_committed, tree_at};
@@ -28,6 +29,14 @@ pub fn draws_are_known()
     ensures tree { (law : JcrLaw) (h : History) (added : Past) (s : ℕ) (d : Draw)
         → IsNodesRun (starts_of law) (says_of law) (after added h) → draw_since h.past s ≡ Some d
         → tree_at h.begin (added ++ h.past) d.base ≡ tree_at h.begin h.past d.base }
+{}
+
+/// A vector of which the entry of one cluster node is set to the next revision there has that one
+/// alone more.
+pub fn set_entries_are_alone()
+    ensures { (v : RevVec) (r : Revision) → 1 ≤ r.cluster → r.cluster ≤ 8 → IsVector v
+        → option_map (λ e. e.time + 1) (entry v r.cluster) ≡ Some r.time
+        → IsNextAlone v (with_entry v r) r }
 {}
 
 /// Where a vector has the next revision of a cluster node alone more than the base on which that

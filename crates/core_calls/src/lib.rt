@@ -12,6 +12,6 @@ pub use calls::{
     calls_are_at_bases, calls_are_on_trees, logins_begin_calls, other_events_leave_calls,
     others_leave_what_is_asked, refreshes_move_calls, replies_answer_calls, sessions_begin_new,
 };
-pub use commits::{draws_are_known, own_commit_alone};
+pub use commits::{draws_are_known, own_commit_alone, set_entries_are_alone};
 pub use replies::replies_begin_with_ok;
 pub use turns::{commands_begin_behind_replies, commands_tell_what_came, sessions_stay_unattached};
