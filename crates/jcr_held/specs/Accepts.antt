@@ -1,5 +1,5 @@
 -- What an accepted reply leaves of what a session holds.
-use Rattle.std.specs.Prelude.{◌≡◌, ℕ, Bool, true, false, not, List, Option}
+use Rattle.std.specs.Prelude.{◌≡◌, ℕ, Bool, true, false, cond, not, List, [], Option}
 use Rattle.std.specs.Option.{unwrap_or}
 use Rattle.jcr_trans.specs.declared.command.Command.{Command}
 use Rattle.jcr_trans.specs.declared.command.Command.TheVariants as command
@@ -11,6 +11,13 @@ abbrev pub drops_pending : Command → Bool
 drops_pending command.Save = true
 drops_pending (command.Refresh keep) = not keep
 drops_pending _ = false
+
+-- what is held, without what is pending where that is dropped
+abbrev pub without_pending : Held → (drops : Bool) → Held
+without_pending x drops = record x {
+  pending = cond drops [] x.pending;
+  is_kept = cond drops false x.is_kept;
+}
 
 -- the tokens told, or else those held, are what the law has after an accepted reply
 abbrev pub TokensFit : Held → Option (List (List ℕ)) → Call → Command → Type 0

@@ -1,5 +1,7 @@
 -- What is held, whatever is left to be looked at by loading.
-use Rattle.std.specs.Prelude.{◌≡◌, ℕ, ◌+◌, min}
+use Rattle.std.specs.Prelude.{◌≡◌, ℕ, ◌+◌, min, true}
+use Rattle.jr_rev.specs.declared.vector.RevVec.{RevVec}
+use Rattle.jr_part.specs.Parts.{nothing_known}
 use Rattle.jr_tree.specs.declared.shared.Who.{Who}
 use Rattle.jcr_held.specs.declared.held.Held.{Held}
 
@@ -11,6 +13,14 @@ pub record AreAlike (x y : Held) : Type 0 where
   pub pending : y.pending ≡ x.pending
   pub is_kept : y.is_kept ≡ x.is_kept
   pub tokens : y.tokens ≡ x.tokens
+
+-- the base is at a vector, of whose tree nothing is known; what is pending is kept
+abbrev pub moved_to : Held → RevVec → Held
+moved_to x v = record x {
+  who = record x.who { base = v };
+  part = nothing_known;
+  is_kept = true;
+}
 
 -- so many identifiers more, up to the limit
 abbrev pub with_drawn : Held → ℕ → Held

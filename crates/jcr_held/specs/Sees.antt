@@ -15,9 +15,9 @@ use Rattle.jcr_held.specs.declared.held.Held.{Held}
 use Rattle.jcr_held.specs.Holds.{Holds}
 
 -- the text is the law's answer, and what is held then is what the law has after it
-pub record IsSeen (c : Call) (m : Command) (x : Held) (text : List ℕ) : Type 0 where
-  pub text : text ≡ answer_text (eval c.types c.who c.base c.state.view m).answer
-  pub holds : Holds (call_after (is_ok_text text) false c m) x
+pub record IsSeen (c : Call) (m : Command) (x : Held) (reply : List ℕ) : Type 0 where
+  pub text : reply ≡ answer_text (eval c.types c.who c.base c.state.view m).answer
+  pub holds : Holds (call_after (is_ok_text reply) false c m) x
 
 -- the command is answered so; where memory is refused, what was held is held still
 abbrev pub Sees : Call → Command → Held → Result (String Global) AllocError → Type 0

@@ -1,12 +1,14 @@
 // Commands that commit, and queries.
-ghost use Rattle.std.specs.Prelude.{◌≡◌, IfOk, IsTrue, is_some, option_map};
+ghost use Rattle.std.specs.Prelude.{◌≡◌, IfOk, IsFalse, IsTrue, is_some, option_map};
 ghost use Rattle.std.specs.String.{string_bytes};
 ghost use Rattle.jr_part.specs.Parts.{LacksNothing};
 ghost use Rattle.jr_part.specs.declared.need.Need.TheVariants as need;
+ghost use Rattle.jcr_call.specs.Dues.{due_of};
+ghost use Rattle.jcr_call.specs.Footings.{IsOn};
 ghost use Rattle.jcr_law.specs.Commits.{edit_due};
 ghost use Rattle.jcr_law.specs.Queries.{QueryAnswers};
 ghost use Rattle.jcr_law.specs.State.{Call};
-ghost use Rattle.jcr_held.specs.Comes.{ComesTo};
+ghost use Rattle.jcr_held.specs.Comes.{ComesTo, commits};
 ghost use Rattle.jcr_held.specs.Holds.{Holds, IsReady};
 
 use crate::Held;
@@ -21,25 +23,27 @@ impl Held {
     /// accepted reply (JSR 283, 10.11 Saving; 15 Versioning; 17 Locking). What is pending is due for `save`.
     pub fn come(&self, command: &Command) -> Result<Coming, AllocError>
         requires ready { IsReady self.now command.now }
-        requires held { (c : Call) × Holds c self.now }
-        requires commits { (c : Call) → IsTrue (is_some (edit_due c command.now)) }
+        requires commits { IsTrue (commits command.now) }
         ensures { (c : Call) → Holds c self.now → IfOk result (ComesTo c command.now) }
     {
-        match self.due(command)? {
-            Some(due) => come(self.alloc, self.footing(), command, due),
+        let footing = self.footing();
+        match self.due(&footing, command)? {
+            Some(due) => come(self.alloc, &footing, command, due),
             None => unreachable!(),
         }
     }
 
-    // The edit that is due for a command, or its refusal.
-    fn due(&self, command: &Command) -> Result<Option<Due>, AllocError>
-        requires { LacksNothing self.now.part need.All }
-        ensures { (c : Call) → Holds c self.now → IfOk result (λ due.
+    // The edit that is due for a command that commits, or its refusal.
+    fn due(&self, footing: &Footing<'_>, command: &Command) -> Result<Option<Due>, AllocError>
+        requires settled { IsFalse self.now.is_kept }
+        requires commits { IsTrue (commits command.now) }
+        ensures some { IfOk result (λ due. IsTrue (is_some due)) }
+        ensures due { (c : Call) → Holds c self.now → IsOn footing.now c → IfOk result (λ due.
             option_map due_of due ≡ edit_due c command.now) }
     {
         match command {
             Command::Save => self.pending_due(),
-            _ => edit_due(self.alloc, self.footing(), command),
+            _ => edit_due(self.alloc, footing, command),
         }
     }
 
@@ -52,9 +56,10 @@ impl Held {
         Ok(Some(Due::Edited(edit)))
     }
 
-    // What commands are run on.
+    // What commands that commit are run on.
     fn footing(&self) -> Footing<'_>
-        requires { LacksNothing self.now.part need.All }
+        requires settled { IsFalse self.now.is_kept }
+        requires known { LacksNothing self.now.part need.All }
         ensures { (c : Call) → Holds c self.now → IsOn result c }
     {
         Footing {
@@ -67,10 +72,28 @@ impl Held {
 
     /// The reply of a query by the tree at the base, all of which is read (JSR 283, 6 Query).
     pub fn query(&self, text: &Text, vars: &Keyed<Name, Value>) -> Result<String, AllocError>
-        requires { LacksNothing self.now.part need.All }
+        requires { IsReady self.now (command.Query text.now vars.now) }
         ensures { (c : Call) → Holds c self.now → IfOk result (λ reply.
             QueryAnswers c text.now vars.now (string_bytes reply)) }
     {
         query_reply(self.alloc, &self.types, self.part.whole(), text, vars)
     }
+}
+
+/// Whether the command commits: `save`, and the commands of locks and versions that write (JSR 283, 10.11 Saving; 15
+/// Versioning; 17 Locking).
+pub fn commits(command: &Command) -> bool
+    ensures { result ≡ commits command.now }
+{
+    matches!(
+        command,
+        Command::Save
+            | Command::Lock(_, _)
+            | Command::Unlock(_)
+            | Command::Checkin(_)
+            | Command::Checkout(_)
+            | Command::Label(_, _, _, _)
+            | Command::Unlabel(_, _)
+            | Command::Restore(_, _)
+    )
 }

@@ -1,5 +1,6 @@
 // What a session holds between its commands.
 ghost use Rattle.std.specs.Prelude.{◌≡◌, IsFalse, IsTrue, OnErr, OnOk, false, true};
+ghost use Rattle.std.specs.Option.{unwrap_or};
 ghost use Rattle.std.specs.FinMap.{is_sorted};
 ghost use Rattle.jr_path.specs.Names.{name_cmp};
 ghost use Rattle.jr_tree.specs.Trees.{IsTree, Nodes, dated_children_of, node_at};
@@ -7,8 +8,8 @@ ghost use Rattle.jr_part.specs.Parts.{with_children, with_node};
 ghost use Rattle.jcr_view.specs.Outcomes.{is_viewed};
 ghost use Rattle.jcr_law.specs.State.{Call, used};
 ghost use Rattle.jcr_call.specs.Calls.{call_after, call_moved};
-ghost use Rattle.jcr_held.specs.Alike.{AreAlike, with_drawn};
-ghost use Rattle.jcr_held.specs.Accepts.{TokensFit, drops_pending};
+ghost use Rattle.jcr_held.specs.Alike.{AreAlike, moved_to, with_drawn};
+ghost use Rattle.jcr_held.specs.Accepts.{TokensFit, drops_pending, without_pending};
 ghost use Rattle.jcr_held.specs.Begins.{IsFirstCall, IsNewHeld};
 ghost use Rattle.jcr_held.specs.Holds.{Holds};
 
@@ -90,9 +91,7 @@ impl Held {
             → Holds c self.new }
         ensures moved { (c : Call) (t : Nodes) → Holds c self.old → IsFalse self.old.is_kept
             → IsTree t → Holds (call_moved c base t) self.new }
-        ensures types { self.new.types ≡ self.old.types }
-        ensures who { self.new.who ≡ record self.old.who { base = base } }
-        ensures tokens { self.new.tokens ≡ self.old.tokens }
+        ensures same { AreAlike (moved_to self.old base) self.new }
     {
         self.who.base = base;
         self.part = Part::new(self.alloc);
@@ -109,7 +108,9 @@ impl Held {
             → node ≡ node_at c.base path.now → Holds c self.new) }
         ensures err { OnErr result (self.new ≡ self.old) }
     {
-        self.part.put_node(path, node)
+        self.part.put_node(path, node)?;
+        self.part.in_order();
+        Ok(())
     }
 
     /// Puts the names of the children, which rise, of the node at a path of the tree at the base. A refusal leaves all as
@@ -127,7 +128,9 @@ impl Held {
             → names ≡ dated_children_of c.base path.now → Holds c self.new) }
         ensures err { OnErr result (self.new ≡ self.old) }
     {
-        self.part.put_children(path, names)
+        self.part.put_children(path, names)?;
+        self.part.in_order();
+        Ok(())
     }
 
     /// A command that the view doesn't answer was accepted: `save`, and `refresh` with false, drop what is pending. The
@@ -137,14 +140,28 @@ impl Held {
         ensures { (c : Call) → Holds c self.old → TokensFit self.old tokens c command.now
             → Holds (call_after true drew c command.now) self.new }
     {
+        self.drop_pending(command);
+        self.take_tokens(tokens);
+        self.count(used(command, true, drew));
+    }
+
+    // Drops what is pending, where an accepted reply to the command does.
+    fn drop_pending(&mut self, command: &Command)
+        ensures { self.new ≡ without_pending self.old (drops_pending command.now) }
+    {
         if drops_pending(command) {
             self.pending = Pending::new(self.alloc);
             self.is_kept = false;
         }
+    }
+
+    // The session holds these tokens, if they are given.
+    fn take_tokens(&mut self, tokens: Option<List<Text>>)
+        ensures { self.new ≡ record self.old { tokens = unwrap_or tokens self.old.tokens } }
+    {
         if let Some(tokens) = tokens {
             self.tokens = tokens;
         }
-        self.count(used(command, true, drew));
     }
 
     /// A command was refused, or memory was refused for it. It takes no memory.

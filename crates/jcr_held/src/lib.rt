@@ -7,4 +7,5 @@ mod held;
 mod loading;
 mod seeing;
 
+pub use committing::commits;
 pub use held::Held;

@@ -28,15 +28,22 @@ impl Held {
         ensures one { IfOk result (λ load. IfSome load (λ n. IsTrue (is_of_one_node n))) }
         ensures holds { (c : Call) → Holds c self.old → Holds c self.new }
     {
-        let load = load_left(self.alloc, &self.part, &mut self.left)?;
-        if load.is_some() {
-            return Ok(load);
+        match load_left(self.alloc, &self.part, &mut self.left)? {
+            Some(load) => Ok(Some(load)),
+            None => self.load_anew(command),
         }
-        let load = self.load_kept()?;
-        if load.is_some() {
-            return Ok(load);
+    }
+
+    // What to read next where nothing is left to be looked at.
+    fn load_anew(&mut self, command: &Command) -> Result<Option<Need>, AllocError>
+        ensures ready { IfOk result (λ load. load ≡ None → IsReady self.new command.now) }
+        ensures one { IfOk result (λ load. IfSome load (λ n. IsTrue (is_of_one_node n))) }
+        ensures holds { (c : Call) → Holds c self.old → Holds c self.new }
+    {
+        match self.load_kept()? {
+            Some(load) => Ok(Some(load)),
+            None => self.load_for(command),
         }
-        self.load_for(command)
     }
 
     // What to read next before what is kept is made again; None where that is done.
@@ -49,25 +56,25 @@ impl Held {
             return Ok(None);
         }
         let needs = self.pending.needs_to_rebase()?;
-        let load = self.load_of(needs)?;
-        if load.is_none() {
-            self.make_again()?;
+        match self.load_of(needs)? {
+            Some(load) => Ok(Some(load)),
+            None => self.make_again(),
         }
-        Ok(load)
     }
 
-    // Makes what is kept again over the tree at the base.
-    fn make_again(&mut self) -> Result<(), AllocError>
+    // Makes what is kept again over the tree at the base. Nothing is to be read for it.
+    fn make_again(&mut self) -> Result<Option<Need>, AllocError>
         requires kept { IsTrue self.old.is_kept }
         requires known { All (LacksNothing self.old.part)
             (needs_to_rebase (edit_of self.old.pending)) }
+        ensures none { IfOk result (λ load. load ≡ None) }
         ensures settled { OnOk result (IsFalse self.new.is_kept) }
         ensures holds { (c : Call) → Holds c self.old → Holds c self.new }
     {
         rebases_count();
         self.pending.rebase(&self.part)?;
         self.is_kept = false;
-        Ok(())
+        Ok(None)
     }
 
     // What to read next of what a command asks for, where nothing is kept from an earlier base.

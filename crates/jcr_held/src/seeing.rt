@@ -1,25 +1,20 @@
 // Commands that the view answers.
 ghost use Rattle.std.specs.Prelude.{◌≡◌, IfOk, IsTrue, OnErr, OnOk};
-ghost use Rattle.std.specs.List.{list_any};
 ghost use Rattle.std.specs.String.{string_bytes};
-ghost use Rattle.jr_value.specs.Values.{same_bytes};
-ghost use Rattle.jr_items.specs.Refusals.{out_of_memory};
 ghost use Rattle.jcr_trans.specs.Answers.{Done};
 ghost use Rattle.jcr_trans.specs.Texts.{answer_text};
 ghost use Rattle.jcr_view.specs.Outcomes.{is_viewed};
-ghost use Rattle.jcr_view.specs.Reading.{refused};
 ghost use Rattle.jcr_law.specs.State.{Call, with_token, without_token};
 ghost use Rattle.jcr_held.specs.Alike.{AreAlike, with_drawn};
 ghost use Rattle.jcr_held.specs.Holds.{Holds, IsReady};
 ghost use Rattle.jcr_held.specs.Sees.{Sees, outcome_of, with_outcome};
 
 use crate::Held;
-use jcr_trans::{Command, done_reply, refusal_text};
-use jcr_view::whole_trees_are_asked_for;
-use jr_items::is_same_text;
-use jr_path::{DeepCopy, List, Text};
-use jr_tree::Refusal;
-use std::alloc::{AllocError, Global};
+use jcr_call::{cause_text, with_token, without_token};
+use jcr_trans::{Command, done_reply};
+use jcr_view::{needs_are_enough, steps_count, whole_trees_are_asked_for};
+use jr_path::{List, Text};
+use std::alloc::AllocError;
 
 impl Held {
     /// Runs a command that the view answers and for which all is read, and answers the text of its reply (JSR 283, 5
@@ -29,6 +24,8 @@ impl Held {
         requires ready { IsReady self.old command.now }
         ensures { (c : Call) → Holds c self.old → Sees c command.now self.new result }
     {
+        needs_are_enough();
+        steps_count();
         match command {
             Command::Token(token) => self.take_token(token),
             Command::DropToken(token) => self.drop_token(token),
@@ -102,56 +99,7 @@ impl Held {
             .run(command, &self.part, &self.types, &mut self.who)
         {
             Ok(text) => Ok(text),
-            Err(refusal) => refusal_reply(self.alloc, &refusal),
+            Err(refusal) => cause_text(self.alloc, &refusal),
         }
     }
-}
-
-// The text of a refusal, but want of memory.
-fn refusal_reply(alloc: Global, refusal: &Refusal) -> Result<String, AllocError>
-    ensures text { IfOk result (λ text. string_bytes text ≡ answer_text (refused refusal.now)) }
-    ensures cause { OnOk result (¬ (refusal.now ≡ out_of_memory)) }
-{
-    if refusal.number == 16 {
-        return Err(AllocError);
-    }
-    refusal_text(alloc, refusal)
-}
-
-// The tokens with one more, in front, unless it is there.
-fn with_token(alloc: Global, tokens: &[Text], token: &Text) -> Result<List<Text>, AllocError>
-    ensures { IfOk result (λ all. all ≡ with_token tokens.now token.now) }
-{
-    let mut all = List::new(alloc);
-    if !is_among(token, tokens) {
-        all.push(token.copy()?)?;
-    }
-    for other in tokens {
-        all.push(other.copy()?)?;
-    }
-    Ok(all)
-}
-
-fn is_among(token: &Text, tokens: &[Text]) -> bool
-    ensures { result ≡ list_any (same_bytes token.now) tokens.now }
-{
-    for other in tokens {
-        if is_same_text(token.as_str(), other.as_str()) {
-            return true;
-        }
-    }
-    false
-}
-
-// The tokens without one.
-fn without_token(alloc: Global, tokens: &[Text], token: &Text) -> Result<List<Text>, AllocError>
-    ensures { IfOk result (λ rest. rest ≡ without_token tokens.now token.now) }
-{
-    let mut rest = List::new(alloc);
-    for other in tokens {
-        if !is_same_text(token.as_str(), other.as_str()) {
-            rest.push(other.copy()?)?;
-        }
-    }
-    Ok(rest)
 }

@@ -16,6 +16,7 @@ ghost use Rattle.jr_work.specs.Stages.{Closes, HasCome, HasRead, HasTurnedIn, Is
 ghost use Rattle.jr_work.specs.Seats.{AreNew, IsNewSeat};
 
 use crate::flight::{Flight, flight_after};
+use core_obeys::the_product_obeys;
 use jcr_law::JcrLaw;
 use jcr_session::{SessionRun, Turn};
 use jcr_trans::SessionScript;
@@ -44,11 +45,12 @@ pub(crate) struct Seat {
 }
 
 impl Stage {
-    // The sessions of a script before any turn.
+    // The sessions of a script before any turn. By the law that the product obeys they will see trees.
     pub(crate) fn new(alloc: Global, script: Script) -> Result<Stage, AllocError>
         requires { IsWithin script }
         ensures { IfOk result (IsBegun script) }
     {
+        the_product_obeys();
         let nodes = nodes_of(alloc, script.sessions.as_slice())?;
         let law = law_of(alloc, &script)?;
         let seats = seats_of(alloc, &law.types, script.sessions.as_slice())?;
