@@ -4,7 +4,7 @@ use Rattle.repo_top.specs.declared.status.Status.{Status}
 use Rattle.repo_top.specs.declared.status.Status.TheVariants as status
 use Rattle.jr_script.specs.declared.script.Script.{Script}
 use Rattle.oak_world.specs.Worlds.{WorldOf}
-use Rattle.jcr_session.specs.declared.law.JcrLaw.{JcrLaw}
+use Rattle.jcr_law.specs.declared.law.JcrLaw.{JcrLaw}
 use Rattle.repo_top.specs.Ends.{BreaksRule, Call, Ends, EndsWith, FailsNowhere, Faults, HasLine, HasRunAll, IsCalm, IsCause, IsFault, IsPart, IsReadWhole, IsRefused, IsUnread, Output, Prints, Spells, Tells, longest}
 use Rattle.jr_work.specs.Runs.{HasRun}
 use Rattle.repo_top.specs.Headline.{replies_of}
