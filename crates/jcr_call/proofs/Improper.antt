@@ -17,16 +17,6 @@ tree_by_parents t b paths names root is =
     ∙ (ap (λ x. (x && is_some (node_at t [])) && list_all (λ e. has_parent t e.0) t) names
     ∙ ap (λ x. x && list_all (λ e. has_parent t e.0) t) root))
 
-pub no_root : (t : Nodes) → is_some (node_at t []) ≡ false → false ≡ is_tree t
-no_root t none =
-    sym (ap (λ x. ((is_sorted path_cmp t && has_names_in_order t) && x) && list_all (λ e. has_parent t e.0) t) none
-    ∙ by (is_sorted path_cmp t) (has_names_in_order t) (list_all (λ e. has_parent t e.0) t))
-  where
-    by : (a b c : Bool) → (((a && b) && false) && c) ≡ false
-    by true true c = refl
-    by true false c = refl
-    by false b c = refl
-
 module _ (t u : Nodes) (ws : List Write) (same : u ≡ applied None t ws) where
   whole : is_proper t ws ≡ (((is_tree u && is_once ws) && list_all (is_change t u) ws) && list_all (is_emptied t ws) ws)
   unfolding is_proper

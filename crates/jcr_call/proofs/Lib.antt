@@ -1,4 +1,6 @@
 mod Childless
 mod Identifiers
-pub mod Improper
-pub mod Written
+mod Improper
+mod Replying
+mod Written
+pub mod QueryRead

@@ -1,11 +1,10 @@
 -- Items that writes have, by a set of them.
-use Rattle.std.proofs.Common.{◌≡◌, ℕ, suc, zero, Bool, true, false, cond, ◌&&◌, ◌||◌, not, List, [], ◌∷◌, ◌++◌, length, drop, reverse, refl, sym, ap, ◌∙◌, arith}
+use Rattle.std.proofs.Common.{◌≡◌, ℕ, suc, zero, Bool, true, false, cond, ◌&&◌, ◌||◌, not, List, [], ◌∷◌, ◌++◌, length, drop, refl, sym, ap, ◌∙◌, arith}
 use Rattle.std.specs.Prelude.{IfOk, Option, Result, Some}
 use Rattle.std.specs.Ordering.{eq_by_cmp}
 use Rattle.std.specs.List.{list_all, list_any}
 use Rattle.std.specs.Option.{option_map_or}
 use Rattle.std.specs.BTreeSet.{BTreeSet, contains, Updates}
-use Rattle.std.proofs.lemmas.Bool.{false≢true}
 use Rattle.std.proofs.lemmas.Cmp.{eq_by_cmp_equiv}
 use Rattle.std.proofs.lemmas.List.{drop_all}
 use Rattle.std.proofs.lemmas.Result.{IfOk-weaker}
@@ -16,7 +15,7 @@ use Rattle.jr_path.specs.declared.path.Path.{Path}
 use Rattle.jr_path.specs.Names.{name_cmp, path_cmp}
 use Rattle.jr_tree.specs.declared.edit.Write.{Write}
 use Rattle.jr_tree.specs.declared.edit.Write.TheVariants.{Gone, Unset}
-use Rattle.jr_tree.specs.Edits.{is_emptied, is_once, is_same_item, is_unset_of, item_cmp, item_of, last_writes}
+use Rattle.jr_tree.specs.Edits.{is_emptied, is_once, is_same_item, is_unset_of, item_cmp, item_of}
 use Rattle.jr_tree.proofs.LastWrites.{IsRead, both_tied, item_total, read_kept, read_none, written_again}
 use Rattle.jr_tree.specs.Trees.{Nodes, node_at}
 use Rattle.jr_tree.specs.declared.tree.Node.{Node}
@@ -88,17 +87,6 @@ unset_more ws ws' items items' q m item are more same new p n =
     by true false c h = refl
     by false true c h = h
     by false false c h = h
-
-pub unset_same : (ws ws' : List Write) (items : BTreeSet Item) (w : Write) → AreUnset ws items → ws' ≡ ws ++ w ∷ []
-    → ((p : Path) (n : Name) → is_unset_of p n w ≡ false) → AreUnset ws' items
-unset_same ws ws' items w are more none p n =
-    are p n ∙ (by (list_any (is_unset_of p n) ws) (is_unset_of p n w) (none p n)
-    ∙ sym (ap (list_any (is_unset_of p n)) more ∙ list_any-append (is_unset_of p n) ws (w ∷ [])))
-  where
-    by : (a b : Bool) → b ≡ false → a ≡ (a || (b || false))
-    by true b h = refl
-    by false true h = absurd (false≢true (sym h))
-    by false false h = refl
 
 -- a node that goes, by the set of what is unset
 pub emptied_by : {E : Type 0} (t : Nodes) (p : Path) (node : Node) (unset : BTreeSet Item) (ws : List Write) (w : Write) (r : Result Bool E) → node_at t p ≡ Some node

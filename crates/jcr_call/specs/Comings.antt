@@ -28,9 +28,9 @@ abbrev pub accepted_text : Accepted → Revision → List ℕ
 accepted_text a r = option_map_or string_bytes a.text (answer_text (ShowsRevision r))
 
 -- of an accepted commit this text is told, or its revision, and the session then holds these tokens
-pub record IsTold (text : Option (List ℕ)) (tokens : List (List ℕ)) (a : Accepted) : Type 0 where
-  pub text : option_map string_bytes a.text ≡ text
-  pub tokens : a.tokens ≡ tokens
+pub record IsTold (shown : Option (List ℕ)) (held : List (List ℕ)) (a : Accepted) : Type 0 where
+  pub text : option_map string_bytes a.text ≡ shown
+  pub tokens : a.tokens ≡ held
 
 -- what is told of an accepted commit is what the law has of it
 pub record IsAcceptedOf (c : Call) (m : Command) (a : Accepted) : Type 0 where

@@ -4,7 +4,7 @@ ghost use Rattle.jcr_law.specs.Built.{Allowed, Unsupported, asked, is_built, is_
 
 use jcr_trans::Command;
 
-// Whether a session may run a command, by whether it is attached to a checkpoint.
+/// Whether a session may run a command, by whether it is attached to a checkpoint.
 pub fn is_allowed(attached: bool, command: &Command) -> bool
     ensures { asked attached command.now
         ≡ cond result (Allowed command.now) (Unsupported command.now) }

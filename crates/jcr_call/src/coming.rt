@@ -98,17 +98,13 @@ fn come_plan(
 {
     let tokens = strings(alloc, footing.tokens)?;
     match plan_of(alloc, footing.types, footing.base, edit, tokens.as_slice()) {
-        Ok(plan) => Ok(Coming::Planned(plan, accepted(alloc, footing, command)?)),
+        Ok(plan) => Ok(Coming::Planned(plan, told(alloc, footing, command)?)),
         Err(refusal) => Ok(Coming::Said(cause_text(alloc, &refusal)?)),
     }
 }
 
 // What is told of a command once its commit is made.
-fn accepted(
-    alloc: Global,
-    footing: &Footing<'_>,
-    command: &Command,
-) -> Result<Accepted, AllocError>
+fn told(alloc: Global, footing: &Footing<'_>, command: &Command) -> Result<Accepted, AllocError>
     ensures { (c : Call) (due : Result (List Write) Refusal) → IsOn footing.now c
         → edit_due c command.now ≡ Some due → IfOk result (IsAcceptedOf c command.now) }
 {
@@ -131,11 +127,7 @@ fn locked(alloc: Global, footing: &Footing<'_>) -> Result<Accepted, AllocError>
 }
 
 // What is told of a check-in: the version that it makes.
-fn checked_in(
-    alloc: Global,
-    footing: &Footing<'_>,
-    path: &Path,
-) -> Result<Accepted, AllocError>
+fn checked_in(alloc: Global, footing: &Footing<'_>, path: &Path) -> Result<Accepted, AllocError>
     ensures { (c : Call) → IsOn footing.now c → IfOk result (IsTold
         (Some (answer_text (version_answer (checked_in_version c.base path.now)))) c.state.tokens) }
 {

@@ -123,11 +123,7 @@ fn drawing_one(alloc: Global, who: &Who, edit: Edit) -> Result<Option<Due>, Allo
 }
 
 // The edit that unlocks a node, for the tokens that the session holds.
-fn unlock_due(
-    alloc: Global,
-    footing: &Footing<'_>,
-    path: &Path,
-) -> Result<Option<Due>, AllocError>
+fn unlock_due(alloc: Global, footing: &Footing<'_>, path: &Path) -> Result<Option<Due>, AllocError>
     ensures { (c : Call) → IsOn footing.now c → IfOk result (λ found. option_map due_of found
         ≡ Some (unlock_edit c.base path.now c.state.tokens)) }
 {
@@ -136,11 +132,7 @@ fn unlock_due(
 }
 
 // The edit that checks a node in.
-fn checkin_due(
-    alloc: Global,
-    footing: &Footing<'_>,
-    path: &Path,
-) -> Result<Option<Due>, AllocError>
+fn checkin_due(alloc: Global, footing: &Footing<'_>, path: &Path) -> Result<Option<Due>, AllocError>
     ensures { (c : Call) → IsOn footing.now c → IfOk result (λ found. option_map due_of found
         ≡ Some (checkin_edit c.types c.base path.now c.who)) }
 {
@@ -194,11 +186,5 @@ fn restore_due(
     ensures { (c : Call) → IsOn footing.now c → IfOk result (λ found. option_map due_of found
         ≡ Some (restore_edit c.types c.base path.now version.now)) }
 {
-    made_due(restore_edit(
-        alloc,
-        footing.types,
-        footing.base,
-        path,
-        version,
-    ))
+    made_due(restore_edit(alloc, footing.types, footing.base, path, version))
 }

@@ -7,8 +7,8 @@ use jr_path::Text;
 use jr_tree::Who;
 use std::alloc::{AllocError, Global};
 
-// The text of the next identifier of a session.
-pub(crate) fn next_id(alloc: Global, who: &Who) -> Result<Text, AllocError>
+/// The text of the next identifier of a session (JSR 283, 3.8 Referenceable Identifiers).
+pub fn next_id(alloc: Global, who: &Who) -> Result<Text, AllocError>
     ensures { IfOk result (λ id. id ≡ next_id who.now) }
 {
     Ok(Text::of(next_text(alloc, who)?))

@@ -9,11 +9,7 @@ use jr_path::{DeepCopy, List, Text};
 use std::alloc::{AllocError, Global};
 
 /// The tokens with one more, which stands first where it wasn't among them (JSR 283, 17.5 Lock Token).
-pub fn with_token(
-    alloc: Global,
-    tokens: &[Text],
-    token: &Text,
-) -> Result<List<Text>, AllocError>
+pub fn with_token(alloc: Global, tokens: &[Text], token: &Text) -> Result<List<Text>, AllocError>
     ensures { IfOk result (λ all. all ≡ with_token tokens.now token.now) }
 {
     if is_among(token, tokens) {
@@ -23,11 +19,7 @@ pub fn with_token(
 }
 
 /// The tokens without one.
-pub fn without_token(
-    alloc: Global,
-    tokens: &[Text],
-    token: &Text,
-) -> Result<List<Text>, AllocError>
+pub fn without_token(alloc: Global, tokens: &[Text], token: &Text) -> Result<List<Text>, AllocError>
     ensures { IfOk result (λ rest. rest ≡ without_token tokens.now token.now) }
 {
     let mut rest = List::new(alloc);

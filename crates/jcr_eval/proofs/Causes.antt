@@ -18,7 +18,8 @@ use Rattle.jcr_law.specs.Law.{MaySay, SaysBy, asked_by, no_support, no_text, bar
 use Rattle.jcr_law.specs.Since.{draw_since, stop_position}
 use Rattle.jcr_law.specs.State.{Call, call_of, command_at}
 use Rattle.jcr_law.specs.Tasks.{stopped_at}
-use Rattle.jcr_eval.specs.Causes.{AllowedCause, AnyCause, AskedCause, OwnCause, clash_reply, committed_reply, due_reply, is_seen_commit, may_want_memory, reply_to_draw, reply_to_due, uncommitted_reply, vector_text}
+use Rattle.jcr_call.specs.Comings.{reply_to_due}
+use Rattle.jcr_eval.specs.Causes.{AllowedCause, AnyCause, AskedCause, OwnCause, clash_reply, committed_reply, due_reply, is_seen_commit, may_want_memory, reply_to_draw, uncommitted_reply, vector_text}
 use Rattle.jcr_eval.specs.TaskCauses.{TaskCause}
 use Rattle.jcr_eval.proofs.Iffs.{second_decides}
 use Rattle.jcr_eval.proofs.Options.{some_behind, some_mapped, some_passed, some_tested}

@@ -1,5 +1,3 @@
-mod Childless
-mod Identifiers
 mod States
 mod Viewed
 pub mod Causes

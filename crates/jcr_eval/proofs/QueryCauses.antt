@@ -29,7 +29,9 @@ use Rattle.jcr_law.specs.declared.law.JcrLaw.{JcrLaw}
 use Rattle.jcr_law.specs.Law.{no_text}
 use Rattle.jcr_law.specs.Queries.{QueryAnswers, cast, rows, unknown_selector, untyped, wrong}
 use Rattle.jcr_law.specs.State.{Call, call_of}
-use Rattle.jcr_eval.specs.Asked.{AnswersFor, AnswersQuery, AnswersRead, IsReadSo, ShowsRows, refuses_fault}
+use Rattle.jcr_call.specs.Reading.{AnswersFor, AnswersQuery, AnswersRead, ShowsRows}
+use Rattle.jcr_call.proofs.QueryRead.{of_read}
+use Rattle.jcr_eval.specs.Asked.{IsReadSo, refuses_fault}
 use Rattle.jcr_eval.specs.Shown.{is_refusal}
 use Rattle.jcr_eval.specs.TaskCauses.{QueryCause}
 
@@ -38,20 +40,6 @@ abbrev pub AreOne : Type 0
 AreOne = (text : List ℕ) (vars : List (List ℕ × Value)) (a b : Result Query SqlFault) → IsParsed text vars a → IsParsed text vars b → AreSame a b
 
 module _ (c : Call) (query : List ℕ) (vars : List (List ℕ × Value)) where
-  of_query : (q : Query) (text : List ℕ) → IsParsed query vars (Ok q) → AnswersQuery c.types c.base q text → QueryAnswers c query vars text
-  of_query q text parsed h = by (unknown_selector c.types q) refl h
-    where
-      by : (o : Option Name) → unknown_selector c.types q ≡ o → AnswersFor o c.types c.base q text → QueryAnswers c query vars text
-      by (Some n) is a = subst (QueryAnswers c query vars) (sym a) (untyped q n parsed is)
-      by None is a = subst (QueryAnswers c query vars) (sym a.2) (rows q a.0 parsed is a.1)
-
-  -- what was read is answered so
-  pub of_read : (p : Result Query SqlFault) (text : List ℕ) → IsParsed query vars p → AnswersRead c.types c.base p text → QueryAnswers c query vars text
-  of_read (Ok q) text parsed h = of_query q text parsed h
-  of_read (Err (fault.InvalidQuery offset)) text parsed h = subst (QueryAnswers c query vars) (sym h) (wrong offset parsed)
-  of_read (Err (fault.Cast asked given)) text parsed h = subst (QueryAnswers c query vars) (sym h) (cast asked given parsed)
-  of_read (Err fault.Memory) text parsed h = absurd h
-
   same_query : (q r : Query) (text : List ℕ) → asked_of q ≡ asked_of r → AnswersQuery c.types c.base q text → AnswersQuery c.types c.base r text
   same_query q r text same h = by (unknown_selector c.types r) (sym (ap (λ (a : Asked). find (λ n. is_none (type_named c.types n)) a.types) same)) h
     where

@@ -1,11 +1,9 @@
 -- The causes of a reply by commands: those that every command may have, and those of its own. Where
 -- they give one reply at most, it is named: a text is said for them where it is that reply.
-use Rattle.std.specs.Prelude.{◌≡◌, ◌⊎◌, ℕ, Bool, false, cond, not, ◌&&◌, List, [], ◌∷◌, slice_get, Option, None, Some, is_none, option_and_then, option_map, IsTrue, Result, Ok, Err}
+use Rattle.std.specs.Prelude.{◌≡◌, ◌⊎◌, ℕ, Bool, false, cond, not, ◌&&◌, List, slice_get, Option, None, Some, is_none, option_and_then, option_map, IsTrue}
 use Rattle.std.specs.Option.{option_map_or}
 use Rattle.jr_rev.specs.declared.vector.RevVec.{RevVec}
 use Rattle.jr_rev.specs.Vectors.{sees}
-use Rattle.jr_tree.specs.declared.edit.Write.{Write}
-use Rattle.jr_tree.specs.declared.shared.Refusal.{Refusal}
 use Rattle.jr_items.specs.Refusals.{clash, out_of_memory}
 use Rattle.oak_machine.specs.declared.event.Draw.{Draw}
 use Rattle.oak_machine.specs.Commits.{is_committed, is_ended, refusal_of, tree_at}
@@ -18,11 +16,12 @@ use Rattle.jcr_trans.specs.declared.command.Command.TheVariants as command
 use Rattle.jcr_view.specs.Outcomes.{eval, is_viewed}
 use Rattle.jcr_law.specs.declared.law.JcrLaw.{JcrLaw}
 use Rattle.jcr_law.specs.Built.{Asked, Allowed, Unsupported}
-use Rattle.jcr_law.specs.Commits.{committed_answer, edit_due, refusal_of_plan, unwritten_answer}
+use Rattle.jcr_law.specs.Commits.{committed_answer, edit_due}
 use Rattle.jcr_law.specs.Law.{no_support, no_text}
 use Rattle.jcr_law.specs.Since.{draw_since, stop_position}
 use Rattle.jcr_law.specs.State.{Call, call_of}
 use Rattle.jcr_law.specs.Tasks.{stopped_at}
+use Rattle.jcr_call.specs.Comings.{reply_to_due}
 use Rattle.jcr_eval.specs.TaskCauses.{TaskCause}
 
 -- the reply where the cluster node of s was stopped
@@ -47,13 +46,6 @@ AnyCause h s text = (stopped_reply h s ≡ Some text) ⊎ (memory_reply h s ≡ 
 abbrev pub ViewCause : JcrLaw → History → ℕ → Command → List ℕ → Type 0
 ViewCause law h s m text = (c : Call) × (call_of law h.begin h.past s ≡ Some c)
     × (text ≡ answer_text (eval c.types c.who c.base c.state.view m).answer)
-
--- the reply to a command by the edit that is due for it, where it isn't committed: the refusal, or
--- that there is nothing to write
-abbrev pub reply_to_due : Call → Command → Result (List Write) Refusal → Option (List ℕ)
-reply_to_due c m (Ok []) = Some (answer_text (unwritten_answer c m))
-reply_to_due c m (Ok (w ∷ ws)) = option_map no_text (refusal_of_plan c (w ∷ ws))
-reply_to_due c m (Err r) = Some (no_text r)
 
 -- the reply to a command that commits, where nothing is committed for it
 abbrev pub uncommitted_reply : Call → Command → Option (List ℕ)

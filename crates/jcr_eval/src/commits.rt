@@ -1,52 +1,35 @@
 // What commands that commit may be answered with.
-ghost use Rattle.std.specs.Prelude.{◌≡◌, ◌↔◌, ◌+◌, cond, Err, IfErr, IfOk, IsTrue, List, None, Ok, Result, Some, map, option_map, string_bytes};
+ghost use Rattle.std.specs.Prelude.{◌≡◌, ◌↔◌, cond, IfOk, IsTrue, None, Ok, Some, option_map, string_bytes};
 ghost use Rattle.jr_tree.specs.Edits.{changes};
-ghost use Rattle.jr_tree.specs.declared.edit.Write.{Write};
-ghost use Rattle.jr_tree.specs.declared.shared.Refusal.{Refusal};
-ghost use Rattle.jr_items.specs.Refusals.{clash, or_else, out_of_memory};
-ghost use Rattle.jr_types.specs.declared.TypeDef.{TypeDef};
+ghost use Rattle.jr_items.specs.Refusals.{clash};
 ghost use Rattle.oak_machine.specs.Commits.{is_ended, refusal_of, tree_at};
 ghost use Rattle.oak_machine.specs.History.{history_of};
-ghost use Rattle.jcr_lock.specs.Locks.{IsDue, IsDueRefusal, lock_edit, unlock_edit};
-ghost use Rattle.jcr_plan.specs.Refusals.{plan_refusal};
-ghost use Rattle.jcr_ref.specs.Drawn.{too_many_ids};
 ghost use Rattle.jcr_trans.specs.Answers.{ShowsRevision, ShowsText};
 ghost use Rattle.jcr_trans.specs.Texts.{answer_text};
-ghost use Rattle.jcr_version.specs.Edits.{checked_in_version, checkin_edit};
-ghost use Rattle.jcr_law.specs.Commits.{committed_answer, drawing_one, edit_due, unwritten_answer, version_answer};
+ghost use Rattle.jcr_version.specs.Edits.{checked_in_version};
+ghost use Rattle.jcr_law.specs.Commits.{committed_answer, edit_due, version_answer};
 ghost use Rattle.jcr_law.specs.Law.{no_text};
 ghost use Rattle.jcr_law.specs.State.{next_id};
+ghost use Rattle.jcr_call.specs.Comings.{reply_to_due};
+ghost use Rattle.jcr_call.specs.Dues.{due_of};
+ghost use Rattle.jcr_call.specs.Footings.{IsOn};
 ghost use Rattle.jcr_eval.specs.Calls.{called};
-ghost use Rattle.jcr_eval.specs.Causes.{CommitCause, clash_reply, committed_reply, due_reply, is_seen_commit, reply_to_draw, reply_to_due, uncommitted_reply};
-ghost use Rattle.jcr_eval.specs.Dues.{due_of};
+ghost use Rattle.jcr_eval.specs.Causes.{CommitCause, clash_reply, committed_reply, due_reply, is_seen_commit, reply_to_draw, uncommitted_reply};
 
 use crate::call::{Call, call_of};
-use crate::ids::next_id;
-use crate::replies::{cause_reply, is_reply, refusal_reply};
+use crate::replies::{cause_reply, is_reply};
 use crate::since::draw_since;
-use crate::versions::version_told;
+use jcr_call::{Coming, Due, Footing, come, next_id, version_reply};
 use jcr_law::JcrLaw;
-use jcr_lock::{lock_edit, unlock_edit};
-use jcr_plan::plan_of;
-use jcr_ref::MAX_IDS;
-use jcr_restore::restore_edit;
-use jcr_trans::{Command, null_reply, revision_reply, text_reply};
-use jcr_version::{checkin_edit, checkout_edit, label_edit, unlabel_edit};
-use jr_items::{clash, over_limit};
-use jr_path::{Path, Text};
+use jcr_trans::{Command, revision_reply, text_reply};
+use jr_items::clash;
+use jr_path::Path;
 use jr_rev::Revision;
-use jr_tree::{Edit, Refusal, Tree, Who, changes};
+use jr_tree::changes;
 use jr_types::Registry;
 use oak_machine::{Draw, Journal};
 use oak_past::{drawn_since, is_committed, is_ended, refreshed_since, refusal_of, tree_at};
 use std::alloc::{AllocError, Global};
-
-// What is due of a command that commits: an edit, or the command's refusal.
-#[derive(Drop)]
-pub(crate) enum Due {
-    Edited(Edit),
-    Refused(Refusal),
-}
 
 // Whether a text is what a command that commits is answered with.
 pub(crate) fn commit_says(
@@ -121,47 +104,20 @@ fn edit_due(
 {
     match command {
         Command::Save => pending_due(call),
-        Command::Lock(path, deep) => lock_due(alloc, call, path, *deep),
-        Command::Unlock(path) => unlock_due(alloc, call, path),
-        Command::Checkin(path) => checkin_due(alloc, types, call, path),
-        Command::Checkout(path) => made_due(checkout_edit(alloc, &call.base, path)),
-        Command::Label(path, version, label, take) => made_due(label_edit(
-            alloc,
-            &call.base,
-            path,
-            version.as_str(),
-            label,
-            *take,
-        )),
-        Command::Unlabel(path, label) => made_due(unlabel_edit(alloc, &call.base, path, label)),
-        Command::Restore(path, version) => {
-            made_due(restore_edit(alloc, types, &call.base, path, version.as_str()))
-        }
-        _ => Ok(None),
+        _ => jcr_call::edit_due(alloc, &footing(types, call), command),
     }
 }
 
-// The edit or the refusal of a call that may want memory.
-fn made_due(made: Result<Edit, Refusal>) -> Result<Option<Due>, AllocError>
-    ensures { (due : Result (List Write) Refusal)
-        → IfOk made (IsDue due) → IfErr made (IsDueRefusal due)
-        → IfOk result (λ found. option_map due_of found ≡ Some due) }
+// What a command is run on.
+fn footing<'a>(types: &'a Registry, call: &'a Call) -> Footing<'a>
+    ensures { IsOn result (called types.now call.now) }
 {
-    match made {
-        Ok(edit) => Ok(Some(Due::Edited(edit))),
-        Err(refusal) => refused(refusal),
+    Footing {
+        types,
+        who: &call.who,
+        base: &call.base,
+        tokens: call.state.tokens.as_slice(),
     }
-}
-
-// A refusal that doesn't stand for want of memory.
-fn refused(refusal: Refusal) -> Result<Option<Due>, AllocError>
-    ensures { IfOk result (λ found. ¬ (refusal
-        ≡ out_of_memory) × (option_map due_of found ≡ Some (Err refusal))) }
-{
-    if refusal.number == 16 {
-        return Err(AllocError);
-    }
-    Ok(Some(Due::Refused(refusal)))
 }
 
 // The pending edits.
@@ -170,79 +126,6 @@ fn pending_due(call: &Call) -> Result<Option<Due>, AllocError>
         ≡ Some (Ok (changes call.now.base call.now.state.view))) }
 {
     Ok(Some(Due::Edited(changes(&call.base, &call.state.view)?)))
-}
-
-// The edit that locks a node with the session's next identifier.
-fn lock_due(alloc: Global, call: &Call, path: &Path, deep: bool) -> Result<Option<Due>, AllocError>
-    ensures { (types : List TypeDef) → IfOk result (λ found. option_map due_of found
-        ≡ Some (drawing_one (called types call.now)
-        (lock_edit call.now.base path.now deep (next_id call.now.who)))) }
-{
-    let token = next_id(alloc, &call.who)?;
-    lock_by(alloc, call, path, deep, token.as_str())
-}
-
-// The edit that locks a node with a token, for which one identifier is drawn.
-fn lock_by(
-    alloc: Global,
-    call: &Call,
-    path: &Path,
-    deep: bool,
-    token: &str,
-) -> Result<Option<Due>, AllocError>
-    ensures { (types : List TypeDef) → IfOk result (λ found. option_map due_of found
-        ≡ Some (drawing_one (called types call.now)
-        (lock_edit call.now.base path.now deep token.now))) }
-{
-    match lock_edit(alloc, &call.base, path, deep, token) {
-        Ok(edit) => drawing_one(alloc, &call.who, edit),
-        Err(refusal) => refused(refusal),
-    }
-}
-
-// An edit for which one identifier is drawn.
-fn drawing_one(alloc: Global, who: &Who, edit: Edit) -> Result<Option<Due>, AllocError>
-    ensures { IfOk result (λ found. option_map due_of found
-        ≡ Some (or_else (too_many_ids (who.now.ids + 1)) edit.writes)) }
-{
-    if who.ids >= MAX_IDS {
-        return refused(over_limit(alloc, "ids", MAX_IDS as u64));
-    }
-    Ok(Some(Due::Edited(edit)))
-}
-
-// The edit that unlocks a node, for the tokens that the session holds.
-fn unlock_due(alloc: Global, call: &Call, path: &Path) -> Result<Option<Due>, AllocError>
-    ensures { IfOk result (λ found. option_map due_of found
-        ≡ Some (unlock_edit call.now.base path.now call.now.state.tokens)) }
-{
-    let tokens = strings(alloc, call.state.tokens.as_slice())?;
-    made_due(unlock_edit(alloc, &call.base, path, tokens.as_slice()))
-}
-
-// The edit that checks a node in.
-fn checkin_due(
-    alloc: Global,
-    types: &Registry,
-    call: &Call,
-    path: &Path,
-) -> Result<Option<Due>, AllocError>
-    ensures { IfOk result (λ found. option_map due_of found
-        ≡ Some (checkin_edit types.now call.now.base path.now call.now.who)) }
-{
-    let mut who = call.who;
-    made_due(checkin_edit(alloc, types, &call.base, path, &mut who))
-}
-
-// Texts as strings.
-fn strings(alloc: Global, texts: &[Text]) -> Result<Vec<String>, AllocError>
-    ensures { IfOk result (λ strings. map string_bytes strings.items ≡ texts.now) }
-{
-    let mut strings = Vec::new(alloc);
-    for text in texts {
-        strings.push(String::from_str(alloc, text.as_str())?)?;
-    }
-    Ok(strings)
 }
 
 // The reply by what is due.
@@ -256,71 +139,9 @@ fn reply_to_due(
     ensures { IfOk result (λ reply. option_map string_bytes reply
         ≡ reply_to_due (called types.now call.now) command.now (due_of due)) }
 {
-    match due {
-        Due::Edited(edit) => reply_to_edit(alloc, types, call, command, edit),
-        Due::Refused(refusal) => refusal_reply(alloc, &refusal),
-    }
-}
-
-// The reply by the edit that is due.
-fn reply_to_edit(
-    alloc: Global,
-    types: &Registry,
-    call: &Call,
-    command: &Command,
-    edit: Edit,
-) -> Result<Option<String>, AllocError>
-    ensures { IfOk result (λ reply. option_map string_bytes reply
-        ≡ reply_to_due (called types.now call.now) command.now (Ok edit.writes)) }
-{
-    if edit.writes.is_empty() {
-        return unwritten_reply(alloc, types, call, command);
-    }
-    plan_reply(alloc, types, call, edit)
-}
-
-// The reply where nothing has to be written.
-fn unwritten_reply(
-    alloc: Global,
-    types: &Registry,
-    call: &Call,
-    command: &Command,
-) -> Result<Option<String>, AllocError>
-    ensures { IfOk result (λ reply. option_map string_bytes reply
-        ≡ Some (answer_text (unwritten_answer (called types.now call.now) command.now))) }
-{
-    match command {
-        Command::Checkin(path) => version_reply(alloc, &call.base, path),
-        _ => Ok(Some(null_reply(alloc)?)),
-    }
-}
-
-// The reply that shows the version of a check-in.
-fn version_reply(alloc: Global, tree: &Tree, path: &Path) -> Result<Option<String>, AllocError>
-    ensures { IfOk result (λ reply. option_map string_bytes reply
-        ≡ Some (answer_text (version_answer (checked_in_version tree.now path.now)))) }
-{
-    match version_told(alloc, tree, path)? {
-        Some(name) => Ok(Some(text_reply(alloc, name.as_str())?)),
-        None => Ok(Some(null_reply(alloc)?)),
-    }
-}
-
-// The reply where the edit can't be committed.
-fn plan_reply(
-    alloc: Global,
-    types: &Registry,
-    call: &Call,
-    edit: Edit,
-) -> Result<Option<String>, AllocError>
-    ensures { IfOk result (λ reply. option_map string_bytes reply
-        ≡ option_map no_text
-        (plan_refusal types.now call.now.base call.now.state.tokens edit.writes)) }
-{
-    let tokens = strings(alloc, call.state.tokens.as_slice())?;
-    match plan_of(alloc, types, &call.base, edit, tokens.as_slice()) {
-        Ok(_) => Ok(None),
-        Err(refusal) => cause_reply(alloc, &refusal),
+    match come(alloc, &footing(types, call), command, due)? {
+        Coming::Said(text) => Ok(Some(text)),
+        Coming::Planned(_, _) => Ok(None),
     }
 }
 
@@ -419,7 +240,7 @@ fn made_reply(
         (version_answer (checked_in_version (tree_at h.begin h.past draw.now.base) path.now)))) }
 {
     let tree = tree_at(journal, &draw.base)?;
-    version_reply(alloc, &tree, path)
+    Ok(Some(version_reply(alloc, &tree, path)?))
 }
 
 // The reply that shows a revision.

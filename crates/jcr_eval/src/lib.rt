@@ -3,12 +3,10 @@
 //! itself stand on them.
 #![tactic(auto)]
 
-mod built;
 mod call;
 mod came;
 mod commits;
 mod events;
-mod ids;
 mod queries;
 mod replies;
 mod say;
@@ -17,7 +15,6 @@ mod since;
 mod state;
 mod tasks;
 mod turn;
-mod versions;
 mod view;
 
 pub use say::eval;

@@ -1,23 +1,23 @@
 // What a query answers (JSR 283, 6 Query).
-ghost use Rattle.std.specs.Prelude.{◌≡◌, ◌≢◌, ◌↔◌, IfOk, IsTrue, OnOk, bytes_eq, is_none, map};
-ghost use Rattle.std.specs.Option.{option_copied};
+ghost use Rattle.std.specs.Prelude.{◌≡◌, ◌≢◌, ◌↔◌, IfOk, IsTrue, OnOk, bytes_eq, map};
 ghost use Rattle.oak_machine.specs.History.{history_of};
 ghost use Rattle.jr_items.specs.Refusals.{no_query, no_type, wrong_kind};
-ghost use Rattle.jr_types.specs.Types.{subtypes, type_named};
+ghost use Rattle.jr_types.specs.Types.{subtypes};
 ghost use Rattle.sql_parse.specs.declared.fault.SqlFault.TheVariants.{Memory};
 ghost use Rattle.sql_eval.specs.RowTexts.{rows_data};
 ghost use Rattle.sql_eval.specs.Rows.{AreRows};
 ghost use Rattle.jcr_trans.specs.Texts.{ok_text};
-ghost use Rattle.jcr_law.specs.Queries.{unknown_selector};
-ghost use Rattle.jcr_eval.specs.Asked.{AnswersQuery, IsReadSo, ShowsRows, refuses_fault};
+ghost use Rattle.jcr_call.specs.Reading.{AnswersQuery, ShowsRows};
+ghost use Rattle.jcr_eval.specs.Asked.{IsReadSo, refuses_fault};
 ghost use Rattle.jcr_eval.specs.Shown.{is_refusal};
 ghost use Rattle.jcr_eval.specs.TaskCauses.{QueryCause};
 
 use crate::call::call_of;
 use crate::shown::is_refusal;
+use jcr_call::{pairs_of, sets_of, unknown_selector};
 use jcr_law::JcrLaw;
 use jr_items::{no_query, no_type, wrong_kind};
-use jr_path::{DeepCopy, Keyed, Name, Text};
+use jr_path::{Keyed, Name, Text};
 use jr_tree::Tree;
 use jr_types::Registry;
 use jr_value::{Kind, Value};
@@ -66,17 +66,6 @@ fn answers(
         Ok(query) => answers_query(alloc, types, base, &query, text),
         Err(fault) => answers_fault(alloc, fault, text),
     }
-}
-
-// The bind variables in their order.
-fn pairs_of(alloc: Global, vars: &Keyed<Name, Value>) -> Result<Vec<(Name, Value)>, AllocError>
-    ensures { IfOk result (λ pairs. pairs.items ≡ vars.now) }
-{
-    let mut pairs = Vec::new(alloc);
-    for (name, value) in vars.inner() {
-        pairs.push((name.copy()?, value.copy()?))?;
-    }
-    Ok(pairs)
 }
 
 // Whether the text is why a text is no query.
@@ -128,22 +117,6 @@ fn answers_query(
     }
 }
 
-// The first selector's type that nobody registered.
-fn unknown_selector<'a>(types: &Registry, query: &'a Query) -> Option<&'a Name>
-    ensures { option_copied result ≡ unknown_selector types.now query.now }
-{
-    query
-        .selector_types()
-        .iter()
-        .find(|name| is_unknown(types, name))
-}
-
-fn is_unknown(types: &Registry, name: &Name) -> bool
-    ensures { result ≡ is_none (type_named types.now name.now) }
-{
-    types.get(name).is_none()
-}
-
 // Whether the text shows the rows of a query.
 fn shows_rows(
     alloc: Global,
@@ -178,16 +151,4 @@ fn rows_of(
 {
     let sets = sets_of(alloc, types, query.selector_types())?;
     rows(alloc, query, sets.as_slice(), base)
-}
-
-// The names of the types of each selector.
-fn sets_of(alloc: Global, types: &Registry, names: &[Name]) -> Result<Vec<Vec<Name>>, AllocError>
-    ensures { IfOk result (λ sets. map (λ set. set.items) sets.items
-        ≡ map (subtypes types.now) names.now) }
-{
-    let mut sets = Vec::new(alloc);
-    for name in names {
-        sets.push(types.subtypes(name)?)?;
-    }
-    Ok(sets)
 }

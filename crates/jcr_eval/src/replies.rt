@@ -3,6 +3,7 @@ ghost use Rattle.std.specs.Prelude.{◌≡◌, ◌↔◌, IfOk, IsTrue, Some, op
 ghost use Rattle.jr_items.specs.Refusals.{out_of_memory};
 ghost use Rattle.jcr_law.specs.Law.{no_text};
 
+use jcr_call::cause_text;
 use jcr_trans::refusal_text;
 use jr_tree::Refusal;
 use std::alloc::{AllocError, Global};
@@ -29,8 +30,5 @@ pub(crate) fn cause_reply(alloc: Global, refusal: &Refusal) -> Result<Option<Str
     ensures { IfOk result (λ reply. ¬ (refusal.now ≡ out_of_memory)
         × (option_map string_bytes reply ≡ Some (no_text refusal.now))) }
 {
-    if refusal.number == 16 {
-        return Err(AllocError);
-    }
-    refusal_reply(alloc, refusal)
+    Ok(Some(cause_text(alloc, refusal)?))
 }

@@ -10,7 +10,6 @@ ghost use Rattle.jcr_law.specs.Since.{before_turn, stop_position};
 ghost use Rattle.jcr_law.specs.Tasks.{stopped_at};
 ghost use Rattle.jcr_eval.specs.Causes.{AllowedCause, AnyCause, OwnCause, may_want_memory, memory_reply, stopped_reply, vector_text, ViewCause};
 
-use crate::built::is_allowed;
 use crate::commits::commit_says;
 use crate::replies::{cause_reply, is_reply, refusal_reply};
 use crate::since::stop_position;
@@ -18,6 +17,7 @@ use crate::state::command_at;
 use crate::tasks::task_says;
 use crate::turn::before_turn;
 use crate::view::view_says;
+use jcr_call::is_allowed;
 use jcr_law::JcrLaw;
 use jcr_trans::{Command, vector_reply};
 use jcr_view::is_viewed;

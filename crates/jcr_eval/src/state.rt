@@ -2,7 +2,6 @@
 ghost use Rattle.std.specs.Prelude.{◌≡◌, ◌∷◌, [], IfOk, IsTrue, None, OnOk, Some, cond, is_some, option_map, reverse};
 ghost use Rattle.std.specs.List.{list_any};
 ghost use Rattle.std.specs.Option.{option_copied, option_map_or};
-ghost use Rattle.jr_value.specs.Values.{same_bytes};
 ghost use Rattle.oak_machine.specs.Commits.{tree_at};
 ghost use Rattle.oak_machine.specs.History.{begin_tree};
 ghost use Rattle.oak_machine.specs.Sessions.{drawn_since};
@@ -13,12 +12,11 @@ ghost use Rattle.jcr_law.specs.declared.state.Cursor.{Cursor as Standing};
 ghost use Rattle.jcr_eval.specs.Calls.{called};
 
 use crate::call::{Call, call_at};
-use crate::ids::next_id;
+use jcr_call::{next_id, with_token, without_token};
 use jcr_law::{Cursor, JcrLaw, State};
 use jcr_observe::Filter;
 use jcr_trans::Command;
 use jcr_view::{evaluate, is_viewed, move_view};
-use jr_items::is_same_text;
 use jr_path::{DeepCopy, List, Path, Text};
 use jr_rev::RevVec;
 use jr_tree::Tree;
@@ -296,8 +294,8 @@ fn accepted(
     match command {
         Command::Save => Ok(without_pending(call)),
         Command::Refresh(false) => Ok(without_pending(call)),
-        Command::Token(token) => with_token(call.state, token.copy()?),
-        Command::DropToken(token) => without_token(alloc, call.state, token),
+        Command::Token(token) => holding(alloc, call.state, token),
+        Command::DropToken(token) => dropping(alloc, call.state, token),
         Command::Lock(_, _) => locked(alloc, call),
         Command::Observe(path, deep, mask) => Ok(observing(call, path.copy()?, *deep, *mask)),
         Command::Events => Ok(observed(call)),
@@ -314,56 +312,22 @@ fn without_pending(call: Call) -> State
     State { view, ..state }
 }
 
-// The state with one token more.
-fn with_token(state: State, token: Text) -> Result<State, AllocError>
+// The session holds one token more.
+fn holding(alloc: Global, state: State, token: &Text) -> Result<State, AllocError>
     ensures { IfOk result (λ new. new
-        ≡ record state { tokens = with_token state.tokens token }) }
+        ≡ record state { tokens = with_token state.tokens token.now }) }
 {
-    if is_among(&token, state.tokens.as_slice()) {
-        return Ok(state);
-    }
-    let tokens = put_first(token, state.tokens)?;
+    let tokens = with_token(alloc, state.tokens.as_slice(), token)?;
     Ok(State { tokens, ..state })
 }
 
-fn put_first(token: Text, tokens: List<Text>) -> Result<List<Text>, AllocError>
-    ensures { IfOk result (λ all. all ≡ token ∷ tokens) }
-{
-    let mut items = tokens.into_inner();
-    items.insert(0, token)?;
-    Ok(List::of(items))
-}
-
-fn is_among(token: &Text, tokens: &[Text]) -> bool
-    ensures { result ≡ list_any (same_bytes token.now) tokens.now }
-{
-    for other in tokens {
-        if is_same_text(token.as_str(), other.as_str()) {
-            return true;
-        }
-    }
-    false
-}
-
-// The state without a token.
-fn without_token(alloc: Global, state: State, token: &Text) -> Result<State, AllocError>
+// The session holds a token no more.
+fn dropping(alloc: Global, state: State, token: &Text) -> Result<State, AllocError>
     ensures { IfOk result (λ new. new
         ≡ record state { tokens = without_token state.tokens token.now }) }
 {
-    let tokens = others(alloc, state.tokens.as_slice(), token)?;
+    let tokens = without_token(alloc, state.tokens.as_slice(), token)?;
     Ok(State { tokens, ..state })
-}
-
-fn others(alloc: Global, tokens: &[Text], token: &Text) -> Result<List<Text>, AllocError>
-    ensures { IfOk result (λ rest. rest ≡ without_token tokens.now token.now) }
-{
-    let mut rest = List::new(alloc);
-    for other in tokens {
-        if !is_same_text(token.as_str(), other.as_str()) {
-            rest.push(other.copy()?)?;
-        }
-    }
-    Ok(rest)
 }
 
 // The session holds the token of the lock that it made.
@@ -373,7 +337,7 @@ fn locked(alloc: Global, call: Call) -> Result<State, AllocError>
     }) }
 {
     let token = next_id(alloc, &call.who)?;
-    with_token(call.state, token)
+    holding(alloc, call.state, &token)
 }
 
 // The cursor stands at the base.

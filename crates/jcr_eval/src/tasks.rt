@@ -16,10 +16,10 @@ use crate::came::{
     has_out, has_pin, has_recovery, has_released, has_split, has_stop, has_sweep,
 };
 use crate::events::events_says;
-use crate::ids::next_id;
 use crate::queries::query_says;
 use crate::shown::{is_done, is_refusal, is_text, is_vector};
 use crate::turn::before_turn;
+use jcr_call::next_id;
 use jcr_law::JcrLaw;
 use jcr_ref::MAX_IDS;
 use jcr_trans::Command;

@@ -7,8 +7,9 @@ ghost use Rattle.jcr_view.specs.Outcomes.{eval, is_viewed};
 ghost use Rattle.jcr_eval.specs.Causes.{ViewCause};
 
 use crate::call::{Call, call_of};
+use jcr_call::cause_text;
 use jcr_law::JcrLaw;
-use jcr_trans::{Command, refusal_text};
+use jcr_trans::Command;
 use jcr_view::evaluate;
 use jr_types::Registry;
 use oak_machine::Journal;
@@ -76,11 +77,6 @@ fn view_reply(
     );
     match answer {
         Ok(reply) => Ok(reply),
-        Err(refusal) => {
-            if refusal.number == 16 {
-                return Err(AllocError);
-            }
-            refusal_text(alloc, &refusal)
-        }
+        Err(refusal) => cause_text(alloc, &refusal),
     }
 }

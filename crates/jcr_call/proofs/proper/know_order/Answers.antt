@@ -1,7 +1,7 @@
 use Rattle.std.proofs.Common.{sym, ap, ◌∙◌}
 use Rattle.jr_path.specs.Names.{name_cmp}
 use Rattle.jr_tree.proofs.Entries.{tested}
-use Rattle.jr_tree.specs.Trees.{Nodes, has_names_in_order}
+use Rattle.jr_tree.specs.Trees.{has_names_in_order}
 use Rattle.std.specs.Prelude.{◌&&◌}
 use Rattle.jcr_call.proofs.proper.know_order.Goals as goal
 

@@ -1,4 +1,4 @@
-use Rattle.std.proofs.Common.{◌≡◌, true}
+use Rattle.std.proofs.Common.{◌≡◌}
 use Rattle.jr_tree.specs.Trees.{has_names_in_order}
 use Rattle.jcr_call.proofs.proper.know_order.Given as goal
 

@@ -1,5 +1,5 @@
 use Rattle.std.proofs.Common.{◌≡◌, ◌++◌}
-use Rattle.jcr_eval.proofs.queries.pairs_of.Given as goal
+use Rattle.jcr_call.proofs.queries.pairs_of.Given as goal
 
 -- what is left completes the list so far
 abbrev pub invariant-loop-name : goal.invariant-loop-name

@@ -1,6 +1,6 @@
 use Rattle.std.proofs.Common.{◌≡◌, take}
 use Rattle.jcr_law.specs.State.{without_token}
-use Rattle.jcr_eval.proofs.state.others.Given as goal
+use Rattle.jcr_call.proofs.tokens.without_token.Given as goal
 
 -- the others so far
 abbrev pub invariant-loop-other : goal.invariant-loop-other
