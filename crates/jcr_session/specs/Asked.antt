@@ -1,7 +1,9 @@
 -- What a session finds before it answers its next command.
 use Rattle.std.specs.Prelude.{◌≡◌, ◌≢◌, ◌≤◌, ℕ, Bool, true, false, List, [], length, slice_get}
-use Rattle.std.specs.Prelude.{Option, None, Some, is_some, IsTrue, IsFalse, string_bytes, Ok}
+use Rattle.std.specs.Prelude.{Option, None, Some, is_some, IsTrue, IsFalse, string_bytes, Result, Ok}
 use Rattle.std.specs.Option.{option_map_or}
+use Rattle.std.specs.declared.alloc.AllocError.{AllocError}
+use Rattle.std.specs.declared.alloc.Global.{Global}
 use Rattle.std.specs.declared.string.String.{String}
 use Rattle.jr_path.specs.declared.name.Name.{Name}
 use Rattle.jr_path.specs.declared.path.Item.{Item}
@@ -14,10 +16,9 @@ use Rattle.oak_machine.specs.Sessions.{drawn_since, is_drawing, next_index}
 use Rattle.oak_port.specs.Ports.{HasRoom, Idle, Shown}
 use Rattle.jcr_plan.specs.declared.plans.Plan.{Plan}
 use Rattle.jcr_plan.specs.Plans.{PlanOk}
-use Rattle.jcr_trans.specs.Texts.{answer_text}
 use Rattle.jcr_trans.specs.declared.command.Command.{Command}
 use Rattle.jcr_trans.specs.declared.command.Command.TheVariants as command
-use Rattle.jcr_view.specs.Outcomes.{eval, is_viewed}
+use Rattle.jcr_view.specs.Outcomes.{is_viewed}
 use Rattle.jcr_law.specs.declared.law.JcrLaw.{JcrLaw}
 use Rattle.jcr_law.specs.Commits.{edit_due}
 use Rattle.jcr_law.specs.Law.{SaysBy, no_support}
@@ -30,6 +31,7 @@ use Rattle.jcr_call.specs.declared.coming.Coming.{Coming}
 use Rattle.jcr_held.specs.Accepts.{TokensFit}
 use Rattle.jcr_held.specs.Comes.{ComesTo}
 use Rattle.jcr_held.specs.Holds.{Holds}
+use Rattle.jcr_held.specs.Sees.{Sees}
 use Rattle.jcr_session.specs.declared.limits.TheConstants.{COMMIT_REPLY_BYTES, MOST_COMMANDS}
 use Rattle.jcr_session.specs.declared.next.Due.TheVariants as due
 use Rattle.jcr_session.specs.declared.run.Phase.TheVariants as phase
@@ -104,24 +106,20 @@ pub record Settles (old new : SessionRun) (ok drew : Bool) (tokens : Option (Lis
 -- ---- replies before a commit
 
 -- the reply to a command that isn't built, or that the session may not run
-abbrev pub IsBarred : SessionRun → String → Type 0
+abbrev pub IsBarred : SessionRun → String Global → Type 0
 IsBarred run text = (m : Command) → slice_get run.commands run.index ≡ Some m
     → string_bytes text ≡ no_support m
 
 -- the reply to a query
-abbrev pub IsQueried : SessionRun → String → Type 0
+abbrev pub IsQueried : SessionRun → String Global → Type 0
 IsQueried run text = (q : Text) (vars : List (Name × Value)) (c : Call) → Holds c run.held
     → slice_get run.commands run.index ≡ Some (command.Query q vars)
     → QueryAnswers c q vars (string_bytes text)
 
--- the reply by the view to a command that is run with c
-pub record IsSeenAs (c : Call) (m : Command) (new : SessionRun) (text : Text) : Type 0 where
-  pub text_is : text ≡ answer_text (eval c.types c.who c.base c.state.view m).answer
-  pub leaves : Holds (call_after (is_ok_text text) false c m) new.held
-
-abbrev pub HasSeen : SessionRun → SessionRun → String → Type 0
-HasSeen old new text = (m : Command) (c : Call) → slice_get old.commands old.index ≡ Some m
-    → Holds c old.held → IsSeenAs c m new (string_bytes text)
+-- the reply by the view, or that memory was refused for it
+abbrev pub HasSeen : SessionRun → SessionRun → Result (String Global) AllocError → Type 0
+HasSeen old new result = (m : Command) (c : Call) → slice_get old.commands old.index ≡ Some m
+    → Holds c old.held → Sees c m new.held result
 
 -- ---- a commit
 

@@ -14,9 +14,9 @@ ghost use Rattle.jcr_session.specs.declared.run.Phase.TheVariants as phase;
 use crate::run::{Phase, SessionRun};
 use crate::say::MEMORY_REPLY;
 use crate::turn::Turn;
-use jcr_call::Accepted;
+use jcr_call::{Accepted, cause_text};
 use jcr_law::JcrLaw;
-use jcr_trans::{refusal_text, revision_reply};
+use jcr_trans::revision_reply;
 use jr_items::clash;
 use jr_path::Item;
 use jr_rev::Revision;
@@ -112,7 +112,7 @@ impl SessionRun {
         ensures granted { IsGranted result }
     {
         self.refuse(true);
-        match clash_reply(self.alloc, item, other) {
+        match clash_reply(self.alloc, &item, other) {
             Ok(text) => self.say_or_memory(port, text.as_str()),
             Err(AllocError) => self.say_kept(port, MEMORY_REPLY),
         }
@@ -120,8 +120,8 @@ impl SessionRun {
 }
 
 // The reply of a commit that was refused for a clash.
-fn clash_reply(alloc: Global, item: Item, other: Revision) -> Result<String, AllocError>
-    ensures { IfOk result (λ text. string_bytes text ≡ no_text (clash item other)) }
+fn clash_reply(alloc: Global, item: &Item, other: Revision) -> Result<String, AllocError>
+    ensures { IfOk result (λ text. string_bytes text ≡ no_text (clash item.now other)) }
 {
-    refusal_text(alloc, &clash(alloc, item, other)?)
+    cause_text(alloc, &clash(alloc, item, other))
 }

@@ -1,9 +1,8 @@
 // What a session answers.
 ghost use Rattle.std.specs.Prelude.{◌≡◌, IfOk, IsSome, None, OnErr, false, length, slice_get, string_bytes, true};
 ghost use Rattle.oak_port.specs.Ports.{HasRoom};
-ghost use Rattle.jcr_law.specs.State.{Call, is_ok_text};
+ghost use Rattle.jcr_law.specs.State.{is_ok_text};
 ghost use Rattle.jcr_trans.specs.Texts.{memory_text};
-ghost use Rattle.jcr_held.specs.Holds.{Holds};
 ghost use Rattle.jcr_session.specs.Asked.{HasSeen, IsBarred, IsQueried, IsUnviewedNext, MayAnswer, MayForgo, MaySettle, Settles};
 ghost use Rattle.jcr_session.specs.Standing.{HasTurned, IsGranted, IsPrepared, Stands, due_for};
 ghost use Rattle.jcr_session.specs.declared.limits.TheConstants.{COMMIT_REPLY_BYTES};
@@ -12,8 +11,9 @@ ghost use Rattle.jcr_session.specs.declared.run.Phase.TheVariants as phase;
 
 use crate::run::{Phase, SessionRun};
 use crate::turn::Turn;
+use jcr_call::cause_text;
 use jcr_law::JcrLaw;
-use jcr_trans::{Command, refusal_text};
+use jcr_trans::Command;
 use jr_items::unsupported;
 use jr_path::{List, Text};
 use oak_port::Port;
@@ -43,8 +43,8 @@ impl SessionRun {
     {
         match self.commands.as_slice().get(self.index as usize) {
             Some(command) => {
-                let refusal = unsupported(self.alloc, command.word())?;
-                refusal_text(self.alloc, &refusal)
+                let refusal = unsupported(self.alloc, command.word());
+                cause_text(self.alloc, &refusal)
             }
             None => unreachable!(),
         }
@@ -97,8 +97,7 @@ impl SessionRun {
         requires next { due_for self.old ≡ due.See }
         requires ready { IsPrepared self.old }
         ensures same { self.new ≡ record self.old { held = self.new.held } }
-        ensures text { IfOk result (HasSeen self.old self.new) }
-        ensures err { (c : Call) → Holds c self.old.held → OnErr result (Holds c self.new.held) }
+        ensures sees { HasSeen self.old self.new result }
     {
         let SessionRun {
             commands,
