@@ -1,5 +1,5 @@
 -- What is held after a command was answered.
-use Rattle.std.proofs.Common.{◌≡◌, ◌+◌, ℕ, Bool, true, false, cond, List, [], Option, refl, sym, ap, ◌∙◌, subst}
+use Rattle.std.proofs.Common.{◌≡◌, ◌+◌, ℕ, Bool, true, false, cond, List, [], refl, sym, ap, ◌∙◌, subst}
 use Rattle.std.specs.Prelude.{IfOk, OnErr, OnOk, Result, Ok, Err, min}
 use Rattle.std.specs.List.{All}
 use Rattle.std.specs.String.{string_bytes}
@@ -94,8 +94,8 @@ refused_leaves : (x : Held) (m : Command) (r : Refusal) → (outcome_of x m).ans
     → with_outcome x (outcome_of x m) ≡ x
 refused_leaves x m r h =
     let none = refused_makes_none (is_writing m) x.who.ids
-        (written x.types x.who (known_view x.part x.pending) m (making [] x.who.ids))
-        (shown x.types (known_view x.part x.pending) x.part.nodes m) r h in
+    (written x.types x.who (known_view x.part x.pending) m (making [] x.who.ids))
+    (shown x.types (known_view x.part x.pending) x.part.nodes m) r h in
     leaves x (outcome_of x m) none.0 none.1
 
 -- a refusal that is told leaves all as it was
@@ -109,8 +109,8 @@ unaccepted_leaves : (x : Held) (m : Command) → is_ok_text (answer_text (outcom
     → with_outcome x (outcome_of x m) ≡ x
 unaccepted_leaves x m h =
     let none = unaccepted_makes_none (is_writing m) x.who.ids
-        (written x.types x.who (known_view x.part x.pending) m (making [] x.who.ids))
-        (shown x.types (known_view x.part x.pending) x.part.nodes m) h in
+    (written x.types x.who (known_view x.part x.pending) m (making [] x.who.ids))
+    (shown x.types (known_view x.part x.pending) x.part.nodes m) h in
     leaves x (outcome_of x m) none.0 none.1
 
 -- the command takes or drops a lock token
@@ -137,15 +137,15 @@ accepted_viewed c command.Events h other = absurd (false≢true h)
 accepted_viewed c m h other = ap (λ b. cond b (viewed (eval c.types c.who c.base c.state.view m) c.state) c.state) h
 
 module _ (enough : (types : List TypeDef) (who : Who) (t : Nodes) (k : Knowledge) (p : Changed) (m : Command)
-        → IsPartOf t k p → All (LacksNothing k) (needs_of who k p m)
-        → outcome types who (known_view k p) k.nodes m ≡ outcome types who (whole_view (view_of t p)) t m)
+    → IsPartOf t k p → All (LacksNothing k) (needs_of who k p m)
+    → outcome types who (known_view k p) k.nodes m ≡ outcome types who (whole_view (view_of t p)) t m)
     (over : (types : List TypeDef) (who : Who) (t : Nodes) (k : Knowledge) (p : Changed) (m : Command)
-        → IsPartOf t k p → All (LacksNothing k) (needs_of who k p m)
-        → AreOver t (with_steps k.nodes p (outcome types who (known_view k p) k.nodes m).steps))
+    → IsPartOf t k p → All (LacksNothing k) (needs_of who k p m)
+    → AreOver t (with_steps k.nodes p (outcome types who (known_view k p) k.nodes m).steps))
     (view : (types : List TypeDef) (who : Who) (t : Nodes) (k : Knowledge) (p : Changed) (m : Command)
-        → IsPartOf t k p → All (LacksNothing k) (needs_of who k p m)
-        → view_of t (with_steps k.nodes p (outcome types who (known_view k p) k.nodes m).steps)
-        ≡ (eval types who t (view_of t p) m).view)
+    → IsPartOf t k p → All (LacksNothing k) (needs_of who k p m)
+    → view_of t (with_steps k.nodes p (outcome types who (known_view k p) k.nodes m).steps)
+    ≡ (eval types who t (view_of t p) m).view)
     (c : Call) (x : Held) (m : Command) (holds : Holds c x) (settled : x.is_kept ≡ false)
     (known : All (LacksNothing x.part) (needs_of x.who x.part x.pending m)) where
   abbrev o : Outcome
@@ -172,12 +172,15 @@ module _ (enough : (types : List TypeDef) (who : Who) (t : Nodes) (k : Knowledge
       ∙ ap (λ (v : Nodes). eval c.types c.who c.base v m) seen.1
 
   view_after : HoldsView (with_state c (viewed e c.state)) x.part (with_steps x.part.nodes x.pending o.steps) false
-  view_after = (record {
-    tree = seen.0.tree;
-    order = seen.0.order;
-    agrees = seen.0.agrees;
-    over = over x.types x.who c.base x.part x.pending m seen.0 known;
-  }, view x.types x.who c.base x.part x.pending m seen.0 known ∙ ap (λ (d : Evaluated). d.view) evaluated_same)
+  view_after = (
+    record {
+      tree = seen.0.tree;
+      order = seen.0.order;
+      agrees = seen.0.agrees;
+      over = over x.types x.who c.base x.part x.pending m seen.0 known;
+    },
+    view x.types x.who c.base x.part x.pending m seen.0 known ∙ ap (λ (d : Evaluated). d.view) evaluated_same,
+  )
 
   counts : Holds (with_state c (viewed e c.state)) (with_outcome x o)
   counts = record {

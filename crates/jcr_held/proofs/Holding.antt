@@ -116,9 +116,10 @@ module _ (over : (t : Nodes) (k : Knowledge) (ws : List Write) → IsPartOf t k 
       → HoldsView c k p b → HoldsView c k (rebased k (edit_of p)) false
   view_again c k p b kept known h =
       let v : HoldsView c k p true = subst (λ (b : Bool). HoldsView c k p b) kept h in
-      let part : IsPartOf c.base k [] = v.0 in
-      (record { tree = part.tree; order = part.order; agrees = part.agrees; over = over c.base k (edit_of p) part known },
-      view c.base k (edit_of p) part known ∙ v.1)
+      let part : IsPartOf c.base k [] = v.0 in (
+        record { tree = part.tree; order = part.order; agrees = part.agrees; over = over c.base k (edit_of p) part known },
+        view c.base k (edit_of p) part known ∙ v.1,
+      )
 
   pub holds_again : (c : Call) (x : Held) → x.is_kept ≡ true → All (LacksNothing x.part) (needs_to_rebase (edit_of x.pending))
       → Holds c x → Holds c (record x { pending = rebased x.part (edit_of x.pending); is_kept = false })

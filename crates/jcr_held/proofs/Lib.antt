@@ -1,3 +1,4 @@
 mod Answering
+mod Dues
 mod Holding
 mod PendingEdits

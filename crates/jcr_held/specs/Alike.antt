@@ -2,7 +2,6 @@
 use Rattle.std.specs.Prelude.{◌≡◌, ℕ, ◌+◌, min, true}
 use Rattle.jr_rev.specs.declared.vector.RevVec.{RevVec}
 use Rattle.jr_part.specs.Parts.{nothing_known}
-use Rattle.jr_tree.specs.declared.shared.Who.{Who}
 use Rattle.jcr_held.specs.declared.held.Held.{Held}
 
 -- both hold the same; only what loading still has to look at may differ

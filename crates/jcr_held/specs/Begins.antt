@@ -1,5 +1,5 @@
 -- What a session holds when it begins.
-use Rattle.std.specs.Prelude.{◌≡◌, Bool, false, List, []}
+use Rattle.std.specs.Prelude.{◌≡◌, false, []}
 use Rattle.jr_rev.specs.declared.vector.RevVec.{RevVec}
 use Rattle.jr_tree.specs.Trees.{IsTree}
 use Rattle.jr_part.specs.Parts.{nothing_known}

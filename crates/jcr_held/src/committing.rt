@@ -3,6 +3,8 @@ ghost use Rattle.std.specs.Prelude.{◌≡◌, IfOk, IsFalse, IsTrue, is_some, o
 ghost use Rattle.std.specs.String.{string_bytes};
 ghost use Rattle.jr_part.specs.Parts.{LacksNothing};
 ghost use Rattle.jr_part.specs.declared.need.Need.TheVariants as need;
+ghost use Rattle.jr_overlay.specs.Overlays.{edit_of};
+ghost use Rattle.jcr_trans.specs.declared.command.Command.TheVariants.{Query};
 ghost use Rattle.jcr_call.specs.Dues.{due_of};
 ghost use Rattle.jcr_call.specs.Footings.{IsOn};
 ghost use Rattle.jcr_law.specs.Commits.{edit_due};
@@ -72,7 +74,7 @@ impl Held {
 
     /// The reply of a query by the tree at the base, all of which is read (JSR 283, 6 Query).
     pub fn query(&self, text: &Text, vars: &Keyed<Name, Value>) -> Result<String, AllocError>
-        requires { IsReady self.now (command.Query text.now vars.now) }
+        requires { IsReady self.now (Query text.now vars.now) }
         ensures { (c : Call) → Holds c self.now → IfOk result (λ reply.
             QueryAnswers c text.now vars.now (string_bytes reply)) }
     {

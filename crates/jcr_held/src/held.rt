@@ -44,13 +44,7 @@ pub struct Held {
 impl Held {
     /// What a session holds when it begins, with its number, how many sessions there were before this run, and its base.
     /// It takes no memory.
-    pub fn new(
-        alloc: Global,
-        session: u32,
-        earlier: u32,
-        base: RevVec,
-        types: Registry,
-    ) -> Held
+    pub fn new(alloc: Global, session: u32, earlier: u32, base: RevVec, types: Registry) -> Held
         ensures new { IsNewHeld result }
         ensures types { result.types ≡ types }
         ensures who { result.who ≡ record {

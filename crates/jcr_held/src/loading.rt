@@ -149,11 +149,7 @@ fn first_lacking(part: &Part, needs: &[Need]) -> Result<Option<Need>, AllocError
 
 // The next load of the needs that are left, of which it looks at the last first; None where none is left. A subtree is
 // left until its node and its children are known, and then the subtrees of these are: each known node is looked at once.
-fn load_left(
-    alloc: Global,
-    part: &Part,
-    left: &mut Vec<Need>,
-) -> Result<Option<Need>, AllocError>
+fn load_left(alloc: Global, part: &Part, left: &mut Vec<Need>) -> Result<Option<Need>, AllocError>
     ensures { IfOk result (λ load. IfSome load (λ n. IsTrue (is_of_one_node n))) }
 {
     for _ in 0..u64::MAX {
@@ -204,11 +200,7 @@ fn lacking_children(part: &Part, path: Path) -> Option<Need>
 }
 
 // The node at a path lacks, or its children, or none of both: then what is below is left to be looked at.
-fn look_below(
-    part: &Part,
-    left: &mut Vec<Need>,
-    path: Path,
-) -> Result<Option<Need>, AllocError>
+fn look_below(part: &Part, left: &mut Vec<Need>, path: Path) -> Result<Option<Need>, AllocError>
     ensures { IfOk result (λ load. IfSome load (λ n. IsTrue (is_of_one_node n))) }
 {
     match part.node(&path) {
