@@ -2,3 +2,4 @@ mod Answering
 mod Dues
 mod Holding
 mod PendingEdits
+mod Unwritten

@@ -4,8 +4,10 @@
 
 mod committing;
 mod held;
+mod laws;
 mod loading;
 mod seeing;
 
 pub use committing::commits;
 pub use held::Held;
+pub use laws::replies_without_commit_keep_tokens;
