@@ -22,7 +22,7 @@ use Rattle.oak_port.specs.declared.task.TaskEnd.TheVariants as end
 use Rattle.jcr_law.specs.declared.law.JcrLaw.{JcrLaw}
 use Rattle.jcr_law.specs.Lasting.{says_of, starts_of}
 use Rattle.jcr_law.specs.State.{Call, call_of}
-use Rattle.core_calls.proofs.Called.{call_based, call_has_base}
+use Rattle.jcr_law.specs.Starting.{call_based, call_has_base}
 use Rattle.jcr_session.specs.Standing.{IsBeside, IsCalled}
 use Rattle.jcr_session.proofs.Others.{append_assoc, others_both}
 use Rattle.jcr_session.proofs.Waiting.{called_beside}

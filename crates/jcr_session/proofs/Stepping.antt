@@ -1,5 +1,5 @@
 -- Each step of a commit leaves its session where the history says.
-use Rattle.std.proofs.Common.{◌≡◌, inl, inr, ℕ, true, false, cond, Some, Option, List, [], ◌∷◌, ◌++◌, refl, sym, ap, ◌∙◌, subst, arith}
+use Rattle.std.proofs.Common.{◌≡◌, inl, inr, ℕ, true, false, cond, None, Some, Option, List, [], ◌∷◌, ◌++◌, refl, sym, ap, ◌∙◌, subst, arith}
 use Rattle.std.specs.Prelude.{◌==◌, IfSome, reverse, string_bytes, length}
 use mathlib.Core.Bool.{false≢true}
 use Rattle.jr_rev.specs.declared.revision.Revision.{Revision}
@@ -30,7 +30,7 @@ use Rattle.jcr_law.specs.State.{Call, call_of}
 use Rattle.jcr_call.specs.Calls.{call_moved}
 use Rattle.jcr_call.specs.declared.coming.Accepted.{Accepted}
 use Rattle.core_calls.specs.Seeing.{SeesTrees}
-use Rattle.core_calls.proofs.Called.{call_based, call_has_base, call_stays, refresh_call}
+use Rattle.core_calls.proofs.Called.{call_stays, refresh_call}
 use Rattle.jcr_session.specs.declared.limits.TheConstants.{COMMIT_REPLY_BYTES}
 use Rattle.jcr_session.specs.declared.run.Phase.{Phase}
 use Rattle.jcr_session.specs.declared.run.Phase.TheVariants as phase

@@ -153,5 +153,6 @@ pub record HasClashed (law : JcrLaw) (p : Shown) (run : SessionRun) (item : Item
   pub asked : IsAsked law p run command call
   pub revision : Revision
   pub clash : IsClash p.history.past p.session revision (commit.Clash item o)
+  pub commits : due_for run ≡ due.Commit
   pub holds : Holds call run.held
   pub room : HasRoom p.room COMMIT_REPLY_BYTES

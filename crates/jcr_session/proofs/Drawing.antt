@@ -1,0 +1,267 @@
+-- A session begins to commit.
+use Rattle.std.proofs.Common.{◌≡◌, inl, ℕ, Bool, true, false, cond, Some, None, Option, List, [], ◌∷◌, ◌++◌, is_some, Ok, Result, ◌<◌, ◌≤◌, length, arith, refl, sym, ap, ◌∙◌, subst}
+use Rattle.std.specs.Prelude.{reverse, slice_get}
+use Rattle.std.specs.Option.{option_map_or}
+use mathlib.Core.Bool.{false≢true}
+use Rattle.jr_rev.specs.declared.revision.Revision.{Revision}
+use Rattle.jr_rev.proofs.Order.{same_revision}
+use Rattle.jr_tree.specs.declared.edit.Write.{Write}
+use Rattle.jr_tree.specs.declared.shared.Refusal.{Refusal}
+use Rattle.oak_machine.specs.declared.event.Event.TheVariants as event
+use Rattle.oak_machine.specs.declared.event.StepKind.{StepKind}
+use Rattle.oak_machine.specs.declared.event.StepKind.TheVariants as kind
+use Rattle.oak_machine.specs.History.{History, Past}
+use Rattle.oak_machine.specs.Commits.{is_committed}
+use Rattle.oak_machine.specs.Laws.{after}
+use Rattle.oak_machine.specs.Runs.{AreNodes, IsRun}
+use Rattle.oak_machine.specs.Sessions.{base_of, drawn_since, has_left, has_login, is_attached, next_index}
+use Rattle.oak_machine.specs.Steps.{is_appended_by}
+use Rattle.oak_machine.proofs.Induction.{committed_is_drawn}
+use Rattle.oak_port.specs.Ports.{AreOfStep, Idle, Makes, MayBegin, OthersAlone, Shown, Starting, Steps, Work, Writing}
+use Rattle.oak_port.specs.declared.task.StepOut.TheVariants as out
+use Rattle.oak_port.specs.declared.task.Task.TheVariants as task
+use Rattle.core_heads.proofs.Runs.{fresh_run}
+use Rattle.jcr_plan.specs.declared.plans.Plan.{Plan}
+use Rattle.jcr_trans.specs.declared.command.Command.{Command}
+use Rattle.jcr_law.specs.declared.law.JcrLaw.{JcrLaw}
+use Rattle.jcr_law.specs.Lasting.{says_of, starts_of}
+use Rattle.jcr_law.specs.Law.{MayStart}
+use Rattle.jcr_law.specs.Since.{before_turn}
+use Rattle.jcr_law.specs.Commits.{edit_due}
+use Rattle.jcr_law.specs.State.{Call, call_of, command_at}
+use Rattle.jcr_call.specs.declared.coming.Accepted.{Accepted}
+use Rattle.jcr_call.specs.declared.coming.Coming.TheVariants as coming
+use Rattle.core_calls.specs.Seeing.{SeesTrees}
+use Rattle.core_calls.proofs.Called.{call_stays}
+use Rattle.jcr_session.specs.declared.next.Due.TheVariants as due
+use Rattle.jcr_session.specs.declared.run.Phase.{Phase}
+use Rattle.jcr_session.specs.declared.run.Phase.TheVariants as phase
+use Rattle.jcr_session.specs.declared.run.SessionRun.{SessionRun}
+use Rattle.jcr_session.specs.declared.turn.Turn.{Turn}
+use Rattle.jcr_session.specs.declared.turn.Turn.TheVariants as turn
+use Rattle.jcr_session.specs.Asked.{ComesNext, IsAsked, MayDrawFor, MayForgo}
+use Rattle.jcr_session.specs.Standing.{HasTurned, IsBeside, IsCalled, IsCommitting, IsFresh, IsIn, IsPlace, IsPrepared, IsTurned, Stands, StandsAt, due_for, due_to, is_allowed, is_writing}
+use Rattle.jcr_session.proofs.Committing.{committing_drawn}
+use Rattle.jcr_session.proofs.Lawful.{asked_allowed, at_between, between_asked}
+use Rattle.jcr_session.proofs.Nexts.{allowed_due, due_at, next_due}
+use Rattle.jcr_session.proofs.Saying.{asked_like, asked_waits, drawn_waits, forgo_waits, get_within}
+use Rattle.jcr_session.proofs.Turning.{free, is_awaiting, not_ended, plain_step, turned_later}
+use Rattle.jcr_session.proofs.Waiting.{all_beside, by_waits, called_beside, in_beside, next_beside, shown_beside}
+
+-- a command for which a commit is due may be run
+pub commit_allowed : (run : SessionRun) (m : Command) → slice_get run.commands run.index ≡ Some m → due_for run ≡ due.Commit → is_allowed m ≡ true
+commit_allowed run m next commits = (allowed_due m due.Commit (sym (due_at run m next) ∙ commits) refl).0
+
+-- ---- what a plan lets begin
+
+module _ (law : JcrLaw) (p : Shown) (run : SessionRun) (stands : Stands law p run) (between : run.phase ≡ phase.Between) (ready : IsPrepared run) (commits : due_for run ≡ due.Commit) (plan : Plan) (accepted : Accepted) (comes : ComesNext run (coming.Planned plan accepted)) where
+  abbrev m : (m : Command) × (slice_get run.commands run.index ≡ Some m) × (due_to m ≡ due.Commit)
+  m = next_due run due.Commit commits refl
+
+  abbrev c : Call
+  c = (at_between law p run stands between).1.call
+
+  abbrev planned_run : SessionRun
+  planned_run = record run { phase = phase.Committing accepted }
+
+  asked_planned : IsAsked law p planned_run m.0 c
+  asked_planned = asked_like law m.0 c p run planned_run refl refl refl refl (between_asked law p run stands between m.0 m.1 ready.done)
+
+  pub planned_forgoes : MayForgo law p planned_run false
+  planned_forgoes = let here = (at_between law p run stands between).1 in record {
+    command = m.0;
+    call = c;
+    asked = asked_planned;
+    drew_is = ap is_some here.fresh.first;
+    uncommitted = ap (λ (o : Option Revision). option_map_or (is_committed p.history.past) o false) here.fresh.first;
+    holds = here.holds;
+  }
+
+  -- once its place is kept
+  pub planned_draws : (mid : Shown) → IsBeside law p mid → mid.work ≡ Idle → IsPlace mid.room accepted → MayDrawFor law mid planned_run plan
+  planned_draws mid beside idle place =
+      let here = (at_between law p run stands between).1 in
+      let x = comes m.0 c m.1 here.holds in record {
+        command = m.0;
+        call = c;
+        asked = asked_waits law m.0 c p mid planned_run asked_planned beside idle;
+        first = drawn_waits law m.0 c p mid planned_run asked_planned beside ∙ here.fresh.first;
+        commits = commits;
+        holds = here.holds;
+        settled = (ready.ready m.0 m.1).settled;
+        accepted = accepted;
+        phase_is = refl;
+        accepts = x.comes.3;
+        place = place;
+        due = x.is_due ∙ ap (λ (d : Result (List Write) Refusal). Some d) x.comes.0;
+        some = x.comes.1;
+        ok = x.comes.2;
+      }
+
+-- ---- its begin
+
+module _ (law : JcrLaw) (mid : Shown) (run : SessionRun) (plan : Plan) (may : MayDrawFor law mid run plan) where
+  starts_mid : MayStart law mid.history mid.session plan.edit plan.marks
+  starts_mid = record {
+    command = may.command;
+    call = may.call;
+    next = record {
+      next = ap (command_at law mid.session) (ap (next_index mid.history.past) may.asked.session ∙ sym may.asked.index)
+          ∙ (ap (λ (s : ℕ). command_at law s run.index) may.asked.session ∙ (may.asked.commands run.index ∙ may.asked.next));
+      call = may.asked.call;
+    };
+    allowed = asked_allowed mid.history mid.session may.command may.asked.inside.unattached (commit_allowed run may.command may.asked.next may.commits);
+    first = may.first;
+    due = may.due;
+    some = may.some;
+    plan = may.ok;
+  }
+
+  pub draw_begins : MayBegin (starts_of law) mid.history mid.session (task.Commit plan.edit plan.marks)
+  draw_begins = (may.asked.inside.login, may.asked.inside.stays, may.asked.inside.detached, starts_mid)
+
+  pub draw_forgoes : MayForgo law mid run false
+  draw_forgoes = record {
+    command = may.command;
+    call = may.call;
+    asked = may.asked;
+    drew_is = ap is_some may.first;
+    uncommitted = ap (λ (o : Option Revision). option_map_or (is_committed mid.history.past) o false) may.first;
+    holds = may.holds;
+  }
+
+  module _ (begun new : Shown) (begins : OthersAlone (starts_of law) (says_of law) mid begun (Starting (task.Commit plan.edit plan.marks)) mid.room) (k : StepKind) (steps : Steps (starts_of law) (says_of law) begun new (out.Went k)) where
+    abbrev s : ℕ
+    s = begun.session
+
+    abbrev behind : Past
+    behind = steps.others ++ begun.history.past
+
+    abbrev moment : History
+    moment = after steps.others begun.history
+
+    made : Makes moment s (Starting (task.Commit plan.edit plan.marks)) (out.Went k) steps.own new.work
+    made = subst (λ (w : Work). Makes moment s w (out.Went k) steps.own new.work) begins.work_is steps.makes
+
+    abbrev drawn : History
+    drawn = record begun.history { past = event.Draw made.0 ∷ behind }
+
+    grown : new.history ≡ drawn
+    grown = steps.grows.grown ∙ ap (λ (own : Past). after own moment) made.3
+
+    run_drawn : IsRun (starts_of law) (says_of law) drawn
+    run_drawn = subst (λ (h : History). IsRun (starts_of law) (says_of law) h) grown steps.grows.run
+
+    abbrev first_beside : IsBeside law mid begun
+    first_beside = by_waits law mid begun (Starting (task.Commit plan.edit plan.marks)) mid.room begins
+
+    in_begun : IsIn law begun
+    in_begun = in_beside law mid begun first_beside may.asked.inside.nodes may.asked.inside
+
+    abbrev waiting : Shown
+    waiting = record begun { history = moment }
+
+    waited : IsBeside law begun waiting
+    waited = record { others = steps.others; grows = record { grown = refl; theirs = steps.grows.theirs; run = run_drawn.1 }; session = refl; beside = refl; alone = steps.alone }
+
+    in_behind : IsIn law waiting
+    in_behind = in_beside law begun waiting waited in_begun.nodes in_begun
+
+    fresh_mid : IsFresh mid.history.past mid.session
+    fresh_mid = record { first = may.first; idle = may.asked.still }
+
+    fresh_behind : IsFresh behind s
+    fresh_behind = Rattle.jcr_session.proofs.Waiting.fresh_beside law begun waiting waited in_begun.nodes
+        (Rattle.jcr_session.proofs.Waiting.fresh_beside law mid begun first_beside may.asked.inside.nodes fresh_mid)
+
+    called_behind : call_of law begun.history.begin behind s ≡ Some may.call
+    called_behind = called_beside law begun waiting waited in_begun.nodes may.call (called_beside law mid begun first_beside may.asked.inside.nodes may.call may.asked.call)
+
+    unmade : is_committed behind made.0.revision ≡ false
+    unmade = by (is_committed behind made.0.revision) refl
+      where
+        by : (b : Bool) → is_committed behind made.0.revision ≡ b → b ≡ false
+        by true h = absurd (false≢true (sym (ap is_some (fresh_run begun.history.clusters begun.history.sessions in_begun.nodes begun.history.begin (starts_of law) (says_of law) made.0 behind run_drawn).fresh)
+            ∙ committed_is_drawn (starts_of law) (says_of law) begun.history.clusters begun.history.sessions begun.history.begin (λ q r same. sym (same_revision r q same)) behind made.0.revision run_drawn.1 h))
+        by false h = refl
+
+    moved : (F : History → ℕ → Type 0) → F drawn s → F new.history new.session
+    moved F x = subst (λ (h : History). F h new.session) (sym grown) (subst (λ (n : ℕ). F drawn n) (sym steps.session) x)
+
+    in_new : IsIn law new
+    in_new = record {
+      nodes = moved (λ h n. AreNodes h.clusters h.sessions) in_behind.nodes;
+      trees = moved (λ h n. SeesTrees law h.clusters h.sessions h.begin) in_behind.trees;
+      run = steps.grows.run;
+      login = moved (λ h n. has_login h.past n ≡ true) in_behind.login;
+      stays = moved (λ h n. has_left h.past n ≡ false) in_behind.stays;
+      detached = moved (λ h n. is_attached h.past n ≡ false) in_behind.detached;
+      unattached = moved (λ h n. is_attached (before_turn h.past n) n ≡ false) in_behind.unattached;
+    }
+
+    session_new : new.session ≡ run.session
+    session_new = steps.session ∙ (begins.session ∙ may.asked.session)
+
+    index_new : run.index ≡ next_index new.history.past run.session
+    index_new =
+        may.asked.index ∙ (ap (next_index mid.history.past) (sym may.asked.session) ∙ (sym (next_beside law mid begun first_beside)
+        ∙ (sym (next_beside law begun waiting waited)
+        ∙ (sym (moved (λ h n. next_index h.past n ≡ next_index behind s) refl) ∙ ap (next_index new.history.past) session_new))))
+
+    called_new : IsCalled law new may.call
+    called_new = moved (λ h n. call_of law h.begin h.past n ≡ Some may.call)
+        (call_stays law begun.history.begin (starts_of law) (says_of law) begun.history.clusters begun.history.sessions in_begun.nodes (event.Draw made.0 ∷ []) behind s run_drawn refl ∙ called_behind)
+
+    stands_new : Stands law new run
+    stands_new = record {
+      nodes = in_new.nodes;
+      trees = in_new.trees;
+      run_is = steps.grows.run;
+      session = session_new;
+      few = may.asked.few;
+      within = let w : run.index < length run.commands = get_within run.commands run.index may.command may.asked.next in omega arith;
+      commands = may.asked.commands;
+      index = index_new;
+      at = subst (λ (f : Phase). StandsAt law new run f) (sym may.phase_is) (
+        in_new,
+        record {
+          unread = may.asked.unread;
+          call = may.call;
+          is = called_new;
+          for = record {
+            command = may.command;
+            next = may.asked.next;
+            commits = may.commits;
+            holds = may.holds;
+            settled = may.settled;
+            accepts = may.accepts;
+            place = subst (λ (x : Option ℕ). IsPlace x may.accepted) (sym (steps.room ∙ begins.room_is)) may.place;
+          };
+          commits = subst (λ (w : Work). IsCommitting new.history.past new.session w) (sym made.4)
+              (moved (λ h n. IsCommitting h.past n (Writing made.0.revision))
+              (committing_drawn behind s made.0.revision made.0 made.1.session refl fresh_behind (subst (λ (n : ℕ). base_of behind n ≡ Some made.0.base) made.1.session run_drawn.0.base) unmade));
+        },
+      );
+    }
+
+    told : is_appended_by moment s kind.Draw (reverse steps.own) ≡ true
+    told = subst (λ (x : StepKind). is_appended_by moment s x (reverse steps.own) ≡ true) made.2
+        (subst (λ (w : Work). AreOfStep moment s w (out.Went k) steps.own) begins.work_is steps.of_step)
+
+    draws_new : IsTurned law begun new run run (turn.Stepped kind.Draw)
+    draws_new = record {
+      others = steps.others;
+      own = steps.own;
+      grows = steps.grows;
+      beside = steps.beside;
+      alone = steps.alone;
+      tells = (told, inl (event.Draw made.0, made.3, refl));
+      made = plain_step moment begun new steps.own (event.Draw made.0 ∷ []) made.3 in_behind.stays (ap is_awaiting begins.work_is) refl tt;
+      same = (refl, refl);
+      stands = stands_new;
+    }
+
+    -- it draws, and the session is in its commit
+    pub draw_turns : HasTurned law mid new run run (turn.Stepped kind.Draw)
+    draw_turns = turned_later law mid begun new run run (turn.Stepped kind.Draw) may.asked.inside.nodes (free (ap is_writing begins.work_is) (ap is_awaiting begins.work_is) (ap is_awaiting may.asked.idle)) first_beside
+        (not_ended (turn.Stepped kind.Draw) refl) draws_new

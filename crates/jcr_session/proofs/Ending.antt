@@ -1,0 +1,214 @@
+-- What a session answers once its commit has ended.
+use Rattle.std.proofs.Common.{◌≡◌, ℕ, Bool, true, false, cond, not, Some, None, Option, List, is_some, refl, sym, ap, ◌∙◌, subst}
+use Rattle.std.specs.Prelude.{option_map, slice_get, string_bytes}
+use Rattle.std.specs.Option.{option_map_or}
+use Rattle.std.specs.declared.alloc.Global.{Global}
+use Rattle.std.specs.declared.string.String.{String}
+use mathlib.Core.Bool.{false≢true}
+use Rattle.jr_path.specs.declared.name.Name.{Name}
+use Rattle.jr_path.specs.declared.path.Item.{Item}
+use Rattle.jr_path.specs.declared.text.Text.{Text}
+use Rattle.jr_rev.specs.declared.revision.Revision.{Revision}
+use Rattle.jr_rev.specs.declared.vector.Pin.{Pin}
+use Rattle.jr_rev.specs.declared.vector.RevVec.{RevVec}
+use Rattle.jr_tree.specs.Trees.{IsTree, Nodes}
+use Rattle.jr_items.specs.Refusals.{clash}
+use Rattle.oak_machine.specs.Commits.{is_committed, is_ended, tree_at}
+use Rattle.oak_machine.specs.Sessions.{base_of, drawn_since, is_drawing}
+use Rattle.oak_port.specs.Ports.{HasRoom, Idle, Shown}
+use Rattle.oak_commit.specs.declared.outcome.CommitEnd.{CommitEnd}
+use Rattle.oak_commit.specs.declared.outcome.CommitEnd.TheVariants as commit
+use Rattle.jcr_trans.specs.Answers.{Answer, ShowsRevision}
+use Rattle.jcr_trans.specs.Texts.{answer_text, memory_text}
+use Rattle.jcr_trans.specs.declared.command.Command.{Command}
+use Rattle.jcr_trans.specs.declared.command.Command.TheVariants as command
+use Rattle.jcr_law.specs.declared.law.JcrLaw.{JcrLaw}
+use Rattle.jcr_law.specs.Built.{Allowed}
+use Rattle.jcr_law.specs.Commits.{committed_answer, version_answer}
+use Rattle.jcr_law.specs.Law.{MaySay, clashed, committed, no_text}
+use Rattle.jcr_law.specs.Starting.{call_has_base}
+use Rattle.jcr_law.specs.State.{Call, accepted, is_ok_text}
+use Rattle.jcr_call.specs.Calls.{call_moved}
+use Rattle.jcr_call.specs.Comings.{accepted_text}
+use Rattle.jcr_call.specs.declared.coming.Accepted.{Accepted}
+use Rattle.jcr_held.specs.Accepts.{TokensFit}
+use Rattle.jcr_held.specs.Holds.{Holds}
+use Rattle.jcr_held.specs.declared.held.Held.{Held}
+use Rattle.core_calls.specs.Replies.{is_refusal}
+use Rattle.core_calls.proofs.Accepting.{answer_accepts}
+use Rattle.jcr_session.specs.declared.limits.TheConstants.{COMMIT_REPLY_BYTES}
+use Rattle.jcr_session.specs.declared.next.Due.TheVariants as due
+use Rattle.jcr_session.specs.declared.run.Phase.{Phase}
+use Rattle.jcr_session.specs.declared.run.Phase.TheVariants as phase
+use Rattle.jcr_session.specs.declared.run.SessionRun.{SessionRun}
+use Rattle.jcr_session.specs.Asked.{HasClashed, IsAsked, MayAnswer, MayForgo, Settles}
+use Rattle.jcr_session.specs.Standing.{IsAtEnd, IsBeside, IsCalled, IsClash, IsFor, IsIn, IsMadeFor, IsUnmade, Stands, due_by, due_for}
+use Rattle.jcr_session.proofs.Drawing.{commit_allowed}
+use Rattle.jcr_session.proofs.Lawful.{forgo_answers, refused_text, says_allowed, settled_asked, settled_leaves, settled_says}
+use Rattle.jcr_session.proofs.Nexts.{allowed_due, apart, due_at}
+use Rattle.jcr_session.proofs.Saying.{answer_waits, asked_like, asked_waits}
+
+-- ---- the command whose commit has ended
+
+module _ (law : JcrLaw) (p : Shown) (run : SessionRun) (e : CommitEnd) (a : Accepted) (stands : Stands law p (record run { phase = phase.Committed e a })) where
+  abbrev ended : IsAtEnd law p (record run { phase = phase.Committed e a }) e a
+  ended = stands.at.1
+
+  pub end_room : HasRoom p.room COMMIT_REPLY_BYTES
+  end_room = ended.for.place.told
+
+  end_asked : (c : Call) → is_drawing p.history.past p.session ≡ false → IsCalled law p c → IsAsked law p run ended.for.command c
+  end_asked c still is = record {
+    inside = stands.at.0;
+    session = stands.session;
+    few = stands.few;
+    commands = stands.commands;
+    index = stands.index;
+    idle = ended.idle;
+    unread = ended.unread;
+    still = still;
+    next = ended.for.next;
+    call = is;
+  }
+
+-- it wasn't made
+unmade_forgoes : (law : JcrLaw) (p : Shown) (run : SessionRun) (m : Command) (c : Call) (r : Revision) → IsAsked law p run m c → IsUnmade p.history.past p.session r → Holds c run.held → MayForgo law p run true
+unmade_forgoes law p run m c r asked is holds = record {
+  command = m;
+  call = c;
+  asked = asked;
+  drew_is = ap is_some is.drawn;
+  uncommitted = ap (λ (o : Option Revision). option_map_or (is_committed p.history.past) o false) is.drawn ∙ is.unmade;
+  holds = holds;
+}
+
+module _ (law : JcrLaw) (p : Shown) (run : SessionRun) (a : Accepted) where
+  pub memory_forgoes : Stands law p (record run { phase = phase.Committed commit.Memory a }) → MayForgo law p run true
+  memory_forgoes stands =
+      let x = stands.at.1 in
+      unmade_forgoes law p run x.for.command x.call x.ended.0 (end_asked law p run commit.Memory a stands x.call x.ended.2.idle x.ended.1) x.ended.2 x.for.holds
+
+  pub clash_ended : (item : Item) (o : Revision) → Stands law p (record run { phase = phase.Committed (commit.Clash item o) a }) → HasClashed law p run item o
+  clash_ended item o stands =
+      let x = stands.at.1 in record {
+        command = x.for.command;
+        call = x.call;
+        asked = end_asked law p run (commit.Clash item o) a stands x.call x.ended.2.unmade.idle x.ended.1;
+        revision = x.ended.0;
+        clash = x.ended.2;
+        commits = x.for.commits;
+        holds = x.for.holds;
+        room = x.for.place.told;
+      }
+
+module _ (law : JcrLaw) (p : Shown) (run now : SessionRun) (item : Item) (o : Revision) (has : HasClashed law p run item o) (settles : Settles run now false true None) where
+  pub clash_forgoes : MayForgo law p run true
+  clash_forgoes = unmade_forgoes law p run has.command has.call has.revision has.asked has.clash.unmade has.holds
+
+  pub clash_memory : MayAnswer law p now memory_text
+  clash_memory = forgo_answers law p run now true clash_forgoes settles
+
+  pub clash_answers : MayAnswer law p now (no_text (clash item o))
+  clash_answers = record {
+    command = has.command;
+    call = has.call;
+    asked = settled_asked law p run now false true None settles has.command has.call has.asked;
+    says = settled_says law p run now false true None settles (no_text (clash item o))
+        (says_allowed law p run has.command has.call has.asked (no_text (clash item o)) (commit_allowed run has.command has.asked.next has.commits)
+        (clashed has.command has.revision o item has.clash.unmade.drawn has.clash.ended has.clash.told));
+    leaves = settled_leaves law p run now false true None settles has.command has.call (no_text (clash item o)) has.asked.next has.holds (λ ok. absurd (false≢true ok)) (refused_text (clash item o)) clash_forgoes.drew_is;
+  }
+
+-- ---- it was made
+
+-- moving the base changes nothing of what is told of a commit
+moved_answer : (c : Call) (v : RevVec) (t on : Nodes) (r : Revision) (m : Command) → committed_answer (call_moved c v t) on r m ≡ committed_answer c on r m
+moved_answer c v t on r (command.Lock p deep) = refl
+moved_answer c v t on r (command.Checkin p) = refl
+moved_answer c v t on r m = refl
+
+-- nor of the tokens that are held then
+moved_tokens : (c : Call) (v : RevVec) (t : Nodes) (m : Command) → due_by m ≡ due.Commit → (accepted (call_moved c v t) m).tokens ≡ (accepted c m).tokens
+moved_tokens c v t command.Save h = refl
+moved_tokens c v t (command.Lock p deep) h = refl
+moved_tokens c v t (command.Unlock p) h = refl
+moved_tokens c v t (command.Checkin p) h = refl
+moved_tokens c v t (command.Checkout p) h = refl
+moved_tokens c v t (command.Label p version label take) h = refl
+moved_tokens c v t (command.Unlabel p label) h = refl
+moved_tokens c v t (command.Restore p version) h = refl
+moved_tokens c v t command.Head h = apart due.ShowBase due.Commit refl h
+moved_tokens c v t (command.Refresh keep) h = apart due.Refresh due.Commit refl h
+moved_tokens c v t (command.Query text vars) h = apart due.Query due.Commit refl h
+moved_tokens c v t m h = apart due.See due.Commit refl h
+
+-- and it is no refusal
+version_shown : (n : Option Name) → is_refusal (version_answer n) ≡ false
+version_shown None = refl
+version_shown (Some n) = refl
+
+committed_shown : (c : Call) (on : Nodes) (r : Revision) (m : Command) → is_refusal (committed_answer c on r m) ≡ false
+committed_shown c on r (command.Lock p deep) = refl
+committed_shown c on r (command.Checkin p) = version_shown _
+committed_shown c on r m = refl
+
+module _ (law : JcrLaw) (p : Shown) (run : SessionRun) (r : Revision) (a : Accepted) (stands : Stands law p (record run { phase = phase.Committed (commit.Committed r) a })) where
+  abbrev here : IsAtEnd law p (record run { phase = phase.Committed (commit.Committed r) a }) (commit.Committed r) a
+  here = stands.at.1
+
+  abbrev c : Call
+  c = here.call
+
+  abbrev made : IsMadeFor law p.history p.session c r
+  made = here.ended
+
+  abbrev moved : Call
+  moved = call_moved c made.base made.tree
+
+  asked_made : IsAsked law p run here.for.command moved
+  asked_made = end_asked law p run (commit.Committed r) a stands moved made.idle made.call
+
+  allowed : due_by here.for.command ≡ due.Commit
+  allowed = (allowed_due here.for.command due.Commit (sym (due_at run here.for.command here.for.next) ∙ here.for.commits) refl).1
+
+  -- the base has moved to where the pin is
+  pub made_pin : (o : Option Pin) (pin : Pin) → o ≡ Some pin → (Rattle.oak_machine.specs.Sessions.has_left p.history.past p.session ≡ false → option_map (λ x. x.base) o ≡ base_of p.history.past p.session) → pin.base ≡ made.base
+  made_pin o pin is told =
+      ap (λ (x : Option RevVec). elim x [ Some v ↦ v | None ↦ pin.base ])
+      (sym (ap (option_map (λ (x : Pin). x.base)) is) ∙ (told stands.at.0.stays ∙ call_has_base law p.history.begin p.history.past p.session moved made.call))
+
+  pub made_tree : IsTree made.tree
+  made_tree = made.tree_is
+
+  answer_is : accepted_text a r ≡ answer_text (committed_answer moved (tree_at p.history.begin p.history.past made.made.base) made.made.revision here.for.command)
+  answer_is =
+      here.for.accepts.text r
+      ∙ (ap (λ (t : Nodes). answer_text (committed_answer c t r here.for.command)) (sym made.on)
+      ∙ (ap (λ (q : Revision). answer_text (committed_answer c (tree_at p.history.begin p.history.past made.made.base) q here.for.command)) (sym made.revision)
+      ∙ ap answer_text (sym (moved_answer c made.base made.tree (tree_at p.history.begin p.history.past made.made.base) made.made.revision here.for.command))))
+
+  accepts : is_ok_text (accepted_text a r) ≡ true
+  accepts = ap is_ok_text answer_is ∙ (answer_accepts (committed_answer moved (tree_at p.history.begin p.history.past made.made.base) made.made.revision here.for.command)
+      ∙ ap not (committed_shown moved (tree_at p.history.begin p.history.past made.made.base) made.made.revision here.for.command))
+
+  ended_made : is_ended p.history.past made.made.revision ≡ true
+  ended_made = ap (is_ended p.history.past) made.revision ∙ made.ended
+
+  committed_made : is_committed p.history.past made.made.revision ≡ true
+  committed_made = ap (is_committed p.history.past) made.revision ∙ made.committed
+
+  -- once what is held is moved to there, and accepted
+  module _ (held : Held) (holds : Holds moved held) (now : SessionRun) (settles : Settles (record run { held = held }) now true true (Some a.tokens)) where
+    pub made_answers : MayAnswer law p now (accepted_text a r)
+    made_answers = record {
+      command = here.for.command;
+      call = moved;
+      asked = settled_asked law p (record run { held = held }) now true true (Some a.tokens) settles here.for.command moved (asked_like law here.for.command moved p run (record run { held = held }) refl refl refl refl asked_made);
+      says = settled_says law p (record run { held = held }) now true true (Some a.tokens) settles (accepted_text a r)
+          (says_allowed law p run here.for.command moved asked_made (accepted_text a r) (commit_allowed run here.for.command here.for.next here.for.commits)
+          (subst (λ (t : Text). MaySay law p.history p.session (Allowed here.for.command) t) (sym answer_is)
+          (committed here.for.command moved made.made made.base made.draw ended_made committed_made made.moved
+          (ap (Rattle.jr_rev.specs.Vectors.sees made.base) made.revision ∙ made.seen) made.call)));
+      leaves = settled_leaves law p (record run { held = held }) now true true (Some a.tokens) settles here.for.command moved (accepted_text a r) here.for.next holds
+          (λ ok. here.for.accepts.tokens ∙ sym (moved_tokens c made.base made.tree here.for.command allowed)) accepts (ap is_some made.drawn);
+    }

@@ -1,0 +1,319 @@
+-- Which replies the law lets a session say between its commands.
+use Rattle.std.proofs.Common.{◌≡◌, ℕ, Bool, true, false, cond, Some, None, Option, List, [], ◌∷◌, is_some, nat_eq, Result, Ok, Err, IfOk, OnErr, refl, sym, ap, ◌∙◌, subst}
+use Rattle.std.specs.Prelude.{option_map, slice_get, string_bytes}
+use Rattle.std.specs.Option.{option_map_or}
+use Rattle.std.specs.declared.alloc.AllocError.{AllocError}
+use Rattle.std.specs.declared.alloc.Global.{Global}
+use Rattle.std.specs.declared.string.String.{String}
+use mathlib.Core.Bool.{false≢true}
+use Rattle.jr_path.specs.declared.text.Text.{Text}
+use Rattle.jr_rev.specs.declared.revision.Revision.{Revision}
+use Rattle.jr_rev.specs.declared.vector.RevVec.{RevVec}
+use Rattle.jr_part.specs.declared.need.Need.{Need}
+use Rattle.jr_tree.specs.declared.edit.Write.{Write}
+use Rattle.jr_tree.specs.declared.shared.Refusal.{Refusal}
+use Rattle.jr_tree.specs.declared.shared.Who.{Who}
+use Rattle.jr_items.specs.Refusals.{out_of_memory, unsupported}
+use Rattle.jcr_trans.specs.Commands.{word_of}
+use Rattle.oak_machine.specs.History.{History, Past}
+use Rattle.oak_machine.specs.Commits.{is_committed}
+use Rattle.oak_machine.specs.Sessions.{base_of, is_attached}
+use Rattle.oak_port.specs.Ports.{Idle, Shown}
+use Rattle.jcr_trans.specs.Answers.{Answer, Refused, ShowsVector}
+use Rattle.jcr_trans.specs.Texts.{answer_text, memory_text}
+use Rattle.jcr_trans.specs.declared.command.Command.{Command}
+use Rattle.jcr_trans.specs.declared.command.Command.TheVariants as command
+use Rattle.jcr_view.specs.Outcomes.{eval, is_viewed}
+use Rattle.jcr_view.specs.Reading.{refused}
+use Rattle.jcr_law.specs.declared.law.JcrLaw.{JcrLaw}
+use Rattle.jcr_law.specs.Built.{Allowed, Asked, Unsupported, asked}
+use Rattle.jcr_law.specs.Commits.{edit_due, refusal_of_due, refusal_of_plan, unwritten_answer}
+use Rattle.jcr_law.specs.Law.{MaySay, SaysBy, asked_by, barred, head, memory, no_support, no_text, queried, refreshed, refused_edit, unwritten, viewed}
+use Rattle.jcr_law.specs.Queries.{QueryAnswers}
+use Rattle.jcr_law.specs.Since.{before_turn}
+use Rattle.jcr_law.specs.Starting.{call_has_base}
+use Rattle.jcr_law.specs.State.{Call, accepted, command_at, is_ok_text}
+use Rattle.jcr_call.specs.Calls.{call_after}
+use Rattle.jcr_call.specs.Comings.{reply_to_due}
+use Rattle.jcr_call.specs.declared.coming.Coming.TheVariants as coming
+use Rattle.jcr_held.specs.Accepts.{TokensFit}
+use Rattle.jcr_held.specs.Comes.{ComesTo}
+use Rattle.jcr_held.specs.Holds.{Holds}
+use Rattle.jcr_held.specs.Sees.{Sees}
+use Rattle.jcr_held.specs.declared.held.Held.{Held}
+use Rattle.core_calls.proofs.Accepting.{answer_accepts}
+use Rattle.jcr_session.specs.declared.next.Due.TheVariants as due
+use Rattle.jcr_session.specs.declared.run.Phase.{Phase}
+use Rattle.jcr_session.specs.declared.run.Phase.TheVariants as phase
+use Rattle.jcr_session.specs.declared.run.SessionRun.{SessionRun}
+use Rattle.jcr_session.specs.Asked.{ComesNext, HasSeen, IsAsked, IsBarred, IsQueried, MayAnswer, MayForgo, MaySettle, Settles, has_drawn}
+use Rattle.jcr_session.specs.Standing.{IsBetween, IsIn, IsReading, IsRefreshed, Stands, StandsAt, due_by, due_for, due_to, is_allowed, reads_for}
+use Rattle.jcr_session.proofs.Locking.{lock_writes_some}
+use Rattle.jcr_session.proofs.Nexts.{allowed_due, apart, barred_due, due_number, next_due, only_head, only_query, only_refresh, seen_viewed, unviewed_due}
+use Rattle.jcr_session.proofs.Saying.{asked_like}
+
+-- ---- how a command is asked for
+
+-- as by a session that isn't attached
+asked_is : (h : History) (s : ℕ) (m : Command) → is_attached (before_turn h.past s) s ≡ false → asked_by h s m ≡ cond (is_allowed m) (Allowed m) (Unsupported m)
+asked_is h s m unattached = ap (λ (b : Bool). asked b m) unattached
+
+pub asked_allowed : (h : History) (s : ℕ) (m : Command) → is_attached (before_turn h.past s) s ≡ false → is_allowed m ≡ true → asked_by h s m ≡ Allowed m
+asked_allowed h s m unattached allowed = asked_is h s m unattached ∙ ap (λ (b : Bool). cond b (Allowed m) (Unsupported m)) allowed
+
+asked_unsupported : (h : History) (s : ℕ) (m : Command) → is_attached (before_turn h.past s) s ≡ false → is_allowed m ≡ false → asked_by h s m ≡ Unsupported m
+asked_unsupported h s m unattached allowed = asked_is h s m unattached ∙ ap (λ (b : Bool). cond b (Allowed m) (Unsupported m)) allowed
+
+-- a refusal is no text that accepts
+pub refused_text : (r : Refusal) → is_ok_text (no_text r) ≡ false
+refused_text r = answer_accepts (refused r)
+
+module _ (law : JcrLaw) (p : Shown) (run : SessionRun) (m : Command) (c : Call) (is : IsAsked law p run m c) where
+  command_is : command_at law p.session run.index ≡ Some m
+  command_is = ap (λ (s : ℕ). command_at law s run.index) is.session ∙ (is.commands run.index ∙ is.next)
+
+  pub says_allowed : (text : Text) → is_allowed m ≡ true → MaySay law p.history p.session (Allowed m) text → SaysBy law p.history p.session run.index text
+  says_allowed text allowed may = (m, command_is, subst (λ (a : Asked). MaySay law p.history p.session a text) (sym (asked_allowed p.history p.session m is.inside.unattached allowed)) may)
+
+  says_barred : is_allowed m ≡ false → SaysBy law p.history p.session run.index (no_support m)
+  says_barred allowed = (m, command_is, subst (λ (a : Asked). MaySay law p.history p.session a (no_support m)) (sym (asked_unsupported p.history p.session m is.inside.unattached allowed)) (barred m))
+
+  says_memory : option_map_or (is_committed p.history.past) (Rattle.oak_machine.specs.Sessions.drawn_since p.history.past p.session) false ≡ false → SaysBy law p.history p.session run.index memory_text
+  says_memory none = (m, command_is, memory (asked_by p.history p.session m) is.still none)
+
+-- ---- once what is held is brought up to the reply
+
+module _ (law : JcrLaw) (p : Shown) (run now : SessionRun) where
+  module _ (ok drew : Bool) (tokens : Option (List (List ℕ))) (settles : Settles run now ok drew tokens) where
+    pub settled_asked : (m : Command) (c : Call) → IsAsked law p run m c → IsAsked law p now m c
+    settled_asked m c asked = asked_like law m c p run now (ap (λ (r : SessionRun). r.session) settles.same) (ap (λ (r : SessionRun). r.commands) settles.same)
+        (ap (λ (r : SessionRun). r.index) settles.same) (ap (λ (r : SessionRun). r.fetch) settles.same) asked
+
+    pub settled_says : (text : Text) → SaysBy law p.history p.session run.index text → SaysBy law p.history p.session now.index text
+    settled_says text says = subst (λ (i : ℕ). SaysBy law p.history p.session i text) (sym (ap (λ (r : SessionRun). r.index) settles.same)) says
+
+    pub settled_leaves : (m : Command) (c : Call) (text : Text) → slice_get run.commands run.index ≡ Some m → Holds c run.held → (ok ≡ true → TokensFit run.held tokens c m)
+        → is_ok_text text ≡ ok → has_drawn p ≡ drew → Holds (call_after (is_ok_text text) (has_drawn p) c m) now.held
+    settled_leaves m c text next holds fit okay drawn =
+        subst (λ (b : Bool). Holds (call_after b (has_drawn p) c m) now.held) (sym okay)
+        (subst (λ (b : Bool). Holds (call_after ok b c m) now.held) (sym drawn) (settles.holds m c next holds fit))
+
+  pub forgo_answers : (drew : Bool) → MayForgo law p run drew → Settles run now false drew None → MayAnswer law p now memory_text
+  forgo_answers drew may settles = record {
+    command = may.command;
+    call = may.call;
+    asked = settled_asked false drew None settles may.command may.call may.asked;
+    says = settled_says false drew None settles memory_text (says_memory law p run may.command may.call may.asked may.uncommitted);
+    leaves = settled_leaves false drew None settles may.command may.call memory_text may.asked.next may.holds (λ ok. absurd (false≢true ok)) (answer_accepts (Refused 16 [])) may.drew_is;
+  }
+
+  pub settle_answers : (text : Text) → MaySettle law p run text → Settles run now (is_ok_text text) false None → MayAnswer law p now text
+  settle_answers text may settles = record {
+    command = may.command;
+    call = may.call;
+    asked = settled_asked (is_ok_text text) false None settles may.command may.call may.asked;
+    says = settled_says (is_ok_text text) false None settles text may.says;
+    leaves = settled_leaves (is_ok_text text) false None settles may.command may.call text may.asked.next may.holds may.tokens refl may.first;
+  }
+
+-- ---- between two commands
+
+module _ (law : JcrLaw) (p : Shown) (run : SessionRun) (stands : Stands law p run) (between : run.phase ≡ phase.Between) where
+  pub at_between : IsIn law p × IsBetween law p run
+  at_between = subst (λ (f : Phase). StandsAt law p run f) between stands.at
+
+  -- nothing is being read for a command that doesn't read
+  pub unread_by : reads_for (due_for run) ≡ false → run.fetch ≡ None
+  unread_by none = by run.fetch refl
+    where
+      by : (o : Option Need) → run.fetch ≡ o → run.fetch ≡ None
+      by None e = e
+      by (Some n) e = absurd (false≢true (sym none ∙ at_between.1.due (ap is_some e)))
+
+  pub idle_by : run.fetch ≡ None → p.work ≡ Idle
+  idle_by none = subst (λ (o : Option Need). IsReading p.work o) none at_between.1.reads
+
+  module _ (m : Command) (next : slice_get run.commands run.index ≡ Some m) (unread : run.fetch ≡ None) where
+    pub between_asked : IsAsked law p run m at_between.1.call
+    between_asked = record {
+      inside = at_between.0;
+      session = stands.session;
+      few = stands.few;
+      commands = stands.commands;
+      index = stands.index;
+      idle = idle_by unread;
+      unread = unread;
+      still = at_between.1.fresh.idle;
+      next = next;
+      call = at_between.1.is;
+    }
+
+    pub between_forgoes : MayForgo law p run false
+    between_forgoes = record {
+      command = m;
+      call = at_between.1.call;
+      asked = between_asked;
+      drew_is = ap is_some at_between.1.fresh.first;
+      uncommitted = ap (λ (o : Option Revision). option_map_or (is_committed p.history.past) o false) at_between.1.fresh.first;
+      holds = at_between.1.holds;
+    }
+
+    settles_by : (text : Text) → SaysBy law p.history p.session run.index text → is_viewed m ≡ false → (is_ok_text text ≡ true → (accepted at_between.1.call m).tokens ≡ at_between.1.call.state.tokens) → MaySettle law p run text
+    settles_by text says unviewed tokens = record {
+      command = m;
+      call = at_between.1.call;
+      asked = between_asked;
+      says = says;
+      first = ap is_some at_between.1.fresh.first;
+      unviewed = unviewed;
+      tokens = λ ok. at_between.1.holds.tokens ∙ sym (tokens ok);
+      holds = at_between.1.holds;
+    }
+
+    -- a command that isn't built, or that the session may not run
+    pub bar_settles : (text : Text) → due_to m ≡ due.Bar → text ≡ no_support m → MaySettle law p run text
+    bar_settles text is told = subst (λ (t : Text). MaySettle law p run t) (sym told)
+        (settles_by (no_support m) (says_barred law p run m at_between.1.call between_asked (barred_due m is))
+        (unviewed_due m (ap (λ (d : _). nat_eq (due_number d) 6) is))
+        (λ ok. absurd (false≢true (sym (refused_text (unsupported (word_of m))) ∙ ok))))
+
+    -- the base
+    pub head_settles : (text : Text) (v : RevVec) → due_to m ≡ due.ShowBase → v ≡ run.held.who.base → text ≡ answer_text (ShowsVector v) → MaySettle law p run text
+    head_settles text v is base told = subst (λ (t : Text). MaySettle law p run t) (sym told) (by m at (allowed_due m due.ShowBase is refl).0 (λ (x : _). x) refl)
+      where
+        at : m ≡ command.Head
+        at = only_head m (allowed_due m due.ShowBase is refl).1
+
+        there : base_of p.history.past p.session ≡ Some v
+        there = call_has_base law p.history.begin p.history.past p.session at_between.1.call at_between.1.is
+            ∙ ap (λ (w : RevVec). Some w) (ap (λ (w : Who). w.base) (sym at_between.1.holds.who) ∙ sym base)
+
+        by : (n : Command) → n ≡ command.Head → is_allowed n ≡ true → (MaySettle law p run (answer_text (ShowsVector v)) → MaySettle law p run (answer_text (ShowsVector v))) → n ≡ m → MaySettle law p run (answer_text (ShowsVector v))
+        by n head_is allowed k same = settles_by (answer_text (ShowsVector v))
+            (says_allowed law p run m at_between.1.call between_asked (answer_text (ShowsVector v)) (subst (λ (x : Command). is_allowed x ≡ true) same allowed)
+            (subst (λ (x : Command). MaySay law p.history p.session (Allowed x) (answer_text (ShowsVector v))) (sym at) (head v there)))
+            (unviewed_due m (ap (λ (d : _). nat_eq (due_number d) 6) is))
+            (λ ok. subst (λ (x : Command). (accepted at_between.1.call x).tokens ≡ at_between.1.call.state.tokens) (sym at) refl)
+
+    -- a query
+    pub query_settles : (text : String Global) → due_to m ≡ due.Query → IsQueried run text → MaySettle law p run (string_bytes text)
+    query_settles text is queries =
+        let q = only_query m (allowed_due m due.Query is refl).1 in
+        settles_by (string_bytes text)
+        (says_allowed law p run m at_between.1.call between_asked (string_bytes text) (allowed_due m due.Query is refl).0
+        (subst (λ (x : Command). MaySay law p.history p.session (Allowed x) (string_bytes text)) (sym q.2)
+        (queried q.0 q.1 at_between.1.call (string_bytes text) at_between.1.is
+        (queries q.0 q.1 at_between.1.call at_between.1.holds (next ∙ ap (λ (x : Command). Some x) q.2)))))
+        (unviewed_due m (ap (λ (d : _). nat_eq (due_number d) 6) is))
+        (λ ok. subst (λ (x : Command). (accepted at_between.1.call x).tokens ≡ at_between.1.call.state.tokens) (sym q.2) refl)
+
+    -- a command for which nothing is to be committed
+    module _ (commits : due_to m ≡ due.Commit) where
+      abbrev c : Call
+      c = at_between.1.call
+
+      allowed : is_allowed m ≡ true
+      allowed = (allowed_due m due.Commit commits refl).0
+
+      unviewed_now : is_viewed m ≡ false
+      unviewed_now = unviewed_due m (ap (λ (d : _). nat_eq (due_number d) 6) commits)
+
+      refuses : (d : Result (List Write) Refusal) (r : Refusal) → edit_due c m ≡ Some d → refusal_of_due c d ≡ Some r → MaySettle law p run (no_text r)
+      refuses d r is cause = settles_by (no_text r)
+          (says_allowed law p run m c between_asked (no_text r) allowed (refused_edit m c d r at_between.1.fresh.first at_between.1.is is cause)) unviewed_now
+          (λ ok. absurd (false≢true (sym (refused_text r) ∙ ok)))
+
+      some_text : (o : Option Refusal) (text : Text) → option_map no_text o ≡ Some text → (r : Refusal) × (o ≡ Some r) × (text ≡ no_text r)
+      some_text None text h = absurd (false≢true (ap is_some h))
+      some_text (Some r) text h = (r, refl, ap (λ (x : Option Text). elim x [ Some t ↦ t | None ↦ text ]) (sym h))
+
+      said_settles : (d : Result (List Write) Refusal) (text : Text) → edit_due c m ≡ Some d → reply_to_due c m d ≡ Some text → MaySettle law p run text
+      said_settles (Ok []) text is told =
+          subst (λ (t : Text). MaySettle law p run t) (ap (λ (x : Option Text). elim x [ Some t ↦ t | None ↦ text ]) told)
+          (settles_by (answer_text (unwritten_answer c m))
+          (says_allowed law p run m c between_asked (answer_text (unwritten_answer c m)) allowed (unwritten m c at_between.1.fresh.first at_between.1.is is)) unviewed_now
+          (λ ok. lock_writes_some m c is (allowed_due m due.Commit commits refl).1))
+      said_settles (Ok (w ∷ ws)) text is told =
+          let r = some_text (refusal_of_plan c (w ∷ ws)) text told in
+          subst (λ (t : Text). MaySettle law p run t) (sym r.2) (refuses (Ok (w ∷ ws)) r.0 is r.1)
+      said_settles (Err r) text is told =
+          subst (λ (t : Text). MaySettle law p run t) (ap (λ (x : Option Text). elim x [ Some t ↦ t | None ↦ text ]) told) (refuses (Err r) r is refl)
+
+      pub commit_settles : (text : String Global) → ComesNext run (coming.Said text) → MaySettle law p run (string_bytes text)
+      commit_settles text comes = let x = comes m c next at_between.1.holds in said_settles x.due (string_bytes text) x.is_due x.comes
+
+    -- the view answers
+    pub see_answers : (now : SessionRun) (text : String Global) → due_to m ≡ due.See → now ≡ record run { held = now.held } → HasSeen run now (Ok text) → MayAnswer law p now (string_bytes text)
+    see_answers now text is same seen =
+        let c : Call = at_between.1.call in
+        let a = allowed_due m due.See is refl in
+        let x = seen m c next at_between.1.holds in record {
+          command = m;
+          call = c;
+          asked = asked_like law m c p run now (ap (λ (r : SessionRun). r.session) same) (ap (λ (r : SessionRun). r.commands) same) (ap (λ (r : SessionRun). r.index) same) (ap (λ (r : SessionRun). r.fetch) same) between_asked;
+          says = subst (λ (i : ℕ). SaysBy law p.history p.session i (string_bytes text)) (sym (ap (λ (r : SessionRun). r.index) same))
+              (says_allowed law p run m c between_asked (string_bytes text) a.0
+              (subst (λ (t : Text). MaySay law p.history p.session (Allowed m) t) (sym x.text) (viewed m c (seen_viewed m a.0 a.1) at_between.1.is)));
+          leaves = subst (λ (b : Bool). Holds (call_after (is_ok_text (string_bytes text)) b c m) now.held) (sym (ap is_some at_between.1.fresh.first)) x.holds;
+        }
+
+    pub see_forgoes : (now : SessionRun) → now ≡ record run { held = now.held } → Holds at_between.1.call now.held → MayForgo law p now false
+    see_forgoes now same holds = record {
+      command = m;
+      call = at_between.1.call;
+      asked = asked_like law m at_between.1.call p run now (ap (λ (r : SessionRun). r.session) same) (ap (λ (r : SessionRun). r.commands) same) (ap (λ (r : SessionRun). r.index) same) (ap (λ (r : SessionRun). r.fetch) same) between_asked;
+      drew_is = ap is_some at_between.1.fresh.first;
+      uncommitted = ap (λ (o : Option Revision). option_map_or (is_committed p.history.past) o false) at_between.1.fresh.first;
+      holds = holds;
+    }
+
+-- ---- once the base moved
+
+module _ (law : JcrLaw) (p : Shown) (run : SessionRun) (stands : Stands law p run) (v : RevVec) (is : run.phase ≡ phase.Refreshed v) where
+  at_refreshed : IsIn law p × IsRefreshed law p run v
+  at_refreshed = subst (λ (f : Phase). StandsAt law p run f) is stands.at
+
+  abbrev refreshing : (m : Command) × (slice_get run.commands run.index ≡ Some m) × (due_to m ≡ due.Refresh)
+  refreshing = next_due run due.Refresh at_refreshed.1.refreshes refl
+
+  refreshed_asked : IsAsked law p run refreshing.0 at_refreshed.1.call
+  refreshed_asked = record {
+    inside = at_refreshed.0;
+    session = stands.session;
+    few = stands.few;
+    commands = stands.commands;
+    index = stands.index;
+    idle = at_refreshed.1.idle;
+    unread = at_refreshed.1.unread;
+    still = at_refreshed.1.fresh.idle;
+    next = refreshing.1;
+    call = at_refreshed.1.is;
+  }
+
+  pub refreshed_forgoes : MayForgo law p run false
+  refreshed_forgoes = record {
+    command = refreshing.0;
+    call = at_refreshed.1.call;
+    asked = refreshed_asked;
+    drew_is = ap is_some at_refreshed.1.fresh.first;
+    uncommitted = ap (λ (o : Option Revision). option_map_or (is_committed p.history.past) o false) at_refreshed.1.fresh.first;
+    holds = at_refreshed.1.holds;
+  }
+
+  kept_tokens : (keep : Bool) (c : Call) → (accepted c (command.Refresh keep)).tokens ≡ c.state.tokens
+  kept_tokens true c = refl
+  kept_tokens false c = refl
+
+  pub refreshed_settles : (text : Text) → text ≡ answer_text (ShowsVector v) → MaySettle law p run text
+  refreshed_settles text told = subst (λ (t : Text). MaySettle law p run t) (sym told)
+      (let a = allowed_due refreshing.0 due.Refresh refreshing.2 refl in let k = only_refresh refreshing.0 a.1 in record {
+        command = refreshing.0;
+        call = at_refreshed.1.call;
+        asked = refreshed_asked;
+        says = says_allowed law p run refreshing.0 at_refreshed.1.call refreshed_asked (answer_text (ShowsVector v)) a.0
+            (subst (λ (x : Command). MaySay law p.history p.session (Allowed x) (answer_text (ShowsVector v))) (sym k.1) (refreshed k.0 v at_refreshed.1.moved));
+        first = ap is_some at_refreshed.1.fresh.first;
+        unviewed = unviewed_due refreshing.0 (ap (λ (d : _). nat_eq (due_number d) 6) refreshing.2);
+        tokens = λ ok. at_refreshed.1.holds.tokens ∙ sym (subst (λ (x : Command). (accepted at_refreshed.1.call x).tokens ≡ at_refreshed.1.call.state.tokens) (sym k.1) (kept_tokens k.0 at_refreshed.1.call));
+        holds = at_refreshed.1.holds;
+      })

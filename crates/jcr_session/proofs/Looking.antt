@@ -1,0 +1,143 @@
+-- What a session reads before its turn leaves it where the history says.
+use Rattle.std.proofs.Common.{◌≡◌, ◌≤◌, ℕ, List, length, Bool, true, false, cond, ◌&&◌, Some, None, Option, [], is_some, Result, Ok, Err, IfOk, refl, sym, ap, ◌∙◌, subst}
+use Rattle.std.specs.Prelude.{slice_get}
+use mathlib.Core.Bool.{false≢true}
+use Rattle.jr_part.specs.declared.need.Need.{Need}
+use Rattle.jr_part.specs.declared.need.Need.TheVariants as need
+use Rattle.oak_machine.specs.Runs.{AreNodes}
+use Rattle.oak_machine.specs.Sessions.{next_index}
+use Rattle.oak_port.specs.Ports.{Idle, Shown, Starting, Work}
+use Rattle.oak_port.specs.declared.task.Task.TheVariants as task
+use Rattle.jcr_trans.specs.declared.command.Command.{Command}
+use Rattle.jcr_law.specs.declared.law.JcrLaw.{JcrLaw}
+use Rattle.jcr_law.specs.State.{Call}
+use Rattle.jcr_held.specs.Holds.{Holds}
+use Rattle.jcr_held.specs.declared.held.Held.{Held}
+use Rattle.jcr_session.specs.declared.limits.TheConstants.{MOST_COMMANDS}
+use Rattle.jcr_session.specs.declared.run.Phase.{Phase}
+use Rattle.jcr_session.specs.declared.run.Phase.TheVariants as phase
+use Rattle.jcr_session.specs.declared.run.SessionRun.{SessionRun}
+use Rattle.jcr_session.specs.declared.turn.Turn.{Turn}
+use Rattle.jcr_session.specs.declared.turn.Turn.TheVariants as turn
+use Rattle.jcr_session.specs.Asked.{MayForgo}
+use Rattle.jcr_session.specs.Standing.{HasLooked, HasTurned, IsBeside, IsBetween, IsIn, IsReading, IsRefused, IsSame, IsTurned, Stands, StandsAt, due_for, due_of, is_between, is_writing, may_read, reads_for}
+use Rattle.jcr_session.proofs.Lawful.{at_between, between_forgoes}
+use Rattle.jcr_session.proofs.Nexts.{reads_between, reads_due, reads_next, same_reads}
+use Rattle.jcr_session.proofs.Reading.{beside_both, beside_itself, nobody}
+use Rattle.jcr_session.proofs.Saying.{turned_like}
+use Rattle.jcr_session.proofs.Turning.{Link, free, has_turned_later, is_awaiting, kept, never_ends}
+use Rattle.jcr_session.proofs.Waiting.{called_beside, fresh_beside, in_beside, next_beside, nodes_beside, shown_beside}
+
+-- ---- a session before a command for which it reads
+
+module _ (law : JcrLaw) (old new : Shown) (run : SessionRun) (stands : Stands law old run) (reads : may_read run ≡ true) (beside : IsBeside law old new) where
+  here : IsIn law old × IsBetween law old run
+  here = at_between law old run stands (reads_between run reads)
+
+  -- it stands where it stood, with what is read by now and what is being read
+  module _ (now : SessionRun) (same : IsSame run now) (holds : (c : Call) → Holds c run.held → Rattle.jcr_session.specs.Standing.IsCalled law old c → Holds c now.held) (work : IsReading new.work now.fetch) where
+    pub read_stands : Stands law new now
+    read_stands = record {
+      nodes = nodes_beside law old new beside stands.nodes;
+      trees = shown_beside law old new beside (λ h n. Rattle.core_calls.specs.Seeing.SeesTrees law h.clusters h.sessions h.begin) stands.trees;
+      run_is = beside.grows.run;
+      session = beside.session ∙ (stands.session ∙ sym same.session);
+      few = subst (λ (cs : List Command). length cs ≤ MOST_COMMANDS) (sym same.commands) stands.few;
+      commands = λ i. ap (λ n. Rattle.jcr_law.specs.State.command_at law n i) same.session ∙ (stands.commands i ∙ ap (λ (cs : List Command). slice_get cs i) (sym same.commands));
+      index = same.index ∙ (stands.index ∙ (ap (next_index old.history.past) (sym stands.session) ∙ (sym (next_beside law old new beside) ∙ ap (next_index new.history.past) (beside.session ∙ (stands.session ∙ sym same.session)))));
+      within = subst (λ (cs : List Command). now.index ≤ length cs) (sym same.commands) (subst (λ (i : ℕ). i ≤ length run.commands) (sym same.index) stands.within);
+      at = subst (λ (f : Phase). StandsAt law new now f) (sym (same.phase ∙ reads_between run reads)) (
+        in_beside law old new beside stands.nodes here.0,
+        record {
+          call = here.1.call;
+          is = called_beside law old new beside stands.nodes here.1.call here.1.is;
+          holds = holds here.1.call here.1.holds here.1.is;
+          fresh = fresh_beside law old new beside stands.nodes here.1.fresh;
+          reads = work;
+          due = λ some. reads_due now (same_reads run now same.phase same.commands same.index ∙ reads);
+        },
+      );
+    }
+
+    pub read_looked : HasLooked law old new run now
+    read_looked = record {
+      stands = read_stands;
+      same = same;
+      beside = beside;
+      still = λ none. absurd (false≢true (sym none ∙ reads));
+    }
+
+    pub read_refused : now.fetch ≡ None → IsRefused new now
+    read_refused none = record {
+      idle = subst (λ (o : Option Need). IsReading new.work o) none work;
+      unread = none;
+      reads = same_reads run now same.phase same.commands same.index ∙ reads;
+    }
+
+pub looked_nothing : (law : JcrLaw) (p : Shown) (run : SessionRun) → Stands law p run → HasLooked law p p run run
+looked_nothing law p run stands = record {
+  stands = stands;
+  same = record { session = refl; commands = refl; index = refl; phase = refl };
+  beside = beside_itself law p stands.run_is;
+  still = λ read. (refl, refl);
+}
+
+pub looked_both : (law later : JcrLaw) (a b c : Shown) (r s t : SessionRun) → later ≡ law → AreNodes a.history.clusters a.history.sessions → HasLooked law a b r s → HasLooked later b c s t → HasLooked law a c r t
+looked_both law later a b c r s t laws nodes first then =
+    let second : HasLooked law b c s t = subst (λ (l : JcrLaw). HasLooked l b c s t) laws then in record {
+      stands = second.stands;
+      same = record {
+        session = second.same.session ∙ first.same.session;
+        commands = second.same.commands ∙ first.same.commands;
+        index = second.same.index ∙ first.same.index;
+        phase = second.same.phase ∙ first.same.phase;
+      };
+      beside = beside_both law a b c nodes first.beside second.beside;
+      still = λ read. (let x = first.still read in let y = second.still (ap may_read x.1 ∙ read) in (y.0 ∙ x.0, y.1 ∙ x.1));
+    }
+
+pub looked_reads : (law : JcrLaw) (a b : Shown) (r s : SessionRun) → HasLooked law a b r s → may_read s ≡ may_read r
+looked_reads law a b r s looked = same_reads r s looked.same.phase looked.same.commands looked.same.index
+
+-- ---- memory was refused for reading: the command that reads is answered so
+
+pub refused_forgoes : (law : JcrLaw) (p : Shown) (run : SessionRun) → Stands law p run → IsRefused p run → MayForgo law p run false
+refused_forgoes law p run stands refused =
+    let m = reads_next run refused.reads in between_forgoes law p run stands (reads_between run refused.reads) m.0 m.1 refused.unread
+
+-- ---- a turn after the reading steps
+
+-- a session that reads waits for nothing else
+reading_unawaited : (w : Work) (o : Option Need) → IsReading w o → is_awaiting w ≡ false
+reading_unawaited w None h = ap is_awaiting h
+reading_unawaited w (Some (need.Node p)) h = ap is_awaiting h
+reading_unawaited w (Some (need.Children p)) h = ap is_awaiting h
+reading_unawaited w (Some (need.Subtree p)) h = absurd h
+reading_unawaited w (Some need.All) h = absurd h
+
+module _ (law : JcrLaw) (a b c : Shown) (run like now : SessionRun) (t : Turn) (old : Stands law a run) (reads : may_read run ≡ true) (looked : HasLooked law a b run like) where
+  link_read : b.work ≡ Idle → Link a b
+  link_read idle = free (ap is_writing idle) (ap is_awaiting idle) (reading_unawaited a.work run.fetch (at_between law a run old (reads_between run reads)).1.reads)
+
+  -- no reading step is due for a session that has ended
+  ends_read : IsTurned law b c run now turn.Ended → b ≡ a
+  ends_read turned = never_ends law b c run now (at_between law b like looked.stands (looked.same.phase ∙ reads_between run reads)).0 turned
+
+  pub turned_behind : b.work ≡ Idle → HasTurned law b c like now t → HasTurned law a c run now t
+  turned_behind idle turned =
+      has_turned_later law a b c run now t old.nodes (link_read idle) looked.beside ends_read
+      (turned_like law b c run like now t looked.same.session looked.same.commands looked.same.index turned)
+
+-- a session that has left makes no step
+pub over_ends : (law : JcrLaw) (p : Shown) (run : SessionRun) → Stands law p run → run.phase ≡ phase.Over → HasTurned law p p run run turn.Ended
+over_ends law p run stands over = let gone = subst (λ (f : Phase). StandsAt law p run f) over stands.at in record {
+  others = [];
+  own = [];
+  grows = record { grown = refl; theirs = refl; run = stands.run_is };
+  beside = refl;
+  alone = nobody p.beside.seats;
+  tells = refl;
+  made = (refl, gone.left, gone.all);
+  same = (refl, refl);
+  stands = stands;
+}

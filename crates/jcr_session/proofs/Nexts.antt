@@ -1,0 +1,244 @@
+-- What is to be done for the next command of a session, case by case.
+use Rattle.std.proofs.Common.{◌≡◌, ℕ, Bool, true, false, cond, not, ◌&&◌, Some, None, Option, List, [], ◌∷◌, is_some, nat_eq, refl, sym, ap, ◌∙◌, subst}
+use Rattle.std.specs.Prelude.{slice_get}
+use Rattle.std.specs.Option.{option_map_or}
+use mathlib.Core.Bool.{false≢true}
+use Rattle.jr_path.specs.declared.name.Name.{Name}
+use Rattle.jr_path.specs.declared.text.Text.{Text}
+use Rattle.jr_value.specs.declared.value.Value.{Value}
+use Rattle.jcr_trans.specs.declared.command.Command.{Command}
+use Rattle.jcr_trans.specs.declared.command.Command.TheVariants as command
+use Rattle.jcr_view.specs.Outcomes.{is_viewed}
+use Rattle.jcr_law.specs.Commits.{edit_due}
+use Rattle.jcr_law.specs.State.{Call}
+use Rattle.jcr_session.specs.declared.next.Due.{Due}
+use Rattle.jcr_session.specs.declared.next.Due.TheVariants as due
+use Rattle.jcr_session.specs.declared.run.Phase.{Phase}
+use Rattle.jcr_session.specs.declared.run.Phase.TheVariants as phase
+use Rattle.jcr_session.specs.declared.run.SessionRun.{SessionRun}
+use Rattle.jcr_session.specs.Standing.{due_by, due_for, due_of, due_to, is_allowed, is_between, may_read, reads_for}
+
+abbrev pub due_number : Due → ℕ
+due_number due.Leave = 0
+due_number due.Bar = 1
+due_number due.ShowBase = 2
+due_number due.Refresh = 3
+due_number due.Query = 4
+due_number due.Commit = 5
+due_number due.See = 6
+
+-- of different things to be done
+pub apart : {A : Type 0} (x y : Due) → nat_eq (due_number x) (due_number y) ≡ false → x ≡ y → A
+apart x y other same = absurd (false≢true (sym other ∙ (ap (λ (d : Due). nat_eq (due_number d) (due_number y)) same ∙ itself (due_number y))))
+  where
+    itself : (n : ℕ) → nat_eq n n ≡ true
+    itself n = grind (Rattle.std.proofs.Common.arith, Rattle.std.proofs.lemmas.Bool.Decides.nat_tests)
+
+-- a command that the session may run isn't barred
+not_barred : (m : Command) → nat_eq (due_number (due_by m)) 1 ≡ false
+not_barred command.Head = refl
+not_barred (command.Refresh keep) = refl
+not_barred (command.Query text vars) = refl
+not_barred command.Save = refl
+not_barred (command.Lock p deep) = refl
+not_barred (command.Unlock p) = refl
+not_barred (command.Checkin p) = refl
+not_barred (command.Checkout p) = refl
+not_barred (command.Label p version label take) = refl
+not_barred (command.Unlabel p label) = refl
+not_barred (command.Restore p version) = refl
+not_barred m = refl
+
+-- nor is it a leave
+not_left : (m : Command) → nat_eq (due_number (due_by m)) 0 ≡ false
+not_left command.Head = refl
+not_left (command.Refresh keep) = refl
+not_left (command.Query text vars) = refl
+not_left command.Save = refl
+not_left (command.Lock p deep) = refl
+not_left (command.Unlock p) = refl
+not_left (command.Checkin p) = refl
+not_left (command.Checkout p) = refl
+not_left (command.Label p version label take) = refl
+not_left (command.Unlabel p label) = refl
+not_left (command.Restore p version) = refl
+not_left m = refl
+
+-- what is due for a command that the session may run
+pub allowed_due : (m : Command) (d : Due) → due_to m ≡ d → nat_eq (due_number d) 1 ≡ false → (is_allowed m ≡ true) × (due_by m ≡ d)
+allowed_due m d is other = by (is_allowed m) refl is
+  where
+    by : (b : Bool) → is_allowed m ≡ b → cond b (due_by m) due.Bar ≡ d → (is_allowed m ≡ true) × (due_by m ≡ d)
+    by true e h = (e, h)
+    by false e h = absurd (false≢true (sym other ∙ ap (λ (x : Due). nat_eq (due_number x) 1) (sym h)))
+
+-- a command that is barred
+pub barred_due : (m : Command) → due_to m ≡ due.Bar → is_allowed m ≡ false
+barred_due m is = by (is_allowed m) refl is
+  where
+    by : (b : Bool) → is_allowed m ≡ b → cond b (due_by m) due.Bar ≡ due.Bar → is_allowed m ≡ false
+    by true e h = absurd (false≢true (sym (not_barred m) ∙ ap (λ (x : Due). nat_eq (due_number x) 1) h))
+    by false e h = e
+
+-- `head` shows the base
+pub only_head : (m : Command) → due_by m ≡ due.ShowBase → m ≡ command.Head
+only_head command.Head h = refl
+only_head (command.Refresh keep) h = apart due.Refresh due.ShowBase refl h
+only_head (command.Query text vars) h = apart due.Query due.ShowBase refl h
+only_head command.Save h = apart due.Commit due.ShowBase refl h
+only_head (command.Lock p deep) h = apart due.Commit due.ShowBase refl h
+only_head (command.Unlock p) h = apart due.Commit due.ShowBase refl h
+only_head (command.Checkin p) h = apart due.Commit due.ShowBase refl h
+only_head (command.Checkout p) h = apart due.Commit due.ShowBase refl h
+only_head (command.Label p version label take) h = apart due.Commit due.ShowBase refl h
+only_head (command.Unlabel p label) h = apart due.Commit due.ShowBase refl h
+only_head (command.Restore p version) h = apart due.Commit due.ShowBase refl h
+only_head m h = apart due.See due.ShowBase refl h
+
+pub only_refresh : (m : Command) → due_by m ≡ due.Refresh → (keep : Bool) × (m ≡ command.Refresh keep)
+only_refresh command.Head h = apart due.ShowBase due.Refresh refl h
+only_refresh (command.Refresh keep) h = (keep, refl)
+only_refresh (command.Query text vars) h = apart due.Query due.Refresh refl h
+only_refresh command.Save h = apart due.Commit due.Refresh refl h
+only_refresh (command.Lock p deep) h = apart due.Commit due.Refresh refl h
+only_refresh (command.Unlock p) h = apart due.Commit due.Refresh refl h
+only_refresh (command.Checkin p) h = apart due.Commit due.Refresh refl h
+only_refresh (command.Checkout p) h = apart due.Commit due.Refresh refl h
+only_refresh (command.Label p version label take) h = apart due.Commit due.Refresh refl h
+only_refresh (command.Unlabel p label) h = apart due.Commit due.Refresh refl h
+only_refresh (command.Restore p version) h = apart due.Commit due.Refresh refl h
+only_refresh m h = apart due.See due.Refresh refl h
+
+pub only_query : (m : Command) → due_by m ≡ due.Query → (text : Text) × (vars : List (Name × Value)) × (m ≡ command.Query text vars)
+only_query command.Head h = apart due.ShowBase due.Query refl h
+only_query (command.Refresh keep) h = apart due.Refresh due.Query refl h
+only_query (command.Query text vars) h = (text, vars, refl)
+only_query command.Save h = apart due.Commit due.Query refl h
+only_query (command.Lock p deep) h = apart due.Commit due.Query refl h
+only_query (command.Unlock p) h = apart due.Commit due.Query refl h
+only_query (command.Checkin p) h = apart due.Commit due.Query refl h
+only_query (command.Checkout p) h = apart due.Commit due.Query refl h
+only_query (command.Label p version label take) h = apart due.Commit due.Query refl h
+only_query (command.Unlabel p label) h = apart due.Commit due.Query refl h
+only_query (command.Restore p version) h = apart due.Commit due.Query refl h
+only_query m h = apart due.See due.Query refl h
+
+-- an edit is due of a command that commits
+pub commits_due : (m : Command) → due_by m ≡ due.Commit → (c : Call) → is_some (edit_due c m) ≡ true
+commits_due command.Head h c = apart due.ShowBase due.Commit refl h
+commits_due (command.Refresh keep) h c = apart due.Refresh due.Commit refl h
+commits_due (command.Query text vars) h c = apart due.Query due.Commit refl h
+commits_due command.Save h c = refl
+commits_due (command.Lock p deep) h c = refl
+commits_due (command.Unlock p) h c = refl
+commits_due (command.Checkin p) h c = refl
+commits_due (command.Checkout p) h c = refl
+commits_due (command.Label p version label take) h c = refl
+commits_due (command.Unlabel p label) h c = refl
+commits_due (command.Restore p version) h c = refl
+commits_due m h c = apart due.See due.Commit refl h
+
+-- the view answers the others that the session may run
+pub seen_viewed : (m : Command) → is_allowed m ≡ true → due_by m ≡ due.See → is_viewed m ≡ true
+seen_viewed command.Head a h = apart due.ShowBase due.See refl h
+seen_viewed (command.Refresh keep) a h = apart due.Refresh due.See refl h
+seen_viewed (command.Query text vars) a h = apart due.Query due.See refl h
+seen_viewed command.Save a h = apart due.Commit due.See refl h
+seen_viewed (command.Lock p deep) a h = apart due.Commit due.See refl h
+seen_viewed (command.Unlock p) a h = apart due.Commit due.See refl h
+seen_viewed (command.Checkin p) a h = apart due.Commit due.See refl h
+seen_viewed (command.Checkout p) a h = apart due.Commit due.See refl h
+seen_viewed (command.Label p version label take) a h = apart due.Commit due.See refl h
+seen_viewed (command.Unlabel p label) a h = apart due.Commit due.See refl h
+seen_viewed (command.Restore p version) a h = apart due.Commit due.See refl h
+seen_viewed command.BackWrite a h = absurd (false≢true a)
+seen_viewed command.BackRead a h = absurd (false≢true a)
+seen_viewed (command.Split p) a h = absurd (false≢true a)
+seen_viewed command.Sweep a h = absurd (false≢true a)
+seen_viewed command.Collect a h = absurd (false≢true a)
+seen_viewed command.Checkpoint a h = absurd (false≢true a)
+seen_viewed (command.Attach id) a h = absurd (false≢true a)
+seen_viewed (command.Release id) a h = absurd (false≢true a)
+seen_viewed command.Detach a h = absurd (false≢true a)
+seen_viewed (command.Observe p deep mask) a h = absurd (false≢true a)
+seen_viewed command.Events a h = absurd (false≢true a)
+seen_viewed (command.Stop k) a h = absurd (false≢true a)
+seen_viewed (command.Recover k) a h = absurd (false≢true a)
+seen_viewed m a h = refl
+
+-- and no other
+pub unviewed_due : (m : Command) → nat_eq (due_number (due_to m)) 6 ≡ false → is_viewed m ≡ false
+unviewed_due (command.Add p type) h = absurd (false≢true (sym h))
+unviewed_due (command.Tree p nodes) h = absurd (false≢true (sym h))
+unviewed_due (command.Set p n x) h = absurd (false≢true (sym h))
+unviewed_due (command.Unset p n) h = absurd (false≢true (sym h))
+unviewed_due (command.Remove p) h = absurd (false≢true (sym h))
+unviewed_due (command.Move p q) h = absurd (false≢true (sym h))
+unviewed_due (command.Mixin p n) h = absurd (false≢true (sym h))
+unviewed_due (command.Unmixin p n) h = absurd (false≢true (sym h))
+unviewed_due (command.SetType p n) h = absurd (false≢true (sym h))
+unviewed_due (command.OrderBefore p before) h = absurd (false≢true (sym h))
+unviewed_due (command.Get p) h = absurd (false≢true (sym h))
+unviewed_due (command.List p) h = absurd (false≢true (sym h))
+unviewed_due (command.Props p) h = absurd (false≢true (sym h))
+unviewed_due (command.Id p) h = absurd (false≢true (sym h))
+unviewed_due (command.ById id) h = absurd (false≢true (sym h))
+unviewed_due (command.Refs p) h = absurd (false≢true (sym h))
+unviewed_due (command.Versions p) h = absurd (false≢true (sym h))
+unviewed_due (command.Token token) h = absurd (false≢true (sym h))
+unviewed_due (command.DropToken token) h = absurd (false≢true (sym h))
+unviewed_due m h = refl
+
+-- a command is no leave
+pub left_due : {A : Type 0} (m : Command) → due_to m ≡ due.Leave → A
+left_due {A = A} m is = by (is_allowed m) is
+  where
+    by : (b : Bool) → cond b (due_by m) due.Bar ≡ due.Leave → A
+    by true h = absurd (false≢true (sym (not_left m) ∙ ap (λ (x : Due). nat_eq (due_number x) 0) h))
+    by false h = apart due.Bar due.Leave refl h
+
+-- ---- the next command
+
+pub next_due : (run : SessionRun) (d : Due) → due_for run ≡ d → nat_eq (due_number due.Leave) (due_number d) ≡ false → (m : Command) × (slice_get run.commands run.index ≡ Some m) × (due_to m ≡ d)
+next_due run d is other = by (slice_get run.commands run.index) refl is
+  where
+    by : (o : Option Command) → slice_get run.commands run.index ≡ o → option_map_or due_to o due.Leave ≡ d → (m : Command) × (slice_get run.commands run.index ≡ Some m) × (due_to m ≡ d)
+    by None e h = apart due.Leave d other h
+    by (Some m) e h = (m, e, h)
+
+-- what is due is for that command
+pub due_at : (run : SessionRun) (m : Command) → slice_get run.commands run.index ≡ Some m → due_for run ≡ due_to m
+due_at run m is = ap (λ (o : Option Command). option_map_or due_to o due.Leave) is
+
+between_is : (f : Phase) (b : Bool) → (is_between f && b) ≡ true → (f ≡ phase.Between) × (b ≡ true)
+between_is phase.Between b h = (refl, h)
+between_is phase.Outside b h = absurd (false≢true h)
+between_is (phase.Refreshed v) b h = absurd (false≢true h)
+between_is (phase.Committing a) b h = absurd (false≢true h)
+between_is (phase.Committed e a) b h = absurd (false≢true h)
+between_is phase.Over b h = absurd (false≢true h)
+
+-- before a command that reads
+pub reads_between : (run : SessionRun) → may_read run ≡ true → run.phase ≡ phase.Between
+reads_between run reads = (between_is run.phase (reads_for (due_for run)) reads).0
+
+pub reads_due : (run : SessionRun) → may_read run ≡ true → reads_for (due_for run) ≡ true
+reads_due run reads = (between_is run.phase (reads_for (due_for run)) reads).1
+
+pub reads_by : (run : SessionRun) → run.phase ≡ phase.Between → may_read run ≡ reads_for (due_for run)
+reads_by run between = ap (λ (f : Phase). is_between f && reads_for (due_for run)) between
+
+-- there is one
+pub reads_next : (run : SessionRun) → may_read run ≡ true → (m : Command) × (slice_get run.commands run.index ≡ Some m)
+reads_next run reads = by (slice_get run.commands run.index) refl (reads_due run reads)
+  where
+    by : (o : Option Command) → slice_get run.commands run.index ≡ o → reads_for (option_map_or due_to o due.Leave) ≡ true → (m : Command) × (slice_get run.commands run.index ≡ Some m)
+    by None e h = absurd (false≢true h)
+    by (Some m) e h = (m, e)
+
+-- the same run, as it says that it stands
+pub same_reads : (a b : SessionRun) → b.phase ≡ a.phase → b.commands ≡ a.commands → b.index ≡ a.index → may_read b ≡ may_read a
+same_reads a b at commands index =
+    ap (λ (f : Phase). is_between f && reads_for (due_for b)) at
+    ∙ (ap (λ (cs : List Command). is_between a.phase && reads_for (due_of cs b.index)) commands
+    ∙ ap (λ (i : ℕ). is_between a.phase && reads_for (due_of a.commands i)) index)

@@ -1,0 +1,156 @@
+-- A session stands where it stood while others make their steps; and a new one stands before its login.
+use Rattle.std.proofs.Common.{◌≡◌, ℕ, ◌≤◌, true, false, Some, Option, List, [], ◌∷◌, ◌++◌, length, refl, sym, ap, ◌∙◌, subst, arith, None}
+use Rattle.std.specs.Prelude.{slice_get}
+use Rattle.std.specs.List.{list_any}
+use Rattle.jr_part.specs.declared.need.Need.{Need}
+use Rattle.jr_types.specs.declared.TypeDef.{TypeDef}
+use Rattle.oak_machine.specs.History.{Past}
+use Rattle.oak_machine.specs.Laws.{is_event_of}
+use Rattle.oak_machine.specs.Runs.{AreNodes, IsRun}
+use Rattle.oak_machine.specs.Sessions.{has_left, has_login, is_drawing, is_end_of_session, next_index, refreshed_since}
+use Rattle.oak_machine.proofs.Stays.{any_later}
+use Rattle.oak_port.specs.Ports.{Idle, Shown, OthersAlone, Work}
+use Rattle.oak_commit.specs.declared.outcome.CommitEnd.{CommitEnd}
+use Rattle.jcr_trans.specs.declared.command.Command.{Command}
+use Rattle.core_heads.proofs.Passing.{idle_stays, next_stays}
+use Rattle.jcr_law.specs.declared.law.JcrLaw.{JcrLaw}
+use Rattle.jcr_law.specs.Lasting.{says_of, starts_of}
+use Rattle.jcr_law.specs.State.{Call, command_at}
+use Rattle.jcr_call.specs.declared.coming.Accepted.{Accepted}
+use Rattle.core_calls.specs.Seeing.{SeesTrees}
+use Rattle.jcr_session.specs.declared.limits.TheConstants.{MOST_COMMANDS}
+use Rattle.jcr_session.specs.declared.run.Phase.{Phase}
+use Rattle.jcr_session.specs.declared.run.Phase.TheVariants as phase
+use Rattle.jcr_session.specs.declared.run.SessionRun.{SessionRun}
+use Rattle.jcr_session.specs.Standing.{HasCommitted, IsBeside, IsCommitting, IsFor, IsIn, IsNew, IsOutside, IsPlace, IsReading, Stands, StandsAt}
+use Rattle.jcr_session.proofs.Waiting.{all_beside, by_waits, called_beside, committed_beside, committing_beside, fresh_beside, in_beside, login_stays, next_beside, nodes_beside, shown_beside}
+
+module _ (law : JcrLaw) (p q : Shown) (run : SessionRun) (stands : Stands law p run) (beside : IsBeside law p q) (work : q.work ≡ p.work) (room : q.room ≡ p.room) where
+  abbrev added : Past
+  added = beside.others
+
+  in_now : IsIn law p → IsIn law q
+  in_now = in_beside law p q beside stands.nodes
+
+  for_now : (c : Call) (a : Accepted) → IsFor p run c a → IsFor q run c a
+  for_now c a is = record {
+    command = is.command;
+    next = is.next;
+    commits = is.commits;
+    holds = is.holds;
+    settled = is.settled;
+    accepts = is.accepts;
+    place = subst (λ (x : Option ℕ). IsPlace x a) (sym room) is.place;
+  }
+
+  at_now : (f : Phase) → StandsAt law p run f → StandsAt law q run f
+  at_now phase.Outside h = record {
+    idle = work ∙ h.idle;
+    out = shown_beside law p q beside (λ h n. has_login h.past n ≡ false) (login_stays (added ++ p.history.past) added p.history.past p.session beside.grows.theirs h.out);
+    unread = h.unread;
+    holds = h.holds;
+    still = shown_beside law p q beside (λ h n. is_drawing h.past n ≡ false) (idle_stays (added ++ p.history.past) added p.history.past p.session beside.grows.theirs h.still);
+  }
+  at_now phase.Between h = (
+    in_now h.0,
+    record {
+      call = h.1.call;
+      is = called_beside law p q beside stands.nodes h.1.call h.1.is;
+      holds = h.1.holds;
+      fresh = fresh_beside law p q beside stands.nodes h.1.fresh;
+      reads = subst (λ (w : Work). IsReading w run.fetch) (sym work) h.1.reads;
+      due = h.1.due;
+    },
+  )
+  at_now (phase.Refreshed v) h = (
+    in_now h.0,
+    record {
+      idle = work ∙ h.1.idle;
+      unread = h.1.unread;
+      refreshes = h.1.refreshes;
+      moved = shown_beside law p q beside (λ h n. refreshed_since h.past n ≡ Some v) ((all_beside law p q beside stands.nodes).refreshed ∙ h.1.moved);
+      fresh = fresh_beside law p q beside stands.nodes h.1.fresh;
+      call = h.1.call;
+      is = called_beside law p q beside stands.nodes h.1.call h.1.is;
+      holds = h.1.holds;
+    },
+  )
+  at_now (phase.Committing a) h = (
+    in_now h.0,
+    record {
+      unread = h.1.unread;
+      call = h.1.call;
+      is = called_beside law p q beside stands.nodes h.1.call h.1.is;
+      for = for_now h.1.call a h.1.for;
+      commits = subst (λ (x : Work). IsCommitting q.history.past q.session x) (sym work) (committing_beside law p q beside stands.nodes p.work h.1.commits);
+    },
+  )
+  at_now (phase.Committed e a) h = (
+    in_now h.0,
+    record {
+      idle = work ∙ h.1.idle;
+      unread = h.1.unread;
+      call = h.1.call;
+      for = for_now h.1.call a h.1.for;
+      ended = committed_beside law p q beside stands.nodes h.1.call e h.1.ended;
+    },
+  )
+  at_now phase.Over h = record {
+    idle = work ∙ h.idle;
+    left = shown_beside law p q beside (λ h n. has_left h.past n ≡ true) (any_later (is_end_of_session p.session) added p.history.past h.left);
+    all = h.all;
+  }
+
+  pub stands_beside : Stands law q run
+  stands_beside = record {
+    nodes = nodes_beside law p q beside stands.nodes;
+    trees = shown_beside law p q beside (λ h n. SeesTrees law h.clusters h.sessions h.begin) stands.trees;
+    run_is = beside.grows.run;
+    session = beside.session ∙ stands.session;
+    few = stands.few;
+    commands = stands.commands;
+    index = stands.index ∙ (ap (next_index p.history.past) (sym stands.session) ∙ (sym (next_beside law p q beside) ∙ ap (next_index q.history.past) (beside.session ∙ stands.session)));
+    within = stands.within;
+    at = at_now run.phase stands.at;
+  }
+
+pub stands_waits : (law : JcrLaw) (p q : Shown) (run : SessionRun) → Stands law p run → OthersAlone (starts_of law) (says_of law) p q p.work p.room → Stands law q run
+stands_waits law p q run stands waits = stands_beside law p q run stands (by_waits law p q p.work p.room waits) waits.work_is waits.room_is
+
+-- ---- a new session
+
+nothing_behind : {X : Type 0} (a : List X) → a ++ [] ≡ a
+nothing_behind [] = refl
+nothing_behind (x ∷ a) = ap (λ l. x ∷ l) (nothing_behind a)
+
+module _ (law : JcrLaw) (p : Shown) (session : ℕ) (commands : List Command) (run : SessionRun) (new : IsNew session law.earlier commands law.types run) (few : length commands ≤ MOST_COMMANDS) (nodes : AreNodes p.history.clusters p.history.sessions)
+    (trees : SeesTrees law p.history.clusters p.history.sessions p.history.begin) (run_is : IsRun (starts_of law) (says_of law) p.history) (idle : p.work ≡ Idle) (own : p.session ≡ session) (theirs : (i : ℕ) → command_at law session i ≡ slice_get commands i)
+    (none : list_any (is_event_of p.history.past session) p.history.past ≡ false) where
+  abbrev past : Past
+  past = p.history.past
+
+  -- what others leave of a history without events
+  from_nothing : (F : Past → Type 0) → F (past ++ []) → F past
+  from_nothing F x = subst F (nothing_behind past) x
+
+  outside : StandsAt law p run phase.Outside
+  outside = subst (λ (s : ℕ). IsOutside law (record p { session = s }) run) (sym own) record {
+    idle = idle;
+    out = from_nothing (λ (w : Past). has_login w session ≡ false) (login_stays past past [] session none refl);
+    unread = new.unread;
+    holds = record { nothing = new.holds.nothing; session_is = new.holds.session_is ∙ sym new.session_is; earlier_is = new.holds.earlier_is; types_are = new.holds.types_are };
+    still = from_nothing (λ (w : Past). is_drawing w session ≡ false) (idle_stays past past [] session none refl);
+  }
+
+  pub new_stands : Stands law p run
+  new_stands = record {
+    nodes = nodes;
+    trees = trees;
+    run_is = run_is;
+    session = own ∙ sym new.session_is;
+    few = subst (λ (cs : List Command). length cs ≤ MOST_COMMANDS) (sym new.commands_are) few;
+    commands = λ i. ap (λ (s : ℕ). command_at law s i) new.session_is ∙ (theirs i ∙ ap (λ (cs : List Command). slice_get cs i) (sym new.commands_are));
+    index = new.first ∙ sym (ap (next_index past) new.session_is ∙ from_nothing (λ (w : Past). next_index w session ≡ 0) (next_stays past past [] session none));
+    within = subst (λ (i : ℕ). i ≤ length run.commands) (sym new.first) (let h : 0 ≤ length run.commands = omega arith in h);
+    at = subst (λ (f : Phase). StandsAt law p run f) (sym new.outside) outside;
+  }
