@@ -19,6 +19,7 @@ use Rattle.jcr_call.specs.declared.footing.Footing.{Footing}
 use Rattle.jcr_call.specs.Comings.{IsComing}
 use Rattle.jcr_call.specs.Dues.{due_at_once, due_of}
 use Rattle.jcr_call.specs.Footings.{IsOn}
+use Rattle.jcr_call.proofs.AtOnce.{at_once}
 use Rattle.jcr_held.specs.declared.held.Held.{Held}
 use Rattle.jcr_held.specs.Comes.{ComesTo, commits}
 use Rattle.jcr_held.specs.Holds.{Holds, asks_for}
@@ -75,14 +76,10 @@ pub is_due : (f : Footing) (m : Command) → commits m ≡ true → ¬ (m ≡ co
 is_due f m h other (Ok found) at_once = some_of found _ (at_once (call_on f) (is_on f)) (due_there (call_on f) m h other)
 is_due f m h other (Err e) at_once = tt
 
-due_otherwise : (c : Call) (m : Command) → ¬ (m ≡ command.Save) → due_at_once c m ≡ edit_due c m
-due_otherwise c command.Save other = absurd (other refl)
-due_otherwise c m other = refl
-
 pub due_as_law : (c : Call) (m : Command) → ¬ (m ≡ command.Save) → (result : Result (Option Due) AllocError)
     → IfOk result (λ found. option_map due_of found ≡ due_at_once c m)
     → IfOk result (λ found. option_map due_of found ≡ edit_due c m)
-due_as_law c m other (Ok found) is = is ∙ due_otherwise c m other
+due_as_law c m other (Ok found) is = is ∙ at_once c m other
 due_as_law c m other (Err e) is = tt
 
 -- what is due comes to this

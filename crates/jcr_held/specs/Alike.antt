@@ -13,6 +13,13 @@ pub record AreAlike (x y : Held) : Type 0 where
   pub is_kept : y.is_kept ≡ x.is_kept
   pub tokens : y.tokens ≡ x.tokens
 
+-- only what is pending changes, and whether it is kept from an earlier base
+pub record ChangesPendingOnly (old new : Held) : Type 0 where
+  pub types : new.types ≡ old.types
+  pub who : new.who ≡ old.who
+  pub part : new.part ≡ old.part
+  pub tokens : new.tokens ≡ old.tokens
+
 -- the base is at a vector, of whose tree nothing is known; what is pending is kept
 abbrev pub moved_to : Held → RevVec → Held
 moved_to x v = record x {

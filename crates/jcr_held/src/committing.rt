@@ -21,8 +21,9 @@ use jr_value::Value;
 use std::alloc::AllocError;
 
 impl Held {
-    /// What a command that commits, and for which all is read, comes to before its commit: a reply, or a plan and its
-    /// accepted reply (JSR 283, 10.11 Saving; 15 Versioning; 17 Locking). What is pending is due for `save`.
+    /// What a command that commits, and for which all is read, comes to before its commit: a reply,
+    /// or a plan and its accepted reply (JSR 283, 10.11 Saving; 15 Versioning; 17 Locking). What is
+    /// pending is due for `save`.
     pub fn come(&self, command: &Command) -> Result<Coming, AllocError>
         requires ready { IsReady self.now command.now }
         requires commits { IsTrue (commits command.now) }
@@ -82,8 +83,8 @@ impl Held {
     }
 }
 
-/// Whether the command commits: `save`, and the commands of locks and versions that write (JSR 283, 10.11 Saving; 15
-/// Versioning; 17 Locking).
+/// Whether the command commits: `save`, and the commands of locks and versions that write (JSR 283,
+/// 10.11 Saving; 15 Versioning; 17 Locking).
 pub fn commits(command: &Command) -> bool
     ensures { result ≡ commits command.now }
 {

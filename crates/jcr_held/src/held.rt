@@ -13,6 +13,7 @@ ghost use Rattle.jcr_held.specs.Accepts.{TokensFit, drops_pending, without_pendi
 ghost use Rattle.jcr_held.specs.Begins.{IsFirstCall, IsNewHeld};
 ghost use Rattle.jcr_held.specs.Holds.{Holds};
 
+use jcr_ref::MAX_IDS;
 use jcr_trans::Command;
 use jcr_view::Pending;
 use jr_part::{Need, Part};
@@ -22,11 +23,9 @@ use jr_tree::{Node, Who};
 use jr_types::Registry;
 use std::alloc::{AllocError, Global};
 
-// How many identifiers a session may draw.
-const MOST_IDS: u32 = 16_777_215;
-
-/// What a session holds between its commands: the node types, who it is, what it has read of the tree at its base, what
-/// is pending over that, and its lock tokens (JSR 283, 10.11 Saving; 17.5 Lock Token).
+/// What a session holds between its commands: the node types, who it is, what it has read of the
+/// tree at its base, what is pending over that, and its lock tokens (JSR 283, 10.11 Saving; 17.5
+/// Lock Token).
 #[derive(Drop)]
 pub struct Held {
     pub(crate) alloc: Global,
@@ -42,8 +41,8 @@ pub struct Held {
 }
 
 impl Held {
-    /// What a session holds when it begins, with its number, how many sessions there were before this run, and its base.
-    /// It takes no memory.
+    /// What a session holds when it begins, with its number, how many sessions there were before
+    /// this run, and its base. It takes no memory.
     pub fn new(alloc: Global, session: u32, earlier: u32, base: RevVec, types: Registry) -> Held
         ensures new { IsNewHeld result }
         ensures types { result.types ≡ types }
@@ -78,8 +77,9 @@ impl Held {
         self.who.base
     }
 
-    /// Moves the base to a vector, of whose tree nothing is known yet. What is pending is kept, and made again over that
-    /// tree before the next command that asks for something (JSR 283, 10.11.4 Refresh). It takes no memory.
+    /// Moves the base to a vector, of whose tree nothing is known yet. What is pending is kept, and
+    /// made again over that tree before the next command that asks for something (JSR 283, 10.11.4
+    /// Refresh). It takes no memory.
     pub fn move_to(&mut self, base: RevVec)
         ensures begins { (c : Call) → IsNewHeld self.old → IsFirstCall self.old base c
             → Holds c self.new }
@@ -93,7 +93,8 @@ impl Held {
         self.left.clear();
     }
 
-    /// Puts the node at a path of the tree at the base, or that none is there. A refusal leaves all as it was.
+    /// Puts the node at a path of the tree at the base, or that none is there. A refusal leaves all
+    /// as it was.
     pub fn put_node(&mut self, path: &Path, node: Option<Node>) -> Result<(), AllocError>
         ensures ok { OnOk result (self.new ≡ record self.old {
           part = with_node self.old.part path.now node;
@@ -107,8 +108,8 @@ impl Held {
         Ok(())
     }
 
-    /// Puts the names of the children, which rise, of the node at a path of the tree at the base. A refusal leaves all as
-    /// it was.
+    /// Puts the names of the children, which rise, of the node at a path of the tree at the base. A
+    /// refusal leaves all as it was.
     pub fn put_children(
         &mut self,
         path: &Path,
@@ -127,8 +128,8 @@ impl Held {
         Ok(())
     }
 
-    /// A command that the view doesn't answer was accepted: `save`, and `refresh` with false, drop what is pending. The
-    /// tokens are those given, or else they stay. It takes no memory.
+    /// A command that the view doesn't answer was accepted: `save`, and `refresh` with false, drop
+    /// what is pending. The tokens are those given, or else they stay. It takes no memory.
     pub fn accept(&mut self, command: &Command, drew: bool, tokens: Option<List<Text>>)
         requires { IsFalse (is_viewed command.now) }
         ensures { (c : Call) → Holds c self.old → TokensFit self.old tokens c command.now
@@ -170,7 +171,7 @@ impl Held {
     pub(crate) fn count(&mut self, drawn: u32)
         ensures { AreAlike (with_drawn self.old drawn) self.new }
     {
-        self.who.ids = self.who.ids.saturating_add(drawn).min(MOST_IDS);
+        self.who.ids = self.who.ids.saturating_add(drawn).min(MAX_IDS);
         self.left.clear();
     }
 }

@@ -1,5 +1,6 @@
-//! What a session holds between its commands: the part of the tree at its base that it has read, its pending changes,
-//! its lock tokens, and how many identifiers it has drawn (JSR 283, 10.11 Saving; 17.5 Lock Token).
+//! What a session holds between its commands: the part of the tree at its base that it has read,
+//! its pending changes, its lock tokens, and how many identifiers it has drawn (JSR 283, 10.11
+//! Saving; 17.5 Lock Token).
 #![tactic(auto)]
 
 mod committing;

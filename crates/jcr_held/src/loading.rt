@@ -8,7 +8,7 @@ ghost use Rattle.jcr_view.specs.Needs.{needs_of, needs_to_rebase};
 ghost use Rattle.jcr_view.specs.Outcomes.{is_viewed};
 ghost use Rattle.jcr_view.specs.Rounds.{is_of_one_node};
 ghost use Rattle.jcr_law.specs.State.{Call};
-ghost use Rattle.jcr_held.specs.Alike.{AreAlike};
+ghost use Rattle.jcr_held.specs.Alike.{AreAlike, ChangesPendingOnly};
 ghost use Rattle.jcr_held.specs.Holds.{Holds, IsReady, asks_for};
 
 use crate::Held;
@@ -20,13 +20,15 @@ use jr_rev::Revision;
 use std::alloc::{AllocError, Global};
 
 impl Held {
-    /// What to read next of the tree at the base, a node or the children of one, before a command is run; None where all
-    /// is known that it asks for, and nothing is kept from an earlier base. Commands that commit, and queries, ask for
-    /// the whole tree (JSR 283, 6 Query; 10.11 Saving); `head` and `refresh` for nothing.
+    /// What to read next of the tree at the base, a node or the children of one, before a command
+    /// is run; None where all is known that it asks for, and nothing is kept from an earlier base.
+    /// Commands that commit, and queries, ask for the whole tree (JSR 283, 6 Query; 10.11 Saving);
+    /// `head` and `refresh` for nothing.
     pub fn next_load(&mut self, command: &Command) -> Result<Option<Need>, AllocError>
         ensures ready { IfOk result (λ load. load ≡ None → IsReady self.new command.now) }
         ensures one { IfOk result (λ load. IfSome load (λ n. IsTrue (is_of_one_node n))) }
         ensures holds { (c : Call) → Holds c self.old → Holds c self.new }
+        ensures others { ChangesPendingOnly self.old self.new }
     {
         match load_left(self.alloc, &self.part, &mut self.left)? {
             Some(load) => Ok(Some(load)),
@@ -39,6 +41,7 @@ impl Held {
         ensures ready { IfOk result (λ load. load ≡ None → IsReady self.new command.now) }
         ensures one { IfOk result (λ load. IfSome load (λ n. IsTrue (is_of_one_node n))) }
         ensures holds { (c : Call) → Holds c self.old → Holds c self.new }
+        ensures others { ChangesPendingOnly self.old self.new }
     {
         match self.load_kept()? {
             Some(load) => Ok(Some(load)),
@@ -51,6 +54,7 @@ impl Held {
         ensures settled { IfOk result (λ load. load ≡ None → IsFalse self.new.is_kept) }
         ensures one { IfOk result (λ load. IfSome load (λ n. IsTrue (is_of_one_node n))) }
         ensures holds { (c : Call) → Holds c self.old → Holds c self.new }
+        ensures others { ChangesPendingOnly self.old self.new }
     {
         if !self.is_kept {
             return Ok(None);
@@ -70,6 +74,7 @@ impl Held {
         ensures none { IfOk result (λ load. load ≡ None) }
         ensures settled { OnOk result (IsFalse self.new.is_kept) }
         ensures holds { (c : Call) → Holds c self.old → Holds c self.new }
+        ensures others { ChangesPendingOnly self.old self.new }
     {
         rebases_count();
         self.pending.rebase(&self.part)?;
@@ -83,6 +88,7 @@ impl Held {
         ensures ready { IfOk result (λ load. load ≡ None → IsReady self.new command.now) }
         ensures one { IfOk result (λ load. IfSome load (λ n. IsTrue (is_of_one_node n))) }
         ensures holds { (c : Call) → Holds c self.old → Holds c self.new }
+        ensures others { ChangesPendingOnly self.old self.new }
     {
         let needs = self.asked(command)?;
         self.load_of(needs)
@@ -110,7 +116,8 @@ impl Held {
         }
     }
 
-    // What to read next of some needs; None where nothing of them lacks. They are left to be looked at.
+    // What to read next of some needs; None where nothing of them lacks. They are left to be looked
+    // at.
     fn load_of(&mut self, needs: Vec<Need>) -> Result<Option<Need>, AllocError>
         ensures known { IfOk result (λ load. load ≡ None
             → All (LacksNothing self.new.part) needs.items) }
@@ -147,8 +154,9 @@ fn first_lacking(part: &Part, needs: &[Need]) -> Result<Option<Need>, AllocError
     Ok(None)
 }
 
-// The next load of the needs that are left, of which it looks at the last first; None where none is left. A subtree is
-// left until its node and its children are known, and then the subtrees of these are: each known node is looked at once.
+// The next load of the needs that are left, of which it looks at the last first; None where none is
+// left. A subtree is left until its node and its children are known, and then the subtrees of these
+// are: each known node is looked at once.
 fn load_left(alloc: Global, part: &Part, left: &mut Vec<Need>) -> Result<Option<Need>, AllocError>
     ensures { IfOk result (λ load. IfSome load (λ n. IsTrue (is_of_one_node n))) }
 {
@@ -199,7 +207,8 @@ fn lacking_children(part: &Part, path: Path) -> Option<Need>
     }
 }
 
-// The node at a path lacks, or its children, or none of both: then what is below is left to be looked at.
+// The node at a path lacks, or its children, or none of both: then what is below is left to be
+// looked at.
 fn look_below(part: &Part, left: &mut Vec<Need>, path: Path) -> Result<Option<Need>, AllocError>
     ensures { IfOk result (λ load. IfSome load (λ n. IsTrue (is_of_one_node n))) }
 {

@@ -17,8 +17,9 @@ use jr_path::{List, Text};
 use std::alloc::AllocError;
 
 impl Held {
-    /// Runs a command that the view answers and for which all is read, and answers the text of its reply (JSR 283, 5
-    /// Reading; 10 Writing; 17.5 Lock Token). Where memory is refused all is left as it was.
+    /// Runs a command that the view answers and for which all is read, and answers the text of its
+    /// reply (JSR 283, 5 Reading; 10 Writing; 17.5 Lock Token). Where memory is refused all is left
+    /// as it was.
     pub fn see(&mut self, command: &Command) -> Result<String, AllocError>
         requires viewed { IsTrue (is_viewed command.now) }
         requires ready { IsReady self.old command.now }
