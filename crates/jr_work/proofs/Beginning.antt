@@ -105,9 +105,9 @@ module _ (script : Script) (within : IsWithin script) where
             record {
               session = is.run.session_is;
               stands = λ n.
-                  new_stands (law_of script) (shown_at n start s) s session.commands seat.run is.run (session_within script within s session there).few (within_nodes script within) trees tt refl
-                  (λ i. commands_at script s i ∙ ap (λ (o : Option SessionScript). slice_get (option_map_or (λ x. x.commands) o []) i) there)
-                  (idle_at (map (λ s. s.cluster) script.sessions) s) refl;
+                  new_stands (law_of script) (shown_at n start s) s session.commands seat.run is.run (session_within script within s session there).few (within_nodes script within) trees tt
+                  (idle_at (map (λ s. s.cluster) script.sessions) s) refl
+                  (λ i. commands_at script s i ∙ ap (λ (o : Option SessionScript). slice_get (option_map_or (λ x. x.commands) o []) i) there) refl;
               flight = subst (λ (o : Option Flight). IsFlight [] s o) (sym is.flight) refl;
               seen = λ r theirs unseen. absurd (false≢true theirs);
             }
