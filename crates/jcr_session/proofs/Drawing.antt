@@ -265,3 +265,19 @@ module _ (law : JcrLaw) (mid : Shown) (run : SessionRun) (plan : Plan) (may : Ma
     pub draw_turns : HasTurned law mid new run run (turn.Stepped kind.Draw)
     draw_turns = turned_later law mid begun new run run (turn.Stepped kind.Draw) may.asked.inside.nodes (free (ap is_writing begins.work_is) (ap is_awaiting begins.work_is) (ap is_awaiting may.asked.idle)) first_beside
         (not_ended (turn.Stepped kind.Draw) refl) draws_new
+
+  -- memory was refused for its draw
+  pub record HasStopped (new : Shown) : Type 0 where
+    pub beside : IsBeside law mid new
+    pub idle : new.work ≡ Idle
+    pub room : Rattle.oak_port.specs.Ports.HasRoom new.room Rattle.jcr_session.specs.declared.limits.TheConstants.COMMIT_REPLY_BYTES
+
+  pub draw_stops : (begun new : Shown) (begins : OthersAlone (starts_of law) (says_of law) mid begun (Starting (task.Commit plan.edit plan.marks)) mid.room) (answer : Rattle.oak_port.specs.declared.task.StepOut.StepOut)
+      (steps : Steps (starts_of law) (says_of law) begun new answer) → answer ≡ out.Memory → HasStopped new
+  draw_stops begun new begins answer steps memory =
+      let made : (steps.own ≡ []) × (new.work ≡ Idle) = subst (λ (w : Work). Makes (after steps.others begun.history) begun.session w out.Memory steps.own new.work) begins.work_is
+          (subst (λ (a : Rattle.oak_port.specs.declared.task.StepOut.StepOut). Makes (after steps.others begun.history) begun.session begun.work a steps.own new.work) memory steps.makes) in record {
+        beside = Rattle.jcr_session.proofs.Starting.stopped_beside law mid begun new (Starting (task.Commit plan.edit plan.marks)) mid.room answer may.asked.inside.nodes begins steps made.0;
+        idle = made.1;
+        room = subst (λ (x : Option Rattle.std.proofs.Common.ℕ). Rattle.oak_port.specs.Ports.HasRoom x 40) (sym (steps.room ∙ begins.room_is)) may.place.told;
+      }

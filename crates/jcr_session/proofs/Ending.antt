@@ -45,7 +45,7 @@ use Rattle.jcr_session.specs.Asked.{HasClashed, IsAsked, MayAnswer, MayForgo, Se
 use Rattle.jcr_session.specs.Standing.{IsAtEnd, IsBeside, IsCalled, IsClash, IsFor, IsIn, IsMadeFor, IsUnmade, Stands, due_by, due_for}
 use Rattle.jcr_session.proofs.Drawing.{commit_allowed}
 use Rattle.jcr_session.proofs.Lawful.{forgo_answers, refused_text, says_allowed, settled_asked, settled_leaves, settled_says}
-use Rattle.jcr_session.proofs.Nexts.{allowed_due, apart, due_at}
+use Rattle.jcr_session.proofs.Nexts.{allowed_due, apart, due_at, due_number, unviewed_due}
 use Rattle.jcr_session.proofs.Saying.{answer_waits, asked_like, asked_waits}
 
 -- ---- the command whose commit has ended
@@ -212,3 +212,26 @@ module _ (law : JcrLaw) (p : Shown) (run : SessionRun) (r : Revision) (a : Accep
       leaves = settled_leaves law p (record run { held = held }) now true true (Some a.tokens) settles here.for.command moved (accepted_text a r) here.for.next holds
           (λ ok. here.for.accepts.tokens ∙ sym (moved_tokens c made.base made.tree here.for.command allowed)) accepts (ap is_some made.drawn);
     }
+
+-- the text that is told: that which was made before, or the revision
+abbrev pub told_as : Revision → Option (String Global) → Text
+told_as r o = option_map_or string_bytes o (answer_text (ShowsRevision r))
+
+module _ (law : JcrLaw) (p : Shown) (run : SessionRun) (r : Revision) (a : Accepted) (stands : Stands law p (record run { phase = phase.Committed (commit.Committed r) a })) where
+  abbrev at_end : IsAtEnd law p (record run { phase = phase.Committed (commit.Committed r) a }) (commit.Committed r) a
+  at_end = stands.at.1
+
+  abbrev made_it : IsMadeFor law p.history p.session at_end.call r
+  made_it = at_end.ended
+
+  -- the session has a base
+  pub made_base : {A : Type 0} (o : Option Pin) → o ≡ None → (Rattle.oak_machine.specs.Sessions.has_left p.history.past p.session ≡ false → option_map (λ x. x.base) o ≡ base_of p.history.past p.session) → A
+  made_base o none told = absurd (false≢true (ap is_some (sym (ap (option_map (λ (x : Pin). x.base)) none) ∙ (told stands.at.0.stays ∙ call_has_base law p.history.begin p.history.past p.session (call_moved at_end.call made_it.base made_it.tree) made_it.call))))
+
+  -- what is held once it moved there
+  pub made_holds : (pin : Pin) → pin.base ≡ made_it.base → (held : Held) → ((c : Call) (t : Nodes) → Holds c run.held → run.held.is_kept ≡ false → IsTree t → Holds (call_moved c pin.base t) held)
+      → Holds (call_moved at_end.call made_it.base made_it.tree) held
+  made_holds pin is held moves = subst (λ (v : RevVec). Holds (call_moved at_end.call v made_it.tree) held) is (moves at_end.call made_it.tree at_end.for.holds at_end.for.settled made_it.tree_is)
+
+  pub made_next : (m : Command) × (slice_get run.commands run.index ≡ Some m) × (Rattle.jcr_view.specs.Outcomes.is_viewed m ≡ false)
+  made_next = (at_end.for.command, at_end.for.next, unviewed_due at_end.for.command (ap (λ (d : _). Rattle.std.proofs.Common.nat_eq (due_number d) 6) (sym (due_at run at_end.for.command at_end.for.next) ∙ at_end.for.commits)))

@@ -48,7 +48,6 @@ use Rattle.jcr_session.specs.declared.run.Phase.TheVariants as phase
 use Rattle.jcr_session.specs.declared.run.SessionRun.{SessionRun}
 use Rattle.jcr_session.specs.Asked.{ComesNext, HasSeen, IsAsked, IsBarred, IsQueried, MayAnswer, MayForgo, MaySettle, Settles, has_drawn}
 use Rattle.jcr_session.specs.Standing.{IsBetween, IsIn, IsReading, IsRefreshed, Stands, StandsAt, due_by, due_for, due_to, is_allowed, reads_for}
-use Rattle.jcr_session.proofs.Locking.{lock_writes_some}
 use Rattle.jcr_session.proofs.Nexts.{allowed_due, apart, barred_due, due_number, next_due, only_head, only_query, only_refresh, seen_viewed, unviewed_due}
 use Rattle.jcr_session.proofs.Saying.{asked_like}
 
@@ -203,7 +202,7 @@ module _ (law : JcrLaw) (p : Shown) (run : SessionRun) (stands : Stands law p ru
         (says_allowed law p run m at_between.1.call between_asked (string_bytes text) (allowed_due m due.Query is refl).0
         (subst (λ (x : Command). MaySay law p.history p.session (Allowed x) (string_bytes text)) (sym q.2)
         (queried q.0 q.1 at_between.1.call (string_bytes text) at_between.1.is
-        (queries q.0 q.1 at_between.1.call at_between.1.holds (next ∙ ap (λ (x : Command). Some x) q.2)))))
+        (queries m next q.0 q.1 at_between.1.call at_between.1.holds q.2))))
         (unviewed_due m (ap (λ (d : _). nat_eq (due_number d) 6) is))
         (λ ok. subst (λ (x : Command). (accepted at_between.1.call x).tokens ≡ at_between.1.call.state.tokens) (sym q.2) refl)
 
@@ -218,29 +217,35 @@ module _ (law : JcrLaw) (p : Shown) (run : SessionRun) (stands : Stands law p ru
       unviewed_now : is_viewed m ≡ false
       unviewed_now = unviewed_due m (ap (λ (d : _). nat_eq (due_number d) 6) commits)
 
-      refuses : (d : Result (List Write) Refusal) (r : Refusal) → edit_due c m ≡ Some d → refusal_of_due c d ≡ Some r → MaySettle law p run (no_text r)
-      refuses d r is cause = settles_by (no_text r)
-          (says_allowed law p run m c between_asked (no_text r) allowed (refused_edit m c d r at_between.1.fresh.first at_between.1.is is cause)) unviewed_now
-          (λ ok. absurd (false≢true (sym (refused_text r) ∙ ok)))
+      refuses : (d : Result (List Write) Refusal) (r : Refusal) → edit_due c m ≡ Some d → refusal_of_due c d ≡ Some r → SaysBy law p.history p.session run.index (no_text r)
+      refuses d r is cause = says_allowed law p run m c between_asked (no_text r) allowed (refused_edit m c d r at_between.1.fresh.first at_between.1.is is cause)
 
       some_text : (o : Option Refusal) (text : Text) → option_map no_text o ≡ Some text → (r : Refusal) × (o ≡ Some r) × (text ≡ no_text r)
       some_text None text h = absurd (false≢true (ap is_some h))
       some_text (Some r) text h = (r, refl, ap (λ (x : Option Text). elim x [ Some t ↦ t | None ↦ text ]) (sym h))
 
-      said_settles : (d : Result (List Write) Refusal) (text : Text) → edit_due c m ≡ Some d → reply_to_due c m d ≡ Some text → MaySettle law p run text
-      said_settles (Ok []) text is told =
-          subst (λ (t : Text). MaySettle law p run t) (ap (λ (x : Option Text). elim x [ Some t ↦ t | None ↦ text ]) told)
-          (settles_by (answer_text (unwritten_answer c m))
-          (says_allowed law p run m c between_asked (answer_text (unwritten_answer c m)) allowed (unwritten m c at_between.1.fresh.first at_between.1.is is)) unviewed_now
-          (λ ok. lock_writes_some m c is (allowed_due m due.Commit commits refl).1))
-      said_settles (Ok (w ∷ ws)) text is told =
+      says_due : (d : Result (List Write) Refusal) (text : Text) → edit_due c m ≡ Some d → reply_to_due c m d ≡ Some text → SaysBy law p.history p.session run.index text
+      says_due (Ok []) text is told =
+          subst (λ (t : Text). SaysBy law p.history p.session run.index t) (ap (λ (x : Option Text). elim x [ Some t ↦ t | None ↦ text ]) told)
+          (says_allowed law p run m c between_asked (answer_text (unwritten_answer c m)) allowed (unwritten m c at_between.1.fresh.first at_between.1.is is))
+      says_due (Ok (w ∷ ws)) text is told =
           let r = some_text (refusal_of_plan c (w ∷ ws)) text told in
-          subst (λ (t : Text). MaySettle law p run t) (sym r.2) (refuses (Ok (w ∷ ws)) r.0 is r.1)
-      said_settles (Err r) text is told =
-          subst (λ (t : Text). MaySettle law p run t) (ap (λ (x : Option Text). elim x [ Some t ↦ t | None ↦ text ]) told) (refuses (Err r) r is refl)
+          subst (λ (t : Text). SaysBy law p.history p.session run.index t) (sym r.2) (refuses (Ok (w ∷ ws)) r.0 is r.1)
+      says_due (Err r) text is told =
+          subst (λ (t : Text). SaysBy law p.history p.session run.index t) (ap (λ (x : Option Text). elim x [ Some t ↦ t | None ↦ text ]) told) (refuses (Err r) r is refl)
 
-      pub commit_settles : (text : String Global) → ComesNext run (coming.Said text) → MaySettle law p run (string_bytes text)
-      commit_settles text comes = let x = comes m c next at_between.1.holds in said_settles x.due (string_bytes text) x.is_due x.comes
+      pub commit_settles : (text : String Global) → ComesNext run (coming.Said text)
+          → ((x : Call) (held : Held) (n : Command) (t : String Global) → Holds x held → ComesTo x n (coming.Said t) → is_ok_text (string_bytes t) ≡ true → TokensFit held None x n) → MaySettle law p run (string_bytes text)
+      commit_settles text comes keeps = let x = comes m c next at_between.1.holds in record {
+        command = m;
+        call = c;
+        asked = between_asked;
+        says = says_due x.due (string_bytes text) x.is_due x.comes;
+        first = ap is_some at_between.1.fresh.first;
+        unviewed = unviewed_now;
+        tokens = λ ok. keeps c run.held m text at_between.1.holds x ok;
+        holds = at_between.1.holds;
+      }
 
     -- the view answers
     pub see_answers : (now : SessionRun) (text : String Global) → due_to m ≡ due.See → now ≡ record run { held = now.held } → HasSeen run now (Ok text) → MayAnswer law p now (string_bytes text)

@@ -1,3 +1,4 @@
+pub mod Calling
 pub mod Coming
 pub mod Committing
 pub mod Drawing
@@ -5,7 +6,7 @@ pub mod Ending
 pub mod Lawful
 pub mod Lengths
 pub mod Living
-pub mod Locking
+pub mod Loads
 pub mod Looking
 pub mod Nexts
 pub mod Others

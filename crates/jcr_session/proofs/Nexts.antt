@@ -1,5 +1,6 @@
 -- What is to be done for the next command of a session, case by case.
-use Rattle.std.proofs.Common.{◌≡◌, ℕ, Bool, true, false, cond, not, ◌&&◌, Some, None, Option, List, [], ◌∷◌, is_some, nat_eq, refl, sym, ap, ◌∙◌, subst}
+use Rattle.std.proofs.lemmas.Bool.Decides.{nat_tests}
+use Rattle.std.proofs.Common.{◌≡◌, ℕ, zero, suc, ◌<◌, length, get_or, arith, Bool, true, false, cond, not, ◌&&◌, Some, None, Option, List, [], ◌∷◌, is_some, nat_eq, nat_lt, refl, sym, ap, ◌∙◌, subst}
 use Rattle.std.specs.Prelude.{slice_get}
 use Rattle.std.specs.Option.{option_map_or}
 use mathlib.Core.Bool.{false≢true}
@@ -16,7 +17,7 @@ use Rattle.jcr_session.specs.declared.next.Due.TheVariants as due
 use Rattle.jcr_session.specs.declared.run.Phase.{Phase}
 use Rattle.jcr_session.specs.declared.run.Phase.TheVariants as phase
 use Rattle.jcr_session.specs.declared.run.SessionRun.{SessionRun}
-use Rattle.jcr_session.specs.Standing.{due_by, due_for, due_of, due_to, is_allowed, is_between, may_read, reads_for}
+use Rattle.jcr_session.specs.Standing.{due_by, due_for, due_of, due_to, is_allowed, is_between, is_saving, may_read, reads_for}
 
 abbrev pub due_number : Due → ℕ
 due_number due.Leave = 0
@@ -242,3 +243,46 @@ same_reads a b at commands index =
     ap (λ (f : Phase). is_between f && reads_for (due_for b)) at
     ∙ (ap (λ (cs : List Command). is_between a.phase && reads_for (due_of cs b.index)) commands
     ∙ ap (λ (i : ℕ). is_between a.phase && reads_for (due_of a.commands i)) index)
+
+-- ---- the command that is found
+
+get_there : {X : Type 0} (xs : List X) (i : ℕ) (d : X) → i < length xs → slice_get xs i ≡ Some (get_or xs i d)
+get_there [] i d h = absurd (omega arith)
+get_there (x ∷ xs) zero d h = refl
+get_there (x ∷ xs) (suc i) d h = get_there xs i d (omega arith)
+
+pub next_there : (commands slice : List Command) (i : ℕ) (c : Command) → slice ≡ commands → i < length slice → c ≡ get_or slice i c → slice_get commands i ≡ Some c
+next_there commands slice i c same within is =
+    subst (λ (cs : List Command). slice_get cs i ≡ Some c) same (get_there slice i c within ∙ ap (λ (d : Command). Some d) (sym is))
+
+pub same_next : (commands : List Command) (i : ℕ) (x m : Command) → slice_get commands i ≡ Some x → slice_get commands i ≡ Some m → x ≡ m
+same_next commands i x m a b = ap (λ (o : Option Command). elim o [ Some y ↦ y | None ↦ x ]) (sym a ∙ b)
+
+get_less : {X : Type 0} (xs : List X) (i : ℕ) (x : X) → slice_get xs i ≡ Some x → i < length xs
+get_less [] i x h = absurd (false≢true (ap is_some h))
+get_less (y ∷ xs) zero x h = omega arith
+get_less (y ∷ xs) (suc i) x h = let r : i < length xs = get_less xs i x h in omega arith
+
+-- where none is found, there is none
+pub none_there : {A : Type 0} (commands slice : List Command) (i : ℕ) (m : Command) → slice ≡ commands → false ≡ nat_lt i (length slice) → slice_get commands i ≡ Some m → A
+none_there commands slice i m same none next =
+    let w : i < length slice = subst (λ (cs : List Command). i < length cs) (sym same) (get_less commands i m next) in
+    let t : nat_lt i (length slice) ≡ true = grind (arith, nat_tests) in
+    absurd (false≢true (none ∙ t))
+
+pub seen_there : (run : SessionRun) (x : Command) → due_for run ≡ due.See → slice_get run.commands run.index ≡ Some x → is_viewed x ≡ true
+seen_there run x is next = let a = allowed_due x due.See (sym (due_at run x next) ∙ is) refl in seen_viewed x a.0 a.1
+
+pub commits_there : (run : SessionRun) (x : Command) → due_for run ≡ due.Commit → slice_get run.commands run.index ≡ Some x → (c : Call) → is_some (edit_due c x) ≡ true
+commits_there run x is next = commits_due x (allowed_due x due.Commit (sym (due_at run x next) ∙ is) refl).1
+
+pub some_there : (commands : List Command) (i : ℕ) → is_some (slice_get commands i) ≡ true → (m : Command) × (slice_get commands i ≡ Some m)
+some_there commands i is = by (slice_get commands i) refl is
+  where
+    by : (o : Option Command) → slice_get commands i ≡ o → is_some o ≡ true → (m : Command) × (slice_get commands i ≡ Some m)
+    by None e h = absurd (false≢true h)
+    by (Some m) e h = (m, e)
+
+-- a session that reads isn't in its commit
+pub reads_unsaving : {A : Type 0} (run : SessionRun) → may_read run ≡ true → is_saving run.phase ≡ true → A
+reads_unsaving run reads saving = absurd (false≢true (sym (ap is_saving (reads_between run reads)) ∙ saving))

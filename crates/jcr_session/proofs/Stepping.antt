@@ -351,3 +351,12 @@ refused_stands law old mid run a stands commits first = (commit_refused law old 
 pub refused_busy : (law : JcrLaw) (old mid : Shown) (run : SessionRun) (a : Accepted) → Stands law old run → run.phase ≡ phase.Committing a → Steps (starts_of law) (says_of law) old mid out.Memory → mid.work ≡ Idle → ⊥
 refused_busy law old mid run a stands commits first idle =
     commit_busy law mid run a (refused_stands law old mid run a stands commits first) commits idle
+
+-- a step of a commit for which memory was refused, and one more
+pub memory_first : (law : JcrLaw) (old mid : Shown) (answer : StepOut) → answer ≡ out.Memory → Steps (starts_of law) (says_of law) old mid answer → Steps (starts_of law) (says_of law) old mid out.Memory
+memory_first law old mid answer is steps = subst (λ (a : StepOut). Steps (starts_of law) (says_of law) old mid a) is steps
+
+pub commit_again : (law later : JcrLaw) → later ≡ law → (old mid new : Shown) (first second : StepOut) (run now : SessionRun) (t : Turn) (a : Accepted) → Stands law old run → run.phase ≡ phase.Committing a → first ≡ out.Memory → Steps (starts_of law) (says_of law) old mid first
+    → Steps (starts_of later) (says_of later) mid new second → now ≡ record run { phase = phase_by second run.phase } → t ≡ turn_by second → HasTurned law old new run now t
+commit_again law later same old mid new first second run now t a stands commits memory once twice is told =
+    commit_twice law old mid new second run now t a stands commits (memory_first law old mid first memory once) (subst (λ (l : JcrLaw). Steps (starts_of l) (says_of l) mid new second) same twice) is told

@@ -32,6 +32,7 @@ use Rattle.jcr_held.specs.Accepts.{TokensFit}
 use Rattle.jcr_held.specs.Comes.{ComesTo}
 use Rattle.jcr_held.specs.Holds.{Holds}
 use Rattle.jcr_held.specs.Sees.{Sees}
+use Rattle.jcr_held.specs.declared.held.Held.{Held}
 use Rattle.jcr_session.specs.declared.limits.TheConstants.{COMMIT_REPLY_BYTES, MOST_COMMANDS}
 use Rattle.jcr_session.specs.declared.next.Due.TheVariants as due
 use Rattle.jcr_session.specs.declared.run.Phase.TheVariants as phase
@@ -111,10 +112,13 @@ IsBarred run text = (m : Command) → slice_get run.commands run.index ≡ Some 
     → string_bytes text ≡ no_support m
 
 -- the reply to a query
+abbrev pub IsQueriedAs : Held → Command → String Global → Type 0
+IsQueriedAs held m text = (q : Text) (vars : List (Name × Value)) (c : Call) → Holds c held
+    → m ≡ command.Query q vars → QueryAnswers c q vars (string_bytes text)
+
 abbrev pub IsQueried : SessionRun → String Global → Type 0
-IsQueried run text = (q : Text) (vars : List (Name × Value)) (c : Call) → Holds c run.held
-    → slice_get run.commands run.index ≡ Some (command.Query q vars)
-    → QueryAnswers c q vars (string_bytes text)
+IsQueried run text = (m : Command) → slice_get run.commands run.index ≡ Some m
+    → IsQueriedAs run.held m text
 
 -- the reply by the view, or that memory was refused for it
 abbrev pub HasSeen : SessionRun → SessionRun → Result (String Global) AllocError → Type 0

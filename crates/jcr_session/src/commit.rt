@@ -15,6 +15,7 @@ use crate::limits::COMMIT_REPLY_BYTES;
 use crate::run::{Phase, SessionRun};
 use crate::turn::Turn;
 use jcr_call::{Accepted, Coming};
+use jcr_held::replies_without_commit_keep_tokens;
 use jcr_law::JcrLaw;
 use jcr_plan::Plan;
 use oak_commit::CommitEnd;
@@ -34,6 +35,7 @@ impl SessionRun {
         ensures turned { HasTurned (P.law port.old) (P.shown port.old) (P.shown port.new)
             self.old self.new result }
     {
+        replies_without_commit_keep_tokens();
         match self.come() {
             Ok(Coming::Said(text)) => self.say_settled(port, Ok(text)),
             Ok(Coming::Planned(plan, accepted)) => self.begin(port, plan, accepted),

@@ -3,8 +3,9 @@ ghost use Rattle.std.specs.Prelude.{◌≡◌, IfOk, IsSome, None, OnErr, false,
 ghost use Rattle.oak_port.specs.Ports.{HasRoom};
 ghost use Rattle.jcr_law.specs.State.{is_ok_text};
 ghost use Rattle.jcr_trans.specs.Texts.{memory_text};
-ghost use Rattle.jcr_session.specs.Asked.{HasSeen, IsBarred, IsQueried, IsUnviewedNext, MayAnswer, MayForgo, MaySettle, Settles};
-ghost use Rattle.jcr_session.specs.Standing.{HasTurned, IsGranted, IsPrepared, Stands, due_for};
+ghost use Rattle.jcr_held.specs.Holds.{IsReady};
+ghost use Rattle.jcr_session.specs.Asked.{HasSeen, IsBarred, IsQueried, IsQueriedAs, IsUnviewedNext, MayAnswer, MayForgo, MaySettle, Settles};
+ghost use Rattle.jcr_session.specs.Standing.{HasTurned, IsGranted, IsPrepared, Stands, due_by, due_for};
 ghost use Rattle.jcr_session.specs.declared.limits.TheConstants.{COMMIT_REPLY_BYTES};
 ghost use Rattle.jcr_session.specs.declared.next.Due.TheVariants as due;
 ghost use Rattle.jcr_session.specs.declared.run.Phase.TheVariants as phase;
@@ -71,7 +72,19 @@ impl SessionRun {
         ensures { IfOk result (IsQueried self.now) }
     {
         match self.commands.as_slice().get(self.index as usize) {
-            Some(Command::Query(text, vars)) => self.held.query(text, vars),
+            Some(command) => self.query_by(command),
+            None => unreachable!(),
+        }
+    }
+
+    // The reply to this query.
+    fn query_by(&self, command: &Command) -> Result<String, AllocError>
+        requires next { due_by command.now ≡ due.Query }
+        requires ready { IsReady self.now.held command.now }
+        ensures { IfOk result (IsQueriedAs self.now.held command.now) }
+    {
+        match command {
+            Command::Query(text, vars) => self.held.query(text, vars),
             _ => unreachable!(),
         }
     }

@@ -1,0 +1,17 @@
+use Rattle.std.proofs.Common.{refl}
+use Rattle.jcr_session.specs.declared.next.Due.TheVariants as due
+use Rattle.jcr_session.proofs.Calling.{comes_by}
+use Rattle.jcr_session.proofs.Nexts.{commits_there, next_due, next_there, none_there}
+use Rattle.jcr_session.proofs.run.SessionRun.come.Goals as goal
+
+pub come-requires-clause-ready : goal.come-requires-clause-ready
+come-requires-clause-ready c = c.requires.ready.ready c.in-Some.command.now (let h = c.in-Some.ensures.lookup in next_there c.args.self.now.commands c.as_slice.result.now c.args.self.now.index c.in-Some.command.now c.as_slice.ensures h.3.0 h.1)
+
+pub come-requires-clause-commits : goal.come-requires-clause-commits
+come-requires-clause-commits c = commits_there c.args.self.now c.in-Some.command.now c.requires.next (let h = c.in-Some.ensures.lookup in next_there c.args.self.now.commands c.as_slice.result.now c.args.self.now.index c.in-Some.command.now c.as_slice.ensures h.3.0 h.1)
+
+pub returns : goal.returns
+returns c = comes_by c.args.self.now c.in-Some.command.now c.come.result (let h = c.in-Some.ensures.lookup in next_there c.args.self.now.commands c.as_slice.result.now c.args.self.now.index c.in-Some.command.now c.as_slice.ensures h.3.0 h.1) c.come.ensures
+
+pub unreachable-requires : goal.unreachable-requires
+unreachable-requires c = (let m = next_due c.args.self.now due.Commit c.requires.next refl in none_there c.args.self.now.commands c.as_slice.result.now c.args.self.now.index m.0 c.as_slice.ensures c.in-None.ensures.lookup.0 m.1)

@@ -1,0 +1,42 @@
+use Rattle.std.proofs.Common.{◌∙◌}
+use Rattle.jcr_law.specs.Lasting.{says_of, starts_of}
+use Rattle.jcr_session.proofs.Coming.{commit_comes, commits_by, memory_once}
+use Rattle.jcr_session.proofs.Stepping.{commit_again, commit_busy, commit_once, memory_first, refused_busy, refused_stands}
+use Rattle.jcr_session.proofs.run.SessionRun.commit_on.Goals as goal
+
+pub step-requires : goal.step-requires
+step-requires g c = let a = commits_by c.args.self.now.phase c.requires.commits in record { busy = commit_busy (g.P.Port.law c.args.port.now) (g.P.Port.shown c.args.port.now) c.args.self.now a.0 c.requires.stands a.1 }
+
+pub step-answer-requires : goal.step-answer-requires
+step-answer-requires g c = let a = commits_by c.args.self.now.phase c.requires.commits in
+    record { busy = refused_busy (g.P.Port.law c.args.port.now) (g.P.Port.shown c.args.port.now) (g.P.Port.shown c.step.new.self) c.args.self.now a.0 c.requires.stands a.1 (memory_first (g.P.Port.law c.args.port.now) (g.P.Port.shown c.args.port.now) (g.P.Port.shown c.step.new.self) c.step.result c.in-Memory.is c.step.ensures.steps) }
+
+pub returns-in-Memory-clause-turned : goal.returns-in-Memory-clause-turned
+returns-in-Memory-clause-turned g c = let a = commits_by c.args.self.now.phase c.requires.commits in
+    commit_again (g.P.Port.law c.args.port.now) (g.P.Port.law c.step.new.self) c.step.ensures.law (g.P.Port.shown c.args.port.now) (g.P.Port.shown c.step.new.self) (g.P.Port.shown c.step-answer.new.self) c.step.result c.step-answer.result c.args.self.now c.committed_on.new.self c.committed_on.result a.0 c.requires.stands a.1 c.in-Memory.is c.step.ensures.steps c.step-answer.ensures.steps c.committed_on.ensures.run c.committed_on.ensures.turn
+
+pub returns-in_default-clause-turned : goal.returns-in_default-clause-turned
+returns-in_default-clause-turned g c = let a = commits_by c.args.self.now.phase c.requires.commits in
+    commit_once (g.P.Port.law c.args.port.now) (g.P.Port.shown c.args.port.now) (g.P.Port.shown c.step.new.self) c.step.result c.args.self.now c.committed_on-in_default.new.self c.committed_on-in_default.result a.0 c.requires.stands a.1 c.step.ensures.steps c.committed_on-in_default.ensures.run c.committed_on-in_default.ensures.turn
+
+pub returns-in_default-clause-law : goal.returns-in_default-clause-law
+returns-in_default-clause-law g c = c.step.ensures.law
+
+pub returns-in-Memory-clause-law : goal.returns-in-Memory-clause-law
+returns-in-Memory-clause-law g c = c.step-answer.ensures.law ∙ c.step.ensures.law
+
+-- only the first step may be refused memory
+pub committed_on-requires-clause-answer : goal.committed_on-requires-clause-answer
+committed_on-requires-clause-answer g c =
+    let a = commits_by c.args.self.now.phase c.requires.commits in
+    let mid = g.P.Port.shown c.step.new.self in
+    let new = g.P.Port.shown c.step-answer.new.self in
+    let later = g.P.Port.law c.step.new.self in
+    let once = memory_first (g.P.Port.law c.args.port.now) (g.P.Port.shown c.args.port.now) mid c.step.result c.in-Memory.is c.step.ensures.steps in
+    commit_comes (g.P.Port.law c.args.port.now) mid c.args.self.now a.0 (refused_stands (g.P.Port.law c.args.port.now) (g.P.Port.shown c.args.port.now) mid c.args.self.now a.0 c.requires.stands a.1 once) a.1 new (starts_of later) (says_of later) c.step-answer.result c.step-answer.ensures.steps
+    (λ is. memory_once (g.P.Port.law c.args.port.now) (g.P.Port.shown c.args.port.now) c.args.self.now a.0 c.requires.stands a.1 mid new (starts_of (g.P.Port.law c.args.port.now)) (starts_of later) (says_of (g.P.Port.law c.args.port.now)) (says_of later) once (memory_first later mid new c.step-answer.result is c.step-answer.ensures.steps))
+
+pub committed_on-requires-in_default-clause-answer : goal.committed_on-requires-in_default-clause-answer
+committed_on-requires-in_default-clause-answer g c =
+    let a = commits_by c.args.self.now.phase c.requires.commits in
+    commit_comes (g.P.Port.law c.args.port.now) (g.P.Port.shown c.args.port.now) c.args.self.now a.0 c.requires.stands a.1 (g.P.Port.shown c.step.new.self) (starts_of (g.P.Port.law c.args.port.now)) (says_of (g.P.Port.law c.args.port.now)) c.step.result c.step.ensures.steps c.in_default.not-Memory

@@ -1,0 +1,21 @@
+use Rattle.std.proofs.Common.{subst, sym, ap, true}
+use Rattle.jcr_session.specs.declared.run.Phase.{Phase}
+use Rattle.jcr_session.specs.Standing.{HasEnded, is_committing}
+use Rattle.jcr_session.proofs.Looking.{over_ends}
+use Rattle.jcr_session.proofs.run.SessionRun.counted.Goals as goal
+
+pub log_in-requires-clause-outside : goal.log_in-requires-clause-outside
+log_in-requires-clause-outside g c = c.in-Outside.is
+
+pub rest-requires-clause-between : goal.rest-requires-clause-between
+rest-requires-clause-between g c = c.in-Between.is
+
+pub commit_on-requires-clause-commits : goal.commit_on-requires-clause-commits
+commit_on-requires-clause-commits g c = ap is_committing c.in-Committing.is
+
+pub say_end-requires-clause-ended : goal.say_end-requires-clause-ended
+say_end-requires-clause-ended g c = subst (λ (f : Phase). HasEnded f) (sym c.in-Committed.is) tt
+
+-- it has left
+pub returns-in-Over-clause-turned : goal.returns-in-Over-clause-turned
+returns-in-Over-clause-turned g c = over_ends (g.P.Port.law c.args.port.now) (g.P.Port.shown c.args.port.now) c.args.self.now c.requires.stands c.in-Over.is

@@ -1,0 +1,27 @@
+use Rattle.std.proofs.Common.{sym}
+use Rattle.jcr_session.proofs.Nexts.{reads_between}
+use Rattle.jcr_session.proofs.run.SessionRun.go_on.Goals as goal
+
+pub refresh-requires-clause-next : goal.refresh-requires-clause-next
+refresh-requires-clause-next g c = sym c.in-Refresh.ensures
+
+pub refresh-requires-clause-between : goal.refresh-requires-clause-between
+refresh-requires-clause-between g c = reads_between c.args.self.now c.requires.reads
+
+pub query-requires-clause-next : goal.query-requires-clause-next
+query-requires-clause-next g c = sym c.in-Query.ensures
+
+pub query-requires-clause-between : goal.query-requires-clause-between
+query-requires-clause-between g c = reads_between c.args.self.now c.requires.reads
+
+pub commit-requires-clause-next : goal.commit-requires-clause-next
+commit-requires-clause-next g c = sym c.in-Commit.ensures
+
+pub commit-requires-clause-between : goal.commit-requires-clause-between
+commit-requires-clause-between g c = reads_between c.args.self.now c.requires.reads
+
+pub see-requires-clause-next : goal.see-requires-clause-next
+see-requires-clause-next g c = sym c.in-See.ensures
+
+pub see-requires-clause-between : goal.see-requires-clause-between
+see-requires-clause-between g c = reads_between c.args.self.now c.requires.reads

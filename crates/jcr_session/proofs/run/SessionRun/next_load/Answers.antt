@@ -1,0 +1,13 @@
+use Rattle.std.proofs.Common.{refl}
+use Rattle.jcr_held.specs.Holds.{IsReady}
+use Rattle.jcr_trans.specs.declared.command.Command.{Command}
+use Rattle.jcr_session.proofs.Calling.{made_if}
+use Rattle.jcr_session.proofs.Nexts.{next_there, none_there, reads_next, same_next}
+use Rattle.jcr_session.proofs.run.SessionRun.next_load.Goals as goal
+
+pub returns-clause-ready : goal.returns-clause-ready
+returns-clause-ready c = made_if c.next_load.result _ _
+    (λ load ready none m next. Rattle.std.proofs.Common.subst (λ (n : Command). IsReady c.next_load.new.self n) (same_next c.args.self.now.commands c.args.self.now.index c.in-Some.command.now m (let h = c.in-Some.ensures.lookup in next_there c.args.self.now.commands c.as_slice.result.now c.args.self.now.index c.in-Some.command.now c.as_slice.ensures h.3.0 h.1) next) (ready none)) c.next_load.ensures.ready
+
+pub unreachable-requires : goal.unreachable-requires
+unreachable-requires c = let m = reads_next c.args.self.now c.requires.reads in none_there c.args.self.now.commands c.as_slice.result.now c.args.self.now.index m.0 c.as_slice.ensures c.in-None.ensures.lookup.0 m.1

@@ -1,0 +1,30 @@
+use Rattle.std.proofs.Common.{Some, None, Option, refl, subst, sym, ap, ◌∙◌}
+use Rattle.jr_part.specs.declared.need.Need.{Need}
+use Rattle.jcr_session.specs.declared.run.SessionRun.{SessionRun}
+use Rattle.jcr_session.specs.Standing.{HasLooked, HasRead, Stands, may_read}
+use Rattle.jcr_session.proofs.Loads.{err_with, read_like, read_made}
+use Rattle.jcr_session.proofs.Looking.{looked_nothing}
+use Rattle.jcr_session.proofs.run.SessionRun.read.Goals as goal
+
+-- what is being read is known to be so
+pub read_on-requires-clause-stands : goal.read_on-requires-clause-stands
+read_on-requires-clause-stands g c =
+    subst (λ (o : Option Need). Stands (g.P.Port.law c.args.port.now) (g.P.Port.shown c.args.port.now) (record c.args.self.now { fetch = o })) (sym c.in-Some.ensures.value) c.requires.stands
+
+pub returns-in-Some-clause-looked : goal.returns-in-Some-clause-looked
+returns-in-Some-clause-looked g c =
+    subst (λ (o : Option Need). HasLooked (g.P.Port.law c.args.port.now) (g.P.Port.shown c.args.port.now) (g.P.Port.shown c.read_on.new.port) (record c.args.self.now { fetch = o }) c.read_on.new.self) c.in-Some.ensures.value c.read_on.ensures.looked
+
+pub returns-in-Some-clause-read : goal.returns-in-Some-clause-read
+returns-in-Some-clause-read g c = read_made c.read_on.result (g.P.Port.shown c.args.port.now) (g.P.Port.shown c.read_on.new.port) c.args.self.now c.read_on.new.self (sym c.may_read.ensures ∙ c.if-not-may_read.false) c.read_on.ensures.made
+
+pub returns-in-Some-clause-err : goal.returns-in-Some-clause-err
+returns-in-Some-clause-err g c = err_with c.read_on.result _ _ (sym c.may_read.ensures ∙ c.if-not-may_read.false) c.read_on.ensures.err
+
+pub returns-in-None-clause-looked : goal.returns-in-None-clause-looked
+returns-in-None-clause-looked g c =
+    subst (λ (o : Option Need). HasLooked (g.P.Port.law c.args.port.now) (g.P.Port.shown c.args.port.now) (g.P.Port.shown c.read_next.new.port) (record c.args.self.now { fetch = o }) c.read_next.new.self) c.in-None.ensures.value c.read_next.ensures.looked
+
+pub returns-in-None-clause-read : goal.returns-in-None-clause-read
+returns-in-None-clause-read g c =
+    subst (λ (o : Option Need). Rattle.std.specs.Result.IfOk c.read_next.result (HasRead (g.P.Port.shown c.args.port.now) (g.P.Port.shown c.read_next.new.port) (record c.args.self.now { fetch = o }) c.read_next.new.self)) c.in-None.ensures.value c.read_next.ensures.read

@@ -1,0 +1,21 @@
+use Rattle.std.proofs.Common.{Some, subst, sym, ap, ◌∙◌}
+use Rattle.jr_part.specs.declared.need.Need.{Need}
+use Rattle.oak_port.specs.Ports.{Starting}
+use Rattle.jcr_session.specs.Standing.{IsReading}
+use Rattle.jcr_session.proofs.Calling.{stands_law}
+use Rattle.jcr_session.proofs.Loads.{begun_looked, unbegun_looked}
+use Rattle.jcr_session.proofs.Looking.{looked_both}
+use Rattle.jcr_session.proofs.run.SessionRun.read_first.Goals as goal
+
+pub returns-in_err-start-clause-looked : goal.returns-in_err-start-clause-looked
+returns-in_err-start-clause-looked g c = (unbegun_looked (g.P.Port.law c.args.port.now) (g.P.Port.shown c.args.port.now) c.args.self.now c.requires.stands c.requires.reads (g.P.Port.shown c.start.new.self) c.requires.none c.in_err-start.ensures.err).0
+
+pub read_on-requires-clause-stands : goal.read_on-requires-clause-stands
+read_on-requires-clause-stands g c =
+    stands_law (g.P.Port.law c.args.port.now) (g.P.Port.law c.start.new.self) c.in_ok-start.ensures.law (g.P.Port.shown c.start.new.self) _
+    (begun_looked (g.P.Port.law c.args.port.now) (g.P.Port.shown c.args.port.now) c.args.self.now c.requires.stands c.requires.reads (g.P.Port.shown c.start.new.self) c.in_ok-task.task c.args.need c.in_ok-start.ensures.ok c.in_ok-task.ensures).stands
+
+pub returns-clause-looked : goal.returns-clause-looked
+returns-clause-looked g c =
+    looked_both (g.P.Port.law c.args.port.now) (g.P.Port.law c.start.new.self) (g.P.Port.shown c.args.port.now) (g.P.Port.shown c.start.new.self) (g.P.Port.shown c.read_on.new.port) c.args.self.now _ c.read_on.new.self c.in_ok-start.ensures.law c.requires.stands.nodes
+    (begun_looked (g.P.Port.law c.args.port.now) (g.P.Port.shown c.args.port.now) c.args.self.now c.requires.stands c.requires.reads (g.P.Port.shown c.start.new.self) c.in_ok-task.task c.args.need c.in_ok-start.ensures.ok c.in_ok-task.ensures) c.read_on.ensures.looked

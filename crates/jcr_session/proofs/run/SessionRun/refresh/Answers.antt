@@ -1,0 +1,78 @@
+use Rattle.std.proofs.Common.{refl, sym, ap, false, subst, ◌∙◌}
+use Rattle.oak_port.specs.Ports.{Idle, Starting, Steps}
+use Rattle.oak_port.specs.declared.task.StepOut.{StepOut}
+use Rattle.oak_port.specs.declared.task.Task.TheVariants as task
+use Rattle.jcr_law.specs.Lasting.{says_of, starts_of}
+use Rattle.jcr_session.specs.declared.next.Due.TheVariants as due
+use Rattle.jcr_session.proofs.Calling.{busy_by, forgo_behind, steps_law, turned_idle}
+use Rattle.jcr_session.proofs.Coming.{pinned_is, refresh_comes, unpinned_is}
+use Rattle.jcr_session.proofs.Lawful.{at_between, between_forgoes, idle_by}
+use Rattle.jcr_session.proofs.Nexts.{next_due}
+use Rattle.jcr_session.proofs.Starting.{moves_base, refresh_begins, refresh_stops}
+use Rattle.jcr_session.proofs.Waiting.{by_waits}
+use Rattle.jcr_session.proofs.run.SessionRun.refresh.Goals as goal
+
+pub start-requires-clause-idle : goal.start-requires-clause-idle
+start-requires-clause-idle g c = idle_by (g.P.Port.law c.args.port.now) (g.P.Port.shown c.args.port.now) c.args.self.now c.requires.stands c.requires.between c.requires.ready.done
+
+pub start-requires-clause-may : goal.start-requires-clause-may
+start-requires-clause-may g c = refresh_begins (g.P.Port.law c.args.port.now) (g.P.Port.shown c.args.port.now) c.args.self.now c.requires.stands c.requires.between
+
+pub step-requires : goal.step-requires
+step-requires g c = record { busy = λ idle. busy_by (g.P.Port.shown c.start.new.self).work task.Refresh c.in-Ok.ensures.ok.work_is idle }
+
+pub pinned-requires : goal.pinned-requires
+pinned-requires g c =
+    let law = g.P.Port.law c.start.new.self in
+    refresh_comes (starts_of law) (says_of law) (g.P.Port.shown c.start.new.self) (g.P.Port.shown c.step.new.self) c.step.result c.step.ensures.steps c.in-Ok.ensures.ok.work_is
+
+-- memory was refused for the task
+pub say_memory-requires : goal.say_memory-requires
+say_memory-requires g c =
+    let m = next_due c.args.self.now due.Refresh c.requires.next refl in
+    let mid = g.P.Port.shown c.start.new.self in
+    record {
+      forgoes = forgo_behind (g.P.Port.law c.args.port.now) (g.P.Port.law c.start.new.self) c.in-Err.ensures.law (g.P.Port.shown c.args.port.now) mid (by_waits (g.P.Port.law c.args.port.now) (g.P.Port.shown c.args.port.now) mid Idle (g.P.Port.shown c.args.port.now).room c.in-Err.ensures.err) c.in-Err.ensures.err.work_is c.args.self.now false
+          (between_forgoes (g.P.Port.law c.args.port.now) (g.P.Port.shown c.args.port.now) c.args.self.now c.requires.stands c.requires.between m.0 m.1 c.requires.ready.done);
+    }
+
+pub returns-in-Err-clause-turned : goal.returns-in-Err-clause-turned
+returns-in-Err-clause-turned g c =
+    let m = next_due c.args.self.now due.Refresh c.requires.next refl in
+    let mid = g.P.Port.shown c.start.new.self in
+    turned_idle (g.P.Port.law c.args.port.now) (g.P.Port.law c.start.new.self) c.in-Err.ensures.law (g.P.Port.shown c.args.port.now) mid (by_waits (g.P.Port.law c.args.port.now) (g.P.Port.shown c.args.port.now) mid Idle (g.P.Port.shown c.args.port.now).room c.in-Err.ensures.err) c.in-Err.ensures.err.work_is c.args.self.now false
+    (between_forgoes (g.P.Port.law c.args.port.now) (g.P.Port.shown c.args.port.now) c.args.self.now c.requires.stands c.requires.between m.0 m.1 c.requires.ready.done) (g.P.Port.shown c.say_memory.new.port) c.say_memory.new.self c.say_memory.result c.say_memory.ensures.turned
+
+-- the base moves
+pub returns-in-Some-clause-turned : goal.returns-in-Some-clause-turned
+returns-in-Some-clause-turned g c =
+    let m = next_due c.args.self.now due.Refresh c.requires.next refl in
+    let mid = g.P.Port.shown c.start.new.self in
+    let new = g.P.Port.shown c.step.new.self in
+    moves_base (g.P.Port.law c.args.port.now) (g.P.Port.shown c.args.port.now) mid new (g.P.Port.shown c.args.port.now).room c.args.self.now c.requires.stands c.requires.between c.requires.ready.done c.in-Some.pin c.requires.next c.in-Ok.ensures.ok
+    (subst (λ (a : StepOut). Steps (starts_of (g.P.Port.law c.args.port.now)) (says_of (g.P.Port.law c.args.port.now)) mid new a) (pinned_is c.step.result c.in-Some.pin (sym c.in-Some.ensures)) (steps_law (g.P.Port.law c.args.port.now) (g.P.Port.law c.start.new.self) c.in-Ok.ensures.law mid new c.step.result c.step.ensures.steps))
+    c.move_to.new.self (λ x t holds is. c.move_to.ensures.moved x t holds (c.requires.ready.ready m.0 m.1).settled is) _ _ refl refl
+
+-- memory was refused for the step
+pub say_memory-requires-in-None : goal.say_memory-requires-in-None
+say_memory-requires-in-None g c =
+    let m = next_due c.args.self.now due.Refresh c.requires.next refl in
+    let law = g.P.Port.law c.start.new.self in
+    let mid = g.P.Port.shown c.start.new.self in
+    let new = g.P.Port.shown c.step.new.self in
+    let stops = refresh_stops (g.P.Port.law c.args.port.now) (g.P.Port.shown c.args.port.now) mid new (g.P.Port.shown c.args.port.now).room c.step.result (at_between (g.P.Port.law c.args.port.now) (g.P.Port.shown c.args.port.now) c.args.self.now c.requires.stands c.requires.between).0.nodes c.in-Ok.ensures.ok (steps_law (g.P.Port.law c.args.port.now) law c.in-Ok.ensures.law mid new c.step.result c.step.ensures.steps)
+        (unpinned_is c.step.result (refresh_comes (starts_of law) (says_of law) mid new c.step.result c.step.ensures.steps c.in-Ok.ensures.ok.work_is) (sym c.in-None.ensures)) in
+    record {
+      forgoes = forgo_behind (g.P.Port.law c.args.port.now) (g.P.Port.law c.step.new.self) (c.step.ensures.law ∙ c.in-Ok.ensures.law) (g.P.Port.shown c.args.port.now) new stops.0 stops.1 c.args.self.now false (between_forgoes (g.P.Port.law c.args.port.now) (g.P.Port.shown c.args.port.now) c.args.self.now c.requires.stands c.requires.between m.0 m.1 c.requires.ready.done);
+    }
+
+pub returns-in-None-clause-turned : goal.returns-in-None-clause-turned
+returns-in-None-clause-turned g c =
+    let m = next_due c.args.self.now due.Refresh c.requires.next refl in
+    let law = g.P.Port.law c.start.new.self in
+    let mid = g.P.Port.shown c.start.new.self in
+    let new = g.P.Port.shown c.step.new.self in
+    let stops = refresh_stops (g.P.Port.law c.args.port.now) (g.P.Port.shown c.args.port.now) mid new (g.P.Port.shown c.args.port.now).room c.step.result (at_between (g.P.Port.law c.args.port.now) (g.P.Port.shown c.args.port.now) c.args.self.now c.requires.stands c.requires.between).0.nodes c.in-Ok.ensures.ok (steps_law (g.P.Port.law c.args.port.now) law c.in-Ok.ensures.law mid new c.step.result c.step.ensures.steps)
+        (unpinned_is c.step.result (refresh_comes (starts_of law) (says_of law) mid new c.step.result c.step.ensures.steps c.in-Ok.ensures.ok.work_is) (sym c.in-None.ensures)) in
+    turned_idle (g.P.Port.law c.args.port.now) (g.P.Port.law c.step.new.self) (c.step.ensures.law ∙ c.in-Ok.ensures.law) (g.P.Port.shown c.args.port.now) new stops.0 stops.1 c.args.self.now false (between_forgoes (g.P.Port.law c.args.port.now) (g.P.Port.shown c.args.port.now) c.args.self.now c.requires.stands c.requires.between m.0 m.1 c.requires.ready.done)
+    (g.P.Port.shown c.say_memory-in-None.new.port) c.say_memory-in-None.new.self c.say_memory-in-None.result c.say_memory-in-None.ensures.turned
