@@ -1,3 +1,4 @@
+pub mod Obeying
 pub mod Plans
 pub mod Product
 pub mod Tidy

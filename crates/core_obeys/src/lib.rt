@@ -26,7 +26,9 @@ ghost use Rattle.core_obeys.specs.Tidy.{IsTidy};
 mod product;
 
 use oak_machine::Law;
-pub use product::{the_product_obeys, what_clashes_with_nothing_is_not_refused};
+pub use product::{
+    the_product_obeys, the_product_obeys_throughout, what_clashes_with_nothing_is_not_refused,
+};
 
 /// After each commit the tree of all commits meets the rules of node types, at each node and item (JSR 283, 3.7 Node Types). So
 /// does what a closed vector sees, and with it what a session sees at its base.

@@ -21,6 +21,7 @@ ghost use Rattle.oak_machine.specs.Runs.{AreNodes, IsRunOf, MayCommit};
 ghost use Rattle.oak_machine.specs.Sessions.{base_of, next_index};
 ghost use Rattle.core_calls.specs.Seeing.{SeesTrees};
 ghost use Rattle.core_merge.specs.Orders.{tree_by_commits};
+ghost use Rattle.core_obeys.specs.Obeying.{ObeysThroughout};
 ghost use Rattle.core_obeys.specs.Plans.{tokens_at_draw};
 ghost use Rattle.core_obeys.specs.Product.{IsProductRun, IsUnclashing, tokens_by};
 ghost use Rattle.core_obeys.specs.Tidy.{IsTidy};
@@ -44,6 +45,13 @@ pub fn the_product_obeys()
     ensures references { (law : JcrLaw) (h : History) → IsProductRun law h → IsTidy h.past
         → ReferencesOk (tree_by_commits h.past) }
 {}
+
+/// In each run by the law of the product all this holds at each time, as each run was a run at each time before.
+pub fn the_product_obeys_throughout()
+    ensures { (law : JcrLaw) (h : History) → IsProductRun law h → ObeysThroughout law h }
+{
+    the_product_obeys();
+}
 
 /// Where a commit of a run clashes with no draw outside its base, it isn't refused, and the next reply of its session is no 10
 /// (JSR 283, 10.11 Saving).

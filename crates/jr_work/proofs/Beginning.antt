@@ -15,9 +15,12 @@ use Rattle.oak_port.specs.Ports.{Idle}
 use Rattle.oak_world.specs.Seen.{shown_at, shown_work}
 use Rattle.oak_world.specs.Worlds.{ActorState, WorldOf, idle, live, start_world, work_in}
 use Rattle.jcr_trans.specs.declared.command.Command.{Command}
-use Rattle.core_law.specs.State.{command_at}
-use Rattle.jcr_session.specs.declared.law.JcrLaw.{JcrLaw}
+use Rattle.jr_types.specs.Builtin.{builtin}
+use Rattle.jr_types.specs.declared.TypeDef.{TypeDef}
+use Rattle.jcr_law.specs.State.{command_at}
+use Rattle.jcr_law.specs.declared.law.JcrLaw.{JcrLaw}
 use Rattle.jcr_session.specs.declared.run.SessionRun.{SessionRun}
+use Rattle.core_calls.specs.Seeing.{SeesTrees}
 use Rattle.jcr_session.specs.Standing.{IsNew, Stands}
 use Rattle.jcr_session.proofs.Staying.{new_stands}
 use Rattle.jr_script.specs.Bounds.{IsWithin}
@@ -47,27 +50,26 @@ pushed (e ∷ xs) x y (suc k) h = by (pushed xs x y k h)
     by (inl h) = inl h
     by (inr (p, q)) = inr (ap suc p, q)
 
-pub none_new : (sessions : List SessionScript) → AreNew sessions 0 []
-none_new sessions = record { many = refl; each = λ k session seat at there. none_is_some seat there }
+pub none_new : (types : List TypeDef) (sessions : List SessionScript) → AreNew types sessions 0 []
+none_new types sessions = record { many = refl; each = λ k session seat at there. none_is_some seat there }
 
-pub one_more_new : (sessions : List SessionScript) (n : ℕ) (seats : List Seat) (x : SessionScript) (seat : Seat) → n < length sessions → x ≡ get_or sessions n x → AreNew sessions n seats → IsNewSeat n x seat → AreNew sessions (n + 1) (seats ++ seat ∷ [])
-one_more_new sessions n seats x seat within there are new = record {
+pub one_more_new : (types : List TypeDef) (sessions : List SessionScript) (n : ℕ) (seats : List Seat) (x : SessionScript) (seat : Seat) → n < length sessions → x ≡ get_or sessions n x → AreNew types sessions n seats → IsNewSeat types n x seat → AreNew types sessions (n + 1) (seats ++ seat ∷ [])
+one_more_new types sessions n seats x seat within there are new = record {
   many = let h = length-append seats (seat ∷ []) in let m = are.many in omega arith;
   each = λ k session other at other_at. by k session other at (pushed seats seat other k other_at);
 }
   where
-    by : (k : ℕ) (session : SessionScript) (other : Seat) → slice_get sessions k ≡ Some session → (slice_get seats k ≡ Some other) ⊎ ((k ≡ length seats) × (seat ≡ other)) → IsNewSeat k session other
+    by : (k : ℕ) (session : SessionScript) (other : Seat) → slice_get sessions k ≡ Some session → (slice_get seats k ≡ Some other) ⊎ ((k ≡ length seats) × (seat ≡ other)) → IsNewSeat types k session other
     by k session other at (inl h) = are.each k session other at h
     by k session other at (inr (p, q)) =
         let same : k ≡ n = p ∙ are.many in
         let it : x ≡ session = some_is_some x session (sym (slice_get_read sessions (length sessions) n x refl within there) ∙ (ap (slice_get sessions) (sym same) ∙ at)) in
-        subst (λ (i : ℕ). IsNewSeat i session other) (sym same) (subst (λ (y : SessionScript). IsNewSeat n y other) it (subst (λ (z : Seat). IsNewSeat n x z) q new))
+        subst (λ (i : ℕ). IsNewSeat types i session other) (sym same) (subst (λ (y : SessionScript). IsNewSeat types n y other) it (subst (λ (z : Seat). IsNewSeat types n x z) q new))
 
--- the same, by what the calls of an iteration tell
-pub seats_more : (sessions : List SessionScript) (n : ℕ) (seats next : List Seat) (x : SessionScript) (commands : List Command) (run : SessionRun) → n < length sessions → x ≡ get_or sessions n x → AreNew sessions n seats → commands ≡ x.commands → IsNew n commands run → next ≡ seats ++ record { run = run; flight = None } ∷ [] → AreNew sessions (n + 1) next
-seats_more sessions n seats next x commands run within there are same new is =
-    subst (λ (l : List Seat). AreNew sessions (n + 1) l) (sym is)
-    (one_more_new sessions n seats x (record { run = run; flight = None }) within there are (record { run = subst (λ (c : List Command). IsNew n c run) same new; flight = refl }))
+-- the same, where the new seat was pushed
+pub seats_more : (types : List TypeDef) (sessions : List SessionScript) (n : ℕ) (seats next : List Seat) (x : SessionScript) (seat : Seat) → n < length sessions → x ≡ get_or sessions n x → AreNew types sessions n seats → IsNewSeat types n x seat → next ≡ seats ++ seat ∷ [] → AreNew types sessions (n + 1) next
+seats_more types sessions n seats next x seat within there are new is =
+    subst (λ (l : List Seat). AreNew types sessions (n + 1) l) (sym is) (one_more_new types sessions n seats x seat within there are new)
 
 -- ---- what a script keeps
 
@@ -92,7 +94,8 @@ module _ (script : Script) (within : IsWithin script) where
   there_too (x ∷ xs) (e ∷ ys) zero y h at = (x, refl)
   there_too (x ∷ xs) (e ∷ ys) (suc k) y h at = there_too xs ys k y (let same : length ys ≡ length xs = omega arith in same) at
 
-  module _ (seats : List Seat) (new : AreNew script.sessions (length script.sessions) seats) where
+  module _ (seats : List Seat) (new : AreNew builtin script.sessions (length script.sessions) seats)
+      (trees : SeesTrees (law_of script) script.clusters (map (λ s. s.cluster) script.sessions) None) where
     seated : (s : ℕ) (seat : Seat) → slice_get seats s ≡ Some seat → IsSeated script start s seat
     seated s seat at = by (there_too script.sessions seats s seat new.many at)
       where
@@ -102,9 +105,9 @@ module _ (script : Script) (within : IsWithin script) where
             record {
               session = is.run.session_is;
               stands = λ n.
-                  new_stands (law_of script) (shown_at n start s) s session.commands seat.run is.run (session_within script within s session there).few (within_nodes script within) refl tt refl
-                  (λ i. commands_at script s i ∙ ap (λ (o : Option SessionScript). slice_get (option_map_or (λ x. x.commands) o []) i) there)
-                  (idle_at (map (λ s. s.cluster) script.sessions) s) refl;
+                  new_stands (law_of script) (shown_at n start s) s session.commands seat.run is.run (session_within script within s session there).few (within_nodes script within) trees tt
+                  (idle_at (map (λ s. s.cluster) script.sessions) s) refl
+                  (λ i. commands_at script s i ∙ ap (λ (o : Option SessionScript). slice_get (option_map_or (λ x. x.commands) o []) i) there) refl;
               flight = subst (λ (o : Option Flight). IsFlight [] s o) (sym is.flight) refl;
               seen = λ r theirs unseen. absurd (false≢true theirs);
             }
@@ -139,7 +142,9 @@ module _ (script : Script) (within : IsWithin script) (sessions : List SessionSc
   pub slice_few : length slice ≤ 64
   slice_few = let h = ap (λ (l : List ℕ). length l) are in let m = length-map script.sessions (λ (s : SessionScript). s.cluster) in let f = within.few in omega arith
 
-  pub begun_by : (others : List SessionScript) (law : JcrLaw) (stage : Stage) → others ≡ script.sessions → AreNew others (length others) stage.seats.items → law ≡ law_of script → stage.world ≡ start_world law script.clusters slice → stage.script ≡ script → IsBegun script stage
-  begun_by others law stage again seats law_is world_is script_is =
-      begun script within stage.seats.items (subst (λ (l : List SessionScript). AreNew l (length l) stage.seats.items) again seats) stage script_is
+  pub begun_by : (others : List SessionScript) (law : JcrLaw) (stage : Stage) → ((l : JcrLaw) (clusters : ℕ) (sessions : List ℕ) → AreNodes clusters sessions → SeesTrees l clusters sessions None) → others ≡ script.sessions → AreNew law.types others (length others) stage.seats.items → law ≡ law_of script → stage.world ≡ start_world law script.clusters slice → stage.script ≡ script → IsBegun script stage
+  begun_by others law stage trees again seats law_is world_is script_is =
+      begun script within stage.seats.items
+      (subst (λ (l : JcrLaw). AreNew l.types script.sessions (length script.sessions) stage.seats.items) law_is (subst (λ (l : List SessionScript). AreNew law.types l (length l) stage.seats.items) again seats))
+      (trees (law_of script) script.clusters (map (λ s. s.cluster) script.sessions) (within_nodes script within)) stage script_is
       (world_is ∙ (ap (λ (l : JcrLaw). start_world l script.clusters slice) law_is ∙ ap (start_world (law_of script) script.clusters) are)) refl

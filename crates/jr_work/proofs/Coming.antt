@@ -27,12 +27,12 @@ use Rattle.core_heads.proofs.Passing.{next_stays}
 use Rattle.oak_port.specs.Ports.{Awaiting, Beside, Deciding, Idle, Seat as PortSeat, Shown, Starting, Undoing, Work, Writing, is_by_due, is_due, Publishing, Learning}
 use Rattle.oak_world.specs.Seen.{no_seat, seat_of, shown_at, shown_work}
 use Rattle.oak_world.specs.Worlds.{ActorState, WorldOf, actor_in, idle, live, work_in}
-use Rattle.jcr_session.specs.declared.law.JcrLaw.{JcrLaw}
+use Rattle.jcr_law.specs.declared.law.JcrLaw.{JcrLaw}
 use Rattle.jcr_session.specs.declared.run.SessionRun.{SessionRun}
 use Rattle.jcr_session.specs.declared.turn.Turn.{Turn}
 use Rattle.jcr_session.specs.declared.turn.Turn.TheVariants as turn
-use Rattle.jcr_session.specs.Sights.{IsBeside, says_of, starts_of}
-use Rattle.jcr_session.specs.Standing.{HasAwaited, IsMade, IsOneStep, IsSeenFor, IsStep, IsTurned, IsUnseen, Stands, Tells, is_step_event}
+use Rattle.jcr_law.specs.Lasting.{says_of, starts_of}
+use Rattle.jcr_session.specs.Standing.{HasAwaited, IsBeside, IsMade, IsOneStep, IsSeenFor, IsStep, IsTurned, IsUnseen, Stands, Tells, is_step_event}
 use Rattle.jcr_session.proofs.Staying.{stands_beside}
 use Rattle.jr_script.specs.declared.script.Script.{Script}
 use Rattle.jcr_trans.specs.declared.command.SessionScript.{SessionScript}

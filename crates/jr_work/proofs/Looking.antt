@@ -5,30 +5,23 @@ use Rattle.std.specs.Borrow.{GName}
 use Rattle.std.proofs.lemmas.Bool.Decides.{nat_tests}
 use Rattle.std.proofs.lemmas.Option.{slice_get_read}
 use mathlib.Core.Bool.{false≢true}
-use Rattle.jr_path.specs.declared.path.Path.{Path}
 use Rattle.jr_rev.specs.declared.revision.Revision.{Revision}
-use Rattle.jr_tree.specs.Trees.{Nodes}
+use Rattle.jr_part.specs.declared.need.Need.{Need}
+use Rattle.jr_part.specs.declared.need.Need.TheVariants as need
 use Rattle.oak_machine.specs.declared.event.StepKind.{StepKind}
 use Rattle.oak_machine.specs.History.{History, Past}
 use Rattle.oak_machine.specs.Laws.{after}
 use Rattle.oak_port.specs.Ports.{Awaiting, Beside, Deciding, Idle, Seat as PortSeat, Shown, Starting, Undoing, Work, Writing}
 use Rattle.oak_port.specs.declared.task.Task.{Task}
 use Rattle.oak_port.specs.declared.task.Task.TheVariants as task
-use Rattle.core_law.specs.State.{base_tree}
 use Rattle.oak_world.specs.Seen.{seat_of, shown_at, shown_work}
 use Rattle.oak_world.specs.Steps.{kind_due}
 use Rattle.oak_world.specs.Worlds.{ActorState, WorldOf, actor_in, live, work_in}
-use Rattle.jcr_session.specs.declared.law.JcrLaw.{JcrLaw}
+use Rattle.jcr_law.specs.declared.law.JcrLaw.{JcrLaw}
 use Rattle.jcr_session.specs.declared.run.Phase.{Phase}
 use Rattle.jcr_session.specs.declared.run.Phase.TheVariants as phase
 use Rattle.jcr_session.specs.declared.run.SessionRun.{SessionRun}
-use Rattle.jcr_session.specs.declared.sight.Fetch.{Fetch}
-use Rattle.jcr_session.specs.declared.sight.Fetch.TheVariants as fetch
-use Rattle.jcr_session.specs.declared.sight.Sight.{Sight}
-use Rattle.jcr_session.specs.declared.sight.Sight.TheVariants as sight
-use Rattle.jcr_session.specs.declared.sight.Walk.{Walk}
-use Rattle.jcr_session.specs.Sights.{IsFetching, Reads}
-use Rattle.jcr_session.specs.Standing.{HasLooked, Sees, Stands, StandsAt, due_for, is_between, is_seen, is_unread, needs_tree}
+use Rattle.jcr_session.specs.Standing.{HasLooked, IsReading, Stands, StandsAt, is_between, may_read}
 use Rattle.jr_script.specs.declared.script.Entry.TheVariants as entry
 use Rattle.jr_script.specs.Bounds.{IsWithin}
 use Rattle.jr_script.specs.declared.script.Script.{Script}
@@ -43,7 +36,7 @@ use Rattle.jr_work.specs.SoFar.{IsCutSoFar, is_last_due}
 use Rattle.jr_work.specs.Stages.{Closes, HasRead, IsSeated, IsStage, awaited, due_at, law_of, past_of}
 use Rattle.jr_work.proofs.Coming.{other_seats, set_other}
 use Rattle.jr_work.proofs.Due.{at_commit, last_commits}
-use Rattle.jr_work.proofs.Flying.{none_is_some, some_is_some}
+use Rattle.jr_work.proofs.Flying.{halves, none_is_some, some_is_some}
 use Rattle.jr_work.proofs.Renaming.{stands_renamed}
 use Rattle.jr_work.proofs.SoFar.{cut_closes, cut_due}
 use Rattle.jr_work.proofs.Turning.{set_long, set_same}
@@ -65,33 +58,23 @@ starts : (w : Work) (t : Task) → w ≡ Starting t → IsUncommitted w
 starts w t is = record { none = ap awaited is; apart = ap at_commit is }
 
 module _ (law : JcrLaw) (p : Shown) (run : SessionRun) where
-  fetches : (t read : Nodes) (left : List Path) (f : Fetch) → IsFetching t p.work read left f → IsUncommitted p.work
-  fetches t read left (fetch.Node path) h = starts p.work (task.Load path) h.0
-  fetches t read left (fetch.Names path) h = starts p.work (task.List path) h.0
-
-  reads : (w : Walk) → Reads p w → IsUncommitted p.work
-  reads w h = fetches (base_tree p.history.past p.session) w.tree w.left.items w.fetch h
-
-  sees_uncommitted : (x : Sight) → Sees law p run x → IsUncommitted p.work
-  sees_uncommitted sight.Unread h = idles p.work h.0
-  sees_uncommitted (sight.Reading w) h = reads w h.0
-  sees_uncommitted (sight.Seen seen) h = idles p.work h.0
+  reads : (o : Option Need) → IsReading p.work o → IsUncommitted p.work
+  reads None h = idles p.work h
+  reads (Some (need.Node path)) h = starts p.work (task.Load path) h
+  reads (Some (need.Children path)) h = starts p.work (task.List path) h
+  reads (Some (need.Subtree path)) h = absurd h
+  reads (Some need.All) h = absurd h
 
   between_uncommitted : (f : Phase) → is_between f ≡ true → StandsAt law p run f → IsUncommitted p.work
-  between_uncommitted phase.Between h at = sees_uncommitted run.sight at.1
+  between_uncommitted phase.Between h at = reads run.fetch at.1.reads
   between_uncommitted phase.Outside h at = absurd (false≢true h)
   between_uncommitted (phase.Refreshed v) h at = absurd (false≢true h)
-  between_uncommitted phase.Saving h at = absurd (false≢true h)
-  between_uncommitted (phase.Saved e) h at = absurd (false≢true h)
+  between_uncommitted (phase.Committing a) h at = absurd (false≢true h)
+  between_uncommitted (phase.Committed e a) h at = absurd (false≢true h)
   between_uncommitted phase.Over h at = absurd (false≢true h)
 
-  unread_between : (s b n : Bool) → cond s false (b && n) ≡ true → b ≡ true
-  unread_between true b n h = absurd (false≢true h)
-  unread_between false true n h = refl
-  unread_between false false n h = absurd (false≢true h)
-
-  pub unread_uncommitted : Stands law p run → is_unread run ≡ true → IsUncommitted p.work
-  unread_uncommitted stands unread = between_uncommitted run.phase (unread_between (is_seen run.sight) (is_between run.phase) (needs_tree (due_for run)) unread) stands.at
+  pub unread_uncommitted : Stands law p run → may_read run ≡ true → IsUncommitted p.work
+  unread_uncommitted stands unread = between_uncommitted run.phase (halves (is_between run.phase) _ unread).0 stands.at
 
 -- ---- where a session stands hangs on the history, its work and its room
 
@@ -132,14 +115,14 @@ module _ (n : GName) (s : ℕ) (old new : Stage) (seat seat_now : Seat)
   other_seat : (t : ℕ) → (t == s) ≡ false → seat_of (actor_in new.world.actors t) ≡ seat_of (actor_in old.world.actors t)
   other_seat t other = other_seats old.world.actors new.world.actors s t (seats_are _ _ (ap (λ (b : Beside). b.seats) looked.beside.beside)) other
 
-  uncommitted : is_unread seat.run ≡ true → IsUncommitted (shown_work (work_in old.world.actors s))
+  uncommitted : may_read seat.run ≡ true → IsUncommitted (shown_work (work_in old.world.actors s))
   uncommitted unread = unread_uncommitted old.world.law (shown_at n old.world s) seat.run (seated.stands n) unread
 
   -- a last write that is due to the session itself stays due, since nothing is read then
   mine_due : is_last_due (due_at old.world s) ≡ true → is_last_due (due_at new.world s) ≡ true
-  mine_due last = by (is_unread seat.run) refl
+  mine_due last = by (may_read seat.run) refl
     where
-      by : (b : Bool) → is_unread seat.run ≡ b → is_last_due (due_at new.world s) ≡ true
+      by : (b : Bool) → may_read seat.run ≡ b → is_last_due (due_at new.world s) ≡ true
       by true unread = absurd (false≢true (sym (uncommitted unread).apart ∙ last_commits (work_in old.world.actors s) last))
       by false rests = ap (λ (x : Shown). is_last_due x.due) (looked.still rests).0 ∙ last
 
@@ -151,9 +134,9 @@ module _ (n : GName) (s : ℕ) (old new : Stage) (seat seat_now : Seat)
 
   -- what it awaits is what it awaited
   mine_awaited : (r : Revision) → awaited (shown_work (work_in old.world.actors s)) ≡ Some r → awaited (shown_work (work_in new.world.actors s)) ≡ Some r
-  mine_awaited r is = by (is_unread seat.run) refl
+  mine_awaited r is = by (may_read seat.run) refl
     where
-      by : (b : Bool) → is_unread seat.run ≡ b → awaited (shown_work (work_in new.world.actors s)) ≡ Some r
+      by : (b : Bool) → may_read seat.run ≡ b → awaited (shown_work (work_in new.world.actors s)) ≡ Some r
       by true unread = none_is_some r (sym (uncommitted unread).none ∙ is)
       by false rests = ap (λ (x : Shown). awaited x.work) (looked.still rests).0 ∙ is
 

@@ -5,7 +5,6 @@ use Rattle.std.specs.Borrow.{GName}
 use Rattle.std.specs.Option.{option_and_then, option_map, option_map_or}
 use Rattle.std.specs.List.{list_any}
 use Rattle.std.proofs.lemmas.Bool.Decides.{nat_tests}
-use Rattle.std.proofs.lemmas.Option.{slice_get-map}
 use mathlib.Core.Bool.{false≢true}
 use Rattle.jr_rev.specs.declared.revision.Revision.{Revision}
 use Rattle.jr_rev.specs.Vectors.{sees}
@@ -20,8 +19,8 @@ use Rattle.oak_port.specs.Ports.{Awaiting, HoldsBack, Seat as PortSeat, Shown, W
 use Rattle.oak_world.specs.Seen.{seat_of, shown_at, shown_work}
 use Rattle.oak_world.specs.Worlds.{WorldOf, actor_in, live, work_in}
 use Rattle.jcr_trans.specs.declared.command.Command.{Command}
-use Rattle.core_law.specs.State.{command_at}
-use Rattle.jcr_session.specs.declared.law.JcrLaw.{JcrLaw}
+use Rattle.jcr_law.specs.State.{command_at}
+use Rattle.jcr_law.specs.declared.law.JcrLaw.{JcrLaw}
 use Rattle.jcr_session.specs.declared.run.SessionRun.{SessionRun}
 use Rattle.jcr_session.specs.declared.turn.Turn.{Turn}
 use Rattle.jcr_session.specs.declared.turn.Turn.TheVariants as turn
@@ -56,16 +55,12 @@ equal : (a b : ℕ) → (a == b) ≡ true → a ≡ b
 equal a b h = grind (arith, nat_tests)
 
 -- the commands that the law of a script gives a session
-pub commands_at : (script : Script) (s i : ℕ) → command_at (law_of script).sessions s i ≡ slice_get (commands_of script s) i
-commands_at script s i = by (slice_get script.sessions s) refl
+pub commands_at : (script : Script) (s i : ℕ) → command_at (law_of script) s i ≡ slice_get (commands_of script s) i
+commands_at script s i = by (slice_get script.sessions s)
   where
-    by : (o : Option SessionScript) → slice_get script.sessions s ≡ o → command_at (law_of script).sessions s i ≡ slice_get (commands_of script s) i
-    by None is =
-        ap (option_and_then (λ all. slice_get all.1 i)) (slice_get-map (λ (x : SessionScript). (x.cluster, x.commands)) script.sessions s ∙ ap (option_map (λ (x : SessionScript). (x.cluster, x.commands))) is)
-        ∙ sym (ap (λ (o : Option SessionScript). slice_get (option_map_or (λ x. x.commands) o []) i) is)
-    by (Some x) is =
-        ap (option_and_then (λ all. slice_get all.1 i)) (slice_get-map (λ (x : SessionScript). (x.cluster, x.commands)) script.sessions s ∙ ap (option_map (λ (x : SessionScript). (x.cluster, x.commands))) is)
-        ∙ sym (ap (λ (o : Option SessionScript). slice_get (option_map_or (λ x. x.commands) o []) i) is)
+    by : (o : Option SessionScript) → option_and_then (λ x. slice_get x.commands i) o ≡ slice_get (option_map_or (λ x. x.commands) o []) i
+    by None = refl
+    by (Some x) = refl
 
 module _ (script : Script) (n : GName) (s : ℕ) (old new : WorldOf JcrLaw) (seat : Seat) (now : SessionRun) (answer : Turn)
     (law_is : old.law ≡ law_of script) (history : (live old.history) ≡ history_at script old.history.past) (seated : IsSeated script old s seat)
@@ -135,7 +130,7 @@ module _ (script : Script) (n : GName) (s : ℕ) (old new : WorldOf JcrLaw) (sea
         shape = inl none;
         came = (
           none,
-          waits_for script.clusters (map (λ x. x.cluster) script.sessions) (subst (λ (h : History). Rattle.oak_machine.specs.Runs.AreNodes h.clusters h.sessions) history (seated.stands n).nodes) (Rattle.jcr_session.specs.Sights.starts_of old.law) (Rattle.jcr_session.specs.Sights.says_of old.law) script refl old.history.past s r unseen.theirs
+          waits_for script.clusters (map (λ x. x.cluster) script.sessions) (subst (λ (h : History). Rattle.oak_machine.specs.Runs.AreNodes h.clusters h.sessions) history (seated.stands n).nodes) (Rattle.jcr_law.specs.Lasting.starts_of old.law) (Rattle.jcr_law.specs.Lasting.says_of old.law) script refl old.history.past s r unseen.theirs
               (all (is_committed old.history.past r) (is_ended old.history.past r) (sees (head_of script.clusters None old.history.past r.cluster) r) unseen.committed unseen.ended unseen.unseen),
         );
         flown = subst (λ (o : Past). IsFlight (o ++ old.history.past) s seat.flight) (sym none) seated.flight;
@@ -172,7 +167,7 @@ module _ (script : Script) (n : GName) (s : ℕ) (old new : WorldOf JcrLaw) (sea
           past_is = past_now script n s old new seat now turn.Ended law_is history seated turned ∙ ap (λ (o : Past). o ++ old.history.past) none
 
           as_long : length now.commands ≡ length (commands_of script s)
-          as_long = same_length now.commands (commands_of script s) (λ i. sym (turned.stands.commands i) ∙ (ap (λ (x : ℕ). command_at old.law.sessions x i) session_is ∙ (ap (λ (l : JcrLaw). command_at l.sessions s i) law_is ∙ commands_at script s i)))
+          as_long = same_length now.commands (commands_of script s) (λ i. sym (turned.stands.commands i) ∙ (ap (λ (x : ℕ). command_at old.law x i) session_is ∙ (ap (λ (l : JcrLaw). command_at l s i) law_is ∙ commands_at script s i)))
 
           next : next_index old.history.past s ≡ length (commands_of script s)
           next = sym (turned.stands.index ∙ (ap (λ (p : Past). next_index p now.session) past_is ∙ ap (next_index old.history.past) session_is)) ∙ (all ∙ as_long)

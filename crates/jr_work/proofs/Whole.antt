@@ -10,8 +10,14 @@ use Rattle.std.proofs.lemmas.Option.{slice_get_within}
 use Rattle.oak_machine.specs.History.{History, Past}
 use Rattle.oak_machine.specs.Runs.{IsRun}
 use Rattle.oak_machine.specs.Sessions.{has_left, next_index}
-use Rattle.jcr_session.specs.declared.law.JcrLaw.{JcrLaw}
-use Rattle.jcr_session.specs.Sights.{says_of, starts_of}
+use Rattle.jcr_law.specs.declared.law.JcrLaw.{JcrLaw}
+use Rattle.jcr_law.specs.Lasting.{says_of, starts_of}
+use Rattle.jr_tree.specs.Trees.{initial_tree}
+use Rattle.jr_types.specs.Builtin.{builtin}
+use Rattle.jr_types.specs.Rules.{TypesOk}
+use Rattle.core_obeys.specs.Obeying.{ObeysThroughout}
+use Rattle.core_obeys.specs.Product.{IsProductRun}
+use Rattle.jr_script.specs.Bounds.{IsWithin}
 use Rattle.jr_script.specs.Schedules.{IsEntryWithin}
 use Rattle.jr_script.specs.declared.script.Entry.{Entry}
 use Rattle.jr_script.specs.declared.script.Script.{Script}
@@ -27,6 +33,7 @@ use Rattle.jr_work.specs.Stages.{AreOver, Closes, ClosesAll, IsBegun, IsStage, d
 use Rattle.jr_work.proofs.Answering.{range_more, said_so_far}
 use Rattle.jr_work.proofs.Flying.{halves}
 use Rattle.jr_work.proofs.Reaching.{seats_stay}
+use Rattle.jr_work.proofs.Within.{within_nodes}
 
 append_nil : {X : Type 0} (a : List X) → a ++ [] ≡ a
 append_nil [] = refl
@@ -149,7 +156,8 @@ module _ (script : Script) (begun played replied finished : Stage) (flying : Lis
     (flies : flying ≡ flying_sessions (past_of played)) (replies : ClosesAll played replied (map to_reply flying))
     (finishes : ClosesAll replied finished (map to_end (range_with_len 0 (length replied.seats.items))))
     (over : AreOver finished (length replied.seats.items))
-    (run : IsRun (starts_of finished.world.law) (says_of finished.world.law) (live finished.world.history)) (apart : AreApart finished.world.history.past) where
+    (run : IsRun (starts_of finished.world.law) (says_of finished.world.law) (live finished.world.history)) (apart : AreApart finished.world.history.past)
+    (obey : (law : JcrLaw) (h : History) → IsProductRun law h → ObeysThroughout law h) (typed : TypesOk builtin initial_tree) where
   script_played : played.script ≡ script
   script_played = plays.script ∙ begins.script_is
 
@@ -222,6 +230,18 @@ module _ (script : Script) (begun played replied finished : Stage) (flying : Lis
       by_played : (added : List Part) × (rules_of added ≡ map by_entry script.schedule) × IsCutSoFar script (due_at played.world) added [] (past_of played) → Scheduled script (live finished.world.history)
       by_played (entries, first, cut) = by_parts entries first cut.whole (replied_parts entries cut)
 
+  within : IsWithin script
+  within = subst (λ (x : Script). IsWithin x) script_finished finishes.stage.within
+
+  -- the run is one of the product
+  product_run : IsProductRun (law_of script) (live finished.world.history)
+  product_run = subst (λ (h : History). IsProductRun (law_of script) h) (sym history_is) (record {
+    nodes = within_nodes script within;
+    begun = refl;
+    run = subst (λ (h : History). IsRun (starts_of (law_of script)) (says_of (law_of script)) h) history_is run_is;
+    typed = typed;
+  })
+
   -- the script was run to its end
   pub ran : HasRun script finished.world
   ran = record {
@@ -234,5 +254,6 @@ module _ (script : Script) (begun played replied finished : Stage) (flying : Lis
           (subst (λ (x : Script). is_over x (past_of finished) s ≡ true) script_finished (over s (subst (λ (n : ℕ). s < n) (sym seats_are) (slice_get_within script.sessions s session there))));
       scheduled = scheduled;
       apart = apart;
+      obeys = obey (law_of script) (live finished.world.history) product_run;
     };
   }

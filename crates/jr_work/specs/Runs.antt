@@ -11,10 +11,11 @@ use Rattle.oak_machine.specs.History.{History, Past}
 use Rattle.oak_machine.specs.Commits.{are_clashing, is_committed, is_ended, is_in_base, refusal_of}
 use Rattle.oak_machine.specs.Runs.{IsRun}
 use Rattle.core_clash.specs.Sound.{Cause}
+use Rattle.core_obeys.specs.Obeying.{ObeysThroughout}
 use Rattle.oak_world.specs.Clashes.{MeetsNone, Wanted}
 use Rattle.oak_world.specs.Worlds.{WorldOf, live}
-use Rattle.jcr_session.specs.declared.law.JcrLaw.{JcrLaw}
-use Rattle.jcr_session.specs.Sights.{says_of, starts_of}
+use Rattle.jcr_law.specs.declared.law.JcrLaw.{JcrLaw}
+use Rattle.jcr_law.specs.Lasting.{says_of, starts_of}
 use Rattle.jr_work.specs.Schedules.{Scheduled}
 use Rattle.jr_work.specs.Stages.{law_of}
 
@@ -33,7 +34,7 @@ pub record AreApart (past : Past) : Type 0 where
   pub causes : (r : Revision) (item : Item) (o : Revision) → refusal_of past r ≡ Some (item, o) → Cause past r item o
   pub complete : (r : Revision) → IsTrue (is_ended past r) → MeetsNone past r → IsTrue (is_committed past r) ⊎ Wanted past r
 
--- the history is a run of the machine by the law of the script, over its cluster nodes and its sessions, in which each command of a session is answered once, in order; the schedule cuts it; and its commits are apart
+-- the history is a run of the machine by the law of the script, over its cluster nodes and its sessions, in which each command of a session is answered once, in order; the schedule cuts it; its commits are apart; and at each time it obeyed the types, the locks and the references
 pub record FollowsScript (script : Script) (h : History) : Type 0 where
   pub clusters : h.clusters ≡ script.clusters
   pub sessions : h.sessions ≡ map (λ s. s.cluster) script.sessions
@@ -41,6 +42,7 @@ pub record FollowsScript (script : Script) (h : History) : Type 0 where
   pub answered : (s : ℕ) (session : SessionScript) → slice_get script.sessions s ≡ Some session → indexes_said h s ≡ range_with_len 0 (length session.commands)
   pub scheduled : Scheduled script h
   pub apart : AreApart h.past
+  pub obeys : ObeysThroughout (law_of script) h
 
 -- the script was run to its end: the world is of its law, and what its journal tells follows the script
 pub record HasRun (script : Script) (w : WorldOf JcrLaw) : Type 0 where

@@ -7,16 +7,18 @@ ghost use Rattle.jr_work.specs.Runs.{HasRun};
 ghost use Rattle.jr_work.specs.Stages.{AreOver, ClosesAll, IsStage};
 
 use crate::stage::Stage;
-use jcr_session::JcrLaw;
+use core_obeys::the_product_obeys_throughout;
+use jcr_law::JcrLaw;
 use jr_script::Script;
+use jr_types::the_initial_tree_meets_the_built_in_types;
 use oak_world::World;
 use std::alloc::{AllocError, Global};
 
 /// Runs a script turn by turn as its schedule says; then the commits in flight in ascending order of their revisions, each to its reply; then the
 /// sessions in order, each to its end. It answers the world with which the script ended: its law, its cluster nodes and its sessions
 /// are the script's, its journal is a run of the machine by that law in which each command is answered once and in order,
-/// the schedule cuts the journal, no two commits clash unseen, each refusal names its cause, and what clashes with no other is made or
-/// wanted memory.
+/// the schedule cuts the journal, no two commits clash unseen, each refusal names its cause, what clashes with no other is made or
+/// wanted memory, and at each time the tree of all commits met the built-in node types, its locks and its references.
 pub fn run_steps(alloc: Global, script: Script) -> Result<World<JcrLaw>, AllocError>
     requires { IsWithin script }
     ensures { IfOk result (HasRun script) }
@@ -27,6 +29,8 @@ pub fn run_steps(alloc: Global, script: Script) -> Result<World<JcrLaw>, AllocEr
     stage.reply_all(flying.as_slice())?;
     stage.finish_all()?;
     stage.world.journal();
+    the_initial_tree_meets_the_built_in_types();
+    the_product_obeys_throughout();
     let Stage { world, .. } = stage;
     Ok(world)
 }

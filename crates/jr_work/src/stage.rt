@@ -13,14 +13,17 @@ ghost use Rattle.jr_work.specs.Places.{flying_sessions, is_over};
 ghost use Rattle.jr_work.specs.Parts.{Part, Rule, by_entry, to_end, to_reply};
 ghost use Rattle.jr_script.specs.declared.script.Entry.TheVariants as entry;
 ghost use Rattle.jr_work.specs.Stages.{Closes, HasCome, HasRead, HasTurnedIn, IsBegun, IsOfCommit, IsStage, flight_behind, flight_by, has_come, law_of};
-ghost use Rattle.jr_work.specs.Seats.{AreNew};
+ghost use Rattle.jr_work.specs.Seats.{AreNew, IsNewSeat};
 
 use crate::flight::{Flight, flight_after};
-use jcr_session::{JcrLaw, SessionRun, Turn};
+use core_obeys::the_product_obeys;
+use jcr_law::JcrLaw;
+use jcr_session::{SessionRun, Turn};
 use jcr_trans::SessionScript;
 use jr_path::{DeepCopy, List};
 use jr_rev::Revision;
 use jr_script::{Entry, Script};
+use jr_types::Registry;
 use oak_world::{SoloPort, World};
 use std::alloc::{AllocError, Global};
 use std::collections::BTreeMap;
@@ -42,14 +45,15 @@ pub(crate) struct Seat {
 }
 
 impl Stage {
-    // The sessions of a script before any turn.
+    // The sessions of a script before any turn. By the law that the product obeys they will see trees.
     pub(crate) fn new(alloc: Global, script: Script) -> Result<Stage, AllocError>
         requires { IsWithin script }
         ensures { IfOk result (IsBegun script) }
     {
+        the_product_obeys();
         let nodes = nodes_of(alloc, script.sessions.as_slice())?;
-        let seats = seats_of(alloc, script.sessions.as_slice())?;
         let law = law_of(alloc, &script)?;
+        let seats = seats_of(alloc, &law.types, script.sessions.as_slice())?;
         let world = World::new(alloc, law, script.clusters, nodes.as_slice())?;
         Ok(Stage {
             alloc,
@@ -253,28 +257,65 @@ fn nodes_of(alloc: Global, sessions: &[SessionScript]) -> Result<Vec<u32>, Alloc
 }
 
 // The sessions, none of which has logged in.
-fn seats_of(alloc: Global, sessions: &[SessionScript]) -> Result<Vec<Seat>, AllocError>
+fn seats_of(
+    alloc: Global,
+    types: &Registry,
+    sessions: &[SessionScript],
+) -> Result<Vec<Seat>, AllocError>
     requires many { length sessions.now ≤ 64 }
     requires few { All (λ s. length s.commands ≤ 10000) sessions.now }
-    ensures { IfOk result (λ seats. AreNew sessions.now (length sessions.now) seats.items) }
+    ensures { IfOk result (λ seats. AreNew types.now sessions.now (length sessions.now) seats.items) }
 {
     let mut seats = Vec::new(alloc);
     for (s, session) in sessions.iter().enumerate() {
-        let run = SessionRun::new(alloc, s as u32, session.commands.copy()?)?;
-        seats.push(Seat { run, flight: None })?;
+        let seat = seat_of(alloc, types, s as u32, session)?;
+        seats.push(seat)?;
     }
     Ok(seats)
 }
 
-// The law of a script: the cluster node and the commands of each session.
+// A session that has not logged in, of the number and with the commands.
+fn seat_of(
+    alloc: Global,
+    types: &Registry,
+    s: u32,
+    session: &SessionScript,
+) -> Result<Seat, AllocError>
+    requires few { length session.now.commands ≤ 10000 }
+    ensures { IfOk result (IsNewSeat types.now s session.now) }
+{
+    let commands = session.commands.copy()?;
+    let run = SessionRun::new(alloc, s, 0, commands, types.copy()?)?;
+    Ok(Seat { run, flight: None })
+}
+
+// The law of a script: the built-in types, no session before it, and its sessions with their commands.
 fn law_of(alloc: Global, script: &Script) -> Result<JcrLaw, AllocError>
     ensures { IfOk result (λ law. law ≡ law_of script.now) }
 {
-    let mut sessions = List::new(alloc);
-    for session in script.sessions.as_slice() {
-        sessions.push((session.cluster, session.commands.copy()?))?;
+    let types = Registry::builtin(alloc)?;
+    let sessions = sessions_copied(alloc, script.sessions.as_slice())?;
+    Ok(JcrLaw {
+        types,
+        earlier: 0,
+        sessions,
+    })
+}
+
+fn sessions_copied(
+    alloc: Global,
+    sessions: &[SessionScript],
+) -> Result<List<SessionScript>, AllocError>
+    ensures { IfOk result (λ copies. copies ≡ sessions.now) }
+{
+    let mut copies = List::new(alloc);
+    for session in sessions {
+        copies.push(SessionScript {
+            cluster: session.cluster,
+            commands: session.commands.copy()?,
+        })?;
     }
-    Ok(JcrLaw { sessions })
+    Ok(copies)
 }
 
 // A turn of a session in its world.

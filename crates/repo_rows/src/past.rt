@@ -1,5 +1,5 @@
 // Journals by the plain calls of the machine.
-use jcr_session::JcrLaw;
+use jcr_law::JcrLaw;
 use jr_path::DeepCopy;
 use jr_rev::{RevVec, Revision};
 use oak_machine::{Event, Events, Journal, StepKind};

@@ -1,5 +1,5 @@
 // The top call over sources and sinks that fail, and the words of command lines.
-use jcr_session::JcrLaw;
+use jcr_law::JcrLaw;
 use jr_io::{MemSink, MemSource};
 use oak_world::World;
 use repo_top::{Given, Row, Takes, WordOption, Words, option_given, row_meant, steps_main};

@@ -6,7 +6,8 @@ use crate::past::{add_order, add_past};
 use crate::plays::add_play;
 use crate::runs::{add_meaning, add_option, add_status};
 use crate::told::told;
-use jcr_session::{JcrLaw, eval};
+use jcr_eval::eval;
+use jcr_law::JcrLaw;
 use jr_path::{DeepCopy, List};
 use jr_print::lines;
 use jr_script::{Script, ScriptFault, read_script, scripts_are_within};
@@ -122,7 +123,7 @@ fn add_law(alloc: Global, world: &World<JcrLaw>, out: &mut String) -> Result<(),
     let journal = world.journal();
     let mut before = Journal {
         clusters: journal.clusters,
-        sessions: List::new(alloc),
+        sessions: journal.sessions.copy()?,
         events: Events::new(alloc),
         start: None,
     };
@@ -140,39 +141,29 @@ fn add_said(
     event: &Event,
     out: &mut String,
 ) -> Result<(), AllocError> {
-    let Event::Said(session, index, _) = event else {
+    let Event::Said(session, index, text) = event else {
         return Ok(());
     };
     out.push_str(session.to_string(alloc)?.as_str())?;
     out.push(' ')?;
     out.push_str(index.to_string(alloc)?.as_str())?;
     out.push(' ')?;
-    add_reply(alloc, law, before, *session, out)?;
+    add_reply(alloc, law, before, (*session, *index), text.as_str(), out)?;
     out.push('\n')
 }
 
+// The reply of that index of a session, where the law lets it be said.
 fn add_reply(
     alloc: Global,
     law: &JcrLaw,
     before: &Journal,
-    session: u32,
+    reply: (u32, u32),
+    text: &str,
     out: &mut String,
 ) -> Result<(), AllocError> {
-    match replied(alloc, law, before, session)? {
-        Some(reply) => out.push_str(reply.as_str()),
-        None => Ok(()),
-    }
-}
-
-// The reply that the law lets a session say by a journal that begins before any commit.
-fn replied(
-    alloc: Global,
-    law: &JcrLaw,
-    journal: &Journal,
-    session: u32,
-) -> Result<Option<String>, AllocError> {
-    match &journal.start {
-        None => eval(alloc, law, journal, session),
-        Some(_) => Err(AllocError),
+    if eval(alloc, law, before, reply.0, reply.1, text)? {
+        out.push_str(text)
+    } else {
+        out.push_str("unlawful")
     }
 }

@@ -1,5 +1,5 @@
 // Documents and events as text.
-use jcr_session::JcrLaw;
+use jcr_law::JcrLaw;
 use jr_rev::{RevVec, Revision};
 use oak_doc::Document;
 use oak_machine::{Event, StepKind};

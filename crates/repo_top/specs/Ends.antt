@@ -11,7 +11,7 @@ use Rattle.jr_script.specs.Scripts.{IsFault as IsBadScript, IsJson, IsScript}
 use Rattle.jr_script.specs.declared.script.ScriptFault.TheVariants as bad
 use Rattle.repo_top.specs.declared.status.Status.{Status}
 use Rattle.repo_top.specs.declared.status.Status.TheVariants as status
-use Rattle.jcr_session.specs.declared.law.JcrLaw.{JcrLaw}
+use Rattle.jcr_law.specs.declared.law.JcrLaw.{JcrLaw}
 use Rattle.oak_world.specs.Worlds.{WorldOf, live}
 use Rattle.jr_work.specs.Runs.{HasRun}
 use Rattle.repo_top.specs.Headline.{replies_of}

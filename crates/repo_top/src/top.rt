@@ -9,7 +9,7 @@ ghost use Rattle.repo_top.specs.declared.words.Words.TheVariants.{Steps};
 use crate::status::{Status, Unrun, script_line, types_line};
 use crate::types::types_of;
 use crate::words::{Words, words_meant};
-use jcr_session::JcrLaw;
+use jcr_law::JcrLaw;
 use jr_io::{Failed, Sink, Source, read_all, write_all};
 use jr_path::Text;
 use jr_print::lines;

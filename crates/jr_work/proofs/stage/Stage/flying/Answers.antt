@@ -1,7 +1,7 @@
 use Rattle.std.proofs.Common.{◌≡◌, ◌∙◌, ◌<◌, ◌≤◌, List, ap, arith, get_or, length, subst, sym}
 use Rattle.std.specs.List.{All}
 use Rattle.std.specs.Map.{values_of}
-use Rattle.jcr_session.specs.Sights.{says_of, starts_of}
+use Rattle.jcr_law.specs.Lasting.{says_of, starts_of}
 use Rattle.jr_work.specs.declared.stage.Seat.{Seat}
 use Rattle.jr_work.specs.Places.{flying_sessions}
 use Rattle.jr_work.proofs.Ascending.{AreKept, if_ok_more, kept_flying, kept_long, kept_more, kept_none}
