@@ -1,5 +1,5 @@
 -- How a call ends, from how its parts ended.
-use Rattle.std.proofs.Common.{◌≡◌, ℕ, ◌<◌, ◌≤◌, Option, Some, None, IfSome, IsSome, IsNone, List, length, inl, inr, refl, sym, subst, arith}
+use Rattle.std.proofs.Common.{◌≡◌, ℕ, ◌<◌, ◌≤◌, Option, Some, None, IfSome, IsNone, List, length, inl, inr, refl, sym, subst, arith}
 use Rattle.repo_top.specs.declared.status.Status.{Status}
 use Rattle.repo_top.specs.declared.status.Status.TheVariants as status
 use Rattle.jr_script.specs.declared.script.Script.{Script}

@@ -1,4 +1,4 @@
-use Rattle.std.proofs.Common.{ℕ, List, ◌≡◌, ◌∷◌, map, drop, take, length, ◌-◌, option_map}
+use Rattle.std.proofs.Common.{option_map}
 use Rattle.std.specs.String.{string_bytes}
 use Rattle.repo_top.proofs.Options.{begins, head_words, is_option, no_given, no_option}
 use Rattle.repo_top.proofs.words.first_given.Goals as goal

@@ -1,5 +1,4 @@
-use Rattle.std.proofs.Common.{◌≡◌, map, true}
-use Rattle.std.proofs.lemmas.Bool.{false≢true}
+use Rattle.std.proofs.Common.{◌≡◌, true}
 use Rattle.std.specs.String.{string_bytes}
 use Rattle.repo_top.proofs.Options.{head_words, is_row, no_row, not_row}
 use Rattle.repo_top.proofs.words.row_meant.Goals as goal
