@@ -3,15 +3,9 @@ use Rattle.std.proofs.Common.{◌≡◌, ℕ, ◌<◌, ◌≤◌, Option, Some, 
 use Rattle.repo_top.specs.declared.status.Status.{Status}
 use Rattle.repo_top.specs.declared.status.Status.TheVariants as status
 use Rattle.jr_script.specs.declared.script.Script.{Script}
-<<<<<<< HEAD
 use Rattle.oak_world.specs.Worlds.{WorldOf, live}
-use Rattle.jcr_session.specs.declared.law.JcrLaw.{JcrLaw}
-use Rattle.repo_top.specs.Ends.{Call, Ends, EndsWith, FailsNowhere, Faults, HasFault, HasLine, HasPrinted, HasRunAll, IsCalm, IsCause, IsDelivered, IsFault, IsPart, IsPartOf, IsReadWhole, IsRefused, IsSteps, IsTypes, IsUnread, Output, Prints, Spells, Tells, longest}
-=======
-use Rattle.oak_world.specs.Worlds.{WorldOf}
 use Rattle.jcr_law.specs.declared.law.JcrLaw.{JcrLaw}
-use Rattle.repo_top.specs.Ends.{BreaksRule, Call, Ends, EndsWith, FailsNowhere, Faults, HasLine, HasRunAll, IsCalm, IsCause, IsFault, IsPart, IsReadWhole, IsRefused, IsUnread, Output, Prints, Spells, Tells, longest}
->>>>>>> d419d41c2990450464a54177b969c44eb2e72f62
+use Rattle.repo_top.specs.Ends.{Call, Ends, EndsWith, FailsNowhere, Faults, HasFault, HasLine, HasPrinted, HasRunAll, IsCalm, IsCause, IsDelivered, IsFault, IsPart, IsPartOf, IsReadWhole, IsRefused, IsSteps, IsTypes, IsUnread, Output, Prints, Spells, Tells, longest}
 use Rattle.jr_work.specs.Runs.{HasRun}
 use Rattle.repo_top.specs.Headline.{replies_of}
 use Rattle.repo_top.specs.Statuses.{fault_line, status_of}
