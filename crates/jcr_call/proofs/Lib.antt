@@ -1,3 +1,4 @@
+pub mod AtOnce
 mod Childless
 mod Identifiers
 mod Improper

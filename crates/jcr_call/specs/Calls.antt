@@ -1,4 +1,5 @@
--- What the next command of a session is run with, once a command was answered or the base has moved.
+-- What the next command of a session is run with, once a command was answered or the base has
+-- moved.
 use Rattle.std.specs.Prelude.{Bool}
 use Rattle.jr_rev.specs.declared.vector.RevVec.{RevVec}
 use Rattle.jr_tree.specs.Trees.{Nodes}

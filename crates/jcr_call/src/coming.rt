@@ -24,23 +24,25 @@ use jr_path::{List, Path, Text};
 use jr_tree::Edit;
 use std::alloc::{AllocError, Global};
 
-/// What a command that commits comes to before its commit: a reply, or a plan, and what is told once that is committed.
+/// What a command that commits comes to before its commit: a reply, or a plan, and what is told
+/// once that is committed.
 #[derive(Drop)]
 pub enum Coming {
     Said(String),
     Planned(Plan, Accepted),
 }
 
-/// What an accepted commit tells: its reply, where that isn't the revision; and the lock tokens that the session then holds
-/// (JSR 283, 17.5 Lock Token).
+/// What an accepted commit tells: its reply, where that isn't the revision; and the lock tokens
+/// that the session then holds (JSR 283, 17.5 Lock Token).
 #[derive(Drop)]
 pub struct Accepted {
     pub text: Option<String>,
     pub tokens: List<Text>,
 }
 
-/// What a command comes to by what is due for it (JSR 283, 10.11 Saving): a reply, where that is a refusal, has nothing to
-/// write, isn't proper or can't be planned; else a plan. It goes over the whole tree.
+/// What a command comes to by what is due for it (JSR 283, 10.11 Saving): a reply, where that is a
+/// refusal, has nothing to write, isn't proper or can't be planned; else a plan. It goes over the
+/// whole tree.
 pub fn come(
     alloc: Global,
     footing: &Footing<'_>,
@@ -118,7 +120,8 @@ fn told(alloc: Global, footing: &Footing<'_>, command: &Command) -> Result<Accep
 // What is told of a lock: its token, which the session then holds.
 fn locked(alloc: Global, footing: &Footing<'_>) -> Result<Accepted, AllocError>
     ensures { (c : Call) → IsOn footing.now c → IfOk result (IsTold
-        (Some (answer_text (ShowsText (next_id c.who)))) (with_token c.state.tokens (next_id c.who))) }
+        (Some (answer_text (ShowsText (next_id c.who))))
+        (with_token c.state.tokens (next_id c.who))) }
 {
     let token = next_id(alloc, footing.who)?;
     let text = Some(text_reply(alloc, token.as_str())?);

@@ -25,16 +25,17 @@ use jr_path::{Name, Path};
 use jr_tree::{Edit, Refusal, Tree, Who};
 use std::alloc::{AllocError, Global};
 
-/// What is due of a command that commits (JSR 283, 10.11 Saving): an edit, or the command's refusal.
+/// What is due of a command that commits (JSR 283, 10.11 Saving): an edit, or the command's
+/// refusal.
 #[derive(Drop)]
 pub enum Due {
     Edited(Edit),
     Refused(Refusal),
 }
 
-/// The edit that is due for a command that commits whatever is pending, or its refusal: for those of locks (JSR 283, 17
-/// Locking) and of versions (15 Versioning). There is none for `save`, whose edit is what is pending, nor for a command that
-/// doesn't commit.
+/// The edit that is due for a command that commits whatever is pending, or its refusal: for those
+/// of locks (JSR 283, 17 Locking) and of versions (15 Versioning). There is none for `save`, whose
+/// edit is what is pending, nor for a command that doesn't commit.
 pub fn edit_due(
     alloc: Global,
     footing: &Footing<'_>,

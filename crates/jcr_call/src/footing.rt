@@ -3,8 +3,8 @@ use jr_path::Text;
 use jr_tree::{Tree, Who};
 use jr_types::Registry;
 
-/// What a command that commits is run on: the node types, the session at its base, the tree there, and the lock tokens that
-/// the session holds (JSR 283, 10.11 Saving).
+/// What a command that commits is run on: the node types, the session at its base, the tree there,
+/// and the lock tokens that the session holds (JSR 283, 10.11 Saving).
 #[derive(Clone, Copy)]
 pub struct Footing<'a> {
     pub types: &'a Registry,

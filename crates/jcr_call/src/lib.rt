@@ -1,5 +1,5 @@
-//! What a command of a session comes to, by plain calls: the edit that is due for it and its plan, or the reply to it. The
-//! program of the law and the sessions stand on them.
+//! What a command of a session comes to, by plain calls: the edit that is due for it and its plan,
+//! or the reply to it. The program of the law and the sessions stand on them.
 #![tactic(auto)]
 
 mod allowed;

@@ -17,8 +17,8 @@ use jr_value::Property;
 use std::alloc::{AllocError, Global};
 use std::collections::BTreeSet;
 
-/// Whether an edit is proper on a tree: the tree after it is one, it writes each item once and changes it, and it unsets each
-/// property of a node that goes (JSR 283, 10.11 Saving).
+/// Whether an edit is proper on a tree: the tree after it is one, it writes each item once and
+/// changes it, and it unsets each property of a node that goes (JSR 283, 10.11 Saving).
 pub fn is_proper(alloc: Global, tree: &Tree, edit: &Edit) -> Result<bool, AllocError>
     ensures { IfOk result (λ b. b ≡ is_proper tree.now edit.now.writes) }
 {
@@ -45,7 +45,8 @@ fn tree_after(tree: &Tree, edit: &Edit) -> Result<Tree, AllocError>
     Ok(after)
 }
 
-// Whether the root is there, and the parent of each node; paths and names stand in order by themselves.
+// Whether the root is there, and the parent of each node; paths and names stand in order by
+// themselves.
 fn is_tree(alloc: Global, tree: &Tree) -> Result<bool, AllocError>
     ensures { IfOk result (λ b. b ≡ is_tree tree.now) }
 {
@@ -56,7 +57,8 @@ fn is_tree(alloc: Global, tree: &Tree) -> Result<bool, AllocError>
     have_parents(tree)
 }
 
-// Its paths stand in order, and so do the names of each node's properties. It does nothing: callers learn the facts.
+// Its paths stand in order, and so do the names of each node's properties. It does nothing: callers
+// learn the facts.
 fn know_order(tree: &Tree)
     ensures paths { is_sorted path_cmp tree.now ≡ true }
     ensures names { has_names_in_order tree.now ≡ true }
@@ -126,7 +128,8 @@ fn is_change(old: &Tree, new: &Tree, write: &Write) -> bool
 
 // Whether the property of that name of the node at a path is the same as this one.
 fn shows(tree: &Tree, path: &Path, name: &Name, property: &Property) -> bool
-    ensures { result ≡ option_map_or (same_property property.now) (property_at tree.now path.now name.now) false }
+    ensures { result ≡ option_map_or (same_property property.now)
+        (property_at tree.now path.now name.now) false }
 {
     match tree.property(path, name) {
         Some(found) => property == found,

@@ -22,8 +22,9 @@ use sql_parse::{Query, SqlFault, parse};
 use sql_plan::rows_fast;
 use std::alloc::{AllocError, Global};
 
-/// The reply to a query over a tree (JSR 283, 6 Query): 11 with the offset where the text is none; 5 where a CAST has no
-/// value; 3 with the first selector's type that nobody registered; else the rows.
+/// The reply to a query over a tree (JSR 283, 6 Query): 11 with the offset where the text is none;
+/// 5 where a CAST has no value; 3 with the first selector's type that nobody registered; else the
+/// rows.
 pub fn query_reply(
     alloc: Global,
     types: &Registry,

@@ -15,7 +15,8 @@ use jr_path::Path;
 use jr_tree::{Refusal, Tree};
 use std::alloc::{AllocError, Global};
 
-/// The reply of a refusal that doesn't stand for want of memory; for one that does, memory is wanted here.
+/// The reply of a refusal that doesn't stand for want of memory; for one that does, memory is
+/// wanted here.
 pub fn cause_text(alloc: Global, refusal: &Refusal) -> Result<String, AllocError>
     ensures { IfOk result (λ text. ¬ (refusal.now ≡ out_of_memory)
         × (string_bytes text ≡ no_text refusal.now)) }
@@ -26,8 +27,8 @@ pub fn cause_text(alloc: Global, refusal: &Refusal) -> Result<String, AllocError
     refusal_text(alloc, refusal)
 }
 
-/// The reply that shows the version that a check-in of a node makes, or that is the node's base version where it is checked
-/// in (JSR 283, 15.2 Check-In); `null` where there is none.
+/// The reply that shows the version that a check-in of a node makes, or that is the node's base
+/// version where it is checked in (JSR 283, 15.2 Check-In); `null` where there is none.
 pub fn version_reply(alloc: Global, tree: &Tree, path: &Path) -> Result<String, AllocError>
     ensures { IfOk result (λ reply. string_bytes reply
         ≡ answer_text (version_answer (checked_in_version tree.now path.now))) }

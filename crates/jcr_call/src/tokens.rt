@@ -8,7 +8,8 @@ use jr_items::is_same_text;
 use jr_path::{DeepCopy, List, Text};
 use std::alloc::{AllocError, Global};
 
-/// The tokens with one more, which stands first where it wasn't among them (JSR 283, 17.5 Lock Token).
+/// The tokens with one more, which stands first where it wasn't among them (JSR 283, 17.5 Lock
+/// Token).
 pub fn with_token(alloc: Global, tokens: &[Text], token: &Text) -> Result<List<Text>, AllocError>
     ensures { IfOk result (λ all. all ≡ with_token tokens.now token.now) }
 {

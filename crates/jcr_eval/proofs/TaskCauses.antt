@@ -1,8 +1,6 @@
 -- The causes of replies of commands of the cluster and of observation, decided of what came since they began.
-use Rattle.std.proofs.Common.{◌≡◌, ℕ, ◌+◌, Bool, true, false, not, ◌&&◌, ◌||◌, ◌⊎◌, inl, inr, List, [], Option, None, Some, refl, sym, ap, subst, ◌∙◌}
-use Rattle.std.specs.Prelude.{◌↔◌, ◌==◌, bytes_eq, slice_get, Contains, IfOk, IsTrue, Result, is_none}
-use Rattle.std.specs.Bool.{Decides}
-use Rattle.std.specs.List.{list_any}
+use Rattle.std.proofs.Common.{◌≡◌, ℕ, ◌+◌, Bool, true, false, not, ◌&&◌, ◌||◌, inl, inr, List, Option, None, Some, refl, sym, ap, subst, ◌∙◌}
+use Rattle.std.specs.Prelude.{◌↔◌, ◌==◌, slice_get, Contains, IfOk, IsTrue, Result, is_none}
 use Rattle.std.specs.Option.{option_map_or}
 use Rattle.std.proofs.lemmas.Bool.{true≢false}
 use Rattle.std.proofs.lemmas.Bool.Decides.{Decides-eqb}
@@ -10,18 +8,15 @@ use Rattle.std.proofs.lemmas.Result.{IfOk-weaker}
 use Rattle.std.proofs.lemmas.Slice.Eq.{bytes_eq-Decides}
 use Rattle.jr_path.specs.declared.path.Path.{Path}
 use Rattle.jr_path.specs.declared.text.Text.{Text}
-use Rattle.jr_rev.specs.declared.revision.Revision.{Revision}
-use Rattle.jr_rev.specs.declared.vector.RevVec.{RevVec}
 use Rattle.jr_tree.specs.declared.shared.Refusal.{Refusal}
 use Rattle.jr_items.specs.Refusals.{no_checkpoint}
 use Rattle.oak_machine.specs.declared.event.Event.{Event}
 use Rattle.oak_machine.specs.declared.event.Event.TheVariants as event
 use Rattle.oak_machine.specs.Heads.{local, published}
-use Rattle.oak_machine.specs.History.{History, Past}
+use Rattle.oak_machine.specs.History.{History}
 use Rattle.oak_machine.specs.Sessions.{base_of, is_stop_of, is_stopped, since}
 use Rattle.jcr_ref.specs.Drawn.{too_many_ids}
-use Rattle.jcr_trans.specs.Answers.{Done, ShowsRevision, ShowsText, ShowsVector}
-use Rattle.jcr_trans.specs.Texts.{answer_text, ok_text}
+use Rattle.jcr_trans.specs.Answers.{Done, ShowsText, ShowsVector}
 use Rattle.jcr_trans.specs.declared.command.Command.{Command}
 use Rattle.jcr_trans.specs.declared.command.Command.TheVariants as command
 use Rattle.jcr_law.specs.declared.law.JcrLaw.{JcrLaw}
@@ -29,9 +24,9 @@ use Rattle.jcr_law.specs.declared.state.Cursor.{Cursor}
 use Rattle.jcr_law.specs.Law.{no_support, no_text}
 use Rattle.jcr_law.specs.Queries.{events_reply, events_since}
 use Rattle.jcr_law.specs.Since.{before_turn, came, detached_among, is_pinning}
-use Rattle.jcr_law.specs.State.{Call, call_of, next_id}
-use Rattle.jcr_law.specs.Tasks.{collected_data, finds_stopped, is_out, is_recovering, is_sweep, misses, split_data, split_refusal}
-use Rattle.jcr_eval.proofs.Passing.{Passed, and_parts, and_whole, came_any, came_contains, came_some, contains_came, false_of, or_left, or_parts, or_right, some_came}
+use Rattle.jcr_law.specs.State.{call_of, next_id}
+use Rattle.jcr_law.specs.Tasks.{finds_stopped, is_out, is_recovering, is_sweep, misses, split_refusal}
+use Rattle.jcr_eval.proofs.Passing.{and_parts, and_whole, came_any, came_contains, came_some, contains_came, false_of, or_left, or_parts, or_right, some_came}
 use Rattle.jcr_eval.proofs.Showing.{attach_is, attach_passes, collection_is, collection_shown, in_is, in_shown, is_shown, keep_is, keep_passes, out_is, out_shown, recovery_is, recovery_shown, release_is, release_passes, shown_is, split_is, split_shown, sweep_is, sweep_shown}
 use Rattle.jcr_eval.proofs.Options.{some_passed}
 use Rattle.jcr_eval.specs.Said.{has_in, has_out, has_sweep, is_own, refuses_checkpoint, refuses_id, refuses_split, says_attach, says_checkpoint, says_collect, says_detach, says_events, says_in, says_observe, says_out, says_recover, says_release, says_split, says_stop, says_sweep, shows_checkpoint, shows_events, shows_vector}

@@ -1,21 +1,14 @@
 -- What a query that was read answers.
-use Rattle.std.specs.Prelude.{◌≡◌, ◌≢◌, ◌↔◌, IsTrue, ℕ, Bool, false, List, Option, None, Some, Result, Ok, Err, map}
+use Rattle.std.specs.Prelude.{◌≢◌, ◌↔◌, IsTrue, ℕ, Bool, false, List, Result, Err}
 use Rattle.jr_path.specs.declared.name.Name.{Name}
-use Rattle.jr_items.specs.Refusals.{no_query, no_type, wrong_kind}
+use Rattle.jr_items.specs.Refusals.{no_query, wrong_kind}
 use Rattle.jr_tree.specs.Trees.{Nodes}
 use Rattle.jr_types.specs.declared.TypeDef.{TypeDef}
-use Rattle.jr_types.specs.Types.{subtypes}
 use Rattle.jr_value.specs.declared.value.Value.{Value}
 use Rattle.sql_parse.specs.Grammar.{IsParsed}
 use Rattle.sql_parse.specs.declared.fault.SqlFault.{SqlFault}
 use Rattle.sql_parse.specs.declared.fault.SqlFault.TheVariants as fault
 use Rattle.sql_parse.specs.declared.query.Query.{Query}
-use Rattle.sql_eval.specs.declared.row.Row.{Row}
-use Rattle.sql_eval.specs.RowTexts.{rows_data}
-use Rattle.sql_eval.specs.Rows.{AreRows}
-use Rattle.jcr_trans.specs.Texts.{ok_text}
-use Rattle.jcr_law.specs.Law.{no_text}
-use Rattle.jcr_law.specs.Queries.{unknown_selector}
 use Rattle.jcr_call.specs.Reading.{AnswersRead}
 use Rattle.jcr_eval.specs.Shown.{is_refusal}
 

@@ -1,5 +1,5 @@
 -- Whether a text is a reply to each command of the cluster and of observation, as a test.
-use Rattle.std.specs.Prelude.{ℕ, ◌+◌, Bool, false, not, ◌&&◌, ◌||◌, ◌==◌, List, [], bytes_eq, slice_get, Option, Some, is_none}
+use Rattle.std.specs.Prelude.{ℕ, ◌+◌, Bool, false, not, ◌&&◌, ◌||◌, ◌==◌, List, bytes_eq, slice_get, Option, Some, is_none}
 use Rattle.std.specs.Option.{option_map_or}
 use Rattle.jr_path.specs.declared.path.Path.{Path}
 use Rattle.jr_path.specs.declared.text.Text.{Text}
@@ -19,7 +19,7 @@ use Rattle.jcr_law.specs.declared.state.Cursor.{Cursor}
 use Rattle.jcr_law.specs.Law.{no_support}
 use Rattle.jcr_law.specs.Queries.{events_reply, events_since}
 use Rattle.jcr_law.specs.Since.{before_turn, came, detached_among, is_pinning}
-use Rattle.jcr_law.specs.State.{Call, call_of, next_id}
+use Rattle.jcr_law.specs.State.{call_of, next_id}
 use Rattle.jcr_law.specs.Tasks.{finds_stopped, misses, split_refusal}
 use Rattle.jcr_eval.specs.Shown.{attaches, is_answer, is_refusal, keeps, releases, shows_collection, shows_in, shows_out, shows_recovery, shows_split, shows_sweep}
 

@@ -1,7 +1,6 @@
 -- What a session holds at its base, as the law has it.
-use Rattle.std.specs.Prelude.{◌≡◌, ◌++◌, Bool, true, false, ◌||◌, cond, List, [], ◌∷◌, Option, None, Some}
+use Rattle.std.specs.Prelude.{◌≡◌, Bool, true, false, cond, List, [], ◌∷◌}
 use Rattle.std.specs.List.{All}
-use Rattle.jr_tree.specs.Trees.{IsTree, has_names_in_order}
 use Rattle.jr_part.specs.Parts.{Knowledge, LacksNothing}
 use Rattle.jr_part.specs.declared.need.Need.{Need}
 use Rattle.jr_part.specs.declared.need.Need.TheVariants as need

@@ -38,8 +38,8 @@ edit_due c (command.Unlabel p label) = Some (unlabel_edit c.base p label)
 edit_due c (command.Restore p version) = Some (restore_edit c.types c.base p version)
 edit_due c _ = None
 
--- why the writes of a command can't be committed on the tree at the base: they are not proper there,
--- which comes of a version storage that isn't whole, or the plan is refused
+-- why the writes of a command can't be committed on the tree at the base: they are not proper
+-- there, which comes of a version storage that isn't whole, or the plan is refused
 abbrev pub refusal_of_plan : Call → List Write → Option Refusal
 refusal_of_plan c [] = None
 refusal_of_plan c (w ∷ ws) = cond (is_proper c.base (w ∷ ws))
@@ -59,8 +59,8 @@ abbrev pub unwritten_answer : Call → Command → Answer
 unwritten_answer c (command.Checkin p) = version_answer (checked_in_version c.base p)
 unwritten_answer c _ = ShowsNothing
 
--- the answer of a command whose commit was made: a lock tells its token, a check-in the version that
--- it made on the tree where it was drawn, each other one the revision
+-- the answer of a command whose commit was made: a lock tells its token, a check-in the version
+-- that it made on the tree where it was drawn, each other one the revision
 abbrev pub committed_answer : Call → (drawn_at : Nodes) → Revision → Command → Answer
 committed_answer c drawn_at r (command.Lock p deep) = ShowsText (next_id c.who)
 committed_answer c drawn_at r (command.Checkin p) = version_answer (checked_in_version drawn_at p)

@@ -7,7 +7,8 @@ use Rattle.jr_tree.specs.declared.edit.Write.{Write}
 use Rattle.jr_tree.specs.Edits.{applied, is_change, is_emptied, is_once}
 use Rattle.jr_tree.specs.Trees.{Nodes, has_names_in_order, has_parent, node_at}
 
--- each path and each name stands once, in order; the root is there, and so is the parent of each node
+-- each path and each name stands once, in order; the root is there, and so is the parent of each
+-- node
 abbrev pub is_tree : Nodes → Bool
 is_tree t = is_sorted path_cmp t && has_names_in_order t && is_some (node_at t [])
     && list_all (λ e. has_parent t e.0) t

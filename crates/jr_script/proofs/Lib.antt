@@ -1,3 +1,5 @@
+pub mod Adding
+pub mod Definitions
 pub mod Entries
 pub mod Sessions
 pub mod Unique

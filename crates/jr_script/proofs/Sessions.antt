@@ -1,5 +1,5 @@
 -- Lists and objects by their views, and the guards on them.
-use Rattle.std.proofs.Common.{◌≡◌, ◌∙◌, ℕ, ◌<◌, ◌≤◌, suc, true, false, List, [], ◌∷◌, Result, Err, Option, Some, None, Bool, not, Bor, option_map, Global, String, codes, inl, inr, is_some, ap, arith, le-leb, leb, length, refl, sym, subst}
+use Rattle.std.proofs.Common.{◌≡◌, ◌∙◌, ℕ, ◌<◌, ◌≤◌, suc, true, false, List, [], ◌∷◌, Result, Ok, Err, Option, Some, None, Bool, not, Bor, option_map, Global, String, codes, inl, inr, is_some, ap, arith, le-leb, leb, length, refl, sym, subst}
 use Rattle.std.proofs.lemmas.Bool.Decides.{leb_tells}
 use Rattle.std.specs.BTreeMap.{BTreeMap}
 use Rattle.std.specs.declared.vec.Vec.{Vec}
@@ -17,8 +17,11 @@ use Rattle.jr_args.specs.Trees.{list_of, optional_of}
 use Rattle.jr_args.proofs.Readings.{exits, fails, passes}
 use Rattle.jr_script.specs.declared.script.Entry.{Entry}
 use Rattle.jr_script.specs.declared.script.Script.{Script}
+use Rattle.jr_script.specs.declared.script.TextFault.{TextFault}
 use Rattle.jcr_trans.specs.declared.command.SessionScript.{SessionScript}
-use Rattle.jr_script.specs.Scripts.{are_keys, counted_of, few_of, schedule_of, script_in, script_of, session_in, session_of}
+use Rattle.jr_script.specs.Scripts.{are_keys, counted_of, few_of, schedule_of, script_in, script_of, script_over, session_in, session_of, where_read}
+use Rattle.jr_script.specs.Types.{Types}
+use Rattle.jr_types.specs.declared.TypeDef.{TypeDef}
 
 -- ---- lists of at most so many items
 
@@ -74,7 +77,12 @@ pub no_sessions : (d : Data) (ms : Members) (e : Fault) → d ≡ object ms → 
 no_sessions d ms e is good none same =
     subst (λ x. Answers (script_of x) (Err e)) (sym is) (passes _ 2 _ (Err e) good (fails _ 2 _ e (subst (λ x. is_some (get (codes "sessions") x) ≡ false) is none) same))
 
-pub script_goes : (d : Data) (ms : Members) (r : Result Script Fault) → d ≡ object ms → are_keys (codes "clusters" ∷ codes "types" ∷ codes "sessions" ∷ codes "schedule" ∷ []) ms ≡ true → is_some (get (codes "sessions") d) ≡ true
+pub script_goes : (d : Data) (ms : Members) (r : Result (Result Script TextFault) Fault) → d ≡ object ms → are_keys (codes "clusters" ∷ codes "types" ∷ codes "sessions" ∷ codes "schedule" ∷ []) ms ≡ true → is_some (get (codes "sessions") d) ≡ true
     → Answers (script_in d) r → Answers (script_of d) r
 script_goes d ms r is good has h =
     subst (λ x. Answers (script_of x) r) (sym is) (passes _ 2 _ r good (passes _ 2 _ r (subst (λ x. is_some (get (codes "sessions") x) ≡ true) is has) (subst (λ x. Answers (script_in x) r) is h)))
+
+-- ---- types that are read
+
+pub over_goes : (d : Data) (clusters : ℕ) (given : Types) (types : List TypeDef) (r : Result (Result Script TextFault) Fault) → given ≡ Ok types → Answers (script_over d clusters types) r → Answers (where_read (script_over d clusters) given) r
+over_goes d clusters given types r is h = subst (λ (t : Types). Answers (where_read (script_over d clusters) t) r) (sym is) h

@@ -2,3 +2,4 @@ pub mod Bounds
 pub mod Numbers
 pub mod Schedules
 pub mod Scripts
+pub mod Types

@@ -1,5 +1,5 @@
 -- What a script means, and what an input that is none is answered with.
-use Rattle.std.specs.Prelude.{◌≡◌, ◌⊎◌, ℕ, Bool, true, not, ◌&&◌, List, [], ◌∷◌, Option, Some, None, ⊤, codes, is_some, length, nat_le, IsUtf8}
+use Rattle.std.specs.Prelude.{◌≡◌, ◌⊎◌, ℕ, Bool, true, ◌&&◌, List, [], ◌∷◌, Option, Some, None, Result, Ok, Err, codes, is_some, length, nat_le, IsUtf8}
 use Rattle.std.specs.Str.{bytes_eq}
 use Rattle.std.specs.List.{list_any}
 use Rattle.serde_json.specs.Data.{Data, Items, Members, array, object, no_members, member}
@@ -12,9 +12,14 @@ use Rattle.jr_args.specs.Commands.{command_of}
 use Rattle.jr_args.specs.Outcomes.{Means, Breaks, Reading, guard, is, judged, Then, under}
 use Rattle.jr_args.specs.Pointers.{pointer_text}
 use Rattle.jr_args.specs.Trees.{list_of, optional_of}
+use Rattle.jr_types.specs.Builtin.{builtin}
+use Rattle.jr_types.specs.declared.TypeDef.{TypeDef}
 use Rattle.jr_script.specs.Numbers.{IsWhole}
 use Rattle.jr_script.specs.Schedules.{entry_of}
+use Rattle.jr_script.specs.Types.{Types, types_of}
+use Rattle.jr_script.specs.declared.reading.Turns.{Turns}
 use Rattle.jr_script.specs.declared.script.Entry.{Entry}
+use Rattle.jr_script.specs.declared.script.TextFault.{TextFault}
 use Rattle.jr_script.specs.declared.script.Script.{Script}
 use Rattle.jcr_trans.specs.declared.command.SessionScript.{SessionScript}
 use Rattle.jr_script.specs.declared.script.ScriptFault.{ScriptFault}
@@ -41,10 +46,6 @@ counted_of most rule M ds = Then (guard (nat_le (items_len ds) most) rule) (λ _
 abbrev pub few_of : {X : Type 0} → ℕ → ℕ → (Data → Reading X) → Data → Reading (List X)
 few_of most rule M (array ds) = counted_of most rule M ds
 few_of most rule M _ = is (Breaks rule [])
-
--- what isn't read yet: rule 0
-abbrev pub absent : List ℕ → Data → Reading ⊤
-absent key d = under (Key key) (guard (not (is_some (get key d))) 0)
 
 -- ---- cluster nodes: rule 3
 
@@ -83,17 +84,40 @@ schedule_of sessions d = few_of 1000000 8 (entry_of sessions) d
 
 -- ---- the whole: rule 2
 
--- cluster nodes, of which there is one where none are named, sessions, and a schedule, which may be left out
-abbrev pub script_in : Data → Reading Script
-script_in d =
-    Then (absent (codes "types") d) (λ _.
-    Then (optional_of (codes "clusters") 1 clusters_of (get (codes "clusters") d)) (λ clusters.
+-- sessions, and a schedule, which may be left out
+abbrev pub turns_in : ℕ → Data → Reading Turns
+turns_in clusters d =
     Then (member_of (codes "sessions") 2 (sessions_of clusters) (get (codes "sessions") d)) (λ sessions.
     Then (optional_of (codes "schedule") [] (schedule_of (length sessions)) (get (codes "schedule") d)) (λ schedule.
-    is (Means (record { clusters = clusters; sessions = sessions; schedule = schedule }))))))
+    is (Means (record { sessions = sessions; schedule = schedule }))))
+
+-- a script on so many cluster nodes, of these types
+abbrev pub script_over : Data → ℕ → List TypeDef → Reading (Result Script TextFault)
+script_over d clusters types =
+    Then (turns_in clusters d) (λ turns.
+    is (Means (Ok (record {
+      clusters = clusters;
+      types = types;
+      sessions = turns.sessions;
+      schedule = turns.schedule;
+    }))))
+
+-- what follows types; where their text has none, nothing does
+abbrev pub where_read : (List TypeDef → Reading (Result Script TextFault)) → Types
+    → Reading (Result Script TextFault)
+where_read M (Ok types) = M types
+where_read M (Err fault) = is (Means (Err fault))
+
+-- cluster nodes, of which there is one where none are named, types, which are the built-in ones
+-- where none are given, sessions, and a schedule
+abbrev pub script_in : Data → Reading (Result Script TextFault)
+script_in d =
+    Then (optional_of (codes "clusters") 1 clusters_of (get (codes "clusters") d)) (λ clusters.
+    Then (optional_of (codes "types") (Ok builtin) types_of (get (codes "types") d)) (λ types.
+    where_read (script_over d clusters) types))
 
 -- an object with no other keys than these, of which `sessions` is there
-abbrev pub script_of : Data → Reading Script
+abbrev pub script_of : Data → Reading (Result Script TextFault)
 script_of (object ms) =
     Then (guard (are_keys (codes "clusters" ∷ codes "types" ∷ codes "sessions" ∷ codes "schedule" ∷ []) ms) 2) (λ _.
     Then (guard (is_some (get (codes "sessions") (object ms))) 2) (λ _. script_in (object ms)))
@@ -101,7 +125,7 @@ script_of _ = is (Breaks 2 [])
 
 -- the JSON means this script
 abbrev pub IsScript : Data → Script → Type 0
-IsScript d s = script_of d (Means s)
+IsScript d s = script_of d (Means (Ok s))
 
 -- there is no JSON: rule 1, and the empty pointer
 abbrev pub IsNoJson : List ℕ → ℕ → List ℕ → Type 0
@@ -111,9 +135,14 @@ IsNoJson bytes rule pointer = (rule ≡ 1) × (pointer ≡ []) × ((d : Data) �
 abbrev pub IsBroken : List ℕ → ℕ → List ℕ → Type 0
 IsBroken bytes rule pointer = (d : Data) × (steps : _) × IsJson bytes d × script_of d (Breaks rule steps) × (pointer ≡ pointer_text steps)
 
--- why the bytes are no script, where no rule so far looks into a text that stands at its place; or memory was
--- refused
+-- the text of types in the JSON fails at the offset: rule 10
+abbrev pub IsBadText : List ℕ → ℕ → List ℕ → ℕ → Type 0
+IsBadText bytes rule pointer offset = (rule ≡ 10) × (pointer ≡ codes "/types")
+    × ((d : Data) × IsJson bytes d × script_of d (Means (Err (record { offset = offset }))))
+
+-- why the bytes are no script, with an offset where a text in it fails; or memory was refused
 abbrev pub IsFault : List ℕ → ScriptFault → Type 0
-IsFault bytes (fault.Bad rule pointer offset) =
-    (offset ≡ None) × (IsNoJson bytes rule pointer ⊎ IsBroken bytes rule pointer)
+IsFault bytes (fault.Bad rule pointer None) =
+    IsNoJson bytes rule pointer ⊎ IsBroken bytes rule pointer
+IsFault bytes (fault.Bad rule pointer (Some offset)) = IsBadText bytes rule pointer offset
 IsFault bytes fault.Memory = Unit {0}

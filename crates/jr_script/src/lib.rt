@@ -6,6 +6,7 @@ mod numbers;
 mod reading;
 mod schedule;
 mod script;
+mod types;
 
 pub use laws::{scripts_are_unique, scripts_are_within};
 pub use reading::{MAX_CLUSTERS, MAX_COMMANDS, MAX_SESSIONS, read_script};

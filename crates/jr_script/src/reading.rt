@@ -1,5 +1,5 @@
 // Scripts from the bytes of their JSON.
-ghost use Rattle.std.specs.Prelude.{◌≡◌, ◌≤◌, [], IfErr, IfOk, bytes_eq, codes, length, map};
+ghost use Rattle.std.specs.Prelude.{◌≡◌, ◌≤◌, [], IfErr, IfOk, Ok, Some, bytes_eq, codes, length, map};
 ghost use Rattle.std.specs.List.{list_any};
 ghost use Rattle.serde_json.specs.Data.{Data};
 ghost use Rattle.serde_json.specs.Find.{get};
@@ -7,16 +7,21 @@ ghost use Rattle.serde_json.specs.View.{view, items_view, members_view};
 ghost use Rattle.jr_args.specs.Commands.{command_of};
 ghost use Rattle.jr_args.specs.Outcomes.{Answers};
 ghost use Rattle.jr_args.specs.Trees.{list_of, optional_of};
-ghost use Rattle.jr_script.specs.Scripts.{absent, are_keys, cluster_of, clusters_of, commands_of, counted_of, member_of, schedule_of, script_in, script_of, session_in, session_of, sessions_of, IsFault, IsJson, IsScript};
+ghost use Rattle.jr_types.specs.Builtin.{builtin};
+ghost use Rattle.jr_script.specs.declared.script.ScriptFault.TheVariants.{Bad};
+ghost use Rattle.jr_script.specs.Types.{types_of};
+ghost use Rattle.jr_script.specs.Scripts.{are_keys, cluster_of, clusters_of, commands_of, counted_of, member_of, schedule_of, script_in, script_of, script_over, turns_in, session_in, session_of, sessions_of, IsFault, IsJson, IsScript};
 
 use crate::numbers::whole;
 use crate::schedule::schedule;
-use crate::script::{Entry, Script, ScriptFault};
+use crate::script::{Entry, Script, ScriptFault, TextFault};
+use crate::types::{Types, types};
 use jcr_trans::{Command, SessionScript};
 use jr_args::{Fault, command, pointer};
 use jr_path::{List, Text};
+use jr_types::Registry;
 use serde_json::{Map, Value as Json};
-use std::alloc::Global;
+use std::alloc::{AllocError, Global};
 
 /// The most commands of a session.
 pub const MAX_COMMANDS: usize = 10000;
@@ -27,9 +32,7 @@ pub const MAX_SESSIONS: usize = 64;
 /// The most cluster nodes of a script.
 pub const MAX_CLUSTERS: u32 = 8;
 
-// The rules: what isn't read yet, the bytes, the keys of the whole, the cluster nodes, and the sessions.
-const NOT_YET: u8 = 0;
-
+// The rules: the bytes, the keys of the whole, the cluster nodes, the sessions, and a text of types.
 const JSON: u8 = 1;
 
 const KEYS: u8 = 2;
@@ -38,13 +41,15 @@ const CLUSTERS: u8 = 3;
 
 const SESSIONS: u8 = 4;
 
-/// Reads a script from JSON (RFC 8259). `Bad` has the first rule that is broken, in the order of the rules below and of the
-/// sessions, their commands, the arguments of each and the entries, and the JSON Pointer (RFC 6901) of the value that breaks
-/// it, or of its container where it is missing. Of a list that is too long it is the list's. The offset is `None`.
+const TEXT: u8 = 10;
+
+/// Reads a script from JSON (RFC 8259). `Bad` has the first rule that is broken, in the order of the bytes, the keys of the
+/// whole, the cluster nodes, the types, the sessions, their commands, the arguments of each and the entries, and the JSON
+/// Pointer (RFC 6901) of the value that breaks it, or of its container where it is missing. Of a list that is too long it is
+/// the list's. The offset is `None`, but for rule 10.
 ///
 /// 1. The bytes are JSON that serde_json reads; else the pointer is empty. Where a key comes twice the last one counts.
 /// 2. The top is an object with the key `sessions`, and with no other keys than `clusters`, `types` and `schedule`.
-/// 0. `types` isn't read yet.
 /// 3. `clusters`, the number of cluster nodes, is a whole number from 1 to 8; 1 where it is left out.
 /// 4. `sessions` is a list of at most 64 objects with the key `commands`, a list of at most 10,000, and no other key than
 ///    `cluster`, the number of one of the cluster nodes; 1 where it is left out.
@@ -53,6 +58,10 @@ const SESSIONS: u8 = 4;
 /// 7. Values are those that `Property::from_json` reads; a query's variable has one value.
 /// 8. `schedule` is a list of at most 1,000,000 entries: `s`, `[s,"say",n]`, `[s,"draw"]`, `[s,"write",n]`, `[s,"last"]` or
 ///    `[s,"read"]`, where s is the number of a session and n a whole number from 1 to 1,000,000; empty where it is left out.
+/// 9. `types` is a list of definitions of node types, or a text; empty where it is left out. `read_type` reads each, and
+///    `Registry::add` takes it over the built-in types and those before it.
+/// 10. A text of types is in the notation of `read_cnd` (JSR 283, 25.2 Compact Node Type Definition Notation), and its
+///    definitions are taken so too. The offset is `read_cnd`'s, of either fault.
 pub fn read_script(alloc: Global, bytes: &[u8]) -> Result<Script, ScriptFault>
     ensures ok { IfOk result (λ s. (d : Data) × IsJson bytes.now d × IsScript d s) }
     ensures err { IfErr result (IsFault bytes.now) }
@@ -72,7 +81,8 @@ pub fn read_script(alloc: Global, bytes: &[u8]) -> Result<Script, ScriptFault>
         }
     };
     match script(alloc, &json) {
-        Ok(script) => Ok(script),
+        Ok(Ok(script)) => Ok(script),
+        Ok(Err(fault)) => Err(bad_text(alloc, fault)?),
         Err(Fault::Bad { rule, steps }) => Err(ScriptFault::Bad {
             rule,
             pointer: pointer(alloc, &steps)?,
@@ -82,7 +92,21 @@ pub fn read_script(alloc: Global, bytes: &[u8]) -> Result<Script, ScriptFault>
     }
 }
 
-fn script(alloc: Global, json: &Json) -> Result<Script, Fault>
+// The fault of a text of types.
+fn bad_text(alloc: Global, fault: TextFault) -> Result<ScriptFault, AllocError>
+    ensures { IfOk result (λ bad. bad ≡ Bad 10 (codes "/types") (Some fault.offset)) }
+{
+    Ok(ScriptFault::Bad {
+        rule: TEXT,
+        pointer: Text::copy_of(alloc, "/types")?,
+        offset: Some(fault.offset),
+    })
+}
+
+// A script, or why the text of its types has none.
+type Whole = Result<Script, TextFault>;
+
+fn script(alloc: Global, json: &Json) -> Result<Whole, Fault>
     ensures { Answers (script_of (view json.now)) result }
 {
     let Json::Object(members) = json else {
@@ -97,30 +121,47 @@ fn script(alloc: Global, json: &Json) -> Result<Script, Fault>
     script_in(alloc, json)
 }
 
-fn script_in(alloc: Global, json: &Json) -> Result<Script, Fault>
+fn script_in(alloc: Global, json: &Json) -> Result<Whole, Fault>
     ensures { Answers (script_in (view json.now)) result }
 {
-    absent(alloc, json, "types")?;
     let clusters = clusters_in(alloc, json)?;
+    match types_in(alloc, json)? {
+        Ok(types) => script_over(alloc, json, clusters, types),
+        Err(fault) => Ok(Err(fault)),
+    }
+}
+
+// A script on so many cluster nodes, of these types.
+fn script_over(alloc: Global, json: &Json, clusters: u32, types: Registry) -> Result<Whole, Fault>
+    ensures { Answers (script_over (view json.now) clusters types) result }
+{
+    match turns_in(alloc, json, clusters) {
+        Ok(Turns { sessions, schedule }) => Ok(Ok(Script {
+            clusters,
+            types,
+            sessions,
+            schedule,
+        })),
+        Err(fault) => Err(fault),
+    }
+}
+
+// The sessions, and whose turn it is when.
+#[derive(Drop)]
+pub struct Turns {
+    sessions: List<SessionScript>,
+    schedule: List<Entry>,
+}
+
+fn turns_in(alloc: Global, json: &Json, clusters: u32) -> Result<Turns, Fault>
+    ensures { Answers (turns_in clusters (view json.now)) result }
+{
     let sessions = sessions_in(alloc, json, clusters)?;
     let schedule = schedule_in(alloc, json, sessions.inner().len())?;
-    Ok(Script {
-        clusters,
-        sessions,
-        schedule,
-    })
+    Ok(Turns { sessions, schedule })
 }
 
 // ---- the members of the whole
-
-fn absent(alloc: Global, json: &Json, key: &str) -> Result<(), Fault>
-    ensures { Answers (absent key.now (view json.now)) result }
-{
-    match json.get(key) {
-        None => Ok(()),
-        Some(_) => Err(Fault::here(alloc, NOT_YET).in_member(alloc, key)),
-    }
-}
 
 fn clusters_in(alloc: Global, json: &Json) -> Result<u32, Fault>
     ensures { Answers (optional_of (codes "clusters") 1 clusters_of (get (codes "clusters") (view json.now))) result }
@@ -140,6 +181,19 @@ fn clusters(alloc: Global, json: &Json) -> Result<u32, Fault>
     match whole(json, 1, MAX_CLUSTERS) {
         Some(clusters) => Ok(clusters),
         None => Err(Fault::here(alloc, CLUSTERS)),
+    }
+}
+
+fn types_in(alloc: Global, json: &Json) -> Result<Types, Fault>
+    ensures { Answers (optional_of (codes "types") (Ok builtin) types_of
+        (get (codes "types") (view json.now))) result }
+{
+    match json.get("types") {
+        None => Ok(Ok(Registry::builtin(alloc)?)),
+        Some(given) => match types(alloc, given) {
+            Ok(types) => Ok(types),
+            Err(fault) => Err(fault.in_member(alloc, "types")),
+        },
     }
 }
 

@@ -4,13 +4,16 @@ ghost use Rattle.jr_script.specs.declared.script.ScriptFault.TheVariants.{Memory
 
 use jcr_trans::SessionScript;
 use jr_path::{List, Text};
+use jr_types::Registry;
 use std::alloc::AllocError;
 
-/// What is run: a number of cluster nodes, 1 to 8; the sessions, by number from 0 on, at most 64; and whose turn it is
-/// when, at most 1,000,000 entries, empty where the sessions just run one after another.
+/// What is run: a number of cluster nodes, 1 to 8; the node types, which are the built-in ones and then the script's own, in
+/// order; the sessions, by number from 0 on, at most 64; and whose turn it is when, at most 1,000,000 entries, empty where
+/// the sessions just run one after another.
 #[derive(Drop)]
 pub struct Script {
     pub clusters: u32,
+    pub types: Registry,
     pub sessions: List<SessionScript>,
     pub schedule: List<Entry>,
 }
@@ -38,7 +41,6 @@ pub enum Entry {
 pub enum ScriptFault {
     /// The input breaks a rule, and no earlier one, at the place that a JSON Pointer (RFC 6901)
     /// names, and where a text stands there that breaks it, at the offset of that byte of the text.
-    /// So far no rule looks into a text: the offset is `None`.
     Bad {
         rule: u8,
         pointer: Text,
@@ -46,6 +48,12 @@ pub enum ScriptFault {
     },
     /// Memory was refused.
     Memory,
+}
+
+// The offset at which a text of types fails.
+#[derive(Clone, Copy)]
+pub struct TextFault {
+    pub offset: usize,
 }
 
 impl From<AllocError> for ScriptFault {

@@ -9,7 +9,6 @@ use jr_path::List;
 use jr_rev::{RevVec, Revision};
 use jr_script::{Script, ScriptFault, read_script};
 use jr_tree::{Edit, Tree};
-use jr_types::Registry;
 use oak_machine::{Events, Journal, Start};
 use serde_json::Value as Json;
 use std::alloc::{AllocError, Global};
@@ -49,18 +48,21 @@ fn add_case(
     out: &mut String,
 ) -> Result<(), AllocError> {
     let clusters = script.clusters;
-    let law = law_of(alloc, script, earlier_in(case))?;
+    let law = law_of(script, earlier_in(case));
     add_law(alloc, &law, clusters, case, out)
 }
 
-fn law_of(alloc: Global, script: Script, earlier: u32) -> Result<JcrLaw, AllocError> {
-    let types = Registry::builtin(alloc)?;
-    let Script { sessions, .. } = script;
-    Ok(JcrLaw {
+fn law_of(script: Script, earlier: u32) -> JcrLaw {
+    let Script {
+        types,
+        sessions,
+        ..
+    } = script;
+    JcrLaw {
         types,
         earlier,
         sessions,
-    })
+    }
 }
 
 fn earlier_in(case: &Json) -> u32 {

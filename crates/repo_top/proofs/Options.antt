@@ -1,5 +1,5 @@
 -- Words are read in one way.
-use Rattle.std.proofs.Common.{codes, is_some, ◌==◌, ◌≡◌, ◌≢◌, ◌<◌, ◌+◌, ◌≤◌, ◌-◌, ℕ, zero, suc, Bool, true, false, cond, List, [], ◌∷◌, ◌++◌, Option, Some, None, IsTrue, IsSome, IsNone, ◌↔◌, length, map, take, drop, get_or, slice_index, option_map, bytes_eq, refl, sym, ap, subst, ◌∙◌, arith}
+use Rattle.std.proofs.Common.{codes, is_some, ◌==◌, ◌≡◌, ◌≢◌, ◌<◌, ◌+◌, ◌≤◌, ◌-◌, ℕ, zero, suc, Bool, true, false, cond, List, [], ◌∷◌, ◌++◌, Option, Some, None, IsTrue, IsSome, IsNone, ◌↔◌, length, map, take, drop, get_or, slice_index, option_map, bytes_eq, refl, sym, ap, subst, ◌∙◌, ◌⊎◌, inl, inr, arith}
 use Rattle.std.specs.List.{AllByRecursion, IsDistinct, find}
 use Rattle.std.proofs.lemmas.Bool.{eqb-true, false≢true}
 use Rattle.std.proofs.lemmas.Slice.Eq.{bytes_eq-Decides}
@@ -13,7 +13,8 @@ use Rattle.repo_top.specs.declared.words.Row.{Row}
 use Rattle.repo_top.specs.declared.words.Takes.{Takes}
 use Rattle.repo_top.specs.declared.words.Takes.TheVariants as takes
 use Rattle.repo_top.specs.declared.words.WordOption.{WordOption}
-use Rattle.repo_top.specs.declared.words.Words.TheVariants.{Steps}
+use Rattle.repo_top.specs.declared.words.Words.{Words}
+use Rattle.repo_top.specs.declared.words.Words.TheVariants.{Steps, Types}
 
 -- ---- a word is of one option
 
@@ -280,27 +281,70 @@ module _ (table : List Row) (words : List (List ℕ)) (command : List ℕ) (behi
 
 -- ---- the program's table
 
-the_row : (b : Bool) (first row : TableRow) → cond b (Some first) None ≡ Some row → row ≡ first
-the_row true first row e = let h : first ≡ row = cc in sym h
-the_row false first row e = absurd (cc e)
-
 nothing_given : (given : List (List ℕ × Given)) (words : List (List ℕ)) → AreGiven [] given words → words ≡ []
 nothing_given [] words are = are
 nothing_given (g ∷ more) words are = absurd (cc are.1.named)
 
+abbrev steps : TableRow
+steps = record { command = codes "steps"; meaning = Steps; options = [] }
+
+abbrev types : TableRow
+types = record { command = codes "types"; meaning = Types; options = [] }
+
+two_rows : (b d : Bool) (first second row : TableRow) → cond b (Some first) (cond d (Some second) None) ≡ Some row → (row ≡ first) ⊎ (row ≡ second)
+two_rows true d first second row e = let h : first ≡ row = cc in inl (sym h)
+two_rows false true first second row e = let h : second ≡ row = cc in inr (sym h)
+two_rows false false first second row e = absurd (cc e)
+
+row_found : (words : List (List ℕ)) (meaning : Words) (m : Means words meaning) → (m.0 ≡ steps) ⊎ (m.0 ≡ types)
+row_found words meaning m = two_rows (bytes_eq (codes "steps") m.0.command) (bytes_eq (codes "types") m.0.command) steps types m.0 m.2.first
+
+alone : (row : TableRow) → row.options ≡ [] → (words : List (List ℕ)) (meaning : Words) (m : Means words meaning) → m.0 ≡ row → words ≡ row.command ∷ []
+alone row none words meaning m is =
+    let r = m.2 in
+    let o : AreOptions [] m.1 r.rest = subst (λ (os : List RowOption). AreOptions os m.1 r.rest) (ap (λ (i : TableRow). i.options) is ∙ none) r.options in
+    r.command ∙ (ap (λ (i : TableRow). i.command ∷ r.rest) is ∙ ap (λ (rest : List (List ℕ)). row.command ∷ rest) (nothing_given m.1 r.rest o.each))
+
+abbrev is_steps : Words → Bool
+is_steps Steps = true
+is_steps Types = false
+
 pub steps_alone : (words : List (List ℕ)) → Means words Steps ↔ (words ≡ codes "steps" ∷ [])
 unfolding IsDistinct
 steps_alone words = (
-  λ m.
-      let r = m.2 in
-      let row : m.0 ≡ steps = the_row (bytes_eq (codes "steps") m.0.command) steps m.0 r.first in
-      let o : AreOptions [] m.1 r.rest = subst (λ (i : TableRow). AreOptions i.options m.1 r.rest) row r.options in
-      r.command ∙ ap (λ (i : TableRow). i.command ∷ r.rest) row ∙ ap (λ (rest : List (List ℕ)). codes "steps" ∷ rest) (nothing_given m.1 r.rest o.each),
+  λ m. elim (row_found words Steps m) [
+    | inl e ↦ alone steps refl words Steps m e
+    | inr e ↦ absurd (false≢true (ap is_steps (sym (ap (λ (i : TableRow). i.meaning) e) ∙ m.3)))
+  ],
   λ e. (steps, [], record { rest = []; command = e; first = refl; options = record { each = refl; once = none; needed = tt } }, refl),
 )
   where
-    steps : TableRow
-    steps = record { command = codes "steps"; meaning = Steps; options = [] }
-
     none : IsDistinct bytes_eq (keys_of (let g : List (List ℕ × Given) = [] in g))
     none = tt
+
+pub types_alone : (words : List (List ℕ)) → Means words Types ↔ (words ≡ codes "types" ∷ [])
+unfolding IsDistinct
+types_alone words = (
+  λ m. elim (row_found words Types m) [
+    | inl e ↦ absurd (false≢true (sym (ap is_steps (sym (ap (λ (i : TableRow). i.meaning) e) ∙ m.3))))
+    | inr e ↦ alone types refl words Types m e
+  ],
+  λ e. (types, [], record { rest = []; command = e; first = refl; options = record { each = refl; once = none; needed = tt } }, refl),
+)
+  where
+    none : IsDistinct bytes_eq (keys_of (let g : List (List ℕ × Given) = [] in g))
+    none = tt
+
+abbrev begins_steps : List (List ℕ) → Bool
+begins_steps [] = false
+begins_steps (w ∷ ws) = bytes_eq (codes "steps") w
+
+not_both : {A : Type 0} (words : List (List ℕ)) → Means words Steps → Means words Types → A
+not_both words s t = absurd (false≢true (ap begins_steps (sym ((types_alone words).0 t) ∙ (steps_alone words).0 s)))
+
+-- words have one meaning at most
+pub one_meaning : (words : List (List ℕ)) (a b : Words) → Means words a → Means words b → a ≡ b
+one_meaning words Steps Steps m n = refl
+one_meaning words Steps Types m n = not_both words m n
+one_meaning words Types Steps m n = not_both words n m
+one_meaning words Types Types m n = refl

@@ -33,18 +33,25 @@ script_line rule pointer offset =
     codes "bad script " ++ decimal rule ++ codes " " ++ compact_text (string pointer)
     ++ offset_text offset ++ codes "\n"
 
--- the line that is written where no script is run; none where memory was refused
+-- the line of a text of node types that has a fault at the offset
+abbrev pub types_line : ℕ → List ℕ
+types_line offset = codes "bad types " ++ decimal offset ++ codes "\n"
+
+-- the line that is written where no script is run, and no node types are printed; none where memory
+-- was refused
 abbrev pub fault_line : Unrun → List ℕ
 fault_line unrun.Words = codes "bad words\n"
 fault_line (unrun.Script rule pointer offset) = script_line rule pointer offset
+fault_line (unrun.Types offset) = types_line offset
 fault_line unrun.ReadFault = codes "read fault\n"
 fault_line unrun.TooLong = codes "too long\n"
 fault_line unrun.Memory = []
 
--- the status where no script is run
+-- the status where no script is run, and no node types are printed
 abbrev pub status_of : Unrun → Status
 status_of unrun.Words = status.Words
 status_of (unrun.Script rule pointer offset) = status.Script
+status_of (unrun.Types offset) = status.Script
 status_of unrun.ReadFault = status.ReadFault
 status_of unrun.TooLong = status.TooLong
 status_of unrun.Memory = status.Memory

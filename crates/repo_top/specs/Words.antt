@@ -9,7 +9,7 @@ use Rattle.repo_top.specs.declared.words.Row.{Row}
 use Rattle.repo_top.specs.declared.words.Takes.{Takes}
 use Rattle.repo_top.specs.declared.words.Takes.TheVariants as takes
 use Rattle.repo_top.specs.declared.words.Words.{Words}
-use Rattle.repo_top.specs.declared.words.Words.TheVariants.{Steps}
+use Rattle.repo_top.specs.declared.words.Words.TheVariants.{Steps, Types}
 use Rattle.repo_top.specs.declared.words.WordOption.{WordOption}
 
 -- an option of a command: its name, what it takes, and whether it has to be given
@@ -89,10 +89,15 @@ pub record IsRow (table : List TableRow) (row : TableRow) (given : List (List �
   pub first : find (λ r. bytes_eq r.command row.command) table ≡ Some row
   pub options : AreOptions row.options given rest
 
--- the table: `steps`, which has no options
+-- the table: `steps` and `types`, which have no options
 abbrev pub rows : List TableRow
-rows = record { command = codes "steps"; meaning = Steps; options = [] } ∷ []
+rows = record { command = codes "steps"; meaning = Steps; options = [] }
+    ∷ record { command = codes "types"; meaning = Types; options = [] } ∷ []
 
 -- words have this meaning
 abbrev pub Means : List (List ℕ) → Words → Type 0
 Means words meaning = (row : TableRow) × (given : List (List ℕ × Given)) × IsRow rows row given words × (row.meaning ≡ meaning)
+
+-- words have a meaning
+abbrev pub HasMeaning : List (List ℕ) → Type 0
+HasMeaning words = (meaning : Words) × Means words meaning

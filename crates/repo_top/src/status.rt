@@ -2,7 +2,8 @@
 ghost use Rattle.std.specs.Prelude.{◌≡◌, IfOk, string_bytes};
 ghost use Rattle.serde_json.specs.Data.{string};
 ghost use Rattle.serde_json.specs.Written.{compact_text};
-ghost use Rattle.repo_top.specs.Statuses.{code_of, offset_text, script_line, unread, unscripted};
+ghost use Rattle.repo_top.specs.Statuses.{code_of, offset_text, script_line, types_line, unread, unscripted};
+ghost use Rattle.repo_top.specs.declared.status.Unrun.TheVariants.{Memory};
 
 use jr_io::ReadAll;
 use jr_path::Text;
@@ -13,11 +14,12 @@ use std::alloc::{AllocError, Global};
 /// How a run ends; the number is the program's exit status.
 #[derive(Clone, Copy, Debug, PartialEq, Eq)]
 pub enum Status {
-    /// All sessions ran to their end, and all that was written is passed on.
+    /// All sessions ran to their end, or the node types are printed, and all that was written is
+    /// passed on.
     Done,
     /// The words have no meaning.
     Words,
-    /// The input is no script.
+    /// The input is no script, or no text of node types.
     Script,
     /// The source failed.
     ReadFault,
@@ -46,7 +48,7 @@ impl Status {
     }
 }
 
-/// Why no script is run.
+/// Why no script is run, and no node types are printed.
 #[derive(Debug, Drop)]
 pub enum Unrun {
     /// The words have no meaning.
@@ -58,6 +60,8 @@ pub enum Unrun {
         pointer: Text,
         offset: Option<usize>,
     },
+    /// The input is no text of node types, by its fault at this offset.
+    Types(usize),
     /// The source failed.
     ReadFault,
     /// The input is longer than 16,777,216 bytes.
@@ -80,6 +84,13 @@ pub(crate) fn script_line(
     Ok(format!(in alloc; "bad script {rule} {pointer}{offset}\n")?)
 }
 
+// The line of a text of node types that has a fault at the offset.
+pub(crate) fn types_line(alloc: Global, offset: usize) -> Result<String, AllocError>
+    ensures { IfOk result (λ line. string_bytes line ≡ types_line offset) }
+{
+    Ok(format!(in alloc; "bad types {offset}\n")?)
+}
+
 // A space and the offset, where there is one.
 fn offset_text(alloc: Global, offset: Option<usize>) -> Result<String, AllocError>
     ensures { IfOk result (λ text. string_bytes text ≡ offset_text offset) }
@@ -95,6 +106,14 @@ fn pointer_json(alloc: Global, pointer: &Text) -> Result<String, AllocError>
 {
     let json = Json::try_from_str(alloc, pointer.as_str())?;
     Ok(json.to_string(alloc)?)
+}
+
+impl From<AllocError> for Unrun {
+    ghost from_gives = { λ _ why. why ≡ Memory };
+
+    fn from(_: AllocError) -> Unrun {
+        Unrun::Memory
+    }
 }
 
 impl From<ReadAll> for Unrun {

@@ -1,11 +1,13 @@
 // The top calls.
 ghost use Rattle.std.specs.Prelude.{◌≡◌, ℕ, List, None, IfOk, IfErr, IfSome, IsNone, map, string_bytes};
-ghost use Rattle.repo_top.specs.Ends.{Ends, Faults, IsReadWhole, IsUnread, Prints, Spells, Tells, call, input_of, output_of};
+ghost use Rattle.repo_top.specs.Ends.{Ends, Faults, IsReadWhole, IsSteps, IsTypes, IsUnread, Prints, Spells, Tells, call, input_of, output_of};
 ghost use Rattle.jr_script.specs.Bounds.{IsWithin};
 ghost use Rattle.jr_work.specs.Runs.{HasRun};
 ghost use Rattle.repo_top.specs.declared.status.Unrun.TheVariants as unrun;
+ghost use Rattle.repo_top.specs.declared.words.Words.TheVariants.{Steps};
 
-use crate::status::{Status, Unrun, script_line};
+use crate::status::{Status, Unrun, script_line, types_line};
+use crate::types::types_of;
 use crate::words::{Words, words_meant};
 use jcr_session::JcrLaw;
 use jr_io::{Failed, Sink, Source, read_all, write_all};
@@ -52,14 +54,42 @@ pub fn steps_main<S: Source, K: Sink>(
         (output_of K.Sink sink.old) (output_of K.Sink sink.new) left.new) result }
 {
     *left = None;
-    let Some(Words::Steps) = words_meant(words) else {
+    let Some(meaning) = words_meant(words) else {
         return unrun(alloc, sink, &Unrun::Words);
     };
+    match meaning {
+        Words::Steps => steps(alloc, source, sink, left),
+        Words::Types => types(alloc, source, sink),
+    }
+}
+
+// Runs the script that a source gives, and writes its replies.
+fn steps<S: Source, K: Sink>(
+    alloc: Global,
+    source: &mut S,
+    sink: &mut K,
+    left: &mut Option<World<JcrLaw>>,
+) -> Status
+    requires none { IsNone left.old }
+    ensures ends { IsSteps (input_of S.Source source.old) (input_of S.Source source.new)
+        (output_of K.Sink sink.old) (output_of K.Sink sink.new) left.new result }
+{
     match script_of(alloc, source) {
         Ok(script) => {
             scripts_are_within();
             run_script(alloc, script, sink, left)
         }
+        Err(why) => unrun(alloc, sink, &why),
+    }
+}
+
+// Writes the canonical text of the node types that a source gives.
+fn types<S: Source, K: Sink>(alloc: Global, source: &mut S, sink: &mut K) -> Status
+    ensures ends { IsTypes (input_of S.Source source.old) (input_of S.Source source.new)
+        (output_of K.Sink sink.old) (output_of K.Sink sink.new) result }
+{
+    match types_of(alloc, source) {
+        Ok(text) => written(sink, text.as_bytes(), Status::Done),
         Err(why) => unrun(alloc, sink, &why),
     }
 }
@@ -70,7 +100,7 @@ fn script_of<S: Source>(alloc: Global, source: &mut S) -> Result<Script, Unrun>
         × IsReadWhole (input_of S.Source source.old) (input_of S.Source source.new) bytes
         × Spells bytes script) }
     ensures unread { IfErr result
-        (IsUnread (input_of S.Source source.old) (input_of S.Source source.new)) }
+        (IsUnread Steps (input_of S.Source source.old) (input_of S.Source source.new)) }
 {
     let bytes = read_all(alloc, source, LONGEST_INPUT)?;
     Ok(read_script(alloc, bytes.as_slice())?)
@@ -100,7 +130,8 @@ fn run_script<K: Sink>(
     }
 }
 
-// Writes the line that says why no script is run; none where memory was refused.
+// Writes the line that says why no script is run and no node types are printed; none where memory
+// was refused.
 fn unrun<K: Sink>(alloc: Global, sink: &mut K, why: &Unrun) -> Status
     ensures { Faults (output_of K.Sink sink.old) (output_of K.Sink sink.new) why.now result }
 {
@@ -111,6 +142,7 @@ fn unrun<K: Sink>(alloc: Global, sink: &mut K, why: &Unrun) -> Status
             pointer,
             offset,
         } => broken(alloc, sink, *rule, pointer, *offset),
+        Unrun::Types(offset) => untyped(alloc, sink, *offset),
         Unrun::ReadFault => written(sink, "read fault\n".as_bytes(), Status::ReadFault),
         Unrun::TooLong => written(sink, "too long\n".as_bytes(), Status::TooLong),
         Unrun::Memory => Status::Memory,
@@ -129,6 +161,17 @@ fn broken<K: Sink>(
         (unrun.Script rule pointer.now offset) result }
 {
     match script_line(alloc, rule, pointer, offset) {
+        Ok(line) => written(sink, line.as_bytes(), Status::Script),
+        Err(AllocError) => Status::Memory,
+    }
+}
+
+// Writes the line of a text of node types that has a fault.
+fn untyped<K: Sink>(alloc: Global, sink: &mut K, offset: usize) -> Status
+    ensures { Faults (output_of K.Sink sink.old) (output_of K.Sink sink.new)
+        (unrun.Types offset) result }
+{
+    match types_line(alloc, offset) {
         Ok(line) => written(sink, line.as_bytes(), Status::Script),
         Err(AllocError) => Status::Memory,
     }

@@ -4,13 +4,15 @@ ghost use Rattle.std.specs.List.{find, IsDistinct};
 ghost use Rattle.std.specs.Map.{lookup, keys_of};
 ghost use Rattle.repo_top.specs.Words.{TableRow, table_row, row_option, AreGiven, Begins, IsNumber, IsOption, IsPlain, IsRow, Means, AreOptions, option_word, Gives, Fits};
 ghost use Rattle.repo_top.specs.declared.words.Given.{Given};
-ghost use Rattle.repo_top.specs.declared.words.Words.TheVariants.{Steps};
+ghost use Rattle.repo_top.specs.declared.words.Words.TheVariants.{Steps, Types};
 
 /// What a list of words means.
 #[derive(Clone, Copy, Debug, PartialEq, Eq)]
 pub enum Words {
     /// `steps`: reads a script from the source, runs it on one thread, prints the replies.
     Steps,
+    /// `types`: reads a text of node types from the source, prints its canonical form.
+    Types,
 }
 
 /// What an option takes.
@@ -53,11 +55,18 @@ struct FirstGiven<'w> {
     rest: &'w [String],
 }
 
-const ROWS: [Row; 1] = [Row {
-    command: "steps",
-    meaning: Words::Steps,
-    options: &[],
-}];
+const ROWS: [Row; 2] = [
+    Row {
+        command: "steps",
+        meaning: Words::Steps,
+        options: &[],
+    },
+    Row {
+        command: "types",
+        meaning: Words::Types,
+        options: &[],
+    },
+];
 
 /// The meaning of a list of words, where it has one.
 pub fn words_meant(words: &[String]) -> Option<Words>
@@ -66,9 +75,14 @@ pub fn words_meant(words: &[String]) -> Option<Words>
     Some(row_meant(&ROWS, words)?.meaning)
 }
 
-/// Today the word `steps` alone has a meaning.
+/// The word `steps` alone means to run a script.
 pub fn meaning_of_steps()
     ensures { (words : List (List ℕ)) → Means words Steps ↔ (words ≡ codes "steps" ∷ []) }
+{}
+
+/// The word `types` alone means to print node types.
+pub fn meaning_of_types()
+    ensures { (words : List (List ℕ)) → Means words Types ↔ (words ≡ codes "types" ∷ []) }
 {}
 
 /// The row of a table that a list of words spells.

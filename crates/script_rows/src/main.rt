@@ -1,10 +1,11 @@
-//! Rows of scripts as they are read, of commands and what they answer, and of the marks of edits.
+//! Rows of scripts as they are read, of their node types, of commands and what they answer, and of the marks of edits.
 #![tactic(auto)]
 
 mod commands;
 mod replies;
 mod rows;
 mod scripts;
+mod types;
 
 use jr_io::{Sink, StdSink, StdSource, read_all, write_all};
 use std::io;

@@ -1,5 +1,5 @@
 // What comes of each line.
-use crate::{commands, replies, scripts};
+use crate::{commands, replies, scripts, types};
 use jr_tree::Tree;
 use std::alloc::{AllocError, Global};
 
@@ -35,6 +35,7 @@ fn add_answer(
 ) -> Result<(), AllocError> {
     match word {
         "script" => scripts::add(alloc, rest, out),
+        "types" => types::add(alloc, rest, out),
         "command" => commands::add(alloc, rest, out),
         "run" => commands::run_on(alloc, rest, view, out),
         "marks" => commands::add_marks(alloc, view, out),

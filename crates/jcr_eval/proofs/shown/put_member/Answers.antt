@@ -1,4 +1,4 @@
-use Rattle.std.proofs.Common.{◌∙◌, refl}
+use Rattle.std.proofs.Common.{refl}
 use Rattle.jcr_trans.proofs.Members.{put_at_bytes}
 use Rattle.jcr_eval.proofs.shown.put_member.Goals as goal
 

@@ -1,5 +1,3 @@
-use Rattle.std.proofs.Common.{Err}
-use Rattle.std.specs.Prelude.{IfErr}
 use Rattle.jcr_eval.proofs.Refusing.{refused_due}
 use Rattle.jcr_eval.proofs.tasks.refuses_split.Goals as goal
 

@@ -1,4 +1,4 @@
-use Rattle.std.proofs.Common.{◌≡◌, Bool, reverse, subst}
+use Rattle.std.proofs.Common.{◌≡◌, reverse, subst}
 use Rattle.std.specs.Prelude.{IfOk}
 use Rattle.jr_path.specs.declared.text.Text.{Text}
 use Rattle.jcr_eval.specs.Said.{shows_kept}

@@ -1,0 +1,169 @@
+-- What is held is what the law says still, while it changes.
+use Rattle.std.proofs.Common.{◌≡◌, Bool, true, false, cond, List, [], ◌∷◌, Option, refl, sym, ap, ◌∙◌, subst}
+use Rattle.std.specs.List.{All}
+use Rattle.std.proofs.lemmas.Bool.{false≢true}
+use Rattle.std.proofs.lemmas.List.Elements.{All-head}
+use Rattle.std.specs.FinMap.{is_sorted}
+use Rattle.jr_path.specs.Names.{path_cmp}
+use Rattle.jr_path.specs.declared.path.Path.{Path}
+use Rattle.jr_rev.specs.declared.vector.RevVec.{RevVec}
+use Rattle.jr_tree.specs.declared.edit.Write.{Write}
+use Rattle.jr_tree.specs.declared.shared.Who.{Who}
+use Rattle.jr_tree.specs.declared.tree.Node.{Node}
+use Rattle.jr_tree.specs.Edits.{changes}
+use Rattle.jr_tree.specs.Trees.{IsTree, Nodes, dated_children_of, node_at}
+use Rattle.jr_part.specs.Parts.{AgreesWith, ChildNames, Knowledge, LacksNothing, nothing_known, with_children, with_node}
+use Rattle.jr_part.specs.declared.need.Need.{Need}
+use Rattle.jr_part.specs.declared.need.Need.TheVariants as need
+use Rattle.jr_part.proofs.Puts.{children_agree, node_agrees, nothing_agrees}
+use Rattle.jr_overlay.specs.Overlays.{AreOver, Changed, edit_of, view_of}
+use Rattle.jr_overlay.proofs.Commits.{nothing_over}
+use Rattle.jcr_trans.specs.declared.command.Command.{Command}
+use Rattle.jcr_trans.specs.declared.command.Command.TheVariants as command
+use Rattle.jcr_view.specs.Needs.{needs_of, needs_to_rebase}
+use Rattle.jcr_view.specs.Outcomes.{is_viewed}
+use Rattle.jcr_view.specs.Parts.{IsPartOf}
+use Rattle.jcr_view.specs.Rebases.{rebased, tree_again}
+use Rattle.jcr_law.specs.State.{Call}
+use Rattle.jcr_call.specs.Calls.{call_moved}
+use Rattle.jcr_held.specs.declared.held.Held.{Held}
+use Rattle.jcr_held.specs.Alike.{AreAlike, moved_to}
+use Rattle.jcr_held.specs.Holds.{Holds, HoldsView, IsReady, asks_for}
+use Rattle.jcr_held.proofs.PendingEdits.{edit_of_view}
+
+-- what is alike is held alike
+pub holds_alike : (c : Call) (x y : Held) → AreAlike x y → Holds c x → Holds c y
+holds_alike c x y a h = record {
+  types = a.types ∙ h.types;
+  who = a.who ∙ h.who;
+  ids = h.ids;
+  tokens = a.tokens ∙ h.tokens;
+  view = subst (λ (k : Knowledge). HoldsView c k y.pending y.is_kept) (sym a.part)
+      (subst (λ (p : Changed). HoldsView c x.part p y.is_kept) (sym a.pending)
+      (subst (λ (b : Bool). HoldsView c x.part x.pending b) (sym a.is_kept) h.view));
+}
+
+-- ---- the base moves
+
+nothing_part : (t : Nodes) → IsTree t → IsPartOf t nothing_known []
+nothing_part t tree = record {
+  tree = tree;
+  order = refl;
+  agrees = nothing_agrees t;
+  over = nothing_over t;
+}
+
+-- the view, where nothing is kept
+pub view_settled : (c : Call) (x : Held) → x.is_kept ≡ false → Holds c x → HoldsView c x.part x.pending false
+view_settled c x settled h = subst (λ (b : Bool). HoldsView c x.part x.pending b) settled h.view
+
+-- what is pending comes to the changes from the tree at the base to the view
+pub pending_changes : (c : Call) (x : Held) → x.is_kept ≡ false → Holds c x → edit_of x.pending ≡ changes c.base c.state.view
+pending_changes c x settled h =
+    let v : HoldsView c x.part x.pending false = view_settled c x settled h in
+    edit_of_view c.base x.pending v.0.tree v.0.over ∙ ap (changes c.base) v.1
+
+pub holds_moved : (c : Call) (x : Held) (v : RevVec) (t : Nodes) → Holds c x → x.is_kept ≡ false → IsTree t
+    → Holds (call_moved c v t) (moved_to x v)
+holds_moved c x v t h settled tree = record {
+  types = h.types;
+  who = ap (λ (w : Who). record w { base = v }) h.who;
+  ids = h.ids;
+  tokens = h.tokens;
+  view = (nothing_part t tree, ap (tree_again t) (pending_changes c x settled h));
+}
+
+-- ---- more is known of the tree at the base
+
+part_known : (t : Nodes) (k more : Knowledge) (p : Changed) → is_sorted path_cmp more.nodes ≡ true
+    → (AgreesWith t k → AgreesWith t more) → IsPartOf t k p → IsPartOf t more p
+part_known t k more p order agrees part =
+    record { tree = part.tree; order = order; agrees = agrees part.agrees; over = part.over }
+
+view_known : (c : Call) (k more : Knowledge) (p : Changed) (b : Bool) → is_sorted path_cmp more.nodes ≡ true
+    → (AgreesWith c.base k → AgreesWith c.base more) → HoldsView c k p b → HoldsView c more p b
+view_known c k more p false order agrees h = (part_known c.base k more p order agrees h.0, h.1)
+view_known c k more p true order agrees h = (part_known c.base k more [] order agrees h.0, h.1)
+
+holds_known : (c : Call) (x : Held) (more : Knowledge) → is_sorted path_cmp more.nodes ≡ true
+    → (AgreesWith c.base x.part → AgreesWith c.base more) → Holds c x → Holds c (record x { part = more })
+holds_known c x more order agrees h = record {
+  types = h.types;
+  who = h.who;
+  ids = h.ids;
+  tokens = h.tokens;
+  view = view_known c x.part more x.pending x.is_kept order agrees h.view;
+}
+
+pub holds_node : (c : Call) (x : Held) (p : Path) (node : Option Node)
+    → is_sorted path_cmp (with_node x.part p node).nodes ≡ true → node ≡ node_at c.base p → Holds c x
+    → Holds c (record x { part = with_node x.part p node })
+holds_node c x p node order is h =
+    holds_known c x (with_node x.part p node) order (λ agrees. node_agrees c.base x.part p agrees node (sym is)) h
+
+pub holds_children : (c : Call) (x : Held) (p : Path) (names : ChildNames)
+    → is_sorted path_cmp (with_children x.part p names).nodes ≡ true → names ≡ dated_children_of c.base p → Holds c x
+    → Holds c (record x { part = with_children x.part p names })
+holds_children c x p names order is h =
+    holds_known c x (with_children x.part p names) order
+    (λ agrees. subst (λ (ns : ChildNames). AgreesWith c.base (with_children x.part p ns)) (sym is) (children_agree c.base x.part p agrees)) h
+
+-- ---- what is kept is made again
+
+module _ (over : (t : Nodes) (k : Knowledge) (ws : List Write) → IsPartOf t k [] → All (LacksNothing k) (needs_to_rebase ws) → AreOver t (rebased k ws))
+    (view : (t : Nodes) (k : Knowledge) (ws : List Write) → IsPartOf t k [] → All (LacksNothing k) (needs_to_rebase ws) → view_of t (rebased k ws) ≡ tree_again t ws) where
+  view_again : (c : Call) (k : Knowledge) (p : Changed) (b : Bool) → b ≡ true → All (LacksNothing k) (needs_to_rebase (edit_of p))
+      → HoldsView c k p b → HoldsView c k (rebased k (edit_of p)) false
+  view_again c k p b kept known h =
+      let v : HoldsView c k p true = subst (λ (b : Bool). HoldsView c k p b) kept h in
+      let part : IsPartOf c.base k [] = v.0 in (
+        record { tree = part.tree; order = part.order; agrees = part.agrees; over = over c.base k (edit_of p) part known },
+        view c.base k (edit_of p) part known ∙ v.1,
+      )
+
+  pub holds_again : (c : Call) (x : Held) → x.is_kept ≡ true → All (LacksNothing x.part) (needs_to_rebase (edit_of x.pending))
+      → Holds c x → Holds c (record x { pending = rebased x.part (edit_of x.pending); is_kept = false })
+  holds_again c x kept known h = record {
+    types = h.types;
+    who = h.who;
+    ids = h.ids;
+    tokens = h.tokens;
+    view = view_again c x.part x.pending x.is_kept kept known h.view;
+  }
+
+-- ---- what a command asks for
+
+-- a command of the view asks for what it needs of the view
+pub asks_of_view : (x : Held) (m : Command) → is_viewed m ≡ true → asks_for x m ≡ needs_of x.who x.part x.pending m
+asks_of_view x command.Head h = absurd (false≢true h)
+asks_of_view x (command.Refresh keep) h = absurd (false≢true h)
+asks_of_view x m h = ap (λ b. cond b (needs_of x.who x.part x.pending m) (need.All ∷ [])) h
+
+pub view_known_of : (x : Held) (m : Command) → is_viewed m ≡ true → All (LacksNothing x.part) (asks_for x m)
+    → All (LacksNothing x.part) (needs_of x.who x.part x.pending m)
+view_known_of x m h known = subst (All (LacksNothing x.part)) (asks_of_view x m h) known
+
+pub all_known_of : (k : Knowledge) (needs : List Need) → needs ≡ need.All ∷ [] → All (LacksNothing k) needs → LacksNothing k need.All
+all_known_of k needs is known = All-head (LacksNothing k) need.All [] (subst (All (LacksNothing k)) is known)
+
+-- ---- a command is ready
+
+asks_alike : (x y : Held) (m : Command) → AreAlike x y → asks_for y m ≡ asks_for x m
+asks_alike x y command.Head a = refl
+asks_alike x y (command.Refresh keep) a = refl
+asks_alike x y m a =
+    ap (λ (w : Who). cond (is_viewed m) (needs_of w y.part y.pending m) (need.All ∷ [])) a.who
+    ∙ ap (λ (k : Knowledge). cond (is_viewed m) (needs_of x.who k y.pending m) (need.All ∷ [])) a.part
+    ∙ ap (λ (p : Changed). cond (is_viewed m) (needs_of x.who x.part p m) (need.All ∷ [])) a.pending
+
+pub ready_alike : (x y : Held) (m : Command) (needs : List Need) → AreAlike x y → x.is_kept ≡ false → needs ≡ asks_for x m
+    → All (LacksNothing y.part) needs → IsReady y m
+ready_alike x y m needs a settled is known = record {
+  settled = a.is_kept ∙ settled;
+  known = subst (All (LacksNothing y.part)) (is ∙ sym (asks_alike x y m a)) known;
+}
+
+pub again_known : (x y : Held) (needs : List Need) → AreAlike x y → needs ≡ needs_to_rebase (edit_of x.pending)
+    → All (LacksNothing y.part) needs → All (LacksNothing y.part) (needs_to_rebase (edit_of y.pending))
+again_known x y needs a is known =
+    subst (All (LacksNothing y.part)) (is ∙ ap (λ (p : Changed). needs_to_rebase (edit_of p)) (sym a.pending)) known

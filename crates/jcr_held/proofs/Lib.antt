@@ -1,0 +1,5 @@
+mod Answering
+mod Dues
+mod Holding
+mod PendingEdits
+mod Unwritten

@@ -1,0 +1,33 @@
+-- What is held, whatever is left to be looked at by loading.
+use Rattle.std.specs.Prelude.{◌≡◌, ℕ, ◌+◌, min, true}
+use Rattle.jr_rev.specs.declared.vector.RevVec.{RevVec}
+use Rattle.jr_part.specs.Parts.{nothing_known}
+use Rattle.jcr_held.specs.declared.held.Held.{Held}
+
+-- both hold the same; only what loading still has to look at may differ
+pub record AreAlike (x y : Held) : Type 0 where
+  pub types : y.types ≡ x.types
+  pub who : y.who ≡ x.who
+  pub part : y.part ≡ x.part
+  pub pending : y.pending ≡ x.pending
+  pub is_kept : y.is_kept ≡ x.is_kept
+  pub tokens : y.tokens ≡ x.tokens
+
+-- only what is pending changes, and whether it is kept from an earlier base
+pub record ChangesPendingOnly (old new : Held) : Type 0 where
+  pub types : new.types ≡ old.types
+  pub who : new.who ≡ old.who
+  pub part : new.part ≡ old.part
+  pub tokens : new.tokens ≡ old.tokens
+
+-- the base is at a vector, of whose tree nothing is known; what is pending is kept
+abbrev pub moved_to : Held → RevVec → Held
+moved_to x v = record x {
+  who = record x.who { base = v };
+  part = nothing_known;
+  is_kept = true;
+}
+
+-- so many identifiers more, up to the limit
+abbrev pub with_drawn : Held → ℕ → Held
+with_drawn x n = record x { who = record x.who { ids = min (x.who.ids + n) 16777215 } }

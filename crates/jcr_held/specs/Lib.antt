@@ -1,0 +1,6 @@
+pub mod Accepts
+pub mod Alike
+pub mod Begins
+pub mod Comes
+pub mod Holds
+pub mod Sees

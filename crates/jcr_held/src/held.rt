@@ -1,0 +1,196 @@
+// What a session holds between its commands.
+ghost use Rattle.std.specs.Prelude.{◌≡◌, IsFalse, IsTrue, OnErr, OnOk, false, true};
+ghost use Rattle.std.specs.Option.{unwrap_or};
+ghost use Rattle.std.specs.FinMap.{is_sorted};
+ghost use Rattle.jr_path.specs.Names.{name_cmp};
+ghost use Rattle.jr_tree.specs.Trees.{IsTree, Nodes, dated_children_of, node_at};
+ghost use Rattle.jr_part.specs.Parts.{with_children, with_node};
+ghost use Rattle.jcr_view.specs.Outcomes.{is_viewed};
+ghost use Rattle.jcr_law.specs.State.{Call, used};
+ghost use Rattle.jcr_call.specs.Calls.{call_after, call_moved};
+ghost use Rattle.jcr_held.specs.Alike.{AreAlike, moved_to, with_drawn};
+ghost use Rattle.jcr_held.specs.Accepts.{TokensFit, drops_pending, without_pending};
+ghost use Rattle.jcr_held.specs.Begins.{IsFirstCall, IsNewHeld};
+ghost use Rattle.jcr_held.specs.Holds.{Holds};
+
+use jcr_ref::MAX_IDS;
+use jcr_trans::Command;
+use jcr_view::Pending;
+use jr_part::{Need, Part};
+use jr_path::{List, Name, Path, Text};
+use jr_rev::{RevVec, Revision};
+use jr_tree::{Node, Who};
+use jr_types::Registry;
+use std::alloc::{AllocError, Global};
+
+/// What a session holds between its commands: the node types, who it is, what it has read of the
+/// tree at its base, what is pending over that, and its lock tokens (JSR 283, 10.11 Saving; 17.5
+/// Lock Token).
+#[derive(Drop)]
+pub struct Held {
+    pub(crate) alloc: Global,
+    pub(crate) types: Registry,
+    pub(crate) who: Who,
+    pub(crate) part: Part,
+    pub(crate) pending: Pending,
+    // What is pending is over an earlier base, and is to be made again over this one.
+    pub(crate) is_kept: bool,
+    pub(crate) tokens: List<Text>,
+    // What is still to be looked at by loading, the next last.
+    pub(crate) left: Vec<Need>,
+}
+
+impl Held {
+    /// What a session holds when it begins, with its number, how many sessions there were before
+    /// this run, and its base. It takes no memory.
+    pub fn new(alloc: Global, session: u32, earlier: u32, base: RevVec, types: Registry) -> Held
+        ensures new { IsNewHeld result }
+        ensures types { result.types ≡ types }
+        ensures who { result.who ≡ record {
+          session = session;
+          earlier = earlier;
+          ids = 0;
+          base = base;
+        } }
+    {
+        Held {
+            alloc,
+            types,
+            who: Who {
+                session,
+                earlier,
+                ids: 0,
+                base,
+            },
+            part: Part::new(alloc),
+            pending: Pending::new(alloc),
+            is_kept: false,
+            tokens: List::new(alloc),
+            left: Vec::new(alloc),
+        }
+    }
+
+    /// The vector of the session's base.
+    pub fn base(&self) -> RevVec
+        ensures { result ≡ self.now.who.base }
+    {
+        self.who.base
+    }
+
+    /// Moves the base to a vector, of whose tree nothing is known yet. What is pending is kept, and
+    /// made again over that tree before the next command that asks for something (JSR 283, 10.11.4
+    /// Refresh). It takes no memory.
+    pub fn move_to(&mut self, base: RevVec)
+        ensures begins { (c : Call) → IsNewHeld self.old → IsFirstCall self.old base c
+            → Holds c self.new }
+        ensures moved { (c : Call) (t : Nodes) → Holds c self.old → IsFalse self.old.is_kept
+            → IsTree t → Holds (call_moved c base t) self.new }
+        ensures same { AreAlike (moved_to self.old base) self.new }
+    {
+        self.who.base = base;
+        self.part = Part::new(self.alloc);
+        self.is_kept = true;
+        self.left.clear();
+    }
+
+    /// Puts the node at a path of the tree at the base, or that none is there. A refusal leaves all
+    /// as it was.
+    pub fn put_node(&mut self, path: &Path, node: Option<Node>) -> Result<(), AllocError>
+        ensures ok { OnOk result (self.new ≡ record self.old {
+          part = with_node self.old.part path.now node;
+        }) }
+        ensures holds { OnOk result ((c : Call) → Holds c self.old
+            → node ≡ node_at c.base path.now → Holds c self.new) }
+        ensures err { OnErr result (self.new ≡ self.old) }
+    {
+        self.part.put_node(path, node)?;
+        self.part.in_order();
+        Ok(())
+    }
+
+    /// Puts the names of the children, which rise, of the node at a path of the tree at the base. A
+    /// refusal leaves all as it was.
+    pub fn put_children(
+        &mut self,
+        path: &Path,
+        names: List<(Name, Option<Revision>)>,
+    ) -> Result<(), AllocError>
+        requires rising { IsTrue (is_sorted name_cmp names) }
+        ensures ok { OnOk result (self.new ≡ record self.old {
+          part = with_children self.old.part path.now names;
+        }) }
+        ensures holds { OnOk result ((c : Call) → Holds c self.old
+            → names ≡ dated_children_of c.base path.now → Holds c self.new) }
+        ensures err { OnErr result (self.new ≡ self.old) }
+    {
+        self.part.put_children(path, names)?;
+        self.part.in_order();
+        Ok(())
+    }
+
+    /// A command that the view doesn't answer was accepted: `save`, and `refresh` with false, drop
+    /// what is pending. The tokens are those given, or else they stay. It takes no memory.
+    pub fn accept(&mut self, command: &Command, drew: bool, tokens: Option<List<Text>>)
+        requires { IsFalse (is_viewed command.now) }
+        ensures { (c : Call) → Holds c self.old → TokensFit self.old tokens c command.now
+            → Holds (call_after true drew c command.now) self.new }
+    {
+        self.drop_pending(command);
+        self.take_tokens(tokens);
+        self.count(used(command, true, drew));
+    }
+
+    // Drops what is pending, where an accepted reply to the command does.
+    fn drop_pending(&mut self, command: &Command)
+        ensures { self.new ≡ without_pending self.old (drops_pending command.now) }
+    {
+        if drops_pending(command) {
+            self.pending = Pending::new(self.alloc);
+            self.is_kept = false;
+        }
+    }
+
+    // The session holds these tokens, if they are given.
+    fn take_tokens(&mut self, tokens: Option<List<Text>>)
+        ensures { self.new ≡ record self.old { tokens = unwrap_or tokens self.old.tokens } }
+    {
+        if let Some(tokens) = tokens {
+            self.tokens = tokens;
+        }
+    }
+
+    /// A command was refused, or memory was refused for it. It takes no memory.
+    pub fn refuse(&mut self, command: &Command, drew: bool)
+        ensures { (c : Call) → Holds c self.old
+            → Holds (call_after false drew c command.now) self.new }
+    {
+        self.count(used(command, false, drew));
+    }
+
+    // A command is done, which drew so many identifiers beside those of the view.
+    pub(crate) fn count(&mut self, drawn: u32)
+        ensures { AreAlike (with_drawn self.old drawn) self.new }
+    {
+        self.who.ids = self.who.ids.saturating_add(drawn).min(MAX_IDS);
+        self.left.clear();
+    }
+}
+
+// Whether an accepted reply to the command drops what is pending.
+fn drops_pending(command: &Command) -> bool
+    ensures { result ≡ drops_pending command.now }
+{
+    matches!(command, Command::Save | Command::Refresh(false))
+}
+
+// How many identifiers a command has used that is no command of the view.
+fn used(command: &Command, ok: bool, drew: bool) -> u32
+    ensures { result ≡ used ok drew command.now }
+{
+    match command {
+        Command::Lock(_, _) => u32::from(drew),
+        Command::Checkin(_) => u32::from(drew),
+        Command::Checkpoint => u32::from(ok),
+        _ => 0,
+    }
+}

@@ -1,0 +1,14 @@
+//! What a session holds between its commands: the part of the tree at its base that it has read,
+//! its pending changes, its lock tokens, and how many identifiers it has drawn (JSR 283, 10.11
+//! Saving; 17.5 Lock Token).
+#![tactic(auto)]
+
+mod committing;
+mod held;
+mod laws;
+mod loading;
+mod seeing;
+
+pub use committing::commits;
+pub use held::Held;
+pub use laws::replies_without_commit_keep_tokens;
