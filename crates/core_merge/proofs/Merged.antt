@@ -9,7 +9,6 @@ use Rattle.jr_rev.specs.Vectors.{sees}
 use Rattle.jr_tree.specs.declared.edit.Write.{Write}
 use Rattle.jr_tree.specs.Trees.{Nodes, IsTree}
 use Rattle.jr_tree.specs.Edits.{IsProper}
-use Rattle.oak_clash.specs.declared.mark.MarkAt.{MarkAt}
 use Rattle.oak_machine.specs.declared.event.Draw.{Draw}
 use Rattle.oak_machine.specs.History.{Past}
 use Rattle.oak_machine.specs.Changed.{tree_below}
@@ -26,11 +25,8 @@ use Rattle.core_read.proofs.Told.{base_is}
 use Rattle.core_read.proofs.Trees.{Tells}
 use Rattle.core_heads.proofs.Below.{below_seen}
 use Rattle.core_heads.proofs.Runs.{told_past}
-use Rattle.core_law.specs.Law.{MayStart}
-use Rattle.core_law.specs.State.{Orders, base_tree}
-use Rattle.core_merge.specs.Independent.{MarkParents, StartsMarkingParents, AreIndependent, AreMergeable}
+use Rattle.core_merge.specs.Independent.{StartsMarkingParents, AreIndependent, AreMergeable}
 use Rattle.core_merge.proofs.Commits.{committed_edit, mergeable}
-use Rattle.core_merge.proofs.Marks.{marks_for_parents}
 use Rattle.core_merge.proofs.More.{proper_there, tells_with}
 use Rattle.core_merge.proofs.Seen.{edit_seen}
 use Rattle.core_merge.proofs.Sights.{from_start, not_start, tree_from_start, closed_from_start, seen_below, closed_below}
@@ -129,7 +125,3 @@ module _ (clusters : ℕ) (sessions : List ℕ) (nodes : AreNodes clusters sessi
           (proper_there past told.sound below (is_in_base past r) base_closed d.edit.writes _ tells wider apart good.ready.proper (Some r)
           (whole past told.sound merges upto upto_closed (or_right (eq_by_cmp revision_cmp the_start r) _ refl) _
           (tells_with past told.sound below (is_in_base past r) base_closed d.edit.writes _ tells wider apart good.ready.proper past told.sound upto r with_r not_yet good.ready.rises)))
-
--- the law of the product
-pub law_marks_parents : (law : Orders) → StartsMarkingParents (λ h s edit marks. MayStart law h s edit marks)
-law_marks_parents law h s edit marks starts = subst (λ (ms : List MarkAt). MarkParents ms edit.writes) starts.plan.marked (marks_for_parents (base_tree h.past s) edit.writes)

@@ -9,7 +9,6 @@ use Rattle.jr_path.specs.Names.{name_cmp, path_cmp}
 use Rattle.jr_path.specs.declared.name.Name.{Name}
 use Rattle.jr_path.specs.declared.path.Path.{Path}
 use Rattle.jr_path.proofs.Maps.{name_exact, path_exact, path_total}
-use Rattle.jr_value.specs.declared.value.Property.{Property}
 use Rattle.jr_rev.specs.declared.vector.RevVec.{RevVec}
 use Rattle.jr_rev.specs.Revisions.{revision_cmp}
 use Rattle.jr_rev.specs.Vectors.{sees}

@@ -20,9 +20,9 @@ use Rattle.oak_machine.specs.Heads.{head_of}
 use Rattle.oak_machine.specs.Laws.{Starts, StartsProper, AreOfWrites}
 use Rattle.oak_machine.specs.Marks.{marks_for}
 use Rattle.oak_machine.specs.Runs.{IsRunOf, AreNodes, IsNode, any_said}
+use Rattle.oak_machine.specs.Sessions.{base_of}
 use Rattle.oak_machine.proofs.Deciding.{apart_decided}
 use Rattle.core_heads.proofs.Runs.{closed_run, head_run}
-use Rattle.core_law.specs.State.{base_tree}
 use Rattle.core_merge.specs.Independent.{MarkParents, StartsMarkingParents, IsMergingRun}
 use Rattle.core_merge.specs.Orders.{tree_by_commits}
 use Rattle.core_merge.proofs.Marks.{marks_for_parents}
@@ -38,6 +38,10 @@ a = codes "a" ∷ []
 
 abbrev ab : Path
 ab = codes "a" ∷ codes "b" ∷ []
+
+-- the tree at the base of s
+abbrev base_tree : Past → ℕ → Nodes
+base_tree past s = option_map_or (tree_at None past) (base_of past s) initial_tree
 
 -- the law that lets each proper edit start with the Exists and Props of its writes
 abbrev starts : Starts

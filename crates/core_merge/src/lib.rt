@@ -15,8 +15,6 @@ ghost use Rattle.oak_machine.specs.Commits.{draw_of, is_committed, is_in_base, a
 ghost use Rattle.oak_machine.specs.Heads.{head_of};
 ghost use Rattle.oak_machine.specs.Runs.{IsRunOf, AreNodes, IsNode, MayCommit};
 ghost use Rattle.oak_machine.specs.Sessions.{base_of, last_checkpoint};
-ghost use Rattle.core_law.specs.Law.{MayStart, SaysBy};
-ghost use Rattle.core_law.specs.State.{Orders};
 ghost use Rattle.core_merge.specs.Independent.{AreIndependent, IsMergingRun, StartsMarkingParents};
 ghost use Rattle.core_merge.specs.Orders.{tree_by_commits};
 
@@ -49,12 +47,4 @@ pub fn merged_edits_stay_proper<L: Law>(law: &L)
 pub fn unseen_commits_are_independent<L: Law>(law: &L)
     ensures seen { (h : History) (r o : Revision) → AreNodes h.clusters h.sessions → IsRunOf (L.may_start law.now) (L.may_say law.now) h.clusters h.sessions None h.past → IsTrue (is_committed h.past r) → IsTrue (is_committed h.past o) → (r ≡ o → ⊥) → IsTrue (are_clashing h.past r o) → IsTrue (is_in_base h.past r o) ⊎ IsTrue (is_in_base h.past o r) }
     ensures independent { (h : History) (r o : Revision) (d e : Draw) → IsMergingRun (L.may_start law.now) (L.may_say law.now) h → IsTrue (is_committed h.past r) → IsTrue (is_committed h.past o) → (r ≡ o → ⊥) → draw_of h.past r ≡ Some d → draw_of h.past o ≡ Some e → IsFalse (is_in_base h.past r o) → IsFalse (is_in_base h.past o r) → AreIndependent d.edit.writes e.edit.writes }
-{}
-
-/// The law of the product lets only such edits start. So in each of its runs what a closed vector sees is a tree, and with
-/// it what a session sees at its base.
-pub fn the_product_merges_trees()
-    ensures law { (law : Orders) → StartsMarkingParents (λ h s edit marks. MayStart law h s edit marks) }
-    ensures closed { (law : Orders) (h : History) (v : RevVec) → AreNodes h.clusters h.sessions → IsRunOf (λ h s edit marks. MayStart law h s edit marks) (λ h s i text. SaysBy law h s i text) h.clusters h.sessions None h.past → IsClosed h.past v → IsTree (tree_at None h.past v) }
-    ensures bases { (law : Orders) (h : History) (s : ℕ) (v : RevVec) → AreNodes h.clusters h.sessions → IsRunOf (λ h s edit marks. MayStart law h s edit marks) (λ h s i text. SaysBy law h s i text) h.clusters h.sessions None h.past → base_of h.past s ≡ Some v → IsTree (tree_at None h.past v) }
 {}
