@@ -276,7 +276,7 @@ module _ (law : JcrLaw) (mid : Shown) (run : SessionRun) (plan : Plan) (may : Ma
       (steps : Steps (starts_of law) (says_of law) begun new answer) → answer ≡ out.Memory → HasStopped new
   draw_stops begun new begins answer steps memory =
       let made : (steps.own ≡ []) × (new.work ≡ Idle) = subst (λ (w : Work). Makes (after steps.others begun.history) begun.session w out.Memory steps.own new.work) begins.work_is
-          (subst (λ (a : Rattle.oak_port.specs.declared.task.StepOut.StepOut). Makes (after steps.others begun.history) begun.session begun.work a steps.own new.work) memory steps.makes) in record {
+      (subst (λ (a : Rattle.oak_port.specs.declared.task.StepOut.StepOut). Makes (after steps.others begun.history) begun.session begun.work a steps.own new.work) memory steps.makes) in record {
         beside = Rattle.jcr_session.proofs.Starting.stopped_beside law mid begun new (Starting (task.Commit plan.edit plan.marks)) mid.room answer may.asked.inside.nodes begins steps made.0;
         idle = made.1;
         room = subst (λ (x : Option Rattle.std.proofs.Common.ℕ). Rattle.oak_port.specs.Ports.HasRoom x 40) (sym (steps.room ∙ begins.room_is)) may.place.told;

@@ -275,5 +275,5 @@ pub refresh_stops : (law : JcrLaw) (old mid new : Shown) (room : Option ℕ) (an
     → Steps (starts_of law) (says_of law) mid new answer → answer ≡ out.Memory → IsBeside law old new × (new.work ≡ Idle)
 refresh_stops law old mid new room answer nodes waits steps memory =
     let made : (steps.own ≡ []) × (new.work ≡ Idle) = subst (λ (w : Work). Makes (after steps.others mid.history) mid.session w out.Memory steps.own new.work) waits.work_is
-        (subst (λ (a : StepOut). Makes (after steps.others mid.history) mid.session mid.work a steps.own new.work) memory steps.makes) in
+    (subst (λ (a : StepOut). Makes (after steps.others mid.history) mid.session mid.work a steps.own new.work) memory steps.makes) in
     (stopped_beside law old mid new (Starting task.Refresh) room answer nodes waits steps made.0, made.1)

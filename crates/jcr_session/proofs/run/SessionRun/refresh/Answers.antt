@@ -61,7 +61,7 @@ say_memory-requires-in-None g c =
     let mid = g.P.Port.shown c.start.new.self in
     let new = g.P.Port.shown c.step.new.self in
     let stops = refresh_stops (g.P.Port.law c.args.port.now) (g.P.Port.shown c.args.port.now) mid new (g.P.Port.shown c.args.port.now).room c.step.result (at_between (g.P.Port.law c.args.port.now) (g.P.Port.shown c.args.port.now) c.args.self.now c.requires.stands c.requires.between).0.nodes c.in-Ok.ensures.ok (steps_law (g.P.Port.law c.args.port.now) law c.in-Ok.ensures.law mid new c.step.result c.step.ensures.steps)
-        (unpinned_is c.step.result (refresh_comes (starts_of law) (says_of law) mid new c.step.result c.step.ensures.steps c.in-Ok.ensures.ok.work_is) (sym c.in-None.ensures)) in
+    (unpinned_is c.step.result (refresh_comes (starts_of law) (says_of law) mid new c.step.result c.step.ensures.steps c.in-Ok.ensures.ok.work_is) (sym c.in-None.ensures)) in
     record {
       forgoes = forgo_behind (g.P.Port.law c.args.port.now) (g.P.Port.law c.step.new.self) (c.step.ensures.law ∙ c.in-Ok.ensures.law) (g.P.Port.shown c.args.port.now) new stops.0 stops.1 c.args.self.now false (between_forgoes (g.P.Port.law c.args.port.now) (g.P.Port.shown c.args.port.now) c.args.self.now c.requires.stands c.requires.between m.0 m.1 c.requires.ready.done);
     }
@@ -73,6 +73,6 @@ returns-in-None-clause-turned g c =
     let mid = g.P.Port.shown c.start.new.self in
     let new = g.P.Port.shown c.step.new.self in
     let stops = refresh_stops (g.P.Port.law c.args.port.now) (g.P.Port.shown c.args.port.now) mid new (g.P.Port.shown c.args.port.now).room c.step.result (at_between (g.P.Port.law c.args.port.now) (g.P.Port.shown c.args.port.now) c.args.self.now c.requires.stands c.requires.between).0.nodes c.in-Ok.ensures.ok (steps_law (g.P.Port.law c.args.port.now) law c.in-Ok.ensures.law mid new c.step.result c.step.ensures.steps)
-        (unpinned_is c.step.result (refresh_comes (starts_of law) (says_of law) mid new c.step.result c.step.ensures.steps c.in-Ok.ensures.ok.work_is) (sym c.in-None.ensures)) in
+    (unpinned_is c.step.result (refresh_comes (starts_of law) (says_of law) mid new c.step.result c.step.ensures.steps c.in-Ok.ensures.ok.work_is) (sym c.in-None.ensures)) in
     turned_idle (g.P.Port.law c.args.port.now) (g.P.Port.law c.step.new.self) (c.step.ensures.law ∙ c.in-Ok.ensures.law) (g.P.Port.shown c.args.port.now) new stops.0 stops.1 c.args.self.now false (between_forgoes (g.P.Port.law c.args.port.now) (g.P.Port.shown c.args.port.now) c.args.self.now c.requires.stands c.requires.between m.0 m.1 c.requires.ready.done)
     (g.P.Port.shown c.say_memory-in-None.new.port) c.say_memory-in-None.new.self c.say_memory-in-None.result c.say_memory-in-None.ensures.turned
