@@ -41,7 +41,7 @@ use Rattle.jcr_session.proofs.Waiting.{by_waits}
 
 -- ---- what an answer tells
 
-loaded_number : Loaded → ℕ
+abbrev loaded_number : Loaded → ℕ
 loaded_number loaded.Going = 0
 loaded_number (loaded.Found f) = 1
 loaded_number loaded.Refused = 2
@@ -75,7 +75,7 @@ load_stops (out.Ready (end.Node f)) is h = other_loaded (loaded.Found f) loaded.
 load_stops out.Memory is h = refl
 load_stops a is h = absurd is
 
-listed_number : Listed → ℕ
+abbrev listed_number : Listed → ℕ
 listed_number listed.Going = 0
 listed_number (listed.Names f) = 1
 listed_number listed.Refused = 2

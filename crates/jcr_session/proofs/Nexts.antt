@@ -10,8 +10,7 @@ use Rattle.jr_value.specs.declared.value.Value.{Value}
 use Rattle.jcr_trans.specs.declared.command.Command.{Command}
 use Rattle.jcr_trans.specs.declared.command.Command.TheVariants as command
 use Rattle.jcr_view.specs.Outcomes.{is_viewed}
-use Rattle.jcr_law.specs.Commits.{edit_due}
-use Rattle.jcr_law.specs.State.{Call}
+use Rattle.jcr_held.specs.Comes.{commits}
 use Rattle.jcr_session.specs.declared.next.Due.{Due}
 use Rattle.jcr_session.specs.declared.next.Due.TheVariants as due
 use Rattle.jcr_session.specs.declared.run.Phase.{Phase}
@@ -124,20 +123,20 @@ only_query (command.Unlabel p label) h = apart due.Commit due.Query refl h
 only_query (command.Restore p version) h = apart due.Commit due.Query refl h
 only_query m h = apart due.See due.Query refl h
 
--- an edit is due of a command that commits
-pub commits_due : (m : Command) → due_by m ≡ due.Commit → (c : Call) → is_some (edit_due c m) ≡ true
-commits_due command.Head h c = apart due.ShowBase due.Commit refl h
-commits_due (command.Refresh keep) h c = apart due.Refresh due.Commit refl h
-commits_due (command.Query text vars) h c = apart due.Query due.Commit refl h
-commits_due command.Save h c = refl
-commits_due (command.Lock p deep) h c = refl
-commits_due (command.Unlock p) h c = refl
-commits_due (command.Checkin p) h c = refl
-commits_due (command.Checkout p) h c = refl
-commits_due (command.Label p version label take) h c = refl
-commits_due (command.Unlabel p label) h c = refl
-commits_due (command.Restore p version) h c = refl
-commits_due m h c = apart due.See due.Commit refl h
+-- a command for which a commit is due commits
+pub commits_due : (m : Command) → due_by m ≡ due.Commit → commits m ≡ true
+commits_due command.Head h = apart due.ShowBase due.Commit refl h
+commits_due (command.Refresh keep) h = apart due.Refresh due.Commit refl h
+commits_due (command.Query text vars) h = apart due.Query due.Commit refl h
+commits_due command.Save h = refl
+commits_due (command.Lock p deep) h = refl
+commits_due (command.Unlock p) h = refl
+commits_due (command.Checkin p) h = refl
+commits_due (command.Checkout p) h = refl
+commits_due (command.Label p version label take) h = refl
+commits_due (command.Unlabel p label) h = refl
+commits_due (command.Restore p version) h = refl
+commits_due m h = apart due.See due.Commit refl h
 
 -- the view answers the others that the session may run
 pub seen_viewed : (m : Command) → is_allowed m ≡ true → due_by m ≡ due.See → is_viewed m ≡ true
@@ -273,7 +272,7 @@ none_there commands slice i m same none next =
 pub seen_there : (run : SessionRun) (x : Command) → due_for run ≡ due.See → slice_get run.commands run.index ≡ Some x → is_viewed x ≡ true
 seen_there run x is next = let a = allowed_due x due.See (sym (due_at run x next) ∙ is) refl in seen_viewed x a.0 a.1
 
-pub commits_there : (run : SessionRun) (x : Command) → due_for run ≡ due.Commit → slice_get run.commands run.index ≡ Some x → (c : Call) → is_some (edit_due c x) ≡ true
+pub commits_there : (run : SessionRun) (x : Command) → due_for run ≡ due.Commit → slice_get run.commands run.index ≡ Some x → commits x ≡ true
 commits_there run x is next = commits_due x (allowed_due x due.Commit (sym (due_at run x next) ∙ is) refl).1
 
 pub some_there : (commands : List Command) (i : ℕ) → is_some (slice_get commands i) ≡ true → (m : Command) × (slice_get commands i ≡ Some m)

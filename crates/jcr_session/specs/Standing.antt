@@ -39,6 +39,7 @@ use Rattle.jcr_call.specs.Calls.{call_after, call_moved}
 use Rattle.jcr_call.specs.Comings.{IsAcceptedOf}
 use Rattle.jcr_call.specs.declared.coming.Accepted.{Accepted}
 use Rattle.jcr_held.specs.Begins.{IsNewHeld}
+use Rattle.jcr_held.specs.Comes.{commits}
 use Rattle.jcr_held.specs.Holds.{Holds, IsReady}
 use Rattle.jcr_held.specs.declared.held.Held.{Held}
 use Rattle.core_calls.specs.Seeing.{SeesTrees}
@@ -62,15 +63,7 @@ abbrev pub due_by : Command → Due
 due_by command.Head = due.ShowBase
 due_by (command.Refresh keep) = due.Refresh
 due_by (command.Query text vars) = due.Query
-due_by command.Save = due.Commit
-due_by (command.Lock p deep) = due.Commit
-due_by (command.Unlock p) = due.Commit
-due_by (command.Checkin p) = due.Commit
-due_by (command.Checkout p) = due.Commit
-due_by (command.Label p version label take) = due.Commit
-due_by (command.Unlabel p label) = due.Commit
-due_by (command.Restore p version) = due.Commit
-due_by _ = due.See
+due_by m = cond (commits m) due.Commit due.See
 
 -- what is to be done for a command; another one is refused
 abbrev pub due_to : Command → Due

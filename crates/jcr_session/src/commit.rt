@@ -1,8 +1,6 @@
 // How a session commits for its next command.
 ghost use Rattle.std.specs.Prelude.{◌≡◌, ◌≤◌, IfOk, IsTrue, Some, false};
 ghost use Rattle.jcr_call.specs.declared.coming.Coming.TheVariants as coming;
-ghost use Rattle.jcr_law.specs.State.{Call};
-ghost use Rattle.jcr_held.specs.Holds.{Holds};
 ghost use Rattle.jcr_session.specs.Answered.{IsCommitAnswer, IsDrawAnswer, ended_phase, has_went, kind_of_end, phase_by, turn_by};
 ghost use Rattle.jcr_session.specs.Asked.{ComesNext, MayDrawFor};
 ghost use Rattle.jcr_session.specs.Standing.{HasTurned, IsGranted, IsPlace, IsPrepared, Stands, due_for, is_committing};
@@ -47,7 +45,6 @@ impl SessionRun {
     fn come(&self) -> Result<Coming, AllocError>
         requires next { due_for self.now ≡ due.Commit }
         requires ready { IsPrepared self.now }
-        requires held { (c : Call) × Holds c self.now.held }
         ensures { IfOk result (ComesNext self.now) }
     {
         match self.commands.as_slice().get(self.index as usize) {

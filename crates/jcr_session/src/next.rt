@@ -4,6 +4,7 @@ ghost use Rattle.jcr_session.specs.Standing.{due_by, due_for, due_to, may_read, 
 
 use crate::run::{Phase, SessionRun};
 use jcr_call::is_allowed;
+use jcr_held::commits;
 use jcr_trans::Command;
 
 // What is to be done for the next command.
@@ -65,15 +66,13 @@ fn due_by(command: &Command) -> Due
         Command::Head => Due::ShowBase,
         Command::Refresh(_) => Due::Refresh,
         Command::Query(_, _) => Due::Query,
-        Command::Save
-        | Command::Lock(_, _)
-        | Command::Unlock(_)
-        | Command::Checkin(_)
-        | Command::Checkout(_)
-        | Command::Label(_, _, _, _)
-        | Command::Unlabel(_, _)
-        | Command::Restore(_, _) => Due::Commit,
-        _ => Due::See,
+        _ => {
+            if commits(command) {
+                Due::Commit
+            } else {
+                Due::See
+            }
+        }
     }
 }
 

@@ -2,13 +2,13 @@ use Rattle.std.proofs.Common.{refl, Ok, subst}
 use Rattle.jcr_call.specs.declared.coming.Coming.{Coming}
 use Rattle.jcr_call.specs.declared.coming.Coming.TheVariants as coming
 use Rattle.jcr_session.specs.Asked.{ComesNext}
-use Rattle.jcr_session.proofs.Lawful.{at_between, between_forgoes, commit_settles}
+use Rattle.jcr_session.proofs.Lawful.{between_forgoes, commit_settles}
 use Rattle.jcr_session.proofs.Nexts.{next_due}
 use Rattle.jcr_session.specs.declared.next.Due.TheVariants as due
 use Rattle.jcr_session.proofs.run.SessionRun.commit.Goals as goal
 
 pub come-requires : goal.come-requires
-come-requires g c = let here = (at_between (g.P.Port.law c.args.port.now) (g.P.Port.shown c.args.port.now) c.args.self.now c.requires.stands c.requires.between).1 in record { next = c.requires.next; ready = c.requires.ready; held = (here.call, here.holds) }
+come-requires g c = record { next = c.requires.next; ready = c.requires.ready }
 
 pub say_settled-requires-clause-settles : goal.say_settled-requires-clause-settles
 say_settled-requires-clause-settles g c =

@@ -1,4 +1,4 @@
-use Rattle.std.proofs.Common.{subst, refl, sym}
+use Rattle.std.proofs.Common.{subst}
 use Rattle.jcr_trans.specs.declared.command.Command.{Command}
 use Rattle.jcr_held.specs.Holds.{IsReady}
 use Rattle.jcr_session.proofs.Calling.{queried_as}
@@ -6,7 +6,7 @@ use Rattle.jcr_session.proofs.Nexts.{only_query}
 use Rattle.jcr_session.proofs.run.SessionRun.query_by.Goals as goal
 
 pub query-requires : goal.query-requires
-query-requires c = (subst (λ (m : Command). IsReady c.args.self.now.held m) c.in-Query.is c.requires.ready).known.0
+query-requires c = subst (λ (m : Command). IsReady c.args.self.now.held m) c.in-Query.is c.requires.ready
 
 pub returns : goal.returns
 returns c = queried_as c.args.self.now.held c.args.command.now c.in-Query.text c.in-Query.vars c.query.result c.in-Query.is c.query.ensures

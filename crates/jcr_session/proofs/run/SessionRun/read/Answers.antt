@@ -23,8 +23,8 @@ returns-in-Some-clause-err g c = err_with c.read_on.result _ _ (sym c.may_read.e
 
 pub returns-in-None-clause-looked : goal.returns-in-None-clause-looked
 returns-in-None-clause-looked g c =
-    subst (λ (o : Option Need). HasLooked (g.P.Port.law c.args.port.now) (g.P.Port.shown c.args.port.now) (g.P.Port.shown c.read_next.new.port) (record c.args.self.now { fetch = o }) c.read_next.new.self) c.in-None.ensures.value c.read_next.ensures.looked
+    subst (λ (o : Option Need). HasLooked (g.P.Port.law c.args.port.now) (g.P.Port.shown c.args.port.now) (g.P.Port.shown c.read_next.new.port) (record c.args.self.now { fetch = o }) c.read_next.new.self) (c.in-None.ensures.after ∙ c.in-None.ensures.value) c.read_next.ensures.looked
 
 pub returns-in-None-clause-read : goal.returns-in-None-clause-read
 returns-in-None-clause-read g c =
-    subst (λ (o : Option Need). Rattle.std.specs.Result.IfOk c.read_next.result (HasRead (g.P.Port.shown c.args.port.now) (g.P.Port.shown c.read_next.new.port) (record c.args.self.now { fetch = o }) c.read_next.new.self)) c.in-None.ensures.value c.read_next.ensures.read
+    subst (λ (o : Option Need). Rattle.std.specs.Result.IfOk c.read_next.result (HasRead (g.P.Port.shown c.args.port.now) (g.P.Port.shown c.read_next.new.port) (record c.args.self.now { fetch = o }) c.read_next.new.self)) (c.in-None.ensures.after ∙ c.in-None.ensures.value) c.read_next.ensures.read
