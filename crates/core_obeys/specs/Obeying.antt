@@ -28,7 +28,7 @@ pub record Obeys (law : JcrLaw) (h : History) : Type 0 where
       → TypesOk law.types (tree_at None h.past v)
   pub free : (r : Revision) (d : Draw) → draw_of h.past r ≡ Some d → MayCommit h.past r
       → IsFree law.types (tree_by_commits h.past) (tokens_at_draw (tokens_by law) h r d.session)
-        d.edit.writes
+      d.edit.writes
   pub references : IsTidy h.past → ReferencesOk (tree_by_commits h.past)
 
 -- so the history was at each time

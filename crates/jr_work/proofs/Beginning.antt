@@ -15,7 +15,6 @@ use Rattle.oak_port.specs.Ports.{Idle}
 use Rattle.oak_world.specs.Seen.{shown_at, shown_work}
 use Rattle.oak_world.specs.Worlds.{ActorState, WorldOf, idle, live, start_world, work_in}
 use Rattle.jcr_trans.specs.declared.command.Command.{Command}
-use Rattle.jr_types.specs.Builtin.{builtin}
 use Rattle.jr_types.specs.declared.TypeDef.{TypeDef}
 use Rattle.jcr_law.specs.State.{command_at}
 use Rattle.jcr_law.specs.declared.law.JcrLaw.{JcrLaw}
@@ -94,7 +93,7 @@ module _ (script : Script) (within : IsWithin script) where
   there_too (x ∷ xs) (e ∷ ys) zero y h at = (x, refl)
   there_too (x ∷ xs) (e ∷ ys) (suc k) y h at = there_too xs ys k y (let same : length ys ≡ length xs = omega arith in same) at
 
-  module _ (seats : List Seat) (new : AreNew builtin script.sessions (length script.sessions) seats)
+  module _ (seats : List Seat) (new : AreNew script.types script.sessions (length script.sessions) seats)
       (trees : SeesTrees (law_of script) script.clusters (map (λ s. s.cluster) script.sessions) None) where
     seated : (s : ℕ) (seat : Seat) → slice_get seats s ≡ Some seat → IsSeated script start s seat
     seated s seat at = by (there_too script.sessions seats s seat new.many at)

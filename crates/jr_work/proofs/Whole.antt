@@ -12,9 +12,6 @@ use Rattle.oak_machine.specs.Runs.{IsRun}
 use Rattle.oak_machine.specs.Sessions.{has_left, next_index}
 use Rattle.jcr_law.specs.declared.law.JcrLaw.{JcrLaw}
 use Rattle.jcr_law.specs.Lasting.{says_of, starts_of}
-use Rattle.jr_tree.specs.Trees.{initial_tree}
-use Rattle.jr_types.specs.Builtin.{builtin}
-use Rattle.jr_types.specs.Rules.{TypesOk}
 use Rattle.core_obeys.specs.Obeying.{ObeysThroughout}
 use Rattle.core_obeys.specs.Product.{IsProductRun}
 use Rattle.jr_script.specs.Bounds.{IsWithin}
@@ -157,7 +154,7 @@ module _ (script : Script) (begun played replied finished : Stage) (flying : Lis
     (finishes : ClosesAll replied finished (map to_end (range_with_len 0 (length replied.seats.items))))
     (over : AreOver finished (length replied.seats.items))
     (run : IsRun (starts_of finished.world.law) (says_of finished.world.law) (live finished.world.history)) (apart : AreApart finished.world.history.past)
-    (obey : (law : JcrLaw) (h : History) → IsProductRun law h → ObeysThroughout law h) (typed : TypesOk builtin initial_tree) where
+    (obey : (law : JcrLaw) (h : History) → IsProductRun law h → ObeysThroughout law h) where
   script_played : played.script ≡ script
   script_played = plays.script ∙ begins.script_is
 
@@ -239,7 +236,7 @@ module _ (script : Script) (begun played replied finished : Stage) (flying : Lis
     nodes = within_nodes script within;
     begun = refl;
     run = subst (λ (h : History). IsRun (starts_of (law_of script)) (says_of (law_of script)) h) history_is run_is;
-    typed = typed;
+    typed = within.types.typed;
   })
 
   -- the script was run to its end

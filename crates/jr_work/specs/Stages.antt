@@ -13,7 +13,6 @@ use Rattle.oak_port.specs.Ports.{Awaiting, Work}
 use Rattle.oak_world.specs.Seen.{shown_at, shown_work}
 use Rattle.oak_world.specs.Steps.{kind_due}
 use Rattle.oak_world.specs.Worlds.{WorldOf, live, work_in}
-use Rattle.jr_types.specs.Builtin.{builtin}
 use Rattle.jcr_law.specs.declared.law.JcrLaw.{JcrLaw}
 use Rattle.jcr_session.specs.declared.run.SessionRun.{SessionRun}
 use Rattle.jcr_session.specs.declared.turn.Turn.{Turn}
@@ -35,9 +34,9 @@ use Rattle.jr_work.specs.SoFar.{IsCutSoFar, IsStepAt, IsUnderWay, is_last_due}
 
 -- ---- the stage
 
--- the law of a script: the built-in types, no session before it, and its sessions
+-- the law of a script: its types, no session before it, and its sessions
 abbrev pub law_of : Script → JcrLaw
-law_of script = record { types = builtin; earlier = 0; sessions = script.sessions }
+law_of script = record { types = script.types; earlier = 0; sessions = script.sessions }
 
 abbrev pub past_of : Stage → Past
 past_of stage = stage.world.history.past

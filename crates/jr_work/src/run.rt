@@ -10,7 +10,6 @@ use crate::stage::Stage;
 use core_obeys::the_product_obeys_throughout;
 use jcr_law::JcrLaw;
 use jr_script::Script;
-use jr_types::the_initial_tree_meets_the_built_in_types;
 use oak_world::World;
 use std::alloc::{AllocError, Global};
 
@@ -29,7 +28,6 @@ pub fn run_steps(alloc: Global, script: Script) -> Result<World<JcrLaw>, AllocEr
     stage.reply_all(flying.as_slice())?;
     stage.finish_all()?;
     stage.world.journal();
-    the_initial_tree_meets_the_built_in_types();
     the_product_obeys_throughout();
     let Stage { world, .. } = stage;
     Ok(world)

@@ -289,11 +289,11 @@ fn seat_of(
     Ok(Seat { run, flight: None })
 }
 
-// The law of a script: the built-in types, no session before it, and its sessions with their commands.
+// The law of a script: its types, no session before it, and its sessions with their commands.
 fn law_of(alloc: Global, script: &Script) -> Result<JcrLaw, AllocError>
     ensures { IfOk result (λ law. law ≡ law_of script.now) }
 {
-    let types = Registry::builtin(alloc)?;
+    let types = script.types.copy()?;
     let sessions = sessions_copied(alloc, script.sessions.as_slice())?;
     Ok(JcrLaw {
         types,
