@@ -1,5 +1,5 @@
 -- Where a session stands between its turns, and what a turn makes of that.
-use Rattle.std.specs.Prelude.{◌≡◌, ◌⊎◌, ◌≤◌, ℕ, ◌++◌, Bool, true, false, cond, ◌&&◌, not, ⊤, List}
+use Rattle.std.specs.Prelude.{◌≡◌, ◌⊎◌, ◌≤◌, ℕ, Bool, true, false, cond, ◌&&◌, not, ⊤, List}
 use Rattle.std.specs.Prelude.{[], ◌∷◌, length, slice_get, reverse, Option, None, Some, is_some}
 use Rattle.std.specs.Prelude.{IfSome, IsTrue, IsFalse, string_bytes}
 use Rattle.std.specs.Option.{option_map_or}
@@ -32,10 +32,9 @@ use Rattle.jcr_trans.specs.declared.command.Command.TheVariants as command
 use Rattle.jcr_law.specs.declared.law.JcrLaw.{JcrLaw}
 use Rattle.jcr_law.specs.Built.{is_built, is_forbidden}
 use Rattle.jcr_law.specs.Lasting.{says_of, starts_of}
-use Rattle.jcr_law.specs.Law.{SaysBy}
 use Rattle.jcr_law.specs.Since.{before_turn, draw_since}
-use Rattle.jcr_law.specs.State.{Call, call_of, command_at, is_ok_text}
-use Rattle.jcr_call.specs.Calls.{call_after, call_moved}
+use Rattle.jcr_law.specs.State.{Call, call_of, command_at}
+use Rattle.jcr_call.specs.Calls.{call_moved}
 use Rattle.jcr_call.specs.Comings.{IsAcceptedOf}
 use Rattle.jcr_call.specs.declared.coming.Accepted.{Accepted}
 use Rattle.jcr_held.specs.Begins.{IsNewHeld}
