@@ -10,7 +10,6 @@ use Rattle.jr_path.specs.declared.text.Text.{Text}
 use Rattle.jr_value.specs.declared.value.Value.{Value}
 use Rattle.oak_port.specs.Ports.{Idle, OthersAlone, Shown, Starting, Steps, Work}
 use Rattle.oak_port.specs.declared.task.StepOut.{StepOut}
-use Rattle.oak_port.specs.declared.task.StepOut.TheVariants as out
 use Rattle.oak_port.specs.declared.task.Task.{Task}
 use Rattle.jcr_plan.specs.declared.plans.Plan.{Plan}
 use Rattle.jcr_trans.specs.declared.command.Command.{Command}
@@ -25,13 +24,10 @@ use Rattle.jcr_held.specs.Holds.{Holds}
 use Rattle.jcr_held.specs.declared.held.Held.{Held}
 use Rattle.jcr_session.specs.declared.run.SessionRun.{SessionRun}
 use Rattle.jcr_session.specs.declared.turn.Turn.{Turn}
-use Rattle.jcr_session.specs.Asked.{ComesNext, IsQueriedAs, MayAnswer, MayDrawFor, MayForgo, MaySettle}
+use Rattle.jcr_session.specs.Asked.{ComesNext, IsQueriedAs, MayAnswer, MayDrawFor, MayForgo}
 use Rattle.jcr_session.specs.Standing.{HasTurned, IsBeside, Stands}
 use Rattle.jcr_session.proofs.Nexts.{same_next}
-use Rattle.jcr_session.proofs.Saying.{answer_later, answer_waits, forgo_waits, idle_later, said_later}
-use Rattle.jcr_session.proofs.Starting.{some_is}
-use Rattle.jcr_session.proofs.Turning.{is_awaiting}
-use Rattle.jcr_session.proofs.Waiting.{by_waits}
+use Rattle.jcr_session.proofs.Saying.{answer_later, forgo_waits, idle_later, said_later}
 
 abbrev pub is_idle : Work → Bool
 is_idle Idle = Rattle.std.proofs.Common.true

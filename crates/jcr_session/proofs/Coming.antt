@@ -1,5 +1,5 @@
 -- Which answers come to the steps of a session's tasks.
-use Rattle.std.proofs.Common.{◌≡◌, Some, None, Option, is_some, refl, sym, ap, subst}
+use Rattle.std.proofs.Common.{◌≡◌, Some, None, is_some, refl, sym, ap, subst}
 use mathlib.Core.Bool.{false≢true}
 use Rattle.jr_path.specs.declared.path.Path.{Path}
 use Rattle.jr_rev.specs.declared.vector.Pin.{Pin}

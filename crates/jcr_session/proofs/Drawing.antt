@@ -14,7 +14,7 @@ use Rattle.oak_machine.specs.History.{History, Past}
 use Rattle.oak_machine.specs.Commits.{is_committed}
 use Rattle.oak_machine.specs.Laws.{after}
 use Rattle.oak_machine.specs.Runs.{AreNodes, IsRun}
-use Rattle.oak_machine.specs.Sessions.{base_of, drawn_since, has_left, has_login, is_attached, next_index}
+use Rattle.oak_machine.specs.Sessions.{base_of, has_left, has_login, is_attached, next_index}
 use Rattle.oak_machine.specs.Steps.{is_appended_by}
 use Rattle.oak_machine.proofs.Induction.{committed_is_drawn}
 use Rattle.oak_port.specs.Ports.{AreOfStep, Idle, Makes, MayBegin, OthersAlone, Shown, Starting, Steps, Work, Writing}
@@ -27,7 +27,6 @@ use Rattle.jcr_law.specs.declared.law.JcrLaw.{JcrLaw}
 use Rattle.jcr_law.specs.Lasting.{says_of, starts_of}
 use Rattle.jcr_law.specs.Law.{MayStart}
 use Rattle.jcr_law.specs.Since.{before_turn}
-use Rattle.jcr_law.specs.Commits.{edit_due}
 use Rattle.jcr_law.specs.State.{Call, call_of, command_at}
 use Rattle.jcr_call.specs.declared.coming.Accepted.{Accepted}
 use Rattle.jcr_call.specs.declared.coming.Coming.TheVariants as coming
@@ -37,14 +36,13 @@ use Rattle.jcr_session.specs.declared.next.Due.TheVariants as due
 use Rattle.jcr_session.specs.declared.run.Phase.{Phase}
 use Rattle.jcr_session.specs.declared.run.Phase.TheVariants as phase
 use Rattle.jcr_session.specs.declared.run.SessionRun.{SessionRun}
-use Rattle.jcr_session.specs.declared.turn.Turn.{Turn}
 use Rattle.jcr_session.specs.declared.turn.Turn.TheVariants as turn
 use Rattle.jcr_session.specs.Asked.{ComesNext, IsAsked, MayDrawFor, MayForgo}
 use Rattle.jcr_session.specs.Standing.{HasTurned, IsBeside, IsCalled, IsCommitting, IsFresh, IsIn, IsPlace, IsPrepared, IsTurned, Stands, StandsAt, due_for, due_to, is_allowed, is_writing}
 use Rattle.jcr_session.proofs.Committing.{committing_drawn}
 use Rattle.jcr_session.proofs.Lawful.{asked_allowed, at_between, between_asked}
 use Rattle.jcr_session.proofs.Nexts.{allowed_due, due_at, next_due}
-use Rattle.jcr_session.proofs.Saying.{asked_like, asked_waits, drawn_waits, forgo_waits, get_within}
+use Rattle.jcr_session.proofs.Saying.{asked_like, asked_waits, drawn_waits, get_within}
 use Rattle.jcr_session.proofs.Turning.{free, is_awaiting, not_ended, plain_step, turned_later}
 use Rattle.jcr_session.proofs.Waiting.{all_beside, by_waits, called_beside, in_beside, next_beside, shown_beside}
 

@@ -15,10 +15,10 @@ use Rattle.jr_tree.specs.Trees.{IsTree, Nodes}
 use Rattle.jr_items.specs.Refusals.{clash}
 use Rattle.oak_machine.specs.Commits.{is_committed, is_ended, tree_at}
 use Rattle.oak_machine.specs.Sessions.{base_of, drawn_since, is_drawing}
-use Rattle.oak_port.specs.Ports.{HasRoom, Idle, Shown}
+use Rattle.oak_port.specs.Ports.{HasRoom, Shown}
 use Rattle.oak_commit.specs.declared.outcome.CommitEnd.{CommitEnd}
 use Rattle.oak_commit.specs.declared.outcome.CommitEnd.TheVariants as commit
-use Rattle.jcr_trans.specs.Answers.{Answer, ShowsRevision}
+use Rattle.jcr_trans.specs.Answers.{ShowsRevision}
 use Rattle.jcr_trans.specs.Texts.{answer_text, memory_text}
 use Rattle.jcr_trans.specs.declared.command.Command.{Command}
 use Rattle.jcr_trans.specs.declared.command.Command.TheVariants as command
@@ -31,22 +31,20 @@ use Rattle.jcr_law.specs.State.{Call, accepted, is_ok_text}
 use Rattle.jcr_call.specs.Calls.{call_moved}
 use Rattle.jcr_call.specs.Comings.{accepted_text}
 use Rattle.jcr_call.specs.declared.coming.Accepted.{Accepted}
-use Rattle.jcr_held.specs.Accepts.{TokensFit}
 use Rattle.jcr_held.specs.Holds.{Holds}
 use Rattle.jcr_held.specs.declared.held.Held.{Held}
 use Rattle.core_calls.specs.Replies.{is_refusal}
 use Rattle.core_calls.proofs.Accepting.{answer_accepts}
 use Rattle.jcr_session.specs.declared.limits.TheConstants.{COMMIT_REPLY_BYTES}
 use Rattle.jcr_session.specs.declared.next.Due.TheVariants as due
-use Rattle.jcr_session.specs.declared.run.Phase.{Phase}
 use Rattle.jcr_session.specs.declared.run.Phase.TheVariants as phase
 use Rattle.jcr_session.specs.declared.run.SessionRun.{SessionRun}
 use Rattle.jcr_session.specs.Asked.{HasClashed, IsAsked, MayAnswer, MayForgo, Settles}
-use Rattle.jcr_session.specs.Standing.{IsAtEnd, IsBeside, IsCalled, IsClash, IsFor, IsIn, IsMadeFor, IsUnmade, Stands, due_by, due_for}
+use Rattle.jcr_session.specs.Standing.{IsAtEnd, IsCalled, IsMadeFor, IsUnmade, Stands, due_by}
 use Rattle.jcr_session.proofs.Drawing.{commit_allowed}
 use Rattle.jcr_session.proofs.Lawful.{forgo_answers, refused_text, says_allowed, settled_asked, settled_leaves, settled_says}
 use Rattle.jcr_session.proofs.Nexts.{allowed_due, apart, due_at, due_number, unviewed_due}
-use Rattle.jcr_session.proofs.Saying.{answer_waits, asked_like, asked_waits}
+use Rattle.jcr_session.proofs.Saying.{asked_like}
 
 -- ---- the command whose commit has ended
 

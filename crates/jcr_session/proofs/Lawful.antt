@@ -1,8 +1,7 @@
 -- Which replies the law lets a session say between its commands.
-use Rattle.std.proofs.Common.{◌≡◌, ℕ, Bool, true, false, cond, Some, None, Option, List, [], ◌∷◌, is_some, nat_eq, Result, Ok, Err, IfOk, OnErr, refl, sym, ap, ◌∙◌, subst}
+use Rattle.std.proofs.Common.{◌≡◌, ℕ, Bool, true, false, cond, Some, None, Option, List, [], ◌∷◌, is_some, nat_eq, Result, Ok, Err, refl, sym, ap, ◌∙◌, subst}
 use Rattle.std.specs.Prelude.{option_map, slice_get, string_bytes}
 use Rattle.std.specs.Option.{option_map_or}
-use Rattle.std.specs.declared.alloc.AllocError.{AllocError}
 use Rattle.std.specs.declared.alloc.Global.{Global}
 use Rattle.std.specs.declared.string.String.{String}
 use mathlib.Core.Bool.{false≢true}
@@ -13,23 +12,22 @@ use Rattle.jr_part.specs.declared.need.Need.{Need}
 use Rattle.jr_tree.specs.declared.edit.Write.{Write}
 use Rattle.jr_tree.specs.declared.shared.Refusal.{Refusal}
 use Rattle.jr_tree.specs.declared.shared.Who.{Who}
-use Rattle.jr_items.specs.Refusals.{out_of_memory, unsupported}
+use Rattle.jr_items.specs.Refusals.{unsupported}
 use Rattle.jcr_trans.specs.Commands.{word_of}
-use Rattle.oak_machine.specs.History.{History, Past}
+use Rattle.oak_machine.specs.History.{History}
 use Rattle.oak_machine.specs.Commits.{is_committed}
 use Rattle.oak_machine.specs.Sessions.{base_of, is_attached}
 use Rattle.oak_port.specs.Ports.{Idle, Shown}
-use Rattle.jcr_trans.specs.Answers.{Answer, Refused, ShowsVector}
+use Rattle.jcr_trans.specs.Answers.{Refused, ShowsVector}
 use Rattle.jcr_trans.specs.Texts.{answer_text, memory_text}
 use Rattle.jcr_trans.specs.declared.command.Command.{Command}
 use Rattle.jcr_trans.specs.declared.command.Command.TheVariants as command
-use Rattle.jcr_view.specs.Outcomes.{eval, is_viewed}
+use Rattle.jcr_view.specs.Outcomes.{is_viewed}
 use Rattle.jcr_view.specs.Reading.{refused}
 use Rattle.jcr_law.specs.declared.law.JcrLaw.{JcrLaw}
 use Rattle.jcr_law.specs.Built.{Allowed, Asked, Unsupported, asked}
 use Rattle.jcr_law.specs.Commits.{edit_due, refusal_of_due, refusal_of_plan, unwritten_answer}
 use Rattle.jcr_law.specs.Law.{MaySay, SaysBy, asked_by, barred, head, memory, no_support, no_text, queried, refreshed, refused_edit, unwritten, viewed}
-use Rattle.jcr_law.specs.Queries.{QueryAnswers}
 use Rattle.jcr_law.specs.Since.{before_turn}
 use Rattle.jcr_law.specs.Starting.{call_has_base}
 use Rattle.jcr_law.specs.State.{Call, accepted, command_at, is_ok_text}
@@ -39,16 +37,15 @@ use Rattle.jcr_call.specs.declared.coming.Coming.TheVariants as coming
 use Rattle.jcr_held.specs.Accepts.{TokensFit}
 use Rattle.jcr_held.specs.Comes.{ComesTo}
 use Rattle.jcr_held.specs.Holds.{Holds}
-use Rattle.jcr_held.specs.Sees.{Sees}
 use Rattle.jcr_held.specs.declared.held.Held.{Held}
 use Rattle.core_calls.proofs.Accepting.{answer_accepts}
 use Rattle.jcr_session.specs.declared.next.Due.TheVariants as due
 use Rattle.jcr_session.specs.declared.run.Phase.{Phase}
 use Rattle.jcr_session.specs.declared.run.Phase.TheVariants as phase
 use Rattle.jcr_session.specs.declared.run.SessionRun.{SessionRun}
-use Rattle.jcr_session.specs.Asked.{ComesNext, HasSeen, IsAsked, IsBarred, IsQueried, MayAnswer, MayForgo, MaySettle, Settles, has_drawn}
-use Rattle.jcr_session.specs.Standing.{IsBetween, IsIn, IsReading, IsRefreshed, Stands, StandsAt, due_by, due_for, due_to, is_allowed, reads_for}
-use Rattle.jcr_session.proofs.Nexts.{allowed_due, apart, barred_due, due_number, next_due, only_head, only_query, only_refresh, seen_viewed, unviewed_due}
+use Rattle.jcr_session.specs.Asked.{ComesNext, HasSeen, IsAsked, IsQueried, MayAnswer, MayForgo, MaySettle, Settles, has_drawn}
+use Rattle.jcr_session.specs.Standing.{IsBetween, IsIn, IsReading, IsRefreshed, Stands, StandsAt, due_for, due_to, is_allowed, reads_for}
+use Rattle.jcr_session.proofs.Nexts.{allowed_due, barred_due, due_number, next_due, only_head, only_query, only_refresh, seen_viewed, unviewed_due}
 use Rattle.jcr_session.proofs.Saying.{asked_like}
 
 -- ---- how a command is asked for

@@ -1,5 +1,5 @@
 -- A session logs in.
-use Rattle.std.proofs.Common.{◌≡◌, inl, ℕ, true, false, cond, ◌||◌, None, Some, Option, List, [], ◌∷◌, ◌++◌, is_some, refl, sym, ap, ◌∙◌, subst, arith}
+use Rattle.std.proofs.Common.{◌≡◌, inl, ℕ, true, false, cond, ◌||◌, Some, Option, List, [], ◌∷◌, ◌++◌, is_some, refl, sym, ap, ◌∙◌, subst, arith}
 use Rattle.std.specs.Prelude.{◌==◌}
 use Rattle.std.proofs.lemmas.Bool.Decides.{nat_tests}
 use mathlib.Core.Bool.{false≢true}

@@ -1,6 +1,5 @@
 -- A step of reading leaves its session where it stood, with what was found.
-use Rattle.std.proofs.Common.{◌≡◌, ℕ, Bool, true, false, Some, None, Option, List, is_some, nat_eq, Result, Ok, Err, IfOk, OnErr, refl, sym, ap, ◌∙◌, subst}
-use Rattle.std.specs.Prelude.{slice_get}
+use Rattle.std.proofs.Common.{◌≡◌, ℕ, Bool, true, false, Some, None, Option, List, nat_eq, Result, Ok, Err, IfOk, OnErr, refl, sym, ap, ◌∙◌, subst}
 use Rattle.std.specs.FinMap.{is_sorted}
 use mathlib.Core.Bool.{false≢true}
 use Rattle.jr_path.specs.Names.{name_cmp}
@@ -31,10 +30,10 @@ use Rattle.jcr_session.specs.declared.read.Loaded.{Loaded}
 use Rattle.jcr_session.specs.declared.read.Loaded.TheVariants as loaded
 use Rattle.jcr_session.specs.declared.run.SessionRun.{SessionRun}
 use Rattle.jcr_session.specs.Answered.{IsListAnswer, IsLoadAnswer, listed_by, loaded_by}
-use Rattle.jcr_session.specs.Standing.{HasLooked, HasRead, IsBeside, IsBetween, IsCalled, IsIn, IsReading, IsReadyNext, IsRefused, IsSame, Stands, may_read}
+use Rattle.jcr_session.specs.Standing.{HasLooked, HasRead, IsCalled, IsIn, IsReading, IsReadyNext, IsRefused, IsSame, Stands, may_read}
 use Rattle.jcr_session.proofs.Coming.{list_comes, load_comes}
 use Rattle.jcr_session.proofs.Lawful.{at_between}
-use Rattle.jcr_session.proofs.Looking.{looked_both, read_looked, read_refused, read_stands}
+use Rattle.jcr_session.proofs.Looking.{read_looked, read_refused}
 use Rattle.jcr_session.proofs.Nexts.{reads_between}
 use Rattle.jcr_session.proofs.Reading.{HasStepped, beside_itself, list_found, list_refused, list_went, node_found, node_refused, node_went}
 use Rattle.jcr_session.proofs.Waiting.{by_waits}

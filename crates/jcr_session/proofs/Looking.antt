@@ -1,18 +1,16 @@
 -- What a session reads before its turn leaves it where the history says.
-use Rattle.std.proofs.Common.{◌≡◌, ◌≤◌, ℕ, List, length, Bool, true, false, cond, ◌&&◌, Some, None, Option, [], is_some, Result, Ok, Err, IfOk, refl, sym, ap, ◌∙◌, subst}
+use Rattle.std.proofs.Common.{◌≡◌, ◌≤◌, ℕ, List, length, true, false, Some, None, Option, [], refl, sym, ap, ◌∙◌, subst}
 use Rattle.std.specs.Prelude.{slice_get}
 use mathlib.Core.Bool.{false≢true}
 use Rattle.jr_part.specs.declared.need.Need.{Need}
 use Rattle.jr_part.specs.declared.need.Need.TheVariants as need
 use Rattle.oak_machine.specs.Runs.{AreNodes}
 use Rattle.oak_machine.specs.Sessions.{next_index}
-use Rattle.oak_port.specs.Ports.{Idle, Shown, Starting, Work}
-use Rattle.oak_port.specs.declared.task.Task.TheVariants as task
+use Rattle.oak_port.specs.Ports.{Idle, Shown, Work}
 use Rattle.jcr_trans.specs.declared.command.Command.{Command}
 use Rattle.jcr_law.specs.declared.law.JcrLaw.{JcrLaw}
 use Rattle.jcr_law.specs.State.{Call}
 use Rattle.jcr_held.specs.Holds.{Holds}
-use Rattle.jcr_held.specs.declared.held.Held.{Held}
 use Rattle.jcr_session.specs.declared.limits.TheConstants.{MOST_COMMANDS}
 use Rattle.jcr_session.specs.declared.run.Phase.{Phase}
 use Rattle.jcr_session.specs.declared.run.Phase.TheVariants as phase
@@ -25,7 +23,7 @@ use Rattle.jcr_session.proofs.Lawful.{at_between, between_forgoes}
 use Rattle.jcr_session.proofs.Nexts.{reads_between, reads_due, reads_next, same_reads}
 use Rattle.jcr_session.proofs.Reading.{beside_both, beside_itself, nobody}
 use Rattle.jcr_session.proofs.Saying.{turned_like}
-use Rattle.jcr_session.proofs.Turning.{Link, free, has_turned_later, is_awaiting, kept, never_ends}
+use Rattle.jcr_session.proofs.Turning.{Link, free, has_turned_later, is_awaiting, never_ends}
 use Rattle.jcr_session.proofs.Waiting.{called_beside, fresh_beside, in_beside, next_beside, nodes_beside, shown_beside}
 
 -- ---- a session before a command for which it reads

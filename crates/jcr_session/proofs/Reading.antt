@@ -1,5 +1,5 @@
 -- What others added one after another, and what the steps of reading find.
-use Rattle.std.proofs.Common.{◌≡◌, ℕ, true, Some, None, Option, List, [], ◌∷◌, ◌++◌, refl, sym, ap, ◌∙◌, subst}
+use Rattle.std.proofs.Common.{◌≡◌, ℕ, Some, None, Option, List, [], ◌++◌, refl, sym, ap, ◌∙◌, subst}
 use Rattle.std.specs.Prelude.{IfSome}
 use Rattle.std.specs.Option.{option_map_or}
 use Rattle.jr_path.specs.declared.name.Name.{Name}

@@ -1,5 +1,5 @@
 -- What a session may answer where it stands, and where it stands once that is said.
-use Rattle.std.proofs.Common.{◌≡◌, ℕ, zero, suc, ◌+◌, ◌<◌, ◌≤◌, length, Bool, true, false, cond, ◌||◌, Some, None, Option, List, [], ◌∷◌, ◌++◌, is_some, refl, sym, ap, ◌∙◌, subst, arith}
+use Rattle.std.proofs.Common.{◌≡◌, ℕ, zero, suc, ◌+◌, ◌<◌, ◌≤◌, length, Bool, false, cond, ◌||◌, Some, None, Option, List, [], ◌∷◌, ◌++◌, is_some, refl, sym, ap, ◌∙◌, subst, arith}
 use Rattle.std.specs.Prelude.{◌==◌, slice_get}
 use mathlib.Core.Bool.{false≢true}
 use Rattle.jr_path.specs.declared.text.Text.{Text}
@@ -12,7 +12,7 @@ use Rattle.oak_machine.specs.Commits.{is_committed}
 use Rattle.oak_machine.specs.Laws.{after}
 use Rattle.oak_machine.specs.Runs.{AreNodes, IsRun}
 use Rattle.oak_machine.specs.Sessions.{drawn_among, drawn_since, is_drawing, next_index, since}
-use Rattle.oak_port.specs.Ports.{Answers, Awaiting, HasRoom, Idle, OthersAlone, Shown, Starting, Work}
+use Rattle.oak_port.specs.Ports.{Answers, HasRoom, Idle, OthersAlone, Shown, Work}
 use Rattle.jcr_trans.specs.declared.command.Command.{Command}
 use Rattle.core_heads.proofs.Passing.{among_same, next_more, next_stays}
 use Rattle.jcr_law.specs.declared.law.JcrLaw.{JcrLaw}

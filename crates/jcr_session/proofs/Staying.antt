@@ -1,16 +1,13 @@
 -- A session stands where it stood while others make their steps; and a new one stands before its login.
-use Rattle.std.proofs.Common.{◌≡◌, ℕ, ◌≤◌, true, false, Some, Option, List, [], ◌∷◌, ◌++◌, length, refl, sym, ap, ◌∙◌, subst, arith, None}
+use Rattle.std.proofs.Common.{◌≡◌, ℕ, ◌≤◌, true, false, Some, Option, List, [], ◌∷◌, ◌++◌, length, refl, sym, ap, ◌∙◌, subst, arith}
 use Rattle.std.specs.Prelude.{slice_get}
 use Rattle.std.specs.List.{list_any}
-use Rattle.jr_part.specs.declared.need.Need.{Need}
-use Rattle.jr_types.specs.declared.TypeDef.{TypeDef}
 use Rattle.oak_machine.specs.History.{Past}
 use Rattle.oak_machine.specs.Laws.{is_event_of}
 use Rattle.oak_machine.specs.Runs.{AreNodes, IsRun}
 use Rattle.oak_machine.specs.Sessions.{has_left, has_login, is_drawing, is_end_of_session, next_index, refreshed_since}
 use Rattle.oak_machine.proofs.Stays.{any_later}
 use Rattle.oak_port.specs.Ports.{Idle, Shown, OthersAlone, Work}
-use Rattle.oak_commit.specs.declared.outcome.CommitEnd.{CommitEnd}
 use Rattle.jcr_trans.specs.declared.command.Command.{Command}
 use Rattle.core_heads.proofs.Passing.{idle_stays, next_stays}
 use Rattle.jcr_law.specs.declared.law.JcrLaw.{JcrLaw}
@@ -22,7 +19,7 @@ use Rattle.jcr_session.specs.declared.limits.TheConstants.{MOST_COMMANDS}
 use Rattle.jcr_session.specs.declared.run.Phase.{Phase}
 use Rattle.jcr_session.specs.declared.run.Phase.TheVariants as phase
 use Rattle.jcr_session.specs.declared.run.SessionRun.{SessionRun}
-use Rattle.jcr_session.specs.Standing.{HasCommitted, IsBeside, IsCommitting, IsFor, IsIn, IsNew, IsOutside, IsPlace, IsReading, Stands, StandsAt}
+use Rattle.jcr_session.specs.Standing.{IsBeside, IsCommitting, IsFor, IsIn, IsNew, IsOutside, IsPlace, IsReading, Stands, StandsAt}
 use Rattle.jcr_session.proofs.Waiting.{all_beside, by_waits, called_beside, committed_beside, committing_beside, fresh_beside, in_beside, login_stays, next_beside, nodes_beside, shown_beside}
 
 module _ (law : JcrLaw) (p q : Shown) (run : SessionRun) (stands : Stands law p run) (beside : IsBeside law p q) (work : q.work ≡ p.work) (room : q.room ≡ p.room) where

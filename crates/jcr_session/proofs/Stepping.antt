@@ -1,11 +1,10 @@
 -- Each step of a commit leaves its session where the history says.
-use Rattle.std.proofs.Common.{◌≡◌, inl, inr, ℕ, true, false, cond, None, Some, Option, List, [], ◌∷◌, ◌++◌, refl, sym, ap, ◌∙◌, subst, arith}
-use Rattle.std.specs.Prelude.{◌==◌, IfSome, reverse, string_bytes, length}
+use Rattle.std.proofs.Common.{◌≡◌, inl, ℕ, true, false, cond, None, Some, Option, [], ◌∷◌, ◌++◌, refl, sym, ap, ◌∙◌, subst}
+use Rattle.std.specs.Prelude.{reverse}
 use mathlib.Core.Bool.{false≢true}
 use Rattle.jr_rev.specs.declared.revision.Revision.{Revision}
 use Rattle.jr_rev.specs.declared.vector.RevVec.{RevVec}
 use Rattle.jr_rev.specs.Vectors.{sees}
-use Rattle.jr_tree.specs.Trees.{IsTree}
 use Rattle.oak_machine.specs.declared.event.Event.TheVariants as event
 use Rattle.oak_machine.specs.declared.event.StepKind.{StepKind}
 use Rattle.oak_machine.specs.declared.event.StepKind.TheVariants as kind
@@ -16,7 +15,7 @@ use Rattle.oak_machine.specs.Runs.{AreNodes, IsRun}
 use Rattle.oak_machine.specs.Sessions.{base_of, has_left, has_login, is_attached, is_login_of, next_index, refreshed_since}
 use Rattle.oak_machine.specs.Steps.{is_appended_by}
 use Rattle.oak_machine.proofs.Stays.{any_later}
-use Rattle.oak_port.specs.Ports.{AreOfStep, Awaiting, Deciding, Grows, HasRoom, Idle, IsFinish, Learning, Makes, Publishing, Shown, Starting, Steps, Undoing, Work, Writing, is_by_due}
+use Rattle.oak_port.specs.Ports.{AreOfStep, Awaiting, Deciding, Grows, Idle, IsFinish, Learning, Makes, Publishing, Shown, Starting, Steps, Undoing, Work, Writing, is_by_due}
 use Rattle.oak_commit.specs.declared.outcome.CommitEnd.{CommitEnd}
 use Rattle.oak_commit.specs.declared.outcome.CommitEnd.TheVariants as commit
 use Rattle.oak_port.specs.declared.task.StepOut.{StepOut}
@@ -27,11 +26,9 @@ use Rattle.jcr_law.specs.declared.law.JcrLaw.{JcrLaw}
 use Rattle.jcr_law.specs.Lasting.{says_of, starts_of}
 use Rattle.jcr_law.specs.Since.{before_turn}
 use Rattle.jcr_law.specs.State.{Call, call_of}
-use Rattle.jcr_call.specs.Calls.{call_moved}
 use Rattle.jcr_call.specs.declared.coming.Accepted.{Accepted}
 use Rattle.core_calls.specs.Seeing.{SeesTrees}
 use Rattle.core_calls.proofs.Called.{call_stays, refresh_call}
-use Rattle.jcr_session.specs.declared.limits.TheConstants.{COMMIT_REPLY_BYTES}
 use Rattle.jcr_session.specs.declared.run.Phase.{Phase}
 use Rattle.jcr_session.specs.declared.run.Phase.TheVariants as phase
 use Rattle.jcr_session.specs.declared.run.SessionRun.{SessionRun}

@@ -1,5 +1,5 @@
 -- While others add events, a session stands where it stood.
-use Rattle.std.proofs.Common.{◌≡◌, ℕ, true, false, ◌||◌, cond, Some, refl, Option, List, [], ◌∷◌, ◌++◌, sym, ap, ◌∙◌, subst, None}
+use Rattle.std.proofs.Common.{◌≡◌, ℕ, true, false, ◌||◌, Some, Option, [], ◌∷◌, ◌++◌, sym, ap, ◌∙◌, subst}
 use Rattle.std.specs.Prelude.{◌==◌}
 use Rattle.std.specs.Option.{option_map_or}
 use Rattle.std.specs.List.{list_any}

@@ -1,6 +1,7 @@
 -- What a session finds before it answers its next command.
-use Rattle.std.specs.Prelude.{◌≡◌, ◌≢◌, ◌≤◌, ℕ, Bool, true, false, List, [], length, slice_get}
-use Rattle.std.specs.Prelude.{Option, None, Some, is_some, IsTrue, IsFalse, string_bytes, Result, Ok}
+use Rattle.std.specs.Prelude.{◌≡◌, ◌≢◌, ◌≤◌, ℕ, Bool, false, List, [], length, slice_get}
+use Rattle.std.specs.Prelude.{Option, None, Some, is_some, IsTrue, IsFalse, string_bytes}
+use Rattle.std.specs.Prelude.{Result, Ok}
 use Rattle.std.specs.Option.{option_map_or}
 use Rattle.std.specs.declared.alloc.AllocError.{AllocError}
 use Rattle.std.specs.declared.alloc.Global.{Global}
@@ -39,8 +40,8 @@ use Rattle.jcr_session.specs.declared.run.Phase.TheVariants as phase
 use Rattle.jcr_session.specs.declared.run.SessionRun.{SessionRun}
 use Rattle.jcr_session.specs.Standing.{IsCalled, IsClash, IsIn, IsPlace, due_for}
 
--- the session is in, with nothing being done for it and nothing of it in flight; its next command is
--- m, which is run with c
+-- the session is in, with nothing being done for it and nothing of it in flight; its next command
+-- is m, which is run with c
 pub record IsAsked (law : JcrLaw) (p : Shown) (run : SessionRun) (m : Command) (c : Call)
     : Type 0 where
   pub inside : IsIn law p

@@ -1,5 +1,5 @@
 -- Where a session stands between its turns, and what a turn makes of that.
-use Rattle.std.specs.Prelude.{◌≡◌, ◌⊎◌, ◌≤◌, ℕ, ◌++◌, Bool, true, false, cond, ◌&&◌, not, ⊤, List}
+use Rattle.std.specs.Prelude.{◌≡◌, ◌⊎◌, ◌≤◌, ℕ, Bool, true, false, cond, ◌&&◌, not, ⊤, List}
 use Rattle.std.specs.Prelude.{[], ◌∷◌, length, slice_get, reverse, Option, None, Some, is_some}
 use Rattle.std.specs.Prelude.{IfSome, IsTrue, IsFalse, string_bytes}
 use Rattle.std.specs.Option.{option_map_or}
@@ -32,10 +32,9 @@ use Rattle.jcr_trans.specs.declared.command.Command.TheVariants as command
 use Rattle.jcr_law.specs.declared.law.JcrLaw.{JcrLaw}
 use Rattle.jcr_law.specs.Built.{is_built, is_forbidden}
 use Rattle.jcr_law.specs.Lasting.{says_of, starts_of}
-use Rattle.jcr_law.specs.Law.{SaysBy}
 use Rattle.jcr_law.specs.Since.{before_turn, draw_since}
-use Rattle.jcr_law.specs.State.{Call, call_of, command_at, is_ok_text}
-use Rattle.jcr_call.specs.Calls.{call_after, call_moved}
+use Rattle.jcr_law.specs.State.{Call, call_of, command_at}
+use Rattle.jcr_call.specs.Calls.{call_moved}
 use Rattle.jcr_call.specs.Comings.{IsAcceptedOf}
 use Rattle.jcr_call.specs.declared.coming.Accepted.{Accepted}
 use Rattle.jcr_held.specs.Begins.{IsNewHeld}
@@ -114,8 +113,8 @@ pub record IsBeside (law : JcrLaw) (old new : Shown) : Type 0 where
   pub beside : new.beside ≡ old.beside
   pub alone : IfSome old.beside.seats (λ seats. others ≡ [])
 
--- the history is a run by the law, where sessions see trees; in it the session has logged in, hasn't
--- left, and neither is attached to a checkpoint nor was when its next command began
+-- the history is a run by the law, where sessions see trees; in it the session has logged in,
+-- hasn't left, and neither is attached to a checkpoint nor was when its next command began
 pub record IsIn (law : JcrLaw) (p : Shown) : Type 0 where
   pub nodes : AreNodes p.history.clusters p.history.sessions
   pub trees : SeesTrees law p.history.clusters p.history.sessions p.history.begin
@@ -320,9 +319,11 @@ is_step_event _ = false
 
 -- one event of a step, or the end of a revision with the head that moves then
 abbrev pub IsOneStep : Past → Type 0
-IsOneStep own = ((e : Event) × (own ≡ e ∷ []) × IsTrue (is_step_event e)) ⊎ ((k : ℕ) × (v : RevVec) × (r : Revision) × (own ≡ event.Head k v ∷ event.End r ∷ []))
+IsOneStep own = ((e : Event) × (own ≡ e ∷ []) × IsTrue (is_step_event e))
+    ⊎ ((k : ℕ) × (v : RevVec) × (r : Revision) × (own ≡ event.Head k v ∷ event.End r ∷ []))
 
--- the events that a turn adds, the newest first: those of one counted step of its kind, or the next reply, or none
+-- the events that a turn adds, the newest first: those of one counted step of its kind, or the next
+-- reply, or none
 abbrev pub Tells : History → ℕ → ℕ → Turn → Past → Type 0
 Tells h s i (turn.Stepped k) own = IsTrue (is_appended_by h s k (reverse own)) × IsOneStep own
 Tells h s i (turn.Said j) own = (j ≡ i) × (text : Text) × (own ≡ event.Said s i text ∷ [])
@@ -338,14 +339,16 @@ IsSeenFor h _ = ⊤
 -- a committed revision that ends is then waited for
 abbrev pub HasAwaited : Past → Past → Work → Type 0
 HasAwaited past (event.End r ∷ []) work = IsTrue (is_committed past r) → work ≡ Awaiting r
-HasAwaited past (event.Head k v ∷ event.End r ∷ []) work = IsTrue (is_committed past r) → work ≡ Awaiting r
+HasAwaited past (event.Head k v ∷ event.End r ∷ []) work =
+    IsTrue (is_committed past r) → work ≡ Awaiting r
 HasAwaited past _ work = ⊤
 
 abbrev pub is_writing : Work → Bool
 is_writing (Writing r) = true
 is_writing _ = false
 
--- a counted step of a session that has not left: a write, a mark or a last write where it is due, and none where nothing is being written
+-- a counted step of a session that has not left: a write, a mark or a last write where it is due,
+-- and none where nothing is being written
 pub record IsStep (h : History) (old new : Shown) (own : Past) : Type 0 where
   pub stays : IsFalse (has_left h.past old.session)
   pub seen : IsSeenFor h old.work
@@ -364,12 +367,16 @@ pub record IsUnseen (h : History) (s : ℕ) (r : Revision) : Type 0 where
 abbrev pub IsMade : History → Shown → Shown → SessionRun → Past → Turn → Type 0
 IsMade h old new now own (turn.Stepped k) = IsStep h old new own
 IsMade h old new now own (turn.Said j) = IsStep h old new own
-IsMade h old new now own (turn.Waiting q) = (r : Revision) × (old.work ≡ Awaiting r) × (new.work ≡ Awaiting r) × IsUnseen h old.session r × HoldsBack h.past q r
-IsMade h old new now own turn.Ended = (new ≡ old) × IsTrue (has_left h.past old.session) × (now.index ≡ length now.commands)
+IsMade h old new now own (turn.Waiting q) = (r : Revision) × (old.work ≡ Awaiting r)
+    × (new.work ≡ Awaiting r) × IsUnseen h old.session r × HoldsBack h.past q r
+IsMade h old new now own turn.Ended = (new ≡ old) × IsTrue (has_left h.past old.session)
+    × (now.index ≡ length now.commands)
 IsMade h old new now own turn.Memory = ⊥
 
--- events of others were added, none where nobody else steps the world, and then those of the turn; the session stands where the history says
-pub record IsTurned (law : JcrLaw) (old new : Shown) (run now : SessionRun) (answer : Turn) : Type 0 where
+-- events of others were added, none where nobody else steps the world, and then those of the turn;
+-- the session stands where the history says
+pub record IsTurned (law : JcrLaw) (old new : Shown) (run now : SessionRun) (answer : Turn)
+    : Type 0 where
   pub others : Past
   pub own : Past
   pub grows : Grows (starts_of law) (says_of law) old.session old.history new.history others own

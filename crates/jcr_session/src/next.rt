@@ -76,7 +76,7 @@ fn due_by(command: &Command) -> Due
     }
 }
 
-// Whether what is to be done may ask for nodes of the tree at the base, or for what is pending there.
+// Whether what is to be done may ask for nodes of the tree at the base, or for what is pending.
 fn reads_for(due: Due) -> bool
     ensures { result ≡ reads_for due }
 {

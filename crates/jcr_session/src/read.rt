@@ -45,7 +45,8 @@ impl SessionRun {
         ensures law { P.law port.new ≡ P.law port.old }
         ensures looked { HasLooked (P.law port.old) (P.shown port.old) (P.shown port.new)
             self.old self.new }
-        ensures read { IfOk result (HasRead (P.shown port.old) (P.shown port.new) self.old self.new) }
+        ensures read { IfOk result (HasRead (P.shown port.old) (P.shown port.new)
+            self.old self.new) }
         ensures err { OnErr result (IsTrue (may_read self.old)
             × IsRefused (P.shown port.new) self.new) }
     {
@@ -86,7 +87,8 @@ impl SessionRun {
         ensures law { P.law port.new ≡ P.law port.old }
         ensures looked { HasLooked (P.law port.old) (P.shown port.old) (P.shown port.new)
             self.old self.new }
-        ensures read { IfOk result (HasRead (P.shown port.old) (P.shown port.new) self.old self.new) }
+        ensures read { IfOk result (HasRead (P.shown port.old) (P.shown port.new)
+            self.old self.new) }
         ensures err { OnErr result (IsRefused (P.shown port.new) self.new) }
     {
         match self.next_load()? {

@@ -9,7 +9,8 @@ pub enum Turn {
     Stepped(StepKind),
     /// The reply of this index was said.
     Said(u32),
-    /// No step was made: the head doesn't see yet what the session committed, for an earlier revision in flight.
+    /// No step was made: the head doesn't see yet what the session committed, for an earlier
+    /// revision in flight.
     Waiting(Revision),
     /// No step was made: the session has ended.
     Ended,

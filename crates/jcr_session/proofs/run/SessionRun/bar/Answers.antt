@@ -4,7 +4,6 @@ use Rattle.jcr_session.proofs.Lawful.{bar_settles, unread_by}
 use Rattle.jcr_session.proofs.Nexts.{next_due}
 use Rattle.std.specs.Prelude.{string_bytes}
 use Rattle.jcr_session.specs.declared.next.Due.TheVariants as due
-use Rattle.jcr_session.specs.declared.next.Due.{Due}
 use Rattle.jcr_session.specs.Standing.{reads_for}
 use Rattle.jcr_session.proofs.run.SessionRun.bar.Goals as goal
 

@@ -2,7 +2,7 @@ use Rattle.std.proofs.Common.{Some, refl, subst, sym, ap, ◌∙◌}
 use Rattle.std.specs.Prelude.{Option, ℕ}
 use Rattle.jcr_session.specs.Standing.{IsPlace}
 use Rattle.jcr_session.specs.declared.run.Phase.TheVariants as phase
-use Rattle.jcr_session.proofs.Calling.{draws_law, forgo_behind, turned_idle, turned_law}
+use Rattle.jcr_session.proofs.Calling.{draws_law, forgo_behind, turned_idle}
 use Rattle.jcr_session.proofs.Drawing.{planned_draws, planned_forgoes}
 use Rattle.jcr_session.proofs.Lawful.{idle_by}
 use Rattle.jcr_session.proofs.Saying.{turned_like}

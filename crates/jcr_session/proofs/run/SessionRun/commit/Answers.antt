@@ -1,6 +1,5 @@
-use Rattle.std.proofs.Common.{refl, Ok, subst}
+use Rattle.std.proofs.Common.{refl, subst}
 use Rattle.jcr_call.specs.declared.coming.Coming.{Coming}
-use Rattle.jcr_call.specs.declared.coming.Coming.TheVariants as coming
 use Rattle.jcr_session.specs.Asked.{ComesNext}
 use Rattle.jcr_session.proofs.Lawful.{between_forgoes, commit_settles}
 use Rattle.jcr_session.proofs.Nexts.{next_due}

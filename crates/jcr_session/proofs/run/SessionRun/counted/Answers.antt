@@ -1,4 +1,4 @@
-use Rattle.std.proofs.Common.{subst, sym, ap, true}
+use Rattle.std.proofs.Common.{subst, sym, ap}
 use Rattle.jcr_session.specs.declared.run.Phase.{Phase}
 use Rattle.jcr_session.specs.Standing.{HasEnded, is_committing}
 use Rattle.jcr_session.proofs.Looking.{over_ends}

@@ -1,7 +1,6 @@
-use Rattle.std.proofs.Common.{Some, refl, subst, sym, ap, ◌∙◌, false}
-use Rattle.oak_port.specs.Ports.{HasRoom, Idle, Starting}
+use Rattle.std.proofs.Common.{subst, sym, ◌∙◌, false}
+use Rattle.oak_port.specs.Ports.{HasRoom, Idle}
 use Rattle.oak_port.specs.declared.task.StepOut.{StepOut}
-use Rattle.oak_port.specs.declared.task.StepOut.TheVariants as out
 use Rattle.oak_port.specs.declared.task.Task.TheVariants as task
 use Rattle.oak_port.specs.Ports.{Steps}
 use Rattle.jcr_law.specs.Lasting.{says_of, starts_of}

@@ -1,9 +1,7 @@
-use Rattle.std.proofs.Common.{Some, None, Option, refl, subst, sym, ap, ◌∙◌}
+use Rattle.std.proofs.Common.{Option, subst, sym, ◌∙◌}
 use Rattle.jr_part.specs.declared.need.Need.{Need}
-use Rattle.jcr_session.specs.declared.run.SessionRun.{SessionRun}
-use Rattle.jcr_session.specs.Standing.{HasLooked, HasRead, Stands, may_read}
-use Rattle.jcr_session.proofs.Loads.{err_with, read_like, read_made}
-use Rattle.jcr_session.proofs.Looking.{looked_nothing}
+use Rattle.jcr_session.specs.Standing.{HasLooked, HasRead, Stands}
+use Rattle.jcr_session.proofs.Loads.{err_with, read_made}
 use Rattle.jcr_session.proofs.run.SessionRun.read.Goals as goal
 
 -- what is being read is known to be so

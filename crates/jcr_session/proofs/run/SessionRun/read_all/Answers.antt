@@ -1,4 +1,4 @@
-use Rattle.std.proofs.Common.{sym, subst, refl, ◌∙◌}
+use Rattle.std.proofs.Common.{refl, ◌∙◌}
 use Rattle.jcr_session.proofs.Calling.{stands_law}
 use Rattle.jcr_session.proofs.Looking.{looked_both, looked_nothing, looked_reads}
 use Rattle.jcr_session.proofs.run.SessionRun.read_all.Goals as goal

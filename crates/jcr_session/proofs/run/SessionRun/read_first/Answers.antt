@@ -1,7 +1,3 @@
-use Rattle.std.proofs.Common.{Some, subst, sym, ap, ◌∙◌}
-use Rattle.jr_part.specs.declared.need.Need.{Need}
-use Rattle.oak_port.specs.Ports.{Starting}
-use Rattle.jcr_session.specs.Standing.{IsReading}
 use Rattle.jcr_session.proofs.Calling.{stands_law}
 use Rattle.jcr_session.proofs.Loads.{begun_looked, unbegun_looked}
 use Rattle.jcr_session.proofs.Looking.{looked_both}

@@ -1,7 +1,6 @@
-use Rattle.std.proofs.Common.{refl, sym, ap, ◌∙◌}
-use Rattle.jcr_session.proofs.Loads.{held_looked, read_like, read_none, read_made}
+use Rattle.std.proofs.Common.{refl}
+use Rattle.jcr_session.proofs.Loads.{held_looked, read_none, read_made}
 use Rattle.jcr_session.proofs.Looking.{looked_both}
-use Rattle.jcr_session.proofs.Nexts.{same_reads}
 use Rattle.jcr_session.proofs.run.SessionRun.read_next.Goals as goal
 
 pub returns-in_err-need-clause-looked : goal.returns-in_err-need-clause-looked

@@ -1,5 +1,5 @@
-use Rattle.std.proofs.Common.{refl, sym, ap, false, subst, ◌∙◌}
-use Rattle.oak_port.specs.Ports.{Idle, Starting, Steps}
+use Rattle.std.proofs.Common.{refl, sym, false, subst, ◌∙◌}
+use Rattle.oak_port.specs.Ports.{Idle, Steps}
 use Rattle.oak_port.specs.declared.task.StepOut.{StepOut}
 use Rattle.oak_port.specs.declared.task.Task.TheVariants as task
 use Rattle.jcr_law.specs.Lasting.{says_of, starts_of}

@@ -1,4 +1,4 @@
-use Rattle.std.proofs.Common.{subst, sym, refl, is_some, false}
+use Rattle.std.proofs.Common.{subst, refl, false}
 use Rattle.jcr_trans.specs.declared.command.Command.{Command}
 use Rattle.jcr_call.specs.Calls.{call_after}
 use Rattle.jcr_held.specs.Holds.{Holds}

@@ -1,10 +1,9 @@
-use Rattle.std.proofs.Common.{subst, sym, ap, is_some, refl, length, ◌∙◌}
+use Rattle.std.proofs.Common.{subst, sym, ap, is_some, length, ◌∙◌}
 use Rattle.jr_path.specs.declared.text.Text.{Text}
 use Rattle.oak_port.specs.Ports.{HasRoom}
 use Rattle.jcr_session.specs.Asked.{MayAnswer}
 use Rattle.jcr_session.proofs.Ending.{clash_answers, clash_memory}
 use Rattle.jcr_session.proofs.Lengths.{memory_reply_is, memory_room}
-use Rattle.jcr_session.proofs.Saying.{turned_like}
 use Rattle.jcr_session.proofs.run.SessionRun.say_clash.Goals as goal
 
 pub refuse-requires : goal.refuse-requires

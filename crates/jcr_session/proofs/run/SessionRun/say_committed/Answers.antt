@@ -1,12 +1,9 @@
-use Rattle.std.proofs.Common.{None, Some, Option, ℕ, length, refl, sym, ap, subst, ◌∙◌}
+use Rattle.std.proofs.Common.{Option, ℕ, length, sym, ap, subst, ◌∙◌}
 use Rattle.std.specs.Prelude.{IfSome, string_bytes}
 use Rattle.std.specs.declared.alloc.Global.{Global}
 use Rattle.std.specs.declared.string.String.{String}
 use Rattle.jr_path.specs.declared.text.Text.{Text}
-use Rattle.jr_rev.specs.declared.vector.Pin.{Pin}
 use Rattle.oak_port.specs.Ports.{HasRoom}
-use Rattle.jcr_trans.specs.Answers.{ShowsRevision}
-use Rattle.jcr_trans.specs.Texts.{answer_text}
 use Rattle.jcr_session.specs.Asked.{MayAnswer}
 use Rattle.jcr_session.proofs.Calling.{may_behind, turned_behind_place}
 use Rattle.jcr_session.proofs.Ending.{made_answers, made_base, made_holds, made_next, made_pin, told_as}

@@ -1,7 +1,6 @@
 use Rattle.std.proofs.Common.{subst, sym, refl}
 use Rattle.jcr_session.specs.declared.run.Phase.{Phase}
 use Rattle.jcr_session.specs.Standing.{Stands}
-use Rattle.jcr_session.specs.declared.run.Phase.TheVariants as phase
 use Rattle.jcr_session.proofs.Saying.{turned_like}
 use Rattle.jcr_session.proofs.run.SessionRun.say_end.Goals as goal
 

@@ -1,4 +1,3 @@
-use Rattle.std.proofs.Common.{refl}
 use Rattle.jcr_session.proofs.Calling.{made_err, made_if}
 use Rattle.jcr_session.proofs.Lawful.{refreshed_forgoes, refreshed_settles}
 use Rattle.std.specs.Prelude.{string_bytes}

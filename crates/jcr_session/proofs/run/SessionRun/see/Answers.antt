@@ -1,4 +1,4 @@
-use Rattle.std.proofs.Common.{refl, subst, sym, Ok, Err, Result}
+use Rattle.std.proofs.Common.{refl, subst, sym, Result}
 use Rattle.jr_path.specs.declared.text.Text.{Text}
 use Rattle.jcr_session.specs.Asked.{MayAnswer}
 use Rattle.std.specs.declared.alloc.AllocError.{AllocError}

@@ -1,4 +1,4 @@
-use Rattle.std.proofs.Common.{refl, sym, ap}
+use Rattle.std.proofs.Common.{refl, ap}
 use Rattle.jcr_session.proofs.Calling.{made_err, made_if}
 use Rattle.jcr_session.proofs.Lawful.{between_forgoes, head_settles, unread_by}
 use Rattle.jcr_session.proofs.Nexts.{next_due}

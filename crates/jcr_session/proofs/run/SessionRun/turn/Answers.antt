@@ -1,5 +1,4 @@
-use Rattle.std.proofs.Common.{false, sym, ap, ◌∙◌}
-use Rattle.jcr_session.specs.Standing.{is_saving}
+use Rattle.std.proofs.Common.{false, sym, ◌∙◌}
 use Rattle.jcr_session.proofs.Calling.{forgo_law, stands_law, turned_law}
 use Rattle.jcr_session.proofs.Lawful.{idle_by}
 use Rattle.jcr_session.proofs.Looking.{looked_reads, refused_forgoes, turned_behind}
