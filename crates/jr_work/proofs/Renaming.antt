@@ -52,38 +52,50 @@ module _ (law : JcrLaw) (p : Shown) (b : Beside) (d : Option StepKind) (run : Se
     holds = h.holds;
     still = h.still;
   }
-  at_renamed phase.Between (i, h) = (in_renamed i, record {
-    call = h.call;
-    is = h.is;
-    holds = h.holds;
-    fresh = h.fresh;
-    reads = h.reads;
-    due = h.due;
-  })
-  at_renamed (phase.Refreshed v) (i, h) = (in_renamed i, record {
-    idle = h.idle;
-    unread = h.unread;
-    refreshes = h.refreshes;
-    moved = h.moved;
-    fresh = h.fresh;
-    call = h.call;
-    is = h.is;
-    holds = h.holds;
-  })
-  at_renamed (phase.Committing a) (i, h) = (in_renamed i, record {
-    unread = h.unread;
-    call = h.call;
-    is = h.is;
-    for = for_renamed h.call a h.for;
-    commits = h.commits;
-  })
-  at_renamed (phase.Committed e a) (i, h) = (in_renamed i, record {
-    idle = h.idle;
-    unread = h.unread;
-    call = h.call;
-    for = for_renamed h.call a h.for;
-    ended = committed_renamed h.call e h.ended;
-  })
+  at_renamed phase.Between (i, h) = (
+    in_renamed i,
+    record {
+      call = h.call;
+      is = h.is;
+      holds = h.holds;
+      fresh = h.fresh;
+      reads = h.reads;
+      due = h.due;
+    },
+  )
+  at_renamed (phase.Refreshed v) (i, h) = (
+    in_renamed i,
+    record {
+      idle = h.idle;
+      unread = h.unread;
+      refreshes = h.refreshes;
+      moved = h.moved;
+      fresh = h.fresh;
+      call = h.call;
+      is = h.is;
+      holds = h.holds;
+    },
+  )
+  at_renamed (phase.Committing a) (i, h) = (
+    in_renamed i,
+    record {
+      unread = h.unread;
+      call = h.call;
+      is = h.is;
+      for = for_renamed h.call a h.for;
+      commits = h.commits;
+    },
+  )
+  at_renamed (phase.Committed e a) (i, h) = (
+    in_renamed i,
+    record {
+      idle = h.idle;
+      unread = h.unread;
+      call = h.call;
+      for = for_renamed h.call a h.for;
+      ended = committed_renamed h.call e h.ended;
+    },
+  )
   at_renamed phase.Over h = record { idle = h.idle; left = h.left; all = h.all }
 
   pub stands_renamed : Stands law p run → Stands law q run
