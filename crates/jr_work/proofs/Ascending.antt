@@ -1,5 +1,5 @@
 -- The sessions whose commits are in flight, in ascending order of their revisions: from what the seats keep, and from the draws.
-use Rattle.std.proofs.Common.{◌≡◌, ◌⊎◌, inl, inr, ℕ, zero, suc, ◌+◌, ◌<◌, ◌≤◌, length, get_or, map, Bool, true, false, cond, not, ◌||◌, ◌&&◌, Some, None, Option, List, [], ◌∷◌, is_some, refl, sym, ap, ◌∙◌, subst, arith}
+use Rattle.std.proofs.Common.{◌≡◌, ℕ, zero, suc, ◌+◌, ◌<◌, ◌≤◌, length, get_or, map, Bool, true, false, cond, not, ◌||◌, ◌&&◌, Some, None, Option, List, [], ◌∷◌, is_some, refl, sym, ap, ◌∙◌, subst, arith}
 use Rattle.std.specs.Prelude.{◌==◌, IfOk, Result, Ok, Err, slice_get}
 use Rattle.std.specs.Option.{option_map, option_map_or}
 use Rattle.std.specs.Map.{lookup, values_of}
@@ -16,21 +16,18 @@ use Rattle.jr_rev.specs.declared.revision.Revision.{Revision}
 use Rattle.jr_rev.specs.Revisions.{is_same, revision_cmp}
 use Rattle.jr_rev.proofs.Order.{revision_exact, revision_total, same_revision}
 use Rattle.oak_machine.specs.declared.event.Draw.{Draw}
-use Rattle.oak_machine.specs.declared.event.Event.{Event}
 use Rattle.oak_machine.specs.declared.event.Event.TheVariants as event
 use Rattle.oak_machine.specs.History.{History, Past}
 use Rattle.oak_machine.specs.Commits.{draw_of, is_ended, is_in_flight}
 use Rattle.oak_machine.specs.Laws.{Says, Starts, is_revision_of}
 use Rattle.oak_machine.specs.Runs.{AreNodes, IsRunOf}
-use Rattle.oak_machine.specs.Sessions.{is_drawing}
 use Rattle.core_read.proofs.Entries.{same_lists, sorted_insert}
-use Rattle.jr_script.specs.declared.script.Script.{Script}
 use Rattle.jcr_trans.specs.declared.command.SessionScript.{SessionScript}
 use Rattle.jr_work.specs.declared.flight.Flight.{Flight}
 use Rattle.jr_work.specs.declared.stage.Seat.{Seat}
 use Rattle.jr_work.specs.declared.stage.Stage.{Stage}
 use Rattle.jr_work.specs.Flights.{IsFlight, IsFlightOf}
-use Rattle.jr_work.specs.Places.{draws_in, flying_sessions, history_at}
+use Rattle.jr_work.specs.Places.{draws_in, flying_sessions}
 use Rattle.jr_work.specs.Stages.{IsStage, past_of}
 use Rattle.jr_work.proofs.Flying.{flying_by, halves, none_is_some, same_itself, some_is_some}
 use Rattle.jr_work.proofs.Seen.{cluster_of, known}

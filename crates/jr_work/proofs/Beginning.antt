@@ -1,26 +1,18 @@
 -- The sessions of a script before any turn.
-use Rattle.std.proofs.Common.{◌≡◌, ◌⊎◌, inl, inr, ℕ, zero, suc, ◌+◌, ◌<◌, ◌≤◌, length, map, Bool, true, false, Some, None, Option, List, [], ◌∷◌, ◌++◌, get_or, refl, sym, ap, ◌∙◌, subst, arith, length-append}
+use Rattle.std.proofs.Common.{◌≡◌, ◌⊎◌, inl, inr, ℕ, zero, suc, ◌+◌, ◌<◌, ◌≤◌, length, map, Some, None, Option, List, [], ◌∷◌, ◌++◌, get_or, refl, sym, ap, ◌∙◌, subst, arith, length-append}
 use Rattle.std.specs.Prelude.{slice_get}
-use Rattle.std.specs.Borrow.{GName}
-use Rattle.std.specs.Option.{option_map, option_map_or, unwrap_or}
+use Rattle.std.specs.Option.{option_map_or}
 use Rattle.std.specs.List.{All}
 use Rattle.std.proofs.lemmas.List.{length-map}
 use Rattle.std.proofs.lemmas.Option.{slice_get_read}
 use mathlib.Core.Bool.{false≢true}
-use Rattle.jr_rev.specs.declared.revision.Revision.{Revision}
-use Rattle.oak_machine.specs.declared.event.Draw.{Draw}
-use Rattle.oak_machine.specs.History.{Past}
 use Rattle.oak_machine.specs.Runs.{AreNodes}
 use Rattle.oak_port.specs.Ports.{Idle}
 use Rattle.oak_world.specs.Seen.{shown_at, shown_work}
-use Rattle.oak_world.specs.Worlds.{ActorState, WorldOf, idle, live, start_world, work_in}
-use Rattle.jcr_trans.specs.declared.command.Command.{Command}
+use Rattle.oak_world.specs.Worlds.{WorldOf, idle, live, start_world, work_in}
 use Rattle.jr_types.specs.declared.TypeDef.{TypeDef}
-use Rattle.jcr_law.specs.State.{command_at}
 use Rattle.jcr_law.specs.declared.law.JcrLaw.{JcrLaw}
-use Rattle.jcr_session.specs.declared.run.SessionRun.{SessionRun}
 use Rattle.core_calls.specs.Seeing.{SeesTrees}
-use Rattle.jcr_session.specs.Standing.{IsNew, Stands}
 use Rattle.jcr_session.proofs.Staying.{new_stands}
 use Rattle.jr_script.specs.Bounds.{IsWithin}
 use Rattle.jr_script.specs.declared.script.Script.{Script}
@@ -31,7 +23,7 @@ use Rattle.jr_work.specs.declared.stage.Stage.{Stage}
 use Rattle.jr_work.specs.Flights.{IsFlight}
 use Rattle.jr_work.specs.Places.{history_at}
 use Rattle.jr_work.specs.Seats.{AreNew, IsNewSeat}
-use Rattle.jr_work.specs.Stages.{IsBegun, IsSeated, IsStage, law_of, past_of}
+use Rattle.jr_work.specs.Stages.{IsBegun, IsSeated, law_of}
 use Rattle.jr_work.proofs.Flying.{none_is_some, some_is_some}
 use Rattle.jr_work.proofs.Turning.{commands_at}
 use Rattle.jr_work.proofs.Within.{session_within, within_nodes}

@@ -1,29 +1,21 @@
 -- How parts go on turn by turn, and how they are closed.
-use Rattle.std.proofs.Common.{◌≡◌, ◌⊎◌, inl, inr, ℕ, ◌+◌, ◌<◌, ◌≤◌, Bool, true, false, cond, not, ◌||◌, ◌&&◌, Some, None, Option, List, [], ◌∷◌, ◌++◌, refl, sym, ap, ◌∙◌, subst, arith}
-use Rattle.std.specs.Prelude.{◌==◌, nat_le, reverse, slice_get}
-use Rattle.std.specs.Option.{option_map_or}
-use Rattle.std.specs.List.{count_by, fold, list_any}
+use Rattle.std.proofs.Common.{◌≡◌, ◌⊎◌, inl, inr, ℕ, Bool, true, false, ◌||◌, Option, List, [], ◌∷◌, ◌++◌, refl, sym, ap, ◌∙◌, subst, arith}
+use Rattle.std.specs.Prelude.{◌==◌, reverse}
 use Rattle.std.proofs.lemmas.Bool.Decides.{nat_tests}
 use mathlib.Core.Bool.{false≢true}
-use Rattle.oak_machine.specs.declared.event.Event.{Event}
-use Rattle.oak_machine.specs.declared.event.Event.TheVariants as event
 use Rattle.oak_machine.specs.declared.event.StepKind.{StepKind}
 use Rattle.oak_machine.specs.History.{Past}
-use Rattle.oak_machine.specs.Sessions.{is_drawing, is_reply_of}
 use Rattle.oak_machine.specs.Steps.{is_one_step}
 use Rattle.jcr_session.specs.declared.turn.Turn.{Turn}
 use Rattle.jcr_session.specs.declared.turn.Turn.TheVariants as turn
 use Rattle.jr_script.specs.declared.script.Script.{Script}
-use Rattle.jr_script.specs.declared.script.Entry.{Entry}
 use Rattle.jr_script.specs.declared.script.Entry.TheVariants as entry
-use Rattle.jr_work.specs.declared.flight.Flight.{Flight}
-use Rattle.jr_work.specs.declared.stage.Seat.{Seat}
 use Rattle.jr_work.specs.declared.stage.Stage.{Stage}
-use Rattle.jr_work.specs.Places.{has_written, history_at, is_at_last, is_over, is_resting, is_waiting}
-use Rattle.jr_work.specs.Parts.{Part, Rule, by_entry, events_of, has_just_said, is_done, is_part, is_turn, session_of, to_end, to_reply}
+use Rattle.jr_work.specs.Places.{history_at, is_at_last, is_over, is_resting, is_waiting}
+use Rattle.jr_work.specs.Parts.{Rule, by_entry, events_of, is_done, is_part, is_turn, session_of}
 use Rattle.jr_work.specs.SoFar.{IsCutSoFar, IsDouble, IsQuiet, IsSingle, IsStepAt, IsUnderWay, is_last_due}
-use Rattle.jr_work.specs.Stages.{Closes, Comes, HasCome, IsSeated, IsStage, IsUnder, due_at, has_come, has_come_by, past_of}
-use Rattle.jr_work.proofs.SoFar.{cut_closes, cut_due, cut_steps, part_at_last, part_closes, part_draws, part_replies, part_rests, part_says, part_turns, part_writes, way_begins, way_steps}
+use Rattle.jr_work.specs.Stages.{Closes, Comes, HasCome, IsStage, IsUnder, due_at, past_of}
+use Rattle.jr_work.proofs.SoFar.{cut_closes, cut_due, cut_steps, part_turns, way_begins, way_steps}
 
 nothing_behind : {X : Type 0} (a : List X) → [] ++ a ≡ a
 nothing_behind a = refl

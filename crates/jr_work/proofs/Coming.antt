@@ -1,6 +1,6 @@
 -- What a turn of a session makes of the stage.
-use Rattle.std.proofs.Common.{◌≡◌, ◌⊎◌, inl, inr, ℕ, zero, suc, ◌+◌, length, map, Bool, true, false, cond, not, ◌||◌, ◌&&◌, Some, None, Option, List, [], ◌∷◌, ◌++◌, is_some, refl, sym, ap, ◌∙◌, subst, arith}
-use Rattle.std.specs.Prelude.{◌==◌, IfSome, reverse, slice_get, slice_set}
+use Rattle.std.proofs.Common.{◌≡◌, ◌⊎◌, inl, inr, ℕ, zero, suc, length, map, Bool, true, false, cond, not, ◌||◌, ◌&&◌, Some, None, Option, List, [], ◌∷◌, ◌++◌, refl, sym, ap, ◌∙◌, subst, arith}
+use Rattle.std.specs.Prelude.{◌==◌, reverse, slice_get, slice_set}
 use Rattle.std.specs.Borrow.{GName}
 use Rattle.std.specs.Option.{option_map, option_map_or, unwrap_or}
 use Rattle.std.specs.List.{list_any}
@@ -10,7 +10,6 @@ use mathlib.Core.Bool.{false≢true}
 use Rattle.jr_rev.specs.declared.revision.Revision.{Revision}
 use Rattle.jr_rev.specs.declared.vector.RevVec.{RevVec}
 use Rattle.jr_rev.specs.Vectors.{sees}
-use Rattle.oak_machine.specs.declared.event.Draw.{Draw}
 use Rattle.oak_machine.specs.declared.event.Event.{Event}
 use Rattle.oak_machine.specs.declared.event.Event.TheVariants as event
 use Rattle.oak_machine.specs.declared.event.StepKind.{StepKind}
@@ -24,28 +23,26 @@ use Rattle.oak_machine.specs.Sessions.{has_left, is_drawing, is_end_of_session, 
 use Rattle.oak_machine.specs.Steps.{is_appended_by, is_kind, is_moving, is_one_step, kind_number, kinds_for, leaves_went}
 use Rattle.oak_machine.proofs.Stays.{any_later}
 use Rattle.core_heads.proofs.Passing.{next_stays}
-use Rattle.oak_port.specs.Ports.{Awaiting, Beside, Deciding, Idle, Seat as PortSeat, Shown, Starting, Undoing, Work, Writing, is_by_due, is_due, Publishing, Learning}
+use Rattle.oak_port.specs.Ports.{Awaiting, Beside, Deciding, Idle, Seat as PortSeat, Shown, Starting, Undoing, Work, Writing, is_by_due, Publishing, Learning}
 use Rattle.oak_world.specs.Seen.{no_seat, seat_of, shown_at, shown_work}
 use Rattle.oak_world.specs.Worlds.{ActorState, WorldOf, actor_in, idle, live, work_in}
 use Rattle.jcr_law.specs.declared.law.JcrLaw.{JcrLaw}
 use Rattle.jcr_session.specs.declared.run.SessionRun.{SessionRun}
 use Rattle.jcr_session.specs.declared.turn.Turn.{Turn}
-use Rattle.jcr_session.specs.declared.turn.Turn.TheVariants as turn
 use Rattle.jcr_law.specs.Lasting.{says_of, starts_of}
-use Rattle.jcr_session.specs.Standing.{HasAwaited, IsBeside, IsMade, IsOneStep, IsSeenFor, IsStep, IsTurned, IsUnseen, Stands, Tells, is_step_event}
+use Rattle.jcr_session.specs.Standing.{HasAwaited, IsBeside, IsMade, IsOneStep, IsSeenFor, IsStep, IsTurned, Stands, Tells, is_step_event}
 use Rattle.jcr_session.proofs.Staying.{stands_beside}
 use Rattle.jr_script.specs.declared.script.Script.{Script}
 use Rattle.jcr_trans.specs.declared.command.SessionScript.{SessionScript}
-use Rattle.jr_work.specs.declared.flight.Flight.{Flight}
 use Rattle.jr_work.specs.declared.stage.Seat.{Seat}
 use Rattle.jr_work.specs.Awaited.{IsSeenBut}
-use Rattle.jr_work.specs.Flights.{IsFlight, flight_with}
+use Rattle.jr_work.specs.Flights.{IsFlight}
 use Rattle.jr_work.specs.Places.{commands_of, history_at, is_commit, is_on, is_over, is_own, is_resting, is_unseen, is_waiting, is_write_or_mark}
 use Rattle.jr_work.specs.SoFar.{IsDouble, IsSingle, IsStepAt, is_last_due}
-use Rattle.jr_work.specs.Stages.{Comes, IsSeated, awaited, due_at, flight_behind, law_of}
+use Rattle.jr_work.specs.Stages.{IsSeated, awaited, due_at, flight_behind, law_of}
 use Rattle.jr_work.proofs.Flying.{flight_head, flight_other, flight_own, halves, none_is_some, some_is_some}
 use Rattle.jr_work.proofs.Renaming.{stands_renamed}
-use Rattle.jr_work.proofs.Seen.{cluster_of, moving_sees, node_of, not_waiting, waits_for, was_unseen}
+use Rattle.jr_work.proofs.Seen.{cluster_of, moving_sees, node_of, not_waiting, was_unseen}
 use Rattle.jr_work.proofs.SoFar.{one_session}
 
 -- ---- seats

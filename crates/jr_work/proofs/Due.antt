@@ -4,7 +4,7 @@ use mathlib.Core.Bool.{false≢true}
 use Rattle.jr_rev.specs.declared.revision.Revision.{Revision}
 use Rattle.oak_commit.specs.declared.outcome.CommitEnd.{CommitEnd}
 use Rattle.oak_commit.specs.declared.outcome.CommitEnd.TheVariants as end
-use Rattle.oak_port.specs.Ports.{Awaiting, Deciding, Idle, Starting, Undoing, Work as Shows, Writing}
+use Rattle.oak_port.specs.Ports.{Deciding, Undoing, Work as Shows, Writing}
 use Rattle.oak_world.specs.declared.actor.Work.{Work}
 use Rattle.oak_world.specs.declared.actor.Work.TheVariants as work
 use Rattle.oak_world.specs.declared.upkeep.Upkeep.{Upkeep}

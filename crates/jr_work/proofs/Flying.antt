@@ -1,5 +1,5 @@
 -- What is kept of a commit in flight is what the history tells, event after event.
-use Rattle.std.proofs.Common.{◌≡◌, ℕ, zero, suc, ◌+◌, length, Bool, true, false, cond, not, ◌||◌, ◌&&◌, Some, None, Option, List, [], ◌∷◌, ◌++◌, is_some, refl, sym, ap, ◌∙◌, subst, arith}
+use Rattle.std.proofs.Common.{◌≡◌, ℕ, ◌+◌, length, Bool, true, false, cond, not, ◌||◌, ◌&&◌, Some, None, Option, List, [], ◌∷◌, is_some, refl, sym, ap, ◌∙◌, subst, arith}
 use Rattle.std.specs.Prelude.{◌==◌, slice_get, nat_le}
 use Rattle.std.specs.Option.{option_map_or, unwrap_or}
 use Rattle.std.specs.List.{count_by, filter, fold, list_any}
@@ -15,13 +15,13 @@ use Rattle.oak_machine.specs.declared.event.Event.TheVariants as event
 use Rattle.oak_machine.specs.declared.event.StepKind.TheVariants as kind
 use Rattle.oak_machine.specs.History.{Past}
 use Rattle.oak_machine.specs.Commits.{draw_of, is_committed, is_drawn, is_end_of, is_ended, is_in_flight, is_refused}
-use Rattle.oak_machine.specs.Laws.{Says, Starts, is_event_of, is_revision_of}
+use Rattle.oak_machine.specs.Laws.{Says, Starts, is_revision_of}
 use Rattle.oak_machine.specs.Runs.{AreNodes, IsRunOf}
 use Rattle.oak_machine.specs.Sessions.{is_drawing, is_drawing_among}
 use Rattle.oak_machine.proofs.Induction.{first_of_both, neither}
 use Rattle.core_heads.proofs.Runs.{fresh_run}
 use Rattle.jr_work.specs.declared.flight.Flight.{Flight}
-use Rattle.jr_work.specs.Places.{draws_in, draws_of, is_at_last, is_own, is_undo_of, is_write_of, is_written_out, has_written, since_draw}
+use Rattle.jr_work.specs.Places.{draws_of, is_at_last, is_own, is_undo_of, is_write_of, is_written_out, has_written, since_draw}
 use Rattle.jr_work.specs.Flights.{IsFlight, IsFlightOf, decided, flight_with, is_undecided, written_more}
 
 pub same_itself : (r : Revision) → is_same r r ≡ true

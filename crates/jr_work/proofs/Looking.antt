@@ -1,9 +1,8 @@
 -- A reading step leaves the stage where it was, but for what its session has read.
-use Rattle.std.proofs.Common.{◌≡◌, ◌⊎◌, inl, inr, ℕ, ◌<◌, length, get_or, map, Bool, true, false, cond, ◌&&◌, Some, None, Option, List, [], ◌∷◌, ◌++◌, refl, sym, ap, ◌∙◌, subst, arith}
+use Rattle.std.proofs.Common.{◌≡◌, ℕ, length, Bool, true, false, Some, None, Option, List, [], ◌∷◌, refl, sym, ap, ◌∙◌, subst, arith}
 use Rattle.std.specs.Prelude.{◌==◌, slice_get, slice_set}
 use Rattle.std.specs.Borrow.{GName}
 use Rattle.std.proofs.lemmas.Bool.Decides.{nat_tests}
-use Rattle.std.proofs.lemmas.Option.{slice_get_read}
 use mathlib.Core.Bool.{false≢true}
 use Rattle.jr_rev.specs.declared.revision.Revision.{Revision}
 use Rattle.jr_part.specs.declared.need.Need.{Need}
@@ -11,12 +10,11 @@ use Rattle.jr_part.specs.declared.need.Need.TheVariants as need
 use Rattle.oak_machine.specs.declared.event.StepKind.{StepKind}
 use Rattle.oak_machine.specs.History.{History, Past}
 use Rattle.oak_machine.specs.Laws.{after}
-use Rattle.oak_port.specs.Ports.{Awaiting, Beside, Deciding, Idle, Seat as PortSeat, Shown, Starting, Undoing, Work, Writing}
+use Rattle.oak_port.specs.Ports.{Beside, Idle, Seat as PortSeat, Shown, Starting, Work}
 use Rattle.oak_port.specs.declared.task.Task.{Task}
 use Rattle.oak_port.specs.declared.task.Task.TheVariants as task
 use Rattle.oak_world.specs.Seen.{seat_of, shown_at, shown_work}
-use Rattle.oak_world.specs.Steps.{kind_due}
-use Rattle.oak_world.specs.Worlds.{ActorState, WorldOf, actor_in, live, work_in}
+use Rattle.oak_world.specs.Worlds.{WorldOf, actor_in, live, work_in}
 use Rattle.jcr_law.specs.declared.law.JcrLaw.{JcrLaw}
 use Rattle.jcr_session.specs.declared.run.Phase.{Phase}
 use Rattle.jcr_session.specs.declared.run.Phase.TheVariants as phase
@@ -31,7 +29,7 @@ use Rattle.jr_work.specs.declared.stage.Stage.{Stage}
 use Rattle.jr_work.specs.Awaited.{IsSeenBut}
 use Rattle.jr_work.specs.Flights.{IsFlight}
 use Rattle.jr_work.specs.Places.{history_at, is_over}
-use Rattle.jr_work.specs.Parts.{Part, by_entry, events_of}
+use Rattle.jr_work.specs.Parts.{by_entry}
 use Rattle.jr_work.specs.SoFar.{IsCutSoFar, is_last_due}
 use Rattle.jr_work.specs.Stages.{Closes, HasRead, IsSeated, IsStage, awaited, due_at, law_of, past_of}
 use Rattle.jr_work.proofs.Coming.{other_seats, set_other}

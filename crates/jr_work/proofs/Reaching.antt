@@ -1,5 +1,5 @@
 -- Turns until a commit has come to where an entry waits for it.
-use Rattle.std.proofs.Common.{◌≡◌, ◌⊎◌, inl, inr, ℕ, zero, suc, ◌<◌, length, get_or, map, Bool, true, false, not, ◌||◌, ◌&&◌, Some, None, Option, List, [], ◌∷◌, ◌++◌, refl, sym, ap, ◌∙◌, subst, arith, is_some}
+use Rattle.std.proofs.Common.{◌≡◌, inl, inr, ℕ, zero, suc, ◌<◌, length, get_or, Bool, true, false, ◌||◌, ◌&&◌, Some, None, Option, List, [], ◌∷◌, ◌++◌, refl, sym, ap, ◌∙◌, subst, arith, is_some}
 use Rattle.std.specs.Prelude.{nat_le, slice_get}
 use Rattle.std.specs.Option.{option_map_or}
 use Rattle.std.specs.List.{count_by}
@@ -20,7 +20,7 @@ use Rattle.jr_work.specs.declared.flight.Flight.{Flight}
 use Rattle.jr_work.specs.declared.stage.Seat.{Seat}
 use Rattle.jr_work.specs.declared.stage.Stage.{Stage}
 use Rattle.jr_work.specs.Flights.{IsFlight}
-use Rattle.jr_work.specs.Places.{has_written, is_at_last, is_over, is_resting, is_waiting, is_write_of, since_draw}
+use Rattle.jr_work.specs.Places.{has_written, is_at_last, is_resting, is_write_of, since_draw}
 use Rattle.jr_work.specs.Parts.{Rule, by_entry, has_just_said, is_entry_done}
 use Rattle.jr_work.specs.SoFar.{IsStepAt, is_last_due}
 use Rattle.jr_work.specs.Stages.{Closes, HasCome, IsOfCommit, IsStage, IsUnder, due_at, has_come, has_come_by, past_of}

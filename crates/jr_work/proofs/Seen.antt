@@ -1,8 +1,8 @@
 -- What the head of a session's cluster node sees of its commits, event after event.
-use Rattle.std.proofs.Common.{◌≡◌, ◌⊎◌, inl, inr, ℕ, ◌+◌, ◌≤◌, length, Bool, true, false, cond, not, ◌||◌, ◌&&◌, Some, None, Option, List, [], ◌∷◌, ◌++◌, is_some, refl, sym, ap, ◌∙◌, subst, arith}
-use Rattle.std.specs.Prelude.{◌==◌, map, slice_get}
-use Rattle.std.specs.Option.{option_map_or, unwrap_or}
-use Rattle.std.specs.List.{filter, list_all, list_any}
+use Rattle.std.proofs.Common.{◌≡◌, ◌⊎◌, inl, inr, ℕ, Bool, true, false, cond, not, ◌||◌, ◌&&◌, Some, None, Option, List, [], ◌∷◌, is_some, refl, sym, ap, ◌∙◌, subst, arith}
+use Rattle.std.specs.Prelude.{◌==◌, slice_get}
+use Rattle.std.specs.Option.{option_map_or}
+use Rattle.std.specs.List.{list_all, list_any}
 use Rattle.std.specs.declared.cmp.Ordering.{Ordering}
 use Rattle.std.specs.declared.cmp.Ordering.TheVariants.{Less, Equal, Greater}
 use Rattle.std.specs.Ordering.{is_eq, is_le, is_lt, ordering_reverse}
@@ -14,21 +14,18 @@ use Rattle.jr_rev.proofs.Order.{revision_total, same_revision}
 use Rattle.oak_machine.specs.declared.event.Draw.{Draw}
 use Rattle.oak_machine.specs.declared.event.Event.{Event}
 use Rattle.oak_machine.specs.declared.event.Event.TheVariants as event
-use Rattle.oak_machine.specs.History.{History, Past}
+use Rattle.oak_machine.specs.History.{Past}
 use Rattle.oak_machine.specs.Commits.{draw_of, is_committed, is_drawn, is_ended, is_in_flight}
-use Rattle.oak_machine.specs.Heads.{head_of, last_in, local}
+use Rattle.oak_machine.specs.Heads.{head_of, local}
 use Rattle.oak_machine.specs.Laws.{Says, Starts, is_revision_of}
 use Rattle.oak_machine.specs.Runs.{AreNodes, IsNode, IsRunOf}
-use Rattle.oak_machine.specs.Steps.{is_moving}
-use Rattle.oak_machine.proofs.Induction.{first_of_both, neither}
+use Rattle.oak_machine.proofs.Induction.{first_of_both}
 use Rattle.core_heads.proofs.Below.{below_seen}
 use Rattle.core_heads.proofs.Locals.{IsSettledDraw, head_own, local_each, local_grows, local_is, local_first}
-use Rattle.core_heads.proofs.Orders.{before_not, not_at_most}
 use Rattle.core_heads.proofs.Runs.{fresh_run, grow_run, sound_run}
 use Rattle.jr_script.specs.declared.script.Script.{Script}
-use Rattle.jr_work.specs.Awaited.{IsSeenBut}
-use Rattle.jr_work.specs.Places.{draws_in, draws_of, history_at, is_unseen, is_waiting}
-use Rattle.jr_work.proofs.Flying.{halves, none_is_some, same_itself, some_is_some}
+use Rattle.jr_work.specs.Places.{draws_of, is_unseen, is_waiting}
+use Rattle.jr_work.proofs.Flying.{halves, none_is_some, same_itself}
 
 or_later : (a b : Bool) → b ≡ true → (a || b) ≡ true
 or_later true b h = refl

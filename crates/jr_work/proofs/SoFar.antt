@@ -1,8 +1,8 @@
 -- How a cut grows by steps, and how parts end.
-use Rattle.std.proofs.Common.{◌≡◌, ◌⊎◌, inl, inr, ℕ, ◌+◌, Bool, true, false, cond, not, ◌||◌, ◌&&◌, Some, None, Option, List, [], ◌∷◌, ◌++◌, refl, sym, ap, ◌∙◌, subst, arith}
+use Rattle.std.proofs.Common.{◌≡◌, ◌⊎◌, inl, inr, ℕ, Bool, true, false, cond, not, ◌||◌, ◌&&◌, Some, None, Option, List, [], ◌∷◌, ◌++◌, refl, sym, ap, ◌∙◌, subst, arith}
 use Rattle.std.specs.Prelude.{◌==◌, nat_le, reverse}
 use Rattle.std.specs.Option.{option_map_or}
-use Rattle.std.specs.List.{count_by, fold, list_any}
+use Rattle.std.specs.List.{count_by}
 use Rattle.std.proofs.lemmas.Bool.Decides.{nat_tests}
 use Rattle.std.proofs.lemmas.List.{reverse-append, reverse-reverse}
 use mathlib.Core.Bool.{false≢true}
@@ -11,20 +11,18 @@ use Rattle.oak_machine.specs.declared.event.Draw.{Draw}
 use Rattle.oak_machine.specs.declared.event.Event.{Event}
 use Rattle.oak_machine.specs.declared.event.Event.TheVariants as event
 use Rattle.oak_machine.specs.declared.event.StepKind.{StepKind}
-use Rattle.oak_machine.specs.declared.event.StepKind.TheVariants as kind
 use Rattle.oak_machine.specs.History.{Past}
 use Rattle.oak_machine.specs.Commits.{draw_of}
-use Rattle.oak_machine.specs.Laws.{is_event_of, is_revision_of}
+use Rattle.oak_machine.specs.Laws.{is_revision_of}
 use Rattle.oak_machine.specs.Sessions.{is_drawing, is_reply_of}
 use Rattle.jr_script.specs.declared.script.Script.{Script}
-use Rattle.jr_script.specs.declared.script.Entry.{Entry}
 use Rattle.jr_script.specs.declared.script.Entry.TheVariants as entry
 use Rattle.jr_work.specs.Places.{is_at_last, is_commit, is_next, is_of_task, is_of_turn, is_on, is_own, is_over, is_resting, is_waiting, is_write_or_mark, next_of}
-use Rattle.jr_work.specs.Parts.{Rule, by_entry, to_reply, to_end, Part, session_of, has_just_said, is_done, is_last_and, is_part, is_turn, may_end, must_end, goes_on, events_of, IsCut}
-use Rattle.jr_work.specs.Growing.{StayParts, StaysPart, is_quiet, knows_next}
+use Rattle.jr_work.specs.Parts.{Rule, by_entry, to_reply, to_end, Part, session_of, is_done, is_part, is_turn, may_end, must_end, events_of, IsCut}
+use Rattle.jr_work.specs.Growing.{StayParts, StaysPart, is_quiet}
 use Rattle.jr_work.specs.SoFar.{AreQuiet, IsCutSoFar, IsDouble, IsQuiet, IsQuietNext, IsSingle, IsStepAt, IsUnderWay, is_last_due}
 use Rattle.jr_work.proofs.Flying.{idle_not_at_last, none_is_some}
-use Rattle.jr_work.proofs.Growing.{cut_grows, next_stays, part_grows, way_stays}
+use Rattle.jr_work.proofs.Growing.{cut_grows, next_stays, part_grows}
 
 -- ---- lists
 

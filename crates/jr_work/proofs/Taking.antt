@@ -1,14 +1,13 @@
 -- A turn of a session in its world, by its port, and of a stage.
-use Rattle.std.proofs.Common.{◌≡◌, ℕ, ◌<◌, length, Bool, true, false, Some, None, Option, Result, Ok, Err, List, [], ◌∷◌, is_some, refl, sym, ap, ◌∙◌, subst, arith, zero, suc}
+use Rattle.std.proofs.Common.{◌≡◌, ℕ, ◌<◌, length, true, Some, Result, Ok, Err, List, [], ◌∷◌, is_some, refl, sym, ap, ◌∙◌, subst, arith, zero, suc}
 use Rattle.std.specs.Prelude.{slice_get, slice_set}
 use Rattle.std.specs.Borrow.{GName}
 use Rattle.std.specs.Option.{option_map}
 use Rattle.std.specs.Result.{OnOk}
 use Rattle.std.proofs.lemmas.Option.{slice_get-map}
-use mathlib.Core.Bool.{false≢true}
 use Rattle.jr_rev.specs.declared.revision.Revision.{Revision}
 use Rattle.oak_machine.specs.History.{History, Past}
-use Rattle.oak_port.specs.Ports.{Beside, Shown}
+use Rattle.oak_port.specs.Ports.{Beside}
 use Rattle.oak_world.specs.Seen.{shown_at}
 use Rattle.oak_world.specs.Worlds.{WorldOf}
 use Rattle.jcr_law.specs.declared.law.JcrLaw.{JcrLaw}
@@ -18,12 +17,10 @@ use Rattle.jcr_session.specs.declared.turn.Turn.TheVariants as turn
 use Rattle.jcr_session.specs.Standing.{HasLooked, HasTurned, IsTurned, Stands}
 use Rattle.jr_script.specs.declared.script.Script.{Script}
 use Rattle.jcr_trans.specs.declared.command.SessionScript.{SessionScript}
-use Rattle.jr_work.specs.declared.flight.Flight.{Flight}
 use Rattle.jr_work.specs.declared.stage.Seat.{Seat}
 use Rattle.jr_work.specs.declared.stage.Stage.{Stage}
-use Rattle.jr_work.specs.Places.{history_at}
 use Rattle.jr_work.specs.Parts.{Rule}
-use Rattle.jr_work.specs.Stages.{Closes, HasCome, HasRead, HasTurnedIn, IsSeated, IsStage, IsUnder, flight_behind, flight_by, past_of}
+use Rattle.jr_work.specs.Stages.{HasCome, HasRead, HasTurnedIn, IsStage, IsUnder, flight_by, past_of}
 use Rattle.jr_work.proofs.Counting.{IsEnding, end_said, end_steps}
 use Rattle.jr_work.proofs.Looking.{read_through}
 use Rattle.jr_work.proofs.Turning.{has_come}

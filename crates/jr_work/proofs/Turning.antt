@@ -1,30 +1,26 @@
 -- A turn brings the stage on.
-use Rattle.std.proofs.Common.{◌≡◌, ◌⊎◌, inl, inr, ℕ, zero, suc, length, map, Bool, true, false, cond, not, ◌||◌, ◌&&◌, Some, None, Option, List, [], ◌∷◌, ◌++◌, refl, sym, ap, ◌∙◌, subst, arith}
+use Rattle.std.proofs.Common.{◌≡◌, ◌⊎◌, inl, inr, ℕ, zero, suc, length, map, Bool, true, false, not, ◌||◌, ◌&&◌, Some, None, Option, List, [], ◌∷◌, ◌++◌, refl, sym, ap, ◌∙◌, subst, arith}
 use Rattle.std.specs.Prelude.{◌==◌, slice_get, slice_set}
 use Rattle.std.specs.Borrow.{GName}
-use Rattle.std.specs.Option.{option_and_then, option_map, option_map_or}
-use Rattle.std.specs.List.{list_any}
+use Rattle.std.specs.Option.{option_and_then, option_map_or}
 use Rattle.std.proofs.lemmas.Bool.Decides.{nat_tests}
 use mathlib.Core.Bool.{false≢true}
 use Rattle.jr_rev.specs.declared.revision.Revision.{Revision}
 use Rattle.jr_rev.specs.Vectors.{sees}
-use Rattle.oak_machine.specs.declared.event.Event.{Event}
 use Rattle.oak_machine.specs.declared.event.Event.TheVariants as event
-use Rattle.oak_machine.specs.declared.event.StepKind.{StepKind}
 use Rattle.oak_machine.specs.History.{History, Past}
 use Rattle.oak_machine.specs.Commits.{is_committed, is_ended}
 use Rattle.oak_machine.specs.Heads.{head_of}
 use Rattle.oak_machine.specs.Sessions.{has_left, next_index}
-use Rattle.oak_port.specs.Ports.{Awaiting, HoldsBack, Seat as PortSeat, Shown, Work}
-use Rattle.oak_world.specs.Seen.{seat_of, shown_at, shown_work}
-use Rattle.oak_world.specs.Worlds.{WorldOf, actor_in, live, work_in}
-use Rattle.jcr_trans.specs.declared.command.Command.{Command}
+use Rattle.oak_port.specs.Ports.{Awaiting, HoldsBack, Seat as PortSeat, Shown}
+use Rattle.oak_world.specs.Seen.{shown_at, shown_work}
+use Rattle.oak_world.specs.Worlds.{WorldOf, live, work_in}
 use Rattle.jcr_law.specs.State.{command_at}
 use Rattle.jcr_law.specs.declared.law.JcrLaw.{JcrLaw}
 use Rattle.jcr_session.specs.declared.run.SessionRun.{SessionRun}
 use Rattle.jcr_session.specs.declared.turn.Turn.{Turn}
 use Rattle.jcr_session.specs.declared.turn.Turn.TheVariants as turn
-use Rattle.jcr_session.specs.Standing.{IsMade, IsOneStep, IsStep, IsTurned, IsUnseen, Stands, Tells}
+use Rattle.jcr_session.specs.Standing.{IsStep, IsTurned, IsUnseen, Tells}
 use Rattle.jr_script.specs.Bounds.{IsWithin}
 use Rattle.jr_script.specs.declared.script.Script.{Script}
 use Rattle.jcr_trans.specs.declared.command.SessionScript.{SessionScript}
@@ -33,12 +29,12 @@ use Rattle.jr_work.specs.declared.stage.Seat.{Seat}
 use Rattle.jr_work.specs.declared.stage.Stage.{Stage}
 use Rattle.jr_work.specs.Awaited.{IsSeenBut}
 use Rattle.jr_work.specs.Flights.{IsFlight}
-use Rattle.jr_work.specs.Places.{commands_of, history_at, is_over, is_resting, is_unseen, is_waiting}
-use Rattle.jr_work.specs.SoFar.{IsDouble, IsSingle, IsStepAt, is_last_due}
-use Rattle.jr_work.specs.Stages.{Comes, HasCome, HasTurnedIn, IsSeated, IsStage, awaited, due_at, flight_behind, flight_by, law_of, past_of}
-use Rattle.jr_work.proofs.Coming.{down, flight_said, flight_stepped, history_now, itself, made, other_seat, over_other, past_now, run_new, said, same_length, seated_other, seen_said, seen_stepped, session_now, set_other, stands_now, stepped, tells, awake}
+use Rattle.jr_work.specs.Places.{commands_of, history_at, is_over, is_resting, is_waiting}
+use Rattle.jr_work.specs.SoFar.{IsDouble, IsSingle, is_last_due}
+use Rattle.jr_work.specs.Stages.{Comes, HasCome, IsSeated, IsStage, awaited, due_at, flight_behind, flight_by, law_of}
+use Rattle.jr_work.proofs.Coming.{flight_said, flight_stepped, history_now, itself, made, other_seat, over_other, past_now, said, same_length, seated_other, seen_said, seen_stepped, session_now, set_other, stands_now, stepped, tells, awake}
 use Rattle.jr_work.proofs.Due.{at_commit, last_commits}
-use Rattle.jr_work.proofs.Flying.{halves, none_is_some, some_is_some}
+use Rattle.jr_work.proofs.Flying.{none_is_some, some_is_some}
 use Rattle.jr_work.proofs.Seen.{waits_for}
 
 pub set_same : {X : Type 0} (xs : List X) (i : ℕ) (x y : X) → slice_get xs i ≡ Some y → slice_get (slice_set xs i x) i ≡ Some x

@@ -1,5 +1,5 @@
 -- A script's run, put together from its entries, its last replies and its ends.
-use Rattle.std.proofs.Common.{◌≡◌, ℕ, ◌+◌, ◌<◌, ◌≤◌, length, get_or, map, take, Bool, true, false, cond, Some, None, Option, List, [], ◌∷◌, ◌++◌, refl, sym, ap, ◌∙◌, subst, arith}
+use Rattle.std.proofs.Common.{◌≡◌, ℕ, ◌+◌, ◌<◌, ◌≤◌, length, get_or, map, take, Bool, true, false, Some, Option, List, [], ◌∷◌, ◌++◌, refl, sym, ap, ◌∙◌, subst, arith}
 use Rattle.std.specs.Prelude.{◌==◌, reverse, slice_get}
 use Rattle.std.specs.Option.{option_map_or}
 use Rattle.std.specs.List.{All, range_with_len}
@@ -7,7 +7,7 @@ use Rattle.std.proofs.lemmas.Bool.Decides.{nat_tests}
 use Rattle.std.proofs.lemmas.List.{map-append, reverse-append, take_all, take_more}
 use Rattle.std.proofs.lemmas.List.Elements.{All-get_or}
 use Rattle.std.proofs.lemmas.Option.{slice_get_within}
-use Rattle.oak_machine.specs.History.{History, Past}
+use Rattle.oak_machine.specs.History.{History}
 use Rattle.oak_machine.specs.Runs.{IsRun}
 use Rattle.oak_machine.specs.Sessions.{has_left, next_index}
 use Rattle.jcr_law.specs.declared.law.JcrLaw.{JcrLaw}
@@ -23,7 +23,7 @@ use Rattle.oak_world.specs.Worlds.{Story, live}
 use Rattle.jr_work.specs.declared.stage.Stage.{Stage}
 use Rattle.jr_work.specs.Parts.{IsCut, Part, Rule, by_entry, events_of, to_end, to_reply}
 use Rattle.jr_work.specs.Places.{commands_of, flying_sessions, history_at, is_over}
-use Rattle.jr_work.specs.Runs.{AreApart, FollowsScript, HasRun, indexes_said}
+use Rattle.jr_work.specs.Runs.{AreApart, HasRun, indexes_said}
 use Rattle.jr_work.specs.Schedules.{Scheduled, rules_of}
 use Rattle.jr_work.specs.SoFar.{IsCutSoFar}
 use Rattle.jr_work.specs.Stages.{AreOver, Closes, ClosesAll, IsBegun, IsStage, due_at, law_of, past_of}

@@ -1,5 +1,5 @@
 -- What is kept of the commit that a session has in flight, and what the history tells of it.
-use Rattle.std.specs.Prelude.{◌≡◌, ℕ, ◌+◌, Bool, true, false, not, ◌&&◌, ◌∷◌, length, slice_get, Option, None, Some, option_map, IsTrue, IsFalse}
+use Rattle.std.specs.Prelude.{◌≡◌, ℕ, ◌+◌, Bool, true, false, not, ◌&&◌, ◌∷◌, length, slice_get, Option, None, Some, option_map, IsFalse}
 use Rattle.std.specs.List.{count_by, list_any}
 use Rattle.oak_clash.specs.Clashes.{marked_paths}
 use Rattle.oak_machine.specs.declared.event.Draw.{Draw}

@@ -5,7 +5,7 @@ use Rattle.oak_machine.specs.History.{Past}
 use Rattle.jr_script.specs.declared.script.Script.{Script}
 use Rattle.jr_script.specs.declared.script.Entry.TheVariants as entry
 use Rattle.jr_work.specs.Places.{is_own, is_at_last, is_next, is_write_or_mark}
-use Rattle.jr_work.specs.Parts.{Rule, by_entry, Part, session_of, is_done, events_of}
+use Rattle.jr_work.specs.Parts.{Rule, by_entry, Part, is_done, events_of}
 
 -- only a part that waits for a last write looks at what comes later
 abbrev pub looks_ahead : Rule → Bool

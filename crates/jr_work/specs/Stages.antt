@@ -1,5 +1,5 @@
 -- The world of a script with its sessions, and what their turns make of it.
-use Rattle.std.specs.Prelude.{◌≡◌, ◌<◌, ℕ, Bool, true, false, ◌&&◌, ◌||◌, ◌==◌, ⊤, List, [], ◌∷◌, ◌++◌, length, map, nat_le, slice_get, Option, None, Some, IsTrue, IsFalse}
+use Rattle.std.specs.Prelude.{◌≡◌, ◌<◌, ℕ, Bool, true, false, ◌&&◌, ◌==◌, ⊤, List, [], ◌∷◌, ◌++◌, length, nat_le, slice_get, Option, None, Some, IsTrue, IsFalse}
 use Rattle.std.specs.Borrow.{GName}
 use Rattle.std.specs.List.{list_any}
 use Rattle.std.specs.Option.{option_map_or}

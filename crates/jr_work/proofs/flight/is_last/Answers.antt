@@ -1,4 +1,4 @@
-use Rattle.std.proofs.Common.{◌≡◌, ◌∙◌, Bool, false, true, ap, refl, sym}
+use Rattle.std.proofs.Common.{◌≡◌, ◌∙◌, false, ap, refl, sym}
 use Rattle.oak_machine.specs.declared.event.StepKind.{StepKind}
 use Rattle.oak_machine.specs.declared.event.StepKind.TheVariants as kind
 use Rattle.oak_machine.specs.Steps.{is_kind}
