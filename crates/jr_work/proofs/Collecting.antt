@@ -19,6 +19,7 @@ use Rattle.jr_work.proofs.Script.{a, at, vector, draw, type_name, node_type, par
 abbrev script : Script
 script = record {
   clusters = 1;
+  types = [];
   sessions =
       record { cluster = 1; commands = command.Add a None ∷ command.Save ∷ command.Remove a ∷ command.Save ∷ command.BackWrite ∷ command.Add a None ∷ command.Save ∷ [] }
       ∷ record { cluster = 1; commands = command.Collect ∷ [] }

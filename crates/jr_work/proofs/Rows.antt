@@ -16,6 +16,7 @@ use Rattle.jr_work.proofs.Script.{a, b, p, set, get, at, vector, draw, add_both,
 abbrev reading : Script
 reading = record {
   clusters = 1;
+  types = [];
   sessions =
       record { cluster = 1; commands = command.Add a None ∷ command.Add b None ∷ command.Save ∷ set a 1 ∷ set b 1 ∷ command.Save ∷ [] }
       ∷ record { cluster = 1; commands = command.Refresh false ∷ get ∷ command.Refresh false ∷ get ∷ [] }
@@ -74,6 +75,7 @@ reading_scheduled = record {
 abbrev meeting : Script
 meeting = record {
   clusters = 1;
+  types = [];
   sessions =
       record { cluster = 1; commands = command.Add a None ∷ command.Add b None ∷ command.Save ∷ set a 1 ∷ set b 1 ∷ command.Save ∷ command.Refresh false ∷ get ∷ [] }
       ∷ record { cluster = 1; commands = set a 2 ∷ set b 2 ∷ command.Save ∷ [] }

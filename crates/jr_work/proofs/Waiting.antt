@@ -30,6 +30,7 @@ marks_of_child parent child =
 abbrev script : Script
 script = record {
   clusters = 1;
+  types = [];
   sessions =
       record { cluster = 1; commands = command.Add a None ∷ command.Save ∷ command.Add x None ∷ command.Save ∷ [] }
       ∷ record { cluster = 1; commands = command.Add y None ∷ command.Save ∷ command.List a ∷ [] }
