@@ -24,7 +24,7 @@ use Rattle.jr_part.specs.declared.need.Need.{Need}
 use Rattle.jr_part.specs.declared.need.Need.TheVariants as need
 use Rattle.jr_part.specs.Parts.{AgreesWith, AsksBelow, ChildNames, HaveRisingNames, IsReached, Knowledge, LacksNothing, has_name, is_absent, known_at, knows, leads_down, list_at, lists_child}
 use Rattle.jr_part.specs.Follows.{followed, with_begun}
-use Rattle.jr_part.proofs.Lists.{after_write, begun_names, begun_none, begun_rising, begun_some, listed_after, named_all, named_in, names_at, names_follow}
+use Rattle.jr_part.proofs.Lists.{after_rising, after_write, begun_names, begun_none, begun_rising, begun_some, listed_after, named_all, named_in, names_at, names_follow}
 use Rattle.jr_part.proofs.Named.{none_without}
 use Rattle.jr_part.proofs.Ways.{Lists, There, lists_from, nothing_child, reached_itself, there_known}
 use Rattle.jr_part.proofs.Whole.{tree_whole}
@@ -115,7 +115,7 @@ module _ (by : Option Revision) (k : Knowledge) (ws : List Write) (sorted : is_s
       → is_some (cond (is_some o) (Some o) (cond a (Some None) None)) ≡ true → is_some (cond (is_some now) (Some now) (cond b (Some None) None)) ≡ true
   known_still o (Some x) a b same more h = refl
   known_still (Some x) None a b same more h = absurd (false≢true same)
-  known_still None None true b same more h = ap (λ c. is_some (cond c (Some None) None)) (more refl)
+  known_still None None true b same more h = ap (λ c. is_some {T = Option Node} (cond c (Some None) None)) (more refl)
   known_still None None false b same more h = absurd (false≢true h)
 
   good : (p : Path) → Came p ⊎ Stayed p → IsGood p
@@ -141,7 +141,7 @@ module _ (by : Option Revision) (k : Knowledge) (ws : List Write) (sorted : is_s
       where
         kept : (ns : ChildNames) → begun p ≡ Some ns → has_name ns n ≡ true → last (p ++ n ∷ []) ≡ None → Came p ⊎ Stayed p → Came (p ++ n ∷ []) ⊎ Stayed (p ++ n ∷ [])
         kept ns is has none (inl came) =
-            absurd (false≢true (sym (ap (λ o. option_map_or (λ names. has_name names n) o false) (sym (begun_some p k.lists ws came) ∙ is)) ∙ has))
+            absurd (false≢true (ap (λ (o : Option ChildNames). option_map_or (λ names. has_name names n) o false) (sym (begun_some p k.lists ws came) ∙ is) ∙ has))
         kept ns is has none (inr stayed) =
             let same : is_some (node_at then.nodes p) ≡ is_some (node_at k.nodes p) = has_then p ∙ ap (λ o. unwrap_or o (is_some (node_at k.nodes p))) stayed.0 in
             let named : Lists k p n = lists_from k p ns n (sym (begun_none p k.lists ws stayed.0) ∙ is) ∙ has in
@@ -149,7 +149,7 @@ module _ (by : Option Revision) (k : Knowledge) (ws : List Write) (sorted : is_s
 
         at : (o : Option ChildNames) → begun p ≡ o → (h : Option Bool) → last (p ++ n ∷ []) ≡ h → Came (p ++ n ∷ []) ⊎ Stayed (p ++ n ∷ [])
         at None is h was =
-            absurd (false≢true (sym (ap (λ o. option_map_or (λ names. has_name names n) o false) (listed_after p by k.lists ws ∙ ap (option_map (changed p)) is)) ∙ lists))
+            absurd (false≢true (sym (ap (λ (o : Option ChildNames). option_map_or (λ names. has_name names n) o false) (listed_after p by k.lists ws ∙ ap (option_map (changed p)) is)) ∙ lists))
         at (Some ns) is (Some true) was = inl was
         at (Some ns) is (Some false) was =
             absurd (false≢true (sym (listed_then p n ns is ∙ ap (λ h. is_some (after_write p by h (lookup (is_at (name_cmp n)) ns))) was) ∙ lists))
@@ -177,7 +177,7 @@ module _ (by : Option Revision) (k : Knowledge) (ws : List Write) (sorted : is_s
 
           known : (o : Option Node) (b : Bool) → b ≡ true → is_some (cond (is_some o) (Some o) (cond b (Some None) None)) ≡ true
           known (Some x) b h = refl
-          known None b h = ap (λ c. is_some (cond c (Some None) None)) h
+          known None b h = ap (λ c. is_some {T = Option Node} (cond c (Some None) None)) h
 
           at : (ns : List Name) → leads_down then [] ns ≡ true → IsGood ns
           at [] down = (known (node_at then.nodes []) (is_absent then []) noted, λ there. absurd (false≢true (sym none ∙ there)))
@@ -196,3 +196,18 @@ module _ (by : Option Revision) (k : Knowledge) (ws : List Write) (sorted : is_s
       follows_whole (need.Children p) asked = (good_at p asked.0).1 asked.1
       follows_whole (need.Subtree p) asked = absurd asked
       follows_whole need.All asked = absurd asked
+
+-- ---- what is known now, once the parts followed
+
+module _ (by : Option Revision) (before k now : Knowledge) (ws : List Write) (view : before ≡ k) (follows : now ≡ followed by before ws) where
+  same_now : now ≡ followed by k ws
+  same_now = follows ∙ ap (λ (x : Knowledge). followed by x ws) view
+
+  pub rising_now : HaveRisingNames k.lists → HaveRisingNames now.lists
+  rising_now rising = subst (λ (x : Knowledge). HaveRisingNames x.lists) (sym same_now) (after_rising by k.lists ws rising)
+
+  pub whole_now : is_sorted path_cmp k.nodes ≡ true → HaveRisingNames k.lists → LacksNothing k need.All → LacksNothing now need.All
+  whole_now sorted rising nothing = subst (λ (x : Knowledge). LacksNothing x need.All) (sym same_now) (follows_whole by k ws sorted rising nothing)
+
+  pub agrees_now : is_sorted path_cmp k.nodes ≡ true → LacksNothing k need.All → (t : Nodes) → IsTree t → IsProper t ws → AgreesWith t k → AgreesWith (applied by t ws) now
+  agrees_now sorted nothing t tree proper agrees = subst (λ (x : Knowledge). AgreesWith (applied by t ws) x) (sym same_now) (follows_agrees by k ws sorted nothing t tree proper agrees)

@@ -84,11 +84,12 @@ module _ (p : Path) where
   -- where the node comes the list begins
   pub begun_some : (lists : Lists) (ws : List Write) → written (here_of p) ws ≡ Some true → names_at (fold with_begun lists ws) p ≡ Some []
   begun_some lists [] h = absurd (false≢true (ap is_some h))
-  begun_some lists (w ∷ ws) h = by (written (here_of p) ws) refl h
+  begun_some lists (w ∷ ws) h = by (written (here_of p) ws) refl h (λ g. begun_some (with_begun lists w) ws g)
     where
-      by : (o : Option Bool) → written (here_of p) ws ≡ o → option_or o (here_of p w) ≡ Some true → names_at (fold with_begun (with_begun lists w) ws) p ≡ Some []
-      by (Some b) is h = begun_some (with_begun lists w) ws (is ∙ h)
-      by None is h = begun_none (with_begun lists w) ws is ∙ began_one lists w h
+      by : (o : Option Bool) → written (here_of p) ws ≡ o → option_or o (here_of p w) ≡ Some true
+          → (written (here_of p) ws ≡ Some true → names_at (fold with_begun (with_begun lists w) ws) p ≡ Some []) → names_at (fold with_begun (with_begun lists w) ws) p ≡ Some []
+      by (Some b) is h rest = rest (is ∙ h)
+      by None is h rest = begun_none (with_begun lists w) ws is ∙ began_one lists w h
 
   -- a list is as it was, or it begins at a write that passes the test of all
   pub begun_names : (passes : Write → Bool) (ws : List Write) → list_all passes ws ≡ true → (lists : Lists) (names : ChildNames)
@@ -147,12 +148,12 @@ module _ (p : Path) where
 
       child : (above : Path) (n : Name) → names_at (with_change_above change lists (above ++ n ∷ [])) p ≡ option_map (change_in change (above ++ n ∷ [])) (names_at lists p)
       child above n =
-          ap (λ m. names_at (option_map_or (λ n. option_map_or (with_changed (change n) lists) (parent_of (above ++ n ∷ [])) lists) m lists) p) (last_name-child above n)
+          ap (λ o. names_at (option_map_or (λ m. option_map_or (with_changed (change m) lists) (parent_of (above ++ n ∷ [])) lists) o lists) p) (last_name-child above n)
           ∙ (ap (λ o. names_at (option_map_or (with_changed (change n) lists) o lists) p) (parent_of-child above n)
           ∙ (changed_at (change n) lists above (names_at lists above) refl
           ∙ (either (eq_by_cmp path_cmp p above) (change n) (names_at lists p)
           ∙ (ap (λ b. option_map (λ names. cond b (change n names) names) (names_at lists p)) (sym (child_is p above n))
-          ∙ ap (λ m. option_map (λ names. cond (is_child_of p (above ++ n ∷ [])) (option_map_or (λ n. change n names) m names) names) (names_at lists p)) (sym (last_name-child above n))))))
+          ∙ ap (λ o. option_map (λ names. cond (is_child_of p (above ++ n ∷ [])) (option_map_or (λ m. change m names) o names) names) (names_at lists p)) (sym (last_name-child above n))))))
 
       by : (q ≡ []) ⊎ ((above : Path) × (n : Name) × (q ≡ above ++ n ∷ [])) → names_at (with_change_above change lists q) p ≡ option_map (change_in change q) (names_at lists p)
       by (inl e) = rw e (map_same (names_at lists p))

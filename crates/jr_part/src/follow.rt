@@ -14,6 +14,7 @@ use jr_path::{DeepCopy, Keyed, List, Name, Path};
 use jr_rev::Revision;
 use jr_tree::{Tree, Write};
 use std::alloc::{AllocError, Global};
+use std::cmp::Ordering;
 
 // The names of the children of nodes, by the paths of these.
 pub(crate) type Lists = Keyed<Path, List<(Name, Option<Revision>)>>;
@@ -159,5 +160,11 @@ fn place_of(names: &[(Name, Option<Revision>)], name: &Name) -> Result<usize, us
     requires { IsTrue (is_sorted name_cmp names.now) }
     ensures { MatchResult result (IsPlaceOf names.now name.now) (IsGapOf names.now name.now) }
 {
-    names.binary_search_by(|entry| entry.0.cmp(name))
+    names.binary_search_by(|entry| name_order(entry, name))
+}
+
+fn name_order(entry: &(Name, Option<Revision>), name: &Name) -> Ordering
+    ensures { result ≡ name_cmp entry.now.0 name.now }
+{
+    entry.0.cmp(name)
 }

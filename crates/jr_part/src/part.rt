@@ -172,6 +172,7 @@ impl Part {
         ensures whole { OnOk result (LacksNothing self.new need.All) }
         ensures err { OnErr result (self.new ≡ nothing_known) }
     {
+        self.in_order();
         self.is_whole = false;
         match follow(
             &mut self.tree,
