@@ -124,8 +124,7 @@ module _ (by : Option Revision) (k : Knowledge) (ws : List Write) (sorted : is_s
       (there_good p there, λ h. list_good p (ap is_some (begun_some p k.lists ws came)))
   good p (inr stayed) =
       let same : is_some (node_at then.nodes p) ≡ is_some (node_at k.nodes p) = has_then p ∙ ap (λ o. unwrap_or o (is_some (node_at k.nodes p))) stayed.0 in
-      let known : is_some (known_at k p) ≡ true = stayed.1 (need.Node p) (reached_itself k p) in
-      (
+      let known : is_some (known_at k p) ≡ true = stayed.1 (need.Node p) (reached_itself k p) in (
         known_still (node_at k.nodes p) (node_at then.nodes p) (is_absent k p) (is_absent then p) same (absent_more p) known,
         λ there. list_good p (ap is_some (begun_none p k.lists ws stayed.0) ∙ stayed.1 (need.Children p) (reached_itself k p, sym same ∙ there)),
       )
