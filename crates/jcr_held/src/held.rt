@@ -5,7 +5,7 @@ ghost use Rattle.std.specs.FinMap.{is_sorted};
 ghost use Rattle.jr_path.specs.Names.{name_cmp, path_cmp};
 ghost use Rattle.jr_tree.specs.Edits.{IsProper, applied};
 ghost use Rattle.jr_tree.specs.Trees.{IsTree, Nodes, dated_children_of, node_at};
-ghost use Rattle.jr_part.specs.Parts.{AgreesWith, LacksNothing, nothing_known, with_children, with_node};
+ghost use Rattle.jr_part.specs.Parts.{LacksNothing, nothing_known, with_children, with_node};
 ghost use Rattle.jr_part.specs.declared.need.Need.TheVariants as need;
 ghost use Rattle.jcr_view.specs.Outcomes.{is_viewed};
 ghost use Rattle.jcr_law.specs.State.{Call, used};
@@ -13,6 +13,7 @@ ghost use Rattle.jcr_call.specs.Calls.{call_after, call_moved};
 ghost use Rattle.jcr_held.specs.Alike.{AreAlike, moved_to, with_drawn};
 ghost use Rattle.jcr_held.specs.Accepts.{TokensFit, drops_pending, without_pending};
 ghost use Rattle.jcr_held.specs.Begins.{IsFirstCall, IsNewHeld};
+ghost use Rattle.jcr_held.specs.Follows.{Follows};
 ghost use Rattle.jcr_held.specs.Holds.{Holds};
 
 use jcr_ref::MAX_IDS;
@@ -100,8 +101,8 @@ impl Held {
     /// is loaded again, and what is pending is kept as by `move_to` (JSR 283, 10.11 Saving). It answers
     /// whether the whole tree is known still; where it wasn't, or memory is refused, nothing is known.
     pub fn follow(&mut self, base: RevVec, by: Revision, edit: &Edit) -> bool
-        ensures known { IsTrue result → LacksNothing self.new.part need.All }
-        ensures forgotten { IsFalse result → self.new.part ≡ nothing_known }
+        ensures whole { IsTrue result → LacksNothing self.new.part need.All }
+        ensures nothing { IsFalse result → self.new.part ≡ nothing_known }
         ensures holds { (c : Call) → Holds c self.old → IsFalse self.old.is_kept
             → IsProper c.base edit.now.writes
             → Holds (call_moved c base (applied (Some by) c.base edit.now.writes)) self.new }
@@ -199,22 +200,37 @@ impl Held {
 // The part follows an edit by a revision, where the whole tree is known. It answers whether it is
 // known still; else nothing is.
 fn follow(alloc: Global, part: &mut Part, edit: &Edit, by: Revision) -> bool
-    ensures known { IsTrue result → LacksNothing part.new need.All }
-    ensures forgotten { IsFalse result → part.new ≡ nothing_known }
-    ensures agrees { (t : Nodes) → IsTree t → IsProper t edit.now.writes → AgreesWith t part.old
-        → AgreesWith (applied (Some by) t edit.now.writes) part.new }
+    ensures follows { Follows part.old part.new by edit.now.writes result }
     ensures order { IsTrue (is_sorted path_cmp part.new.nodes) }
 {
+    let is_whole = follow_or_forget(alloc, part, edit, by);
+    part.in_order();
+    is_whole
+}
+
+fn follow_or_forget(alloc: Global, part: &mut Part, edit: &Edit, by: Revision) -> bool
+    ensures { Follows part.old part.new by edit.now.writes result }
+{
     puts_agree();
-    let followed = match part.lacks(&Need::All) {
-        Ok(None) => part.apply(edit, Some(by)).is_ok(),
+    match part.lacks(&Need::All) {
+        Ok(None) => follow_whole(part, edit, by),
         _ => {
             *part = Part::new(alloc);
             false
         }
-    };
-    part.in_order();
-    followed
+    }
+}
+
+// The same where nothing lacks.
+fn follow_whole(part: &mut Part, edit: &Edit, by: Revision) -> bool
+    requires { LacksNothing part.old need.All }
+    ensures { Follows part.old part.new by edit.now.writes result }
+{
+    puts_agree();
+    match part.apply(edit, Some(by)) {
+        Ok(()) => true,
+        Err(_) => false,
+    }
 }
 
 // Whether an accepted reply to the command drops what is pending.

@@ -18,4 +18,10 @@ returns-clause-holds c = λ d h settled proper.
       is_kept = refl;
       tokens = refl;
     }) (holds_moved_knowing d c.args.self.now c.args.base (applied (Some c.args.by) d.base c.args.edit.now.writes) c.follow.new.part h settled after c.follow.ensures.order
-    (λ agrees. c.follow.ensures.agrees d.base tree proper agrees))
+    (λ agrees. c.follow.ensures.follows.agrees d.base tree proper agrees))
+
+pub returns-clause-whole : goal.returns-clause-whole
+returns-clause-whole c = c.follow.ensures.follows.whole
+
+pub returns-clause-nothing : goal.returns-clause-nothing
+returns-clause-nothing c = c.follow.ensures.follows.nothing
