@@ -44,6 +44,9 @@ none_flat : {X : Type 0} (f : ℕ → List X) (ks : List ℕ) → ((k : ℕ) →
 none_flat f [] none = refl
 none_flat f (k ∷ ks) none = ap (λ xs. xs ++ flat_map f ks) (none k) ∙ none_flat f ks none
 
+abbrev violation : Path → ℕ → Name → Violation
+violation p rule n = record { node = p; rule = rule; item = n }
+
 module _ (types : List TypeDef) (t : Nodes) (typed : TypesOk types t) where
   none_failing : (p : Path) → is_some (node_at t p) ≡ true → (rule : ℕ) → failing_at types t p rule ≡ []
   none_failing p there rule =
@@ -54,10 +57,7 @@ module _ (types : List TypeDef) (t : Nodes) (typed : TypesOk types t) where
       (λ n. ap (list_any (λ r. r == rule)) (typed.children p n there))
 
   none_at : (p : Path) → is_some (node_at t p) ≡ true → violations_at types t p ≡ []
-  none_at p there = none_flat (λ rule. map (λ n. violation rule n) (failing_at types t p rule)) (1 ∷ 2 ∷ 3 ∷ 4 ∷ 5 ∷ 6 ∷ 7 ∷ 8 ∷ 9 ∷ []) (λ rule. ap (map (λ n. violation rule n)) (none_failing p there rule))
-    where
-      violation : ℕ → Name → Violation
-      violation rule n = record { node = p; rule = rule; item = n }
+  none_at p there = none_flat (λ rule. map (violation p rule) (failing_at types t p rule)) (1 ∷ 2 ∷ 3 ∷ 4 ∷ 5 ∷ 6 ∷ 7 ∷ 8 ∷ 9 ∷ []) (λ rule. ap (map (violation p rule)) (none_failing p there rule))
 
   none_among : (es : Nodes) → list_all (λ e. is_some (node_at t e.0)) es ≡ true → flat_map (λ e. violations_at types t e.0) es ≡ []
   none_among [] there = refl
@@ -144,8 +144,8 @@ module _ (types : List TypeDef) (t : Nodes) (tokens : List (List ℕ)) (ws : Lis
   plan_why r =
       first_why (option_map (refusal_at 8) (first_of (frozen_over types t ws))) _ r (mapped_why (refusal_at 8) (first_of (frozen_over types t ws)) frozen_why)
       (first_why (option_map (refusal_at 7) (first_of (locked_over t tokens ws))) _ r (mapped_why (refusal_at 7) (first_of (locked_over t tokens ws)) locked_why)
-      (first_why (option_map type_refusal (first_violation types (applied None t ws))) _ r (mapped_why type_refusal (first_violation types (applied None t ws)) rule_broken)
-      (first_why (option_map (λ item. refusal 9 (datum.Item item ∷ [])) (dangling (applied None t ws))) _ r (mapped_why (λ item. refusal 9 (datum.Item item ∷ [])) (dangling (applied None t ws)) reference_lost)
+      (first_why (option_map type_refusal (first_violation types (applied None t ws))) _ r (mapped_why type_refusal (first_violation types (applied None t ws)) (λ v is. rule_broken v is))
+      (first_why (option_map (λ item. refusal 9 (datum.Item item ∷ [])) (dangling (applied None t ws))) _ r (mapped_why (λ item. refusal 9 (datum.Item item ∷ [])) (dangling (applied None t ws)) (λ item is. reference_lost item is))
       (first_why (when (not (has_few_nodes (applied None t ws))) (over_limit (codes "nodes") 100000)) [] r (many_why (has_few_nodes (applied None t ws)) refl) (λ is. absurd (none-some r is))))))
 
 pub due_why : (c : Call) (ws : List Write) (r : Refusal) → refusal_of_due c (Ok ws) ≡ Some r → NoPlan c.types c.base c.state.tokens ws r

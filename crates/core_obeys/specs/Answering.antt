@@ -1,4 +1,4 @@
--- What was answered: each reply has its cause, and what is a plan and clashes with nothing is accepted.
+-- Replies: each has its cause, and what is a plan and clashes with nothing is accepted.
 use Rattle.std.specs.Prelude.{◌≡◌, ◌≢◌, ◌⊎◌, ℕ, false, List, [], ◌∷◌, ◌++◌, slice_get, None, Some, IsFalse, IsSome, IsTrue, Ok, Err}
 use Rattle.std.specs.Option.{option_map_or}
 use Rattle.jr_path.specs.declared.path.Item.{Item}
@@ -31,8 +31,8 @@ abbrev pub NameOthers : Past → Type 0
 NameOthers past = (r : Revision) (item : Item) (o : Revision)
     → refusal_of past r ≡ Some (item, o) → r ≢ o
 
--- the text is 16, where nothing was committed for the command of s, or 14, where the cluster node of
--- s was stopped, with the place of the stop in the journal
+-- the text is 16, where nothing was committed for the command of s, or 14 with the place of the stop
+-- in the journal, where the cluster node of s was stopped
 pub data IsHindered (h : History) (s : ℕ) : List ℕ → Type 0 where
   lacking : IsFalse (option_map_or (is_committed h.past) (drawn_since h.past s) false)
       → IsHindered h s (no_text out_of_memory)
@@ -40,14 +40,17 @@ pub data IsHindered (h : History) (s : ℕ) : List ℕ → Type 0 where
       → stop_position h.past k ≡ Some position → IsHindered h s (no_text (stopped_at position))
 
 -- the draw d was committed, and the text accepts the command m for which it was made
-pub record Accepts (law : JcrLaw) (h : History) (m : Command) (d : Draw) (text : List ℕ) : Type 0 where
+pub record Accepts (law : JcrLaw) (h : History) (m : Command) (d : Draw) (text : List ℕ)
+    : Type 0 where
   pub made : IsTrue (is_committed h.past d.revision)
   pub call : Call
   pub called : call_of law h.begin h.past d.session ≡ Some call
-  pub accepted : text ≡ answer_text (committed_answer call (tree_at h.begin h.past d.base) d.revision m)
+  pub accepted : text
+      ≡ answer_text (committed_answer call (tree_at h.begin h.past d.base) d.revision m)
 
 -- the text answers the command m for which d was drawn
-pub data AnswersDraw (law : JcrLaw) (h : History) (m : Command) (d : Draw) : List ℕ → Type 0 where
+pub data AnswersDraw (law : JcrLaw) (h : History) (m : Command) (d : Draw)
+    : List ℕ → Type 0 where
   accepting : (text : List ℕ) → Accepts law h m d text → AnswersDraw law h m d text
   -- 10: the commit clashes in that item with another, which its base doesn't see
   clashing : (item : Item) (o : Revision) → Cause h.past d.revision item o
@@ -55,7 +58,8 @@ pub data AnswersDraw (law : JcrLaw) (h : History) (m : Command) (d : Draw) : Lis
   hindered : (text : List ℕ) → IsHindered h d.session text → AnswersDraw law h m d text
 
 -- the text answers the command m of s, which commits, and for which nothing was drawn
-pub data AnswersEdit (h : History) (s : ℕ) (m : Command) (c : Call) : List ℕ → Type 0 where
+pub data AnswersEdit (h : History) (s : ℕ) (m : Command) (c : Call)
+    : List ℕ → Type 0 where
   -- the command refuses
   refusing : (r : Refusal) → edit_due c m ≡ Some (Err r) → AnswersEdit h s m c (no_text r)
   -- its edit is no plan

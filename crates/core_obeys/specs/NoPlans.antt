@@ -17,7 +17,8 @@ use Rattle.jcr_plan.specs.Refusals.{type_refusal}
 use Rattle.jcr_law.specs.Proper.{is_proper}
 
 -- the refusal tells why the writes are no plan on the tree for one who holds the tokens
-pub data NoPlan (types : List TypeDef) (t : Nodes) (tokens : List (List ℕ)) (ws : List Write) : Refusal → Type 0 where
+pub data NoPlan (types : List TypeDef) (t : Nodes) (tokens : List (List ℕ)) (ws : List Write)
+    : Refusal → Type 0 where
   -- 8: a checked-in node covers a node that they change, items with IGNORE aside
   over_checked_in : (p q : Path) → IsTrue (is_changed (heeded types t ws) p)
       → frozen_by t p ≡ Some q → NoPlan types t tokens ws (checked_in q)

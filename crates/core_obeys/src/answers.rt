@@ -12,5 +12,6 @@ ghost use Rattle.core_obeys.specs.Answering.{AnswersThroughout, NameOthers};
 /// isn't refused: but for want of memory, where nothing was committed, and the stop of the cluster node. Of the run it is asked
 /// that each refusal of a commit names another.
 pub fn the_product_answers_throughout()
-    ensures { (law : JcrLaw) (h : History) → IsNodesRun (starts_of law) (says_of law) h → NameOthers h.past → AnswersThroughout law h }
+    ensures { (law : JcrLaw) (h : History) → IsNodesRun (starts_of law) (says_of law) h
+        → NameOthers h.past → AnswersThroughout law h }
 {}
