@@ -36,7 +36,7 @@ use Rattle.jcr_law.proofs.Answered.{answered_after}
 use Rattle.core_obeys.specs.Answering.{AnswersThroughout, HasReason, NameOthers, Accepts, AnswersDraw, accepting, clashing, hindered, AnswersEdit, refusing, unplanned, unwriting, undone, IsHindered, lacking, halted}
 use Rattle.core_obeys.specs.NoPlans.{NoPlan}
 use Rattle.core_obeys.specs.Product.{IsUnclashing}
-use Rattle.core_obeys.proofs.Planned.{due_why, never_both}
+use Rattle.core_obeys.proofs.Planned.{NoneDangles, due_why, never_both}
 use Rattle.core_obeys.proofs.Unclashing.{cause_of, named_others, unrefused}
 
 -- ---- what was drawn
@@ -157,17 +157,17 @@ same_writes : (a b : List Write) → ◌≡◌ {A = Option (Result (List Write) 
 same_writes a b e = ap (λ (o : Option (Result (List Write) Refusal)). elim o [ Some x ↦ elim x [ Ok ws ↦ ws | Err r ↦ a ] | None ↦ a ]) e
 
 -- an edit that may start isn't refused
-hinders : (h : History) (s : ℕ) (m : Command) (c : Call) (ws : List Write) (marks : List MarkAt) → edit_due c m ≡ Some (Ok ws) → ws ≢ [] → PlanOk c.types c.base c.state.tokens ws marks
+hinders : (none_dangles : NoneDangles) (h : History) (s : ℕ) (m : Command) (c : Call) (ws : List Write) (marks : List MarkAt) → edit_due c m ≡ Some (Ok ws) → ws ≢ [] → PlanOk c.types c.base c.state.tokens ws marks
     → (text : List ℕ) → AnswersEdit h s m c text → IsHindered h s text
-hinders h s m c ws marks due some plan _ (refusing r is) = cc
-hinders h s m c ws marks due some plan _ (unplanned written r is why) =
-    never_both c.types c.base c.state.tokens ws marks r plan (subst (λ (xs : List Write). NoPlan c.types c.base c.state.tokens xs r) (same_writes written ws (sym is ∙ due)) why)
-hinders h s m c ws marks due some plan _ (unwriting is) = absurd (some (same_writes ws [] (sym due ∙ is)))
-hinders h s m c ws marks due some plan text (undone _ is) = is
+hinders none_dangles h s m c ws marks due some plan _ (refusing r is) = cc
+hinders none_dangles h s m c ws marks due some plan _ (unplanned written r is why) =
+    never_both none_dangles c.types c.base c.state.tokens ws marks r plan (subst (λ (xs : List Write). NoPlan c.types c.base c.state.tokens xs r) (same_writes written ws (sym is ∙ due)) why)
+hinders none_dangles h s m c ws marks due some plan _ (unwriting is) = absurd (some (same_writes ws [] (sym due ∙ is)))
+hinders none_dangles h s m c ws marks due some plan text (undone _ is) = is
 
 -- ---- each reply
 
-module _ (law : JcrLaw) (h : History) (run : IsNodesRun (starts_of law) (says_of law) h) (others : NameOthers h.past) (s i : ℕ) (text : List ℕ) (place : i ≡ next_index h.past s) where
+module _ (none_dangles : NoneDangles) (law : JcrLaw) (h : History) (run : IsNodesRun (starts_of law) (says_of law) h) (others : NameOthers h.past) (s i : ℕ) (text : List ℕ) (place : i ≡ next_index h.past s) where
   has_reason : SaysBy law h s i text → HasReason law h s i text
   has_reason (m, at, may) = record {
     place = place;
@@ -189,16 +189,16 @@ module _ (law : JcrLaw) (h : History) (run : IsNodesRun (starts_of law) (says_of
       hindered_start : (edit : Edit) (marks : List MarkAt) → MayStart law h s edit marks → IsHindered h s text
       hindered_start edit marks start =
           let same : m ≡ start.command = same_Some m start.command (sym now ∙ start.next.next) in
-          hinders h s start.command start.call edit.writes marks start.due start.some start.plan text
+          hinders none_dangles h s start.command start.call edit.writes marks start.due start.some start.plan text
           (answers_edit law h s start.command start.call start.first start.next.call (ap is_some start.due) (asked_by h s start.command) text start.allowed
           (subst (λ (q : Command). MaySay law h s (asked_by h s q) text) same may))
 
-pub each_has_reason : (law : JcrLaw) (h : History) → IsNodesRun (starts_of law) (says_of law) h → NameOthers h.past → AnswersThroughout law h
-each_has_reason law h is others later past s i text when =
+pub each_has_reason : NoneDangles → (law : JcrLaw) (h : History) → IsNodesRun (starts_of law) (says_of law) h → NameOthers h.past → AnswersThroughout law h
+each_has_reason none_dangles law h is others later past s i text when =
     let whole : IsRunOf (starts_of law) (says_of law) h.clusters h.sessions h.begin (later ++ event.Said s i text ∷ past) =
         subst (λ (p : Past). IsRunOf (starts_of law) (says_of law) h.clusters h.sessions h.begin p) (sym when) is.run in
     let said : IsRunOf (starts_of law) (says_of law) h.clusters h.sessions h.begin (event.Said s i text ∷ past) =
         earlier_run h.clusters h.sessions is.nodes h.begin (starts_of law) (says_of law) later (event.Said s i text ∷ past) whole in
     let named : NameOthers (event.Said s i text ∷ past) =
         named_others h.clusters h.sessions is.nodes h.begin (starts_of law) (says_of law) later (event.Said s i text ∷ past) whole (subst NameOthers (sym when) others) in
-    has_reason law (record h { past = past }) (record { nodes = is.nodes; run = said.1 }) named s i text said.0.0 said.0.1
+    has_reason none_dangles law (record h { past = past }) (record { nodes = is.nodes; run = said.1 }) named s i text said.0.0 said.0.1

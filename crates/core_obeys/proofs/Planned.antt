@@ -1,18 +1,22 @@
 -- A plan has no reason to be none, and what is refused for an edit is such a reason.
 use Rattle.std.proofs.Common.{◌≡◌, ◌≢◌, ℕ, Bool, true, false, cond, not, ◌||◌, Option, None, Some, is_some, List, [], ◌∷◌, ◌++◌, map, refl, sym, ap, ◌∙◌, subst}
-use Rattle.std.proofs.lemmas.Bool.{and_parts, false≢true}
+use Rattle.std.proofs.lemmas.Bool.{false≢true}
 use Rattle.std.proofs.lemmas.Option.{none-some, same_Some}
 use Rattle.std.specs.Prelude.{◌==◌, codes, option_map, Ok}
-use Rattle.std.specs.List.{cons_option, filter, filter_map, flat_map, list_all, list_any}
-use Rattle.std.specs.Ordering.{is_lt}
+use Rattle.std.specs.List.{cons_option, filter, filter_map, flat_map, list_any}
+use Rattle.std.specs.Cmp.{tied_itself}
+use Rattle.std.specs.Ordering.{eq_by_cmp, is_eq}
+use Rattle.std.proofs.lemmas.List.Folds.{list_any-append}
 use Rattle.jr_path.specs.Names.{path_cmp}
 use Rattle.jr_path.specs.declared.name.Name.{Name}
 use Rattle.jr_path.specs.declared.path.Path.{Path}
+use Rattle.jr_path.proofs.Maps.{path_total}
 use Rattle.jr_tree.specs.declared.edit.Write.{Write}
 use Rattle.jr_tree.specs.declared.shared.Datum.TheVariants as datum
 use Rattle.jr_tree.specs.declared.shared.Refusal.{Refusal}
 use Rattle.jr_tree.specs.Edits.{applied}
-use Rattle.jr_tree.specs.Trees.{Nodes, node_at, property_at}
+use Rattle.jr_tree.specs.declared.tree.Node.{Node}
+use Rattle.jr_tree.specs.Trees.{IsTree, Nodes, node_at, property_at}
 use Rattle.jr_items.specs.Items.{first_of, first_some, in_path_order, same_path}
 use Rattle.jr_items.specs.Names.{version_storage}
 use Rattle.jr_items.specs.Refusals.{over_limit, own_rule, refusal, refusal_at, when}
@@ -20,19 +24,34 @@ use Rattle.jr_types.specs.declared.TypeDef.{TypeDef}
 use Rattle.jr_types.specs.Rules.{TypesOk, child_at, child_faults, node_types, property_faults}
 use Rattle.jr_types.specs.Violations.{Violation, child_names, failing_at, first_violation, property_names, violations_at}
 use Rattle.jcr_lock.specs.Locks.{frozen_by, locked_by}
-use Rattle.jcr_ref.specs.References.{dangling}
+use Rattle.jcr_ref.specs.References.{ReferencesOk, dangling}
 use Rattle.oak_clash.specs.declared.mark.MarkAt.{MarkAt}
-use Rattle.jcr_plan.specs.First.{sooner}
 use Rattle.jcr_plan.specs.Plans.{PlanOk, changed_by, has_few_nodes, heeded, is_changed}
 use Rattle.jcr_plan.specs.Refusals.{frozen_over, locked_over, plan_refusal, type_refusal}
-use Rattle.jcr_plan.proofs.Dangling.{dangles_not}
-use Rattle.jcr_plan.proofs.Refused.{all_there, first_more}
-use Rattle.jcr_plan.proofs.Stirred.{any_flat, path_self}
 use Rattle.jcr_law.specs.Commits.{refusal_of_due}
 use Rattle.jcr_law.specs.Proper.{is_proper}
 use Rattle.jcr_law.specs.State.{Call}
 use Rattle.jcr_law.proofs.Proper.{proper_is}
-use Rattle.core_obeys.specs.NoPlans.{NoPlan, over_checked_in, over_locked, rule_broken, reference_lost, too_many, improper}
+use Rattle.core_obeys.specs.NoPlans.{NoPlan, frozen, barred, rule_broken, reference_lost, too_many, improper}
+
+-- ---- a plan changes nothing that is covered
+
+any_flat : {X Y : Type 0} (test : Y → Bool) (f : X → List Y) (xs : List X) → list_any test (flat_map f xs) ≡ list_any (λ x. list_any test (f x)) xs
+any_flat test f [] = refl
+any_flat test f (x ∷ xs) = list_any-append test (f x) (flat_map f xs) ∙ ap (λ b. list_any test (f x) || b) (any_flat test f xs)
+
+or_right : (a b : Bool) → b ≡ true → (a || b) ≡ true
+or_right true b h = refl
+or_right false b h = h
+
+none_mapped : (f : Path → Option Path) (ps : List Path) → ((p : Path) → list_any (same_path p) ps ≡ true → f p ≡ None) → filter_map f ps ≡ []
+none_mapped f [] none = refl
+none_mapped f (p ∷ ps) none =
+    ap (λ (o : Option Path). cons_option o (filter_map f ps)) (none p (ap (λ b. b || list_any (same_path p) ps) (ap is_eq (tied_itself path_total p))))
+    ∙ none_mapped f ps (λ q there. none q (or_right (same_path q p) _ there))
+
+none_over : (f : Path → Option Path) (ws : List Write) → ((p : Path) → is_changed ws p ≡ true → f p ≡ None) → first_of (in_path_order (filter_map f (flat_map changed_by ws))) ≡ None
+none_over f ws none = ap (λ (ps : List Path). first_of (in_path_order ps)) (none_mapped f (flat_map changed_by ws) (λ p there. none p (sym (any_flat (same_path p) changed_by ws) ∙ there)))
 
 -- ---- where the rules of types hold nothing is listed
 
@@ -43,6 +62,19 @@ none_passes test (x ∷ xs) none = ap (λ b. cond b (x ∷ filter test xs) (filt
 none_flat : {X : Type 0} (f : ℕ → List X) (ks : List ℕ) → ((k : ℕ) → f k ≡ []) → flat_map f ks ≡ []
 none_flat f [] none = refl
 none_flat f (k ∷ ks) none = ap (λ xs. xs ++ flat_map f ks) (none k) ∙ none_flat f ks none
+
+-- a node is found at its path
+found : (b : Bool) (x : Node) (o : Option Node) → is_some o ≡ true → is_some (cond b (Some x) o) ≡ true
+found true x o h = refl
+found false x o h = h
+
+among : (before after : Nodes) (e : Path × Node) → is_some (node_at (before ++ e ∷ after) e.0) ≡ true
+among [] after e = ap (λ b. is_some (cond b (Some e.1) (node_at after e.0))) (ap is_eq (tied_itself path_total e.0))
+among (x ∷ before) after e = found (eq_by_cmp path_cmp e.0 x.0) x.1 (node_at (before ++ e ∷ after) e.0) (among before after e)
+
+moved : (before after : Nodes) (e : Path × Node) → before ++ e ∷ after ≡ (before ++ e ∷ []) ++ after
+moved [] after e = refl
+moved (x ∷ before) after e = ap (λ (es : Nodes). x ∷ es) (moved before after e)
 
 abbrev violation : Path → ℕ → Name → Violation
 violation p rule n = record { node = p; rule = rule; item = n }
@@ -59,58 +91,32 @@ module _ (types : List TypeDef) (t : Nodes) (typed : TypesOk types t) where
   none_at : (p : Path) → is_some (node_at t p) ≡ true → violations_at types t p ≡ []
   none_at p there = none_flat (λ rule. map (violation p rule) (failing_at types t p rule)) (1 ∷ 2 ∷ 3 ∷ 4 ∷ 5 ∷ 6 ∷ 7 ∷ 8 ∷ 9 ∷ []) (λ rule. ap (map (violation p rule)) (none_failing p there rule))
 
-  none_among : (es : Nodes) → list_all (λ e. is_some (node_at t e.0)) es ≡ true → flat_map (λ e. violations_at types t e.0) es ≡ []
-  none_among [] there = refl
-  none_among (e ∷ es) there =
-      let parts = and_parts (is_some (node_at t e.0)) _ there in
-      ap (λ (vs : List Violation). vs ++ flat_map (λ e. violations_at types t e.0) es) (none_at e.0 parts.0) ∙ none_among es parts.1
+  none_among : (before after : Nodes) → t ≡ before ++ after → flat_map (λ e. violations_at types t e.0) after ≡ []
+  none_among before [] is = refl
+  none_among before (e ∷ after) is =
+      ap (λ (vs : List Violation). vs ++ flat_map (λ e. violations_at types t e.0) after)
+      (none_at e.0 (ap (λ (es : Nodes). is_some (node_at es e.0)) is ∙ among before after e))
+      ∙ none_among (before ++ e ∷ []) after (is ∙ moved before after e)
 
   no_violation : first_violation types t ≡ None
-  no_violation = ap first_of (none_among t (all_there t))
+  no_violation = ap first_of (none_among [] t refl)
 
 -- ---- a plan has no reason to be none
 
-pub never_both : {A : Type 0} (types : List TypeDef) (t : Nodes) (tokens : List (List ℕ)) (ws : List Write) (marks : List MarkAt) (r : Refusal) → PlanOk types t tokens ws marks → NoPlan types t tokens ws r → A
-never_both types t tokens ws marks _ plan (over_checked_in p q changed is) = absurd (none-some q (sym (plan.free.checked_out p changed) ∙ is))
-never_both types t tokens ws marks _ plan (over_locked p q changed is) = absurd (none-some q (sym (plan.free.unlocked p changed) ∙ is))
-never_both types t tokens ws marks _ plan (rule_broken v is) = absurd (none-some v (sym (no_violation types (applied None t ws) plan.typed) ∙ is))
-never_both types t tokens ws marks _ plan (reference_lost item is) = absurd (none-some item (sym (dangles_not (applied None t ws) [] plan.proper.tree plan.referring refl) ∙ is))
-never_both types t tokens ws marks _ plan (too_many many) = absurd (false≢true (sym many ∙ plan.few))
-never_both types t tokens ws marks _ plan (improper not_proper) = absurd (false≢true (sym not_proper ∙ proper_is t ws plan.proper))
+-- each REFERENCE of a tree names a node where it is said so, as jcr_plan has it
+abbrev pub NoneDangles : Type 0
+NoneDangles = (t : Nodes) → IsTree t → ReferencesOk t → dangling t ≡ None
+
+pub never_both : {A : Type 0} (none_dangles : NoneDangles) (types : List TypeDef) (t : Nodes) (tokens : List (List ℕ)) (ws : List Write) (marks : List MarkAt) (r : Refusal)
+    → PlanOk types t tokens ws marks → NoPlan types t tokens ws r → A
+never_both none_dangles types t tokens ws marks _ plan (frozen q is) = absurd (none-some q (sym (none_over (frozen_by t) (heeded types t ws) plan.free.checked_out) ∙ is))
+never_both none_dangles types t tokens ws marks _ plan (barred q is) = absurd (none-some q (sym (none_over (λ p. locked_by t p tokens) ws plan.free.unlocked) ∙ is))
+never_both none_dangles types t tokens ws marks _ plan (rule_broken v is) = absurd (none-some v (sym (no_violation types (applied None t ws) plan.typed) ∙ is))
+never_both none_dangles types t tokens ws marks _ plan (reference_lost item is) = absurd (none-some item (sym (none_dangles (applied None t ws) plan.proper.tree plan.referring) ∙ is))
+never_both none_dangles types t tokens ws marks _ plan (too_many many) = absurd (false≢true (sym many ∙ plan.few))
+never_both none_dangles types t tokens ws marks _ plan (improper not_proper) = absurd (false≢true (sym not_proper ∙ proper_is t ws plan.proper))
 
 -- ---- what is refused for an edit is such a reason
-
-or_right : (a b : Bool) → b ≡ true → (a || b) ≡ true
-or_right true b h = refl
-or_right false b h = h
-
--- q comes of one of the paths
-abbrev ComesOf : (Path → Option Path) → List Path → Path → Type 0
-ComesOf f ps q = (p : Path) × (list_any (same_path p) ps ≡ true) × (f p ≡ Some q)
-
--- the first of what comes of some paths comes of one of them
-first_among : (f : Path → Option Path) (ps : List Path) (q : Path) → first_of (in_path_order (filter_map f ps)) ≡ Some q → ComesOf f ps q
-first_among f [] q is = absurd (none-some q is)
-first_among f (p ∷ ps) q is = by (f p) refl is (first_among f ps q)
-  where
-    later : ComesOf f ps q → ComesOf f (p ∷ ps) q
-    later (x, there, at) = (x, or_right (same_path x p) _ there, at)
-
-    here : f p ≡ Some q → ComesOf f (p ∷ ps) q
-    here at = (p, ap (λ b. b || list_any (same_path p) ps) (path_self p), at)
-
-    either : (y : Path) → f p ≡ Some y → (o : Option Path) → first_of (in_path_order (filter_map f ps)) ≡ o → sooner y o ≡ Some q
-        → (first_of (in_path_order (filter_map f ps)) ≡ Some q → ComesOf f ps q) → ComesOf f (p ∷ ps) q
-    either y at None k e rest = here (at ∙ e)
-    either y at (Some z) k e rest = elim (is_lt (path_cmp y z)) as (λ b. cond b (Some y) (Some z) ≡ Some q → ComesOf f (p ∷ ps) q) [
-      | true ↦ λ first. here (at ∙ first)
-      | false ↦ λ second. later (rest (k ∙ second))
-    ] e
-
-    by : (o : Option Path) → f p ≡ o → first_of (in_path_order (cons_option o (filter_map f ps))) ≡ Some q
-        → (first_of (in_path_order (filter_map f ps)) ≡ Some q → ComesOf f ps q) → ComesOf f (p ∷ ps) q
-    by None at k rest = later (rest k)
-    by (Some y) at k rest = either y at (first_of (in_path_order (filter_map f ps))) refl (sym (first_more y (filter_map f ps)) ∙ k) rest
 
 module _ (types : List TypeDef) (t : Nodes) (tokens : List (List ℕ)) (ws : List Write) where
   abbrev Why : Refusal → Type 0
@@ -124,26 +130,14 @@ module _ (types : List TypeDef) (t : Nodes) (tokens : List (List ℕ)) (ws : Lis
   mapped_why f None each x is = absurd (none-some x is)
   mapped_why f (Some y) each x is = subst (λ (z : Refusal). Why z) (same_Some (f y) x is) (each y refl)
 
-  frozen_why : (q : Path) → first_of (frozen_over types t ws) ≡ Some q → Why (refusal_at 8 q)
-  frozen_why q is = by (first_among (frozen_by t) (flat_map changed_by (heeded types t ws)) q is)
-    where
-      by : ComesOf (frozen_by t) (flat_map changed_by (heeded types t ws)) q → Why (refusal_at 8 q)
-      by (p, there, at) = over_checked_in p q (sym (any_flat (same_path p) changed_by (heeded types t ws)) ∙ there) at
-
-  locked_why : (q : Path) → first_of (locked_over t tokens ws) ≡ Some q → Why (refusal_at 7 q)
-  locked_why q is = by (first_among (λ p. locked_by t p tokens) (flat_map changed_by ws) q is)
-    where
-      by : ComesOf (λ p. locked_by t p tokens) (flat_map changed_by ws) q → Why (refusal_at 7 q)
-      by (p, there, at) = over_locked p q (sym (any_flat (same_path p) changed_by ws) ∙ there) at
-
   many_why : (b : Bool) → has_few_nodes (applied None t ws) ≡ b → (x : Refusal) → when (not b) (over_limit (codes "nodes") 100000) ≡ Some x → Why x
   many_why true few x is = absurd (none-some x is)
   many_why false many x is = subst (λ (y : Refusal). Why y) (same_Some (over_limit (codes "nodes") 100000) x is) (too_many many)
 
   plan_why : (r : Refusal) → plan_refusal types t tokens ws ≡ Some r → Why r
   plan_why r =
-      first_why (option_map (refusal_at 8) (first_of (frozen_over types t ws))) _ r (mapped_why (refusal_at 8) (first_of (frozen_over types t ws)) frozen_why)
-      (first_why (option_map (refusal_at 7) (first_of (locked_over t tokens ws))) _ r (mapped_why (refusal_at 7) (first_of (locked_over t tokens ws)) locked_why)
+      first_why (option_map (refusal_at 8) (first_of (frozen_over types t ws))) _ r (mapped_why (refusal_at 8) (first_of (frozen_over types t ws)) (λ q is. frozen q is))
+      (first_why (option_map (refusal_at 7) (first_of (locked_over t tokens ws))) _ r (mapped_why (refusal_at 7) (first_of (locked_over t tokens ws)) (λ q is. barred q is))
       (first_why (option_map type_refusal (first_violation types (applied None t ws))) _ r (mapped_why type_refusal (first_violation types (applied None t ws)) (λ v is. rule_broken v is))
       (first_why (option_map (λ item. refusal 9 (datum.Item item ∷ [])) (dangling (applied None t ws))) _ r (mapped_why (λ item. refusal 9 (datum.Item item ∷ [])) (dangling (applied None t ws)) (λ item is. reference_lost item is))
       (first_why (when (not (has_few_nodes (applied None t ws))) (over_limit (codes "nodes") 100000)) [] r (many_why (has_few_nodes (applied None t ws)) refl) (λ is. absurd (none-some r is))))))

@@ -4,7 +4,7 @@ use Rattle.std.specs.Option.{option_map_or, unwrap_or}
 use Rattle.std.specs.Fmt.{digits}
 use Rattle.std.specs.Prelude.{◌||◌, ◌==◌, slice_get}
 use Rattle.std.proofs.lemmas.Bool.{and_parts, false≢true}
-use Rattle.std.proofs.lemmas.Option.{none-some, same_Some}
+use Rattle.std.proofs.lemmas.Option.{none-some, some_pair_parts}
 use Rattle.jr_path.specs.declared.name.Name.{Name}
 use Rattle.jr_path.specs.declared.path.Item.{Item}
 use Rattle.jr_rev.specs.declared.revision.Revision.{Revision}
@@ -71,7 +71,7 @@ module _ (clusters : ℕ) (sessions : List ℕ) (nodes : AreNodes clusters sessi
   pub cause_of : (past : Past) (r : Revision) (item : Item) (o : Revision) → IsRunOf starts says clusters sessions begin past → refusal_of past r ≡ Some (item, o) → r ≢ o → Cause past r item o
   cause_of [] r item o run is another = absurd (none-some (item, o) is)
   cause_of (event.Refuse q i x ∷ past) r item o run is another = elim (is_same r q) as (λ b. is_same r q ≡ b → cond b (Some (i, x)) (refusal_of past r) ≡ Some (item, o) → Cause (event.Refuse q i x ∷ past) r item o) [
-    | true ↦ λ same named. here (same_revision r q same) (same_Some (i, x) (item, o) named)
+    | true ↦ λ same named. let parts = some_pair_parts i item x o named in here (same_revision r q same) parts.0 parts.1
     | false ↦ λ other named. cause_more (event.Refuse q i x) past r item o run (cause_of past r item o run.1 named another)
   ] refl is
     where
@@ -84,9 +84,9 @@ module _ (clusters : ℕ) (sessions : List ℕ) (nodes : AreNodes clusters sessi
         live = may.live;
       }
 
-      here : r ≡ q → (i, x) ≡ (item, o) → Cause (event.Refuse q i x ∷ past) r item o
-      here same named = cause_more (event.Refuse q i x) past r item o run
-          (now (subst (λ (y : Item × Revision). MayRefuse past r y.0 y.1) named (subst (λ (y : Revision). MayRefuse past y i x) (sym same) run.0)))
+      here : r ≡ q → i ≡ item → x ≡ o → Cause (event.Refuse q i x ∷ past) r item o
+      here same of from = cause_more (event.Refuse q i x) past r item o run
+          (now (subst (λ (y : Item). MayRefuse past r y o) of (subst (λ (y : Revision). MayRefuse past r i y) from (subst (λ (y : Revision). MayRefuse past y i x) (sym same) run.0))))
   cause_of (e ∷ past) r item o run is another = cause_more e past r item o run (cause_of past r item o run.1 is another)
 
   -- what clashes with no other outside its base isn't refused, where refusals name others

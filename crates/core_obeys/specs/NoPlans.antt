@@ -1,29 +1,30 @@
 -- Why an edit is no plan.
-use Rattle.std.specs.Prelude.{◌≡◌, ℕ, List, None, Some, IsFalse, IsTrue, codes}
+use Rattle.std.specs.Prelude.{◌≡◌, ℕ, List, None, Some, IsFalse, codes}
 use Rattle.jr_path.specs.declared.path.Item.{Item}
 use Rattle.jr_path.specs.declared.path.Path.{Path}
 use Rattle.jr_tree.specs.declared.edit.Write.{Write}
 use Rattle.jr_tree.specs.declared.shared.Refusal.{Refusal}
 use Rattle.jr_tree.specs.Edits.{applied}
 use Rattle.jr_tree.specs.Trees.{Nodes}
+use Rattle.jr_items.specs.Items.{first_of}
 use Rattle.jr_items.specs.Names.{version_storage}
 use Rattle.jr_items.specs.Refusals.{checked_in, dangling as names_nothing, locked, over_limit, own_rule}
 use Rattle.jr_types.specs.declared.TypeDef.{TypeDef}
 use Rattle.jr_types.specs.Violations.{Violation, first_violation}
-use Rattle.jcr_lock.specs.Locks.{frozen_by, locked_by}
 use Rattle.jcr_ref.specs.References.{dangling}
-use Rattle.jcr_plan.specs.Plans.{has_few_nodes, heeded, is_changed}
-use Rattle.jcr_plan.specs.Refusals.{type_refusal}
+use Rattle.jcr_plan.specs.Plans.{has_few_nodes}
+use Rattle.jcr_plan.specs.Refusals.{frozen_over, locked_over, type_refusal}
 use Rattle.jcr_law.specs.Proper.{is_proper}
 
 -- the refusal tells why the writes are no plan on the tree for one who holds the tokens
 pub data NoPlan (types : List TypeDef) (t : Nodes) (tokens : List (List ℕ)) (ws : List Write)
     : Refusal → Type 0 where
-  -- 8: a checked-in node covers a node that they change, items with IGNORE aside
-  over_checked_in : (p q : Path) → IsTrue (is_changed (heeded types t ws) p)
-      → frozen_by t p ≡ Some q → NoPlan types t tokens ws (checked_in q)
-  -- 7: a lock whose owner is not among the tokens covers a node that they change
-  over_locked : (p q : Path) → IsTrue (is_changed ws p) → locked_by t p tokens ≡ Some q
+  -- 8: a checked-in node covers a node that they change, items with IGNORE aside; of several such
+  -- the first in path order
+  frozen : (q : Path) → first_of (frozen_over types t ws) ≡ Some q
+      → NoPlan types t tokens ws (checked_in q)
+  -- 7: a lock whose owner is not among the tokens covers a node that they change, this one first
+  barred : (q : Path) → first_of (locked_over t tokens ws) ≡ Some q
       → NoPlan types t tokens ws (locked q)
   -- 4: the tree after them breaks a rule of node types, this one first
   rule_broken : (v : Violation) → first_violation types (applied None t ws) ≡ Some v
