@@ -32,7 +32,7 @@ use Rattle.jcr_law.specs.State.{Call, call_of}
 use Rattle.jcr_call.specs.Reading.{AnswersFor, AnswersQuery, AnswersRead, ShowsRows}
 use Rattle.jcr_call.proofs.QueryRead.{of_read}
 use Rattle.jcr_eval.specs.Asked.{IsReadSo, refuses_fault}
-use Rattle.jcr_eval.specs.Shown.{is_refusal}
+use Rattle.jcr_past.specs.Shown.{is_refusal}
 use Rattle.jcr_eval.specs.TaskCauses.{QueryCause}
 
 -- a query's text is answered in one way

@@ -5,7 +5,7 @@ use Rattle.std.specs.Option.{option_map_or}
 use Rattle.std.proofs.lemmas.Result.{IfOk-weaker}
 use Rattle.jr_tree.specs.declared.shared.Refusal.{Refusal}
 use Rattle.jr_items.specs.Refusals.{IsOrMemory, IsTheRefusal, out_of_memory}
-use Rattle.jcr_eval.specs.Shown.{is_refusal}
+use Rattle.jcr_past.specs.Shown.{is_refusal}
 
 -- the refusal is no want of memory, and whether the text is its reply
 abbrev Told : List ℕ → Refusal → Bool → Type 0

@@ -25,7 +25,7 @@ use Rattle.jcr_trans.specs.Answers.{Answer, ShowsRevision, ShowsVector}
 use Rattle.jcr_trans.specs.Texts.{answer_text, ok_text}
 use Rattle.jcr_law.specs.Tasks.{collected_data, is_out, is_recovering, is_sweep, knows_published, split_data}
 use Rattle.jcr_eval.proofs.Passing.{and_parts, and_whole}
-use Rattle.jcr_eval.specs.Shown.{attaches, is_answer, keeps, releases, same_vector, shows_collection, shows_in, shows_out, shows_recovery, shows_split, shows_sweep}
+use Rattle.jcr_past.specs.Shown.{attaches, is_answer, keeps, releases, same_vector, shows_collection, shows_in, shows_out, shows_recovery, shows_split, shows_sweep}
 
 same_itself : (r : Revision) → is_same r r ≡ true
 same_itself r = ap is_eq (tied_itself revision_total r)

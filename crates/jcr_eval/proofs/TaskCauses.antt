@@ -30,7 +30,7 @@ use Rattle.jcr_eval.proofs.Passing.{and_parts, and_whole, came_any, came_contain
 use Rattle.jcr_eval.proofs.Showing.{attach_is, attach_passes, collection_is, collection_shown, in_is, in_shown, is_shown, keep_is, keep_passes, out_is, out_shown, recovery_is, recovery_shown, release_is, release_passes, shown_is, split_is, split_shown, sweep_is, sweep_shown}
 use Rattle.jcr_eval.proofs.Options.{some_passed}
 use Rattle.jcr_eval.specs.Said.{has_in, has_out, has_sweep, is_own, refuses_checkpoint, refuses_id, refuses_split, says_attach, says_checkpoint, says_collect, says_detach, says_events, says_in, says_observe, says_out, says_recover, says_release, says_split, says_stop, says_sweep, shows_checkpoint, shows_events, shows_vector}
-use Rattle.jcr_eval.specs.Shown.{attaches, is_answer, is_refusal, keeps, releases, shows_collection, shows_in, shows_out, shows_recovery, shows_split, shows_sweep}
+use Rattle.jcr_past.specs.Shown.{attaches, is_answer, is_refusal, keeps, releases, shows_collection, shows_in, shows_out, shows_recovery, shows_split, shows_sweep}
 use Rattle.jcr_eval.specs.TaskCauses.{AttachCause, CheckpointCause, CollectCause, DetachCause, EventsCause, InCause, ObserveCause, OutCause, RecoverCause, ReleaseCause, SplitCause, StopCause, SweepCause, TaskCause}
 
 abbrev Said : Bool → Type 0 → Type 0

@@ -10,7 +10,7 @@ use Rattle.sql_parse.specs.declared.fault.SqlFault.{SqlFault}
 use Rattle.sql_parse.specs.declared.fault.SqlFault.TheVariants as fault
 use Rattle.sql_parse.specs.declared.query.Query.{Query}
 use Rattle.jcr_call.specs.Reading.{AnswersRead}
-use Rattle.jcr_eval.specs.Shown.{is_refusal}
+use Rattle.jcr_past.specs.Shown.{is_refusal}
 
 -- the text is why a text is no query
 abbrev pub refuses_fault : List ℕ → SqlFault → Bool

@@ -21,7 +21,7 @@ use Rattle.jcr_law.specs.Queries.{events_reply, events_since}
 use Rattle.jcr_law.specs.Since.{before_turn, came, detached_among, is_pinning}
 use Rattle.jcr_law.specs.State.{call_of, next_id}
 use Rattle.jcr_law.specs.Tasks.{finds_stopped, misses, split_refusal}
-use Rattle.jcr_eval.specs.Shown.{attaches, is_answer, is_refusal, keeps, releases, shows_collection, shows_in, shows_out, shows_recovery, shows_split, shows_sweep}
+use Rattle.jcr_past.specs.Shown.{attaches, is_answer, is_refusal, keeps, releases, shows_collection, shows_in, shows_out, shows_recovery, shows_split, shows_sweep}
 
 -- cluster node k of s published what is shown, and at least what was its own when the command began
 abbrev pub has_out : History → (s : ℕ) → List ℕ → (k : ℕ) → Bool

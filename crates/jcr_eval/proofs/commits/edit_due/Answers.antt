@@ -1,7 +1,7 @@
 use Rattle.std.proofs.Common.{◌∙◌}
 use Rattle.std.proofs.lemmas.Result.{IfOk-weaker}
 use Rattle.jcr_call.proofs.AtOnce.{at_once}
-use Rattle.jcr_eval.specs.Calls.{called}
+use Rattle.jcr_past.specs.Calls.{called}
 use Rattle.jcr_eval.proofs.commits.edit_due.Goals as goal
 
 pub returns-in_default : goal.returns-in_default

@@ -1,7 +1,7 @@
 use Rattle.std.proofs.Common.{sym}
 use Rattle.std.proofs.lemmas.Result.{IfOk-weaker}
 use Rattle.oak_machine.specs.History.{history_of}
-use Rattle.jcr_eval.specs.Calls.{called}
+use Rattle.jcr_past.specs.Calls.{called}
 use Rattle.jcr_eval.proofs.QueryCauses.{query_said}
 use Rattle.jcr_eval.proofs.queries.query_says.Goals as goal
 

@@ -3,7 +3,7 @@ use Rattle.std.specs.Prelude.{option_map, reverse}
 use Rattle.std.proofs.lemmas.Result.{IfOk-weaker}
 use Rattle.oak_machine.specs.History.{Past, history_of}
 use Rattle.jcr_law.specs.State.{call_of}
-use Rattle.jcr_eval.specs.Calls.{called}
+use Rattle.jcr_past.specs.Calls.{called}
 use Rattle.jcr_eval.proofs.Viewed.{viewed_there}
 use Rattle.jcr_eval.proofs.view.view_says.Goals as goal
 
