@@ -1,4 +1,5 @@
--- What came since a command began: where some event came that passes a test, there is one that does.
+-- What came since a command began: where some event came that passes a test, there is one that
+-- does.
 use Rattle.std.proofs.Common.{◌≡◌, ℕ, zero, suc, Bool, true, false, not, cond, ◌&&◌, ◌||◌, ◌⊎◌, inl, inr, List, [], ◌∷◌, refl, sym, ap, subst, ◌∙◌, arith}
 use Rattle.std.specs.Prelude.{Contains}
 use Rattle.std.specs.List.{list_any}

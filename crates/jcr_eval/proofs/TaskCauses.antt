@@ -1,4 +1,5 @@
--- The causes of replies of commands of the cluster and of observation, decided of what came since they began.
+-- The causes of replies of commands of the cluster and of observation, decided of what came since
+-- they began.
 use Rattle.std.proofs.Common.{◌≡◌, ℕ, ◌+◌, Bool, true, false, not, ◌&&◌, ◌||◌, inl, inr, List, Option, None, Some, refl, sym, ap, subst, ◌∙◌}
 use Rattle.std.specs.Prelude.{◌↔◌, ◌==◌, slice_get, Contains, IfOk, IsTrue, Result, is_none}
 use Rattle.std.specs.Option.{option_map_or}

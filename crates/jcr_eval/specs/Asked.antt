@@ -18,8 +18,8 @@ refuses_fault text (fault.InvalidQuery offset) = is_refusal text (no_query offse
 refuses_fault text (fault.Cast asked given) = is_refusal text (wrong_kind asked given)
 refuses_fault text fault.Memory = false
 
--- a query's text was read, and memory was not refused; and a text is what it answers just where b is
--- true
+-- a query's text was read, and memory was not refused; and a text is what it answers just where b
+-- is true
 abbrev pub IsReadSo : List TypeDef → Nodes → (query : List ℕ) → List (Name × Value) → List ℕ
     → Bool → Type 0
 IsReadSo types tree query vars text b = (p : Result Query SqlFault) × IsParsed query vars p

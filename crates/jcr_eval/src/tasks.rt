@@ -79,7 +79,8 @@ fn out_says(journal: &Journal, session: u32, text: &str) -> bool
     }
 }
 
-// Whether the cluster node published what is shown, and at least what was its own when the command began.
+// Whether the cluster node published what is shown, and at least what was its own when the command
+// began.
 fn has_own_out(journal: &Journal, session: u32, cluster: u32, text: &str) -> bool
     ensures { result ≡ has_out (history_of journal.now) session text.now cluster }
 {
@@ -106,7 +107,8 @@ fn sweep_says(journal: &Journal, session: u32, text: &str) -> bool
     }
 }
 
-// Whether the cluster node swept up to what is shown, and at least what it had published when the command began.
+// Whether the cluster node swept up to what is shown, and at least what it had published when the
+// command began.
 fn has_own_sweep(journal: &Journal, session: u32, cluster: u32, text: &str) -> bool
     ensures { result ≡ has_sweep (history_of journal.now) session text.now cluster }
 {

@@ -1,4 +1,5 @@
--- The JSON of splits and collections has no float, so the text that is written for it is the compact one.
+-- The JSON of splits and collections has no float, so the text that is written for it is the
+-- compact one.
 use Rattle.std.proofs.Common.{◌≡◌, ℕ, Bool, false, ◌||◌, List, [], ◌∷◌, map, refl, ap}
 use Rattle.serde_json.specs.Data.{array}
 use Rattle.serde_json.specs.View.{items_of}

@@ -40,8 +40,8 @@ fn is_pinning(event: &Event, session: u32) -> bool
     }
 }
 
-/// Whether a step of the session on the settings found no checkpoint of that id since its last reply
-/// (Oak, Checkpoints).
+/// Whether a step of the session on the settings found no checkpoint of that id since its last
+/// reply (Oak, Checkpoints).
 #[tactic(auto, using(oak_machine::proofs::Forward::past_more))]
 pub fn has_missed(events: &[Event], session: u32, id: &Text) -> bool
     ensures { result ≡ came session (misses session id.now) (reverse events.now) }
@@ -135,8 +135,8 @@ fn shows_out(event: &Event, cluster: u32, least: Revision, text: &str) -> bool
     }
 }
 
-/// Whether the cluster node swept since the last reply of the session up to what the text shows, and
-/// at least to a revision (Oak, Background Operations).
+/// Whether the cluster node swept since the last reply of the session up to what the text shows,
+/// and at least to a revision (Oak, Background Operations).
 #[tactic(auto, using(oak_machine::proofs::Forward::past_more))]
 pub fn has_sweep(events: &[Event], session: u32, cluster: u32, least: Revision, text: &str) -> bool
     ensures { result
@@ -159,8 +159,8 @@ fn shows_sweep(event: &Event, cluster: u32, least: Revision, text: &str) -> bool
     }
 }
 
-/// Whether the cluster node was recovered, and published since the last reply of the session what the
-/// text shows; its number may be one that no cluster node has (Oak, Background Operations).
+/// Whether the cluster node was recovered, and published since the last reply of the session what
+/// the text shows; its number may be one that no cluster node has (Oak, Background Operations).
 #[tactic(auto, using(oak_machine::proofs::Forward::past_more))]
 pub fn has_recovery(events: &[Event], session: u32, cluster: u64, text: &str) -> bool
     ensures { result ≡ came session (shows_recovery cluster text.now) (reverse events.now) }
@@ -283,9 +283,9 @@ pub fn detached_since(events: &[Event], session: u32) -> Option<RevVec>
     detached
 }
 
-/// Whether the cluster node learned since the last reply of the session a vector that the text shows,
-/// with what the others had published when the command began (Oak, Background Operations). It takes
-/// memory.
+/// Whether the cluster node learned since the last reply of the session a vector that the text
+/// shows, with what the others had published when the command began (Oak, Background Operations).
+/// It takes memory.
 #[tactic(auto, using(oak_machine::proofs::Forward::past_more))]
 pub fn has_in(
     alloc: Global,
@@ -360,8 +360,8 @@ fn has_published(journal: &Journal, before: &[Event], other: u32, v: &RevVec) ->
     }
 }
 
-/// Whether a split that the session asked for at the path ended since its last reply as the text shows
-/// (Oak, Previous Documents). It takes memory.
+/// Whether a split that the session asked for at the path ended since its last reply as the text
+/// shows (Oak, Previous Documents). It takes memory.
 #[tactic(auto, using(oak_machine::proofs::Forward::past_more))]
 pub fn has_split(
     alloc: Global,
@@ -399,8 +399,8 @@ fn shows_split(
     }
 }
 
-/// Whether a collection that the session asked for did since its last reply what the text shows (Oak,
-/// Revision Garbage Collection). It takes memory.
+/// Whether a collection that the session asked for did since its last reply what the text shows
+/// (Oak, Revision Garbage Collection). It takes memory.
 #[tactic(auto, using(oak_machine::proofs::Forward::past_more))]
 pub fn has_collection(
     alloc: Global,

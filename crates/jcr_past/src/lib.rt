@@ -1,5 +1,6 @@
-//! What a journal says of a session by the law of the whole content, by plain calls that go over all
-//! its events: its state, what its next command is run with, and what came since its last reply.
+//! What a journal says of a session by the law of the whole content, by plain calls that go over
+//! all its events: its state, what its next command is run with, and what came since its last
+//! reply.
 #![tactic(auto)]
 
 mod call;

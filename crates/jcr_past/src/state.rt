@@ -1,4 +1,5 @@
-// What a history says of a session: its view, its tokens, its cursor, and how many identifiers it has drawn.
+// What a history says of a session: its view, its tokens, its cursor, and how many identifiers it
+// has drawn.
 ghost use Rattle.std.specs.Prelude.{◌≡◌, ◌∷◌, [], IfOk, IsTrue, None, OnOk, Some, cond, is_some, option_map, reverse};
 ghost use Rattle.std.specs.List.{list_any};
 ghost use Rattle.std.specs.Option.{option_copied, option_map_or};
