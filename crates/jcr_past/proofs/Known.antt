@@ -7,8 +7,10 @@ and_assoc : (a b c : Bool) → ((a && b) && c) ≡ (a && (b && c))
 and_assoc true b c = refl
 and_assoc false b c = refl
 
-pub all_further : (f : ℕ → Bool) (m n : ℕ) (old new here g : Bool) → m < n → here ≡ f m → new ≡ (old && here)
-    → (old && list_all f (range_with_len m (n - m))) ≡ g → (new && list_all f (range_with_len (m + 1) (n - (m + 1)))) ≡ g
+pub all_further : (f : ℕ → Bool) (m n : ℕ) (old new here g : Bool) → m < n → here ≡ f m
+    → new ≡ (old && here)
+    → (old && list_all f (range_with_len m (n - m))) ≡ g
+    → (new && list_all f (range_with_len (m + 1) (n - (m + 1)))) ≡ g
 all_further f m n old new here g less is now was =
     let rest = list_all f (range_with_len (m + 1) (n - (m + 1))) in
     ap (λ b. b && rest) now ∙ (and_assoc old here rest ∙ (ap (λ b. old && (b && rest)) is

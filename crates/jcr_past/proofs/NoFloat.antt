@@ -14,7 +14,8 @@ pub split_plain : (e : SplitEnd) → has_float (split_data e) ≡ false
 split_plain (split.Split n) = refl
 split_plain (split.Skipped read found) = refl
 
-skipped_plain : (xs : List (DocId × ℕ × ℕ)) → has_float (array (items_of (map skipped_data xs))) ≡ false
+skipped_plain : (xs : List (DocId × ℕ × ℕ))
+    → has_float (array (items_of (map skipped_data xs))) ≡ false
 skipped_plain [] = refl
 skipped_plain (x ∷ xs) = skipped_plain xs
 

@@ -19,37 +19,49 @@ module _ (law : JcrLaw) (begin : Begin) (past : Past) (s : ℕ) where
   -- the base moved to a vector
   pub after_refresh : (t : ℕ) (v : RevVec) (e : Event) (state new : State) → e ≡ event.Refresh t v
       → t ≡ s → state ≡ state_of law begin past s
-      → new ≡ moved (base_tree begin past s) (tree_at begin past v) state → new ≡ state_of law begin (e ∷ past) s
+      → new ≡ moved (base_tree begin past s) (tree_at begin past v) state
+      → new ≡ state_of law begin (e ∷ past) s
   after_refresh t v e state new here same before is =
       is ∙ ap (moved (base_tree begin past s) (tree_at begin past v)) before
-      ∙ sym (ap (λ b. cond b (moved (base_tree begin past s) (tree_at begin past v) (state_of law begin past s))
+      ∙ sym (ap (λ b. cond b
+      (moved (base_tree begin past s) (tree_at begin past v) (state_of law begin past s))
       (state_of law begin past s)) (eq-eqb t s same))
       ∙ sym (ap (λ (x : Event). state_of law begin (x ∷ past) s) here)
 
   -- the base moved to a checkpoint
   pub after_attach : (t : ℕ) (id : Text) (v : Option RevVec) (e : Event) (state new : State)
-      → e ≡ event.Attach t id → t ≡ s → v ≡ last_checkpoint past id → state ≡ state_of law begin past s
-      → new ≡ moved (base_tree begin past s) (option_map_or (tree_at begin past) v (begin_tree begin)) state
+      → e ≡ event.Attach t id → t ≡ s → v ≡ last_checkpoint past id
+      → state ≡ state_of law begin past s
+      → new ≡ moved (base_tree begin past s)
+      (option_map_or (tree_at begin past) v (begin_tree begin)) state
       → new ≡ state_of law begin (e ∷ past) s
   after_attach t id v e state new here same last before is =
-      is ∙ ap (moved (base_tree begin past s) (option_map_or (tree_at begin past) v (begin_tree begin))) before
-      ∙ ap (λ (o : Option RevVec). moved (base_tree begin past s) (option_map_or (tree_at begin past) o (begin_tree begin))
+      is ∙ ap (moved (base_tree begin past s)
+      (option_map_or (tree_at begin past) v (begin_tree begin))) before
+      ∙ ap (λ (o : Option RevVec). moved (base_tree begin past s)
+      (option_map_or (tree_at begin past) o (begin_tree begin))
       (state_of law begin past s)) last
       ∙ sym (ap (λ b. cond b (moved (base_tree begin past s) (option_map_or (tree_at begin past)
-      (cond b (last_checkpoint past id) (base_of past s)) (begin_tree begin)) (state_of law begin past s))
+      (cond b (last_checkpoint past id) (base_of past s)) (begin_tree begin))
+      (state_of law begin past s))
       (state_of law begin past s)) (eq-eqb t s same))
       ∙ sym (ap (λ (x : Event). state_of law begin (x ∷ past) s) here)
 
   -- a reply was said
-  pub after_reply : (i : ℕ) (text : Text) (state new : State) (m : Command) (v : RevVec) (ok drew : Bool) (c : Call)
+  pub after_reply : (i : ℕ) (text : Text) (state new : State) (m : Command) (v : RevVec)
+      (ok drew : Bool) (c : Call)
       → command_at law s i ≡ Some m → base_of past s ≡ Some v → ok ≡ is_ok_text text
-      → drew ≡ is_some (drawn_since past s) → c ≡ call_at law begin past s v state → new ≡ answered ok drew c m
+      → drew ≡ is_some (drawn_since past s) → c ≡ call_at law begin past s v state
+      → new ≡ answered ok drew c m
       → new ≡ replied law begin past s i text state
   after_reply i text state new m v ok drew c there based oks draws called is =
       is ∙ ap (λ b. answered b drew c m) oks
       ∙ ap (λ b. answered (is_ok_text text) b c m) draws
       ∙ ap (λ (d : Call). answered (is_ok_text text) (is_some (drawn_since past s)) d m) called
-      ∙ sym (ap (λ (o : Option RevVec). option_map_or (λ w. answered (is_ok_text text) (is_some (drawn_since past s))
+      ∙ sym (ap (λ (o : Option RevVec). option_map_or
+      (λ w. answered (is_ok_text text) (is_some (drawn_since past s))
       (call_at law begin past s w state) m) o state) based)
-      ∙ sym (ap (λ (o : Option Command). option_map_or (λ n. option_map_or (λ w. answered (is_ok_text text)
-      (is_some (drawn_since past s)) (call_at law begin past s w state) n) (base_of past s) state) o state) there)
+      ∙ sym (ap (λ (o : Option Command). option_map_or
+      (λ n. option_map_or (λ w. answered (is_ok_text text)
+      (is_some (drawn_since past s)) (call_at law begin past s w state) n) (base_of past s) state) o
+      state) there)

@@ -33,19 +33,20 @@ shows_out k least text (event.Out m r) =
     m == k && (is_at_most least r && is_answer text (ShowsRevision r))
 shows_out k least text _ = false
 
--- it swept so
+-- cluster node k swept up to a revision that is at least that one, and is shown
 abbrev pub shows_sweep : (k : ℕ) → Revision → List ℕ → Event → Bool
 shows_sweep k least text (event.Sweep m r) =
     m == k && (is_at_most least r && is_answer text (ShowsRevision r))
 shows_sweep k least text _ = false
 
--- it was recovered before, and published up to a revision that is shown
+-- cluster node k was recovered before, and published up to a revision that is shown
 abbrev pub shows_recovery : (k : ℕ) → List ℕ → Past → Event → Bool
 shows_recovery k text earlier (event.Out m r) =
     m == k && (is_recovered earlier m && is_answer text (ShowsRevision r))
 shows_recovery k text earlier _ = false
 
--- it learned a vector that is shown, with what the others had published at an earlier past
+-- cluster node k learned a vector that is shown, with what the others had published at an earlier
+-- past
 abbrev pub shows_in : (clusters : ℕ) → Begin → Past → (k : ℕ) → List ℕ → Event → Bool
 shows_in clusters begin before k text (event.In m v) =
     m == k && (knows_published clusters begin before k v && is_answer text (ShowsVector v))
@@ -73,10 +74,11 @@ abbrev pub releases : Text → Event → Bool
 releases id (event.Release other) = is_text other id
 releases id _ = false
 
--- two revisions are the same, and two vectors entry by entry
+-- two revisions are the same
 abbrev pub same_revision : Revision → Revision → Bool
 same_revision a b = a.time == b.time && (a.counter == b.counter && a.cluster == b.cluster)
 
+-- two vectors are the same entry by entry
 abbrev pub same_vector : RevVec → RevVec → Bool
 same_vector = pointwise (option_eq same_revision)
 

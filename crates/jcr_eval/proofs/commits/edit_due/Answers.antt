@@ -8,4 +8,5 @@ pub returns-in_default : goal.returns-in_default
 returns-in_default c =
     let on = called c.args.types.now c.args.call.now in
     IfOk-weaker c.edit_due.result _ _
-    (λ due is. is ∙ at_once on c.args.command.now c.in_default.not-Save) (c.edit_due.ensures on c.footing.ensures)
+    (λ due is. is ∙ at_once on c.args.command.now c.in_default.not-Save)
+    (c.edit_due.ensures on c.footing.ensures)

@@ -7,6 +7,8 @@ use Rattle.jcr_eval.proofs.queries.query_says.Goals as goal
 
 pub returns-in-Some : goal.returns-in-Some
 returns-in-Some c = IfOk-weaker c.answers.result _ _
-    (λ b reads. query_said c.args.law.now (history_of c.args.journal.now) c.args.session c.args.query.now c.args.vars.now c.args.text.now b (called c.args.law.now.types c.in-Some.call)
+    (λ b reads. query_said c.args.law.now (history_of c.args.journal.now) c.args.session
+    c.args.query.now c.args.vars.now c.args.text.now b
+    (called c.args.law.now.types c.in-Some.call)
     (sym (rw (c.in-Some.is, c.as_slice.ensures) at c.in_ok-call.ensures)) reads)
     c.answers.ensures

@@ -5,5 +5,7 @@ use Rattle.jcr_past.proofs.came.detached_since.Given as goal
 
 abbrev pub invariant-loop-event : goal.invariant-loop-event
 invariant-loop-event l =
-    (l.refreshed ≡ refreshed_among (since (reverse (take l.event-index l.events)) l.session) l.session)
-    × (l.detached ≡ detached_among (since (reverse (take l.event-index l.events)) l.session) l.session)
+    (l.refreshed
+    ≡ refreshed_among (since (reverse (take l.event-index l.events)) l.session) l.session)
+    × (l.detached
+    ≡ detached_among (since (reverse (take l.event-index l.events)) l.session) l.session)

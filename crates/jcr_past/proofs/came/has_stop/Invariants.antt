@@ -4,4 +4,5 @@ use Rattle.jcr_law.specs.Since.{came}
 use Rattle.jcr_past.proofs.came.has_stop.Given as goal
 
 abbrev pub invariant-loop-at : goal.invariant-loop-at
-invariant-loop-at l = l.stopped ≡ came l.session (λ earlier e. is_stop_of l.cluster e) (reverse (take l.at l.events))
+invariant-loop-at l =
+    l.stopped ≡ came l.session (λ earlier e. is_stop_of l.cluster e) (reverse (take l.at l.events))
