@@ -42,8 +42,8 @@ has_in h s text k =
 abbrev pub says_in : History → ℕ → List ℕ → Bool
 says_in h s text = option_map_or (has_in h s text) (slice_get h.sessions s) false
 
--- cluster node k of s swept up to what is shown, and at least what it had published when the command
--- began
+-- cluster node k of s swept up to what is shown, and at least what it had published when the
+-- command began
 abbrev pub has_sweep : History → (s : ℕ) → List ℕ → (k : ℕ) → Bool
 has_sweep h s text k =
     came s (λ earlier e. shows_sweep k (published h.begin (before_turn h.past s) k) text e) h.past

@@ -61,7 +61,8 @@ CheckpointCause law h s text =
     ⊎ ((c : Call) × (r : Refusal) × (call_of law h.begin h.past s ≡ Some c)
     × (too_many_ids (c.who.ids + 1) ≡ Some r) × (text ≡ no_text r))
 
--- the text shows the base of s, which is attached to the checkpoint; or there was no such checkpoint
+-- the text shows the base of s, which is attached to the checkpoint; or there was no such
+-- checkpoint
 abbrev pub AttachCause : History → ℕ → Text → List ℕ → Type 0
 AttachCause h s id text =
     ((v : RevVec) × Contains (since h.past s) (event.Attach s id) × (base_of h.past s ≡ Some v)
