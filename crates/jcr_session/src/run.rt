@@ -5,10 +5,10 @@ ghost use Rattle.jcr_session.specs.Standing.{HasTurned, IsGranted, IsNew, IsPrep
 ghost use Rattle.jcr_session.specs.declared.next.Due.TheVariants as due;
 ghost use Rattle.jcr_session.specs.declared.run.Phase.TheVariants as phase;
 
+use crate::commit::Pledge;
 use crate::limits::MOST_COMMANDS;
 use crate::next::Due;
 use crate::turn::Turn;
-use jcr_call::Accepted;
 use jcr_held::Held;
 use jcr_law::JcrLaw;
 use jcr_trans::{Command, vector_reply};
@@ -46,10 +46,10 @@ pub(crate) enum Phase {
     Between,
     // Its base moved to this vector for a refresh, which it has not answered yet.
     Refreshed(RevVec),
-    // It commits, and will be accepted so.
-    Committing(Accepted),
+    // It commits, and keeps this for its reply.
+    Committing(Pledge),
     // Its commit has ended so, and it has not answered yet.
-    Committed(CommitEnd, Accepted),
+    Committed(CommitEnd, Pledge),
     // It has left.
     Over,
 }
