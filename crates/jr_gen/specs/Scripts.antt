@@ -1,5 +1,5 @@
 -- The script that is made from a seed, for m sessions: its JSON and its text.
-use Rattle.std.specs.Prelude.{ℕ, zero, suc, ◌+◌, ◌*◌, ◌%◌, min, false, List, [], ◌∷◌, ◌++◌, codes, decimal}
+use Rattle.std.specs.Prelude.{◌≡◌, ◌<◌, ℕ, zero, suc, ◌+◌, ◌*◌, ◌%◌, min, false, List, [], ◌∷◌, ◌++◌, codes, decimal}
 use Rattle.serde_json.specs.Data.{Data, boolean, number, string, array, object, unsigned, no_members, member}
 use Rattle.serde_json.specs.View.{items_of}
 use Rattle.serde_json.specs.Written.{compact_text}
@@ -66,6 +66,10 @@ sessions_data (suc k) s m x = session_data s m x ∷ sessions_data k (s + 1) m (
 unfoldable pub turns_data : (k : ℕ) → (m : ℕ) → ℕ → List Data
 turns_data zero m x = []
 turns_data (suc k) m x = number (unsigned (draw 1 m x)) ∷ turns_data k m (next x)
+
+-- a turn of one of m sessions
+abbrev pub IsTurn : (m : ℕ) → Data → Type 0
+IsTurn m d = (s : ℕ) × (s < m) × (d ≡ number (unsigned s))
 
 -- the script: all draws of the sessions come before those of the schedule
 abbrev pub script_data : (seed : ℕ) → (m : ℕ) → Data

@@ -3,7 +3,9 @@
 
 mod commands;
 mod draws;
+mod laws;
 mod rounds;
 mod script;
 
+pub use laws::scripts_are_whole;
 pub use script::generate;
