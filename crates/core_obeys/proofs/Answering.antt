@@ -1,6 +1,6 @@
 -- Each reply has its reason.
-use Rattle.std.proofs.Common.{◌≡◌, ◌≢◌, ◌⊎◌, inl, inr, ℕ, Bool, true, false, Option, None, Some, List, [], ◌∷◌, ◌++◌, is_some, refl, sym, ap, ◌∙◌, subst}
-use Rattle.std.specs.Prelude.{Result, Ok, Err, IsSome, option_map, slice_get}
+use Rattle.std.proofs.Common.{◌≡◌, ◌≢◌, ◌⊎◌, inl, inr, ℕ, true, false, Option, None, Some, List, [], ◌∷◌, ◌++◌, is_some, refl, sym, ap, ◌∙◌, subst}
+use Rattle.std.specs.Prelude.{Result, Ok, Err, option_map}
 use Rattle.std.specs.Option.{option_map_or, unwrap_or}
 use Rattle.std.proofs.lemmas.Bool.{false≢true}
 use Rattle.std.proofs.lemmas.Option.{none-some, same_Some}
@@ -15,7 +15,7 @@ use Rattle.oak_machine.specs.declared.event.Event.TheVariants as event
 use Rattle.oak_machine.specs.History.{History, Past}
 use Rattle.oak_machine.specs.Commits.{is_committed, tree_at}
 use Rattle.oak_machine.specs.Runs.{IsRunOf}
-use Rattle.oak_machine.specs.Sessions.{drawn_since, next_index, since}
+use Rattle.oak_machine.specs.Sessions.{drawn_since, next_index}
 use Rattle.jcr_plan.specs.Plans.{PlanOk}
 use Rattle.core_heads.specs.Sound.{IsNodesRun}
 use Rattle.core_heads.proofs.Runs.{earlier_run}
@@ -196,9 +196,9 @@ module _ (none_dangles : NoneDangles) (law : JcrLaw) (h : History) (run : IsNode
 pub each_has_reason : NoneDangles → (law : JcrLaw) (h : History) → IsNodesRun (starts_of law) (says_of law) h → NameOthers h.past → AnswersThroughout law h
 each_has_reason none_dangles law h is others later past s i text when =
     let whole : IsRunOf (starts_of law) (says_of law) h.clusters h.sessions h.begin (later ++ event.Said s i text ∷ past) =
-        subst (λ (p : Past). IsRunOf (starts_of law) (says_of law) h.clusters h.sessions h.begin p) (sym when) is.run in
+    subst (λ (p : Past). IsRunOf (starts_of law) (says_of law) h.clusters h.sessions h.begin p) (sym when) is.run in
     let said : IsRunOf (starts_of law) (says_of law) h.clusters h.sessions h.begin (event.Said s i text ∷ past) =
-        earlier_run h.clusters h.sessions is.nodes h.begin (starts_of law) (says_of law) later (event.Said s i text ∷ past) whole in
+    earlier_run h.clusters h.sessions is.nodes h.begin (starts_of law) (says_of law) later (event.Said s i text ∷ past) whole in
     let named : NameOthers (event.Said s i text ∷ past) =
-        named_others h.clusters h.sessions is.nodes h.begin (starts_of law) (says_of law) later (event.Said s i text ∷ past) whole (subst NameOthers (sym when) others) in
+    named_others h.clusters h.sessions is.nodes h.begin (starts_of law) (says_of law) later (event.Said s i text ∷ past) whole (subst NameOthers (sym when) others) in
     has_reason none_dangles law (record h { past = past }) (record { nodes = is.nodes; run = said.1 }) named s i text said.0.0 said.0.1
