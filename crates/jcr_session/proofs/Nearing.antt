@@ -70,6 +70,14 @@ module _ (starts : Starts) (says : Says) (old new : Shown) (answer : StepOut) (s
       by (inl wait) = absurd (never wait)
       by (inr x) = x
 
+  -- or it waits
+  pub sooner_by : (before now : ℕ → Type 0) → LastsLess before now old new answer → IsWait answer ⊎ EndsSooner before now old
+  sooner_by before now lowers = by answer refl
+    where
+      by : (a : StepOut) → a ≡ answer → IsWait answer ⊎ EndsSooner before now old
+      by (out.Wait q) is = inl (subst IsWait is tt)
+      by a is = inr (sooner before now lowers (λ wait. subst IsWait (sym is) wait))
+
   pub load_sooner : (before now : ℕ → Type 0) → LastsLess before now old new answer → loaded_by answer ≡ loaded.Going → EndsSooner before now old
   load_sooner before now lowers going = sooner before now lowers (unwaited answer going)
     where
