@@ -13,7 +13,7 @@ use Rattle.jr_rev.specs.declared.vector.Pin.{Pin}
 use Rattle.jr_rev.specs.declared.vector.RevVec.{RevVec}
 use Rattle.jr_tree.specs.declared.edit.Edit.{Edit}
 use Rattle.jr_tree.specs.declared.shared.Who.{Who}
-use Rattle.jr_tree.specs.Edits.{applied}
+use Rattle.jr_tree.specs.Edits.{IsProper, applied}
 use Rattle.jr_tree.specs.Trees.{IsTree, Nodes}
 use Rattle.jr_items.specs.Refusals.{clash}
 use Rattle.oak_machine.specs.Commits.{draw_of, is_committed, is_ended, tree_at}
@@ -257,3 +257,13 @@ module _ (law : JcrLaw) (p : Shown) (run : SessionRun) (r : Revision) (a : Pledg
 
   pub made_next : (m : Command) × (slice_get run.commands run.index ≡ Some m) × (Rattle.jcr_view.specs.Outcomes.is_viewed m ≡ false)
   made_next = (at_end.for.command, at_end.for.next, unviewed_due at_end.for.command (ap (λ (d : _). Rattle.std.proofs.Common.nat_eq (due_number d) 6) (sym (due_at run at_end.for.command at_end.for.next) ∙ at_end.for.commits)))
+
+-- ---- what is held, behind a commit
+
+module _ (c : Call) (t : Nodes) (old held : Held) (edit : Edit) (r : Revision) (v : RevVec) (holds : Holds c old) (settled : old.is_kept ≡ false) (sees : SeesCommit c edit r v t) where
+  pub follows_commit : IsNextAlone old.who.base v r → ((d : Call) → Holds d old → old.is_kept ≡ false → IsProper d.base edit.writes → Holds (call_moved d v (applied (Some r) d.base edit.writes)) held) → Holds (call_moved c v t) held
+  follows_commit alone follows =
+      subst (λ (x : Nodes). Holds (call_moved c v x) held) (sym (sees.alone (subst (λ (w : Who). IsNextAlone w.base v r) holds.who alone))) (follows c holds settled sees.proper)
+
+  pub leaves_base : ((d : Call) (x : Nodes) → Holds d old → old.is_kept ≡ false → IsTree x → Holds (call_moved d v x) held) → Holds (call_moved c v t) held
+  leaves_base moves = moves c t holds settled sees.tree_is

@@ -102,17 +102,18 @@ impl SessionRun {
 
     // The base has moved to where a commit of the edit is seen. Where that commit alone lies
     // between, what is held follows it, and nothing is read again; else nothing is known there yet.
-    fn move_behind(&mut self, base: RevVec, by: Revision, edit: &Edit)
+    fn move_behind(&mut self, vector: RevVec, by: Revision, edit: &Edit)
         ensures same { self.new ≡ record self.old { held = self.new.held } }
         ensures holds { (c : Call) (t : Nodes) → Holds c self.old.held
-            → IsFalse self.old.held.is_kept → SeesCommit c edit.now by base t
-            → Holds (call_moved c base t) self.new.held }
+            → IsFalse self.old.held.is_kept → SeesCommit c edit.now by vector t
+            → Holds (call_moved c vector t) self.new.held }
     {
-        if is_next_alone(&self.held.base(), &base, by) {
-            self.held.follow(base, by, edit);
-        } else {
-            self.held.move_to(base);
+        let before = self.held.base();
+        if is_next_alone(&before, &vector, by) {
+            self.held.follow(vector, by, edit);
+            return;
         }
+        self.held.move_to(vector);
     }
 
     // Answers a command with the revision of its commit.
