@@ -39,9 +39,9 @@ enum Listed {
 
 impl SessionRun {
     /// Makes one step of reading the tree at the base, where one is due, and tells whether it did:
-    /// then the next command asks for more than is read. The step begins to read a node or the names
-    /// of its children, or brings what is being read nearer. Where memory is refused, nothing is being
-    /// read any more; what was read stays.
+    /// then the next command asks for more than is read. The step begins to read a node or the
+    /// names of its children, or brings what is being read nearer. Where memory is refused, nothing
+    /// is being read any more; what was read stays.
     pub fn read<P: Port<L = JcrLaw>>(&mut self, port: &mut P) -> Result<bool, AllocError>
         requires stands { Stands (P.law port.old) (P.shown port.old) self.old }
         ensures law { P.law port.new ≡ P.law port.old }
