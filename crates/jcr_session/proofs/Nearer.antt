@@ -1,6 +1,5 @@
 -- Turns bring a session nearer to its end.
-use Rattle.std.proofs.Common.{◌≡◌, ◌⊎◌, inl, inr, ℕ, suc, ◌<◌, ◌≤◌, ◌-◌, ◌+◌, true, false, Bool, List, [], ◌∷◌, ◌++◌, length, is_some, refl, sym, ap, ◌∙◌, subst, arith}
-use Rattle.std.specs.Prelude.{⊤}
+use Rattle.std.proofs.Common.{◌≡◌, ◌⊎◌, inl, inr, ℕ, ◌<◌, ◌≤◌, ◌-◌, ◌+◌, true, List, ◌∷◌, ◌++◌, length, refl, sym, ap, ◌∙◌, subst, arith}
 use mathlib.Core.Bool.{false≢true}
 use Rattle.jr_rev.specs.declared.revision.Revision.{Revision}
 use Rattle.oak_machine.specs.declared.event.Event.TheVariants as event
@@ -8,7 +7,7 @@ use Rattle.oak_machine.specs.declared.event.StepKind.{StepKind}
 use Rattle.oak_machine.specs.History.{History, Past}
 use Rattle.oak_machine.specs.Laws.{Says, Starts, after}
 use Rattle.oak_machine.specs.Sessions.{next_index}
-use Rattle.oak_port.specs.Ports.{Awaiting, Deciding, Idle, IsFinish, IsWait, LastsLess, Learning, Makes, Publishing, Shown, Starting, Steps, Undoing, Work, Writing, WritesOn}
+use Rattle.oak_port.specs.Ports.{Awaiting, Deciding, Idle, IsWait, LastsLess, Learning, Makes, Publishing, Shown, Starting, Steps, Undoing, Work, Writing, WritesOn}
 use Rattle.oak_port.specs.declared.task.StepOut.{StepOut}
 use Rattle.oak_port.specs.declared.task.StepOut.TheVariants as out
 use Rattle.oak_port.specs.declared.task.TaskEnd.TheVariants as end
@@ -18,7 +17,6 @@ use Rattle.core_calls.proofs.Beginning.{next_reply}
 use Rattle.core_heads.proofs.Passing.{next_stays}
 use Rattle.jcr_trans.specs.declared.command.Command.{Command}
 use Rattle.jcr_law.specs.declared.law.JcrLaw.{JcrLaw}
-use Rattle.jcr_law.specs.Lasting.{says_of, starts_of}
 use Rattle.jcr_session.specs.declared.commit.Pledge.{Pledge}
 use Rattle.jcr_session.specs.declared.run.Phase.{Phase}
 use Rattle.jcr_session.specs.declared.run.Phase.TheVariants as phase

@@ -1,7 +1,6 @@
 -- Reading steps bring nearer what is read.
-use Rattle.std.proofs.Common.{◌≡◌, ◌⊎◌, inl, inr, ℕ, suc, true, false, cond, Bool, Some, None, Option, List, [], is_some, refl, sym, ap, ◌∙◌, subst}
+use Rattle.std.proofs.Common.{◌≡◌, ◌⊎◌, inl, inr, ℕ, true, false, cond, Bool, Some, None, Option, List, [], is_some, refl, sym, ap, ◌∙◌, subst}
 use Rattle.std.specs.Prelude.{⊤, IfSome}
-use Rattle.std.specs.Ordering.{eq_by_cmp}
 use Rattle.std.specs.Map.{lookup}
 use Rattle.std.specs.BTreeMap.{insert_entry, is_at}
 use Rattle.std.proofs.lemmas.Cmp.{eq_by_cmp_equiv}
@@ -14,7 +13,7 @@ use Rattle.jr_tree.specs.Trees.{node_at}
 use Rattle.jr_part.specs.declared.need.Need.{Need}
 use Rattle.jr_part.specs.declared.need.Need.TheVariants as need
 use Rattle.jr_part.specs.Parts.{ChildNames, Knowledge, is_absent, knows, with_children, with_node}
-use Rattle.oak_machine.specs.History.{History, Past}
+use Rattle.oak_machine.specs.History.{Past}
 use Rattle.oak_machine.specs.Laws.{Says, Starts, after}
 use Rattle.oak_port.specs.Ports.{ActedAlone, IsWait, LastsLess, Makes, Seat, Shown, Steps}
 use Rattle.oak_port.specs.declared.task.StepOut.{StepOut}
