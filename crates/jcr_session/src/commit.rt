@@ -3,6 +3,7 @@ ghost use Rattle.std.specs.Prelude.{◌≡◌, ◌≤◌, IfOk, IsTrue, Some, fa
 ghost use Rattle.jcr_call.specs.declared.coming.Coming.TheVariants as coming;
 ghost use Rattle.jcr_session.specs.Answered.{IsCommitAnswer, IsDrawAnswer, ended_phase, has_went, kind_of_end, phase_by, turn_by};
 ghost use Rattle.jcr_session.specs.Asked.{ComesNext, MayDrawFor};
+ghost use Rattle.jcr_session.specs.Nearing.{EndsSooner, StaysBehindStep, StepsOn, left_of};
 ghost use Rattle.jcr_session.specs.Standing.{HasTurned, IsGranted, IsPlace, IsPrepared, Stands, due_for, is_committing};
 ghost use Rattle.jcr_session.specs.declared.limits.TheConstants.{COMMIT_REPLY_BYTES};
 ghost use Rattle.jcr_session.specs.declared.next.Due.TheVariants as due;
@@ -41,6 +42,8 @@ impl SessionRun {
         ensures law { P.law port.new ≡ P.law port.old }
         ensures turned { HasTurned (P.law port.old) (P.shown port.old) (P.shown port.new)
             self.old self.new result }
+        ensures steps { StepsOn ⊥ (left_of self.old (P.shown port.old).work)
+            (left_of self.new (P.shown port.new).work) result }
     {
         replies_without_commit_keep_tokens();
         match self.come() {
@@ -72,6 +75,8 @@ impl SessionRun {
         ensures law { P.law port.new ≡ P.law port.old }
         ensures turned { HasTurned (P.law port.old) (P.shown port.old) (P.shown port.new)
             self.old self.new result }
+        ensures steps { StepsOn ⊥ (left_of self.old (P.shown port.old).work)
+            (left_of self.new (P.shown port.new).work) result }
     {
         match plan.edit.copy() {
             Ok(edit) => self.pledge(port, plan, Pledge { edit, accepted }),
@@ -90,6 +95,8 @@ impl SessionRun {
         ensures law { P.law port.new ≡ P.law port.old }
         ensures turned { HasTurned (P.law port.old) (P.shown port.old) (P.shown port.new)
             self.old self.new result }
+        ensures steps { StepsOn ⊥ (left_of self.old (P.shown port.old).work)
+            (left_of self.new (P.shown port.new).work) result }
     {
         let bytes = place_for(&pledge.accepted);
         self.phase = Phase::Committing(pledge);
@@ -105,6 +112,7 @@ impl SessionRun {
         ensures law { P.law port.new ≡ P.law port.old }
         ensures turned { HasTurned (P.law port.old) (P.shown port.old) (P.shown port.new)
             self.old self.new result }
+        ensures stays { StaysBehindStep self.old self.new result }
     {
         let Plan { edit, marks } = plan;
         match port.start(Task::Commit(edit, marks)) {
@@ -127,6 +135,10 @@ impl SessionRun {
         ensures turned { HasTurned (P.law port.old) (P.shown port.old) (P.shown port.new)
             self.old self.new result }
         ensures granted { IsGranted result }
+        ensures steps { StepsOn
+            (EndsSooner (P.lasts port.old) (P.lasts port.new) (P.shown port.old))
+            (left_of self.old (P.shown port.old).work)
+            (left_of self.new (P.shown port.new).work) result }
     {
         match port.step() {
             StepOut::Memory => {

@@ -11,6 +11,7 @@ ghost use Rattle.jcr_law.specs.State.{Call};
 ghost use Rattle.jcr_call.specs.Calls.{call_moved};
 ghost use Rattle.jcr_held.specs.Holds.{Holds};
 ghost use Rattle.jcr_session.specs.Asked.{HasClashed, MayAnswer, SeesCommit};
+ghost use Rattle.jcr_session.specs.Nearing.{IsReply};
 ghost use Rattle.jcr_session.specs.Standing.{HasEnded, HasTurned, IsGranted, Stands};
 ghost use Rattle.jcr_session.specs.declared.limits.TheConstants.{COMMIT_REPLY_BYTES};
 ghost use Rattle.jcr_session.specs.declared.run.Phase.TheVariants as phase;
@@ -41,6 +42,7 @@ impl SessionRun {
         ensures turned { HasTurned (P.law port.old) (P.shown port.old) (P.shown port.new)
             self.old self.new result }
         ensures granted { IsGranted result }
+        ensures said { IsReply result }
     {
         match mem::replace(&mut self.phase, Phase::Between) {
             Phase::Committed(end, pledge) => self.say_ended(port, end, pledge),
@@ -61,6 +63,7 @@ impl SessionRun {
         ensures turned { HasTurned (P.law port.old) (P.shown port.old) (P.shown port.new)
             self.old self.new result }
         ensures granted { IsGranted result }
+        ensures said { IsReply result }
     {
         match end {
             CommitEnd::Committed(r) => self.say_committed(port, r, pledge),
@@ -82,6 +85,7 @@ impl SessionRun {
         ensures turned { HasTurned (P.law port.old) (P.shown port.old) (P.shown port.new)
             self.old self.new result }
         ensures granted { IsGranted result }
+        ensures said { IsReply result }
     {
         let Some(pin) = port.pin() else {
             unreachable!()
@@ -121,6 +125,7 @@ impl SessionRun {
         ensures turned { HasTurned (P.law port.old) (P.shown port.old) (P.shown port.new)
             self.old self.new result }
         ensures granted { IsGranted result }
+        ensures said { IsReply result }
     {
         let text = revision_reply(&r);
         self.say_kept(port, text.as_str())
@@ -134,6 +139,7 @@ impl SessionRun {
         ensures turned { HasTurned (P.law port.old) (P.shown port.old) (P.shown port.new)
             self.old self.new result }
         ensures granted { IsGranted result }
+        ensures said { IsReply result }
     {
         self.refuse(true);
         match clash_reply(self.alloc, &item, other) {

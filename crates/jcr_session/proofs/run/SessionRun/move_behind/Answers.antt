@@ -1,4 +1,4 @@
-use Rattle.std.proofs.Common.{◌≡◌, sym, subst, ◌∙◌}
+use Rattle.std.proofs.Common.{subst}
 use Rattle.jr_rev.specs.declared.vector.RevVec.{RevVec}
 use Rattle.core_calls.specs.Alone.{IsNextAlone}
 use Rattle.jcr_session.proofs.Ending.{follows_commit, leaves_base}

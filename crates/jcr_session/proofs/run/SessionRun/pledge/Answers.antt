@@ -7,6 +7,7 @@ use Rattle.jcr_session.proofs.Drawing.{planned_draws, planned_forgoes}
 use Rattle.jcr_session.proofs.Lawful.{idle_by}
 use Rattle.jcr_session.proofs.Saying.{turned_like}
 use Rattle.jcr_session.proofs.Waiting.{by_waits}
+use Rattle.jcr_session.proofs.Nearer.{pledged_steps, reply_steps}
 use Rattle.jcr_session.proofs.run.SessionRun.pledge.Goals as goal
 
 -- its place is kept
@@ -53,3 +54,10 @@ returns-in-Err-clause-turned g c =
     (waits.work_is ∙ idle_by (g.P.Port.law c.args.port.now) (g.P.Port.shown c.args.port.now) c.args.self.now c.requires.stands c.requires.between c.requires.ready.done) planned Rattle.std.proofs.Common.false
     (planned_forgoes (g.P.Port.law c.args.port.now) (g.P.Port.shown c.args.port.now) c.args.self.now c.requires.stands c.requires.between c.requires.ready c.requires.next c.args.plan c.args.pledge c.requires.comes)
     (g.P.Port.shown c.say_memory.new.port) c.say_memory.new.self c.say_memory.result c.say_memory.ensures.turned)
+
+pub returns-in-Err-clause-steps : goal.returns-in-Err-clause-steps
+returns-in-Err-clause-steps g c = reply_steps _ _ _ c.say_memory.result c.say_memory.ensures.said
+
+pub returns-in-Ok-clause-steps : goal.returns-in-Ok-clause-steps
+returns-in-Ok-clause-steps g c =
+    pledged_steps c.args.self.now (record c.args.self.now { phase = phase.Committing c.args.pledge }) c.draw.new.self (g.P.Port.shown c.args.port.now).work (g.P.Port.shown c.draw.new.port).work c.draw.result c.requires.between refl refl refl c.draw.ensures.stays
