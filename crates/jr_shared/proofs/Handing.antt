@@ -29,9 +29,9 @@ found_filtered {P} p y ys s rest false true has is =
 found_filtered {P} p y ys s rest false false has is = rest
 
 pub found_among : {P : Type 0} (p : ℕ → Bool) (parts : List (ℕ × P)) (s : ℕ) → lookup (λ a. a == s) (filter (λ z. p z.0) parts) ≡ cond (p s) (lookup (λ a. a == s) parts) None
-found_among p [] s = by (p s)
+found_among {P} p [] s = by (p s)
   where
-    by : (b : Bool) → None ≡ cond b None None
+    by : (b : Bool) → ◌≡◌ {A = Option P} None (cond b None None)
     by true = refl
     by false = refl
 found_among p (y ∷ ys) s = found_filtered p y ys s (found_among p ys s) (p y.0) (y.0 == s) refl refl
@@ -58,6 +58,18 @@ found_of {P} f (n ∷ names) s q h = by (n == s) refl (found_of f names s q) h
     by true is rest h = let e : f n ≡ q = cc in sym e ∙ ap f (same_number n s is)
     by false is rest h = rest h
 
+told_at : (past : Past) (s : ℕ) (o : Option Owned) → (o ≡ None) → IfSome o (λ part. part.events ≡ own_events past s)
+told_at past s None h = tt
+told_at past s (Some p) h = absurd (false≢true (sym (ap is_some h)))
+
+found_not : {A : Type 0} (b : Bool) (o : Option A) → cond (not b) o None ≡ cond b None o
+found_not true o = refl
+found_not false o = refl
+
+-- found in a list without some authors
+pub found_rest : {P : Type 0} (p : ℕ → Bool) (parts : List (ℕ × P)) (s : ℕ) → lookup (λ a. a == s) (filter (λ z. not (p z.0)) parts) ≡ cond (p s) None (lookup (λ a. a == s) parts)
+found_rest p parts s = found_among (λ a. not (p a)) parts s ∙ found_not (p s) (lookup (λ a. a == s) parts)
+
 module _ {L : Type 0} where
   -- the first pass has each session, and has seen all its events
   pub first_owns : (w : WorldOf L) (s : ℕ) → s < length w.history.sessions → owned_by (first_known w) s ≡ Some (owned_of w s)
@@ -72,10 +84,6 @@ module _ {L : Type 0} where
       by : (o : Option Owned) → owned_by (first_known w) s ≡ o → IfSome o (λ part. part.events ≡ own_events (reverse (reverse w.history.past)) s)
       by None is = tt
       by (Some q) is = ap (λ (p : Owned). p.events) (found_of (owned_of w) (range_with_len 0 (length w.history.sessions)) s q is) ∙ ap (λ (xs : Past). own_events xs s) (sym (reverse-reverse w.history.past))
-
-  told_at : (past : Past) (s : ℕ) (o : Option Owned) → (o ≡ None) → IfSome o (λ part. part.events ≡ own_events past s)
-  told_at past s None h = tt
-  told_at past s (Some p) h = absurd (false≢true (sym (ap is_some h)))
 
   -- a pass of fewer sessions that has seen as much is told too
   pub told_among : (v w : Known L) (p : ℕ → Bool) → w.seen ≡ v.seen → w.parts ≡ filter (λ z. p z.0) v.parts → IsTold v → IsTold w

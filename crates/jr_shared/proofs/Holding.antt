@@ -12,6 +12,10 @@ use Rattle.jr_shared.proofs.Got.{some_part}
 use Rattle.jr_shared.proofs.Lists.{found_part}
 
 module _ {L : Type 0} where
+  -- the world as the lock has it
+  abbrev pub locked : WorldOf L → LockedWorld L
+  locked w = record { world = w }
+
   -- what a pass knows while it has a world out
   abbrev pub with_out : LockedWorld L → Known L → Known L
   with_out x v = record v { round = round.Out x; steady = Some (steady_of x.world); seen = journal_of x.world }

@@ -300,6 +300,7 @@ module _ {L : Type 0} (law : Ghosts L) (old new : Known L) (s : ℕ) (made : Wor
         }
 
         none_by : ActedAlone (shown_through name old s) (shown_through name new s) o → more ≡ []
+        unfolding steps
         none_by a =
             let grown : a.own ++ reverse old.seen ≡ told_step.own ++ (more ++ reverse old.seen) = ap (λ (x : History). x.past) (sym a.grown ∙ steps.grows.grown) in
             let same : told_step.own ++ more ≡ a.own = cancel (told_step.own ++ more) a.own (reverse old.seen) (append_assoc told_step.own more (reverse old.seen) ∙ sym grown) in

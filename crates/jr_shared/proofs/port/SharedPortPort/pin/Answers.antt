@@ -17,7 +17,7 @@ invariant_of-self g c = record {
 }
 
 pub returns-clause-law : goal.returns-clause-law
-returns-clause-law g c = law_stays g.L.Law (view_of c.args.self.now.pass.now) (view_of c.pin.new.pass) c.args.self.now.actor _ c.pin.ensures.hold c.args.self.now.framed (framed_new g.L.Law (view_of c.args.self.now.pass.now) (view_of c.pin.new.pass) c.args.self.now.actor _ c.pin.ensures.hold)
+returns-clause-law g c = law_stays g.L.Law (view_of c.args.self.now.pass.now) (view_of c.pin.new.pass) c.args.self.now.actor _ c.pin.ensures.hold c.args.self.now.framed _
 
 pub returns-clause-same : goal.returns-clause-same
 returns-clause-same g c = stays_so g.L.Law (view_of c.args.self.now.pass.now) (view_of c.pin.new.pass) c.args.self.now.actor _ c.pin.ensures.hold c.args.self.now.seat c.args.self.now.told c.args.self.now.framed c.args.self.now.pass.ghost_name c.pin.ensures.hold.made_is.same

@@ -27,7 +27,7 @@ invariant_of-self g c = record {
 }
 
 pub returns-clause-law : goal.returns-clause-law
-returns-clause-law g c = law_stays g.L.Law (view_of c.args.self.now.pass.now) (view_of c.say.new.pass) c.args.self.now.actor _ c.say.ensures.hold c.args.self.now.framed (framed_new g.L.Law (view_of c.args.self.now.pass.now) (view_of c.say.new.pass) c.args.self.now.actor _ c.say.ensures.hold)
+returns-clause-law g c = law_stays g.L.Law (view_of c.args.self.now.pass.now) (view_of c.say.new.pass) c.args.self.now.actor _ c.say.ensures.hold c.args.self.now.framed _
 
 pub returns-clause-said : goal.returns-clause-said
 returns-clause-said g c = answers g.L.Law (view_of c.args.self.now.pass.now) (view_of c.say.new.pass) c.args.self.now.actor _ c.say.ensures.hold c.args.self.now.seat c.args.self.now.told c.args.self.now.framed c.args.self.now.pass.ghost_name c.args.index c.args.text.now c.say.ensures.hold.made_is (idle_shown (actor_by (view_of c.args.self.now.pass.now) c.args.self.now.actor).work c.requires.idle)

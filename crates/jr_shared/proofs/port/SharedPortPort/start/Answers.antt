@@ -29,7 +29,7 @@ invariant_of-self g c = record {
 }
 
 pub returns-clause-law : goal.returns-clause-law
-returns-clause-law g c = law_stays g.L.Law (view_of c.args.self.now.pass.now) (view_of c.start.new.pass) c.args.self.now.actor _ c.start.ensures.hold c.args.self.now.framed (framed_new g.L.Law (view_of c.args.self.now.pass.now) (view_of c.start.new.pass) c.args.self.now.actor _ c.start.ensures.hold)
+returns-clause-law g c = law_stays g.L.Law (view_of c.args.self.now.pass.now) (view_of c.start.new.pass) c.args.self.now.actor _ c.start.ensures.hold c.args.self.now.framed _
 
 pub returns-clause-ok : goal.returns-clause-ok
 returns-clause-ok g c = on_ok_weaker c.start.result (λ b. starts_ok g.L.Law (view_of c.args.self.now.pass.now) (view_of c.start.new.pass) c.args.self.now.actor _ c.start.ensures.hold c.args.self.now.seat c.args.self.now.told c.args.self.now.framed c.args.self.now.pass.ghost_name c.args.task b (idle_shown (actor_by (view_of c.args.self.now.pass.now) c.args.self.now.actor).work c.requires.idle)) c.start.ensures.hold.made_is.ok

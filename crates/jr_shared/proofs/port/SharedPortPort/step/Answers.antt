@@ -21,7 +21,7 @@ invariant_of-self g c = record {
 }
 
 pub returns-clause-law : goal.returns-clause-law
-returns-clause-law g c = law_stays g.L.Law (view_of c.args.self.now.pass.now) (view_of c.step.new.pass) c.args.self.now.actor _ c.step.ensures.hold c.args.self.now.framed (framed_new g.L.Law (view_of c.args.self.now.pass.now) (view_of c.step.new.pass) c.args.self.now.actor _ c.step.ensures.hold)
+returns-clause-law g c = law_stays g.L.Law (view_of c.args.self.now.pass.now) (view_of c.step.new.pass) c.args.self.now.actor _ c.step.ensures.hold c.args.self.now.framed _
 
 pub returns-clause-steps : goal.returns-clause-steps
 returns-clause-steps g c = steps g.L.Law (view_of c.args.self.now.pass.now) (view_of c.step.new.pass) c.args.self.now.actor _ c.step.ensures.hold c.args.self.now.seat c.args.self.now.told c.args.self.now.framed c.args.self.now.pass.ghost_name c.step.result c.step.ensures.hold.made_is

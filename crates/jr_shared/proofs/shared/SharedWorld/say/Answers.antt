@@ -2,7 +2,7 @@ use Rattle.std.proofs.Common.{length, refl, sym, ap, subst, ◌∙◌}
 use Rattle.seat_lock.specs.Passes.{view_of}
 use Rattle.jr_shared.proofs.Acts.{say_acts}
 use Rattle.jr_shared.proofs.Got.{actor_got, has_law, may_say, next_same, there, work_got}
-use Rattle.jr_shared.proofs.Holding.{has_author, is_got, on_frame, on_longer, on_others, on_steady, one_hold}
+use Rattle.jr_shared.proofs.Holding.{has_author, is_got, locked, on_frame, on_longer, on_others, on_steady, one_hold}
 use Rattle.oak_world.specs.Worlds.{ActorState, actor_in}
 use Rattle.oak_world.proofs.Porting.{room_by}
 use Rattle.oak_port.specs.Ports.{HasRoom}
@@ -31,7 +31,7 @@ pub release-requires-clause-goes_on : goal.release-requires-clause-goes_on
 release-requires-clause-goes_on g c =
     let x = c.acquire-hold.result.value in
     let z = c.acquire-hold.result.taken.value in
-    let y = (record { world = c.say.new.self }) in
+    let y = locked c.say.new.self in
     let got = c.acquire-hold.ensures.got in
     let acts = say_acts c.args.actor c.args.index c.args.text.now c.acquire-hold.result.value.world c.say.new.self c.say.ensures in
     record {
@@ -44,7 +44,7 @@ release-requires-clause-goes_on g c =
 pub returns-clause-hold : goal.returns-clause-hold
 returns-clause-hold g c =
     let x = c.acquire-hold.result.value in
-    let y = (record { world = c.say.new.self }) in
+    let y = locked c.say.new.self in
     one_hold g.L.Law (view_of c.args.pass.now) (view_of c.acquire-hold.new.pass) (view_of c.release.new.pass) c.args.actor _ x y
     (is_got g.L.Law (view_of c.args.pass.now) c.acquire-hold.result.value.world c.is_whole.ensures c.acquire-hold.ensures.frame c.acquire-hold.ensures.longer c.acquire-hold.ensures.parts c.acquire-hold.ensures.steady)
     c.is_whole-2.ensures c.say.ensures

@@ -2,7 +2,7 @@ use Rattle.std.proofs.Common.{refl, sym, ap, subst, ◌∙◌}
 use Rattle.seat_lock.specs.Passes.{view_of}
 use Rattle.jr_shared.proofs.Acts.{step_acts}
 use Rattle.jr_shared.proofs.Got.{there, work_got}
-use Rattle.jr_shared.proofs.Holding.{has_author, is_got, on_frame, on_longer, on_others, on_steady, one_hold}
+use Rattle.jr_shared.proofs.Holding.{has_author, is_got, locked, on_frame, on_longer, on_others, on_steady, one_hold}
 use Rattle.jr_shared.proofs.shared.SharedWorld.step.Goals as goal
 
 pub step-out-requires-clause-there : goal.step-out-requires-clause-there
@@ -18,7 +18,7 @@ pub release-requires-clause-goes_on : goal.release-requires-clause-goes_on
 release-requires-clause-goes_on g c =
     let x = c.acquire-hold.result.value in
     let z = c.acquire-hold.result.taken.value in
-    let y = (record { world = c.step-out.new.self }) in
+    let y = locked c.step-out.new.self in
     let got = c.acquire-hold.ensures.got in
     let acts = step_acts g.L.Law c.args.actor c.acquire-hold.result.value.world c.step-out.new.self c.step-out.result (record { made = c.step-out.ensures.made; told = c.step-out.ensures.seen; lowers = c.step-out.ensures.lowers }) c.args.pass.ghost_name in
     record {
@@ -31,7 +31,7 @@ release-requires-clause-goes_on g c =
 pub returns-clause-hold : goal.returns-clause-hold
 returns-clause-hold g c =
     let x = c.acquire-hold.result.value in
-    let y = (record { world = c.step-out.new.self }) in
+    let y = locked c.step-out.new.self in
     one_hold g.L.Law (view_of c.args.pass.now) (view_of c.acquire-hold.new.pass) (view_of c.release.new.pass) c.args.actor _ x y
     (is_got g.L.Law (view_of c.args.pass.now) c.acquire-hold.result.value.world c.is_whole.ensures c.acquire-hold.ensures.frame c.acquire-hold.ensures.longer c.acquire-hold.ensures.parts c.acquire-hold.ensures.steady)
     c.is_whole-2.ensures (record { made = c.step-out.ensures.made; told = c.step-out.ensures.seen; lowers = c.step-out.ensures.lowers })
