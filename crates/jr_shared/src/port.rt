@@ -31,8 +31,15 @@ impl<L: Law> Taken<L> for Brand {
     ghost use Rattle.std.specs.Prelude.{[]};
     ghost use Rattle.seat_lock.specs.Views.{spent_view};
 
-    ghost table = { record { words = 0; slots = 0; views_name = 0; atom = 0; block = 0; offset = 0;
-        slot_names = [] } };
+    ghost table = { record {
+      words = 0;
+      slots = 0;
+      views_name = 0;
+      atom = 0;
+      block = 0;
+      offset = 0;
+      slot_names = [];
+    } };
 
     ghost view = { spent_view };
 }
@@ -121,8 +128,7 @@ impl<'a, R: Wait, L: Law + Drop, J: Taken<L>> Port for SharedPort<'a, R, L, J> {
 
     // No task stops a cluster node yet.
     fn stopped(&mut self, cluster: u32) -> Option<u64> {
-        self.shared
-            .stopped(self.rt, self.pass, self.actor, cluster)
+        self.shared.stopped(self.rt, self.pass, self.actor, cluster)
     }
 
     fn reserve_say(&mut self, bytes: usize) -> Result<(), AllocError> {
@@ -131,7 +137,6 @@ impl<'a, R: Wait, L: Law + Drop, J: Taken<L>> Port for SharedPort<'a, R, L, J> {
     }
 
     fn say(&mut self, index: u32, text: &str) {
-        self.shared
-            .say(self.rt, self.pass, self.actor, index, text);
+        self.shared.say(self.rt, self.pass, self.actor, index, text);
     }
 }

@@ -44,11 +44,7 @@ impl<L: Law + Drop> SharedWorld<L> {
     }
 
     /// Makes a pass that has seen as much, and hands to it 1 of the weight and those of the pass's sessions that are named.
-    pub fn split(
-        &self,
-        pass: &mut Pass<LockedWorld<L>>,
-        sessions: &[u32],
-    ) -> Pass<LockedWorld<L>>
+    pub fn split(&self, pass: &mut Pass<LockedWorld<L>>, sessions: &[u32]) -> Pass<LockedWorld<L>>
         requires own { IsOf self.now.lock pass.old }
         requires weight { 1 < weight_of pass.old }
         ensures own { IsOf self.now.lock pass.new × IsOf self.now.lock result }
@@ -118,12 +114,7 @@ impl<L: Law + Drop> SharedWorld<L> {
     }
 
     /// Makes one step of what a session of the pass does.
-    pub fn step<R: Wait>(
-        &self,
-        rt: &R,
-        pass: &mut Pass<LockedWorld<L>>,
-        actor: u32,
-    ) -> StepOut
+    pub fn step<R: Wait>(&self, rt: &R, pass: &mut Pass<LockedWorld<L>>, actor: u32) -> StepOut
         requires own { IsOf self.now.lock pass.old }
         requires seat { IsTrue (has_seat (view_of pass.old) actor) }
         requires busy { (actor_by (view_of pass.old) actor).work ≢ work.Rest }
@@ -160,12 +151,7 @@ impl<L: Law + Drop> SharedWorld<L> {
     }
 
     /// The pin of a session of the pass; None before its login and once it has left.
-    pub fn pin<R: Wait>(
-        &self,
-        rt: &R,
-        pass: &mut Pass<LockedWorld<L>>,
-        actor: u32,
-    ) -> Option<Pin>
+    pub fn pin<R: Wait>(&self, rt: &R, pass: &mut Pass<LockedWorld<L>>, actor: u32) -> Option<Pin>
         requires own { IsOf self.now.lock pass.old }
         requires seat { IsTrue (has_seat (view_of pass.old) actor) }
         ensures own { IsOf self.now.lock pass.new }

@@ -11,9 +11,9 @@ use Rattle.jr_shared.proofs.shared.SharedWorld.say.Goals as goal
 pub say-requires-clause-idle : goal.say-requires-clause-idle
 say-requires-clause-idle g c = record {
   there = there g.L.Law (view_of c.args.pass.now) c.acquire-hold.result.value.world
-    (is_got g.L.Law (view_of c.args.pass.now) c.acquire-hold.result.value.world c.is_whole.ensures c.acquire-hold.ensures.frame c.acquire-hold.ensures.longer c.acquire-hold.ensures.parts c.acquire-hold.ensures.steady) c.args.actor c.requires.seat;
+      (is_got g.L.Law (view_of c.args.pass.now) c.acquire-hold.result.value.world c.is_whole.ensures c.acquire-hold.ensures.frame c.acquire-hold.ensures.longer c.acquire-hold.ensures.parts c.acquire-hold.ensures.steady) c.args.actor c.requires.seat;
   idle = sym (work_got g.L.Law (view_of c.args.pass.now) c.acquire-hold.result.value.world
-    (is_got g.L.Law (view_of c.args.pass.now) c.acquire-hold.result.value.world c.is_whole.ensures c.acquire-hold.ensures.frame c.acquire-hold.ensures.longer c.acquire-hold.ensures.parts c.acquire-hold.ensures.steady) c.args.actor c.requires.seat) ∙ c.requires.idle;
+      (is_got g.L.Law (view_of c.args.pass.now) c.acquire-hold.result.value.world c.is_whole.ensures c.acquire-hold.ensures.frame c.acquire-hold.ensures.longer c.acquire-hold.ensures.parts c.acquire-hold.ensures.steady) c.args.actor c.requires.seat) ∙ c.requires.idle;
 }
 
 pub say-requires-clause-may : goal.say-requires-clause-may

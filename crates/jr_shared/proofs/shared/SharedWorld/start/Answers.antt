@@ -8,9 +8,9 @@ use Rattle.jr_shared.proofs.shared.SharedWorld.start.Goals as goal
 pub start-result-requires-clause-idle : goal.start-result-requires-clause-idle
 start-result-requires-clause-idle g c = record {
   there = there g.L.Law (view_of c.args.pass.now) c.acquire-hold.result.value.world
-    (is_got g.L.Law (view_of c.args.pass.now) c.acquire-hold.result.value.world c.is_whole.ensures c.acquire-hold.ensures.frame c.acquire-hold.ensures.longer c.acquire-hold.ensures.parts c.acquire-hold.ensures.steady) c.args.actor c.requires.seat;
+      (is_got g.L.Law (view_of c.args.pass.now) c.acquire-hold.result.value.world c.is_whole.ensures c.acquire-hold.ensures.frame c.acquire-hold.ensures.longer c.acquire-hold.ensures.parts c.acquire-hold.ensures.steady) c.args.actor c.requires.seat;
   idle = sym (work_got g.L.Law (view_of c.args.pass.now) c.acquire-hold.result.value.world
-    (is_got g.L.Law (view_of c.args.pass.now) c.acquire-hold.result.value.world c.is_whole.ensures c.acquire-hold.ensures.frame c.acquire-hold.ensures.longer c.acquire-hold.ensures.parts c.acquire-hold.ensures.steady) c.args.actor c.requires.seat) ∙ c.requires.idle;
+      (is_got g.L.Law (view_of c.args.pass.now) c.acquire-hold.result.value.world c.is_whole.ensures c.acquire-hold.ensures.frame c.acquire-hold.ensures.longer c.acquire-hold.ensures.parts c.acquire-hold.ensures.steady) c.args.actor c.requires.seat) ∙ c.requires.idle;
 }
 
 pub start-result-requires-clause-may : goal.start-result-requires-clause-may
