@@ -1,24 +1,22 @@
 -- By each call of a world only its session acts.
-use mathlib.Core.Bool.{false≢true}
-use Rattle.std.proofs.Common.{◌≡◌, ◌≢◌, ℕ, zero, suc, ◌<◌, Bool, true, false, cond, Option, Some, None, Result, Ok, Err, List, [], ◌∷◌, ◌++◌, length, is_some, refl, sym, ap, subst, ◌∙◌}
-use Rattle.std.specs.Prelude.{◌==◌, OnErr, OnOk, reverse, slice_get, slice_set}
+use Rattle.std.proofs.Common.{◌≡◌, ◌≢◌, ℕ, Bool, true, false, cond, Option, Some, None, Result, Ok, Err, List, [], ◌∷◌, ◌++◌, length, refl, sym, ap, subst, ◌∙◌}
+use Rattle.std.specs.Prelude.{◌==◌, reverse, slice_get, slice_set}
 use Rattle.std.specs.Borrow.{GName}
 use Rattle.std.specs.declared.alloc.AllocError.{AllocError}
-use Rattle.std.proofs.lemmas.List.{append-nil, reverse-reverse}
+use Rattle.std.proofs.lemmas.List.{reverse-reverse}
 use Rattle.jr_path.specs.declared.text.Text.{Text}
 use Rattle.oak_machine.specs.declared.event.Event.TheVariants as event
 use Rattle.oak_machine.specs.declared.law.Law.{Ghosts}
 use Rattle.oak_machine.specs.History.{History, Past}
 use Rattle.core_world.proofs.Flights.{same_number}
-use Rattle.core_world.specs.States.{State}
 use Rattle.oak_port.specs.declared.task.StepOut.{StepOut}
 use Rattle.oak_port.specs.declared.task.Task.{Task}
 use Rattle.oak_port.specs.Ports.{Steps}
 use Rattle.oak_world.specs.Seen.{shown_at, shown_work}
-use Rattle.oak_world.specs.Worlds.{ActorState, Story, WorldOf, actor_in, live, said_in, state_of, with_reply, with_work, work_in}
-use Rattle.jr_shared.specs.Meanings.{Owned, frame_of, journal_of, own_events, owned_of, steady_of}
+use Rattle.oak_world.specs.Worlds.{ActorState, WorldOf, actor_in, live, said_in, state_of, work_in}
+use Rattle.jr_shared.specs.Meanings.{frame_of, journal_of, own_events, owned_of, steady_of}
 use Rattle.jr_shared.specs.Holds.{Begun, OneActed, Reserved, Stepped}
-use Rattle.jr_shared.proofs.Lists.{begins_by, begins_itself, none_more, set_other}
+use Rattle.jr_shared.proofs.Lists.{begins_by, begins_itself, set_other}
 use Rattle.jr_shared.proofs.Shapes.{shaped, step_apart}
 use Rattle.jr_shared.proofs.Calm.{calm}
 

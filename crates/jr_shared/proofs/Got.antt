@@ -1,9 +1,8 @@
 -- What a pass knows of a world that it got: what was added since is of others, and its session is as it was.
 use mathlib.Core.Bool.{false≢true}
-use Rattle.std.proofs.Common.{◌≡◌, ◌≢◌, ℕ, ◌<◌, true, Option, Some, None, List, [], ◌∷◌, ◌++◌, length, is_some, refl, sym, ap, subst, ◌∙◌}
+use Rattle.std.proofs.Common.{◌≡◌, ℕ, ◌<◌, true, Option, Some, None, List, [], ◌++◌, length, is_some, refl, sym, ap, subst, ◌∙◌}
 use Rattle.std.specs.Prelude.{IfSome, reverse, slice_get}
 use Rattle.std.specs.Option.{option_and_then, option_map_or, unwrap_or}
-use Rattle.std.proofs.Math.ListN.{get_or}
 use Rattle.std.proofs.lemmas.Option.{slice_get-get_or, slice_get_within}
 use Rattle.std.proofs.lemmas.List.{reverse-reverse}
 use Rattle.jr_path.specs.declared.text.Text.{Text}
@@ -14,7 +13,6 @@ use Rattle.oak_machine.specs.Runs.{AreNodes, IsRunOf}
 use Rattle.oak_machine.specs.Sessions.{base_of, has_left, has_login, is_attached, next_index}
 use Rattle.oak_machine.proofs.Induction.{base_stays}
 use Rattle.core_heads.proofs.Passing.{next_stays}
-use Rattle.core_world.specs.States.{State}
 use Rattle.oak_port.specs.declared.task.Task.{Task}
 use Rattle.oak_port.specs.declared.task.Task.TheVariants as task
 use Rattle.oak_port.specs.Ports.{MayBegin}
@@ -27,7 +25,7 @@ use Rattle.jr_shared.specs.Meanings.{Owned, frame_of, journal_of, own_events, ow
 use Rattle.jr_shared.specs.Holds.{HasLaw, IsGot, IsTold, Known, actor_by, has_seat, owned_by, seat_by}
 use Rattle.jr_shared.specs.Seen.{EndsIn, clusters_by, history_by, law_by, sessions_by, state_by, the}
 use Rattle.jr_shared.proofs.Events.{are_others, attached_stays, run_before}
-use Rattle.jr_shared.proofs.Lists.{found_part, grown_by, none_more}
+use Rattle.jr_shared.proofs.Lists.{found_part, grown_by}
 use Rattle.jr_shared.proofs.Rests.{blank, rests_alike}
 
 pub the_is : {A : Type 0} (o : Option A) (x : A) → o ≡ Some x → (there : is_some o ≡ true) → the o there ≡ x

@@ -4,14 +4,13 @@ use Rattle.std.proofs.Common.{◌≡◌, ◌≢◌, ℕ, zero, suc, ◌+◌, ◌
 use mathlib.Core.Logic.{dite}
 use native.Mathlib.Decide.{ℕ_discrete}
 use Rattle.std.proofs.lemmas.List.{reverse-reverse}
-use Rattle.std.specs.Prelude.{◌==◌, IfSome, reverse, slice_get}
+use Rattle.std.specs.Prelude.{◌==◌, IfSome, reverse}
 use Rattle.std.specs.List.{filter, range_with_len}
 use Rattle.std.specs.Map.{lookup}
 use Rattle.std.specs.Option.{option_and_then}
 use Rattle.oak_machine.specs.History.{Past}
-use Rattle.oak_world.specs.Worlds.{ActorState, WorldOf, idle}
+use Rattle.oak_world.specs.Worlds.{WorldOf, idle}
 use Rattle.core_world.proofs.Flights.{number_itself, same_number}
-use Rattle.seat_lock.specs.Views.{handed, is_one_of, kept_back}
 use Rattle.jr_shared.specs.Meanings.{Owned, own_events, owned_of}
 use Rattle.jr_shared.specs.Holds.{IsTold, Known, first_known, has_seat, owned_by}
 use Rattle.jr_shared.proofs.Got.{some_within}

@@ -1,6 +1,6 @@
 -- A call under one hold, from what the lock and the world say of its parts.
 use mathlib.Core.List.{IsPrefix}
-use Rattle.std.proofs.Common.{◌≡◌, ◌≢◌, ℕ, true, Some, List, ◌++◌, map, Contains, is_some, sym, ap, subst, ◌∙◌}
+use Rattle.std.proofs.Common.{◌≡◌, ℕ, true, Some, ◌++◌, map, sym, ap, subst, ◌∙◌}
 use Rattle.oak_machine.specs.declared.law.Law.{Ghosts}
 use Rattle.oak_world.specs.Worlds.{WorldOf}
 use Rattle.seat_lock.specs.declared.rule.Round.TheVariants as round

@@ -1,5 +1,5 @@
 -- When a session's task ends doesn't hang on what other sessions do: states that differ in their committers and readers alone are alike in that.
-use Rattle.std.proofs.Common.{◌≡◌, ◌⊎◌, inl, inr, ℕ, zero, suc, Some, None, Option, Result, Ok, Err, List, ◌∷◌, refl, sym, ap, subst, ◌∙◌}
+use Rattle.std.proofs.Common.{◌≡◌, inl, inr, ℕ, zero, suc, Some, None, Option, Result, Ok, Err, List, refl, sym, ap, subst, ◌∙◌}
 use Rattle.jr_path.specs.declared.path.DocId.{DocId}
 use Rattle.jr_rev.specs.declared.revision.Revision.{Revision}
 use Rattle.oak_commit.specs.Clashing.{Met, mark_op}
@@ -14,11 +14,9 @@ use Rattle.oak_commit.specs.Writing.{last_op}
 use Rattle.oak_doc.specs.Updates.{updated}
 use Rattle.oak_machine.specs.declared.event.StepKind.{StepKind}
 use Rattle.oak_machine.specs.declared.event.StepKind.TheVariants as kind
-use Rattle.oak_machine.specs.History.{Past}
 use Rattle.oak_port.specs.declared.task.StepOut.{StepOut}
 use Rattle.oak_port.specs.declared.task.StepOut.TheVariants as answers
 use Rattle.oak_port.specs.declared.task.TaskEnd.TheVariants as ends
-use Rattle.oak_port.specs.Ports.{IsWait}
 use Rattle.oak_read.specs.declared.reader.Reader.{Reader}
 use Rattle.oak_store.specs.Tables.{next_number}
 use Rattle.core_clash.specs.Core.{root_of}

@@ -21,7 +21,7 @@ use Rattle.oak_port.specs.declared.task.StepOut.{StepOut}
 use Rattle.oak_port.specs.declared.task.StepOut.TheVariants as out
 use Rattle.oak_port.specs.declared.task.Task.TheVariants as task
 use Rattle.oak_port.specs.declared.task.TaskEnd.TheVariants as end
-use Rattle.oak_port.specs.Ports.{AreOfStep, Awaiting, Deciding, Idle, IsFinish, Learning, Makes, Publishing, Starting, Undoing, Work as Shows, Writing, WritesOn, last_kind}
+use Rattle.oak_port.specs.Ports.{AreOfStep, Awaiting, Deciding, IsFinish, Learning, Makes, Publishing, Starting, Undoing, Work as Shows, Writing, WritesOn, last_kind}
 use Rattle.jr_shared.proofs.Lists.{flipped}
 use Rattle.jr_shared.specs.Meanings.{own_events}
 

@@ -1,8 +1,6 @@
 -- What a port over a pass tells of a call that was made under one hold.
-use mathlib.Core.Bool.{false≢true}
-use mathlib.Core.List.{IsPrefix}
-use Rattle.std.proofs.Common.{◌≡◌, ◌≢◌, ◌↔◌, ◌⊎◌, inl, inr, ℕ, suc, ◌+◌, ◌<◌, true, false, Option, Some, None, Result, Ok, Err, List, [], ◌∷◌, ◌++◌, length, is_some, refl, sym, ap, subst, ◌∙◌, arith, length-append}
-use Rattle.std.specs.Prelude.{◌==◌, IfSome, OnErr, OnOk, reverse, slice_get, slice_set}
+use Rattle.std.proofs.Common.{◌≡◌, ◌≢◌, ◌↔◌, ◌⊎◌, inl, inr, ℕ, suc, ◌+◌, ◌<◌, true, false, Option, Some, None, Result, Ok, Err, [], ◌∷◌, ◌++◌, length, is_some, refl, sym, ap, subst, ◌∙◌, arith, length-append}
+use Rattle.std.specs.Prelude.{◌==◌, IfSome, reverse, slice_get}
 use Rattle.std.specs.Borrow.{GName}
 use Rattle.std.specs.Map.{lookup}
 use Rattle.std.specs.Option.{option_and_then, option_map, option_map_or, unwrap_or}
@@ -10,7 +8,6 @@ use Rattle.std.specs.declared.alloc.AllocError.{AllocError}
 use Rattle.std.proofs.lemmas.List.{append_assoc, reverse-reverse}
 use Rattle.jr_path.specs.declared.text.Text.{Text}
 use Rattle.jr_rev.specs.declared.vector.Pin.{Pin}
-use Rattle.oak_machine.specs.declared.event.Event.{Event}
 use Rattle.oak_machine.specs.declared.event.Event.TheVariants as event
 use Rattle.oak_machine.specs.declared.event.StepKind.{StepKind}
 use Rattle.oak_machine.specs.declared.law.Law.{Ghosts}
@@ -34,10 +31,10 @@ use Rattle.oak_world.proofs.Porting.{busy_shown, reserve_lasts}
 use Rattle.oak_world.proofs.States.{actor_set}
 use Rattle.seat_lock.specs.declared.rule.Round.TheVariants as round
 use Rattle.jr_shared.specs.declared.locked.WorldFrame.{WorldFrame}
-use Rattle.jr_shared.specs.Meanings.{Owned, frame_of, journal_of, own_events, owned_of, steady_of}
-use Rattle.jr_shared.specs.Holds.{Begun, DueIs, HasLaw, IsTold, Known, OneHold, PinIs, Reserved, Stepped, actor_by, has_seat, owned_by, seat_by}
-use Rattle.jr_shared.specs.Seen.{EndsIn, clusters_by, history_by, law_by, sessions_by, shown_through, state_by}
-use Rattle.jr_shared.proofs.Acts.{past_grows, step_grows}
+use Rattle.jr_shared.specs.Meanings.{Owned, frame_of, own_events, owned_of, steady_of}
+use Rattle.jr_shared.specs.Holds.{DueIs, IsTold, Known, OneHold, PinIs, Reserved, Stepped, actor_by, has_seat, owned_by, seat_by}
+use Rattle.jr_shared.specs.Seen.{EndsIn, history_by, law_by, shown_through, state_by}
+use Rattle.jr_shared.proofs.Acts.{step_grows}
 use Rattle.jr_shared.proofs.Got
 use Rattle.jr_shared.proofs.Got.{some_within, the_is}
 use Rattle.jr_shared.proofs.Lists.{found_part, found_retold}

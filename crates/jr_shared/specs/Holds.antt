@@ -1,5 +1,5 @@
 -- What a pass of a world knows, and what a call of the world under one hold of the lock makes of both.
-use Rattle.std.specs.Prelude.{◌≡◌, ◌≢◌, ◌↔◌, ◌⊎◌, ◌==◌, ℕ, suc, ◌++◌, Bool, List, [], length, map, is_some, reverse, IfSome, IsFalse, IsSome, OnErr, OnOk, Option, None, Some, Result}
+use Rattle.std.specs.Prelude.{◌≡◌, ◌≢◌, ◌↔◌, ◌⊎◌, ◌==◌, ℕ, suc, ◌++◌, Bool, [], length, map, is_some, reverse, IfSome, IsFalse, IsSome, OnErr, OnOk, Option, Some, Result}
 use Rattle.std.specs.Borrow.{GName}
 use Rattle.std.specs.List.{range_with_len}
 use Rattle.std.specs.Map.{lookup}

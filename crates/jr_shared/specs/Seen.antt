@@ -10,7 +10,6 @@ use Rattle.oak_port.specs.Ports.{Shown}
 use Rattle.oak_world.specs.Ending.{RestsIn}
 use Rattle.oak_world.specs.Seen.{shown_work}
 use Rattle.oak_world.specs.Steps.{kind_due}
-use Rattle.jr_shared.specs.declared.locked.WorldFrame.{WorldFrame}
 use Rattle.jr_shared.specs.Holds.{Known, actor_by}
 
 -- what is there

@@ -1,4 +1,4 @@
-use Rattle.std.proofs.Common.{refl, sym, ap, subst, ◌∙◌}
+use Rattle.std.proofs.Common.{sym, ◌∙◌}
 use Rattle.atomic_table.specs.Seated.{TableId}
 use Rattle.seat_lock.specs.Passes.{view_of}
 use Rattle.std.proofs.lemmas.Result.{on_err_weaker, on_ok_weaker}

@@ -1,4 +1,3 @@
-use Rattle.std.proofs.Common.{refl, sym, ap, subst, ◌∙◌}
 use Rattle.seat_lock.specs.Passes.{view_of}
 use Rattle.jr_shared.proofs.Acts.{reserve_acts}
 use Rattle.jr_shared.proofs.Got.{there}

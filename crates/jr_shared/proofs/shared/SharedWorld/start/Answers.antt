@@ -1,4 +1,4 @@
-use Rattle.std.proofs.Common.{refl, sym, ap, subst, ◌∙◌}
+use Rattle.std.proofs.Common.{sym, ◌∙◌}
 use Rattle.seat_lock.specs.Passes.{view_of}
 use Rattle.jr_shared.proofs.Acts.{start_acts}
 use Rattle.jr_shared.proofs.Got.{has_law, may_begin, there, work_got}

@@ -1,4 +1,4 @@
-use Rattle.std.proofs.Common.{refl, sym, ap, subst, ◌∙◌}
+use Rattle.std.proofs.Common.{◌∙◌}
 use Rattle.seat_lock.specs.Passes.{view_of}
 use Rattle.jr_shared.proofs.Acts.{step_acts}
 use Rattle.jr_shared.proofs.Got.{there, work_got}

@@ -1,4 +1,4 @@
-use Rattle.std.proofs.Common.{refl, sym, ap, subst, ◌∙◌}
+use Rattle.std.proofs.Common.{refl}
 use Rattle.seat_lock.specs.Passes.{view_of}
 use Rattle.jr_shared.proofs.Acts.{unmoved}
 use Rattle.jr_shared.proofs.Holding.{is_got, on_frame, on_kept, on_longer, on_steady, one_hold}
