@@ -43,6 +43,7 @@ module _ {L : Type 0} where
   abbrev pub seat_by : Known L → ℕ → Option ActorState
   seat_by v s = option_and_then (λ part. part.seat) (owned_by v s)
 
+  -- the same; for one that the pass doesn't know, what a session has that does nothing
   abbrev pub actor_by : Known L → ℕ → ActorState
   actor_by v s = unwrap_or (seat_by v s) idle
 
@@ -133,6 +134,7 @@ module _ {L : Type 0} where
     pub busy : IsSome r ↔ (work_in w.actors s ≢ work.Rest)
     pub ends : (n : ℕ) × TaskEndsIn n w s
 
+  -- the session's pin was told, and the world is as it was
   pub record PinIs (w : WorldOf L) (s : ℕ) (r : Option Pin) (u : WorldOf L) : Type 0 where
     pub same : u ≡ w
     pub pin : r ≡ pin_of (memory_of (state_of w) s) s

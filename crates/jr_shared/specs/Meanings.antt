@@ -21,6 +21,7 @@ module _ {L : Type 0} where
   abbrev pub journal_of : WorldOf L → List Event
   journal_of w = reverse w.history.past
 
+  -- what a session owns of a world: what it does, and its events
   abbrev pub owned_of : WorldOf L → ℕ → Owned
   owned_of w s = record { seat = slice_get w.actors s; events = own_events w.history.past s }
 

@@ -22,9 +22,11 @@ module _ {L : Type 0} where
   abbrev pub law_by : (v : Known L) → is_some v.frame ≡ true → L
   law_by v framed = (the v.frame framed).law
 
+  -- how many cluster nodes the worlds of the pass have
   abbrev pub clusters_by : Known L → ℕ
   clusters_by v = option_map_or (λ f. f.clusters) v.frame 0
 
+  -- the cluster node of each session of these worlds
   abbrev pub sessions_by : Known L → List ℕ
   sessions_by v = option_map_or (λ f. f.sessions) v.frame []
 
