@@ -3,7 +3,7 @@ use crate::rows::{Kept, cut, put_number};
 use jr_part::{Need, Part};
 use jr_path::{DeepCopy, List, Name, Path};
 use jr_rev::Revision;
-use jr_tree::Tree;
+use jr_tree::{Edit, Tree};
 use std::alloc::{AllocError, Global};
 
 pub(crate) fn add(
@@ -19,6 +19,7 @@ pub(crate) fn add(
         "lacks" => add_lacks(alloc, rest, &kept.part, out)?,
         "part" => add_part(alloc, rest, &kept.part, out)?,
         "whole" => add_whole(alloc, &kept.part, out)?,
+        "follow" => add_follow(&kept.edit, &mut kept.part, out)?,
         _ => return Ok(false),
     }
     Ok(true)
@@ -140,5 +141,13 @@ fn add_whole(alloc: Global, part: &Part, out: &mut String) -> Result<(), AllocEr
     match part.lacks(&Need::All)? {
         Some(_) => out.push_str("lacking"),
         None => put_number(alloc, out, part.whole().len()),
+    }
+}
+
+// The writes that are not applied yet are made of the part, once nothing lacks.
+fn add_follow(edit: &Edit, part: &mut Part, out: &mut String) -> Result<(), AllocError> {
+    match part.lacks(&Need::All)? {
+        Some(_) => out.push_str("lacking"),
+        None => part.apply(edit, None),
     }
 }

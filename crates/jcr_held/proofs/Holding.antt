@@ -18,6 +18,7 @@ use Rattle.jr_part.specs.declared.need.Need.TheVariants as need
 use Rattle.jr_part.proofs.Puts.{children_agree, node_agrees, nothing_agrees}
 use Rattle.jr_overlay.specs.Overlays.{AreOver, Changed, edit_of, view_of}
 use Rattle.jr_overlay.proofs.Commits.{nothing_over}
+use Rattle.jr_overlay.proofs.EditsOf.{edit_exact}
 use Rattle.jcr_trans.specs.declared.command.Command.{Command}
 use Rattle.jcr_trans.specs.declared.command.Command.TheVariants as command
 use Rattle.jcr_view.specs.Needs.{needs_of, needs_to_rebase}
@@ -29,7 +30,6 @@ use Rattle.jcr_call.specs.Calls.{call_moved}
 use Rattle.jcr_held.specs.declared.held.Held.{Held}
 use Rattle.jcr_held.specs.Alike.{AreAlike, moved_to}
 use Rattle.jcr_held.specs.Holds.{Holds, HoldsView, IsReady, asks_for}
-use Rattle.jcr_held.proofs.PendingEdits.{edit_of_view}
 
 -- what is alike is held alike
 pub holds_alike : (c : Call) (x y : Held) → AreAlike x y → Holds c x → Holds c y
@@ -61,7 +61,7 @@ view_settled c x settled h = subst (λ (b : Bool). HoldsView c x.part x.pending 
 pub pending_changes : (c : Call) (x : Held) → x.is_kept ≡ false → Holds c x → edit_of x.pending ≡ changes c.base c.state.view
 pending_changes c x settled h =
     let v : HoldsView c x.part x.pending false = view_settled c x settled h in
-    edit_of_view c.base x.pending v.0.tree v.0.over ∙ ap (changes c.base) v.1
+    edit_exact c.base x.pending v.0.tree v.0.over ∙ ap (changes c.base) v.1
 
 pub holds_moved : (c : Call) (x : Held) (v : RevVec) (t : Nodes) → Holds c x → x.is_kept ≡ false → IsTree t
     → Holds (call_moved c v t) (moved_to x v)
@@ -72,6 +72,19 @@ holds_moved c x v t h settled tree = record {
   tokens = h.tokens;
   view = (nothing_part t tree, ap (tree_again t) (pending_changes c x settled h));
 }
+
+-- what is known of the tree that the base moves to
+pub holds_moved_knowing : (c : Call) (x : Held) (v : RevVec) (t : Nodes) (k : Knowledge) → Holds c x → x.is_kept ≡ false → IsTree t → is_sorted path_cmp k.nodes ≡ true → (AgreesWith c.base x.part → AgreesWith t k)
+    → Holds (call_moved c v t) (record (moved_to x v) { part = k })
+holds_moved_knowing c x v t k h settled tree order agrees =
+    let moved = holds_moved c x v t h settled tree in
+    record {
+      types = moved.types;
+      who = moved.who;
+      ids = moved.ids;
+      tokens = moved.tokens;
+      view = (record { tree = tree; order = order; agrees = agrees (view_settled c x settled h).0.agrees; over = nothing_over t }, moved.view.1);
+    }
 
 -- ---- more is known of the tree at the base
 

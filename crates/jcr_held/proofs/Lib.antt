@@ -1,5 +1,4 @@
 mod Answering
 mod Dues
 mod Holding
-mod PendingEdits
 mod Unwritten

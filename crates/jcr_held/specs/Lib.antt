@@ -2,5 +2,6 @@ pub mod Accepts
 pub mod Alike
 pub mod Begins
 pub mod Comes
+pub mod Follows
 pub mod Holds
 pub mod Sees

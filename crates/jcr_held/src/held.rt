@@ -1,25 +1,28 @@
 // What a session holds between its commands.
-ghost use Rattle.std.specs.Prelude.{◌≡◌, IsFalse, IsTrue, OnErr, OnOk, false, true};
+ghost use Rattle.std.specs.Prelude.{◌≡◌, IsFalse, IsTrue, OnErr, OnOk, Some, false, true};
 ghost use Rattle.std.specs.Option.{unwrap_or};
 ghost use Rattle.std.specs.FinMap.{is_sorted};
-ghost use Rattle.jr_path.specs.Names.{name_cmp};
+ghost use Rattle.jr_path.specs.Names.{name_cmp, path_cmp};
+ghost use Rattle.jr_tree.specs.Edits.{IsProper, applied};
 ghost use Rattle.jr_tree.specs.Trees.{IsTree, Nodes, dated_children_of, node_at};
-ghost use Rattle.jr_part.specs.Parts.{with_children, with_node};
+ghost use Rattle.jr_part.specs.Parts.{LacksNothing, nothing_known, with_children, with_node};
+ghost use Rattle.jr_part.specs.declared.need.Need.TheVariants as need;
 ghost use Rattle.jcr_view.specs.Outcomes.{is_viewed};
 ghost use Rattle.jcr_law.specs.State.{Call, used};
 ghost use Rattle.jcr_call.specs.Calls.{call_after, call_moved};
 ghost use Rattle.jcr_held.specs.Alike.{AreAlike, moved_to, with_drawn};
 ghost use Rattle.jcr_held.specs.Accepts.{TokensFit, drops_pending, without_pending};
 ghost use Rattle.jcr_held.specs.Begins.{IsFirstCall, IsNewHeld};
+ghost use Rattle.jcr_held.specs.Follows.{Follows};
 ghost use Rattle.jcr_held.specs.Holds.{Holds};
 
 use jcr_ref::MAX_IDS;
 use jcr_trans::Command;
 use jcr_view::Pending;
-use jr_part::{Need, Part};
+use jr_part::{Need, Part, puts_agree};
 use jr_path::{List, Name, Path, Text};
 use jr_rev::{RevVec, Revision};
-use jr_tree::{Node, Who};
+use jr_tree::{Edit, Node, Who};
 use jr_types::Registry;
 use std::alloc::{AllocError, Global};
 
@@ -91,6 +94,24 @@ impl Held {
         self.part = Part::new(self.alloc);
         self.is_kept = true;
         self.left.clear();
+    }
+
+    /// Moves the base to a vector at which the tree is the one at the old base with an edit, as an own
+    /// commit by that revision leaves it. What is known of the tree follows the edit, so that nothing
+    /// is loaded again, and what is pending is kept as by `move_to` (JSR 283, 10.11 Saving). It answers
+    /// whether the whole tree is known still; where it wasn't, or memory is refused, nothing is known.
+    pub fn follow(&mut self, base: RevVec, by: Revision, edit: &Edit) -> bool
+        ensures whole { IsTrue result → LacksNothing self.new.part need.All }
+        ensures nothing { IsFalse result → self.new.part ≡ nothing_known }
+        ensures holds { (c : Call) → Holds c self.old → IsFalse self.old.is_kept
+            → IsProper c.base edit.now.writes
+            → Holds (call_moved c base (applied (Some by) c.base edit.now.writes)) self.new }
+        ensures same { AreAlike (record (moved_to self.old base) { part = self.new.part }) self.new }
+    {
+        self.who.base = base;
+        self.is_kept = true;
+        self.left.clear();
+        follow(self.alloc, &mut self.part, edit, by)
     }
 
     /// Puts the node at a path of the tree at the base, or that none is there. A refusal leaves all
@@ -173,6 +194,42 @@ impl Held {
     {
         self.who.ids = self.who.ids.saturating_add(drawn).min(MAX_IDS);
         self.left.clear();
+    }
+}
+
+// The part follows an edit by a revision, where the whole tree is known. It answers whether it is
+// known still; else nothing is.
+fn follow(alloc: Global, part: &mut Part, edit: &Edit, by: Revision) -> bool
+    ensures follows { Follows part.old part.new by edit.now.writes result }
+    ensures order { IsTrue (is_sorted path_cmp part.new.nodes) }
+{
+    let is_whole = follow_or_forget(alloc, part, edit, by);
+    part.in_order();
+    is_whole
+}
+
+fn follow_or_forget(alloc: Global, part: &mut Part, edit: &Edit, by: Revision) -> bool
+    ensures { Follows part.old part.new by edit.now.writes result }
+{
+    puts_agree();
+    match part.lacks(&Need::All) {
+        Ok(None) => follow_whole(part, edit, by),
+        _ => {
+            *part = Part::new(alloc);
+            false
+        }
+    }
+}
+
+// The same where nothing lacks.
+fn follow_whole(part: &mut Part, edit: &Edit, by: Revision) -> bool
+    requires { LacksNothing part.old need.All }
+    ensures { Follows part.old part.new by edit.now.writes result }
+{
+    puts_agree();
+    match part.apply(edit, Some(by)) {
+        Ok(()) => true,
+        Err(_) => false,
     }
 }
 

@@ -125,8 +125,21 @@ impl Held {
         ensures same { AreAlike self.old self.new }
     {
         let load = first_lacking(&self.part, needs.as_slice())?;
+        if load.is_none() {
+            note_known(&mut self.part, needs.as_slice());
+        }
         self.left = needs;
         Ok(load)
+    }
+}
+
+// Where the whole tree is what was asked for, nothing of it lacks from now on.
+fn note_known(part: &mut Part, needs: &[Need])
+    requires { All (LacksNothing part.old) needs.now }
+    ensures { part.new ≡ part.old }
+{
+    if let [Need::All] = needs {
+        part.note_whole();
     }
 }
 

@@ -10,12 +10,11 @@ ghost use Rattle.jr_items.specs.Own.{own_name};
 ghost use Rattle.jcr_lock.specs.Names.{lock_names};
 ghost use Rattle.jcr_ref.specs.References.{target_of};
 ghost use Rattle.oak_clash.specs.declared.mark.Mark.TheVariants.{Guard, Touch};
-ghost use Rattle.oak_machine.specs.Marks.{with_marks};
+ghost use Rattle.oak_machine.specs.Marks.{marks_of_node, with_marks};
 ghost use Rattle.jcr_plan.specs.Marks.{is_type_name, mark_each, marks_of, new_references};
 ghost use Rattle.jcr_plan.specs.ByWrite.{covered_below, is_cover_name, marks_by, moved_marks, references_added, references_in, retyped_marks, written_marks};
 
 use crate::covered::{is_newly_covered, stays};
-use crate::{note, note_node};
 use jcr_lock::LockNames;
 use jcr_ref::targets_of;
 use jr_items::OwnName;
@@ -89,7 +88,7 @@ fn note_write(
     }
 }
 
-// Notes the marks of a node that comes or goes.
+// Notes the marks of a node that comes or goes, and of the nodes below it that are covered anew.
 fn note_moved(
     found: &mut Keyed<MarkAt, bool>,
     alloc: Global,
@@ -164,6 +163,25 @@ fn note_covered(
             note(found, at.copy()?, Mark::Guard)?;
         }
     }
+    Ok(())
+}
+
+// Notes the marks of the node itself that comes or goes, and of its parent.
+fn note_node(found: &mut Keyed<MarkAt, bool>, path: &Path) -> Result<(), AllocError>
+    ensures { OnOk result (found.new ≡ with_marks found.old (marks_of_node path.now)) }
+{
+    note(found, path.copy()?, Mark::Exists)?;
+    match path.parent()? {
+        Some(parent) => note(found, parent, Mark::Touch),
+        None => Ok(()),
+    }
+}
+
+// Notes a mark.
+fn note(found: &mut Keyed<MarkAt, bool>, path: Path, mark: Mark) -> Result<(), AllocError>
+    ensures { OnOk result (found.new ≡ with_marks found.old (record { path = path; mark = mark } ∷ [])) }
+{
+    found.put(MarkAt { path, mark }, true)?;
     Ok(())
 }
 

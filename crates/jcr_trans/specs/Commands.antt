@@ -1,8 +1,5 @@
--- The names of commands, and which are built.
-use Rattle.std.specs.Prelude.{ℕ, Bool, true, false, not, ◌||◌, List, None, codes}
-use Rattle.jr_path.specs.declared.name.Name.{Name}
-use Rattle.jr_path.specs.declared.path.Path.{Path}
-use Rattle.jr_value.specs.declared.value.Property.{Property}
+-- The names of commands.
+use Rattle.std.specs.Prelude.{ℕ, List, codes}
 use Rattle.jcr_trans.specs.declared.command.Command.{Command}
 use Rattle.jcr_trans.specs.declared.command.Command.TheVariants as command
 
@@ -51,52 +48,3 @@ word_of command.Detach = codes "detach"
 word_of (command.OrderBefore a b) = codes "orderBefore"
 word_of (command.Stop a) = codes "stop"
 word_of (command.Recover a) = codes "recover"
-
--- what is built: seven commands with their arguments; another one has its name alone
-pub data Built : Type 0 where
-  Adds : Path → Built
-  Sets : Path → Name → Property → Built
-  Gets : Path → Built
-  Lists : Path → Built
-  Saves : Built
-  Refreshes : Built
-  ShowsBase : Built
-  NotBuilt : List ℕ → Built
-
-abbrev pub built : Command → Built
-built (command.Add p None) = Adds p
-built (command.Set p n x) = Sets p n x
-built (command.Get p) = Gets p
-built (command.List p) = Lists p
-built command.Save = Saves
-built (command.Refresh false) = Refreshes
-built command.Head = ShowsBase
-built c = NotBuilt (word_of c)
-
-abbrev pub saves_by : Built → Bool
-saves_by Saves = true
-saves_by _ = false
-
--- it commits the pending edits
-abbrev pub saves : Command → Bool
-saves c = saves_by (built c)
-
-abbrev pub refreshes_by : Built → Bool
-refreshes_by Refreshes = true
-refreshes_by _ = false
-
--- it moves the base to the head, and drops the pending edits
-abbrev pub refreshes : Command → Bool
-refreshes c = refreshes_by (built c)
-
-abbrev pub shows_base_by : Built → Bool
-shows_base_by ShowsBase = true
-shows_base_by _ = false
-
--- it shows the base
-abbrev pub shows_base : Command → Bool
-shows_base c = shows_base_by (built c)
-
--- it is answered by the view alone, or isn't built; the three others are answered by the journal
-abbrev pub is_plain : Command → Bool
-is_plain c = not (saves c || refreshes c || shows_base c)

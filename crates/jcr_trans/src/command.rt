@@ -16,8 +16,7 @@ pub struct TreeNode {
     pub props: Keyed<Name, Property>,
 }
 
-/// A command of a session, with its arguments in order; one that may be left out is an `Option`. Those that are built so
-/// far are `add` without a type, `set`, `get`, `list`, `save`, `refresh` with false, and `head`.
+/// A command of a session, with its arguments in order; one that may be left out is an `Option`.
 #[derive(Drop)]
 pub enum Command {
     /// `add`: adds a node, of a type where one is named (JSR 283, 10.4 Adding Nodes and Setting Properties).

@@ -7,7 +7,7 @@ ghost use Rattle.serde_json.specs.View.{members_view, view};
 ghost use Rattle.serde_json.specs.Written.{compact_text, has_float};
 ghost use Rattle.jcr_trans.specs.Answers.{Done, ShowsProperty, ShowsNames, ShowsRevision, ShowsVector, ShowsNothing, ShowsProperties, ShowsText, ShowsItems, Refused};
 ghost use Rattle.jcr_trans.specs.Texts.{answer_text, datum_data, datum_items, item_texts, memory_text, name_items, ok_text, property_members};
-ghost use Rattle.jcr_trans.specs.Views.{too_many_nodes};
+ghost use Rattle.jcr_trans.specs.Views.{over_limit, too_many_nodes, IsRefusal};
 ghost use Rattle.jr_path.specs.Ids.{path_text};
 ghost use Rattle.jr_path.specs.Names.{item_path};
 ghost use Rattle.jr_rev.specs.Digits.{IsHexDigit};
@@ -15,9 +15,8 @@ ghost use Rattle.jr_rev.specs.Grammar.{FitsFields};
 ghost use Rattle.jr_rev.specs.Texts.{hexadecimal, revision_text, vector_text};
 ghost use Rattle.jr_value.specs.Json.{property_data};
 
-use crate::checks::limit;
 use arrayvec::ArrayString;
-use jr_path::{Item, Keyed, Name};
+use jr_path::{Item, Keyed, List, Name, Text};
 use jr_rev::{RevVec, Revision};
 use jr_tree::{Datum, Refusal};
 use jr_value::Property;
@@ -187,6 +186,16 @@ pub fn too_many_reply(alloc: Global) -> Result<String, AllocError>
     ensures { IfOk result (λ text. string_bytes text ≡ answer_text too_many_nodes) }
 {
     refusal_text(alloc, &limit(alloc, "nodes", 100_000)?)
+}
+
+// A limit is passed.
+fn limit(alloc: Global, what: &str, most: u64) -> Result<Refusal, AllocError>
+    ensures { IfOk result (IsRefusal (over_limit what.now most)) }
+{
+    let mut parts = List::new(alloc);
+    parts.push(Datum::Text(Text::of(String::from_str(alloc, what)?)))?;
+    parts.push(Datum::Number(most))?;
+    Ok(Refusal { number: 15, parts })
 }
 
 /// The reply of a refusal: `no`, its number, and a list of what it names, as `no 1 ["/a"]`. A path, an item, a

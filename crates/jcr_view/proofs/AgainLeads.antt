@@ -204,7 +204,7 @@ module _ (t : Nodes) (k : Knowledge) (c : Changed) (part : IsPartOf t k c) (view
   proper = edit_proper t c part.tree part.over view
 
   rises : ItemsRise (edit_of c)
-  rises = subst ItemsRise (sym (edit_exact t c part.tree part.over view)) (changes_rise t (view_of t c))
+  rises = subst ItemsRise (sym (edit_exact t c part.tree part.over)) (changes_rise t (view_of t c))
 
   abbrev steps : Steps
   steps = steps_again (whole_view t) (edit_of c)
@@ -217,7 +217,7 @@ module _ (t : Nodes) (k : Knowledge) (c : Changed) (part : IsPartOf t k c) (view
   alike p =
       sym (node_at-undated (applied None t (edit_of c)) p)
       ∙ (ap (λ (v : Nodes). node_at v p)
-      (ap (λ (ws : List Write). undated (applied None t ws)) (edit_exact t c part.tree part.over view)
+      (ap (λ (ws : List Write). undated (applied None t ws)) (edit_exact t c part.tree part.over)
       ∙ changes_applied None t (view_of t c) part.tree view)
       ∙ node_at-undated (view_of t c) p)
 

@@ -1,4 +1,4 @@
--- The edit of the changes: untouched nodes add nothing to the changes from the tree to the view.
+-- The edit of the changes holds the changes from the tree to the view, whatever the view is: untouched nodes add nothing to them.
 use Rattle.std.proofs.Common.{◌≡◌, Bool, true, false, cond, not, List, [], ◌∷◌, ◌++◌, map, Option, None, Some, is_some, is_none, refl, sym, ap, ◌∙◌, subst}
 use Rattle.std.specs.Option.{option_and_then, option_map, option_map_or}
 use Rattle.std.specs.Cmp.{IsTotalOrder, tied_itself}
@@ -41,10 +41,6 @@ EachOf P (x ∷ xs) = P x × EachOf P xs
 pub each_more : {X : Type 0} (P Q : X → Type 0) → ((x : X) → P x → Q x) → (xs : List X) → EachOf P xs → EachOf Q xs
 each_more P Q f [] h = tt
 each_more P Q f (x ∷ xs) h = (f x h.0, each_more P Q f xs h.1)
-
-each_true : {X : Type 0} (P : X → Type 0) (f : X → Bool) (xs : List X) → EachOf P xs → list_all f xs ≡ true → EachOf (λ x. P x × (f x ≡ true)) xs
-each_true P f [] e h = tt
-each_true P f (x ∷ xs) e h = ((e.0, first _ _ h), each_true P f xs e.1 (second _ _ h))
 
 -- each entry of a list in order is found at its key
 module _ {K X : Type 0} (R : K → K → Ordering) (total : IsTotalOrder R) where
@@ -112,7 +108,18 @@ module _ (f : Change → Option Node) where
 kept_at : (test : Path → Bool) (p : Path) (es : Nodes) → node_at (filter (λ e. test e.0) es) p ≡ cond (test p) (node_at es p) None
 kept_at test p es = lookup-filter-keys (is_at (path_cmp p)) test (test p) (λ q h. ap test (sym (same_path p q h))) es
 
-module _ (t : Nodes) (c : Changed) (tree : IsTree t) (over : AreOver t c) (view : IsTree (view_of t c)) where
+-- the names of a node of a tree in order
+names_at : (t : Nodes) → list_all (λ e. is_sorted name_cmp e.1.props) t ≡ true → (p : Path) (node : Node)
+    → node_at t p ≡ Some node → is_sorted name_cmp node.props ≡ true
+names_at [] h p node there = absurd (false≢true (ap is_some there))
+names_at (e ∷ t) h p node there = by (is_at (path_cmp p) e.0) there (names_at t (second _ _ h) p node)
+  where
+    by : (b : Bool) → cond b (Some e.1) (node_at t p) ≡ Some node
+        → (node_at t p ≡ Some node → is_sorted name_cmp node.props ≡ true) → is_sorted name_cmp node.props ≡ true
+    by true is rest = ap (λ (o : Option Node). option_map_or (λ x. is_sorted name_cmp x.props) o true) (sym is) ∙ first _ _ h
+    by false is rest = rest is
+
+module _ (t : Nodes) (c : Changed) (tree : IsTree t) (over : AreOver t c) where
   abbrev touched : Path → Bool
   touched p = is_some (change_at c p)
 
@@ -129,9 +136,6 @@ module _ (t : Nodes) (c : Changed) (tree : IsTree t) (over : AreOver t c) (view 
   in_new = node_at-of (λ x. x.new) c over.paths
 
   -- ---- nodes that go
-
-  abbrev lost : (to from : Nodes) → Path → Option Node
-  lost to from p = cond (is_none (node_at to p)) (node_at from p) None
 
   same_lost : (p : Path) (o : Option Change) → change_at c p ≡ o → cond (is_none (option_and_then (λ x. x.new) o)) (option_and_then (λ x. x.old) o) None ≡ cond (is_none (option_map_or (λ x. x.new) o (node_at t p))) (node_at t p) None
   same_lost p (Some x) is = ap (λ (n : Option Node). cond (is_none x.new) n None) (over.kept p x is).old
@@ -186,15 +190,19 @@ module _ (t : Nodes) (c : Changed) (tree : IsTree t) (over : AreOver t c) (view 
       by true g rest = ap (λ (o : Option Node). changed_from o e ++ nodes_changed t es) (touched_old e.0 g) ∙ ap (λ ws. node_changes (old_nodes c) e ++ ws) rest
       by false g rest = ap (λ ws. ws ++ nodes_changed t es) (h.0 g) ∙ rest
 
+  -- a node that no change touches is the tree's, so its names are in order
   untouched_same : EachOf (λ e. touched e.0 ≡ false → node_changes t e ≡ []) v
-  untouched_same = each_more _ _ one v (each_true _ (λ e. is_sorted name_cmp e.1.props) v (each_found path_cmp path_total v view.paths) view.names)
+  untouched_same = each_more _ _ one v (each_found path_cmp path_total v (sorted-view t c tree.paths))
     where
       none_of : (o : Option Change) → is_some o ≡ false → (n : Option Node) → option_map_or (λ x. x.new) o n ≡ n
       none_of None h n = refl
       none_of (Some x) h n = absurd (false≢true (sym h))
 
-      one : (e : Path × Node) → (node_at v e.0 ≡ Some e.1) × (is_sorted name_cmp e.1.props ≡ true) → touched e.0 ≡ false → node_changes t e ≡ []
-      one e h out = no_changes_at t e (sym (none_of (change_at c e.0) out (node_at t e.0)) ∙ (sym (in_view e.0) ∙ h.0)) h.1
+      there : (e : Path × Node) → node_at v e.0 ≡ Some e.1 → touched e.0 ≡ false → node_at t e.0 ≡ Some e.1
+      there e h out = sym (none_of (change_at c e.0) out (node_at t e.0)) ∙ (sym (in_view e.0) ∙ h)
+
+      one : (e : Path × Node) → node_at v e.0 ≡ Some e.1 → touched e.0 ≡ false → node_changes t e ≡ []
+      one e h out = no_changes_at t e (there e h out) (names_at t tree.names e.0 e.1 (there e h out))
 
   pub edit_exact : edit_of c ≡ changes t v
   edit_exact =
@@ -202,5 +210,5 @@ module _ (t : Nodes) (c : Changed) (tree : IsTree t) (over : AreOver t c) (view 
       ∙ ap (λ ws. values_of (with_writes [] (nodes_taken v t ++ ws)))
       (ap (λ (es : Nodes). nodes_changed (old_nodes c) es) (sym same_staying) ∙ sym (same_changes v untouched_same))
 
-  pub edit_proper : IsProper t (edit_of c)
-  edit_proper = subst (IsProper t) (sym edit_exact) (changes_proper t v tree view)
+  pub edit_proper : IsTree v → IsProper t (edit_of c)
+  edit_proper view = subst (IsProper t) (sym edit_exact) (changes_proper t v tree view)

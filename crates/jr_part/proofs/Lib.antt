@@ -1,7 +1,11 @@
 pub mod Above
 pub mod Among
 pub mod Children
+pub mod Follows
+pub mod Lists
+pub mod Named
 pub mod Order
+pub mod Places
 pub mod Puts
 pub mod Ways
 pub mod Whole

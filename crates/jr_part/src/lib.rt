@@ -1,6 +1,7 @@
 //! A part of a tree: what was read of a tree so far, and what still has to be asked of it.
 #![tactic(auto)]
 
+mod follow;
 mod laws;
 mod need;
 mod part;

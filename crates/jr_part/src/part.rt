@@ -6,11 +6,14 @@ ghost use Rattle.std.specs.Map.{remove_entry};
 ghost use Rattle.std.specs.Map.Iter.{deref_pair};
 ghost use Rattle.std.specs.BTreeMap.{is_at};
 ghost use Rattle.jr_path.specs.Names.{name_cmp, path_cmp};
+ghost use Rattle.jr_tree.specs.Edits.{IsProper, applied};
 ghost use Rattle.jr_tree.specs.Trees.{IsTree, Nodes, node_at, subtree_of};
 ghost use Rattle.jr_part.specs.declared.need.Need.TheVariants as need;
+ghost use Rattle.jr_part.specs.Follows.{followed};
 ghost use Rattle.jr_part.specs.Parts.{AgreesWith, HaveRisingNames, Lacks, LacksNothing, known_at, list_at, nothing_known, with_children, with_node};
 
 use crate::Need;
+use crate::follow::{Lists, follow_lists, note_root};
 use jr_path::{DeepCopy, Keyed, List, Name, Path};
 use jr_rev::Revision;
 use jr_tree::{Edit, Node, Tree, Write};
@@ -24,17 +27,20 @@ pub struct Part {
     alloc: Global,
     tree: Tree,
     absent: Keyed<Path, ()>,
-    lists: Keyed<Path, List<(Name, Option<Revision>)>>,
+    lists: Lists,
+    // Nothing of the whole tree lacks. It may be false though nothing does.
+    is_whole: bool,
 }
 
 impl Model for Part {
-    ghost use Rattle.jr_part.specs.Parts.{Knowledge, HaveRisingNames};
+    ghost use Rattle.jr_part.specs.Parts.{HaveRisingNames, IsMarked, Knowledge};
 
     ghost Value = { Knowledge };
 
     ghost view = { λ p. record { nodes = p.tree; absent = p.absent; lists = p.lists } };
 
-    ghost invariant = { λ p. HaveRisingNames p.lists };
+    ghost invariant = { λ p. HaveRisingNames p.lists
+        × IsMarked (record { nodes = p.tree; absent = p.absent; lists = p.lists }) p.is_whole };
 }
 
 impl Part {
@@ -47,6 +53,7 @@ impl Part {
             tree: Tree::new(alloc),
             absent: Keyed::new(alloc),
             lists: Keyed::new(alloc),
+            is_whole: false,
         }
     }
 
@@ -96,6 +103,7 @@ impl Part {
         ensures ok { OnOk result (self.new ≡ with_node self.old path.now (Some node)) }
         ensures err { OnErr result (self.new ≡ self.old) }
     {
+        self.is_whole = false;
         self.tree.insert(path.copy()?, node)?;
         self.absent.remove(path);
         Ok(())
@@ -108,6 +116,7 @@ impl Part {
         if self.tree.has(path) {
             return self.put_gone(path);
         }
+        self.is_whole = false;
         self.absent.put(path.copy()?, ())
     }
 
@@ -117,6 +126,7 @@ impl Part {
         ensures err { OnErr result (self.new ≡ self.old) }
     {
         let tree = self.tree_without(path)?;
+        self.is_whole = false;
         self.absent.put(path.copy()?, ())?;
         self.tree = tree;
         Ok(())
@@ -146,7 +156,50 @@ impl Part {
         ensures ok { OnOk result (self.new ≡ with_children self.old path.now names) }
         ensures err { OnErr result (self.new ≡ self.old) }
     {
+        self.is_whole = false;
         self.lists.put(path.copy()?, names)
+    }
+
+    /// Follows an edit of the tree, whose nodes that come are added by that revision: of a tree that the
+    /// part agreed with, it agrees with the tree after the edit, and still nothing lacks (JSR 283, 10.11
+    /// Saving). Of the lists of children only those of nodes that come, and of the nodes above those that
+    /// come or go, are looked at. Where memory is refused all is forgotten.
+    pub fn apply(&mut self, edit: &Edit, by: Option<Revision>) -> Result<(), AllocError>
+        requires whole { LacksNothing self.old need.All }
+        ensures nodes { OnOk result (self.new.nodes ≡ applied by self.old.nodes edit.now.writes) }
+        ensures agrees { (t : Nodes) → IsTree t → IsProper t edit.now.writes → AgreesWith t self.old
+            → OnOk result (AgreesWith (applied by t edit.now.writes) self.new) }
+        ensures whole { OnOk result (LacksNothing self.new need.All) }
+        ensures err { OnErr result (self.new ≡ nothing_known) }
+    {
+        self.in_order();
+        self.is_whole = false;
+        match follow(
+            &mut self.tree,
+            &mut self.absent,
+            &mut self.lists,
+            self.alloc,
+            edit,
+            by,
+        ) {
+            Ok(()) => {
+                self.note_whole();
+                Ok(())
+            }
+            Err(refused) => {
+                *self = Part::new(self.alloc);
+                Err(refused)
+            }
+        }
+    }
+
+    /// Nothing of the whole tree lacks, and nothing will until the part is changed otherwise than by an
+    /// edit: `lacks` answers so at once. What is known stays the same.
+    pub fn note_whole(&mut self)
+        requires { LacksNothing self.old need.All }
+        ensures { self.new ≡ self.old }
+    {
+        self.is_whole = true;
     }
 
     /// The first answer, a Node or a Children, in path order and a Node before the Children of its path,
@@ -155,7 +208,7 @@ impl Part {
     /// the root.
     ///
     /// A Node and a Children are looked up; a Subtree goes over all that is known at and below its path,
-    /// up to the answer. So who loads a subtree of many nodes asks for the Node and then the Children of
+    /// up to the answer; All is answered at once where `note_whole` noted that nothing lacks. So who loads a subtree of many nodes asks for the Node and then the Children of
     /// one path after another, from its path down as the names come, and for the Subtree at the end.
     pub fn lacks(&self, need: &Need) -> Result<Option<Need>, AllocError>
         ensures { IfOk result (Lacks self.now need.now) }
@@ -164,8 +217,17 @@ impl Part {
             Need::Node(path) => self.lacks_node(path),
             Need::Children(path) => self.lacks_children(path),
             Need::Subtree(path) => self.lacks_below(path),
-            Need::All => self.lacks_below(&Path::root(self.alloc)),
+            Need::All => self.lacks_of_all(),
         }
+    }
+
+    fn lacks_of_all(&self) -> Result<Option<Need>, AllocError>
+        ensures { IfOk result (Lacks self.now need.All) }
+    {
+        if self.is_whole {
+            return Ok(None);
+        }
+        self.lacks_below(&Path::root(self.alloc))
     }
 
     fn lacks_node(&self, path: &Path) -> Result<Option<Need>, AllocError>
@@ -242,4 +304,24 @@ impl Part {
     {
         let _ = self.tree.len();
     }
+}
+
+// The tree, the paths without a node and the lists of children follow an edit. A refusal leaves them
+// half changed.
+fn follow(
+    tree: &mut Tree,
+    absent: &mut Keyed<Path, ()>,
+    lists: &mut Lists,
+    alloc: Global,
+    edit: &Edit,
+    by: Option<Revision>,
+) -> Result<(), AllocError>
+    requires rising { HaveRisingNames lists.old }
+    ensures { OnOk result ((record { nodes = tree.new; absent = absent.new; lists = lists.new })
+        ≡ followed by (record { nodes = tree.old; absent = absent.old; lists = lists.old })
+        edit.now.writes) }
+{
+    tree.apply(edit, by)?;
+    note_root(absent, alloc, tree)?;
+    follow_lists(lists, alloc, edit.writes.as_slice(), by)
 }

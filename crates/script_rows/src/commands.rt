@@ -1,11 +1,8 @@
-// Commands, what they answer on a tree, and the marks of what they have edited.
+// Commands as they are read.
 use crate::scripts::add_fault;
-use jcr_plan::marks_of;
-use jcr_trans::{Command, TreeNode, refusal_text, run};
+use jcr_trans::{Command, TreeNode};
 use jr_args::{Fault, command, pointer};
-use jr_path::{DeepCopy, Path};
-use jr_tree::{Refusal, Tree, changes};
-use oak_clash::{Mark, MarkAt};
+use jr_path::Path;
 use serde_json::Value as Json;
 use std::alloc::{AllocError, Global};
 
@@ -51,83 +48,4 @@ fn add_nodes(path: &Path, nodes: &[TreeNode], out: &mut String) -> Result<(), Al
 fn add_path(path: &Path, out: &mut String) -> Result<(), AllocError> {
     out.push(' ')?;
     out.push_str(path.text()?.as_str())
-}
-
-// What a copy of a command answers on a tree.
-pub(crate) fn run_on(
-    alloc: Global,
-    text: &str,
-    view: &mut Tree,
-    out: &mut String,
-) -> Result<(), AllocError> {
-    match Json::from_slice(alloc, text.as_bytes()) {
-        Ok(json) => run_read(alloc, command(alloc, &json), view, out),
-        Err(_) => out.push_str("no JSON"),
-    }
-}
-
-fn run_read(
-    alloc: Global,
-    read: Result<Command, Fault>,
-    view: &mut Tree,
-    out: &mut String,
-) -> Result<(), AllocError> {
-    match read {
-        Ok(command) => run_copy(alloc, &command, view, out),
-        Err(_) => out.push_str("no command"),
-    }
-}
-
-fn run_copy(
-    alloc: Global,
-    command: &Command,
-    view: &mut Tree,
-    out: &mut String,
-) -> Result<(), AllocError> {
-    match command.copy() {
-        Ok(copy) => run_command(alloc, &copy, view, out),
-        Err(why) => Err(why),
-    }
-}
-
-fn run_command(
-    alloc: Global,
-    command: &Command,
-    view: &mut Tree,
-    out: &mut String,
-) -> Result<(), AllocError> {
-    add_reply(alloc, run(alloc, view, command), out)
-}
-
-fn add_reply(
-    alloc: Global,
-    reply: Result<String, Refusal>,
-    out: &mut String,
-) -> Result<(), AllocError> {
-    match reply {
-        Ok(text) => out.push_str(text.as_str()),
-        Err(refusal) => out.push_str(refusal_text(alloc, &refusal)?.as_str()),
-    }
-}
-
-// The marks of what leads from the initial tree to this one.
-pub(crate) fn add_marks(alloc: Global, view: &Tree, out: &mut String) -> Result<(), AllocError> {
-    let initial = Tree::initial(alloc)?;
-    let marks = marks_of(alloc, &changes(&initial, view)?)?;
-    for mark in marks.inner() {
-        add_mark(mark, out)?;
-    }
-    Ok(())
-}
-
-fn add_mark(mark: &MarkAt, out: &mut String) -> Result<(), AllocError> {
-    out.push_str(match &mark.mark {
-        Mark::Exists => "Exists",
-        Mark::Guard => "Guard",
-        Mark::Touch => "Touch",
-        Mark::Prop(name) => name.as_str(),
-    })?;
-    out.push(' ')?;
-    out.push_str(mark.path.text()?.as_str())?;
-    out.push(' ')
 }

@@ -1,4 +1,4 @@
-//! Rows of scripts as they are read, of their node types, of commands and what they answer, and of the marks of edits.
+//! Rows of scripts as they are read, of their node types, of commands as they are read, and of replies that no tree decides.
 #![tactic(auto)]
 
 mod commands;

@@ -1,0 +1,15 @@
+-- What is known of a tree once its base moved by an edit.
+use Rattle.std.specs.Prelude.{◌≡◌, Bool, List, Some, IsFalse, IsTrue}
+use Rattle.jr_rev.specs.declared.revision.Revision.{Revision}
+use Rattle.jr_tree.specs.declared.edit.Write.{Write}
+use Rattle.jr_tree.specs.Edits.{IsProper, applied}
+use Rattle.jr_tree.specs.Trees.{IsTree, Nodes}
+use Rattle.jr_part.specs.Parts.{AgreesWith, Knowledge, LacksNothing, nothing_known}
+use Rattle.jr_part.specs.declared.need.Need.TheVariants as need
+
+-- what is known follows an edit by a revision: the whole tree is known still, or nothing is
+pub record Follows (old new : Knowledge) (by : Revision) (ws : List Write) (is_whole : Bool) : Type 0 where
+  pub whole : IsTrue is_whole → LacksNothing new need.All
+  pub nothing : IsFalse is_whole → new ≡ nothing_known
+  pub agrees : (t : Nodes) → IsTree t → IsProper t ws → AgreesWith t old
+      → AgreesWith (applied (Some by) t ws) new
