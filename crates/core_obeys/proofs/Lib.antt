@@ -17,3 +17,5 @@ mod Rows
 pub mod Starting
 mod Runnings
 pub mod Unclashing
+pub mod Planned
+pub mod Answering

@@ -1,5 +1,5 @@
 -- A run in which two plans are committed side by side: the theorems have something to speak of.
-use Rattle.std.proofs.Common.{◌≡◌, ℕ, zero, suc, None, Some, List, [], ◌∷◌, is_some, refl, ap, arith}
+use Rattle.std.proofs.Common.{◌≡◌, ℕ, zero, suc, Bool, true, false, cond, None, Some, List, [], ◌∷◌, is_some, refl, sym, ap, subst, arith}
 use Rattle.std.specs.Prelude.{codes, slice_get}
 use Rattle.std.specs.Option.{unwrap_or}
 use mathlib.Core.Bool.{false≢true}
@@ -7,7 +7,9 @@ use Rattle.jr_path.specs.declared.path.Path.{Path}
 use Rattle.jr_value.specs.declared.value.Property.TheVariants.{Single}
 use Rattle.jr_value.specs.declared.value.Value.TheVariants as value
 use Rattle.jr_rev.specs.declared.revision.Revision.{Revision}
+use Rattle.jr_rev.specs.Revisions.{is_same}
 use Rattle.jr_rev.specs.Vectors.{Entries, start, with_entry}
+use Rattle.jr_rev.proofs.Order.{same_revision}
 use Rattle.jr_tree.specs.declared.edit.Write.{Write}
 use Rattle.jr_tree.specs.declared.edit.Write.TheVariants.{Here, Put}
 use Rattle.jr_tree.specs.Trees.{initial_tree}
@@ -20,12 +22,14 @@ use Rattle.jcr_plan.specs.Plans.{PlanOk}
 use Rattle.jcr_plan.proofs.Accepted.{accepted}
 use Rattle.oak_machine.specs.declared.event.Draw.{Draw}
 use Rattle.oak_machine.specs.declared.event.Event.TheVariants as event
+use Rattle.oak_machine.specs.Commits.{are_clashing}
 use Rattle.oak_machine.specs.History.{History, Past}
 use Rattle.oak_machine.specs.Laws.{Starts}
 use Rattle.oak_machine.specs.Runs.{AreNodes, IsNode, any_said}
 use Rattle.oak_machine.proofs.Deciding.{apart_decided}
 use Rattle.core_merge.specs.Orders.{tree_by_commits}
 use Rattle.core_obeys.specs.Plans.{base_tree, Tokens, IsObeyingRun}
+use Rattle.core_obeys.specs.Product.{IsUnclashing}
 use Rattle.core_obeys.proofs.Obeys.{types_obeyed}
 use Rattle.core_obeys.proofs.Starting.{plans_proper}
 
@@ -51,6 +55,15 @@ added t s p = record { revision = at t; session = s; base = vector 0; edit = rec
 
 abbrev drawn : Past
 drawn = event.Draw (added 2 1 (codes "b" ∷ [])) ∷ event.Draw (added 1 0 (codes "a" ∷ [])) ∷ event.Login 1 (vector 0) ∷ event.Login 0 (vector 0) ∷ []
+
+-- the first clashes with no other draw
+unclashing : IsUnclashing drawn (at 1)
+unclashing o other there outside = by (is_same o (at 2)) (is_same o (at 1)) refl refl there
+  where
+    by : (b c : Bool) → is_same o (at 2) ≡ b → is_same o (at 1) ≡ c → is_some (cond b (Some (added 2 1 (codes "b" ∷ []))) (cond c (Some (added 1 0 (codes "a" ∷ []))) None)) ≡ true → are_clashing drawn (at 1) o ≡ false
+    by true c same k h = subst (λ (x : Revision). are_clashing drawn (at 1) x ≡ false) (sym (same_revision o (at 2) same)) refl
+    by false true k same h = absurd (other (sym (same_revision o (at 1) same)))
+    by false false k l h = absurd (false≢true h)
 
 -- the greater revision is committed first
 abbrev history : History

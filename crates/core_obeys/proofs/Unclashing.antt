@@ -1,30 +1,29 @@
--- A commit that clashes with no draw outside its base isn't refused, and its command isn't answered with 10.
-use Rattle.std.proofs.Common.{◌≡◌, ◌≢◌, ℕ, Bool, true, false, cond, Option, None, Some, List, [], ◌∷◌, is_some, arith, refl, sym, ap, ◌∙◌, subst}
-use Rattle.std.specs.Option.{option_map_or, unwrap_or}
+-- A commit that clashes with no other draw outside its base isn't refused, and its command isn't answered with 10.
+use Rattle.std.proofs.Common.{◌≡◌, ◌≢◌, ℕ, Bool, true, false, cond, Option, None, Some, List, [], ◌∷◌, ◌++◌, is_some, arith, refl, sym, ap, ◌∙◌, subst}
+use Rattle.std.specs.Option.{unwrap_or}
 use Rattle.std.specs.Fmt.{digits}
-use Rattle.std.specs.Prelude.{◌||◌, ◌==◌, slice_get}
+use Rattle.std.specs.Prelude.{◌||◌, slice_get}
 use Rattle.std.proofs.lemmas.Bool.{and_parts, false≢true}
+use Rattle.std.proofs.lemmas.Option.{none-some, some_pair_parts}
 use Rattle.jr_path.specs.declared.name.Name.{Name}
 use Rattle.jr_path.specs.declared.path.Item.{Item}
 use Rattle.jr_rev.specs.declared.revision.Revision.{Revision}
 use Rattle.jr_rev.specs.Revisions.{is_same}
-use Rattle.jr_rev.specs.Vectors.{sees}
 use Rattle.jr_rev.proofs.Order.{same_revision}
 use Rattle.jr_items.specs.Refusals.{clash, out_of_memory}
 use Rattle.jr_tree.specs.Trees.{Nodes}
-use Rattle.oak_clash.specs.Clashes.{clashing}
 use Rattle.oak_machine.specs.declared.event.Draw.{Draw}
 use Rattle.oak_machine.specs.declared.event.Event.{Event}
 use Rattle.oak_machine.specs.declared.event.Event.TheVariants as event
 use Rattle.oak_machine.specs.History.{Begin, History, Past}
-use Rattle.oak_machine.specs.Commits.{draw_of, is_committed, is_drawn, is_in_flight, marks_of, refusal_of, tree_at}
+use Rattle.oak_machine.specs.Commits.{draw_of, is_committed, is_drawn, is_in_flight, is_refused, marks_of, refusal_of, tree_at}
 use Rattle.oak_machine.specs.Laws.{Says, Starts}
 use Rattle.oak_machine.specs.Runs.{AreNodes, IsRunOf, MayRefuse, was_live_beside}
-use Rattle.oak_machine.specs.Sessions.{since}
 use Rattle.oak_machine.proofs.Induction.{committed_is_drawn, still_drawn}
 use Rattle.core_heads.proofs.Runs.{fresh_run}
-use Rattle.core_clash.proofs.Basics.{is_same_self}
+use Rattle.core_clash.specs.Sound.{Cause}
 use Rattle.core_clash.proofs.Complete.{meets_clashing}
+use Rattle.core_clash.proofs.Pasts.{cause_later, live_drawn as live_beside}
 use Rattle.jcr_trans.specs.Answers.{Answer, Done, Refused, ShowsItems, ShowsNames, ShowsNothing, ShowsProperties, ShowsProperty, ShowsRevision, ShowsText, ShowsVector}
 use Rattle.jcr_trans.specs.Texts.{answer_text}
 use Rattle.jcr_trans.specs.declared.command.Command.{Command}
@@ -34,9 +33,9 @@ use Rattle.jcr_law.specs.declared.law.JcrLaw.{JcrLaw}
 use Rattle.jcr_law.specs.AfterDraw.{AfterDraw, accepted, clash_told, stop_told, unmade}
 use Rattle.jcr_law.specs.Commits.{committed_answer, version_answer}
 use Rattle.jcr_law.specs.Law.{no_text}
-use Rattle.jcr_law.specs.Since.{draw_among, draw_since, is_beginning}
 use Rattle.jcr_law.specs.State.{Call}
 use Rattle.jcr_law.specs.Tasks.{stopped_at}
+use Rattle.core_obeys.specs.Answering.{NameOthers}
 use Rattle.core_obeys.specs.Product.{IsUnclashing}
 
 module _ (clusters : ℕ) (sessions : List ℕ) (nodes : AreNodes clusters sessions) (begin : Begin) (starts : Starts) (says : Says) where
@@ -64,57 +63,63 @@ module _ (clusters : ℕ) (sessions : List ℕ) (nodes : AreNodes clusters sessi
       by false true committed flying before k = (and_parts (is_drawn (e ∷ past) o) _ flying).0
       by false false committed flying before k = drawn_later e past o (before k)
 
-  -- what wasn't drawn isn't refused
-  undrawn : (past : Past) (r : Revision) → IsRunOf starts says clusters sessions begin past → is_drawn past r ≡ false → refusal_of past r ≡ None
-  undrawn [] r run h = refl
-  undrawn (event.Refuse q item o ∷ past) r run h = elim (is_same r q) as (λ b. is_same r q ≡ b → cond b (Some (item, o)) (refusal_of past r) ≡ None) [
-    | true ↦ λ same. absurd (false≢true (sym h ∙ subst (λ (x : Revision). is_drawn past x ≡ true) (sym (same_revision r q same)) (and_parts (is_drawn past q) _ run.0.open_.in_flight).0))
-    | false ↦ λ other. undrawn past r run.1 h
+  -- what comes later changes no draw of a cause
+  cause_more : (e : Event) (past : Past) (r : Revision) (item : Item) (o : Revision) → IsRunOf starts says clusters sessions begin (e ∷ past) → Cause past r item o → Cause (e ∷ past) r item o
+  cause_more e past r item o run c = cause_later e past r item o (kept e past r run (live_beside past r o c.live)) (kept e past o run c.other) c
+
+  -- a refusal that names another has its cause
+  pub cause_of : (past : Past) (r : Revision) (item : Item) (o : Revision) → IsRunOf starts says clusters sessions begin past → refusal_of past r ≡ Some (item, o) → r ≢ o → Cause past r item o
+  cause_of [] r item o run is another = absurd (none-some (item, o) is)
+  cause_of (event.Refuse q i x ∷ past) r item o run is another = elim (is_same r q) as (λ b. is_same r q ≡ b → cond b (Some (i, x)) (refusal_of past r) ≡ Some (item, o) → Cause (event.Refuse q i x ∷ past) r item o) [
+    | true ↦ λ same named. let parts = some_pair_parts i item x o named in here (same_revision r q same) parts.0 parts.1
+    | false ↦ λ other named. cause_more (event.Refuse q i x) past r item o run (cause_of past r item o run.1 named another)
+  ] refl is
+    where
+      now : MayRefuse past r item o → Cause past r item o
+      now may = record {
+        another = another;
+        other = live_drawn past r o run.1 may.live;
+        met = may.met;
+        outside = may.outside;
+        live = may.live;
+      }
+
+      here : r ≡ q → i ≡ item → x ≡ o → Cause (event.Refuse q i x ∷ past) r item o
+      here same of from = cause_more (event.Refuse q i x) past r item o run
+          (now (subst (λ (y : Item). MayRefuse past r y o) of (subst (λ (y : Revision). MayRefuse past r i y) from (subst (λ (y : Revision). MayRefuse past y i x) (sym same) run.0))))
+  cause_of (e ∷ past) r item o run is another = cause_more e past r item o run (cause_of past r item o run.1 is another)
+
+  -- what clashes with no other outside its base isn't refused, where refusals name others
+  pub unrefused : (past : Past) (r : Revision) → IsRunOf starts says clusters sessions begin past → NameOthers past → IsUnclashing past r → refusal_of past r ≡ None
+  unrefused past r run others apart = by (refusal_of past r) refl
+    where
+      by : (o : Option (Item × Revision)) → refusal_of past r ≡ o → refusal_of past r ≡ None
+      by None is = is
+      by (Some (item, o)) is =
+          let c = cause_of past r item o run is (others r item o is) in
+          absurd (false≢true (sym (apart o c.another c.other c.outside) ∙ meets_clashing (marks_of past r) (marks_of past o) item c.met))
+
+  -- what is refused for something is refused
+  refused_is : (past : Past) (r : Revision) (x : Item × Revision) → refusal_of past r ≡ Some x → is_refused past r ≡ true
+  refused_is [] r x is = absurd (none-some x is)
+  refused_is (event.Refuse q i o ∷ past) r x is = elim (is_same r q) as (λ b. cond b (Some (i, o)) (refusal_of past r) ≡ Some x → (b || is_refused past r) ≡ true) [
+    | true ↦ λ named. refl
+    | false ↦ λ named. refused_is past r x named
+  ] is
+  refused_is (e ∷ past) r x is = refused_is past r x is
+
+  -- and stays refused for that
+  refused_still : (later past : Past) (r : Revision) (x : Item × Revision) → IsRunOf starts says clusters sessions begin (later ++ past) → refusal_of past r ≡ Some x → refusal_of (later ++ past) r ≡ Some x
+  refused_still [] past r x run is = is
+  refused_still (event.Refuse q i o ∷ later) past r x run is = elim (is_same r q) as (λ b. is_same r q ≡ b → cond b (Some (i, o)) (refusal_of (later ++ past) r) ≡ Some x) [
+    | true ↦ λ same. absurd (false≢true (sym run.0.open_.not_refused ∙ subst (λ (y : Revision). is_refused (later ++ past) y ≡ true) (same_revision r q same) (refused_is (later ++ past) r x (refused_still later past r x run.1 is))))
+    | false ↦ λ other. refused_still later past r x run.1 is
   ] refl
-  undrawn (event.Draw d ∷ past) r run h = by (is_drawn past r) refl (undrawn past r run.1)
-    where
-      by : (b : Bool) → is_drawn past r ≡ b → (is_drawn past r ≡ false → refusal_of past r ≡ None) → refusal_of past r ≡ None
-      by true is rest = absurd (false≢true (sym h ∙ drawn_later (event.Draw d) past r is))
-      by false is rest = rest is
-  undrawn (e ∷ past) r run h = undrawn past r run.1 h
+  refused_still (e ∷ later) past r x run is = refused_still later past r x run.1 is
 
-  -- what clashes with none outside its base isn't refused
-  pub unrefused : (past : Past) (r : Revision) → IsRunOf starts says clusters sessions begin past → is_drawn past r ≡ true → IsUnclashing past r → refusal_of past r ≡ None
-  unrefused [] r run drawn apart = refl
-  unrefused (event.Refuse q item o ∷ past) r run drawn apart = elim (is_same r q) as (λ b. is_same r q ≡ b → cond b (Some (item, o)) (refusal_of past r) ≡ None) [
-    | true ↦ λ same. meeting (same_revision r q same)
-    | false ↦ λ other. unrefused past r run.1 drawn apart
-  ] refl
-    where
-      meeting : {A : Type 0} → r ≡ q → A
-      meeting same =
-          let may : MayRefuse past r item o = subst (λ (x : Revision). MayRefuse past x item o) (sym same) run.0 in
-          absurd (false≢true (sym (apart o (live_drawn past r o run.1 may.live) may.outside) ∙ meets_clashing (marks_of past r) (marks_of past o) item may.met))
-  unrefused (event.Draw d ∷ past) r run drawn apart = by (is_drawn past r) refl (unrefused past r run.1)
-    where
-      before : is_drawn past r ≡ true → IsUnclashing past r
-      before is o other outside =
-          ap (λ (x : Option Draw). clashing (option_map_or (λ y. y.marks) x []) (marks_of past o)) (sym (kept (event.Draw d) past r run is))
-          ∙ (ap (λ (x : Option Draw). clashing (marks_of (event.Draw d ∷ past) r) (option_map_or (λ y. y.marks) x [])) (sym (kept (event.Draw d) past o run other))
-          ∙ apart o (drawn_later (event.Draw d) past o other) (ap (λ (x : Option Draw). option_map_or (λ y. sees y.base o) x false) (kept (event.Draw d) past r run is) ∙ outside))
-
-      by : (b : Bool) → is_drawn past r ≡ b → (is_drawn past r ≡ true → IsUnclashing past r → refusal_of past r ≡ None) → refusal_of past r ≡ None
-      by true is rest = rest is (before is)
-      by false is rest = undrawn past r run.1 is
-  unrefused (e ∷ past) r run drawn apart = unrefused past r run.1 drawn apart
-
-  -- what was drawn since was drawn
-  pub since_drawn : (past : Past) (s : ℕ) (d : Draw) → draw_since past s ≡ Some d → is_drawn past d.revision ≡ true
-  since_drawn [] s d h = cc
-  since_drawn (event.Draw e ∷ past) s d h = elim (e.session == s) as (λ b. cond b (Some e) (draw_among (since past s) s) ≡ Some d → is_drawn (event.Draw e ∷ past) d.revision ≡ true) [
-    | true ↦ λ same. subst (λ (x : Draw). is_drawn (event.Draw e ∷ past) x.revision ≡ true) (ap (λ (o : Option Draw). elim o [ Some x ↦ x | None ↦ e ]) same)
-        (ap (λ b. is_some (cond b (Some e) (draw_of past e.revision))) (is_same_self e.revision))
-    | false ↦ λ same. drawn_later (event.Draw e) past d.revision (since_drawn past s d same)
-  ] h
-  since_drawn (e ∷ past) s d h = elim (is_beginning s e) as (λ b. draw_among (cond b [] (e ∷ since past s)) s ≡ Some d → is_drawn (e ∷ past) d.revision ≡ true) [
-    | true ↦ λ none. cc
-    | false ↦ λ same. drawn_later e past d.revision (since_drawn past s d same)
-  ] h
+  -- so they named others before
+  pub named_others : (later past : Past) → IsRunOf starts says clusters sessions begin (later ++ past) → NameOthers (later ++ past) → NameOthers past
+  named_others later past run others r item o is = others r item o (refused_still later past r (item, o) run is)
 
 -- ---- texts
 

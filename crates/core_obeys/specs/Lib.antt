@@ -1,3 +1,5 @@
+pub mod Answering
+pub mod NoPlans
 pub mod Obeying
 pub mod Plans
 pub mod Product

@@ -1,5 +1,5 @@
 -- Runs by the law of the product.
-use Rattle.std.specs.Prelude.{◌≡◌, None, IsFalse, IsTrue}
+use Rattle.std.specs.Prelude.{◌≡◌, ◌≢◌, None, IsFalse, IsTrue}
 use Rattle.jr_rev.specs.declared.revision.Revision.{Revision}
 use Rattle.jr_tree.specs.Trees.{initial_tree}
 use Rattle.jr_types.specs.Rules.{TypesOk}
@@ -23,7 +23,7 @@ pub record IsProductRun (law : JcrLaw) (h : History) : Type 0 where
   pub run : IsRunOf (starts_of law) (says_of law) h.clusters h.sessions None h.past
   pub typed : TypesOk law.types initial_tree
 
--- r clashes with no draw outside its base
+-- r clashes with no other draw outside its base
 abbrev pub IsUnclashing : Past → Revision → Type 0
-IsUnclashing past r = (o : Revision) → IsTrue (is_drawn past o) → IsFalse (is_in_base past r o)
-    → IsFalse (are_clashing past r o)
+IsUnclashing past r = (o : Revision) → r ≢ o → IsTrue (is_drawn past o)
+    → IsFalse (is_in_base past r o) → IsFalse (are_clashing past r o)

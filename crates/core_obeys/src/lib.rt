@@ -23,8 +23,10 @@ ghost use Rattle.core_merge.specs.Orders.{tree_by_commits};
 ghost use Rattle.core_obeys.specs.Plans.{IsObeyingRun, Tokens, tokens_at_draw};
 ghost use Rattle.core_obeys.specs.Tidy.{IsTidy};
 
+mod answers;
 mod product;
 
+pub use answers::the_product_answers_throughout;
 use oak_machine::Law;
 pub use product::{
     the_product_obeys, the_product_obeys_throughout, what_clashes_with_nothing_is_not_refused,

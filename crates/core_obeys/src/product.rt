@@ -1,5 +1,5 @@
 // Each commit of the product obeys.
-ghost use Rattle.std.specs.Prelude.{◌≡◌, ◌≢◌, ℕ, List, None, Some, IsTrue};
+ghost use Rattle.std.specs.Prelude.{◌≡◌, ◌≢◌, ℕ, List, None, Some};
 ghost use Rattle.jr_path.specs.declared.path.Item.{Item};
 ghost use Rattle.jr_rev.specs.declared.revision.Revision.{Revision};
 ghost use Rattle.jr_rev.specs.declared.vector.RevVec.{RevVec};
@@ -15,12 +15,14 @@ ghost use Rattle.jcr_law.specs.State.{command_at};
 ghost use Rattle.jcr_plan.specs.Plans.{IsFree};
 ghost use Rattle.jcr_ref.specs.References.{ReferencesOk};
 ghost use Rattle.oak_machine.specs.declared.event.Draw.{Draw};
-ghost use Rattle.oak_machine.specs.Commits.{draw_of, is_drawn, refusal_of, tree_at};
+ghost use Rattle.oak_machine.specs.Commits.{draw_of, refusal_of, tree_at};
 ghost use Rattle.oak_machine.specs.History.{History};
-ghost use Rattle.oak_machine.specs.Runs.{AreNodes, IsRunOf, MayCommit};
+ghost use Rattle.oak_machine.specs.Runs.{AreNodes, MayCommit};
 ghost use Rattle.oak_machine.specs.Sessions.{base_of, next_index};
+ghost use Rattle.core_heads.specs.Sound.{IsNodesRun};
 ghost use Rattle.core_calls.specs.Seeing.{SeesTrees};
 ghost use Rattle.core_merge.specs.Orders.{tree_by_commits};
+ghost use Rattle.core_obeys.specs.Answering.{NameOthers};
 ghost use Rattle.core_obeys.specs.Obeying.{ObeysThroughout};
 ghost use Rattle.core_obeys.specs.Plans.{tokens_at_draw};
 ghost use Rattle.core_obeys.specs.Product.{IsProductRun, IsUnclashing, tokens_by};
@@ -53,16 +55,16 @@ pub fn the_product_obeys_throughout()
     the_product_obeys();
 }
 
-/// Where a commit of a run clashes with no draw outside its base, it isn't refused, and the next reply of its session is no 10
-/// (JSR 283, 10.11 Saving).
+/// Where a commit of a run clashes with no other draw outside its base, it isn't refused, and the next reply of its session is
+/// no 10 (JSR 283, 10.11 Saving). The machine by itself lets a refusal name the commit that it refuses; in a run in which each
+/// names another that isn't so.
 pub fn what_clashes_with_nothing_is_not_refused()
-    ensures refusal { (law : JcrLaw) (h : History) (r : Revision) → AreNodes h.clusters h.sessions
-        → IsRunOf (starts_of law) (says_of law) h.clusters h.sessions h.begin h.past
-        → IsTrue (is_drawn h.past r) → IsUnclashing h.past r → refusal_of h.past r ≡ None }
+    ensures refusal { (law : JcrLaw) (h : History) (r : Revision)
+        → IsNodesRun (starts_of law) (says_of law) h → NameOthers h.past → IsUnclashing h.past r
+        → refusal_of h.past r ≡ None }
     ensures reply { (law : JcrLaw) (h : History) (s : ℕ) (m : Command) (d : Draw) (text : List ℕ)
-        (item : Item) (o : Revision) → AreNodes h.clusters h.sessions
-        → IsRunOf (starts_of law) (says_of law) h.clusters h.sessions h.begin h.past
-        → draw_since h.past s ≡ Some d → command_at law s (next_index h.past s) ≡ Some m
-        → IsUnclashing h.past d.revision → SaysBy law h s (next_index h.past s) text
-        → text ≢ no_text (clash item o) }
+        (item : Item) (o : Revision) → IsNodesRun (starts_of law) (says_of law) h
+        → NameOthers h.past → draw_since h.past s ≡ Some d
+        → command_at law s (next_index h.past s) ≡ Some m → IsUnclashing h.past d.revision
+        → SaysBy law h s (next_index h.past s) text → text ≢ no_text (clash item o) }
 {}

@@ -112,7 +112,8 @@ module _ (law : JcrLaw) (h : History) (s : ℕ) where
           let r = some_mapped _ _ text e in
           says_as (Allowed m) _ text r.2 (refused_edit m c (Ok (w ∷ ws)) r.0 none call is r.1)
       by c none call (Err r) is e =
-          says_as (Allowed m) _ text (same_Some _ _ e) (refused_edit m c (Err r) r none call is refl)
+          says_as (Allowed m) _ text (same_Some _ _ e)
+          (refused_edit m c (Err r) r none call is refl)
 
   committed_says : (m : Command) (text : List ℕ) → committed_reply law h s m ≡ Some text
       → MaySay law h s (Allowed m) text
@@ -201,7 +202,8 @@ module _ (law : JcrLaw) (h : History) (s : ℕ) where
   own_tasks m text b r n i = i
 
   -- a test that a text has a cause is one that it may be said
-  pub may_by_any : (a : Asked) (text : List ℕ) (b : Bool) → (IsTrue b ↔ AnyCause h s text) → b ≡ true
+  pub may_by_any : (a : Asked) (text : List ℕ) (b : Bool) → (IsTrue b ↔ AnyCause h s text)
+      → b ≡ true
       → IsTrue true ↔ MaySay law h s a text
   may_by_any a text b i is = (λ t. any_says a text (i.0 is), λ may. refl)
 

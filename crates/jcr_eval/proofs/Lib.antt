@@ -1,9 +1,6 @@
-mod States
 mod Viewed
 pub mod Causes
 pub mod Iffs
-pub mod Known
-pub mod NoFloat
 pub mod Options
 pub mod Passing
 pub mod QueryCauses

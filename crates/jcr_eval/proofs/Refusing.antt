@@ -5,16 +5,23 @@ use Rattle.std.specs.Option.{option_map_or}
 use Rattle.std.proofs.lemmas.Result.{IfOk-weaker}
 use Rattle.jr_tree.specs.declared.shared.Refusal.{Refusal}
 use Rattle.jr_items.specs.Refusals.{IsOrMemory, IsTheRefusal, out_of_memory}
-use Rattle.jcr_eval.specs.Shown.{is_refusal}
+use Rattle.jcr_past.specs.Shown.{is_refusal}
 
 -- the refusal is no want of memory, and whether the text is its reply
 abbrev Told : List ℕ → Refusal → Bool → Type 0
 Told text r is = ¬ (r ≡ out_of_memory) × (is ≡ is_refusal text r)
 
 -- the refusal stands for a cause
-pub refused : {E : Type 0} (text : List ℕ) (cause r : Refusal) (result : Result Bool E) → IsOrMemory cause r → IfOk result (Told text r) → IfOk result (λ b. b ≡ is_refusal text cause)
-refused text cause r result made told = IfOk-weaker result _ _ (λ b h. h.1 ∙ ap (is_refusal text) (made h.0)) told
+pub refused : {E : Type 0} (text : List ℕ) (cause r : Refusal) (result : Result Bool E)
+    → IsOrMemory cause r → IfOk result (Told text r) → IfOk result (λ b. b ≡ is_refusal text cause)
+refused text cause r result made told =
+    IfOk-weaker result _ _ (λ b h. h.1 ∙ ap (is_refusal text) (made h.0)) told
 
 -- it is one that is due
-pub refused_due : {E : Type 0} (text : List ℕ) (due : Option Refusal) (r : Refusal) (result : Result Bool E) → IsTheRefusal due r → IfOk result (Told text r) → IfOk result (λ b. b ≡ option_map_or (is_refusal text) due false)
-refused_due text due r result made told = IfOk-weaker result _ _ (λ b h. h.1 ∙ sym (ap (λ (o : Option Refusal). option_map_or (is_refusal text) o false) (made h.0))) told
+pub refused_due : {E : Type 0} (text : List ℕ) (due : Option Refusal) (r : Refusal)
+    (result : Result Bool E) → IsTheRefusal due r → IfOk result (Told text r)
+    → IfOk result (λ b. b ≡ option_map_or (is_refusal text) due false)
+refused_due text due r result made told =
+    IfOk-weaker result _ _
+    (λ b h. h.1 ∙ sym
+    (ap (λ (o : Option Refusal). option_map_or (is_refusal text) o false) (made h.0))) told

@@ -10,7 +10,7 @@ use Rattle.sql_parse.specs.declared.fault.SqlFault.{SqlFault}
 use Rattle.sql_parse.specs.declared.fault.SqlFault.TheVariants as fault
 use Rattle.sql_parse.specs.declared.query.Query.{Query}
 use Rattle.jcr_call.specs.Reading.{AnswersRead}
-use Rattle.jcr_eval.specs.Shown.{is_refusal}
+use Rattle.jcr_past.specs.Shown.{is_refusal}
 
 -- the text is why a text is no query
 abbrev pub refuses_fault : List ℕ → SqlFault → Bool
@@ -18,8 +18,8 @@ refuses_fault text (fault.InvalidQuery offset) = is_refusal text (no_query offse
 refuses_fault text (fault.Cast asked given) = is_refusal text (wrong_kind asked given)
 refuses_fault text fault.Memory = false
 
--- a query's text was read, and memory was not refused; and a text is what it answers just where b is
--- true
+-- a query's text was read, and memory was not refused; and a text is what it answers just where b
+-- is true
 abbrev pub IsReadSo : List TypeDef → Nodes → (query : List ℕ) → List (Name × Value) → List ℕ
     → Bool → Type 0
 IsReadSo types tree query vars text b = (p : Result Query SqlFault) × IsParsed query vars p

@@ -51,7 +51,7 @@ ViewCause law h s m text = (c : Call) × (call_of law h.begin h.past s ≡ Some 
 abbrev pub uncommitted_reply : Call → Command → Option (List ℕ)
 uncommitted_reply c m = option_and_then (reply_to_due c m) (edit_due c m)
 
--- the same of the next command of s, where nothing was drawn for it
+-- the reply to the next command of s, where nothing was drawn for it and nothing is committed
 abbrev pub due_reply : JcrLaw → History → ℕ → Command → Option (List ℕ)
 due_reply law h s m = cond (is_none (drawn_since h.past s))
     (option_and_then (λ c. uncommitted_reply c m) (call_of law h.begin h.past s)) None

@@ -21,29 +21,34 @@ use Rattle.jcr_law.specs.Queries.{events_reply, events_since}
 use Rattle.jcr_law.specs.Since.{before_turn, came, detached_among, is_pinning}
 use Rattle.jcr_law.specs.State.{call_of, next_id}
 use Rattle.jcr_law.specs.Tasks.{finds_stopped, misses, split_refusal}
-use Rattle.jcr_eval.specs.Shown.{attaches, is_answer, is_refusal, keeps, releases, shows_collection, shows_in, shows_out, shows_recovery, shows_split, shows_sweep}
+use Rattle.jcr_past.specs.Shown.{attaches, is_answer, is_refusal, keeps, releases, shows_collection, shows_in, shows_out, shows_recovery, shows_split, shows_sweep}
 
 -- cluster node k of s published what is shown, and at least what was its own when the command began
 abbrev pub has_out : History → (s : ℕ) → List ℕ → (k : ℕ) → Bool
 has_out h s text k =
     came s (λ earlier e. shows_out k (local h.begin (before_turn h.past s) k) text e) h.past
 
+-- the text is a reply to `backWrite`
 abbrev pub says_out : History → ℕ → List ℕ → Bool
 says_out h s text = option_map_or (has_out h s text) (slice_get h.sessions s) false
 
--- it learned what is shown, with what the others had published when the command began
+-- cluster node k of s learned what is shown, with what the others had published when the command
+-- began
 abbrev pub has_in : History → (s : ℕ) → List ℕ → (k : ℕ) → Bool
 has_in h s text k =
     came s (λ earlier e. shows_in h.clusters h.begin (before_turn h.past s) k text e) h.past
 
+-- the text is a reply to `backRead`
 abbrev pub says_in : History → ℕ → List ℕ → Bool
 says_in h s text = option_map_or (has_in h s text) (slice_get h.sessions s) false
 
--- it swept up to what is shown, and at least what it had published when the command began
+-- cluster node k of s swept up to what is shown, and at least what it had published when the
+-- command began
 abbrev pub has_sweep : History → (s : ℕ) → List ℕ → (k : ℕ) → Bool
 has_sweep h s text k =
     came s (λ earlier e. shows_sweep k (published h.begin (before_turn h.past s) k) text e) h.past
 
+-- the text is a reply to `sweep`
 abbrev pub says_sweep : History → ℕ → List ℕ → Bool
 says_sweep h s text = option_map_or (has_sweep h s text) (slice_get h.sessions s) false
 
@@ -52,7 +57,7 @@ abbrev pub shows_kept : Past → ℕ → List ℕ → Text → RevVec → Bool
 shows_kept past s text id v =
     came s (λ earlier e. keeps id v e) past && is_answer text (ShowsText id)
 
--- so at the base, under the next identifier
+-- a checkpoint was made at the base under the next identifier of s, which is shown
 abbrev pub shows_checkpoint : Past → ℕ → List ℕ → Who → Bool
 shows_checkpoint past s text who = shows_kept past s text (next_id who) who.base
 
@@ -60,6 +65,7 @@ shows_checkpoint past s text who = shows_kept past s text (next_id who) who.base
 abbrev pub refuses_id : List ℕ → Who → Bool
 refuses_id text who = option_map_or (is_refusal text) (too_many_ids (who.ids + 1)) false
 
+-- the text is a reply to `checkpoint`
 abbrev pub says_checkpoint : JcrLaw → History → ℕ → List ℕ → Bool
 says_checkpoint law h s text = option_map_or
     (λ c. shows_checkpoint h.past s text c.who || refuses_id text c.who)
@@ -74,16 +80,19 @@ abbrev pub refuses_checkpoint : History → ℕ → Text → List ℕ → Bool
 refuses_checkpoint h s id text =
     came s (misses s id) h.past && is_refusal text (no_checkpoint id)
 
+-- the text is a reply to `attach` of that id
 abbrev pub says_attach : History → ℕ → Text → List ℕ → Bool
 says_attach h s id text =
     (came s (λ earlier e. attaches s id e) h.past && shows_vector text (base_of h.past s))
     || refuses_checkpoint h s id text
 
+-- the text is a reply to `release` of that id
 abbrev pub says_release : History → ℕ → Text → List ℕ → Bool
 says_release h s id text =
     (came s (λ earlier e. releases id e) h.past && is_answer text Done)
     || refuses_checkpoint h s id text
 
+-- the text is a reply to `detach`
 abbrev pub says_detach : History → ℕ → List ℕ → Bool
 says_detach h s text = shows_vector text (detached_among (since h.past s) s)
 
@@ -91,10 +100,12 @@ says_detach h s text = shows_vector text (detached_among (since h.past s) s)
 abbrev pub refuses_split : Path → List ℕ → Nodes → Bool
 refuses_split p text t = option_map_or (is_refusal text) (split_refusal t p) false
 
+-- the text is a reply to `split` of that path
 abbrev pub says_split : JcrLaw → History → ℕ → Path → List ℕ → Bool
 says_split law h s p text = came s (λ earlier e. shows_split s p text e) h.past
     || option_map_or (λ c. refuses_split p text c.base) (call_of law h.begin h.past s) false
 
+-- the text is a reply to `collect`
 abbrev pub says_collect : History → ℕ → List ℕ → Bool
 says_collect h s text = came s (λ earlier e. shows_collection s text e) h.past
 
@@ -106,16 +117,19 @@ is_own h s k = option_map_or (λ m. m == k) (slice_get h.sessions s) false
 abbrev pub is_unsupported : List ℕ → Command → Bool
 is_unsupported text m = bytes_eq text (no_support m)
 
+-- the text is a reply to `stop` of cluster node k
 abbrev pub says_stop : History → ℕ → (k : ℕ) → List ℕ → Bool
 says_stop h s k text = (came s (λ earlier e. is_stop_of k e) h.past && is_answer text Done)
     || ((is_own h s k || came s (finds_stopped s k) h.past)
     && is_unsupported text (command.Stop (Some k)))
 
+-- the text is a reply to `recover` of cluster node k
 abbrev pub says_recover : History → ℕ → (k : ℕ) → List ℕ → Bool
 says_recover h s k text = came s (shows_recovery k text) h.past
     || (not (is_stopped (before_turn h.past s) k)
     && is_unsupported text (command.Recover (Some k)))
 
+-- the text is a reply to `observe`
 abbrev pub says_observe : History → ℕ → List ℕ → Bool
 says_observe h s text =
     came s (λ earlier e. is_pinning s e) h.past && is_answer text Done
@@ -126,6 +140,7 @@ shows_events h s text base cursor =
     (is_none cursor || came s (λ earlier e. is_pinning s e) h.past)
     && bytes_eq text (events_reply (events_since h.begin h.past base cursor))
 
+-- the text is a reply to `events`
 abbrev pub says_events : JcrLaw → History → ℕ → List ℕ → Bool
 says_events law h s text = option_map_or
     (λ c. shows_events h s text c.who.base c.state.cursor) (call_of law h.begin h.past s) false

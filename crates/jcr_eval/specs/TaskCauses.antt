@@ -35,24 +35,24 @@ OutCause h s text = (k : ℕ) × (r : Revision) × (slice_get h.sessions s ≡ S
     × IsTrue (is_at_most (local h.begin (before_turn h.past s) k) r)
     × (text ≡ answer_text (ShowsRevision r))
 
--- it shows a vector that the cluster node of s learned, with at least what the others had published
--- when the command began
+-- the text shows a vector that the cluster node of s learned, with at least what the others had
+-- published when the command began
 abbrev pub InCause : History → ℕ → List ℕ → Type 0
 InCause h s text = (k : ℕ) × (v : RevVec) × (slice_get h.sessions s ≡ Some k)
     × Contains (since h.past s) (event.In k v)
     × IsTrue (knows_published h.clusters h.begin (before_turn h.past s) k v)
     × (text ≡ answer_text (ShowsVector v))
 
--- it shows a revision up to which the cluster node of s swept, and which is at least what it had
--- published when the command began
+-- the text shows a revision up to which the cluster node of s swept, and which is at least what it
+-- had published when the command began
 abbrev pub SweepCause : History → ℕ → List ℕ → Type 0
 SweepCause h s text = (k : ℕ) × (r : Revision) × (slice_get h.sessions s ≡ Some k)
     × IsTrue (came s (λ earlier e. is_sweep k r e) h.past)
     × IsTrue (is_at_most (published h.begin (before_turn h.past s) k) r)
     × (text ≡ answer_text (ShowsRevision r))
 
--- it shows the next identifier of s, under which a checkpoint of its base is made; or s has drawn
--- all its identifiers
+-- the text shows the next identifier of s, under which a checkpoint of its base is made; or s has
+-- drawn all its identifiers
 abbrev pub CheckpointCause : JcrLaw → History → ℕ → List ℕ → Type 0
 CheckpointCause law h s text =
     ((c : Call) × (call_of law h.begin h.past s ≡ Some c)
@@ -61,7 +61,8 @@ CheckpointCause law h s text =
     ⊎ ((c : Call) × (r : Refusal) × (call_of law h.begin h.past s ≡ Some c)
     × (too_many_ids (c.who.ids + 1) ≡ Some r) × (text ≡ no_text r))
 
--- it shows the base of s, which is attached to the checkpoint; or there was no such checkpoint
+-- the text shows the base of s, which is attached to the checkpoint; or there was no such
+-- checkpoint
 abbrev pub AttachCause : History → ℕ → Text → List ℕ → Type 0
 AttachCause h s id text =
     ((v : RevVec) × Contains (since h.past s) (event.Attach s id) × (base_of h.past s ≡ Some v)
@@ -74,12 +75,12 @@ ReleaseCause h s id text =
     (Contains (since h.past s) (event.Release id) × (text ≡ answer_text Done))
     ⊎ (IsTrue (came s (misses s id) h.past) × (text ≡ no_text (no_checkpoint id)))
 
--- it shows the head for which s left its checkpoint
+-- the text shows the head for which s left its checkpoint
 abbrev pub DetachCause : History → ℕ → List ℕ → Type 0
 DetachCause h s text = (v : RevVec) × (detached_among (since h.past s) s ≡ Some v)
     × (text ≡ answer_text (ShowsVector v))
 
--- it shows how a split of the document ended; or the document can't be split
+-- the text shows how a split of the document ended; or the document can't be split
 abbrev pub SplitCause : JcrLaw → History → ℕ → Path → List ℕ → Type 0
 SplitCause law h s p text =
     ((e : SplitEnd) × Contains (since h.past s) (event.Split s p e)
@@ -87,7 +88,7 @@ SplitCause law h s p text =
     ⊎ ((c : Call) × (r : Refusal) × (call_of law h.begin h.past s ≡ Some c)
     × (split_refusal c.base p ≡ Some r) × (text ≡ no_text r))
 
--- it shows what a collection did
+-- the text shows what a collection did
 abbrev pub CollectCause : History → ℕ → List ℕ → Type 0
 CollectCause h s text = (x : Collected) × Contains (since h.past s) (event.Collected s x)
     × (text ≡ ok_text (collected_data x))
@@ -99,7 +100,7 @@ StopCause h s k text =
     ⊎ ((slice_get h.sessions s ≡ Some k) × (text ≡ no_support (command.Stop (Some k))))
     ⊎ (IsTrue (came s (finds_stopped s k) h.past) × (text ≡ no_support (command.Stop (Some k))))
 
--- it shows what the cluster node left, which is recovered; or it wasn't stopped
+-- the text shows what the cluster node left, which is recovered; or the cluster node wasn't stopped
 abbrev pub RecoverCause : History → ℕ → ℕ → List ℕ → Type 0
 RecoverCause h s k text =
     ((r : Revision) × IsTrue (came s (is_recovering k r) h.past)
@@ -112,7 +113,8 @@ abbrev pub ObserveCause : History → ℕ → List ℕ → Type 0
 ObserveCause h s text = IsTrue (came s (λ earlier e. is_pinning s e) h.past)
     × (text ≡ answer_text Done)
 
--- there are no events without a cursor; or it shows those since it, once it is pinned anew
+-- there are no events without a cursor; or the text shows those since the cursor, once it is pinned
+-- anew
 abbrev pub EventsCause : JcrLaw → History → ℕ → List ℕ → Type 0
 EventsCause law h s text =
     ((c : Call) × (call_of law h.begin h.past s ≡ Some c) × (c.state.cursor ≡ None)
@@ -121,7 +123,7 @@ EventsCause law h s text =
     × IsTrue (came s (λ earlier e. is_pinning s e) h.past)
     × (text ≡ events_reply (events_since h.begin h.past c.who.base c.state.cursor)))
 
--- it is what the query answers by the tree at the base
+-- the text is what the query answers by the tree at the base
 abbrev pub QueryCause : JcrLaw → History → ℕ → Text → List (Name × Value) → List ℕ → Type 0
 QueryCause law h s query vars text = (c : Call) × (reply : List ℕ)
     × (call_of law h.begin h.past s ≡ Some c) × QueryAnswers c query vars reply × (text ≡ reply)

@@ -13,14 +13,13 @@ ghost use Rattle.jcr_law.specs.State.{next_id};
 ghost use Rattle.jcr_call.specs.Comings.{reply_to_due};
 ghost use Rattle.jcr_call.specs.Dues.{due_of};
 ghost use Rattle.jcr_call.specs.Footings.{IsOn};
-ghost use Rattle.jcr_eval.specs.Calls.{called};
+ghost use Rattle.jcr_past.specs.Calls.{called};
 ghost use Rattle.jcr_eval.specs.Causes.{CommitCause, clash_reply, committed_reply, due_reply, is_seen_commit, reply_to_draw, uncommitted_reply};
 
-use crate::call::{Call, call_of};
 use crate::replies::{cause_reply, is_reply};
-use crate::since::draw_since;
 use jcr_call::{Coming, Due, Footing, come, next_id, version_reply};
 use jcr_law::JcrLaw;
+use jcr_past::{Call, call_of, draw_since};
 use jcr_trans::{Command, revision_reply, text_reply};
 use jr_items::clash;
 use jr_path::Path;

@@ -6,10 +6,9 @@ ghost use Rattle.jcr_observe.specs.Observed.{events_of};
 ghost use Rattle.jcr_law.specs.Queries.{events_reply, events_since};
 ghost use Rattle.jcr_eval.specs.Said.{says_events, shows_events};
 
-use crate::call::call_of;
-use crate::came::has_pin;
 use jcr_law::{Cursor, JcrLaw};
 use jcr_observe::{JcrEvent, events, events_text};
+use jcr_past::{call_of, has_pin};
 use jr_rev::RevVec;
 use oak_machine::Journal;
 use oak_past::changes_between;

@@ -3,18 +3,12 @@
 //! itself stand on them.
 #![tactic(auto)]
 
-mod call;
-mod came;
 mod commits;
 mod events;
 mod queries;
 mod replies;
 mod say;
-mod shown;
-mod since;
-mod state;
 mod tasks;
-mod turn;
 mod view;
 
 pub use say::eval;

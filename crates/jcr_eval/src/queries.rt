@@ -9,13 +9,12 @@ ghost use Rattle.sql_eval.specs.Rows.{AreRows};
 ghost use Rattle.jcr_trans.specs.Texts.{ok_text};
 ghost use Rattle.jcr_call.specs.Reading.{AnswersQuery, ShowsRows};
 ghost use Rattle.jcr_eval.specs.Asked.{IsReadSo, refuses_fault};
-ghost use Rattle.jcr_eval.specs.Shown.{is_refusal};
+ghost use Rattle.jcr_past.specs.Shown.{is_refusal};
 ghost use Rattle.jcr_eval.specs.TaskCauses.{QueryCause};
 
-use crate::call::call_of;
-use crate::shown::is_refusal;
 use jcr_call::{pairs_of, sets_of, unknown_selector};
 use jcr_law::JcrLaw;
+use jcr_past::{call_of, is_refusal};
 use jr_items::{no_query, no_type, wrong_kind};
 use jr_path::{Keyed, Name, Text};
 use jr_tree::Tree;

@@ -12,13 +12,11 @@ ghost use Rattle.jcr_eval.specs.Causes.{AllowedCause, AnyCause, OwnCause, may_wa
 
 use crate::commits::commit_says;
 use crate::replies::{cause_reply, is_reply, refusal_reply};
-use crate::since::stop_position;
-use crate::state::command_at;
 use crate::tasks::task_says;
-use crate::turn::before_turn;
 use crate::view::view_says;
 use jcr_call::is_allowed;
 use jcr_law::JcrLaw;
+use jcr_past::{before_turn, command_at, stop_position};
 use jcr_trans::{Command, vector_reply};
 use jcr_view::is_viewed;
 use jr_items::unsupported;

@@ -5,22 +5,20 @@ ghost use Rattle.jr_items.specs.Refusals.{IsTheRefusal, no_checkpoint, unsupport
 ghost use Rattle.jcr_ref.specs.Drawn.{too_many_ids};
 ghost use Rattle.jcr_law.specs.State.{call_of};
 ghost use Rattle.jcr_law.specs.Tasks.{split_refusal};
-ghost use Rattle.jcr_eval.specs.Shown.{is_refusal};
+ghost use Rattle.jcr_past.specs.Shown.{is_refusal};
 ghost use Rattle.oak_machine.specs.History.{history_of};
 ghost use Rattle.jcr_eval.specs.Said.{has_in, has_out, has_sweep, is_own, refuses_checkpoint, refuses_id, refuses_split, says_attach, says_checkpoint, says_collect, says_detach, says_in, says_observe, says_out, says_recover, says_release, says_split, says_stop, says_sweep, shows_checkpoint, shows_kept, shows_vector};
 ghost use Rattle.jcr_eval.specs.TaskCauses.{TaskCause};
 
-use crate::call::call_of;
-use crate::came::{
-    detached_since, has_attached, has_collection, has_found_stopped, has_in, has_kept, has_missed,
-    has_out, has_pin, has_recovery, has_released, has_split, has_stop, has_sweep,
-};
 use crate::events::events_says;
 use crate::queries::query_says;
-use crate::shown::{is_done, is_refusal, is_text, is_vector};
-use crate::turn::before_turn;
 use jcr_call::next_id;
 use jcr_law::JcrLaw;
+use jcr_past::{
+    before_turn, call_of, detached_since, has_attached, has_collection, has_found_stopped, has_in,
+    has_kept, has_missed, has_out, has_pin, has_recovery, has_released, has_split, has_stop,
+    has_sweep, is_done, is_refusal, is_text, is_vector,
+};
 use jcr_ref::MAX_IDS;
 use jcr_trans::Command;
 use jr_items::{check_limits, check_node, no_checkpoint, over_limit, unsupported};
@@ -81,7 +79,8 @@ fn out_says(journal: &Journal, session: u32, text: &str) -> bool
     }
 }
 
-// Whether the cluster node published what is shown, and at least what was its own when the command began.
+// Whether the cluster node published what is shown, and at least what was its own when the command
+// began.
 fn has_own_out(journal: &Journal, session: u32, cluster: u32, text: &str) -> bool
     ensures { result ≡ has_out (history_of journal.now) session text.now cluster }
 {
@@ -108,7 +107,8 @@ fn sweep_says(journal: &Journal, session: u32, text: &str) -> bool
     }
 }
 
-// Whether the cluster node swept up to what is shown, and at least what it had published when the command began.
+// Whether the cluster node swept up to what is shown, and at least what it had published when the
+// command began.
 fn has_own_sweep(journal: &Journal, session: u32, cluster: u32, text: &str) -> bool
     ensures { result ≡ has_sweep (history_of journal.now) session text.now cluster }
 {

@@ -6,9 +6,9 @@ ghost use Rattle.jcr_trans.specs.Texts.{answer_text};
 ghost use Rattle.jcr_view.specs.Outcomes.{eval, is_viewed};
 ghost use Rattle.jcr_eval.specs.Causes.{ViewCause};
 
-use crate::call::{Call, call_of};
 use jcr_call::cause_text;
 use jcr_law::JcrLaw;
+use jcr_past::{Call, call_of};
 use jcr_trans::Command;
 use jcr_view::evaluate;
 use jr_types::Registry;

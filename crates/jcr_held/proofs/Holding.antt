@@ -1,5 +1,7 @@
 -- What is held is what the law says still, while it changes.
-use Rattle.std.proofs.Common.{◌≡◌, Bool, true, false, cond, List, [], ◌∷◌, Option, refl, sym, ap, ◌∙◌, subst}
+use Rattle.std.proofs.Common.{◌≡◌, Bool, true, false, cond, List, [], ◌∷◌, Option, Some, is_some, refl, sym, ap, ◌∙◌, subst}
+use Rattle.std.specs.Prelude.{slice_get}
+use Rattle.std.specs.Option.{unwrap_or}
 use Rattle.std.specs.List.{All}
 use Rattle.std.proofs.lemmas.Bool.{false≢true}
 use Rattle.std.proofs.lemmas.List.Elements.{All-head}
@@ -158,6 +160,13 @@ view_known_of x m h known = subst (All (LacksNothing x.part)) (asks_of_view x m 
 
 pub all_known_of : (k : Knowledge) (needs : List Need) → needs ≡ need.All ∷ [] → All (LacksNothing k) needs → LacksNothing k need.All
 all_known_of k needs is known = All-head (LacksNothing k) need.All [] (subst (All (LacksNothing k)) is known)
+
+-- nothing lacks of the first of some needs of which nothing lacks
+pub first_known : (k : Knowledge) (needs : List Need) (n : Need) → Some n ≡ slice_get needs 0 → All (LacksNothing k) needs → LacksNothing k n
+first_known k [] n is known = absurd (false≢true (sym (ap is_some is)))
+first_known k (x ∷ xs) n is known =
+    let same : n ≡ x = ap (λ o. unwrap_or o n) is in
+    subst (λ (m : Need). LacksNothing k m) (sym same) (All-head (LacksNothing k) x xs known)
 
 -- ---- a command is ready
 

@@ -133,13 +133,24 @@ impl Held {
     }
 }
 
-// Where the whole tree is what was asked for, nothing of it lacks from now on.
+// Nothing lacks of these needs: where the first is the whole tree, that is noted.
 fn note_known(part: &mut Part, needs: &[Need])
     requires { All (LacksNothing part.old) needs.now }
     ensures { part.new ≡ part.old }
 {
-    if let [Need::All] = needs {
-        part.note_whole();
+    match needs.first() {
+        Some(need) => note(part, need),
+        None => {}
+    }
+}
+
+fn note(part: &mut Part, need: &Need)
+    requires { LacksNothing part.old need.now }
+    ensures { part.new ≡ part.old }
+{
+    match need {
+        Need::All => part.note_whole(),
+        Need::Node(_) | Need::Children(_) | Need::Subtree(_) => {}
     }
 }
 

@@ -16,7 +16,7 @@ use Rattle.oak_port.specs.declared.task.Task.{Task}
 use Rattle.oak_port.specs.declared.task.Task.TheVariants as task
 use Rattle.oak_port.specs.declared.task.TaskEnd.TheVariants as end
 use Rattle.jcr_law.specs.declared.law.JcrLaw.{JcrLaw}
-use Rattle.jcr_call.specs.declared.coming.Accepted.{Accepted}
+use Rattle.jcr_session.specs.declared.commit.Pledge.{Pledge}
 use Rattle.jcr_session.specs.declared.run.Phase.{Phase}
 use Rattle.jcr_session.specs.declared.run.Phase.TheVariants as phase
 use Rattle.jcr_session.specs.declared.run.SessionRun.{SessionRun}
@@ -94,8 +94,8 @@ commit_by past h s (Deciding r) a own now c m never = absurd m
 commit_by past h s (Awaiting r) a own now c m never = absurd m
 commit_by past h s w a own now c m never = absurd c
 
--- what is accepted, of a session in its commit
-pub commits_by : (f : Phase) → is_committing f ≡ true → (a : Accepted) × (f ≡ phase.Committing a)
+-- what is kept of its commit, of a session in it
+pub commits_by : (f : Phase) → is_committing f ≡ true → (a : Pledge) × (f ≡ phase.Committing a)
 commits_by phase.Outside h = absurd (false≢true h)
 commits_by phase.Between h = absurd (false≢true h)
 commits_by (phase.Refreshed v) h = absurd (false≢true h)
@@ -103,7 +103,7 @@ commits_by (phase.Committing a) h = (a, refl)
 commits_by (phase.Committed e a) h = absurd (false≢true h)
 commits_by phase.Over h = absurd (false≢true h)
 
-module _ (law : JcrLaw) (p : Shown) (run : SessionRun) (a : Accepted) (stands : Stands law p run) (commits : run.phase ≡ phase.Committing a) where
+module _ (law : JcrLaw) (p : Shown) (run : SessionRun) (a : Pledge) (stands : Stands law p run) (commits : run.phase ≡ phase.Committing a) where
   committing_is : IsCommitting p.history.past p.session p.work
   committing_is = (subst (λ (f : Phase). StandsAt law p run f) commits stands.at).1.commits
 

@@ -1,12 +1,16 @@
 -- A session begins to commit.
 use Rattle.std.proofs.Common.{◌≡◌, inl, ℕ, Bool, true, false, cond, Some, None, Option, List, [], ◌∷◌, ◌++◌, is_some, Ok, Result, ◌<◌, ◌≤◌, length, arith, refl, sym, ap, ◌∙◌, subst}
-use Rattle.std.specs.Prelude.{reverse, slice_get}
+use Rattle.std.specs.Prelude.{◌==◌, reverse, slice_get}
 use Rattle.std.specs.Option.{option_map_or}
 use mathlib.Core.Bool.{false≢true}
 use Rattle.jr_rev.specs.declared.revision.Revision.{Revision}
 use Rattle.jr_rev.proofs.Order.{same_revision}
+use Rattle.jr_tree.specs.declared.edit.Edit.{Edit}
 use Rattle.jr_tree.specs.declared.edit.Write.{Write}
+use Rattle.jr_tree.specs.declared.shared.Who.{Who}
+use Rattle.jr_tree.specs.Edits.{IsProper}
 use Rattle.jr_tree.specs.declared.shared.Refusal.{Refusal}
+use Rattle.oak_machine.specs.declared.event.Draw.{Draw}
 use Rattle.oak_machine.specs.declared.event.Event.TheVariants as event
 use Rattle.oak_machine.specs.declared.event.StepKind.{StepKind}
 use Rattle.oak_machine.specs.declared.event.StepKind.TheVariants as kind
@@ -26,22 +30,24 @@ use Rattle.jcr_trans.specs.declared.command.Command.{Command}
 use Rattle.jcr_law.specs.declared.law.JcrLaw.{JcrLaw}
 use Rattle.jcr_law.specs.Lasting.{says_of, starts_of}
 use Rattle.jcr_law.specs.Law.{MayStart}
-use Rattle.jcr_law.specs.Since.{before_turn}
+use Rattle.jcr_law.specs.Since.{before_turn, draw_since}
+use Rattle.jcr_law.specs.Starting.{call_has_base}
 use Rattle.jcr_law.specs.State.{Call, call_of, command_at}
-use Rattle.jcr_call.specs.declared.coming.Accepted.{Accepted}
 use Rattle.jcr_call.specs.declared.coming.Coming.TheVariants as coming
 use Rattle.core_calls.specs.Seeing.{SeesTrees}
 use Rattle.core_calls.proofs.Called.{call_stays}
 use Rattle.jcr_session.specs.declared.next.Due.TheVariants as due
+use Rattle.jcr_session.specs.declared.commit.Pledge.{Pledge}
 use Rattle.jcr_session.specs.declared.run.Phase.{Phase}
 use Rattle.jcr_session.specs.declared.run.Phase.TheVariants as phase
 use Rattle.jcr_session.specs.declared.run.SessionRun.{SessionRun}
 use Rattle.jcr_session.specs.declared.turn.Turn.TheVariants as turn
 use Rattle.jcr_session.specs.Asked.{ComesNext, IsAsked, MayDrawFor, MayForgo}
-use Rattle.jcr_session.specs.Standing.{HasTurned, IsBeside, IsCalled, IsCommitting, IsFresh, IsIn, IsPlace, IsPrepared, IsTurned, Stands, StandsAt, due_for, due_to, is_allowed, is_writing}
-use Rattle.jcr_session.proofs.Committing.{committing_drawn}
+use Rattle.jcr_session.specs.Standing.{HasDrawnFor, HasTurned, IsBeside, IsCalled, IsCommitting, IsFresh, IsIn, IsPlace, IsPrepared, IsTurned, Stands, StandsAt, due_for, due_to, is_allowed, is_writing}
+use Rattle.jcr_session.proofs.Committing.{committing_drawn, own as same_number}
 use Rattle.jcr_session.proofs.Lawful.{asked_allowed, at_between, between_asked}
 use Rattle.jcr_session.proofs.Nexts.{allowed_due, due_at, next_due}
+use Rattle.jcr_session.proofs.Starting.{some_is}
 use Rattle.jcr_session.proofs.Saying.{asked_like, asked_waits, drawn_waits, get_within}
 use Rattle.jcr_session.proofs.Turning.{free, is_awaiting, not_ended, plain_step, turned_later}
 use Rattle.jcr_session.proofs.Waiting.{all_beside, by_waits, called_beside, in_beside, next_beside, shown_beside}
@@ -52,7 +58,7 @@ commit_allowed run m next commits = (allowed_due m due.Commit (sym (due_at run m
 
 -- ---- what a plan lets begin
 
-module _ (law : JcrLaw) (p : Shown) (run : SessionRun) (stands : Stands law p run) (between : run.phase ≡ phase.Between) (ready : IsPrepared run) (commits : due_for run ≡ due.Commit) (plan : Plan) (accepted : Accepted) (comes : ComesNext run (coming.Planned plan accepted)) where
+module _ (law : JcrLaw) (p : Shown) (run : SessionRun) (stands : Stands law p run) (between : run.phase ≡ phase.Between) (ready : IsPrepared run) (commits : due_for run ≡ due.Commit) (plan : Plan) (kept : Pledge) (comes : ComesNext run (coming.Planned plan kept.accepted)) where
   abbrev m : (m : Command) × (slice_get run.commands run.index ≡ Some m) × (due_to m ≡ due.Commit)
   m = next_due run due.Commit commits refl
 
@@ -60,7 +66,7 @@ module _ (law : JcrLaw) (p : Shown) (run : SessionRun) (stands : Stands law p ru
   c = (at_between law p run stands between).1.call
 
   abbrev planned_run : SessionRun
-  planned_run = record run { phase = phase.Committing accepted }
+  planned_run = record run { phase = phase.Committing kept }
 
   asked_planned : IsAsked law p planned_run m.0 c
   asked_planned = asked_like law m.0 c p run planned_run refl refl refl refl (between_asked law p run stands between m.0 m.1 ready.done)
@@ -76,8 +82,8 @@ module _ (law : JcrLaw) (p : Shown) (run : SessionRun) (stands : Stands law p ru
   }
 
   -- once its place is kept
-  pub planned_draws : (mid : Shown) → IsBeside law p mid → mid.work ≡ Idle → IsPlace mid.room accepted → MayDrawFor law mid planned_run plan
-  planned_draws mid beside idle place =
+  pub planned_draws : (mid : Shown) → IsBeside law p mid → mid.work ≡ Idle → IsPlace mid.room kept.accepted → kept.edit ≡ plan.edit → MayDrawFor law mid planned_run plan
+  planned_draws mid beside idle place copied =
       let here = (at_between law p run stands between).1 in
       let x = comes m.0 c m.1 here.holds in record {
         command = m.0;
@@ -87,10 +93,11 @@ module _ (law : JcrLaw) (p : Shown) (run : SessionRun) (stands : Stands law p ru
         commits = commits;
         holds = here.holds;
         settled = (ready.ready m.0 m.1).settled;
-        accepted = accepted;
+        pledge = kept;
         phase_is = refl;
         accepts = x.comes.3;
         place = place;
+        edit_is = copied;
         due = x.is_due ∙ ap (λ (d : Result (List Write) Refusal). Some d) x.comes.0;
         some = x.comes.1;
         ok = x.comes.2;
@@ -210,6 +217,17 @@ module _ (law : JcrLaw) (mid : Shown) (run : SessionRun) (plan : Plan) (may : Ma
     called_new = moved (λ h n. call_of law h.begin h.past n ≡ Some may.call)
         (call_stays law begun.history.begin (starts_of law) (says_of law) begun.history.clusters begun.history.sessions in_begun.nodes (event.Draw made.0 ∷ []) behind s run_drawn refl ∙ called_behind)
 
+    -- the draw is of the edit that is kept, on the base that is held
+    draw_new : draw_since new.history.past new.session ≡ Some made.0
+    draw_new = moved (λ h n. draw_since h.past n ≡ Some made.0) (ap (λ b. cond b (Some made.0) (draw_since behind s)) (ap (λ n. n == s) made.1.session ∙ same_number s))
+
+    base_new : made.0.base ≡ run.held.who.base
+    base_new = some_is (sym (subst (λ (n : ℕ). base_of behind n ≡ Some made.0.base) made.1.session run_drawn.0.base) ∙ call_has_base law begun.history.begin behind s may.call called_behind)
+        ∙ ap (λ (w : Who). w.base) (sym may.holds.who)
+
+    drew_new : HasDrawnFor new run may.pledge.edit
+    drew_new = λ d is. subst (λ (e : Draw). (e.base ≡ run.held.who.base) × (e.edit ≡ may.pledge.edit)) (some_is (sym draw_new ∙ is)) (base_new, made.1.edit_is ∙ sym may.edit_is)
+
     stands_new : Stands law new run
     stands_new = record {
       nodes = in_new.nodes;
@@ -233,7 +251,9 @@ module _ (law : JcrLaw) (mid : Shown) (run : SessionRun) (plan : Plan) (may : Ma
             holds = may.holds;
             settled = may.settled;
             accepts = may.accepts;
-            place = subst (λ (x : Option ℕ). IsPlace x may.accepted) (sym (steps.room ∙ begins.room_is)) may.place;
+            place = subst (λ (x : Option ℕ). IsPlace x may.pledge.accepted) (sym (steps.room ∙ begins.room_is)) may.place;
+            proper = subst (λ (e : Edit). IsProper may.call.base e.writes) (sym may.edit_is) may.ok.proper;
+            drew = drew_new;
           };
           commits = subst (λ (w : Work). IsCommitting new.history.past new.session w) (sym made.4)
               (moved (λ h n. IsCommitting h.past n (Writing made.0.revision))

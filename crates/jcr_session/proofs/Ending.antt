@@ -11,9 +11,12 @@ use Rattle.jr_path.specs.declared.text.Text.{Text}
 use Rattle.jr_rev.specs.declared.revision.Revision.{Revision}
 use Rattle.jr_rev.specs.declared.vector.Pin.{Pin}
 use Rattle.jr_rev.specs.declared.vector.RevVec.{RevVec}
+use Rattle.jr_tree.specs.declared.edit.Edit.{Edit}
+use Rattle.jr_tree.specs.declared.shared.Who.{Who}
+use Rattle.jr_tree.specs.Edits.{IsProper, applied}
 use Rattle.jr_tree.specs.Trees.{IsTree, Nodes}
 use Rattle.jr_items.specs.Refusals.{clash}
-use Rattle.oak_machine.specs.Commits.{is_committed, is_ended, tree_at}
+use Rattle.oak_machine.specs.Commits.{draw_of, is_committed, is_ended, tree_at}
 use Rattle.oak_machine.specs.Sessions.{base_of, drawn_since, is_drawing}
 use Rattle.oak_port.specs.Ports.{HasRoom, Shown}
 use Rattle.oak_commit.specs.declared.outcome.CommitEnd.{CommitEnd}
@@ -26,20 +29,24 @@ use Rattle.jcr_law.specs.declared.law.JcrLaw.{JcrLaw}
 use Rattle.jcr_law.specs.Built.{Allowed}
 use Rattle.jcr_law.specs.Commits.{committed_answer, version_answer}
 use Rattle.jcr_law.specs.Law.{MaySay, clashed, committed, no_text}
-use Rattle.jcr_law.specs.Starting.{call_has_base}
+use Rattle.jcr_law.specs.Lasting.{says_of, starts_of}
+use Rattle.jcr_law.specs.Starting.{call_based, call_has_base}
 use Rattle.jcr_law.specs.State.{Call, accepted, is_ok_text}
 use Rattle.jcr_call.specs.Calls.{call_moved}
 use Rattle.jcr_call.specs.Comings.{accepted_text}
-use Rattle.jcr_call.specs.declared.coming.Accepted.{Accepted}
 use Rattle.jcr_held.specs.Holds.{Holds}
 use Rattle.jcr_held.specs.declared.held.Held.{Held}
+use Rattle.core_calls.specs.Alone.{IsNextAlone}
 use Rattle.core_calls.specs.Replies.{is_refusal}
 use Rattle.core_calls.proofs.Accepting.{answer_accepts}
+use Rattle.core_calls.proofs.Alone.{tree_next}
+use Rattle.core_calls.proofs.Draws.{draw_known}
 use Rattle.jcr_session.specs.declared.limits.TheConstants.{COMMIT_REPLY_BYTES}
+use Rattle.jcr_session.specs.declared.commit.Pledge.{Pledge}
 use Rattle.jcr_session.specs.declared.next.Due.TheVariants as due
 use Rattle.jcr_session.specs.declared.run.Phase.TheVariants as phase
 use Rattle.jcr_session.specs.declared.run.SessionRun.{SessionRun}
-use Rattle.jcr_session.specs.Asked.{HasClashed, IsAsked, MayAnswer, MayForgo, Settles}
+use Rattle.jcr_session.specs.Asked.{HasClashed, IsAsked, MayAnswer, MayForgo, SeesCommit, Settles}
 use Rattle.jcr_session.specs.Standing.{IsAtEnd, IsCalled, IsMadeFor, IsUnmade, Stands, due_by}
 use Rattle.jcr_session.proofs.Drawing.{commit_allowed}
 use Rattle.jcr_session.proofs.Lawful.{forgo_answers, refused_text, says_allowed, settled_asked, settled_leaves, settled_says}
@@ -48,7 +55,7 @@ use Rattle.jcr_session.proofs.Saying.{asked_like}
 
 -- ---- the command whose commit has ended
 
-module _ (law : JcrLaw) (p : Shown) (run : SessionRun) (e : CommitEnd) (a : Accepted) (stands : Stands law p (record run { phase = phase.Committed e a })) where
+module _ (law : JcrLaw) (p : Shown) (run : SessionRun) (e : CommitEnd) (a : Pledge) (stands : Stands law p (record run { phase = phase.Committed e a })) where
   abbrev ended : IsAtEnd law p (record run { phase = phase.Committed e a }) e a
   ended = stands.at.1
 
@@ -80,7 +87,7 @@ unmade_forgoes law p run m c r asked is holds = record {
   holds = holds;
 }
 
-module _ (law : JcrLaw) (p : Shown) (run : SessionRun) (a : Accepted) where
+module _ (law : JcrLaw) (p : Shown) (run : SessionRun) (a : Pledge) where
   pub memory_forgoes : Stands law p (record run { phase = phase.Committed commit.Memory a }) → MayForgo law p run true
   memory_forgoes stands =
       let x = stands.at.1 in
@@ -150,7 +157,7 @@ committed_shown c on r (command.Lock p deep) = refl
 committed_shown c on r (command.Checkin p) = version_shown _
 committed_shown c on r m = refl
 
-module _ (law : JcrLaw) (p : Shown) (run : SessionRun) (r : Revision) (a : Accepted) (stands : Stands law p (record run { phase = phase.Committed (commit.Committed r) a })) where
+module _ (law : JcrLaw) (p : Shown) (run : SessionRun) (r : Revision) (a : Pledge) (stands : Stands law p (record run { phase = phase.Committed (commit.Committed r) a })) where
   abbrev here : IsAtEnd law p (record run { phase = phase.Committed (commit.Committed r) a }) (commit.Committed r) a
   here = stands.at.1
 
@@ -178,14 +185,14 @@ module _ (law : JcrLaw) (p : Shown) (run : SessionRun) (r : Revision) (a : Accep
   pub made_tree : IsTree made.tree
   made_tree = made.tree_is
 
-  answer_is : accepted_text a r ≡ answer_text (committed_answer moved (tree_at p.history.begin p.history.past made.made.base) made.made.revision here.for.command)
+  answer_is : accepted_text a.accepted r ≡ answer_text (committed_answer moved (tree_at p.history.begin p.history.past made.made.base) made.made.revision here.for.command)
   answer_is =
       here.for.accepts.text r
       ∙ (ap (λ (t : Nodes). answer_text (committed_answer c t r here.for.command)) (sym made.on)
       ∙ (ap (λ (q : Revision). answer_text (committed_answer c (tree_at p.history.begin p.history.past made.made.base) q here.for.command)) (sym made.revision)
       ∙ ap answer_text (sym (moved_answer c made.base made.tree (tree_at p.history.begin p.history.past made.made.base) made.made.revision here.for.command))))
 
-  accepts : is_ok_text (accepted_text a r) ≡ true
+  accepts : is_ok_text (accepted_text a.accepted r) ≡ true
   accepts = ap is_ok_text answer_is ∙ (answer_accepts (committed_answer moved (tree_at p.history.begin p.history.past made.made.base) made.made.revision here.for.command)
       ∙ ap not (committed_shown moved (tree_at p.history.begin p.history.past made.made.base) made.made.revision here.for.command))
 
@@ -196,18 +203,18 @@ module _ (law : JcrLaw) (p : Shown) (run : SessionRun) (r : Revision) (a : Accep
   committed_made = ap (is_committed p.history.past) made.revision ∙ made.committed
 
   -- once what is held is moved to there, and accepted
-  module _ (held : Held) (holds : Holds moved held) (now : SessionRun) (settles : Settles (record run { held = held }) now true true (Some a.tokens)) where
-    pub made_answers : MayAnswer law p now (accepted_text a r)
+  module _ (held : Held) (holds : Holds moved held) (now : SessionRun) (settles : Settles (record run { held = held }) now true true (Some a.accepted.tokens)) where
+    pub made_answers : MayAnswer law p now (accepted_text a.accepted r)
     made_answers = record {
       command = here.for.command;
       call = moved;
-      asked = settled_asked law p (record run { held = held }) now true true (Some a.tokens) settles here.for.command moved (asked_like law here.for.command moved p run (record run { held = held }) refl refl refl refl asked_made);
-      says = settled_says law p (record run { held = held }) now true true (Some a.tokens) settles (accepted_text a r)
-          (says_allowed law p run here.for.command moved asked_made (accepted_text a r) (commit_allowed run here.for.command here.for.next here.for.commits)
+      asked = settled_asked law p (record run { held = held }) now true true (Some a.accepted.tokens) settles here.for.command moved (asked_like law here.for.command moved p run (record run { held = held }) refl refl refl refl asked_made);
+      says = settled_says law p (record run { held = held }) now true true (Some a.accepted.tokens) settles (accepted_text a.accepted r)
+          (says_allowed law p run here.for.command moved asked_made (accepted_text a.accepted r) (commit_allowed run here.for.command here.for.next here.for.commits)
           (subst (λ (t : Text). MaySay law p.history p.session (Allowed here.for.command) t) (sym answer_is)
           (committed here.for.command moved made.made made.base made.draw ended_made committed_made made.moved
           (ap (Rattle.jr_rev.specs.Vectors.sees made.base) made.revision ∙ made.seen) made.call)));
-      leaves = settled_leaves law p (record run { held = held }) now true true (Some a.tokens) settles here.for.command moved (accepted_text a r) here.for.next holds
+      leaves = settled_leaves law p (record run { held = held }) now true true (Some a.accepted.tokens) settles here.for.command moved (accepted_text a.accepted r) here.for.next holds
           (λ ok. here.for.accepts.tokens ∙ sym (moved_tokens c made.base made.tree here.for.command allowed)) accepts (ap is_some made.drawn);
     }
 
@@ -215,7 +222,7 @@ module _ (law : JcrLaw) (p : Shown) (run : SessionRun) (r : Revision) (a : Accep
 abbrev pub told_as : Revision → Option (String Global) → Text
 told_as r o = option_map_or string_bytes o (answer_text (ShowsRevision r))
 
-module _ (law : JcrLaw) (p : Shown) (run : SessionRun) (r : Revision) (a : Accepted) (stands : Stands law p (record run { phase = phase.Committed (commit.Committed r) a })) where
+module _ (law : JcrLaw) (p : Shown) (run : SessionRun) (r : Revision) (a : Pledge) (stands : Stands law p (record run { phase = phase.Committed (commit.Committed r) a })) where
   abbrev at_end : IsAtEnd law p (record run { phase = phase.Committed (commit.Committed r) a }) (commit.Committed r) a
   at_end = stands.at.1
 
@@ -226,10 +233,37 @@ module _ (law : JcrLaw) (p : Shown) (run : SessionRun) (r : Revision) (a : Accep
   pub made_base : {A : Type 0} (o : Option Pin) → o ≡ None → (Rattle.oak_machine.specs.Sessions.has_left p.history.past p.session ≡ false → option_map (λ x. x.base) o ≡ base_of p.history.past p.session) → A
   made_base o none told = absurd (false≢true (ap is_some (sym (ap (option_map (λ (x : Pin). x.base)) none) ∙ (told stands.at.0.stays ∙ call_has_base law p.history.begin p.history.past p.session (call_moved at_end.call made_it.base made_it.tree) made_it.call))))
 
+  -- the tree that the base moved to is the one before with the edit, where that commit alone lies between
+  made_alone : IsNextAlone at_end.call.who.base made_it.base r → made_it.tree ≡ applied (Some r) at_end.call.base a.edit.writes
+  made_alone alone =
+      let run_is = stands.at.0.run in
+      let nodes = stands.at.0.nodes in
+      let drew = at_end.for.drew made_it.made made_it.draw in
+      let known = draw_known (starts_of law) (says_of law) p.history.clusters p.history.sessions nodes p.history.begin p.session made_it.made p.history.past run_is made_it.draw in
+      let is : draw_of p.history.past r ≡ Some made_it.made = subst (λ (q : Revision). draw_of p.history.past q ≡ Some made_it.made) made_it.revision known.1 in
+      let from : IsNextAlone made_it.made.base made_it.base r = subst (λ (v : RevVec). IsNextAlone v made_it.base r) (sym (drew.0 ∙ ap (λ (w : Who). w.base) at_end.for.holds.who)) alone in
+      ap (λ (c : Call). c.base) (call_based law p.history.begin p.history.past p.session (call_moved at_end.call made_it.base made_it.tree) made_it.call)
+      ∙ (tree_next (starts_of law) (says_of law) p.history.clusters p.history.sessions nodes p.history.begin p.history.past run_is made_it.base r made_it.made is from made_it.committed
+      ∙ (ap (λ (t : Nodes). applied (Some r) t made_it.made.edit.writes) made_it.on
+      ∙ ap (λ (e : Edit). applied (Some r) at_end.call.base e.writes) drew.1))
+
   -- what is held once it moved there
-  pub made_holds : (pin : Pin) → pin.base ≡ made_it.base → (held : Held) → ((c : Call) (t : Nodes) → Holds c run.held → run.held.is_kept ≡ false → IsTree t → Holds (call_moved c pin.base t) held)
+  pub made_holds : (pin : Pin) → pin.base ≡ made_it.base → (held : Held) → ((c : Call) (t : Nodes) → Holds c run.held → run.held.is_kept ≡ false → SeesCommit c a.edit r pin.base t → Holds (call_moved c pin.base t) held)
       → Holds (call_moved at_end.call made_it.base made_it.tree) held
-  made_holds pin is held moves = subst (λ (v : RevVec). Holds (call_moved at_end.call v made_it.tree) held) is (moves at_end.call made_it.tree at_end.for.holds at_end.for.settled made_it.tree_is)
+  made_holds pin is held moves =
+      subst (λ (v : RevVec). Holds (call_moved at_end.call v made_it.tree) held) is
+      (moves at_end.call made_it.tree at_end.for.holds at_end.for.settled
+      (subst (λ (v : RevVec). SeesCommit at_end.call a.edit r v made_it.tree) (sym is) record { proper = at_end.for.proper; tree_is = made_it.tree_is; alone = made_alone }))
 
   pub made_next : (m : Command) × (slice_get run.commands run.index ≡ Some m) × (Rattle.jcr_view.specs.Outcomes.is_viewed m ≡ false)
   made_next = (at_end.for.command, at_end.for.next, unviewed_due at_end.for.command (ap (λ (d : _). Rattle.std.proofs.Common.nat_eq (due_number d) 6) (sym (due_at run at_end.for.command at_end.for.next) ∙ at_end.for.commits)))
+
+-- ---- what is held, behind a commit
+
+module _ (c : Call) (t : Nodes) (old held : Held) (edit : Edit) (r : Revision) (v : RevVec) (holds : Holds c old) (settled : old.is_kept ≡ false) (sees : SeesCommit c edit r v t) where
+  pub follows_commit : IsNextAlone old.who.base v r → ((d : Call) → Holds d old → old.is_kept ≡ false → IsProper d.base edit.writes → Holds (call_moved d v (applied (Some r) d.base edit.writes)) held) → Holds (call_moved c v t) held
+  follows_commit alone follows =
+      subst (λ (x : Nodes). Holds (call_moved c v x) held) (sym (sees.alone (subst (λ (w : Who). IsNextAlone w.base v r) holds.who alone))) (follows c holds settled sees.proper)
+
+  pub leaves_base : ((d : Call) (x : Nodes) → Holds d old → old.is_kept ≡ false → IsTree x → Holds (call_moved d v x) held) → Holds (call_moved c v t) held
+  leaves_base moves = moves c t holds settled sees.tree_is

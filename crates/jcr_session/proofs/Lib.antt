@@ -8,6 +8,8 @@ pub mod Lengths
 pub mod Living
 pub mod Loads
 pub mod Looking
+pub mod Nearer
+pub mod Nearing
 pub mod Nexts
 pub mod Others
 pub mod Reading

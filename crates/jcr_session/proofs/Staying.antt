@@ -12,10 +12,11 @@ use Rattle.jcr_trans.specs.declared.command.Command.{Command}
 use Rattle.core_heads.proofs.Passing.{idle_stays, next_stays}
 use Rattle.jcr_law.specs.declared.law.JcrLaw.{JcrLaw}
 use Rattle.jcr_law.specs.Lasting.{says_of, starts_of}
+use Rattle.jcr_law.specs.Since.{draw_since}
 use Rattle.jcr_law.specs.State.{Call, command_at}
-use Rattle.jcr_call.specs.declared.coming.Accepted.{Accepted}
 use Rattle.core_calls.specs.Seeing.{SeesTrees}
 use Rattle.jcr_session.specs.declared.limits.TheConstants.{MOST_COMMANDS}
+use Rattle.jcr_session.specs.declared.commit.Pledge.{Pledge}
 use Rattle.jcr_session.specs.declared.run.Phase.{Phase}
 use Rattle.jcr_session.specs.declared.run.Phase.TheVariants as phase
 use Rattle.jcr_session.specs.declared.run.SessionRun.{SessionRun}
@@ -29,7 +30,7 @@ module _ (law : JcrLaw) (p q : Shown) (run : SessionRun) (stands : Stands law p 
   in_now : IsIn law p → IsIn law q
   in_now = in_beside law p q beside stands.nodes
 
-  for_now : (c : Call) (a : Accepted) → IsFor p run c a → IsFor q run c a
+  for_now : (c : Call) (a : Pledge) → IsFor p run c a → IsFor q run c a
   for_now c a is = record {
     command = is.command;
     next = is.next;
@@ -37,7 +38,9 @@ module _ (law : JcrLaw) (p q : Shown) (run : SessionRun) (stands : Stands law p 
     holds = is.holds;
     settled = is.settled;
     accepts = is.accepts;
-    place = subst (λ (x : Option ℕ). IsPlace x a) (sym room) is.place;
+    place = subst (λ (x : Option ℕ). IsPlace x a.accepted) (sym room) is.place;
+    proper = is.proper;
+    drew = λ d now. is.drew d (sym (shown_beside law p q beside (λ h n. draw_since h.past n ≡ draw_since p.history.past p.session) (all_beside law p q beside stands.nodes).draw) ∙ now);
   }
 
   at_now : (f : Phase) → StandsAt law p run f → StandsAt law q run f

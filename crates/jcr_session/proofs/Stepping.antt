@@ -24,22 +24,22 @@ use Rattle.oak_port.specs.declared.task.TaskEnd.TheVariants as end
 use Rattle.core_heads.proofs.Passing.{next_stays}
 use Rattle.jcr_law.specs.declared.law.JcrLaw.{JcrLaw}
 use Rattle.jcr_law.specs.Lasting.{says_of, starts_of}
-use Rattle.jcr_law.specs.Since.{before_turn}
+use Rattle.jcr_law.specs.Since.{before_turn, draw_since}
 use Rattle.jcr_law.specs.State.{Call, call_of}
-use Rattle.jcr_call.specs.declared.coming.Accepted.{Accepted}
 use Rattle.core_calls.specs.Seeing.{SeesTrees}
 use Rattle.core_calls.proofs.Called.{call_stays, refresh_call}
+use Rattle.jcr_session.specs.declared.commit.Pledge.{Pledge}
 use Rattle.jcr_session.specs.declared.run.Phase.{Phase}
 use Rattle.jcr_session.specs.declared.run.Phase.TheVariants as phase
 use Rattle.jcr_session.specs.declared.run.SessionRun.{SessionRun}
 use Rattle.jcr_session.specs.declared.turn.Turn.{Turn}
 use Rattle.jcr_session.specs.declared.turn.Turn.TheVariants as turn
 use Rattle.jcr_session.specs.Answered.{kind_of_end, phase_by, turn_by}
-use Rattle.jcr_session.specs.Standing.{HasAwaited, HasCommitted, HasDrawn, HasTurned, IsBeside, IsCalled, IsCommitting, IsFor, IsIn, IsInCommit, IsMade, IsMadeFor, IsPlace, IsSeenFor, IsStep, IsToldEnd, IsTurned, Stands, StandsAt, Tells, is_writing}
+use Rattle.jcr_session.specs.Standing.{HasAwaited, HasCommitted, HasDrawn, HasDrawnFor, HasTurned, IsBeside, IsCalled, IsCommitting, IsFor, IsIn, IsInCommit, IsMade, IsMadeFor, IsPlace, IsSeenFor, IsStep, IsToldEnd, IsTurned, Stands, StandsAt, Tells, is_writing}
 use Rattle.jcr_session.proofs.Committing.{clash_end, committing_finish, committing_undo, committing_write, own, still_moved, unmade_end}
 use Rattle.jcr_session.proofs.Reading.{tree_called}
 use Rattle.jcr_session.proofs.Turning.{IsQuiet, Link, awaited_finish, awaited_write, due_finish, free, has_turned_later, is_awaiting, never_ends, one_finish, one_write, quiet_by, quiet_finish, quiet_write}
-use Rattle.jcr_session.proofs.Waiting.{call_still, committing_still, in_beside}
+use Rattle.jcr_session.proofs.Waiting.{all_same, call_still, committing_still, in_beside}
 
 -- ---- a step
 
@@ -99,7 +99,7 @@ module _ (law : JcrLaw) (old new : Shown) (answer : StepOut) (run : SessionRun) 
 
   -- ---- a step of a commit
 
-  module _ (a : Accepted) (commits : run.phase ≡ phase.Committing a) where
+  module _ (a : Pledge) (commits : run.phase ≡ phase.Committing a) where
     at_commit : IsInCommit law old run a
     at_commit = (subst (λ (f : Phase). StandsAt law old run f) commits stands.at).1
 
@@ -114,15 +114,22 @@ module _ (law : JcrLaw) (old new : Shown) (answer : StepOut) (run : SessionRun) 
     called_quiet quiet = moved (λ h s. call_of law h.begin h.past s ≡ Some c)
         (call_stays law old.history.begin (starts_of law) (says_of law) old.history.clusters old.history.sessions inside.nodes steps.own moment.past old.session run_new quiet.calls ∙ called_moment)
 
-    for_now : (f : Phase) → IsFor new (record run { phase = f }) c a
-    for_now f = record {
+    -- what was drawn for it is drawn still
+    drew_now : draw_since (steps.own ++ moment.past) old.session ≡ draw_since moment.past old.session → HasDrawnFor new run a.edit
+    drew_now same = λ d is. at_commit.for.drew d (sym (moved (λ h s. draw_since h.past s ≡ draw_since old.history.past old.session)
+        (same ∙ (all_same law old.history old.session steps.others inside.nodes run_moment steps.grows.theirs).draw)) ∙ is)
+
+    for_now : (f : Phase) → draw_since (steps.own ++ moment.past) old.session ≡ draw_since moment.past old.session → IsFor new (record run { phase = f }) c a
+    for_now f same = record {
       command = at_commit.for.command;
       next = at_commit.for.next;
       commits = at_commit.for.commits;
       holds = at_commit.for.holds;
       settled = at_commit.for.settled;
       accepts = at_commit.for.accepts;
-      place = subst (λ (x : Option ℕ). IsPlace x a) (sym steps.room) at_commit.for.place;
+      place = subst (λ (x : Option ℕ). IsPlace x a.accepted) (sym steps.room) at_commit.for.place;
+      proper = at_commit.for.proper;
+      drew = drew_now same;
     }
 
     still : (work : Work) → IsCommitting old.history.past old.session work → IsCommitting moment.past old.session work
@@ -135,15 +142,15 @@ module _ (law : JcrLaw) (old new : Shown) (answer : StepOut) (run : SessionRun) 
         unread = at_commit.unread;
         call = c;
         is = called_quiet quiet;
-        for = for_now (phase.Committing a);
+        for = for_now (phase.Committing a) (quiet.draws moment.past);
         commits = moved (λ h s. IsCommitting h.past s new.work) committing;
       },
     )
 
-    has_ended : (e : CommitEnd) → new.work ≡ Idle → IsIn law new → HasCommitted law new c e → StandsAt law new (record run { phase = phase.Committed e a }) (phase.Committed e a)
-    has_ended e idle now committed = (
+    has_ended : (e : CommitEnd) → new.work ≡ Idle → IsIn law new → draw_since (steps.own ++ moment.past) old.session ≡ draw_since moment.past old.session → HasCommitted law new c e → StandsAt law new (record run { phase = phase.Committed e a }) (phase.Committed e a)
+    has_ended e idle now same committed = (
       now,
-      record { idle = idle; unread = at_commit.unread; call = c; for = for_now (phase.Committed e a); ended = committed },
+      record { idle = idle; unread = at_commit.unread; call = c; for = for_now (phase.Committed e a) same; ended = committed },
     )
 
     -- the commit wasn't made
@@ -232,7 +239,7 @@ module _ (law : JcrLaw) (old new : Shown) (answer : StepOut) (run : SessionRun) 
     step_by (Writing r) out.Memory at committing m told = tt
     step_by (Writing r) x at committing m told = absurd m
     step_by (Undoing r e) (out.Went k) at committing (is, mine, work) told =
-        let quiet = quiet_by old.session steps.own (event.Went old.session kind.Undo ∷ []) mine record { left = λ q. refl; next = λ q. refl; attached = λ q. refl; begins = λ q. refl; calls = refl } in
+        let quiet = quiet_by old.session steps.own (event.Went old.session kind.Undo ∷ []) mine record { left = λ q. refl; next = λ q. refl; attached = λ q. refl; begins = λ q. refl; calls = refl; draws = λ q. refl } in
         turned_quiet (phase.Committing a) (turn.Stepped k) (told, inl (event.Went old.session kind.Undo, mine, refl))
         (made_by (Undoing r e) at tt (λ still. subst (λ (p : Past). is_by_due None p ≡ true) (sym mine) refl) (subst (λ (p : Past). HasAwaited moment.past p new.work) (sym mine) tt))
         (quiet.next moment.past) (goes_on quiet (committing_undo moment.past old.session r e steps.own new.work (still (Undoing r e) committing) mine work))
@@ -243,7 +250,7 @@ module _ (law : JcrLaw) (old new : Shown) (answer : StepOut) (run : SessionRun) 
         (subst (λ (k : StepKind). is_appended_by moment old.session k (reverse steps.own) ≡ true) (kind_undone old.history.past r e f end_is committing.2) told, one_finish r steps.own finish)
         (made_by (Undoing r e) at tt (λ still. due_finish r steps.own finish) (awaited_finish r steps.own new.work moment.past finish (λ made. absurd (false≢true (sym now.1 ∙ made)))))
         (quiet.next moment.past)
-        (has_ended f idle (inside_quiet quiet) (subst (λ (y : CommitEnd). HasCommitted law new c y) (sym end_is) (undone r e finish now)))
+        (has_ended f idle (inside_quiet quiet) (quiet.draws moment.past) (subst (λ (y : CommitEnd). HasCommitted law new c y) (sym end_is) (undone r e finish now)))
     step_by (Undoing r e) x at committing m told = absurd m
     step_by (Deciding r) (out.Went k) at committing (is, finish, work) told =
         let quiet = quiet_finish old.session r steps.own finish in
@@ -252,7 +259,7 @@ module _ (law : JcrLaw) (old new : Shown) (answer : StepOut) (run : SessionRun) 
         (quiet.next moment.past) (goes_on quiet (committing_finish moment.past old.session r steps.own new.work (still (Deciding r) committing) finish work))
     step_by (Deciding r) x at committing m told = absurd m
     step_by (Awaiting r) (out.Wait q) at committing (mine, work, unseen, held) told =
-        let quiet = quiet_by old.session steps.own [] mine record { left = λ q. refl; next = λ q. refl; attached = λ q. refl; begins = λ q. refl; calls = refl } in
+        let quiet = quiet_by old.session steps.own [] mine record { left = λ q. refl; next = λ q. refl; attached = λ q. refl; begins = λ q. refl; calls = refl; draws = λ q. refl } in
         let now = still (Awaiting r) committing in
         turned_quiet (phase.Committing a) (turn.Waiting q) mine (r, at, work, record { theirs = now.0.theirs; committed = now.1; ended = now.2; unseen = unseen }, held) (quiet.next moment.past)
         (goes_on quiet (subst (λ (w : Work). IsCommitting (steps.own ++ moment.past) old.session w) (sym work)
@@ -262,7 +269,7 @@ module _ (law : JcrLaw) (old new : Shown) (answer : StepOut) (run : SessionRun) 
         (subst (λ (y : CommitEnd). is_appended_by moment old.session (kind_of_end y) (reverse steps.own) ≡ true) (sym end_is) told, inl (event.Refresh old.session v, mine, refl))
         (made_by (Awaiting r) at head_sees (λ still. subst (λ (p : Past). is_by_due None p ≡ true) (sym mine) refl) (subst (λ (p : Past). HasAwaited moment.past p new.work) (sym mine) tt))
         (subst (λ (e : Past). next_index (e ++ moment.past) old.session ≡ next_index moment.past old.session) (sym mine) refl)
-        (has_ended f idle (inside_moved v mine)
+        (has_ended f idle (inside_moved v mine) (subst (λ (e : Past). draw_since (e ++ moment.past) old.session ≡ draw_since moment.past old.session) (sym mine) refl)
         (subst (λ (y : CommitEnd). HasCommitted law new c y) (sym end_is) (done v mine r (still (Awaiting r) committing) sees_it)))
     step_by (Awaiting r) x at committing m told = absurd m
     step_by Idle x at committing m told = absurd committing
@@ -292,7 +299,7 @@ module _ (law : JcrLaw) (old new : Shown) (answer : StepOut) (run : SessionRun) 
 
     refused_by : (work : Work) → IsCommitting old.history.past old.session work → Makes moment old.session work out.Memory steps.own new.work → IsRefusedStep work
     refused_by (Writing r) committing (mine, work) =
-        let quiet = quiet_by old.session steps.own [] mine record { left = λ q. refl; next = λ q. refl; attached = λ q. refl; begins = λ q. refl; calls = refl } in record {
+        let quiet = quiet_by old.session steps.own [] mine record { left = λ q. refl; next = λ q. refl; attached = λ q. refl; begins = λ q. refl; calls = refl; draws = λ q. refl } in record {
           still_stands = stands_quiet (phase.Committing a) (quiet.next moment.past)
               (goes_on quiet (subst (λ (w : Work). IsCommitting (steps.own ++ moment.past) old.session w) (sym work)
               (subst (λ (e : Past). IsCommitting (e ++ moment.past) old.session (Undoing r commit.Memory)) (sym mine)
@@ -321,31 +328,31 @@ module _ (law : JcrLaw) (old new : Shown) (answer : StepOut) (run : SessionRun) 
           free r.undoing r.waitless r.unawaited,
         )
 
-pub inside_commit : (law : JcrLaw) (p : Shown) (run : SessionRun) (a : Accepted) → Stands law p run → run.phase ≡ phase.Committing a → IsIn law p
+pub inside_commit : (law : JcrLaw) (p : Shown) (run : SessionRun) (a : Pledge) → Stands law p run → run.phase ≡ phase.Committing a → IsIn law p
 inside_commit law p run a stands commits = (subst (λ (f : Phase). StandsAt law p run f) commits stands.at).0
 
 -- one step of a commit is its turn
-pub commit_once : (law : JcrLaw) (old new : Shown) (answer : StepOut) (run now : SessionRun) (t : Turn) (a : Accepted) → Stands law old run → run.phase ≡ phase.Committing a → Steps (starts_of law) (says_of law) old new answer
+pub commit_once : (law : JcrLaw) (old new : Shown) (answer : StepOut) (run now : SessionRun) (t : Turn) (a : Pledge) → Stands law old run → run.phase ≡ phase.Committing a → Steps (starts_of law) (says_of law) old new answer
     → now ≡ record run { phase = phase_by answer run.phase } → t ≡ turn_by answer → HasTurned law old new run now t
 commit_once law old new answer run now t a stands commits steps is told = commit_step law old new answer run stands (inside_commit law old run a stands commits) steps a commits now t is told
 
 -- a step for which memory was refused, and then one of undoing
-pub commit_twice : (law : JcrLaw) (old mid new : Shown) (answer : StepOut) (run now : SessionRun) (t : Turn) (a : Accepted) → Stands law old run → run.phase ≡ phase.Committing a → Steps (starts_of law) (says_of law) old mid out.Memory → Steps (starts_of law) (says_of law) mid new answer
+pub commit_twice : (law : JcrLaw) (old mid new : Shown) (answer : StepOut) (run now : SessionRun) (t : Turn) (a : Pledge) → Stands law old run → run.phase ≡ phase.Committing a → Steps (starts_of law) (says_of law) old mid out.Memory → Steps (starts_of law) (says_of law) mid new answer
     → now ≡ record run { phase = phase_by answer run.phase } → t ≡ turn_by answer → HasTurned law old new run now t
 commit_twice law old mid new answer run now t a stands commits first second is told =
     let r = commit_refused law old mid out.Memory run stands (inside_commit law old run a stands commits) first a commits refl in
     has_turned_later law old mid new run now t stands.nodes r.2 r.1 (never_ends law mid new run now (inside_commit law mid run a r.0 commits)) (commit_once law mid new answer run now t a r.0 commits second is told)
 
 -- a commit under way is something that is being done
-pub commit_busy : (law : JcrLaw) (p : Shown) (run : SessionRun) (a : Accepted) → Stands law p run → run.phase ≡ phase.Committing a → p.work ≡ Idle → ⊥
+pub commit_busy : (law : JcrLaw) (p : Shown) (run : SessionRun) (a : Pledge) → Stands law p run → run.phase ≡ phase.Committing a → p.work ≡ Idle → ⊥
 commit_busy law p run a stands commits idle =
     subst (λ (w : Work). IsCommitting p.history.past p.session w) idle (subst (λ (f : Phase). StandsAt law p run f) commits stands.at).1.commits
 
 -- a commit that was refused memory goes on
-pub refused_stands : (law : JcrLaw) (old mid : Shown) (run : SessionRun) (a : Accepted) → Stands law old run → run.phase ≡ phase.Committing a → Steps (starts_of law) (says_of law) old mid out.Memory → Stands law mid run
+pub refused_stands : (law : JcrLaw) (old mid : Shown) (run : SessionRun) (a : Pledge) → Stands law old run → run.phase ≡ phase.Committing a → Steps (starts_of law) (says_of law) old mid out.Memory → Stands law mid run
 refused_stands law old mid run a stands commits first = (commit_refused law old mid out.Memory run stands (inside_commit law old run a stands commits) first a commits refl).0
 
-pub refused_busy : (law : JcrLaw) (old mid : Shown) (run : SessionRun) (a : Accepted) → Stands law old run → run.phase ≡ phase.Committing a → Steps (starts_of law) (says_of law) old mid out.Memory → mid.work ≡ Idle → ⊥
+pub refused_busy : (law : JcrLaw) (old mid : Shown) (run : SessionRun) (a : Pledge) → Stands law old run → run.phase ≡ phase.Committing a → Steps (starts_of law) (says_of law) old mid out.Memory → mid.work ≡ Idle → ⊥
 refused_busy law old mid run a stands commits first idle =
     commit_busy law mid run a (refused_stands law old mid run a stands commits first) commits idle
 
@@ -353,7 +360,7 @@ refused_busy law old mid run a stands commits first idle =
 pub memory_first : (law : JcrLaw) (old mid : Shown) (answer : StepOut) → answer ≡ out.Memory → Steps (starts_of law) (says_of law) old mid answer → Steps (starts_of law) (says_of law) old mid out.Memory
 memory_first law old mid answer is steps = subst (λ (a : StepOut). Steps (starts_of law) (says_of law) old mid a) is steps
 
-pub commit_again : (law later : JcrLaw) → later ≡ law → (old mid new : Shown) (first second : StepOut) (run now : SessionRun) (t : Turn) (a : Accepted) → Stands law old run → run.phase ≡ phase.Committing a → first ≡ out.Memory → Steps (starts_of law) (says_of law) old mid first
+pub commit_again : (law later : JcrLaw) → later ≡ law → (old mid new : Shown) (first second : StepOut) (run now : SessionRun) (t : Turn) (a : Pledge) → Stands law old run → run.phase ≡ phase.Committing a → first ≡ out.Memory → Steps (starts_of law) (says_of law) old mid first
     → Steps (starts_of later) (says_of later) mid new second → now ≡ record run { phase = phase_by second run.phase } → t ≡ turn_by second → HasTurned law old new run now t
 commit_again law later same old mid new first second run now t a stands commits memory once twice is told =
     commit_twice law old mid new second run now t a stands commits (memory_first law old mid first memory once) (subst (λ (l : JcrLaw). Steps (starts_of l) (says_of l) mid new second) same twice) is told

@@ -15,7 +15,7 @@ use Rattle.oak_machine.specs.Sessions.{has_left, is_attached, next_index}
 use Rattle.oak_port.specs.Ports.{Awaiting, Beside, Deciding, Idle, IsFinish, Learning, Publishing, Seat, Shown, Starting, Undoing, Work, Writing, WritesOn, is_by_due}
 use Rattle.jcr_law.specs.declared.law.JcrLaw.{JcrLaw}
 use Rattle.jcr_law.specs.Lasting.{says_of, starts_of}
-use Rattle.jcr_law.specs.Since.{before_turn}
+use Rattle.jcr_law.specs.Since.{before_turn, draw_since}
 use Rattle.core_calls.specs.Events.{is_calling}
 use Rattle.jcr_session.specs.declared.run.SessionRun.{SessionRun}
 use Rattle.jcr_session.specs.declared.turn.Turn.{Turn}
@@ -132,19 +132,20 @@ pub record IsQuiet (s : ℕ) (e : Past) : Type 0 where
   pub attached : (q : Past) → is_attached (e ++ q) s ≡ is_attached q s
   pub begins : (q : Past) → before_turn (e ++ q) s ≡ before_turn q s
   pub calls : list_any (is_calling s) e ≡ false
+  pub draws : (q : Past) → draw_since (e ++ q) s ≡ draw_since q s
 
 pub quiet_by : (s : ℕ) (e f : Past) → e ≡ f → IsQuiet s f → IsQuiet s e
 quiet_by s e f same quiet = subst (λ (p : Past). IsQuiet s p) (sym same) quiet
 
 pub quiet_finish : (s : ℕ) (r : Revision) (e : Past) → IsFinish r e → IsQuiet s e
-quiet_finish s r e (inl same) = quiet_by s e (event.End r ∷ []) same record { left = λ q. refl; next = λ q. refl; attached = λ q. refl; begins = λ q. refl; calls = refl }
-quiet_finish s r e (inr (k, v, same)) = quiet_by s e (event.Head k v ∷ event.End r ∷ []) same record { left = λ q. refl; next = λ q. refl; attached = λ q. refl; begins = λ q. refl; calls = refl }
+quiet_finish s r e (inl same) = quiet_by s e (event.End r ∷ []) same record { left = λ q. refl; next = λ q. refl; attached = λ q. refl; begins = λ q. refl; calls = refl; draws = λ q. refl }
+quiet_finish s r e (inr (k, v, same)) = quiet_by s e (event.Head k v ∷ event.End r ∷ []) same record { left = λ q. refl; next = λ q. refl; attached = λ q. refl; begins = λ q. refl; calls = refl; draws = λ q. refl }
 
 pub quiet_write : (s : ℕ) (r : Revision) (k : StepKind) (e : Past) (now : Work) → WritesOn s r k e now → IsQuiet s e
-quiet_write s r k e now (inl (a, same, work)) = quiet_by s e (event.Went s kind.Write ∷ []) same record { left = λ q. refl; next = λ q. refl; attached = λ q. refl; begins = λ q. refl; calls = refl }
-quiet_write s r k e now (inr (inl (a, same, work))) = quiet_by s e (event.Went s kind.Mark ∷ []) same record { left = λ q. refl; next = λ q. refl; attached = λ q. refl; begins = λ q. refl; calls = refl }
-quiet_write s r k e now (inr (inr (inl (a, same, work)))) = quiet_by s e (event.Commit r ∷ []) same record { left = λ q. refl; next = λ q. refl; attached = λ q. refl; begins = λ q. refl; calls = refl }
-quiet_write s r k e now (inr (inr (inr (item, o, same, work)))) = quiet_by s e (event.Refuse r item o ∷ []) same record { left = λ q. refl; next = λ q. refl; attached = λ q. refl; begins = λ q. refl; calls = refl }
+quiet_write s r k e now (inl (a, same, work)) = quiet_by s e (event.Went s kind.Write ∷ []) same record { left = λ q. refl; next = λ q. refl; attached = λ q. refl; begins = λ q. refl; calls = refl; draws = λ q. refl }
+quiet_write s r k e now (inr (inl (a, same, work))) = quiet_by s e (event.Went s kind.Mark ∷ []) same record { left = λ q. refl; next = λ q. refl; attached = λ q. refl; begins = λ q. refl; calls = refl; draws = λ q. refl }
+quiet_write s r k e now (inr (inr (inl (a, same, work)))) = quiet_by s e (event.Commit r ∷ []) same record { left = λ q. refl; next = λ q. refl; attached = λ q. refl; begins = λ q. refl; calls = refl; draws = λ q. refl }
+quiet_write s r k e now (inr (inr (inr (item, o, same, work)))) = quiet_by s e (event.Refuse r item o ∷ []) same record { left = λ q. refl; next = λ q. refl; attached = λ q. refl; begins = λ q. refl; calls = refl; draws = λ q. refl }
 
 -- ---- the events of a step of a commit
 

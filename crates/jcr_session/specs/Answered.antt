@@ -105,7 +105,7 @@ turn_by _ = turn.Memory
 
 -- where the session stands whose commit has ended so
 abbrev pub ended_phase : CommitEnd → Phase → Phase
-ended_phase e (phase.Committing a) = phase.Committed e a
+ended_phase e (phase.Committing pledge) = phase.Committed e pledge
 ended_phase e now = now
 
 -- where the session stands in its commit, by what the step answered

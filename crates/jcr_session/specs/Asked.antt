@@ -10,6 +10,10 @@ use Rattle.jr_path.specs.declared.name.Name.{Name}
 use Rattle.jr_path.specs.declared.path.Item.{Item}
 use Rattle.jr_path.specs.declared.text.Text.{Text}
 use Rattle.jr_rev.specs.declared.revision.Revision.{Revision}
+use Rattle.jr_rev.specs.declared.vector.RevVec.{RevVec}
+use Rattle.jr_tree.specs.declared.edit.Edit.{Edit}
+use Rattle.jr_tree.specs.Edits.{IsProper, applied}
+use Rattle.jr_tree.specs.Trees.{IsTree, Nodes}
 use Rattle.jr_value.specs.declared.value.Value.{Value}
 use Rattle.oak_commit.specs.declared.outcome.CommitEnd.TheVariants as commit
 use Rattle.oak_machine.specs.Commits.{is_committed}
@@ -27,13 +31,14 @@ use Rattle.jcr_law.specs.Queries.{QueryAnswers}
 use Rattle.jcr_law.specs.State.{Call, command_at, is_ok_text}
 use Rattle.jcr_call.specs.Calls.{call_after}
 use Rattle.jcr_call.specs.Comings.{IsAcceptedOf}
-use Rattle.jcr_call.specs.declared.coming.Accepted.{Accepted}
 use Rattle.jcr_call.specs.declared.coming.Coming.{Coming}
 use Rattle.jcr_held.specs.Accepts.{TokensFit}
 use Rattle.jcr_held.specs.Comes.{ComesTo}
 use Rattle.jcr_held.specs.Holds.{Holds}
 use Rattle.jcr_held.specs.Sees.{Sees}
 use Rattle.jcr_held.specs.declared.held.Held.{Held}
+use Rattle.core_calls.specs.Alone.{IsNextAlone}
+use Rattle.jcr_session.specs.declared.commit.Pledge.{Pledge}
 use Rattle.jcr_session.specs.declared.limits.TheConstants.{COMMIT_REPLY_BYTES, MOST_COMMANDS}
 use Rattle.jcr_session.specs.declared.next.Due.TheVariants as due
 use Rattle.jcr_session.specs.declared.run.Phase.TheVariants as phase
@@ -142,13 +147,22 @@ pub record MayDrawFor (law : JcrLaw) (p : Shown) (run : SessionRun) (plan : Plan
   pub commits : due_for run ≡ due.Commit
   pub holds : Holds call run.held
   pub settled : run.held.is_kept ≡ false
-  pub accepted : Accepted
-  pub phase_is : run.phase ≡ phase.Committing accepted
-  pub accepts : IsAcceptedOf call command accepted
-  pub place : IsPlace p.room accepted
+  pub pledge : Pledge
+  pub phase_is : run.phase ≡ phase.Committing pledge
+  pub accepts : IsAcceptedOf call command pledge.accepted
+  pub place : IsPlace p.room pledge.accepted
+  pub edit_is : pledge.edit ≡ plan.edit
   pub due : edit_due call command ≡ Some (Ok plan.edit.writes)
   pub some : plan.edit.writes ≢ []
   pub ok : PlanOk call.types call.base call.state.tokens plan.edit.writes plan.marks
+
+-- behind a commit by r of the edit on the base of c, t is the tree at v: that base with the edit,
+-- where no other commit lies between
+pub record SeesCommit (c : Call) (edit : Edit) (r : Revision) (v : RevVec) (t : Nodes)
+    : Type 0 where
+  pub proper : IsProper c.base edit.writes
+  pub tree_is : IsTree t
+  pub alone : IsNextAlone c.who.base v r → t ≡ applied (Some r) c.base edit.writes
 
 -- the commit for the next command was refused for a clash of the item with o
 pub record HasClashed (law : JcrLaw) (p : Shown) (run : SessionRun) (item : Item) (o : Revision)

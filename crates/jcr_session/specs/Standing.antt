@@ -7,6 +7,8 @@ use Rattle.jr_path.specs.declared.text.Text.{Text}
 use Rattle.jr_rev.specs.declared.revision.Revision.{Revision}
 use Rattle.jr_rev.specs.declared.vector.RevVec.{RevVec}
 use Rattle.jr_rev.specs.Vectors.{sees}
+use Rattle.jr_tree.specs.declared.edit.Edit.{Edit}
+use Rattle.jr_tree.specs.Edits.{IsProper}
 use Rattle.jr_tree.specs.Trees.{IsTree, Nodes}
 use Rattle.jr_part.specs.declared.need.Need.{Need}
 use Rattle.jr_part.specs.declared.need.Need.TheVariants as need
@@ -45,6 +47,7 @@ use Rattle.core_calls.specs.Seeing.{SeesTrees}
 use Rattle.jcr_session.specs.declared.limits.TheConstants.{COMMIT_REPLY_BYTES, MOST_COMMANDS}
 use Rattle.jcr_session.specs.declared.next.Due.{Due}
 use Rattle.jcr_session.specs.declared.next.Due.TheVariants as due
+use Rattle.jcr_session.specs.declared.commit.Pledge.{Pledge}
 use Rattle.jcr_session.specs.declared.run.Phase.{Phase}
 use Rattle.jcr_session.specs.declared.run.Phase.TheVariants as phase
 use Rattle.jcr_session.specs.declared.run.SessionRun.{SessionRun}
@@ -87,7 +90,7 @@ is_between phase.Between = true
 is_between _ = false
 
 abbrev pub is_committing : Phase → Bool
-is_committing (phase.Committing a) = true
+is_committing (phase.Committing pledge) = true
 is_committing _ = false
 
 -- the session is before a command for which it may have to read
@@ -211,15 +214,22 @@ pub record IsPlace (room : Option ℕ) (accepted : Accepted) : Type 0 where
   pub told : HasRoom room COMMIT_REPLY_BYTES
   pub text : IfSome accepted.text (λ text. HasRoom room (length (string_bytes text)))
 
--- the session commits for its next command m, which is run with c and then accepted so
-pub record IsFor (p : Shown) (run : SessionRun) (c : Call) (accepted : Accepted) : Type 0 where
+-- what the session drew for its next command has this edit, on the base that is held
+abbrev pub HasDrawnFor : Shown → SessionRun → Edit → Type 0
+HasDrawnFor p run edit = (d : Draw) → draw_since p.history.past p.session ≡ Some d
+    → (d.base ≡ run.held.who.base) × (d.edit ≡ edit)
+
+-- the session commits for its next command, which is run with c, and keeps this for its reply
+pub record IsFor (p : Shown) (run : SessionRun) (c : Call) (pledge : Pledge) : Type 0 where
   pub command : Command
   pub next : slice_get run.commands run.index ≡ Some command
   pub commits : due_for run ≡ due.Commit
   pub holds : Holds c run.held
   pub settled : run.held.is_kept ≡ false
-  pub accepts : IsAcceptedOf c command accepted
-  pub place : IsPlace p.room accepted
+  pub accepts : IsAcceptedOf c command pledge.accepted
+  pub place : IsPlace p.room pledge.accepted
+  pub proper : IsProper c.base pledge.edit.writes
+  pub drew : HasDrawnFor p run pledge.edit
 
 -- ---- where it stands
 
@@ -260,20 +270,20 @@ pub record IsRefreshed (law : JcrLaw) (p : Shown) (run : SessionRun) (v : RevVec
   pub holds : Holds call run.held
 
 -- it commits for its next command
-pub record IsInCommit (law : JcrLaw) (p : Shown) (run : SessionRun) (a : Accepted) : Type 0 where
+pub record IsInCommit (law : JcrLaw) (p : Shown) (run : SessionRun) (pledge : Pledge) : Type 0 where
   pub unread : run.fetch ≡ None
   pub call : Call
   pub is : IsCalled law p call
-  pub for : IsFor p run call a
+  pub for : IsFor p run call pledge
   pub commits : IsCommitting p.history.past p.session p.work
 
 -- its commit has ended
-pub record IsAtEnd (law : JcrLaw) (p : Shown) (run : SessionRun) (e : CommitEnd) (a : Accepted)
+pub record IsAtEnd (law : JcrLaw) (p : Shown) (run : SessionRun) (e : CommitEnd) (pledge : Pledge)
     : Type 0 where
   pub idle : p.work ≡ Idle
   pub unread : run.fetch ≡ None
   pub call : Call
-  pub for : IsFor p run call a
+  pub for : IsFor p run call pledge
   pub ended : HasCommitted law p call e
 
 -- it has answered all its commands, and has left
@@ -286,8 +296,8 @@ abbrev pub StandsAt : JcrLaw → Shown → SessionRun → Phase → Type 0
 StandsAt law p run phase.Outside = IsOutside law p run
 StandsAt law p run phase.Between = IsIn law p × IsBetween law p run
 StandsAt law p run (phase.Refreshed v) = IsIn law p × IsRefreshed law p run v
-StandsAt law p run (phase.Committing a) = IsIn law p × IsInCommit law p run a
-StandsAt law p run (phase.Committed e a) = IsIn law p × IsAtEnd law p run e a
+StandsAt law p run (phase.Committing pledge) = IsIn law p × IsInCommit law p run pledge
+StandsAt law p run (phase.Committed e pledge) = IsIn law p × IsAtEnd law p run e pledge
 StandsAt law p run phase.Over = IsGone p run
 
 -- the port is the session's; its history is a run by the law, where sessions see trees, and the law
@@ -394,8 +404,8 @@ HasTurned law old new run now answer = IsTurned law old new run now answer
 
 -- from the draw of its commit until its reply
 abbrev pub is_saving : Phase → Bool
-is_saving (phase.Committing a) = true
-is_saving (phase.Committed e a) = true
+is_saving (phase.Committing pledge) = true
+is_saving (phase.Committed e pledge) = true
 is_saving _ = false
 
 -- a turn doesn't answer that memory was refused
@@ -443,5 +453,5 @@ pub record IsRefused (p : Shown) (run : SessionRun) : Type 0 where
 
 -- the session's commit has ended
 abbrev pub HasEnded : Phase → Type 0
-HasEnded (phase.Committed e a) = ⊤
+HasEnded (phase.Committed e pledge) = ⊤
 HasEnded _ = ⊥

@@ -3,6 +3,7 @@ ghost use Rattle.std.specs.Prelude.{◌≡◌, ◌≤◌, IfOk, IsTrue, Some, fa
 ghost use Rattle.jcr_call.specs.declared.coming.Coming.TheVariants as coming;
 ghost use Rattle.jcr_session.specs.Answered.{IsCommitAnswer, IsDrawAnswer, ended_phase, has_went, kind_of_end, phase_by, turn_by};
 ghost use Rattle.jcr_session.specs.Asked.{ComesNext, MayDrawFor};
+ghost use Rattle.jcr_session.specs.Nearing.{EndsSooner, StaysBehindStep, StepsOn, left_of};
 ghost use Rattle.jcr_session.specs.Standing.{HasTurned, IsGranted, IsPlace, IsPrepared, Stands, due_for, is_committing};
 ghost use Rattle.jcr_session.specs.declared.limits.TheConstants.{COMMIT_REPLY_BYTES};
 ghost use Rattle.jcr_session.specs.declared.next.Due.TheVariants as due;
@@ -16,11 +17,20 @@ use jcr_call::{Accepted, Coming};
 use jcr_held::replies_without_commit_keep_tokens;
 use jcr_law::JcrLaw;
 use jcr_plan::Plan;
+use jr_path::DeepCopy;
+use jr_tree::Edit;
 use oak_commit::CommitEnd;
 use oak_machine::StepKind;
 use oak_port::{Port, StepOut, Task, TaskEnd};
 use std::alloc::AllocError;
 use std::mem;
+
+// What a session keeps of a commit until its reply: the edit, and what is told once it is made.
+#[derive(Drop)]
+pub(crate) struct Pledge {
+    pub(crate) edit: Edit,
+    pub(crate) accepted: Accepted,
+}
 
 impl SessionRun {
     // Answers a command for which nothing is to be committed, or begins its commit.
@@ -32,6 +42,8 @@ impl SessionRun {
         ensures law { P.law port.new ≡ P.law port.old }
         ensures turned { HasTurned (P.law port.old) (P.shown port.old) (P.shown port.new)
             self.old self.new result }
+        ensures steps { StepsOn ⊥ (left_of self.old (P.shown port.old).work)
+            (left_of self.new (P.shown port.new).work) result }
     {
         replies_without_commit_keep_tokens();
         match self.come() {
@@ -53,7 +65,7 @@ impl SessionRun {
         }
     }
 
-    // Begins a commit. The place of its reply is kept before.
+    // Begins a commit. What is kept of it until its reply is made before.
     fn begin<P: Port<L = JcrLaw>>(&mut self, port: &mut P, plan: Plan, accepted: Accepted) -> Turn
         requires stands { Stands (P.law port.old) (P.shown port.old) self.old }
         requires between { self.old.phase ≡ phase.Between }
@@ -63,9 +75,31 @@ impl SessionRun {
         ensures law { P.law port.new ≡ P.law port.old }
         ensures turned { HasTurned (P.law port.old) (P.shown port.old) (P.shown port.new)
             self.old self.new result }
+        ensures steps { StepsOn ⊥ (left_of self.old (P.shown port.old).work)
+            (left_of self.new (P.shown port.new).work) result }
     {
-        let bytes = place_for(&accepted);
-        self.phase = Phase::Committing(accepted);
+        match plan.edit.copy() {
+            Ok(edit) => self.pledge(port, plan, Pledge { edit, accepted }),
+            Err(AllocError) => self.say_memory(port),
+        }
+    }
+
+    // Keeps what a commit needs until its reply, and the place of that; and draws.
+    fn pledge<P: Port<L = JcrLaw>>(&mut self, port: &mut P, plan: Plan, pledge: Pledge) -> Turn
+        requires stands { Stands (P.law port.old) (P.shown port.old) self.old }
+        requires between { self.old.phase ≡ phase.Between }
+        requires next { due_for self.old ≡ due.Commit }
+        requires ready { IsPrepared self.old }
+        requires comes { ComesNext self.old (coming.Planned plan pledge.accepted) }
+        requires copied { pledge.edit ≡ plan.edit }
+        ensures law { P.law port.new ≡ P.law port.old }
+        ensures turned { HasTurned (P.law port.old) (P.shown port.old) (P.shown port.new)
+            self.old self.new result }
+        ensures steps { StepsOn ⊥ (left_of self.old (P.shown port.old).work)
+            (left_of self.new (P.shown port.new).work) result }
+    {
+        let bytes = place_for(&pledge.accepted);
+        self.phase = Phase::Committing(pledge);
         match port.reserve_say(bytes) {
             Ok(()) => self.draw(port, plan),
             Err(AllocError) => self.say_memory(port),
@@ -78,6 +112,7 @@ impl SessionRun {
         ensures law { P.law port.new ≡ P.law port.old }
         ensures turned { HasTurned (P.law port.old) (P.shown port.old) (P.shown port.new)
             self.old self.new result }
+        ensures stays { StaysBehindStep self.old self.new result }
     {
         let Plan { edit, marks } = plan;
         match port.start(Task::Commit(edit, marks)) {
@@ -100,6 +135,10 @@ impl SessionRun {
         ensures turned { HasTurned (P.law port.old) (P.shown port.old) (P.shown port.new)
             self.old self.new result }
         ensures granted { IsGranted result }
+        ensures steps { StepsOn
+            (EndsSooner (P.lasts port.old) (P.lasts port.new) (P.shown port.old))
+            (left_of self.old (P.shown port.old).work)
+            (left_of self.new (P.shown port.new).work) result }
     {
         match port.step() {
             StepOut::Memory => {
@@ -135,8 +174,8 @@ impl SessionRun {
     {
         let kind = last_kind(&end);
         match mem::replace(&mut self.phase, Phase::Between) {
-            Phase::Committing(accepted) => {
-                self.phase = Phase::Committed(end, accepted);
+            Phase::Committing(pledge) => {
+                self.phase = Phase::Committed(end, pledge);
                 Turn::Stepped(kind)
             }
             _ => unreachable!(),

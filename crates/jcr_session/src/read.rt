@@ -1,11 +1,12 @@
 // How a session reads what its next command asks of the tree at its base.
-ghost use Rattle.std.specs.Prelude.{◌≡◌, IfOk, IfSome, IsTrue, None, OnErr, Some};
+ghost use Rattle.std.specs.Prelude.{◌≡◌, ⊤, IfOk, IfSome, IsTrue, None, OnErr, Some};
 ghost use Rattle.oak_port.specs.Ports.{Starting};
 ghost use Rattle.jcr_view.specs.Rounds.{is_of_one_node};
 ghost use Rattle.jr_part.specs.declared.need.Need.TheVariants as need;
 ghost use Rattle.jcr_session.specs.Answered.{IsListAnswer, IsLoadAnswer, listed_by, loaded_by};
 ghost use Rattle.jcr_law.specs.State.{Call};
 ghost use Rattle.jcr_held.specs.Holds.{Holds};
+ghost use Rattle.jcr_session.specs.Nearing.{EndsSooner, HasNeared, IsNearer};
 ghost use Rattle.jcr_session.specs.Standing.{HasLooked, HasRead, IsPrepared, IsReading, IsReadyNext, IsRefused, Stands, may_read};
 
 use crate::run::SessionRun;
@@ -38,8 +39,9 @@ enum Listed {
 
 impl SessionRun {
     /// Makes one step of reading the tree at the base, where one is due, and tells whether it did:
-    /// then the next command asks for more than is read. Where memory is refused, nothing is being
-    /// read any more; what was read stays.
+    /// then the next command asks for more than is read. The step begins to read a node or the
+    /// names of its children, or brings what is being read nearer. Where memory is refused, nothing
+    /// is being read any more; what was read stays.
     pub fn read<P: Port<L = JcrLaw>>(&mut self, port: &mut P) -> Result<bool, AllocError>
         requires stands { Stands (P.law port.old) (P.shown port.old) self.old }
         ensures law { P.law port.new ≡ P.law port.old }
@@ -49,6 +51,9 @@ impl SessionRun {
             self.old self.new) }
         ensures err { OnErr result (IsTrue (may_read self.old)
             × IsRefused (P.shown port.new) self.new) }
+        ensures nears { IfOk result (λ made. IsTrue made → HasNeared
+            (EndsSooner (P.lasts port.old) (P.lasts port.new) (P.shown port.old))
+            self.old.fetch self.new) }
     {
         if !self.may_read() {
             return Ok(false);
@@ -59,9 +64,10 @@ impl SessionRun {
         }
     }
 
-    // Makes all reading steps that are due, and tells whether it did. Reading a tree ends, but no
-    // clause says yet within how many steps a port answers what it reads: until one does, 2^64 - 1
-    // steps may leave some due.
+    // Makes all reading steps that are due, and tells whether it did. What is being read comes
+    // within the steps that the port tells, where nobody else steps the world; but no clause says
+    // yet how much is asked for before nothing lacks: until one does, 2^64 - 1 steps may leave some
+    // due.
     pub(crate) fn read_all<P: Port<L = JcrLaw>>(&mut self, port: &mut P) -> Result<bool, AllocError>
         requires stands { Stands (P.law port.old) (P.shown port.old) self.old }
         requires reads { IsTrue (may_read self.old) }
@@ -90,6 +96,7 @@ impl SessionRun {
         ensures read { IfOk result (HasRead (P.shown port.old) (P.shown port.new)
             self.old self.new) }
         ensures err { OnErr result (IsRefused (P.shown port.new) self.new) }
+        ensures nears { IfOk result (λ made. IsTrue made → HasNeared ⊤ None self.new) }
     {
         match self.next_load()? {
             Some(need) => self.read_first(port, need),
@@ -132,6 +139,7 @@ impl SessionRun {
             self.old self.new }
         ensures made { IfOk result IsTrue }
         ensures err { OnErr result (IsRefused (P.shown port.new) self.new) }
+        ensures nears { IfOk result (λ made. IsNearer ⊤ need self.new) }
     {
         let task = task_of(&need)?;
         port.start(task)?;
@@ -149,6 +157,8 @@ impl SessionRun {
             (record self.old { fetch = Some need }) self.new }
         ensures made { IfOk result IsTrue }
         ensures err { OnErr result (IsRefused (P.shown port.new) self.new) }
+        ensures nears { IfOk result (λ made. IsNearer
+            (EndsSooner (P.lasts port.old) (P.lasts port.new) (P.shown port.old)) need self.new) }
     {
         match need {
             Need::Node(path) => self.read_node(port, path),
@@ -172,6 +182,9 @@ impl SessionRun {
             (record self.old { fetch = Some (need.Node path) }) self.new }
         ensures made { IfOk result IsTrue }
         ensures err { OnErr result (IsRefused (P.shown port.new) self.new) }
+        ensures nears { IfOk result (λ made. IsNearer
+            (EndsSooner (P.lasts port.old) (P.lasts port.new) (P.shown port.old))
+            (need.Node path) self.new) }
     {
         match load_came(port.step()) {
             Loaded::Going => {
@@ -201,6 +214,9 @@ impl SessionRun {
             (record self.old { fetch = Some (need.Children path) }) self.new }
         ensures made { IfOk result IsTrue }
         ensures err { OnErr result (IsRefused (P.shown port.new) self.new) }
+        ensures nears { IfOk result (λ made. IsNearer
+            (EndsSooner (P.lasts port.old) (P.lasts port.new) (P.shown port.old))
+            (need.Children path) self.new) }
     {
         match list_came(port.step()) {
             Listed::Going => {

@@ -1,14 +1,15 @@
 // A session's turns: what it asks of its world, one counted step after another.
 ghost use Rattle.std.specs.Prelude.{◌≡◌, ◌≤◌, IfOk, IsTrue, IsFalse, OnOk, length};
 ghost use Rattle.jcr_session.specs.Answered.{IsLeaveAnswer, IsPinAnswer, ended_by, pinned_by};
+ghost use Rattle.jcr_session.specs.Nearing.{ComesNearer, EndsSooner, IsReply, StepsOn, left_of};
 ghost use Rattle.jcr_session.specs.Standing.{HasTurned, IsGranted, IsNew, IsPrepared, Stands, due_for, is_saving, may_read};
 ghost use Rattle.jcr_session.specs.declared.next.Due.TheVariants as due;
 ghost use Rattle.jcr_session.specs.declared.run.Phase.TheVariants as phase;
 
+use crate::commit::Pledge;
 use crate::limits::MOST_COMMANDS;
 use crate::next::Due;
 use crate::turn::Turn;
-use jcr_call::Accepted;
 use jcr_held::Held;
 use jcr_law::JcrLaw;
 use jcr_trans::{Command, vector_reply};
@@ -46,10 +47,10 @@ pub(crate) enum Phase {
     Between,
     // Its base moved to this vector for a refresh, which it has not answered yet.
     Refreshed(RevVec),
-    // It commits, and will be accepted so.
-    Committing(Accepted),
+    // It commits, and keeps this for its reply.
+    Committing(Pledge),
     // Its commit has ended so, and it has not answered yet.
-    Committed(CommitEnd, Accepted),
+    Committed(CommitEnd, Pledge),
     // It has left.
     Over,
 }
@@ -83,13 +84,17 @@ impl SessionRun {
     /// session waits or has ended. Where memory is refused for a command, that command is answered
     /// so; where it is refused for the place of a reply, or for the login or the leave, the run
     /// ends. From the draw of a commit until its reply it never ends so: a commit that is made is
-    /// answered.
+    /// answered. A step and a reply bring the session nearer to its end.
     pub fn turn<P: Port<L = JcrLaw>>(&mut self, port: &mut P) -> Turn
         requires stands { Stands (P.law port.old) (P.shown port.old) self.old }
         ensures law { P.law port.new ≡ P.law port.old }
         ensures turned { HasTurned (P.law port.old) (P.shown port.old) (P.shown port.new)
             self.old self.new result }
         ensures granted { IsTrue (is_saving self.old.phase) → IsGranted result }
+        ensures nears { ComesNearer
+            (EndsSooner (P.lasts port.old) (P.lasts port.new) (P.shown port.old))
+            (left_of self.old (P.shown port.old).work)
+            (left_of self.new (P.shown port.new).work) result }
     {
         if !self.may_read() {
             return self.counted(port);
@@ -109,6 +114,10 @@ impl SessionRun {
         ensures turned { HasTurned (P.law port.old) (P.shown port.old) (P.shown port.new)
             self.old self.new result }
         ensures granted { IsTrue (is_saving self.old.phase) → IsGranted result }
+        ensures steps { StepsOn
+            (EndsSooner (P.lasts port.old) (P.lasts port.new) (P.shown port.old))
+            (left_of self.old (P.shown port.old).work)
+            (left_of self.new (P.shown port.new).work) result }
     {
         match &self.phase {
             Phase::Outside => self.log_in(port),
@@ -130,6 +139,8 @@ impl SessionRun {
         ensures law { P.law port.new ≡ P.law port.old }
         ensures turned { HasTurned (P.law port.old) (P.shown port.old) (P.shown port.new)
             self.old self.new result }
+        ensures steps { StepsOn ⊥ (left_of self.old (P.shown port.old).work)
+            (left_of self.new (P.shown port.new).work) result }
     {
         let Ok(()) = port.start(Task::Login) else {
             return Turn::Memory;
@@ -152,6 +163,8 @@ impl SessionRun {
         ensures law { P.law port.new ≡ P.law port.old }
         ensures turned { HasTurned (P.law port.old) (P.shown port.old) (P.shown port.new)
             self.old self.new result }
+        ensures steps { StepsOn ⊥ (left_of self.old (P.shown port.old).work)
+            (left_of self.new (P.shown port.new).work) result }
     {
         match self.due() {
             Due::Leave => self.leave(port),
@@ -169,6 +182,8 @@ impl SessionRun {
         ensures law { P.law port.new ≡ P.law port.old }
         ensures turned { HasTurned (P.law port.old) (P.shown port.old) (P.shown port.new)
             self.old self.new result }
+        ensures steps { StepsOn ⊥ (left_of self.old (P.shown port.old).work)
+            (left_of self.new (P.shown port.new).work) result }
     {
         match self.due() {
             Due::Refresh => self.refresh(port),
@@ -187,6 +202,8 @@ impl SessionRun {
         ensures law { P.law port.new ≡ P.law port.old }
         ensures turned { HasTurned (P.law port.old) (P.shown port.old) (P.shown port.new)
             self.old self.new result }
+        ensures steps { StepsOn ⊥ (left_of self.old (P.shown port.old).work)
+            (left_of self.new (P.shown port.new).work) result }
     {
         let Ok(()) = port.start(Task::End) else {
             return Turn::Memory;
@@ -206,6 +223,7 @@ impl SessionRun {
         ensures law { P.law port.new ≡ P.law port.old }
         ensures turned { HasTurned (P.law port.old) (P.shown port.old) (P.shown port.new)
             self.old self.new result }
+        ensures said { IsReply result }
     {
         let text = vector_reply(self.alloc, &self.held.base());
         self.say_settled(port, text)
@@ -220,6 +238,8 @@ impl SessionRun {
         ensures law { P.law port.new ≡ P.law port.old }
         ensures turned { HasTurned (P.law port.old) (P.shown port.old) (P.shown port.new)
             self.old self.new result }
+        ensures steps { StepsOn ⊥ (left_of self.old (P.shown port.old).work)
+            (left_of self.new (P.shown port.new).work) result }
     {
         match port.start(Task::Refresh) {
             Err(AllocError) => self.say_memory(port),
@@ -241,6 +261,7 @@ impl SessionRun {
         ensures law { P.law port.new ≡ P.law port.old }
         ensures turned { HasTurned (P.law port.old) (P.shown port.old) (P.shown port.new)
             self.old self.new result }
+        ensures said { IsReply result }
     {
         let text = vector_reply(self.alloc, &vector);
         self.say_settled(port, text)

@@ -5,6 +5,7 @@ ghost use Rattle.jcr_law.specs.State.{is_ok_text};
 ghost use Rattle.jcr_trans.specs.Texts.{memory_text};
 ghost use Rattle.jcr_held.specs.Holds.{IsReady};
 ghost use Rattle.jcr_session.specs.Asked.{HasSeen, IsBarred, IsQueried, IsQueriedAs, IsUnviewedNext, MayAnswer, MayForgo, MaySettle, Settles};
+ghost use Rattle.jcr_session.specs.Nearing.{IsReply};
 ghost use Rattle.jcr_session.specs.Standing.{HasTurned, IsGranted, IsPrepared, Stands, due_by, due_for};
 ghost use Rattle.jcr_session.specs.declared.limits.TheConstants.{COMMIT_REPLY_BYTES};
 ghost use Rattle.jcr_session.specs.declared.next.Due.TheVariants as due;
@@ -32,6 +33,7 @@ impl SessionRun {
         ensures law { P.law port.new ≡ P.law port.old }
         ensures turned { HasTurned (P.law port.old) (P.shown port.old) (P.shown port.new)
             self.old self.new result }
+        ensures said { IsReply result }
     {
         let text = self.barred();
         self.say_settled(port, text)
@@ -60,6 +62,7 @@ impl SessionRun {
         ensures law { P.law port.new ≡ P.law port.old }
         ensures turned { HasTurned (P.law port.old) (P.shown port.old) (P.shown port.new)
             self.old self.new result }
+        ensures said { IsReply result }
     {
         let text = self.queried();
         self.say_settled(port, text)
@@ -98,6 +101,7 @@ impl SessionRun {
         ensures law { P.law port.new ≡ P.law port.old }
         ensures turned { HasTurned (P.law port.old) (P.shown port.old) (P.shown port.new)
             self.old self.new result }
+        ensures said { IsReply result }
     {
         match self.seen() {
             Ok(text) => self.say(port, text.as_str()),
@@ -137,6 +141,7 @@ impl SessionRun {
         ensures law { P.law port.new ≡ P.law port.old }
         ensures turned { HasTurned (P.law port.old) (P.shown port.old) (P.shown port.new)
             self.old self.new result }
+        ensures said { IsReply result }
     {
         match text {
             Ok(text) => {
@@ -153,6 +158,7 @@ impl SessionRun {
         ensures law { P.law port.new ≡ P.law port.old }
         ensures turned { HasTurned (P.law port.old) (P.shown port.old) (P.shown port.new)
             self.old self.new result }
+        ensures said { IsReply result }
     {
         self.refuse(false);
         self.say(port, MEMORY_REPLY)
@@ -166,6 +172,7 @@ impl SessionRun {
         ensures turned { HasTurned (P.law port.old) (P.shown port.old) (P.shown port.new)
             self.old self.new result }
         ensures granted { IsGranted result }
+        ensures said { IsReply result }
     {
         self.refuse(drew);
         self.say_kept(port, MEMORY_REPLY)
@@ -177,6 +184,7 @@ impl SessionRun {
         ensures law { P.law port.new ≡ P.law port.old }
         ensures turned { HasTurned (P.law port.old) (P.shown port.old) (P.shown port.new)
             self.old self.new result }
+        ensures said { IsReply result }
     {
         let Ok(()) = port.reserve_say(text.len()) else {
             return Turn::Memory;
@@ -193,6 +201,7 @@ impl SessionRun {
         ensures turned { HasTurned (P.law port.old) (P.shown port.old) (P.shown port.new)
             self.old self.new result }
         ensures granted { IsGranted result }
+        ensures said { IsReply result }
     {
         match port.reserve_say(text.len()) {
             Ok(()) => self.say_kept(port, text),
@@ -208,6 +217,7 @@ impl SessionRun {
         ensures turned { HasTurned (P.law port.old) (P.shown port.old) (P.shown port.new)
             self.old self.new result }
         ensures granted { IsGranted result }
+        ensures said { IsReply result }
     {
         let index = self.index;
         port.say(index, text);

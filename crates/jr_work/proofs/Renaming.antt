@@ -4,9 +4,9 @@ use Rattle.oak_machine.specs.declared.event.StepKind.{StepKind}
 use Rattle.oak_port.specs.Ports.{Beside, Shown}
 use Rattle.oak_commit.specs.declared.outcome.CommitEnd.{CommitEnd}
 use Rattle.oak_commit.specs.declared.outcome.CommitEnd.TheVariants as commit
-use Rattle.jcr_call.specs.declared.coming.Accepted.{Accepted}
 use Rattle.jcr_law.specs.declared.law.JcrLaw.{JcrLaw}
 use Rattle.jcr_law.specs.State.{Call}
+use Rattle.jcr_session.specs.declared.commit.Pledge.{Pledge}
 use Rattle.jcr_session.specs.declared.run.Phase.{Phase}
 use Rattle.jcr_session.specs.declared.run.Phase.TheVariants as phase
 use Rattle.jcr_session.specs.declared.run.SessionRun.{SessionRun}
@@ -27,7 +27,7 @@ module _ (law : JcrLaw) (p : Shown) (b : Beside) (d : Option StepKind) (run : Se
     unattached = i.unattached;
   }
 
-  for_renamed : (c : Call) (a : Accepted) → IsFor p run c a → IsFor q run c a
+  for_renamed : (c : Call) (a : Pledge) → IsFor p run c a → IsFor q run c a
   for_renamed c a i = record {
     command = i.command;
     next = i.next;
@@ -36,6 +36,8 @@ module _ (law : JcrLaw) (p : Shown) (b : Beside) (d : Option StepKind) (run : Se
     settled = i.settled;
     accepts = i.accepts;
     place = i.place;
+    proper = i.proper;
+    drew = i.drew;
   }
 
   committed_renamed : (c : Call) (e : CommitEnd) → HasCommitted law p c e

@@ -12,6 +12,8 @@ use Rattle.oak_machine.specs.Runs.{IsRun}
 use Rattle.oak_machine.specs.Sessions.{has_left, next_index}
 use Rattle.jcr_law.specs.declared.law.JcrLaw.{JcrLaw}
 use Rattle.jcr_law.specs.Lasting.{says_of, starts_of}
+use Rattle.core_heads.specs.Sound.{IsNodesRun}
+use Rattle.core_obeys.specs.Answering.{AnswersThroughout, NameOthers}
 use Rattle.core_obeys.specs.Obeying.{ObeysThroughout}
 use Rattle.core_obeys.specs.Product.{IsProductRun}
 use Rattle.jr_script.specs.Bounds.{IsWithin}
@@ -154,7 +156,8 @@ module _ (script : Script) (begun played replied finished : Stage) (flying : Lis
     (finishes : ClosesAll replied finished (map to_end (range_with_len 0 (length replied.seats.items))))
     (over : AreOver finished (length replied.seats.items))
     (run : IsRun (starts_of finished.world.law) (says_of finished.world.law) (live finished.world.history)) (apart : AreApart finished.world.history.past)
-    (obey : (law : JcrLaw) (h : History) → IsProductRun law h → ObeysThroughout law h) where
+    (obey : (law : JcrLaw) (h : History) → IsProductRun law h → ObeysThroughout law h)
+    (answer : (law : JcrLaw) (h : History) → IsNodesRun (starts_of law) (says_of law) h → NameOthers h.past → AnswersThroughout law h) where
   script_played : played.script ≡ script
   script_played = plays.script ∙ begins.script_is
 
@@ -252,5 +255,6 @@ module _ (script : Script) (begun played replied finished : Stage) (flying : Lis
       scheduled = scheduled;
       apart = apart;
       obeys = obey (law_of script) (live finished.world.history) product_run;
+      answers = answer (law_of script) (live finished.world.history) (record { nodes = product_run.nodes; run = run_is }) (λ r item o is. (apart.causes r item o is).another);
     };
   }

@@ -11,6 +11,7 @@ use Rattle.oak_machine.specs.History.{History, Past}
 use Rattle.oak_machine.specs.Commits.{are_clashing, is_committed, is_ended, is_in_base, refusal_of}
 use Rattle.oak_machine.specs.Runs.{IsRun}
 use Rattle.core_clash.specs.Sound.{Cause}
+use Rattle.core_obeys.specs.Answering.{AnswersThroughout}
 use Rattle.core_obeys.specs.Obeying.{ObeysThroughout}
 use Rattle.oak_world.specs.Clashes.{MeetsNone, Wanted}
 use Rattle.oak_world.specs.Worlds.{WorldOf, live}
@@ -34,7 +35,7 @@ pub record AreApart (past : Past) : Type 0 where
   pub causes : (r : Revision) (item : Item) (o : Revision) → refusal_of past r ≡ Some (item, o) → Cause past r item o
   pub complete : (r : Revision) → IsTrue (is_ended past r) → MeetsNone past r → IsTrue (is_committed past r) ⊎ Wanted past r
 
--- the history is a run of the machine by the law of the script, over its cluster nodes and its sessions, in which each command of a session is answered once, in order; the schedule cuts it; its commits are apart; and at each time it obeyed the types, the locks and the references
+-- the history is a run of the machine by the law of the script, over its cluster nodes and its sessions, in which each command of a session is answered once, in order; the schedule cuts it; its commits are apart; at each time it obeyed the types, the locks and the references; and each reply had its reason
 pub record FollowsScript (script : Script) (h : History) : Type 0 where
   pub clusters : h.clusters ≡ script.clusters
   pub sessions : h.sessions ≡ map (λ s. s.cluster) script.sessions
@@ -43,6 +44,7 @@ pub record FollowsScript (script : Script) (h : History) : Type 0 where
   pub scheduled : Scheduled script h
   pub apart : AreApart h.past
   pub obeys : ObeysThroughout (law_of script) h
+  pub answers : AnswersThroughout (law_of script) h
 
 -- the script was run to its end: the world is of its law, and what its journal tells follows the script
 pub record HasRun (script : Script) (w : WorldOf JcrLaw) : Type 0 where

@@ -7,7 +7,7 @@ ghost use Rattle.jr_work.specs.Runs.{HasRun};
 ghost use Rattle.jr_work.specs.Stages.{AreOver, ClosesAll, IsStage};
 
 use crate::stage::Stage;
-use core_obeys::the_product_obeys_throughout;
+use core_obeys::{the_product_answers_throughout, the_product_obeys_throughout};
 use jcr_law::JcrLaw;
 use jr_script::Script;
 use oak_world::World;
@@ -17,7 +17,9 @@ use std::alloc::{AllocError, Global};
 /// sessions in order, each to its end. It answers the world with which the script ended: its law, its cluster nodes and its sessions
 /// are the script's, its journal is a run of the machine by that law in which each command is answered once and in order,
 /// the schedule cuts the journal, no two commits clash unseen, each refusal names its cause, what clashes with no other is made or
-/// wanted memory, and at each time the tree of all commits met the built-in node types, its locks and its references.
+/// wanted memory, at each time the tree of all commits met the node types of the script, its locks and, where identifiers stood
+/// once, its references, and each reply had its reason: what was planned and clashed with no other commit outside its base was
+/// accepted, but for want of memory and a stop of its cluster node.
 pub fn run_steps(alloc: Global, script: Script) -> Result<World<JcrLaw>, AllocError>
     requires { IsWithin script }
     ensures { IfOk result (HasRun script) }
@@ -29,6 +31,7 @@ pub fn run_steps(alloc: Global, script: Script) -> Result<World<JcrLaw>, AllocEr
     stage.finish_all()?;
     stage.world.journal();
     the_product_obeys_throughout();
+    the_product_answers_throughout();
     let Stage { world, .. } = stage;
     Ok(world)
 }

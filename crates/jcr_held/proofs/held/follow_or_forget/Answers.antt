@@ -4,8 +4,8 @@ use Rattle.jr_tree.specs.Edits.{applied}
 use Rattle.jr_part.specs.Parts.{AgreesWith, Knowledge}
 use Rattle.jcr_held.proofs.held.follow_or_forget.Goals as goal
 
-pub returns-in_default : goal.returns-in_default
-returns-in_default c = record {
+pub returns : goal.returns
+returns c = record {
   whole = λ is. absurd (false≢true is);
   nothing = λ is. c.new.ensures;
   agrees = λ t tree proper agrees.

@@ -1,4 +1,4 @@
-use Rattle.std.proofs.Common.{Some, refl, subst, sym}
+use Rattle.std.proofs.Common.{Some, subst, sym}
 use Rattle.std.proofs.lemmas.Bool.{false≢true}
 use Rattle.jr_tree.specs.Edits.{applied}
 use Rattle.jr_part.specs.Parts.{AgreesWith, Knowledge}

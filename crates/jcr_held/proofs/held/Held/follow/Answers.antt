@@ -9,7 +9,7 @@ use Rattle.jcr_held.proofs.held.Held.follow.Goals as goal
 pub returns-clause-holds : goal.returns-clause-holds
 returns-clause-holds c = λ d h settled proper.
     let tree = (view_settled d c.args.self.now settled h).0.tree in
-    let after = proper_tree (Some c.args.by) d.base c.args.edit.now.writes tree proper in
+    let after = proper_tree (Some c.args.by) d.base c.args.edit.now.writes proper in
     holds_alike (call_moved d c.args.base (applied (Some c.args.by) d.base c.args.edit.now.writes)) (record (moved_to c.args.self.now c.args.base) { part = c.follow.new.part }) _ (record {
       types = refl;
       who = refl;

@@ -1,55 +1,14 @@
-use Rattle.std.proofs.Common.{Some, refl, subst, sym, ap, ◌∙◌}
-use Rattle.std.specs.Prelude.{Option, ℕ}
-use Rattle.jcr_session.specs.Standing.{IsPlace}
-use Rattle.jcr_session.specs.declared.run.Phase.TheVariants as phase
-use Rattle.jcr_session.proofs.Calling.{draws_law, forgo_behind, turned_idle}
-use Rattle.jcr_session.proofs.Drawing.{planned_draws, planned_forgoes}
-use Rattle.jcr_session.proofs.Lawful.{idle_by}
-use Rattle.jcr_session.proofs.Saying.{turned_like}
-use Rattle.jcr_session.proofs.Waiting.{by_waits}
+use Rattle.std.proofs.Common.{refl}
+use Rattle.jcr_session.specs.declared.next.Due.TheVariants as due
+use Rattle.jcr_session.proofs.Lawful.{between_forgoes}
+use Rattle.jcr_session.proofs.Nexts.{next_due}
+use Rattle.jcr_session.proofs.Nearer.{reply_steps}
 use Rattle.jcr_session.proofs.run.SessionRun.begin.Goals as goal
 
--- its place is kept
-pub draw-requires : goal.draw-requires
-draw-requires g c =
-    let mid = g.P.Port.shown c.reserve_say.new.self in
-    let waits = c.in-Ok.ensures.ok in
-    record {
-      draws = draws_law (g.P.Port.law c.args.port.now) (g.P.Port.law c.reserve_say.new.self) c.in-Ok.ensures.law mid (record c.args.self.now { phase = phase.Committing c.args.accepted }) c.args.plan
-          (planned_draws (g.P.Port.law c.args.port.now) (g.P.Port.shown c.args.port.now) c.args.self.now c.requires.stands c.requires.between c.requires.ready c.requires.next c.args.plan c.args.accepted c.requires.comes mid
-          (by_waits (g.P.Port.law c.args.port.now) (g.P.Port.shown c.args.port.now) mid (g.P.Port.shown c.args.port.now).work (Some c.place_for-bytes.result) waits) (waits.work_is ∙ idle_by (g.P.Port.law c.args.port.now) (g.P.Port.shown c.args.port.now) c.args.self.now c.requires.stands c.requires.between c.requires.ready.done)
-          (subst (λ (room : Option ℕ). IsPlace room c.args.accepted) (sym waits.room_is) c.place_for-bytes.ensures.place));
-    }
-
-pub returns-in-Ok-clause-turned : goal.returns-in-Ok-clause-turned
-returns-in-Ok-clause-turned g c =
-    let mid = g.P.Port.shown c.reserve_say.new.self in
-    let waits = c.in-Ok.ensures.ok in
-    let planned = record c.args.self.now { phase = phase.Committing c.args.accepted } in
-    turned_like (g.P.Port.law c.args.port.now) (g.P.Port.shown c.args.port.now) (g.P.Port.shown c.draw.new.port) c.args.self.now planned c.draw.new.self c.draw.result refl refl refl
-    (turned_idle (g.P.Port.law c.args.port.now) (g.P.Port.law c.reserve_say.new.self) c.in-Ok.ensures.law (g.P.Port.shown c.args.port.now) mid (by_waits (g.P.Port.law c.args.port.now) (g.P.Port.shown c.args.port.now) mid (g.P.Port.shown c.args.port.now).work (Some c.place_for-bytes.result) waits)
-    (waits.work_is ∙ idle_by (g.P.Port.law c.args.port.now) (g.P.Port.shown c.args.port.now) c.args.self.now c.requires.stands c.requires.between c.requires.ready.done) planned Rattle.std.proofs.Common.false
-    (planned_forgoes (g.P.Port.law c.args.port.now) (g.P.Port.shown c.args.port.now) c.args.self.now c.requires.stands c.requires.between c.requires.ready c.requires.next c.args.plan c.args.accepted c.requires.comes)
-    (g.P.Port.shown c.draw.new.port) c.draw.new.self c.draw.result c.draw.ensures.turned)
-
--- it isn't
 pub say_memory-requires : goal.say_memory-requires
 say_memory-requires g c =
-    let mid = g.P.Port.shown c.reserve_say.new.self in
-    let waits = c.in-Err.ensures.err in
-    record {
-      forgoes = forgo_behind (g.P.Port.law c.args.port.now) (g.P.Port.law c.reserve_say.new.self) c.in-Err.ensures.law (g.P.Port.shown c.args.port.now) mid (by_waits (g.P.Port.law c.args.port.now) (g.P.Port.shown c.args.port.now) mid (g.P.Port.shown c.args.port.now).work (g.P.Port.shown c.args.port.now).room waits)
-          (waits.work_is ∙ idle_by (g.P.Port.law c.args.port.now) (g.P.Port.shown c.args.port.now) c.args.self.now c.requires.stands c.requires.between c.requires.ready.done) (record c.args.self.now { phase = phase.Committing c.args.accepted }) Rattle.std.proofs.Common.false
-          (planned_forgoes (g.P.Port.law c.args.port.now) (g.P.Port.shown c.args.port.now) c.args.self.now c.requires.stands c.requires.between c.requires.ready c.requires.next c.args.plan c.args.accepted c.requires.comes);
-    }
+    let m = next_due c.args.self.now due.Commit c.requires.next refl in
+    record { forgoes = between_forgoes (g.P.Port.law c.args.port.now) (g.P.Port.shown c.args.port.now) c.args.self.now c.requires.stands c.requires.between m.0 m.1 c.requires.ready.done }
 
-pub returns-in-Err-clause-turned : goal.returns-in-Err-clause-turned
-returns-in-Err-clause-turned g c =
-    let mid = g.P.Port.shown c.reserve_say.new.self in
-    let waits = c.in-Err.ensures.err in
-    let planned = record c.args.self.now { phase = phase.Committing c.args.accepted } in
-    turned_like (g.P.Port.law c.args.port.now) (g.P.Port.shown c.args.port.now) (g.P.Port.shown c.say_memory.new.port) c.args.self.now planned c.say_memory.new.self c.say_memory.result refl refl refl
-    (turned_idle (g.P.Port.law c.args.port.now) (g.P.Port.law c.reserve_say.new.self) c.in-Err.ensures.law (g.P.Port.shown c.args.port.now) mid (by_waits (g.P.Port.law c.args.port.now) (g.P.Port.shown c.args.port.now) mid (g.P.Port.shown c.args.port.now).work (g.P.Port.shown c.args.port.now).room waits)
-    (waits.work_is ∙ idle_by (g.P.Port.law c.args.port.now) (g.P.Port.shown c.args.port.now) c.args.self.now c.requires.stands c.requires.between c.requires.ready.done) planned Rattle.std.proofs.Common.false
-    (planned_forgoes (g.P.Port.law c.args.port.now) (g.P.Port.shown c.args.port.now) c.args.self.now c.requires.stands c.requires.between c.requires.ready c.requires.next c.args.plan c.args.accepted c.requires.comes)
-    (g.P.Port.shown c.say_memory.new.port) c.say_memory.new.self c.say_memory.result c.say_memory.ensures.turned)
+pub returns-in-Err-clause-steps : goal.returns-in-Err-clause-steps
+returns-in-Err-clause-steps g c = reply_steps _ _ _ c.say_memory.result c.say_memory.ensures.said

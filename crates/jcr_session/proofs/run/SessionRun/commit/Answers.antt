@@ -4,6 +4,7 @@ use Rattle.jcr_session.specs.Asked.{ComesNext}
 use Rattle.jcr_session.proofs.Lawful.{between_forgoes, commit_settles}
 use Rattle.jcr_session.proofs.Nexts.{next_due}
 use Rattle.jcr_session.specs.declared.next.Due.TheVariants as due
+use Rattle.jcr_session.proofs.Nearer.{reply_steps}
 use Rattle.jcr_session.proofs.run.SessionRun.commit.Goals as goal
 
 pub come-requires : goal.come-requires
@@ -21,3 +22,9 @@ pub say_memory-requires : goal.say_memory-requires
 say_memory-requires g c =
     let m = next_due c.args.self.now due.Commit c.requires.next refl in
     record { forgoes = between_forgoes (g.P.Port.law c.args.port.now) (g.P.Port.shown c.args.port.now) c.args.self.now c.requires.stands c.requires.between m.0 m.1 c.requires.ready.done }
+
+pub returns-in-Ok-Said-clause-steps : goal.returns-in-Ok-Said-clause-steps
+returns-in-Ok-Said-clause-steps g c = reply_steps _ _ _ c.say_settled.result c.say_settled.ensures.said
+
+pub returns-in-Err-clause-steps : goal.returns-in-Err-clause-steps
+returns-in-Err-clause-steps g c = reply_steps _ _ _ c.say_memory.result c.say_memory.ensures.said

@@ -2,6 +2,8 @@ use Rattle.std.proofs.Common.{◌∙◌}
 use Rattle.jcr_law.specs.Lasting.{says_of, starts_of}
 use Rattle.jcr_session.proofs.Coming.{commit_comes, commits_by, memory_once}
 use Rattle.jcr_session.proofs.Stepping.{commit_again, commit_busy, commit_once, memory_first, refused_busy, refused_stands}
+use Rattle.jcr_session.proofs.Nearer.{once_nearer, twice_nearer}
+use Rattle.jcr_session.specs.Nearing.{EndsSooner}
 use Rattle.jcr_session.proofs.run.SessionRun.commit_on.Goals as goal
 
 pub step-requires : goal.step-requires
@@ -40,3 +42,19 @@ pub committed_on-requires-in_default-clause-answer : goal.committed_on-requires-
 committed_on-requires-in_default-clause-answer g c =
     let a = commits_by c.args.self.now.phase c.requires.commits in
     commit_comes (g.P.Port.law c.args.port.now) (g.P.Port.shown c.args.port.now) c.args.self.now a.0 c.requires.stands a.1 (g.P.Port.shown c.step.new.self) (starts_of (g.P.Port.law c.args.port.now)) (says_of (g.P.Port.law c.args.port.now)) c.step.result c.step.ensures.steps c.in_default.not-Memory
+
+-- it comes nearer
+pub returns-in-Memory-clause-steps : goal.returns-in-Memory-clause-steps
+returns-in-Memory-clause-steps g c =
+    let a = commits_by c.args.self.now.phase c.requires.commits in
+    let law = g.P.Port.law c.args.port.now in
+    let later = g.P.Port.law c.step.new.self in
+    twice_nearer law (g.P.Port.shown c.args.port.now) (g.P.Port.shown c.step-answer.new.self) c.args.self.now c.committed_on.new.self a.0 c.requires.stands a.1 (EndsSooner (g.P.Port.lasts c.args.port.now) (g.P.Port.lasts c.step-answer.new.self) (g.P.Port.shown c.args.port.now))
+    (starts_of law) (starts_of later) (says_of law) (says_of later) (g.P.Port.shown c.step.new.self) c.step.result c.step-answer.result c.committed_on.result c.in-Memory.is c.step.ensures.steps c.step-answer.ensures.steps c.committed_on.ensures.run c.committed_on.ensures.turn
+
+pub returns-in_default-clause-steps : goal.returns-in_default-clause-steps
+returns-in_default-clause-steps g c =
+    let a = commits_by c.args.self.now.phase c.requires.commits in
+    let law = g.P.Port.law c.args.port.now in
+    once_nearer law (g.P.Port.shown c.args.port.now) (g.P.Port.shown c.step.new.self) c.args.self.now c.committed_on-in_default.new.self a.0 c.requires.stands a.1 (starts_of law) (says_of law) (g.P.Port.lasts c.args.port.now) (g.P.Port.lasts c.step.new.self)
+    c.step.result c.committed_on-in_default.result c.step.ensures.steps c.step.ensures.lowers c.committed_on-in_default.ensures.run c.committed_on-in_default.ensures.turn

@@ -2,6 +2,7 @@ use Rattle.std.proofs.Common.{subst, sym, ap}
 use Rattle.jcr_session.specs.declared.run.Phase.{Phase}
 use Rattle.jcr_session.specs.Standing.{HasEnded, is_committing}
 use Rattle.jcr_session.proofs.Looking.{over_ends}
+use Rattle.jcr_session.proofs.Nearer.{reply_steps, steps_sooner}
 use Rattle.jcr_session.proofs.run.SessionRun.counted.Goals as goal
 
 pub log_in-requires-clause-outside : goal.log_in-requires-clause-outside
@@ -19,3 +20,15 @@ say_end-requires-clause-ended g c = subst (λ (f : Phase). HasEnded f) (sym c.in
 -- it has left
 pub returns-in-Over-clause-turned : goal.returns-in-Over-clause-turned
 returns-in-Over-clause-turned g c = over_ends (g.P.Port.law c.args.port.now) (g.P.Port.shown c.args.port.now) c.args.self.now c.requires.stands c.in-Over.is
+
+pub returns-in-Outside-clause-steps : goal.returns-in-Outside-clause-steps
+returns-in-Outside-clause-steps g c = steps_sooner _ _ _ c.log_in.result c.log_in.ensures.steps
+
+pub returns-in-Between-clause-steps : goal.returns-in-Between-clause-steps
+returns-in-Between-clause-steps g c = steps_sooner _ _ _ c.rest.result c.rest.ensures.steps
+
+pub returns-in-Refreshed-clause-steps : goal.returns-in-Refreshed-clause-steps
+returns-in-Refreshed-clause-steps g c = reply_steps _ _ _ c.say_vector.result c.say_vector.ensures.said
+
+pub returns-in-Committed-clause-steps : goal.returns-in-Committed-clause-steps
+returns-in-Committed-clause-steps g c = reply_steps _ _ _ c.say_end.result c.say_end.ensures.said

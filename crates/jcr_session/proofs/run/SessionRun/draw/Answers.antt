@@ -8,6 +8,7 @@ use Rattle.jcr_session.proofs.Calling.{busy_by, forgo_behind, steps_law, turned_
 use Rattle.jcr_session.proofs.Coming.{draw_comes, undrawn_is, went_is}
 use Rattle.jcr_session.proofs.Drawing.{draw_begins, draw_forgoes, draw_turns, draw_stops}
 use Rattle.jcr_session.proofs.Waiting.{by_waits}
+use Rattle.jcr_session.proofs.Nearer.{reply_stays}
 use Rattle.jcr_session.proofs.run.SessionRun.draw.Goals as goal
 
 pub start-requires-clause-may : goal.start-requires-clause-may
@@ -70,3 +71,9 @@ pub returns-in-Err-clause-turned : goal.returns-in-Err-clause-turned
 returns-in-Err-clause-turned g c =
     turned_idle (g.P.Port.law c.args.port.now) (g.P.Port.law c.start.new.self) c.in-Err.ensures.law (g.P.Port.shown c.args.port.now) (g.P.Port.shown c.start.new.self) (by_waits (g.P.Port.law c.args.port.now) (g.P.Port.shown c.args.port.now) (g.P.Port.shown c.start.new.self) Idle (g.P.Port.shown c.args.port.now).room c.in-Err.ensures.err) c.in-Err.ensures.err.work_is c.args.self.now false (draw_forgoes (g.P.Port.law c.args.port.now) (g.P.Port.shown c.args.port.now) c.args.self.now c.args.plan c.requires.draws)
     (g.P.Port.shown c.forgo-in-Err.new.port) c.forgo-in-Err.new.self c.forgo-in-Err.result c.forgo-in-Err.ensures.turned
+
+pub returns-else-has_went-clause-stays : goal.returns-else-has_went-clause-stays
+returns-else-has_went-clause-stays g c = reply_stays _ _ c.forgo.result c.forgo.ensures.said
+
+pub returns-in-Err-clause-stays : goal.returns-in-Err-clause-stays
+returns-in-Err-clause-stays g c = reply_stays _ _ c.forgo-in-Err.result c.forgo-in-Err.ensures.said

@@ -1,5 +1,6 @@
 use Rattle.std.proofs.Common.{sym}
 use Rattle.jcr_session.proofs.Nexts.{reads_between}
+use Rattle.jcr_session.proofs.Nearer.{reply_steps}
 use Rattle.jcr_session.proofs.run.SessionRun.go_on.Goals as goal
 
 pub refresh-requires-clause-next : goal.refresh-requires-clause-next
@@ -25,3 +26,9 @@ see-requires-clause-next g c = sym c.in-See.ensures
 
 pub see-requires-clause-between : goal.see-requires-clause-between
 see-requires-clause-between g c = reads_between c.args.self.now c.requires.reads
+
+pub returns-in-Query-clause-steps : goal.returns-in-Query-clause-steps
+returns-in-Query-clause-steps g c = reply_steps _ _ _ c.query.result c.query.ensures.said
+
+pub returns-in-See-clause-steps : goal.returns-in-See-clause-steps
+returns-in-See-clause-steps g c = reply_steps _ _ _ c.see.result c.see.ensures.said

@@ -1,4 +1,4 @@
-use Rattle.std.proofs.Common.{refl, sym, ap, subst, ◌∙◌}
+use Rattle.std.proofs.Common.{refl, sym, ap, subst, ◌∙◌, ◌<◌, arith}
 use Rattle.oak_port.specs.Ports.{Steps}
 use Rattle.oak_port.specs.declared.task.StepOut.{StepOut}
 use Rattle.oak_port.specs.declared.task.Task.TheVariants as task
@@ -8,6 +8,9 @@ use Rattle.jcr_session.proofs.Calling.{busy_by, steps_law}
 use Rattle.jcr_session.proofs.Coming.{ended_is, leave_comes}
 use Rattle.jcr_session.proofs.Lawful.{idle_by, unread_by}
 use Rattle.jcr_session.proofs.Starting.{leave_begins, left}
+use Rattle.jcr_session.proofs.Nearer.{further}
+use Rattle.oak_machine.specs.declared.event.StepKind.TheVariants as kind
+use Rattle.jcr_session.specs.declared.run.Phase.TheVariants as phase
 use Rattle.jcr_session.proofs.run.SessionRun.leave.Goals as goal
 
 pub start-requires-clause-idle : goal.start-requires-clause-idle
@@ -38,3 +41,7 @@ pub has_ended-requires : goal.has_ended-requires
 has_ended-requires g c =
     let law = g.P.Port.law c.start.new.self in
     leave_comes (starts_of law) (says_of law) (g.P.Port.shown c.start.new.self) (g.P.Port.shown c.step.new.self) c.step.result c.step.ensures.steps c.in-Ok.ensures.ok.work_is
+
+pub returns-clause-steps : goal.returns-clause-steps
+returns-clause-steps g c =
+    further c.args.self.now (record c.args.self.now { phase = phase.Over }) (g.P.Port.shown c.args.port.now).work (g.P.Port.shown c.step.new.self).work kind.End phase.Between c.requires.between refl refl (let lt : 0 < 7 = omega arith in lt)

@@ -1,4 +1,4 @@
-use Rattle.std.proofs.Common.{refl, sym, subst, ◌∙◌}
+use Rattle.std.proofs.Common.{refl, sym, subst, ◌∙◌, ◌<◌, arith}
 use Rattle.oak_port.specs.Ports.{Steps}
 use Rattle.oak_port.specs.declared.task.StepOut.{StepOut}
 use Rattle.oak_port.specs.declared.task.Task.TheVariants as task
@@ -6,6 +6,9 @@ use Rattle.jcr_law.specs.Lasting.{says_of, starts_of}
 use Rattle.jcr_session.proofs.Calling.{busy_by, steps_law}
 use Rattle.jcr_session.proofs.Coming.{login_comes, pinned_is}
 use Rattle.jcr_session.proofs.Living.{logged_in, outside_begins, outside_idle}
+use Rattle.jcr_session.proofs.Nearer.{further}
+use Rattle.oak_machine.specs.declared.event.StepKind.TheVariants as kind
+use Rattle.jcr_session.specs.declared.run.Phase.TheVariants as phase
 use Rattle.jcr_session.proofs.run.SessionRun.log_in.Goals as goal
 
 pub start-requires-clause-idle : goal.start-requires-clause-idle
@@ -37,3 +40,7 @@ pub pinned-requires : goal.pinned-requires
 pinned-requires g c =
     let law = g.P.Port.law c.start.new.self in
     login_comes (starts_of law) (says_of law) (g.P.Port.shown c.start.new.self) (g.P.Port.shown c.step.new.self) c.step.result c.step.ensures.steps c.in-Ok.ensures.ok.work_is
+
+pub returns-in-Some-clause-steps : goal.returns-in-Some-clause-steps
+returns-in-Some-clause-steps g c =
+    further c.args.self.now (record c.args.self.now { held = c.move_to.new.self; phase = phase.Between }) (g.P.Port.shown c.args.port.now).work (g.P.Port.shown c.step.new.self).work kind.Login phase.Outside c.requires.outside refl refl (let lt : 7 < 8 = omega arith in lt)

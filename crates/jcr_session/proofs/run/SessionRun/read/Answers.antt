@@ -1,7 +1,9 @@
-use Rattle.std.proofs.Common.{Option, subst, sym, ◌∙◌}
+use Rattle.std.proofs.Common.{◌≡◌, Option, IfOk, true, subst, sym, ◌∙◌}
 use Rattle.jr_part.specs.declared.need.Need.{Need}
 use Rattle.jcr_session.specs.Standing.{HasLooked, HasRead, Stands}
 use Rattle.jcr_session.proofs.Loads.{err_with, read_made}
+use Rattle.jcr_session.specs.Nearing.{EndsSooner, HasNeared}
+use Rattle.jcr_session.proofs.Calling.{made_if}
 use Rattle.jcr_session.proofs.run.SessionRun.read.Goals as goal
 
 -- what is being read is known to be so
@@ -26,3 +28,14 @@ returns-in-None-clause-looked g c =
 pub returns-in-None-clause-read : goal.returns-in-None-clause-read
 returns-in-None-clause-read g c =
     subst (λ (o : Option Need). Rattle.std.specs.Result.IfOk c.read_next.result (HasRead (g.P.Port.shown c.args.port.now) (g.P.Port.shown c.read_next.new.port) (record c.args.self.now { fetch = o }) c.read_next.new.self)) (c.in-None.ensures.after ∙ c.in-None.ensures.value) c.read_next.ensures.read
+
+-- what was being read comes nearer, or something begins to be read
+pub returns-in-Some-clause-nears : goal.returns-in-Some-clause-nears
+returns-in-Some-clause-nears g c =
+    subst (λ (o : Option Need). IfOk c.read_on.result (λ made. made ≡ true → HasNeared (EndsSooner (g.P.Port.lasts c.args.port.now) (g.P.Port.lasts c.read_on.new.port) (g.P.Port.shown c.args.port.now)) o c.read_on.new.self)) c.in-Some.ensures.value
+    (made_if c.read_on.result _ _ (λ made near is. near) c.read_on.ensures.nears)
+
+pub returns-in-None-clause-nears : goal.returns-in-None-clause-nears
+returns-in-None-clause-nears g c =
+    subst (λ (o : Option Need). IfOk c.read_next.result (λ made. made ≡ true → HasNeared (EndsSooner (g.P.Port.lasts c.args.port.now) (g.P.Port.lasts c.read_next.new.port) (g.P.Port.shown c.args.port.now)) o c.read_next.new.self)) c.in-None.ensures.value
+    c.read_next.ensures.nears

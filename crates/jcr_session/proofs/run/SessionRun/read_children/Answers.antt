@@ -1,7 +1,11 @@
-use Rattle.std.proofs.Common.{sym, subst, ◌∙◌}
+use Rattle.std.proofs.Common.{◌≡◌, inl, inr, true, refl, sym, subst, ◌∙◌}
 use Rattle.jcr_session.proofs.Loads.{list_going, names_found, names_refused, names_rise}
 use Rattle.jcr_held.specs.Holds.{Holds}
 use Rattle.jcr_held.specs.declared.held.Held.{Held}
+use Rattle.jcr_law.specs.Lasting.{says_of, starts_of}
+use Rattle.jcr_session.proofs.Nearing.{children_put, list_sooner}
+use Rattle.jr_part.specs.Parts.{knows}
+use Rattle.jr_part.specs.declared.need.Need.TheVariants as need
 use Rattle.jcr_session.proofs.run.SessionRun.read_children.Goals as goal
 
 pub put_children-requires : goal.put_children-requires
@@ -22,3 +26,13 @@ pub returns-in_ok-put_children-in-Names-clause-looked : goal.returns-in_ok-put_c
 returns-in_ok-put_children-in-Names-clause-looked g c =
     (names_found (g.P.Port.law c.args.port.now) (g.P.Port.shown c.args.port.now) (g.P.Port.shown c.step.new.self) c.args.self.now c.args.path c.requires.stands c.requires.reads c.requires.none c.step.result c.step.ensures.steps c.in-Names.names c.put_children.new.self (sym c.list_came.ensures ∙ c.in-Names.is)
     (λ x holds is. c.in_ok-put_children-in-Names.ensures.holds x holds is)).0
+
+-- it comes nearer
+pub returns-in-Going-clause-nears : goal.returns-in-Going-clause-nears
+returns-in-Going-clause-nears g c =
+    let law = g.P.Port.law c.args.port.now in
+    inr (refl, list_sooner (starts_of law) (says_of law) (g.P.Port.shown c.args.port.now) (g.P.Port.shown c.step.new.self) c.step.result c.step.ensures.steps (g.P.Port.lasts c.args.port.now) (g.P.Port.lasts c.step.new.self) c.step.ensures.lowers (sym c.list_came.ensures ∙ c.in-Going.is))
+
+pub returns-in_ok-put_children-in-Names-clause-nears : goal.returns-in_ok-put_children-in-Names-clause-nears
+returns-in_ok-put_children-in-Names-clause-nears g c =
+    inl (c.requires.none, subst (λ (h : Held). knows h.part (need.Children c.args.path) ≡ true) (sym c.in_ok-put_children-in-Names.ensures.ok) (children_put c.args.self.now.held.part c.args.path c.in-Names.names))

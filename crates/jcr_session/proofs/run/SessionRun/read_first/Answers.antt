@@ -1,6 +1,8 @@
 use Rattle.jcr_session.proofs.Calling.{stands_law}
 use Rattle.jcr_session.proofs.Loads.{begun_looked, unbegun_looked}
 use Rattle.jcr_session.proofs.Looking.{looked_both}
+use Rattle.jcr_session.proofs.Calling.{made_if}
+use Rattle.jcr_session.proofs.Nearing.{begun_nearer}
 use Rattle.jcr_session.proofs.run.SessionRun.read_first.Goals as goal
 
 pub returns-in_err-start-clause-looked : goal.returns-in_err-start-clause-looked
@@ -15,3 +17,6 @@ pub returns-clause-looked : goal.returns-clause-looked
 returns-clause-looked g c =
     looked_both (g.P.Port.law c.args.port.now) (g.P.Port.law c.start.new.self) (g.P.Port.shown c.args.port.now) (g.P.Port.shown c.start.new.self) (g.P.Port.shown c.read_on.new.port) c.args.self.now _ c.read_on.new.self c.in_ok-start.ensures.law c.requires.stands.nodes
     (begun_looked (g.P.Port.law c.args.port.now) (g.P.Port.shown c.args.port.now) c.args.self.now c.requires.stands c.requires.reads (g.P.Port.shown c.start.new.self) c.in_ok-task.task c.args.need c.in_ok-start.ensures.ok c.in_ok-task.ensures) c.read_on.ensures.looked
+
+pub returns-clause-nears : goal.returns-clause-nears
+returns-clause-nears g c = made_if c.read_on.result _ _ (λ made near. begun_nearer _ c.args.need c.read_on.new.self near) c.read_on.ensures.nears

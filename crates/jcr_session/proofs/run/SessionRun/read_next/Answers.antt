@@ -1,6 +1,8 @@
 use Rattle.std.proofs.Common.{refl}
+use mathlib.Core.Bool.{false≢true}
 use Rattle.jcr_session.proofs.Loads.{held_looked, read_none, read_made}
 use Rattle.jcr_session.proofs.Looking.{looked_both}
+use Rattle.jcr_session.proofs.Calling.{made_if}
 use Rattle.jcr_session.proofs.run.SessionRun.read_next.Goals as goal
 
 pub returns-in_err-need-clause-looked : goal.returns-in_err-need-clause-looked
@@ -23,3 +25,9 @@ returns-in-Some-clause-looked g c =
 
 pub returns-in-Some-clause-read : goal.returns-in-Some-clause-read
 returns-in-Some-clause-read g c = read_made c.read_first.result (g.P.Port.shown c.args.port.now) (g.P.Port.shown c.read_first.new.port) c.args.self.now c.read_first.new.self c.requires.reads c.read_first.ensures.made
+
+pub returns-in-Some-clause-nears : goal.returns-in-Some-clause-nears
+returns-in-Some-clause-nears g c = made_if c.read_first.result _ _ (λ made near is. (c.in-Some.need, near)) c.read_first.ensures.nears
+
+pub returns-in-None-clause-nears : goal.returns-in-None-clause-nears
+returns-in-None-clause-nears g c = λ made. absurd (false≢true made)

@@ -1,4 +1,4 @@
-use Rattle.std.proofs.Common.{refl, sym, false, subst, ◌∙◌}
+use Rattle.std.proofs.Common.{refl, sym, false, subst, ◌∙◌, ◌<◌, arith}
 use Rattle.oak_port.specs.Ports.{Idle, Steps}
 use Rattle.oak_port.specs.declared.task.StepOut.{StepOut}
 use Rattle.oak_port.specs.declared.task.Task.TheVariants as task
@@ -10,6 +10,9 @@ use Rattle.jcr_session.proofs.Lawful.{at_between, between_forgoes, idle_by}
 use Rattle.jcr_session.proofs.Nexts.{next_due}
 use Rattle.jcr_session.proofs.Starting.{moves_base, refresh_begins, refresh_stops}
 use Rattle.jcr_session.proofs.Waiting.{by_waits}
+use Rattle.jcr_session.proofs.Nearer.{further, reply_steps}
+use Rattle.oak_machine.specs.declared.event.StepKind.TheVariants as kind
+use Rattle.jcr_session.specs.declared.run.Phase.TheVariants as phase
 use Rattle.jcr_session.proofs.run.SessionRun.refresh.Goals as goal
 
 pub start-requires-clause-idle : goal.start-requires-clause-idle
@@ -76,3 +79,14 @@ returns-in-None-clause-turned g c =
     (unpinned_is c.step.result (refresh_comes (starts_of law) (says_of law) mid new c.step.result c.step.ensures.steps c.in-Ok.ensures.ok.work_is) (sym c.in-None.ensures)) in
     turned_idle (g.P.Port.law c.args.port.now) (g.P.Port.law c.step.new.self) (c.step.ensures.law ∙ c.in-Ok.ensures.law) (g.P.Port.shown c.args.port.now) new stops.0 stops.1 c.args.self.now false (between_forgoes (g.P.Port.law c.args.port.now) (g.P.Port.shown c.args.port.now) c.args.self.now c.requires.stands c.requires.between m.0 m.1 c.requires.ready.done)
     (g.P.Port.shown c.say_memory-in-None.new.port) c.say_memory-in-None.new.self c.say_memory-in-None.result c.say_memory-in-None.ensures.turned
+
+-- it comes nearer
+pub returns-in-Some-clause-steps : goal.returns-in-Some-clause-steps
+returns-in-Some-clause-steps g c =
+    further c.args.self.now (record c.args.self.now { held = c.move_to.new.self; phase = phase.Refreshed c.in-Some.pin.base }) (g.P.Port.shown c.args.port.now).work (g.P.Port.shown c.step.new.self).work kind.Pin phase.Between c.requires.between refl refl (let lt : 2 < 7 = omega arith in lt)
+
+pub returns-in-Err-clause-steps : goal.returns-in-Err-clause-steps
+returns-in-Err-clause-steps g c = reply_steps _ _ _ c.say_memory.result c.say_memory.ensures.said
+
+pub returns-in-None-clause-steps : goal.returns-in-None-clause-steps
+returns-in-None-clause-steps g c = reply_steps _ _ _ c.say_memory-in-None.result c.say_memory-in-None.ensures.said

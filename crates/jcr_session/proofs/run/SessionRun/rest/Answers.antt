@@ -1,4 +1,5 @@
 use Rattle.std.proofs.Common.{sym}
+use Rattle.jcr_session.proofs.Nearer.{reply_steps}
 use Rattle.jcr_session.proofs.run.SessionRun.rest.Goals as goal
 
 pub leave-requires-clause-next : goal.leave-requires-clause-next
@@ -9,3 +10,9 @@ bar-requires-clause-next g c = sym c.in-Bar.ensures
 
 pub show_base-requires-clause-next : goal.show_base-requires-clause-next
 show_base-requires-clause-next g c = sym c.in-ShowBase.ensures
+
+pub returns-in-Bar-clause-steps : goal.returns-in-Bar-clause-steps
+returns-in-Bar-clause-steps g c = reply_steps _ _ _ c.bar.result c.bar.ensures.said
+
+pub returns-in-ShowBase-clause-steps : goal.returns-in-ShowBase-clause-steps
+returns-in-ShowBase-clause-steps g c = reply_steps _ _ _ c.show_base.result c.show_base.ensures.said

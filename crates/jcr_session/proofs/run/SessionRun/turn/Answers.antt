@@ -1,8 +1,10 @@
-use Rattle.std.proofs.Common.{false, sym, ◌∙◌}
+use Rattle.std.proofs.Common.{false, sym, ◌∙◌, refl, subst}
 use Rattle.jcr_session.proofs.Calling.{forgo_law, stands_law, turned_law}
 use Rattle.jcr_session.proofs.Lawful.{idle_by}
 use Rattle.jcr_session.proofs.Looking.{looked_reads, refused_forgoes, turned_behind}
 use Rattle.jcr_session.proofs.Nexts.{reads_between, reads_unsaving}
+use Rattle.jcr_session.proofs.Nearer.{left_looked, reply_steps, steps_sooner, turn_nearer}
+use Rattle.jcr_session.specs.Nearing.{EndsSooner, Left, StepsOn, left_of}
 use Rattle.jcr_session.proofs.run.SessionRun.turn.Goals as goal
 
 pub go_on-requires-clause-stands : goal.go_on-requires-clause-stands
@@ -47,3 +49,27 @@ returns-in-Ok-false-clause-granted g c = λ saving. reads_unsaving c.args.self.n
 
 pub returns-in-Err-clause-granted : goal.returns-in-Err-clause-granted
 returns-in-Err-clause-granted g c = λ saving. reads_unsaving c.args.self.now (sym c.may_read.ensures ∙ c.if-not-may_read.false) saving
+
+-- it comes nearer
+pub returns-then-not-may_read-clause-nears : goal.returns-then-not-may_read-clause-nears
+returns-then-not-may_read-clause-nears g c =
+    turn_nearer (g.P.Port.law c.args.port.now) (g.P.Port.shown c.args.port.now) (g.P.Port.shown c.counted.new.port) c.args.self.now c.counted.new.self (EndsSooner (g.P.Port.lasts c.args.port.now) (g.P.Port.lasts c.counted.new.port) (g.P.Port.shown c.args.port.now))
+    (left_of c.args.self.now (g.P.Port.shown c.args.port.now).work) (left_of c.counted.new.self (g.P.Port.shown c.counted.new.port).work) (g.P.Port.shown c.args.port.now).work (g.P.Port.shown c.counted.new.port).work c.counted.result c.requires.stands c.counted.ensures.turned refl refl c.counted.ensures.steps
+
+pub returns-in-Ok-true-clause-nears : goal.returns-in-Ok-true-clause-nears
+returns-in-Ok-true-clause-nears g c =
+    let sooner = EndsSooner (g.P.Port.lasts c.args.port.now) (g.P.Port.lasts c.go_on.new.port) (g.P.Port.shown c.args.port.now) in
+    let before = left_of c.args.self.now (g.P.Port.shown c.args.port.now).work in
+    let later = left_of c.go_on.new.self (g.P.Port.shown c.go_on.new.port).work in
+    turn_nearer (g.P.Port.law c.args.port.now) (g.P.Port.shown c.args.port.now) (g.P.Port.shown c.go_on.new.port) c.args.self.now c.go_on.new.self sooner before later (g.P.Port.shown c.args.port.now).work (g.P.Port.shown c.go_on.new.port).work c.go_on.result c.requires.stands (returns-in-Ok-true-clause-turned g c) refl refl
+    (steps_sooner sooner before later c.go_on.result
+    (subst (λ (x : Left). StepsOn ⊥ x later c.go_on.result)
+    (left_looked c.args.self.now c.read_all.new.self (g.P.Port.shown c.args.port.now).work (g.P.Port.shown c.read_all.new.port).work c.read_all.ensures.looked.same (reads_between c.args.self.now (sym c.may_read.ensures ∙ c.if-not-may_read.false))) c.go_on.ensures.steps))
+
+pub returns-in-Err-clause-nears : goal.returns-in-Err-clause-nears
+returns-in-Err-clause-nears g c =
+    let sooner = EndsSooner (g.P.Port.lasts c.args.port.now) (g.P.Port.lasts c.say_memory.new.port) (g.P.Port.shown c.args.port.now) in
+    let before = left_of c.args.self.now (g.P.Port.shown c.args.port.now).work in
+    let later = left_of c.say_memory.new.self (g.P.Port.shown c.say_memory.new.port).work in
+    turn_nearer (g.P.Port.law c.args.port.now) (g.P.Port.shown c.args.port.now) (g.P.Port.shown c.say_memory.new.port) c.args.self.now c.say_memory.new.self sooner before later (g.P.Port.shown c.args.port.now).work (g.P.Port.shown c.say_memory.new.port).work c.say_memory.result c.requires.stands (returns-in-Err-clause-turned g c) refl refl
+    (reply_steps sooner before later c.say_memory.result c.say_memory.ensures.said)

@@ -1,7 +1,0 @@
-use Rattle.std.proofs.Common.{◌≡◌, reverse, take}
-use Rattle.jcr_law.specs.Since.{came}
-use Rattle.jcr_eval.specs.Shown.{shows_sweep}
-use Rattle.jcr_eval.proofs.came.has_sweep.Given as goal
-
-abbrev pub invariant-loop-at : goal.invariant-loop-at
-invariant-loop-at l = l.shown ≡ came l.session (λ earlier e. shows_sweep l.cluster l.least l.text e) (reverse (take l.at l.events))

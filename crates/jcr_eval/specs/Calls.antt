@@ -1,9 +1,0 @@
--- What a command is run with, but for the types.
-use Rattle.std.specs.Prelude.{List}
-use Rattle.jr_types.specs.declared.TypeDef.{TypeDef}
-use Rattle.jcr_law.specs.State.{Call}
-use Rattle.jcr_eval.specs.declared.call.Call.{Call as Lent}
-
--- with the types
-abbrev pub called : List TypeDef → Lent → Call
-called types c = record { types = types; who = c.who; base = c.base; state = c.state }

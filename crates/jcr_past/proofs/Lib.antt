@@ -1,0 +1,3 @@
+mod States
+pub mod Known
+pub mod NoFloat

@@ -1,0 +1,46 @@
+// What the events of a journal say of the draw of a command, and of the stop of a cluster node.
+ghost use Rattle.std.specs.Prelude.{◌≡◌, reverse};
+ghost use Rattle.std.specs.Option.{option_copied};
+ghost use Rattle.jcr_law.specs.Since.{draw_since, stop_position};
+
+use oak_machine::{Draw, Event};
+
+/// The draw that a session made for the command that it has not answered yet (Oak, Commits).
+#[tactic(auto, using(oak_machine::proofs::Forward::past_more))]
+pub fn draw_since(events: &[Event], session: u32) -> Option<&Draw>
+    ensures { option_copied result ≡ draw_since (reverse events.now) session }
+{
+    let mut drawn = None;
+    for event in events {
+        match event {
+            Event::Login(s, _) | Event::Said(s, _, _) => {
+                if *s == session {
+                    drawn = None;
+                }
+            }
+            Event::Draw(draw) => {
+                if draw.session == session {
+                    drawn = Some(draw);
+                }
+            }
+            _ => {}
+        }
+    }
+    drawn
+}
+
+/// The position in the journal, from 0 on, at which a cluster node was stopped.
+#[tactic(auto, using(oak_machine::proofs::Forward::past_more))]
+pub fn stop_position(events: &[Event], cluster: u32) -> Option<usize>
+    ensures { result ≡ stop_position (reverse events.now) cluster }
+{
+    let mut position = None;
+    for at in 0..events.len() {
+        if let Event::Stop(of) = &events[at] {
+            if *of == cluster {
+                position = Some(at);
+            }
+        }
+    }
+    position
+}
