@@ -24,9 +24,9 @@ prefix_get (y ∷ xs) [] p x h e = absurd (cc)
 prefix_get (y ∷ xs) (z ∷ zs) zero x h e = let head : y ≡ z = cc in subst (λ w. Some w ≡ Some x) head e
 prefix_get (y ∷ xs) (z ∷ zs) (suc p) x h e = let rest : xs ++ h.0 ≡ zs = cc in prefix_get xs zs p x (h.0, rest) e
 
-module _ {T E P F : Type 0} (law : Ghosts T E P F) where
+module _ {T E P F S : Type 0} (law : Ghosts T E P F S) where
   abbrev V : Type 0
-  V = View T E P F
+  V = View T E P F S
 
   -- what is at home is settled
   settled_at_home : (ok : T → Type 0) (homes : List (Option (std.Option T))) (p : Round T) → HomeFits law ok p homes → (x : T) → homes ≡ some (Some x) ∷ [] → ok x
@@ -42,15 +42,15 @@ module _ {T E P F : Type 0} (law : Ghosts T E P F) where
   out_where_away ok homes (Out y) home away = (y, refl, home.1)
   out_where_away ok homes Added home away = absurd (cc (home.1, away))
 
-  module _ (s : LockState T E P F) (r : Kept law s) where
+  module _ (s : LockState T E P F S) (r : Kept law s) where
     turn : turn_of s ≡ turn_word r.phase
     turn = ap (λ ws. slice_index ws 0) r.words
 
     count : length r.events ≡ slice_index s.words 1
     count = sym (ap (λ ws. slice_index ws 1) r.words)
 
-    settled : (x : T) → IsAtHome s x → Settled law r.events r.parts r.common_frame x
-    settled x at = settled_at_home (Settled law r.events r.parts r.common_frame) s.homes r.phase r.home x at
+    settled : (x : T) → IsAtHome s x → Settled law r.events r.parts r.common_frame r.steady x
+    settled x at = settled_at_home (Settled law r.events r.parts r.common_frame r.steady) s.homes r.phase r.home x at
 
     live_weight : (by : ℕ) (v : V) → At s by v → (IsSpent v → ⊥) → 1 ≤ v.weight
     live_weight by v at live = dite (ℕ_discrete v.weight 0) (λ none. absurd (live ((r.each by v at).knows.spent_is none))) (λ some. omega arith)
@@ -59,7 +59,7 @@ module _ {T E P F : Type 0} (law : Ghosts T E P F) where
     phase_is : (by : ℕ) (v : V) → At s by v → v.round ≢ Idle → r.phase ≡ v.round
     phase_is by v at busy = sym ((r.each by v at).here (is_holder law s r by v at busy))
 
-    loaded_phase : (by : ℕ) (v : V) (x : T) → At s by v → v.round ≡ Out x → HomeFits law (Settled law r.events r.parts r.common_frame) (Out x) s.homes
+    loaded_phase : (by : ℕ) (v : V) (x : T) → At s by v → v.round ≡ Out x → HomeFits law (Settled law r.events r.parts r.common_frame r.steady) (Out x) s.homes
     loaded_phase by v x at out = home_at law s r (Out x) (phase_is by v at (busy_not_idle v.round (ap turn_word out)) ∙ out)
 
     pub clauses_of : Clauses law s
@@ -112,7 +112,7 @@ module _ {T E P F : Type 0} (law : Ghosts T E P F) where
       parts_at_home = λ by v a q x at has home. (settled x home).parts_are a ∙ sym ((r.each by v at).knows.parts_are a q has).0;
       parts_got = λ by v a q x at has out. (loaded_phase by v x at out).1.parts_are a ∙ sym ((r.each by v at).knows.parts_are a q has).0;
       holder_where_away = λ away.
-          let out = out_where_away (Settled law r.events r.parts r.common_frame) s.homes r.phase r.home away in
+          let out = out_where_away (Settled law r.events r.parts r.common_frame r.steady) s.homes r.phase r.home away in
           let p = r.present (ap turn_word out.1) in
           let fit = r.each r.holder p.0 p.1 in
           let loaded : p.0.round ≡ Out out.0 = fit.here refl ∙ out.1 in (

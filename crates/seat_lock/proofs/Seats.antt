@@ -14,12 +14,12 @@ use Rattle.seat_lock.proofs.Lists.{prefix_length, contains_retold_too}
 use Rattle.seat_lock.proofs.Places.{in_order_raised}
 use Rattle.seat_lock.proofs.Steps.{adds}
 
-module _ {T E P F : Type 0} (law : Ghosts T E P F) where
+module _ {T E P F S : Type 0} (law : Ghosts T E P F S) where
   abbrev V : Type 0
-  V = View T E P F
+  V = View T E P F S
 
   abbrev M : Type 0
-  M = LockMe T E P F
+  M = LockMe T E P F S
 
   -- what a pass keeps of its seat
   pub record Stands (m : M) : Type 0 where
@@ -74,13 +74,14 @@ module _ {T E P F : Type 0} (law : Ghosts T E P F) where
   -- the new events are counted from the seat as it stands once the value is back in its slot
   pub adds_back : (slots id n before : ℕ) (m m1 : M) (v x : T) → Stands m → m.0.round ≡ Out v → m1 ≡ (m.0, (0, Some x) ∷ rest m.1)
       → IsPrefix (law.journal v) (law.journal x) → law.frame x ≡ law.frame v → ((a : ℕ) → (((q : P) × OwnsPart m.0 a q) → ⊥) → law.part x a ≡ law.part v a)
+      → (law.journal x ≡ law.journal v → law.steady x ≡ law.steady v)
       → before ≡ length (law.journal v) → n ≡ length (law.journal x) → n < 2 ^ 64
       → Allows (Kept law) slots id m1 1 (λ k. (k + (n - before)) % 2 ^ 64) (Adds law (step slots 1 (n - before) 0 none) m1)
-  adds_back slots id n before m m1 v x old out put longer frame others was is fits =
+  adds_back slots id n before m m1 v x old out put longer frame others steady was is fits =
       let none_left : rest m.1 ≡ [] = ap rest (old.slots_fit ∙ ap slots_of out) in
       let there : m1 ≡ (m.0, (0, Some x) ∷ []) = put ∙ ap (λ (l : List (ℕ × std.Option T)). (m.0, (0, Some x) ∷ l)) none_left in
       let grown : length (law.journal v) + length longer.0 ≡ length (law.journal x) = sym (length-append (law.journal v) longer.0) ∙ ap length longer.1 in
       let more : length (law.journal x) ≡ length (law.journal v) + (n - before) = omega arith in
       let few : length (law.journal x) < 2 ^ 64 = omega arith in
       subst (λ (y : M). Allows (Kept law) slots id y 1 (λ k. (k + (n - before)) % 2 ^ 64) (Adds law (step slots 1 (n - before) 0 none) y)) (sym there)
-      (adds law slots id (n - before) m.0 v x out longer frame others more few)
+      (adds law slots id (n - before) m.0 v x out longer frame others steady more few)

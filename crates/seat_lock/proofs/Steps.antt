@@ -1,5 +1,5 @@
 -- Each kind of step keeps the rule of the lock.
-use Rattle.std.proofs.Common.{Bool, true, false, not, cond, nat_lt, ◌&&◌, length-set, ◌+◌, ◌-◌, ◌%◌, ◌^◌, ◌⊎◌, inl, inr, slice_index, ◌≡◌, ◌≢◌, ℕ, zero, suc, ◌<◌, ◌≤◌, ◌==◌, List, [], ◌∷◌, length, set, refl, sym, ap, ◌∙◌, subst, ⊎_elim, arith, Contains}
+use Rattle.std.proofs.Common.{Bool, true, false, not, cond, nat_lt, ◌&&◌, length-set, ◌+◌, ◌-◌, ◌%◌, ◌^◌, ◌⊎◌, inl, inr, slice_index, nat_le, ◌≡◌, ◌≢◌, ℕ, zero, suc, ◌<◌, ◌≤◌, ◌==◌, List, [], ◌∷◌, length, set, refl, sym, ap, ◌∙◌, subst, ⊎_elim, arith, Contains}
 use Rattle.std.specs.List.{range_with_len, list_any}
 use Rattle.std.specs.declared.option.Option as std
 use Rattle.std.specs.declared.option.Option.TheVariants.{Some}
@@ -17,7 +17,7 @@ use Rattle.seat_lock.specs.declared.counted.Counted.{Ghosts}
 use Rattle.seat_lock.specs.declared.rule.Round.{Round}
 use Rattle.seat_lock.specs.declared.rule.Round.TheVariants.{Idle, Turn, Out, Added}
 use Rattle.seat_lock.specs.declared.rule.View.{View}
-use Rattle.seat_lock.specs.Views.{OwnsPart, InOrder, is_one_of, longer, shorter, spent_view, with_round, first_view, loaded, added, kept_back, handed, joined}
+use Rattle.seat_lock.specs.Views.{OwnsPart, InOrder, is_one_of, longer, of_longer, shorter, spent_view, with_round, first_view, loaded, added, kept_back, handed, joined}
 use Rattle.seat_lock.specs.Rule.{total, turn_word, LockState, LockMe, Settled, HomeFits, Knows, Fits, Kept, TakesTurn, Loads, Adds, GivesTurn, Looks}
 use Rattle.seat_lock.proofs.Lists.{each_set, set_at, Somewhere, somewhere_set, somewhere_longer, same_total, total_set, total_end, total_two, at_end, within, prefix_same, prefix_trans, prefix_length, prefix_whole, Longer, longer_is, contains_none, contains_filter, contains_told, contains_retold}
 use Rattle.seat_lock.proofs.Places.{in_order_raised, in_order_within, in_order_extended, in_order_merged, contains_range, contains_merged}
@@ -46,15 +46,15 @@ moved_to picks n id owner a = cond (picks a && (owner a == id)) n (owner a)
 stays_with : (picks : ℕ → Bool) (n id : ℕ) (owner : ℕ → ℕ) (a : ℕ) → owner a ≢ id → moved_to picks n id owner a ≡ owner a
 stays_with picks n id owner a not = let miss : (owner a == id) ≡ false = grind (arith, nat_tests) in rw (miss, and_false) refl
 
-module _ {T E P F : Type 0} (law : Ghosts T E P F) where
+module _ {T E P F S : Type 0} (law : Ghosts T E P F S) where
   abbrev V : Type 0
-  V = View T E P F
+  V = View T E P F S
 
   abbrev St : Type 0
-  St = LockState T E P F
+  St = LockState T E P F S
 
   abbrev M : Type 0
-  M = LockMe T E P F
+  M = LockMe T E P F S
 
   abbrev Rule : St → Type 0
   Rule = Kept law
@@ -74,28 +74,29 @@ module _ {T E P F : Type 0} (law : Ghosts T E P F) where
   words_at : (s : St) (r : Rule s) (p : Round T) → r.phase ≡ p → s.words ≡ turn_word p ∷ length r.events ∷ []
   words_at s r p is = r.words ∙ ap (λ q. turn_word q ∷ length r.events ∷ []) is
 
-  pub home_at : (s : St) (r : Rule s) (p : Round T) → r.phase ≡ p → HomeFits law (Settled law r.events r.parts r.common_frame) p s.homes
-  home_at s r p is = subst (λ q. HomeFits law (Settled law r.events r.parts r.common_frame) q s.homes) is r.home
+  pub home_at : (s : St) (r : Rule s) (p : Round T) → r.phase ≡ p → HomeFits law (Settled law r.events r.parts r.common_frame r.steady) p s.homes
+  home_at s r p is = subst (λ q. HomeFits law (Settled law r.events r.parts r.common_frame r.steady) q s.homes) is r.home
 
   -- the rule after a step in which one view changes, and the events do not
   moved : (s : St) (r : Rule s) (i n id : ℕ) (c : List (ℕ × std.Option T)) (w : V) (a : Act (std.Option T))
       → set s.words i n ≡ turn_word w.round ∷ length r.events ∷ []
-      → HomeFits law (Settled law r.events r.parts r.common_frame) w.round (homes_after s.homes c a)
+      → HomeFits law (Settled law r.events r.parts r.common_frame r.steady) w.round (homes_after s.homes c a)
       → ((j : ℕ) (u : V) → j ≢ id → get_elem? s.views j ≡ some u → u.round ≡ Idle)
       → (v : V) → get_elem? s.views id ≡ some v → w.weight ≡ v.weight → (v.seen ≡ r.events → w.seen ≡ r.events)
-      → Knows law r.events r.parts r.common_frame r.owner r.placed id w
+      → Knows law r.events r.parts r.common_frame r.steady r.owner r.placed id w
       → Rule (stepped s i n id c w a)
   moved s r i n id c w a words home others v at weight seen knows = record {
     events = r.events;
     parts = r.parts;
     common_frame = r.common_frame;
+    steady = r.steady;
     owner = r.owner;
     placed = r.placed;
     holder = id;
     phase = w.round;
     words = words;
     home = home;
-    each = each_set (Fits law r.events r.parts r.common_frame r.owner r.placed id w.round) s.views id w
+    each = each_set (Fits law r.events r.parts r.common_frame r.steady r.owner r.placed id w.round) s.views id w
         (λ j u apart e. record { here = λ is. absurd (apart is); elsewhere = λ _. others j u apart e; knows = (r.each j u e).knows })
         (record { here = λ _. refl; elsewhere = λ not. absurd (not refl); knows = knows });
     weights = same_total (λ u. u.weight) s.views id v w at weight ∙ r.weights;
@@ -109,6 +110,7 @@ module _ {T E P F : Type 0} (law : Ghosts T E P F) where
     events = r.events;
     parts = r.parts;
     common_frame = r.common_frame;
+    steady = r.steady;
     owner = r.owner;
     placed = r.placed;
     holder = r.holder;
@@ -145,7 +147,7 @@ module _ {T E P F : Type 0} (law : Ghosts T E P F) where
         keeps,
         tt,
         moved s r 0 1 id m.1 w keeps (ap (λ ws. set ws 0 1) (words_at s r Idle is)) (home_at s r Idle is) (idle_others s r id (inl is)) m.0 at refl (λ seen. seen)
-            (record { spent_is = λ none. absurd (omega arith); frame_is = k.frame_is; seen_is = k.seen_is; out_is = λ x e. absurd (cc); earlier_is = k.earlier_is; parts_are = k.parts_are; in_order = k.in_order; places_are = k.places_are }),
+            (record { spent_is = λ none. absurd (omega arith); frame_is = k.frame_is; seen_is = k.seen_is; steady_is = k.steady_is; out_is = λ x e. absurd (cc); earlier_is = k.earlier_is; parts_are = k.parts_are; in_order = k.in_order; places_are = k.places_are }),
         record { got = λ _. (idle, refl); missed = λ not. absurd (not refl); slots = refl },
       )
   tries_at slots id m heavy s r at Turn is = tries_busy slots id m s r at (ap turn_word is)
@@ -181,6 +183,7 @@ module _ {T E P F : Type 0} (law : Ghosts T E P F) where
               spent_is = λ none. absurd (busy (ap (λ v. v.round) (k.spent_is none)));
               frame_is = k.frame_is;
               seen_is = subst (λ l. IsPrefix l r.events) (sym ok.journal_is) (prefix_same r.events);
+              steady_is = λ _ _. ap Some ok.steady_is;
               out_is = λ y (e : Out x ≡ Out y). let same : x ≡ y = cc in ap (λ z. law.journal z) same;
               earlier_is = prefix_trans m.0.earlier m.0.seen (law.journal x) k.earlier_is more;
               parts_are = k.parts_are;
@@ -196,6 +199,7 @@ module _ {T E P F : Type 0} (law : Ghosts T E P F) where
             longer = more;
             count = ap length ok.journal_is;
             frame_is = λ some. k.frame_is some ∙ ap Some (sym ok.frame_is);
+            steady_is = λ some all. k.steady_is some (all ∙ ok.journal_is) ∙ ap Some (sym ok.steady_is);
             parts_are = λ b q has. ok.parts_are b ∙ sym (k.parts_are b q has).0;
           },
         ),
@@ -203,9 +207,10 @@ module _ {T E P F : Type 0} (law : Ghosts T E P F) where
 
   -- kinds 4 and 5: the value is home, and the new events are counted
   pub adds : (slots id k : ℕ) (m : V) (v x : T) → m.round ≡ Out v → IsPrefix (law.journal v) (law.journal x) → law.frame x ≡ law.frame v → ((a : ℕ) → (((q : P) × OwnsPart m a q) → ⊥) → law.part x a ≡ law.part v a)
+      → (law.journal x ≡ law.journal v → law.steady x ≡ law.steady v)
       → length (law.journal x) ≡ length (law.journal v) + k → length (law.journal x) < 2 ^ 64
       → Allows Rule slots id (m, (0, Some x) ∷ []) 1 (λ n. (n + k) % 2 ^ 64) (Adds law (step slots 1 k 0 none) (m, (0, Some x) ∷ []))
-  adds slots id k m v x out longer same_frame others more fits s r _ at _ =
+  adds slots id k m v x out longer same_frame others same_steady more fits s r _ at _ =
       let fit = r.each id m at in
       let known = fit.knows in
       let busy : m.round ≡ Idle → ⊥ = busy_not_idle m.round (ap turn_word out) in
@@ -232,13 +237,14 @@ module _ {T E P F : Type 0} (law : Ghosts T E P F) where
           events = law.journal x;
           parts = law.part x;
           common_frame = r.common_frame;
+          steady = law.steady x;
           owner = r.owner;
           placed = placed;
           holder = id;
           phase = Added;
           words = ap (λ ws. set ws 1 ((length r.events + k) % 2 ^ 64)) words ∙ ap (λ n. 1 ∷ n ∷ []) sum;
-          home = (x, ap (λ hs. set hs 0 (some (Some x))) home.0, record { journal_is = refl; parts_are = λ b. refl; frame_is = same_frame ∙ ok.frame_is });
-          each = each_set (Fits law (law.journal x) (law.part x) r.common_frame r.owner placed id Added) s.views id w
+          home = (x, ap (λ hs. set hs 0 (some (Some x))) home.0, record { journal_is = refl; parts_are = λ b. refl; frame_is = same_frame ∙ ok.frame_is; steady_is = refl });
+          each = each_set (Fits law (law.journal x) (law.part x) r.common_frame (law.steady x) r.owner placed id Added) s.views id w
               (λ j u apart e. let o = (r.each j u e).knows in record {
                 here = λ same. absurd (apart same);
                 elsewhere = λ _. idle_others s r id (inr mine) j u apart e;
@@ -246,6 +252,12 @@ module _ {T E P F : Type 0} (law : Ghosts T E P F) where
                   spent_is = o.spent_is;
                   frame_is = o.frame_is;
                   seen_is = prefix_trans u.seen r.events (law.journal x) o.seen_is goes_on;
+                  steady_is = λ some all.
+                      let short = prefix_length u.seen r.events o.seen_is in
+                      let long = prefix_length r.events (law.journal x) goes_on in
+                      let size = ap length all in
+                      let none_new : r.events ≡ law.journal x = prefix_whole r.events (law.journal x) goes_on (omega arith) in
+                      o.steady_is some (all ∙ sym none_new) ∙ ap Some (sym ok.steady_is ∙ sym (same_steady (sym none_new ∙ sym ok.journal_is)));
                   out_is = o.out_is;
                   earlier_is = o.earlier_is;
                   parts_are = λ b q has. let own = o.parts_are b q has in (own.0 ∙ sym (ok.parts_are b) ∙ sym (others b (λ n. apart (sym own.1 ∙ (known.parts_are b n.0 n.1).1))), own.1);
@@ -264,6 +276,7 @@ module _ {T E P F : Type 0} (law : Ghosts T E P F) where
                   spent_is = λ none. absurd (busy (ap (λ u. u.round) (known.spent_is none)));
                   frame_is = known.frame_is;
                   seen_is = prefix_same (law.journal x);
+                  steady_is = λ _ _. refl;
                   out_is = λ y e. absurd (cc);
                   earlier_is = prefix_trans m.earlier m.seen (law.journal x) known.earlier_is (prefix_trans m.seen r.events (law.journal x) known.seen_is goes_on);
                   parts_are = λ b q has. let t = contains_retold (law.part x) m.parts b q has in (t.0, (known.parts_are b t.1.0 t.1.1).1);
@@ -299,7 +312,7 @@ module _ {T E P F : Type 0} (law : Ghosts T E P F) where
         keeps,
         tt,
         moved s r 0 0 id m.1 w keeps (ap (λ ws. set ws 0 0) (words_at s r Added is)) (home_at s r Added is) (idle_others s r id (inr mine)) m.0 at refl (λ seen. seen)
-            (record { spent_is = λ none. absurd (busy (ap (λ v. v.round) (k.spent_is none))); frame_is = k.frame_is; seen_is = k.seen_is; out_is = λ x e. absurd (cc); earlier_is = k.earlier_is; parts_are = k.parts_are; in_order = k.in_order; places_are = k.places_are }),
+            (record { spent_is = λ none. absurd (busy (ap (λ v. v.round) (k.spent_is none))); frame_is = k.frame_is; seen_is = k.seen_is; steady_is = k.steady_is; out_is = λ x e. absurd (cc); earlier_is = k.earlier_is; parts_are = k.parts_are; in_order = k.in_order; places_are = k.places_are }),
         record { had_added = counted; view = refl; slots = refl },
       )
 
@@ -326,7 +339,7 @@ module _ {T E P F : Type 0} (law : Ghosts T E P F) where
       let vs : List V = set s.views id left in
       let n : ℕ = length vs in
       let owner : ℕ → ℕ = moved_to (is_one_of names) n id r.owner in
-      let Q : ℕ → V → Type 0 = Fits law r.events r.parts r.common_frame owner r.placed r.holder r.phase in
+      let Q : ℕ → V → Type 0 = Fits law r.events r.parts r.common_frame r.steady owner r.placed r.holder r.phase in
       let size : n ≡ length s.views = length-set s.views id left in
       let fit_left : Q id left = record {
         here = fit.here;
@@ -335,6 +348,7 @@ module _ {T E P F : Type 0} (law : Ghosts T E P F) where
           spent_is = λ none. absurd (omega arith);
           frame_is = λ some. k.frame_is (omega arith);
           seen_is = k.seen_is;
+          steady_is = λ some. k.steady_is (omega arith);
           out_is = k.out_is;
           earlier_is = k.earlier_is;
           parts_are = λ b q has.
@@ -353,6 +367,7 @@ module _ {T E P F : Type 0} (law : Ghosts T E P F) where
           spent_is = λ none. absurd (omega arith);
           frame_is = λ _. k.frame_is (omega arith);
           seen_is = k.seen_is;
+          steady_is = λ _. k.steady_is (omega arith);
           out_is = λ x e. absurd (cc);
           earlier_is = (m.seen, refl);
           parts_are = λ b q has.
@@ -369,6 +384,7 @@ module _ {T E P F : Type 0} (law : Ghosts T E P F) where
         events = r.events;
         parts = r.parts;
         common_frame = r.common_frame;
+        steady = r.steady;
         owner = owner;
         placed = r.placed;
         holder = r.holder;
@@ -384,6 +400,7 @@ module _ {T E P F : Type 0} (law : Ghosts T E P F) where
                 spent_is = o.knows.spent_is;
                 frame_is = o.knows.frame_is;
                 seen_is = o.knows.seen_is;
+                steady_is = o.knows.steady_is;
                 out_is = o.knows.out_is;
                 earlier_is = o.knows.earlier_is;
                 parts_are = λ b q has. let own = o.knows.parts_are b q has in (own.0, stays_with (is_one_of names) n id r.owner b (λ is. apart (sym own.1 ∙ is)) ∙ own.1);
@@ -417,9 +434,17 @@ module _ {T E P F : Type 0} (law : Ghosts T E P F) where
       (λ (is : ys ≡ events). let size = prefix_length ys (longer xs ys) l.second in let same = ap length is in omega arith)
       which)
 
+  -- what it last saw then of what changes only where the journal grows
+  joined_steady : (events xs ys : List E) (a b c : std.Option S) → (xs ≡ events → a ≡ c) → (ys ≡ events → b ≡ c) → longer xs ys ≡ events → of_longer xs ys a b ≡ c
+  joined_steady events xs ys a b c first second = by (nat_le (length ys) (length xs))
+    where
+      by : (long : Bool) → cond long xs ys ≡ events → cond long a b ≡ c
+      by true is = first is
+      by false is = second is
+
   -- kind 8: a view takes in another
-  pub joins : (id : ℕ) (m : V) (other : ℕ) (w : V) → 0 < m.weight → w.round ≡ Idle → Joins Rule id m other w (joined m w) spent_view
-  joins id m other w alive idle s r at apart there =
+  pub joins : (id : ℕ) (m : V) (other : ℕ) (w : V) → 0 < m.weight → 0 < w.weight → w.round ≡ Idle → Joins Rule id m other w (joined m w) spent_view
+  joins id m other w alive lives idle s r at apart there =
       let both : V = joined m w in
       let spent : V = spent_view in
       let vs : List V = set s.views id both in
@@ -432,7 +457,7 @@ module _ {T E P F : Type 0} (law : Ghosts T E P F) where
       let goes : (owner : ℕ → ℕ) (b : ℕ) → owner b ≡ other → taken owner b ≡ id = λ owner b is. let hit : (owner b == other) ≡ true = grind (arith, nat_tests) in rw hit refl in
       let l : Longer m.seen w.seen r.events (longer m.seen w.seen) (shorter m.seen w.seen) = longer_is m.seen w.seen r.events k.seen_is o.seen_is in
       let top : ℕ = length (longer m.seen w.seen) in
-      let Q : ℕ → V → Type 0 = Fits law r.events r.parts r.common_frame (taken r.owner) (taken r.placed) r.holder r.phase in
+      let Q : ℕ → V → Type 0 = Fits law r.events r.parts r.common_frame r.steady (taken r.owner) (taken r.placed) r.holder r.phase in
       let fit_both : Q id both = record {
         here = fit.here;
         elsewhere = fit.elsewhere;
@@ -440,6 +465,7 @@ module _ {T E P F : Type 0} (law : Ghosts T E P F) where
           spent_is = λ none. absurd (omega arith);
           frame_is = λ _. k.frame_is alive;
           seen_is = l.whole;
+          steady_is = λ _. joined_steady r.events m.seen w.seen m.steady w.steady (Some r.steady) (k.steady_is alive) (o.steady_is lives);
           out_is = λ x out.
               let mine = is_holder s r id m at (busy_not_idle m.round (ap turn_word out)) in
               let home = home_at s r (Out x) (sym (fit.here mine) ∙ out) in
@@ -466,6 +492,7 @@ module _ {T E P F : Type 0} (law : Ghosts T E P F) where
           spent_is = λ _. refl;
           frame_is = λ some. absurd (omega arith);
           seen_is = (r.events, refl);
+          steady_is = λ some. absurd (omega arith);
           out_is = λ x e. absurd (cc);
           earlier_is = ([], refl);
           parts_are = λ b q has. absurd (contains_none (b, q) has);
@@ -482,6 +509,7 @@ module _ {T E P F : Type 0} (law : Ghosts T E P F) where
           spent_is = z.knows.spent_is;
           frame_is = z.knows.frame_is;
           seen_is = z.knows.seen_is;
+          steady_is = z.knows.steady_is;
           out_is = z.knows.out_is;
           earlier_is = z.knows.earlier_is;
           parts_are = λ b q has. let own = z.knows.parts_are b q has in (own.0, stays r.owner b (λ is. far (sym own.1 ∙ is)) ∙ own.1);
@@ -495,6 +523,7 @@ module _ {T E P F : Type 0} (law : Ghosts T E P F) where
         events = r.events;
         parts = r.parts;
         common_frame = r.common_frame;
+        steady = r.steady;
         owner = taken r.owner;
         placed = taken r.placed;
         holder = r.holder;
@@ -531,26 +560,28 @@ module _ {T E P F : Type 0} (law : Ghosts T E P F) where
     events = law.journal x;
     parts = law.part x;
     common_frame = law.frame x;
+    steady = law.steady x;
     owner = λ _. 0;
     placed = λ _. 0;
     holder = 0;
     phase = Idle;
     words = ap (λ n. 0 ∷ n ∷ []) is;
-    home = (x, refl, record { journal_is = refl; parts_are = λ a. refl; frame_is = refl });
+    home = (x, refl, record { journal_is = refl; parts_are = λ a. refl; frame_is = refl; steady_is = refl });
     each = one;
     weights = refl;
     present = λ busy. absurd (omega arith);
     newest = (0, first_view law x, refl, refl);
   }
     where
-      one : (by : ℕ) (v : V) → get_elem? (first_view law x ∷ []) by ≡ some v → Fits law (law.journal x) (law.part x) (law.frame x) (λ _. 0) (λ _. 0) 0 Idle by v
-      one zero v e = subst (Fits law (law.journal x) (law.part x) (law.frame x) (λ _. 0) (λ _. 0) 0 Idle 0) (some-injective (first_view law x) v e) (record {
+      one : (by : ℕ) (v : V) → get_elem? (first_view law x ∷ []) by ≡ some v → Fits law (law.journal x) (law.part x) (law.frame x) (law.steady x) (λ _. 0) (λ _. 0) 0 Idle by v
+      one zero v e = subst (Fits law (law.journal x) (law.part x) (law.frame x) (law.steady x) (λ _. 0) (λ _. 0) 0 Idle 0) (some-injective (first_view law x) v e) (record {
         here = λ _. refl;
         elsewhere = λ _. refl;
         knows = record {
           spent_is = λ none. absurd (omega arith);
           frame_is = λ _. refl;
           seen_is = prefix_same (law.journal x);
+          steady_is = λ _ _. refl;
           out_is = λ y e. absurd (cc);
           earlier_is = (law.journal x, refl);
           parts_are = λ a q has. ((contains_told (law.part x) (law.authors x) a q has).1, refl);

@@ -1,9 +1,10 @@
 // What a value under the lock has to say of itself.
 ghost use Rattle.std.specs.Prelude.{◌≡◌, ℕ, List, length};
 
-/// A value with a journal that only grows, numbered authors, a part for each author, and a frame.
+/// A value with a journal that only grows, numbered authors, a part for each author, a frame, and what changes only
+/// where the journal grows.
 ///
-/// The four meanings are for contracts alone. The lock counts the journal by `count`.
+/// The five meanings are for contracts alone. The lock counts the journal by `count`.
 pub trait Counted {
     /// An event of the journal.
     type Entry;
@@ -13,6 +14,9 @@ pub trait Counted {
 
     /// What never changes.
     type Frame;
+
+    /// What changes only where the journal grows.
+    type Steady;
 
     // The events so far, the first one first.
     ghost journal: { Self → List Self.Entry };
@@ -24,6 +28,8 @@ pub trait Counted {
     ghost part: { Self → ℕ → Self.Part };
 
     ghost frame: { Self → Self.Frame };
+
+    ghost steady: { Self → Self.Steady };
 
     /// The number of events.
     fn count(&self) -> u64

@@ -17,7 +17,13 @@ use std::sync::Wait;
 /// Each call has the condition that the passes given to it are of this lock: they come from its `new` or `split`.
 #[derive(Drop)]
 pub struct SeatLock<T: Counted> {
-    table: Table<Option<T>, View<T, T::Entry, T::Part, T::Frame>, Snapshot<T>, LockRule<T>, Global>,
+    table: Table<
+        Option<T>,
+        View<T, T::Entry, T::Part, T::Frame, T::Steady>,
+        Snapshot<T>,
+        LockRule<T>,
+        Global,
+    >,
     ghost two_words: { table.shared.table_id.words ≡ 2 },
     ghost one_slot: { table.shared.table_id.slots ≡ 1 },
 }
@@ -26,7 +32,7 @@ impl<T: Counted> SeatLock<T> {
     ghost use Rattle.std.specs.Prelude.{◌≡◌, ◌≢◌, ◌<◌, ◌∷◌, ◌++◌, [], ℕ, length, IfOk, Some, None, true, false};
     ghost use mathlib.Core.List.{IsPrefix};
     ghost use Rattle.seat_lock.specs.Views.{first_view, loaded, released, kept_back, handed, joined, merged, new_places, with_round};
-    ghost use Rattle.seat_lock.specs.Passes.{IsOf, IsAtRest, IsHoldOf, GoesOn, HasAuthor, HasPart, HasFrame, view_of, seen_of, places_of, weight_of, got_of};
+    ghost use Rattle.seat_lock.specs.Passes.{IsOf, IsAtRest, IsHoldOf, GoesOn, HasAuthor, HasPart, HasFrame, HasSteady, view_of, seen_of, places_of, weight_of, got_of};
     ghost use Rattle.seat_lock.specs.declared.rule.Round.TheVariants.{Idle, Turn, Out};
 
     /// A lock round the value, and its first pass, which has every author and the weight 1,024.
@@ -51,7 +57,7 @@ impl<T: Counted> SeatLock<T> {
 
     /// Waits until no pass has the turn, and takes the value out.
     ///
-    /// It has the frame of the value given to `new`, a journal that begins with all that the pass has seen, and for each author of the pass the part that the pass last left. With a `Hold` of this pass out it waits for ever.
+    /// It has the frame of the value given to `new`, a journal that begins with all that the pass has seen, and for each author of the pass the part that the pass last left. Where its journal is all that the pass has seen, nothing has changed that changes only where the journal grows. With a `Hold` of this pass out it waits for ever.
     pub fn acquire<R: Wait>(&self, rt: &R, pass: &mut Pass<T>) -> Hold<T>
         requires { IsOf self.now pass.old }
         ensures own { IsOf self.now pass.new }
@@ -60,6 +66,7 @@ impl<T: Counted> SeatLock<T> {
         ensures got { got_of result ≡ result.value }
         ensures longer { IsPrefix (seen_of pass.old) (T.journal result.value) }
         ensures frame { HasFrame pass.old (T.frame result.value) }
+        ensures steady { seen_of pass.old ≡ T.journal result.value → HasSteady pass.old (T.steady result.value) }
         ensures parts { (a : ℕ) (q : T.Part) → HasPart pass.old a q → T.part result.value a ≡ q }
         ensures pass { view_of pass.new ≡ loaded T.Counted result.value (view_of pass.old) }
     {
@@ -92,6 +99,7 @@ impl<T: Counted> SeatLock<T> {
         ensures got { got_of result ≡ result.value }
         ensures longer { IsPrefix (seen_of pass.old) (T.journal result.value) }
         ensures frame { HasFrame pass.old (T.frame result.value) }
+        ensures steady { seen_of pass.old ≡ T.journal result.value → HasSteady pass.old (T.steady result.value) }
         ensures parts { (a : ℕ) (q : T.Part) → HasPart pass.old a q → T.part result.value a ≡ q }
         ensures pass { view_of pass.new ≡ loaded T.Counted result.value (view_of pass.old) }
     {
@@ -111,7 +119,7 @@ impl<T: Counted> SeatLock<T> {
 
     /// Puts the value back, counts its new events and gives up the turn.
     ///
-    /// The hold is the one that this pass got, its frame is the one got, its journal extends the one got, and the parts of authors that the pass hasn't are those got. The pass has then seen the whole journal, has the places of the new events too, and has for each of its authors the part left.
+    /// The hold is the one that this pass got, its frame is the one got, its journal extends the one got, the parts of authors that the pass hasn't are those got, and so is what changes only where the journal grows, if it hasn't grown. The pass has then seen the whole journal, has the places of the new events too, and has for each of its authors the part left.
     pub fn release(&self, pass: &mut Pass<T>, hold: Hold<T>)
         requires own { IsOf self.now pass.old }
         requires hold { IsHoldOf pass.old hold }

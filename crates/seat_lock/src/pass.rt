@@ -12,7 +12,7 @@ use std::snapshot::Snapshot;
 /// A pass has a weight of 1 or more, some of the authors of the value, each with the part that it last left, the journal that it has seen, and the places of its own events in it.
 #[derive(Drop)]
 pub struct Pass<T: Counted> {
-    pub(crate) seat: Seat<Option<T>, View<T, T::Entry, T::Part, T::Frame>>,
+    pub(crate) seat: Seat<Option<T>, View<T, T::Entry, T::Part, T::Frame, T::Steady>>,
     ghost has_weight: { 0 < seat.me.0.weight },
     ghost in_order: { InOrder 0 seat.me.0.places (length seat.me.0.seen) } by { InOrder-prop 0 seat.me.0.places (length seat.me.0.seen) },
     ghost slots_fit: { seat.me.1 ≡ slots_of seat.me.0.round },

@@ -17,12 +17,14 @@ pub enum Round<T> {
 }
 
 /// What a pass knows. No value of it is made.
-pub struct View<T, E, P, F> {
+pub struct View<T, E, P, F, S> {
     pub round: Round<T>,
     /// Its share of the 1,024 parts of the lock. A view that is spent has none.
     pub weight: u64,
     /// The frame of each value of the lock. A view that is spent has none.
     pub frame: Option<F>,
+    /// What it last saw of the value that changes only where the journal grows. A view that is spent has none.
+    pub steady: Option<S>,
     /// The journal that it has seen.
     pub seen: LinkedList<E>,
     /// The shorter of the two journals that the last join brought together. It begins what is seen.
@@ -38,7 +40,7 @@ pub struct LockRule<T> {
     of: PhantomData<T>,
 }
 
-impl<T: Counted> TableRule<Option<T>, View<T, T::Entry, T::Part, T::Frame>, Snapshot<T>>
+impl<T: Counted> TableRule<Option<T>, View<T, T::Entry, T::Part, T::Frame, T::Steady>, Snapshot<T>>
     for LockRule<T> {
     ghost use Rattle.seat_lock.specs.Rule.{Kept};
     ghost use Rattle.seat_lock.specs.Views.{first_view};
@@ -51,7 +53,7 @@ impl<T: Counted> TableRule<Option<T>, View<T, T::Entry, T::Part, T::Frame>, Snap
 /// The turn goes from 0 to 1, or the step changes nothing.
 pub struct TakeTurn;
 
-impl<T: Counted> Play<Option<T>, View<T, T::Entry, T::Part, T::Frame>> for TakeTurn {
+impl<T: Counted> Play<Option<T>, View<T, T::Entry, T::Part, T::Frame, T::Steady>> for TakeTurn {
     ghost use Rattle.seat_lock.specs.Rule.{TakesTurn};
 
     ghost then = { TakesTurn };
@@ -60,7 +62,7 @@ impl<T: Counted> Play<Option<T>, View<T, T::Entry, T::Part, T::Frame>> for TakeT
 /// The count is loaded, and the slot with the value is out.
 pub struct Load;
 
-impl<T: Counted> Play<Option<T>, View<T, T::Entry, T::Part, T::Frame>> for Load {
+impl<T: Counted> Play<Option<T>, View<T, T::Entry, T::Part, T::Frame, T::Steady>> for Load {
     ghost use Rattle.seat_lock.specs.Rule.{Loads};
 
     ghost then = { Loads T.Counted };
@@ -69,7 +71,7 @@ impl<T: Counted> Play<Option<T>, View<T, T::Entry, T::Part, T::Frame>> for Load 
 /// The number of new events is added to the count, and the slot is home again.
 pub struct Add;
 
-impl<T: Counted> Play<Option<T>, View<T, T::Entry, T::Part, T::Frame>> for Add {
+impl<T: Counted> Play<Option<T>, View<T, T::Entry, T::Part, T::Frame, T::Steady>> for Add {
     ghost use Rattle.seat_lock.specs.Rule.{Adds};
 
     ghost then = { Adds T.Counted };
@@ -78,7 +80,7 @@ impl<T: Counted> Play<Option<T>, View<T, T::Entry, T::Part, T::Frame>> for Add {
 /// The turn is given up.
 pub struct GiveTurn;
 
-impl<T: Counted> Play<Option<T>, View<T, T::Entry, T::Part, T::Frame>> for GiveTurn {
+impl<T: Counted> Play<Option<T>, View<T, T::Entry, T::Part, T::Frame, T::Steady>> for GiveTurn {
     ghost use Rattle.seat_lock.specs.Rule.{GivesTurn};
 
     ghost then = { GivesTurn };
@@ -87,7 +89,7 @@ impl<T: Counted> Play<Option<T>, View<T, T::Entry, T::Part, T::Frame>> for GiveT
 /// The turn is read and nothing changes. It tells what the rule says of the pass's own view.
 pub struct Look;
 
-impl<T: Counted> Play<Option<T>, View<T, T::Entry, T::Part, T::Frame>> for Look {
+impl<T: Counted> Play<Option<T>, View<T, T::Entry, T::Part, T::Frame, T::Steady>> for Look {
     ghost use Rattle.seat_lock.specs.Rule.{Looks};
 
     ghost then = { Looks };
@@ -107,7 +109,8 @@ pub struct SplitView<J> {
     of: PhantomData<J>,
 }
 
-impl<J: Handed, T: Counted> Split<View<T, T::Entry, T::Part, T::Frame>> for SplitView<J> {
+impl<J: Handed, T: Counted> Split<View<T, T::Entry, T::Part, T::Frame, T::Steady>>
+    for SplitView<J> {
     ghost use Rattle.seat_lock.specs.Views.{kept_back, handed};
 
     ghost left = { kept_back J.authors };
@@ -118,7 +121,7 @@ impl<J: Handed, T: Counted> Split<View<T, T::Entry, T::Part, T::Frame>> for Spli
 /// Two views are joined.
 pub struct JoinViews;
 
-impl<T: Counted> Join<View<T, T::Entry, T::Part, T::Frame>> for JoinViews {
+impl<T: Counted> Join<View<T, T::Entry, T::Part, T::Frame, T::Steady>> for JoinViews {
     ghost use Rattle.seat_lock.specs.Views.{joined, spent_view};
 
     ghost both = { joined };

@@ -11,7 +11,7 @@ join_seat-requires g c =
       c.requires.own.1,
       other.slots_fit ∙ ap slots_of c.requires.rest,
       omega (arith, c.args.self.now.two_words),
-      joins g.T.Counted pass.seat.id pass.seat.me.0 other.seat.id other.seat.me.0 pass.has_weight c.requires.rest,
+      joins g.T.Counted pass.seat.id pass.seat.me.0 other.seat.id other.seat.me.0 pass.has_weight other.has_weight c.requires.rest,
     )
 
 pub load-requires : goal.load-requires

@@ -16,7 +16,7 @@ fetch_add-requires g c =
       omega (arith, c.args.self.now.two_words),
       adds_back g.T.Counted c.args.self.now.table.shared.table_id.slots c.exchange.new.seat.id c.count.result hold.before old.seat.me c.exchange.new.seat.me hold.taken.value hold.value
           (record { has_weight = old.has_weight; in_order = old.in_order; slots_fit = old.slots_fit })
-          c.requires.hold.0 c.exchange.ensures.3 on.longer on.frame_is on.others c.requires.hold.1 c.count.ensures c.count.type_inv,
+          c.requires.hold.0 c.exchange.ensures.3 on.longer on.frame_is on.others on.steady_is c.requires.hold.1 c.count.ensures c.count.type_inv,
     )
 
 pub store-requires : goal.store-requires

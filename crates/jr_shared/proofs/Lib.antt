@@ -1,0 +1,10 @@
+pub mod Lists
+pub mod Events
+pub mod Shapes
+pub mod Calm
+pub mod Rests
+pub mod Acts
+pub mod Got
+pub mod Holding
+pub mod Through
+pub mod Handing

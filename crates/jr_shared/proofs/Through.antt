@@ -1,0 +1,310 @@
+-- What a port over a pass tells of a call that was made under one hold.
+use Rattle.std.proofs.Common.{◌≡◌, ◌≢◌, ◌↔◌, ◌⊎◌, inl, inr, ℕ, suc, ◌+◌, ◌<◌, true, false, Option, Some, None, Result, Ok, Err, [], ◌∷◌, ◌++◌, length, is_some, refl, sym, ap, subst, ◌∙◌, arith, length-append}
+use Rattle.std.specs.Prelude.{◌==◌, IfSome, reverse, slice_get}
+use Rattle.std.specs.Borrow.{GName}
+use Rattle.std.specs.Map.{lookup}
+use Rattle.std.specs.Option.{option_and_then, option_map, option_map_or, unwrap_or}
+use Rattle.std.specs.declared.alloc.AllocError.{AllocError}
+use Rattle.std.proofs.lemmas.List.{append_assoc, reverse-reverse}
+use Rattle.jr_path.specs.declared.text.Text.{Text}
+use Rattle.jr_rev.specs.declared.vector.Pin.{Pin}
+use Rattle.oak_machine.specs.declared.event.Event.TheVariants as event
+use Rattle.oak_machine.specs.declared.event.StepKind.{StepKind}
+use Rattle.oak_machine.specs.declared.law.Law.{Ghosts}
+use Rattle.oak_machine.specs.History.{History, Past}
+use Rattle.oak_machine.specs.Laws.{AreOthers, after}
+use Rattle.oak_machine.specs.Runs.{IsRun}
+use Rattle.oak_machine.specs.Sessions.{base_of, has_left}
+use Rattle.oak_node.specs.Pins.{pin_of}
+use Rattle.core_world.specs.States.{memory_of}
+use Rattle.oak_port.specs.declared.task.StepOut.{StepOut}
+use Rattle.oak_port.specs.declared.task.Task.{Task}
+use Rattle.oak_port.specs.Ports.{ActedAlone, AreOfStep, Answers, Grows, Idle, IsWait, Makes, OthersAlone, Starting, StaysSo, Steps, Work as Shows, is_by_due}
+use Rattle.oak_world.specs.declared.actor.Work.{Work}
+use Rattle.oak_world.specs.declared.actor.Work.TheVariants as work
+use Rattle.oak_world.specs.Ending.{RestsIn, TaskEndsIn}
+use Rattle.oak_world.specs.Seen.{shown_at, shown_work}
+use Rattle.oak_world.specs.Steps.{Begins, kind_due}
+use Rattle.oak_world.specs.Worlds.{ActorState, WorldOf, actor_in, idle, live, said_in, state_of, with_reply, with_work, work_in}
+use Rattle.oak_world.proofs.Keeping.{begins_shown}
+use Rattle.oak_world.proofs.Porting.{busy_shown, reserve_lasts}
+use Rattle.oak_world.proofs.States.{actor_set}
+use Rattle.seat_lock.specs.declared.rule.Round.TheVariants as round
+use Rattle.jr_shared.specs.declared.locked.WorldFrame.{WorldFrame}
+use Rattle.jr_shared.specs.Meanings.{Owned, frame_of, own_events, owned_of, steady_of}
+use Rattle.jr_shared.specs.Holds.{DueIs, IsTold, Known, OneHold, PinIs, Reserved, Stepped, actor_by, has_seat, owned_by, seat_by}
+use Rattle.jr_shared.specs.Seen.{EndsIn, history_by, law_by, shown_through, state_by}
+use Rattle.jr_shared.proofs.Acts.{step_grows}
+use Rattle.jr_shared.proofs.Got
+use Rattle.jr_shared.proofs.Got.{some_within, the_is}
+use Rattle.jr_shared.proofs.Lists.{found_part, found_retold}
+use Rattle.jr_shared.proofs.Rests.{blank, rests_alike}
+use Rattle.jr_shared.proofs.Shapes.{none_between, shaped}
+
+-- lists that end alike begin alike
+cancel : (xs ys zs : Past) → xs ++ zs ≡ ys ++ zs → xs ≡ ys
+cancel [] [] zs h = refl
+cancel [] (y ∷ ys) zs h = let l : length zs ≡ length (y ∷ ys) + length zs = ap length h ∙ length-append (y ∷ ys) zs in absurd (omega arith)
+cancel (x ∷ xs) [] zs h = let l : length (x ∷ xs) + length zs ≡ length zs = sym (length-append (x ∷ xs) zs) ∙ ap length h in absurd (omega arith)
+cancel (x ∷ xs) (y ∷ ys) zs h =
+    let first : x ≡ y = cc in
+    let rest : xs ++ zs ≡ ys ++ zs = cc in
+    let same = cancel xs ys zs rest in
+    λ i. first i ∷ same i
+
+module _ {L : Type 0} (law : Ghosts L) (old new : Known L) (s : ℕ) (made : WorldOf L → WorldOf L → Type 0) (h : OneHold law old new s made) where
+  abbrev got : WorldOf L
+  got = h.got
+
+  abbrev left : WorldOf L
+  left = h.left
+
+  abbrev more : Past
+  more = Got.more law old got h.got_is
+
+  -- ---- the frame
+
+  frame_new : new.frame ≡ Some (frame_of left)
+  frame_new = ap (λ (v : Known L). v.frame) h.known ∙ (h.got_is.frame_is ∙ ap Some (sym h.alone.frame_is))
+
+  pub framed_new : is_some new.frame ≡ true
+  framed_new = ap is_some frame_new
+
+  law_left : left.law ≡ got.law
+  law_left = ap (λ (f : WorldFrame L). f.law) h.alone.frame_is
+
+  pub law_stays : (was : is_some old.frame ≡ true) (now : is_some new.frame ≡ true) → law_by new now ≡ law_by old was
+  law_stays was now = ap (λ (f : WorldFrame L). f.law) (the_is new.frame (frame_of left) frame_new now) ∙ (law_left ∙ sym (Got.law_old law old got h.got_is was))
+
+  -- ---- the history
+
+  history_new : history_by new ≡ live left.history
+  history_new =
+      ap (λ (o : Option (WorldFrame L)). record { clusters = option_map_or (λ f. f.clusters) o 0; sessions = option_map_or (λ f. f.sessions) o []; begin = None; past = reverse new.seen }) frame_new
+      ∙ ap (λ (xs : Past). record (live left.history) { past = xs }) (ap (λ (v : Known L). reverse v.seen) h.known ∙ reverse-reverse left.history.past)
+
+  run_new : IsRun (law.may_start got.law) (law.may_say got.law) (live left.history)
+  run_new = subst (λ (l : L). IsRun (law.may_start l) (law.may_say l) (live left.history)) law_left h.left_whole.kept.sessions.run
+
+  -- ---- what is owned
+
+  owned_new : (q : ℕ) → owned_by new q ≡ option_map (λ p. owned_of left q) (owned_by old q)
+  owned_new q = ap (λ (v : Known L). lookup (λ a. a == q) v.parts) h.known ∙ found_retold (owned_of left) old.parts q
+
+  -- the pass knows of each of its sessions just the events that it has seen
+  pub told_new : IsTold new
+  told_new q = subst (λ (o : Option Owned). IfSome o (λ part. part.events ≡ own_events (reverse new.seen) q)) (sym (owned_new q)) (by (owned_by old q))
+    where
+      by : (o : Option Owned) → IfSome (option_map (λ p. owned_of left q) o) (λ part. part.events ≡ own_events (reverse new.seen) q)
+      by None = tt
+      by (Some p) = ap (λ (xs : Past). own_events xs q) (sym (ap (λ (v : Known L). reverse v.seen) h.known ∙ reverse-reverse left.history.past))
+
+  -- what the pass's other sessions own stays
+  pub others_new : (q : ℕ) → q ≢ s → owned_by new q ≡ owned_by old q
+  others_new q apart = owned_new q ∙ by (owned_by old q) refl
+    where
+      by : (o : Option Owned) → owned_by old q ≡ o → option_map (λ p. owned_of left q) o ≡ o
+      by None is = refl
+      by (Some p) is = ap Some (h.alone.others q apart ∙ h.got_is.parts q p (found_part old.parts q p is))
+
+  pub weight_new : new.weight ≡ old.weight
+  weight_new = ap (λ (v : Known L). v.weight) h.known
+
+  pub rest_new : new.round ≡ round.Idle
+  rest_new = ap (λ (v : Known L). v.round) h.known
+
+  module _ (seat : has_seat old s ≡ true) where
+    actor_got : actor_by old s ≡ actor_in got.actors s
+    actor_got = Got.actor_got law old got h.got_is s seat
+
+    seat_new : seat_by new s ≡ slice_get left.actors s
+    seat_new = ap (option_and_then (λ (p : Owned). p.seat)) (owned_new s ∙ ap (option_map (λ (p : Owned). owned_of left s)) (Got.owned_got law old got h.got_is s seat))
+
+    actor_new : actor_by new s ≡ actor_in left.actors s
+    actor_new = ap (λ (o : Option ActorState). unwrap_or o idle) seat_new
+
+    seated_left : s < length left.actors
+    seated_left =
+        let was : s < length got.actors = Got.seated law old got h.got_is s seat in
+        let one : length left.actors ≡ length left.history.sessions = h.left_whole.seats in
+        let two : length got.actors ≡ length got.history.sessions = h.got_is.whole.seats in
+        let same : length left.history.sessions ≡ length got.history.sessions = ap (λ (f : WorldFrame L). length f.sessions) h.alone.frame_is in
+        omega (arith, was, one, two, same)
+
+    pub has_new : has_seat new s ≡ true
+    has_new = ap is_some seat_new ∙ some_within left.actors s idle seated_left
+
+    pub ends_new : (n : ℕ) → TaskEndsIn n left s → EndsIn n new s
+    ends_new n m =
+        let steady : new.steady ≡ Some (steady_of left) = ap (λ (v : Known L). v.steady) h.known in
+        let same : blank (state_of left) ≡ state_by new =
+        sym (ap (λ (x : History). record (state_by new) { clusters = x.clusters; sessions = x.sessions; past = x.past }) history_new
+        ∙ ap (λ (o : Option (WorldOf L)). record (blank (state_of left)) { table = option_map_or (λ w. w.table) o (state_by (record new { steady = None })).table; memories = option_map_or (λ w. w.memories) o [] }) steady) in
+        subst (λ (v : Work). RestsIn s n (state_by new) v) (sym (ap (λ (a : ActorState). a.work) actor_new)) (rests_alike s n (state_of left) (state_by new) same (work_in left.actors s) m)
+
+    -- ---- what is due
+
+    pub due_is : (r : Option StepKind) → DueIs got s r left → r ≡ kind_due (actor_by new s).work
+    due_is r d = d.due ∙ (ap (λ (w : WorldOf L). kind_due (work_in w.actors s)) (sym d.same) ∙ sym (ap (λ (a : ActorState). kind_due a.work) actor_new))
+
+    pub busy_is : (r : Option StepKind) → DueIs got s r left → (is_some r ≡ true) ↔ (shown_work (actor_by old s).work ≢ Idle)
+    busy_is r d = subst (λ (v : Work). (is_some r ≡ true) ↔ (shown_work v ≢ Idle)) (sym (ap (λ (a : ActorState). a.work) actor_got)) (busy_shown r (work_in got.actors s) d.busy)
+
+    pub ends_is : (r : Option StepKind) → DueIs got s r left → (n : ℕ) × EndsIn n new s
+    ends_is r d = (d.ends.0, ends_new d.ends.0 (subst (λ (w : WorldOf L). TaskEndsIn d.ends.0 w s) (sym d.same) d.ends.1))
+
+    module _ (told : IsTold old) (framed : is_some old.frame ≡ true) (name : GName) where
+      others : AreOthers s more (reverse old.seen)
+      others = Got.others law old got h.got_is s seat told
+
+      abbrev l : L
+      l = law_by old framed
+
+      law_is : got.law ≡ l
+      law_is = sym (Got.law_old law old got h.got_is framed)
+
+      -- events of others were added, and then these
+      grows : (own : Past) → live left.history ≡ after own (live got.history) → Grows (law.may_start l) (law.may_say l) s (history_by old) (history_by new) more own
+      grows own is = record {
+        grown = history_new ∙ (is ∙ ap (after own) (Got.history_got law old got h.got_is));
+        theirs = others;
+        run = subst (λ (k : L). IsRun (law.may_start k) (law.may_say k) (history_by new)) law_is (subst (λ (x : History). IsRun (law.may_start got.law) (law.may_say got.law) x) (sym history_new) run_new);
+      }
+
+      -- others alone have acted; the session does this now, and its reply has this place
+      others_alone : (w : Shows) (room : Option ℕ) → left.history ≡ got.history → shown_work (work_in left.actors s) ≡ w → (actor_in left.actors s).reply ≡ room
+          → (w ≡ shown_work (work_in got.actors s) → kind_due (work_in left.actors s) ≡ kind_due (work_in got.actors s))
+          → OthersAlone (law.may_start l) (law.may_say l) (shown_through name old s) (shown_through name new s) w room
+      others_alone w room same does replies due = record {
+        others = more;
+        grows = grows [] (ap live same);
+        session = refl;
+        work_is = ap (λ (a : ActorState). shown_work a.work) actor_new ∙ does;
+        room_is = ap (λ (a : ActorState). a.reply) actor_new ∙ replies;
+        same_due = λ k. ap (λ (a : ActorState). kind_due a.work) actor_new ∙ (due (k ∙ ap (λ (a : ActorState). shown_work a.work) actor_got) ∙ sym (ap (λ (a : ActorState). kind_due a.work) actor_got));
+        beside = refl;
+        alone = tt;
+      }
+
+      -- ---- where nothing is changed
+
+      module _ (same : left ≡ got) where
+        pub stays_so : StaysSo (law.may_start l) (law.may_say l) (shown_through name old s) (shown_through name new s)
+        stays_so = others_alone (shown_work (actor_by old s).work) (actor_by old s).reply (ap (λ (w : WorldOf L). w.history) same)
+            (ap (λ (w : WorldOf L). shown_work (work_in w.actors s)) same ∙ sym (ap (λ (a : ActorState). shown_work a.work) actor_got))
+            (ap (λ (w : WorldOf L). (actor_in w.actors s).reply) same ∙ sym (ap (λ (a : ActorState). a.reply) actor_got))
+            (λ k. ap (λ (w : WorldOf L). kind_due (work_in w.actors s)) same)
+
+      pub pin_is : (r : Option Pin) → PinIs got s r left → has_left (reverse old.seen) s ≡ false → option_map (λ pin. pin.base) r ≡ base_of (reverse old.seen) s
+      pin_is r p stays = p.base (Got.left_got law old got h.got_is s seat told ∙ stays) ∙ Got.base_got law old got h.got_is s seat told
+
+      -- where no event was added, none was before
+      none_added : live left.history ≡ live got.history → history_by new ≡ history_by old → more ≡ []
+      none_added same stays = cancel more [] (reverse old.seen) (ap (λ (x : History). x.past) (sym (Got.history_got law old got h.got_is) ∙ (sym same ∙ (sym history_new ∙ stays))))
+
+      -- how long the task lasts, if no event was added and the call leaves it
+      pub lasts_on : left.history ≡ got.history → ((n : ℕ) → TaskEndsIn n got s → TaskEndsIn n left s) → history_by new ≡ history_by old → (n : ℕ) → EndsIn n old s → EndsIn n new s
+      lasts_on same on stays n m = ends_new n (on n (Got.ends_old law old got h.got_is s seat n (none_added (ap live same) stays) m))
+
+      pub lasts_same : left ≡ got → history_by new ≡ history_by old → (n : ℕ) → EndsIn n old s → EndsIn n new s
+      lasts_same same = lasts_on (ap (λ (w : WorldOf L). w.history) same) (λ n m. subst (λ (w : WorldOf L). TaskEndsIn n w s) (sym same) m)
+
+      -- ---- a task begins
+
+      pub starts_ok : (t : Task) → (v : Work) × Begins (pin_of (memory_of (state_of got) s) s) t v × (left ≡ with_work got s v)
+          → (actor_by old s).work ≡ work.Rest
+          → OthersAlone (law.may_start l) (law.may_say l) (shown_through name old s) (shown_through name new s) (Starting t) (actor_by old s).reply
+      starts_ok t b rests =
+          let is : actor_in left.actors s ≡ record (actor_in got.actors s) { work = b.0; began = length got.history.past } =
+          ap (λ (w : WorldOf L). actor_in w.actors s) b.2 ∙ actor_set got.actors s (record (actor_in got.actors s) { work = b.0; began = length got.history.past }) (Got.seated law old got h.got_is s seat) in
+          others_alone (Starting t) (actor_by old s).reply (ap (λ (w : WorldOf L). w.history) b.2)
+          (ap (λ (a : ActorState). shown_work a.work) is ∙ begins_shown _ t b.0 b.1)
+          (ap (λ (a : ActorState). a.reply) is ∙ sym (ap (λ (a : ActorState). a.reply) actor_got))
+          (λ k. let e : Starting t ≡ Idle = k ∙ (ap shown_work (sym (Got.work_got law old got h.got_is s seat) ∙ rests)) in cc)
+
+      pub starts_err : left ≡ got → (actor_by old s).work ≡ work.Rest → OthersAlone (law.may_start l) (law.may_say l) (shown_through name old s) (shown_through name new s) Idle (actor_by old s).reply
+      starts_err same rests = subst (λ (w : Shows). OthersAlone (law.may_start l) (law.may_say l) (shown_through name old s) (shown_through name new s) w (actor_by old s).reply) (ap shown_work rests) (stays_so same)
+
+      -- ---- a place is kept
+
+      module _ (bytes : ℕ) (is : left ≡ with_reply got s (Some bytes)) where
+        replied : actor_in left.actors s ≡ record (actor_in got.actors s) { reply = Some bytes }
+        replied = ap (λ (w : WorldOf L). actor_in w.actors s) is ∙ actor_set got.actors s (record (actor_in got.actors s) { reply = Some bytes }) (Got.seated law old got h.got_is s seat)
+
+        pub reserved_ok : OthersAlone (law.may_start l) (law.may_say l) (shown_through name old s) (shown_through name new s) (shown_work (actor_by old s).work) (Some bytes)
+        reserved_ok = others_alone (shown_work (actor_by old s).work) (Some bytes) (ap (λ (w : WorldOf L). w.history) is)
+            (ap (λ (a : ActorState). shown_work a.work) replied ∙ sym (ap (λ (a : ActorState). shown_work a.work) actor_got))
+            (ap (λ (a : ActorState). a.reply) replied)
+            (λ k. ap (λ (a : ActorState). kind_due a.work) replied)
+
+      reserved_history : (bytes : ℕ) (r : Result Unit AllocError) → Reserved got s bytes r left → left.history ≡ got.history
+      reserved_history bytes (Ok x) m = ap (λ (w : WorldOf L). w.history) m.ok
+      reserved_history bytes (Err x) m = ap (λ (w : WorldOf L). w.history) m.err
+
+      pub reserved_lasts : (bytes : ℕ) (r : Result Unit AllocError) → Reserved got s bytes r left → history_by new ≡ history_by old → (n : ℕ) → EndsIn n old s → EndsIn n new s
+      reserved_lasts bytes r m = lasts_on (reserved_history bytes r m) (reserve_lasts got left s (Got.seated law old got h.got_is s seat) (Some bytes) r m.ok m.err)
+
+      -- ---- a reply is said
+
+      pub answers : (i : ℕ) (text : Text) → left ≡ said_in got s i text → (actor_by old s).work ≡ work.Rest → Answers (law.may_start l) (law.may_say l) (shown_through name old s) (shown_through name new s) i text
+      answers i text is rests =
+          let seat_is : actor_in left.actors s ≡ record (actor_in got.actors s) { reply = None } =
+          ap (λ (w : WorldOf L). actor_in w.actors s) is ∙ actor_set got.actors s (record (actor_in got.actors s) { reply = None }) (Got.seated law old got h.got_is s seat) in
+          record {
+            others = more;
+            grows = grows (event.Said s i text ∷ []) (ap (λ (w : WorldOf L). live w.history) is);
+            session = refl;
+            work = ap (λ (a : ActorState). shown_work a.work) (actor_new ∙ seat_is) ∙ ap shown_work (sym (Got.work_got law old got h.got_is s seat) ∙ rests);
+            room = ap (λ (a : ActorState). a.reply) (actor_new ∙ seat_is);
+            beside = refl;
+            alone = tt;
+          }
+
+      -- ---- a step
+
+      module _ (o : StepOut) (m : Stepped law got s o left) where
+        abbrev told_step : Steps (law.may_start got.law) (law.may_say got.law) (shown_at name got s) (shown_at name left s) o
+        told_step = m.told name
+
+        -- the history before the step, as the world and as the pass tells it
+        before : after told_step.others (live got.history) ≡ after more (history_by old)
+        before = ap (λ (xs : Past). after xs (live got.history)) told_step.alone ∙ Got.history_got law old got h.got_is
+
+        was : shown_work (work_in got.actors s) ≡ shown_work (actor_by old s).work
+        was = sym (ap (λ (a : ActorState). shown_work a.work) actor_got)
+
+        now : shown_work (work_in left.actors s) ≡ shown_work (actor_by new s).work
+        now = sym (ap (λ (a : ActorState). shown_work a.work) actor_new)
+
+        makes : Makes (after more (history_by old)) s (shown_work (actor_by old s).work) o told_step.own (shown_work (actor_by new s).work)
+        makes = subst (λ (x : History). Makes x s (shown_work (actor_by old s).work) o told_step.own (shown_work (actor_by new s).work)) before
+            (subst (λ (w : Shows). Makes (after told_step.others (live got.history)) s w o told_step.own (shown_work (actor_by new s).work)) was
+            (subst (λ (w : Shows). Makes (after told_step.others (live got.history)) s (shown_work (work_in got.actors s)) o told_step.own w) now told_step.makes))
+
+        pub steps : Steps (law.may_start l) (law.may_say l) (shown_through name old s) (shown_through name new s) o
+        steps = record {
+          others = more;
+          own = told_step.own;
+          grows = grows told_step.own (step_grows law s got left o m name);
+          makes = makes;
+          of_step = subst (λ (x : History). AreOfStep x s (shown_work (actor_by old s).work) o told_step.own) before
+              (subst (λ (w : Shows). AreOfStep (after told_step.others (live got.history)) s w o told_step.own) was told_step.of_step);
+          as_due = subst (λ (k : Option StepKind). is_by_due k told_step.own ≡ true) (sym (ap (λ (a : ActorState). kind_due a.work) actor_got)) told_step.as_due;
+          session = refl;
+          room = ap (λ (a : ActorState). a.reply) actor_new ∙ (told_step.room ∙ sym (ap (λ (a : ActorState). a.reply) actor_got));
+          beside = refl;
+          alone = tt;
+        }
+
+        none_by : ActedAlone (shown_through name old s) (shown_through name new s) o → more ≡ []
+        unfolding steps
+        none_by a =
+            let grown : a.own ++ reverse old.seen ≡ told_step.own ++ (more ++ reverse old.seen) = ap (λ (x : History). x.past) (sym a.grown ∙ steps.grows.grown) in
+            let same : told_step.own ++ more ≡ a.own = cancel (told_step.own ++ more) a.own (reverse old.seen) (append_assoc told_step.own more (reverse old.seen) ∙ sym grown) in
+            none_between _ a.own told_step.own more
+            (shaped (history_by old) s (shown_work (actor_by old s).work) o a.own (shown_work (actor_by new s).work) a.makes)
+            (shaped (after more (history_by old)) s (shown_work (actor_by old s).work) o told_step.own (shown_work (actor_by new s).work) makes)
+            same
+
+        pub lowers : ActedAlone (shown_through name old s) (shown_through name new s) o → (n : ℕ) → EndsIn (suc n) old s → IsWait o ⊎ EndsIn n new s
+        lowers a n e = elim (m.lowers n (Got.ends_old law old got h.got_is s seat (suc n) (none_by a) e)) [ inl k ↦ inl k | inr k ↦ inr (ends_new n k) ]

@@ -1,0 +1,29 @@
+use Rattle.std.proofs.Common.{sym, ◌∙◌}
+use Rattle.atomic_table.specs.Seated.{TableId}
+use Rattle.seat_lock.specs.Passes.{view_of}
+use Rattle.jr_shared.proofs.Through.{framed_new, has_new, lasts_same, law_stays, others_new, pin_is, rest_new, stays_so, told_new, weight_new}
+use Rattle.jr_shared.proofs.port.SharedPortPort.pin.Goals as goal
+
+pub invariant_of-self : goal.invariant_of-self
+invariant_of-self g c = record {
+  own = c.pin.ensures.own;
+  table = ◌∙◌ {A = TableId} c.pin.ensures.own (◌∙◌ {A = TableId} (sym {A = TableId} c.args.self.now.own) c.args.self.now.table);
+  rest = rest_new g.L.Law (view_of c.args.self.now.pass.now) (view_of c.pin.new.pass) c.args.self.now.actor _ c.pin.ensures.hold;
+  weight = weight_new g.L.Law (view_of c.args.self.now.pass.now) (view_of c.pin.new.pass) c.args.self.now.actor _ c.pin.ensures.hold ∙ c.args.self.now.weight;
+  others = λ q apart. others_new g.L.Law (view_of c.args.self.now.pass.now) (view_of c.pin.new.pass) c.args.self.now.actor _ c.pin.ensures.hold q apart ∙ c.args.self.now.others q apart;
+  told = told_new g.L.Law (view_of c.args.self.now.pass.now) (view_of c.pin.new.pass) c.args.self.now.actor _ c.pin.ensures.hold;
+  seat = has_new g.L.Law (view_of c.args.self.now.pass.now) (view_of c.pin.new.pass) c.args.self.now.actor _ c.pin.ensures.hold c.args.self.now.seat;
+  framed = framed_new g.L.Law (view_of c.args.self.now.pass.now) (view_of c.pin.new.pass) c.args.self.now.actor _ c.pin.ensures.hold;
+}
+
+pub returns-clause-law : goal.returns-clause-law
+returns-clause-law g c = law_stays g.L.Law (view_of c.args.self.now.pass.now) (view_of c.pin.new.pass) c.args.self.now.actor _ c.pin.ensures.hold c.args.self.now.framed _
+
+pub returns-clause-same : goal.returns-clause-same
+returns-clause-same g c = stays_so g.L.Law (view_of c.args.self.now.pass.now) (view_of c.pin.new.pass) c.args.self.now.actor _ c.pin.ensures.hold c.args.self.now.seat c.args.self.now.told c.args.self.now.framed c.args.self.now.pass.ghost_name c.pin.ensures.hold.made_is.same
+
+pub returns-clause-base : goal.returns-clause-base
+returns-clause-base g c = pin_is g.L.Law (view_of c.args.self.now.pass.now) (view_of c.pin.new.pass) c.args.self.now.actor _ c.pin.ensures.hold c.args.self.now.seat c.args.self.now.told c.args.self.now.framed c.args.self.now.pass.ghost_name c.pin.result c.pin.ensures.hold.made_is
+
+pub returns-clause-lasts : goal.returns-clause-lasts
+returns-clause-lasts g c = lasts_same g.L.Law (view_of c.args.self.now.pass.now) (view_of c.pin.new.pass) c.args.self.now.actor _ c.pin.ensures.hold c.args.self.now.seat c.args.self.now.told c.args.self.now.framed c.args.self.now.pass.ghost_name c.pin.ensures.hold.made_is.same
