@@ -31,9 +31,40 @@ fn fails(alloc: Global, text: &str) -> Result<Vec<u64>, AllocError> {
 
 // WORD READ WRITE INPUT: the status, whether a world is left, and what is written.
 pub(crate) fn add_status(alloc: Global, rest: &str, out: &mut String) -> Result<(), AllocError> {
-    let (word, rest) = cut(rest);
+    let (words, input) = cut_words(rest);
+    add_call(alloc, words, input.as_bytes(), out)
+}
+
+// WORD READ WRITE BYTES: the same of an input whose bytes are these, each by two hexadecimal digits, with spaces between them.
+pub(crate) fn add_octets(alloc: Global, rest: &str, out: &mut String) -> Result<(), AllocError> {
+    let (words, input) = cut_words(rest);
+    let bytes = bytes_of(alloc, input)?;
+    add_call(alloc, words, bytes.as_slice(), out)
+}
+
+// The first three words of a text, and the text behind them.
+fn cut_words(text: &str) -> ((&str, &str, &str), &str) {
+    let (word, rest) = cut(text);
     let (read, rest) = cut(rest);
-    let (write, input) = cut(rest);
+    let (write, rest) = cut(rest);
+    ((word, read, write), rest)
+}
+
+fn bytes_of(alloc: Global, text: &str) -> Result<Vec<u8>, AllocError> {
+    let mut bytes = Vec::new(alloc);
+    for word in text.split(' ') {
+        bytes.push(u8::from_str_radix(word, 16).unwrap_or(0))?;
+    }
+    Ok(bytes)
+}
+
+fn add_call(
+    alloc: Global,
+    words: (&str, &str, &str),
+    input: &[u8],
+    out: &mut String,
+) -> Result<(), AllocError> {
+    let (word, read, write) = words;
     let mut source = source(alloc, read, input)?;
     let mut sink = MemSink::new(alloc, 1000, 64, fails(alloc, write)?)?;
     run(alloc, word, &mut source, &mut sink, out)?;
@@ -43,8 +74,8 @@ pub(crate) fn add_status(alloc: Global, rest: &str, out: &mut String) -> Result<
     }
 }
 
-fn source(alloc: Global, read: &str, input: &str) -> Result<MemSource, AllocError> {
-    let bytes = Vec::from_slice(alloc, input.as_bytes())?;
+fn source(alloc: Global, read: &str, input: &[u8]) -> Result<MemSource, AllocError> {
+    let bytes = Vec::from_slice(alloc, input)?;
     Ok(MemSource::new(bytes, 7, fails(alloc, read)?))
 }
 

@@ -2,9 +2,10 @@
 ghost use Rattle.std.specs.Prelude.{IfOk};
 ghost use Rattle.jr_script.specs.Bounds.{IsWithin};
 
+use crate::loads::{add_loads, add_same, reads_of};
 use crate::past::{add_order, add_past};
 use crate::plays::add_play;
-use crate::runs::{add_meaning, add_option, add_status};
+use crate::runs::{add_meaning, add_octets, add_option, add_status};
 use crate::told::told;
 use jcr_eval::eval;
 use jcr_law::JcrLaw;
@@ -36,7 +37,10 @@ fn add_answers(alloc: Global, text: &str, out: &mut String) -> Result<(), AllocE
 fn add_answer(alloc: Global, word: &str, text: &str, out: &mut String) -> Result<(), AllocError> {
     match word {
         "play" => add_play(alloc, text, out),
+        "loads" => add_loads(alloc, text, out),
+        "same" => add_same(alloc, text, out),
         "status" => add_status(alloc, text, out),
+        "octets" => add_octets(alloc, text, out),
         "words" => add_meaning(alloc, text, out),
         "option" => add_option(alloc, text, out),
         _ => add_script(alloc, word, text, out),
@@ -50,7 +54,7 @@ fn add_script(alloc: Global, word: &str, text: &str, out: &mut String) -> Result
     }
 }
 
-fn script(alloc: Global, text: &str) -> Result<Script, ScriptFault>
+pub(crate) fn script(alloc: Global, text: &str) -> Result<Script, ScriptFault>
     ensures { IfOk result IsWithin }
 {
     match read_script(alloc, text.as_bytes()) {
@@ -111,10 +115,9 @@ fn add_replies(alloc: Global, world: &World<JcrLaw>, out: &mut String) -> Result
 
 // How many documents session 1 read; none where there is no such session.
 fn add_reads(alloc: Global, world: &World<JcrLaw>, out: &mut String) -> Result<(), AllocError> {
-    if world.journal().sessions.inner().len() > 1 {
-        out.push_str(world.reads(1).to_string(alloc)?.as_str())
-    } else {
-        Ok(())
+    match reads_of(world) {
+        Some(reads) => out.push_str(reads.to_string(alloc)?.as_str()),
+        None => Ok(()),
     }
 }
 
