@@ -19,11 +19,16 @@ fn words_of<R: Env + Alloc>(rt: &R) -> io::Result<Vec<String<R::A>, R::A>> {
     Ok(words)
 }
 
-// Words that are no text have no meaning.
+// Words that are no text have no meaning; where memory is refused for them, nothing is written.
 fn main(rt: HostRuntime) -> ExitCode {
     let words = match words_of(&rt) {
         Ok(words) => words,
-        Err(_) => Vec::new(rt.alloc()),
+        Err(error) => {
+            if error.kind() == io::ErrorKind::OutOfMemory {
+                return ExitCode::from(Status::Memory.code());
+            }
+            Vec::new(rt.alloc())
+        }
     };
     let mut source = StdSource::new(rt.reader());
     let Ok(mut sink) = StdSink::new(rt.alloc(), io::writer(&rt)) else {
