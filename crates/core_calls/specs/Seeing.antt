@@ -6,6 +6,7 @@ use Rattle.oak_machine.specs.Commits.{tree_at}
 use Rattle.oak_machine.specs.History.{Begin, Past}
 use Rattle.oak_machine.specs.Runs.{IsRunOf}
 use Rattle.oak_machine.specs.Sessions.{base_of}
+use Rattle.jr_types.specs.Rules.{TypesOk}
 use Rattle.jcr_law.specs.declared.law.JcrLaw.{JcrLaw}
 use Rattle.jcr_law.specs.Lasting.{says_of, starts_of}
 
@@ -14,3 +15,10 @@ abbrev pub SeesTrees : JcrLaw → (clusters : ℕ) → (sessions : List ℕ) →
 SeesTrees law clusters sessions begin = (past : Past)
     → IsRunOf (starts_of law) (says_of law) clusters sessions begin past → (s : ℕ) (v : RevVec)
     → base_of past s ≡ Some v → IsTree (tree_at begin past v)
+
+-- in each run of the law that begins so, the tree that a session sees at its base meets the rules of
+-- the law's types
+abbrev pub SeesTyped : JcrLaw → (clusters : ℕ) → (sessions : List ℕ) → Begin → Type 0
+SeesTyped law clusters sessions begin = (past : Past)
+    → IsRunOf (starts_of law) (says_of law) clusters sessions begin past → (s : ℕ) (v : RevVec)
+    → base_of past s ≡ Some v → TypesOk law.types (tree_at begin past v)

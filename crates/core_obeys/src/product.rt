@@ -3,7 +3,7 @@ ghost use Rattle.std.specs.Prelude.{◌≡◌, ◌≢◌, ℕ, List, None, Some}
 ghost use Rattle.jr_path.specs.declared.path.Item.{Item};
 ghost use Rattle.jr_rev.specs.declared.revision.Revision.{Revision};
 ghost use Rattle.jr_rev.specs.declared.vector.RevVec.{RevVec};
-ghost use Rattle.jr_tree.specs.Trees.{IsTree};
+ghost use Rattle.jr_tree.specs.Trees.{IsTree, initial_tree};
 ghost use Rattle.jr_items.specs.Refusals.{clash};
 ghost use Rattle.jr_types.specs.Rules.{TypesOk};
 ghost use Rattle.jcr_trans.specs.declared.command.Command.{Command};
@@ -20,7 +20,7 @@ ghost use Rattle.oak_machine.specs.History.{History};
 ghost use Rattle.oak_machine.specs.Runs.{AreNodes, MayCommit};
 ghost use Rattle.oak_machine.specs.Sessions.{base_of, next_index};
 ghost use Rattle.core_heads.specs.Sound.{IsNodesRun};
-ghost use Rattle.core_calls.specs.Seeing.{SeesTrees};
+ghost use Rattle.core_calls.specs.Seeing.{SeesTrees, SeesTyped};
 ghost use Rattle.core_merge.specs.Orders.{tree_by_commits};
 ghost use Rattle.core_obeys.specs.Answering.{NameOthers};
 ghost use Rattle.core_obeys.specs.Obeying.{ObeysThroughout};
@@ -41,6 +41,9 @@ pub fn the_product_obeys()
         → base_of h.past s ≡ Some v → TypesOk law.types (tree_at None h.past v) }
     ensures bases_are_trees { (law : JcrLaw) (clusters : ℕ) (sessions : List ℕ)
         → AreNodes clusters sessions → SeesTrees law clusters sessions None }
+    ensures bases_are_typed { (law : JcrLaw) (clusters : ℕ) (sessions : List ℕ)
+        → AreNodes clusters sessions → TypesOk law.types initial_tree
+        → SeesTyped law clusters sessions None }
     ensures free { (law : JcrLaw) (h : History) (r : Revision) (d : Draw) → IsProductRun law h
         → draw_of h.past r ≡ Some d → MayCommit h.past r
         → IsFree law.types (tree_by_commits h.past) (tokens_at_draw (tokens_by law) h r d.session) d.edit.writes }

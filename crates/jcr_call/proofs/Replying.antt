@@ -1,6 +1,6 @@
 -- What is told of a command once its commit is made, and its plan.
-use Rattle.std.proofs.Common.{◌≡◌, ◌≢◌, Bool, true, Option, None, Some, List, ℕ, refl, sym, ap, subst, ◌∙◌, String}
-use Rattle.std.specs.Prelude.{Result, option_map, string_bytes}
+use Rattle.std.proofs.Common.{◌≡◌, ◌≢◌, Bool, true, cond, Ok, Err, Option, None, Some, List, [], ◌∷◌, ℕ, refl, sym, ap, subst, ◌∙◌, String}
+use Rattle.std.specs.Prelude.{IfErr, IfOk, Result, option_map, string_bytes}
 use Rattle.std.specs.Option.{option_map_or, unwrap_or}
 use Rattle.std.proofs.lemmas.Option.{none-some}
 use Rattle.std.specs.declared.alloc.Global.{Global}
@@ -10,19 +10,27 @@ use Rattle.jr_tree.specs.declared.edit.Edit.{Edit}
 use Rattle.jr_tree.specs.declared.edit.Write.{Write}
 use Rattle.jr_tree.specs.Edits.{IsProper}
 use Rattle.jr_tree.specs.Trees.{Nodes}
-use Rattle.jr_types.specs.declared.TypeDef.{TypeDef}
 use Rattle.jr_tree.specs.declared.shared.Refusal.{Refusal}
+use Rattle.jr_items.specs.Names.{version_storage}
+use Rattle.jr_items.specs.Refusals.{IsTheRefusal, own_rule}
+use Rattle.jcr_plan.specs.Checked.{refusal_by}
+use Rattle.jcr_plan.specs.Marks.{marks_of}
 use Rattle.jcr_plan.specs.Plans.{PlanOk}
+use Rattle.jcr_plan.specs.Refusals.{plan_refusal}
+use Rattle.jcr_plan.proofs.Accepted.{accepted as plan_accepted}
 use Rattle.jcr_plan.specs.declared.plans.Plan.{Plan}
 use Rattle.jcr_trans.specs.Answers.{ShowsRevision, ShowsText}
 use Rattle.jcr_trans.specs.Texts.{answer_text}
 use Rattle.jcr_trans.specs.declared.command.Command.{Command}
 use Rattle.jcr_trans.specs.declared.command.Command.TheVariants as command
 use Rattle.jcr_law.specs.Commits.{committed_answer, edit_due}
+use Rattle.jcr_law.specs.Law.{no_text}
 use Rattle.jcr_law.specs.Proper.{is_proper}
 use Rattle.jcr_law.proofs.Proper.{proper_of}
 use Rattle.jcr_law.specs.State.{Call, accepted, next_id, with_token}
-use Rattle.jcr_call.specs.Comings.{IsAcceptedOf, IsTold}
+use Rattle.jcr_call.specs.Comings.{IsAcceptedOf, IsTold, reply_to_due}
+use Rattle.jcr_call.specs.Footings.{IsOn, RefusesAlike}
+use Rattle.jcr_call.specs.declared.footing.Footing.{Footing}
 use Rattle.jcr_call.specs.declared.coming.Accepted.{Accepted}
 
 -- ---- what is told of a command once its commit is made
@@ -62,16 +70,42 @@ untold_tokens c m due is no_lock = absurd (none-some due is)
 
 -- ---- the plan
 
+-- a refusal by what is lent is the plan's of the call
+pub refused_alike : (f : Footing) (c : Call) (tokens : List (List ℕ)) (ws : List Write) → IsOn f c → RefusesAlike f.assured c
+    → refusal_by f.assured f.types.now f.base.now tokens ws ≡ plan_refusal c.types c.base tokens ws
+refused_alike f c tokens ws on alike = (λ i. refusal_by f.assured (on.types i) (on.base i) tokens ws) ∙ alike tokens ws
+
+pub free_alike : (made : Result Plan Refusal) (f : Footing) (c : Call) (tokens : List (List ℕ)) (ws : List Write) → IsOn f c → RefusesAlike f.assured c
+    → IfOk made (λ plan. refusal_by f.assured f.types.now f.base.now tokens ws ≡ None) → IfOk made (λ plan. plan_refusal c.types c.base tokens ws ≡ None)
+free_alike (Ok plan) f c tokens ws on alike none = sym (refused_alike f c tokens ws on alike) ∙ none
+free_alike (Err r) f c tokens ws on alike none = tt
+
+pub cause_alike : (made : Result Plan Refusal) (f : Footing) (c : Call) (tokens : List (List ℕ)) (ws : List Write) → IsOn f c → RefusesAlike f.assured c
+    → IfErr made (IsTheRefusal (refusal_by f.assured f.types.now f.base.now tokens ws)) → IfErr made (IsTheRefusal (plan_refusal c.types c.base tokens ws))
+cause_alike (Ok plan) f c tokens ws on alike is = tt
+cause_alike (Err r) f c tokens ws on alike is = λ other. sym (refused_alike f c tokens ws on alike) ∙ is other
+
 -- the plan of an edit that passes the test of proper writes
-pub plan_there : (types on_types : List TypeDef) (t on_base : Nodes) (tokens on_tokens : List (List ℕ)) (edit : Edit) (plan : Plan)
-    → types ≡ on_types → t ≡ on_base → tokens ≡ on_tokens → plan.edit ≡ edit → is_proper t edit.writes ≡ true
-    → (IsProper t edit.writes → PlanOk types t tokens edit.writes plan.marks)
-    → PlanOk on_types on_base on_tokens plan.edit.writes plan.marks
-plan_there types on_types t on_base tokens on_tokens edit plan a b c e proper ok =
-    subst (λ (x : Edit). PlanOk on_types on_base on_tokens x.writes plan.marks) (sym e)
-    (subst (λ (x : List (List ℕ)). PlanOk on_types on_base x edit.writes plan.marks) c
-    (subst (λ (x : Nodes). PlanOk on_types x tokens edit.writes plan.marks) b
-    (subst (λ (x : List TypeDef). PlanOk x t tokens edit.writes plan.marks) a (ok (proper_of t edit.writes proper)))))
+pub plan_there : (c : Call) (t : Nodes) (tokens : List (List ℕ)) (edit : Edit) (plan : Plan)
+    → t ≡ c.base → tokens ≡ c.state.tokens → plan.edit ≡ edit → is_proper t edit.writes ≡ true
+    → plan.marks ≡ marks_of t edit.writes → plan_refusal c.types c.base tokens edit.writes ≡ None
+    → PlanOk c.types c.base c.state.tokens plan.edit.writes plan.marks
+plan_there c t tokens edit plan base held is proper marks none =
+    let there : IsProper c.base edit.writes = proper_of c.base edit.writes (subst (λ (x : Nodes). is_proper x edit.writes ≡ true) base proper) in
+    let planned : PlanOk c.types c.base tokens edit.writes (marks_of c.base edit.writes) = plan_accepted c.types c.base tokens edit.writes there none in
+    subst (λ (x : Edit). PlanOk c.types c.base c.state.tokens x.writes plan.marks) (sym is)
+    (subst (λ (x : List (List ℕ)). PlanOk c.types c.base x edit.writes plan.marks) held
+    (subst (PlanOk c.types c.base tokens edit.writes) (sym (marks ∙ ap (λ (x : Nodes). marks_of x edit.writes) base)) planned))
+
+-- the reply to a command whose edit is proper: the refusal of its plan, if there is one
+pub plan_reply : (c : Call) (m : Command) (t : Nodes) (tokens : List (List ℕ)) (ws : List Write) (r : Option Refusal)
+    → t ≡ c.base → tokens ≡ c.state.tokens → ws ≢ [] → is_proper t ws ≡ true → plan_refusal c.types c.base tokens ws ≡ r
+    → option_map no_text r ≡ reply_to_due c m (Ok ws)
+plan_reply c m t tokens [] r base held some proper is = absurd (some refl)
+plan_reply c m t tokens (w ∷ ws) r base held some proper is =
+    let there : is_proper c.base (w ∷ ws) ≡ true = subst (λ (x : Nodes). is_proper x (w ∷ ws) ≡ true) base proper in
+    let same : plan_refusal c.types c.base c.state.tokens (w ∷ ws) ≡ r = subst (λ (x : List (List ℕ)). plan_refusal c.types c.base x (w ∷ ws) ≡ r) held is in
+    sym (ap (option_map no_text) (ap (λ b. cond b (plan_refusal c.types c.base c.state.tokens (w ∷ ws)) (Some (own_rule version_storage))) there ∙ same))
 
 -- ---- the token of a lock
 

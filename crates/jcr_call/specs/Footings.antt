@@ -1,5 +1,9 @@
 -- What a command that commits is run on, as the law has it.
-use Rattle.std.specs.Prelude.{◌≡◌}
+use Rattle.std.specs.Prelude.{◌≡◌, ℕ, List}
+use Rattle.jr_tree.specs.declared.edit.Write.{Write}
+use Rattle.jcr_plan.specs.declared.causes.Assured.{Assured}
+use Rattle.jcr_plan.specs.Checked.{refusal_by}
+use Rattle.jcr_plan.specs.Refusals.{plan_refusal}
 use Rattle.jcr_law.specs.State.{Call}
 use Rattle.jcr_call.specs.declared.footing.Footing.{Footing}
 
@@ -9,3 +13,8 @@ pub record IsOn (f : Footing) (c : Call) : Type 0 where
   pub who : f.who.now ≡ c.who
   pub base : f.base.now ≡ c.base
   pub tokens : f.tokens.now ≡ c.state.tokens
+
+-- an edit that is checked by what is assured is refused for what it would be on the whole tree
+abbrev pub RefusesAlike : Assured → Call → Type 0
+RefusesAlike assured c = (tokens : List (List ℕ)) (ws : List Write)
+    → refusal_by assured c.types c.base tokens ws ≡ plan_refusal c.types c.base tokens ws

@@ -1,7 +1,10 @@
 // What a command that commits comes to before its commit.
-ghost use Rattle.std.specs.Prelude.{◌≡◌, ◌≢◌, [], IfOk, List, None, Ok, Result, Some, true};
+ghost use Rattle.std.specs.Prelude.{◌≡◌, ◌≢◌, [], IfErr, IfOk, List, None, Ok, Result, Some, map, string_bytes, true};
 ghost use Rattle.jr_tree.specs.declared.edit.Write.{Write};
 ghost use Rattle.jr_tree.specs.declared.shared.Refusal.{Refusal};
+ghost use Rattle.jr_items.specs.Refusals.{IsTheRefusal};
+ghost use Rattle.jcr_plan.specs.Marks.{marks_of};
+ghost use Rattle.jcr_plan.specs.Refusals.{plan_refusal};
 ghost use Rattle.jcr_trans.specs.Answers.{ShowsText};
 ghost use Rattle.jcr_trans.specs.Texts.{answer_text};
 ghost use Rattle.jcr_version.specs.Edits.{checked_in_version};
@@ -10,7 +13,7 @@ ghost use Rattle.jcr_law.specs.Proper.{is_proper};
 ghost use Rattle.jcr_law.specs.State.{Call, next_id, with_token};
 ghost use Rattle.jcr_call.specs.Comings.{IsAcceptedOf, IsComing, IsTold, reply_to_due, said_of};
 ghost use Rattle.jcr_call.specs.Dues.{due_of};
-ghost use Rattle.jcr_call.specs.Footings.{IsOn};
+ghost use Rattle.jcr_call.specs.Footings.{IsOn, RefusesAlike};
 
 use crate::due::Due;
 use crate::footing::Footing;
@@ -18,10 +21,10 @@ use crate::ids::next_id;
 use crate::proper::is_proper;
 use crate::replies::{cause_text, improper_reply, unwritten_reply, version_reply};
 use crate::tokens::{all, strings, with_token};
-use jcr_plan::{Plan, plan_of};
+use jcr_plan::{Plan, plan_of_change};
 use jcr_trans::{Command, refusal_text, text_reply};
 use jr_path::{List, Path, Text};
-use jr_tree::Edit;
+use jr_tree::{Edit, Refusal};
 use std::alloc::{AllocError, Global};
 
 /// What a command that commits comes to before its commit: a reply, or a plan, and what is told
@@ -41,8 +44,9 @@ pub struct Accepted {
 }
 
 /// What a command comes to by what is due for it (JSR 283, 10.11 Saving): a reply, where that is a
-/// refusal, has nothing to write, isn't proper or can't be planned; else a plan. It goes over the
-/// whole tree.
+/// refusal, has nothing to write, isn't proper or can't be planned; else a plan. It makes the tree
+/// after the edit. Of the rules of types and of the references there it goes over those alone that
+/// the edit touches, as far as the footing is assured of the tree before it.
 pub fn come(
     alloc: Global,
     footing: &Footing<'_>,
@@ -50,10 +54,11 @@ pub fn come(
     due: Due,
 ) -> Result<Coming, AllocError>
     // what it says is the reply to what is due
-    ensures reply { (c : Call) → IsOn footing.now c → IfOk result (λ coming.
-        said_of coming ≡ reply_to_due c command.now (due_of due)) }
+    ensures reply { (c : Call) → IsOn footing.now c → RefusesAlike footing.now.assured c
+        → IfOk result (λ coming. said_of coming ≡ reply_to_due c command.now (due_of due)) }
     // what is due for the command comes to this
-    ensures comes { (c : Call) → IsOn footing.now c → edit_due c command.now ≡ Some (due_of due)
+    ensures comes { (c : Call) → IsOn footing.now c → RefusesAlike footing.now.assured c
+        → edit_due c command.now ≡ Some (due_of due)
         → IfOk result (IsComing c command.now (due_of due)) }
 {
     match due {
@@ -69,9 +74,10 @@ fn come_edit(
     command: &Command,
     edit: Edit,
 ) -> Result<Coming, AllocError>
-    ensures reply { (c : Call) → IsOn footing.now c → IfOk result (λ coming.
-        said_of coming ≡ reply_to_due c command.now (Ok edit.writes)) }
-    ensures comes { (c : Call) → IsOn footing.now c → edit_due c command.now ≡ Some (Ok edit.writes)
+    ensures reply { (c : Call) → IsOn footing.now c → RefusesAlike footing.now.assured c
+        → IfOk result (λ coming. said_of coming ≡ reply_to_due c command.now (Ok edit.writes)) }
+    ensures comes { (c : Call) → IsOn footing.now c → RefusesAlike footing.now.assured c
+        → edit_due c command.now ≡ Some (Ok edit.writes)
         → IfOk result (IsComing c command.now (Ok edit.writes)) }
 {
     if edit.writes.is_empty() {
@@ -93,16 +99,43 @@ fn come_plan(
 ) -> Result<Coming, AllocError>
     requires some { edit.writes ≢ [] }
     requires proper { is_proper footing.now.base.now edit.writes ≡ true }
-    ensures reply { (c : Call) → IsOn footing.now c → IfOk result (λ coming.
-        said_of coming ≡ reply_to_due c command.now (Ok edit.writes)) }
-    ensures comes { (c : Call) → IsOn footing.now c → edit_due c command.now ≡ Some (Ok edit.writes)
+    ensures reply { (c : Call) → IsOn footing.now c → RefusesAlike footing.now.assured c
+        → IfOk result (λ coming. said_of coming ≡ reply_to_due c command.now (Ok edit.writes)) }
+    ensures comes { (c : Call) → IsOn footing.now c → RefusesAlike footing.now.assured c
+        → edit_due c command.now ≡ Some (Ok edit.writes)
         → IfOk result (IsComing c command.now (Ok edit.writes)) }
 {
     let tokens = strings(alloc, footing.tokens)?;
-    match plan_of(alloc, footing.types, footing.base, edit, tokens.as_slice()) {
+    match planned(alloc, footing, edit, tokens.as_slice()) {
         Ok(plan) => Ok(Coming::Planned(plan, told(alloc, footing, command)?)),
         Err(refusal) => Ok(Coming::Said(cause_text(alloc, &refusal)?)),
     }
+}
+
+// The plan of an edit, of which that is checked which the footing isn't assured of.
+fn planned(
+    alloc: Global,
+    footing: &Footing<'_>,
+    edit: Edit,
+    tokens: &[String],
+) -> Result<Plan, Refusal>
+    ensures edit { IfOk result (λ plan. plan.edit ≡ edit) }
+    ensures marks { IfOk result (λ plan. plan.marks ≡ marks_of footing.now.base.now edit.writes) }
+    ensures accepted { (c : Call) → IsOn footing.now c → RefusesAlike footing.now.assured c
+        → IfOk result (λ plan. plan_refusal c.types c.base (map string_bytes tokens.now) edit.writes
+        ≡ None) }
+    ensures refused { (c : Call) → IsOn footing.now c → RefusesAlike footing.now.assured c
+        → IfErr result (IsTheRefusal
+        (plan_refusal c.types c.base (map string_bytes tokens.now) edit.writes)) }
+{
+    plan_of_change(
+        alloc,
+        footing.types,
+        footing.base,
+        edit,
+        tokens,
+        footing.assured,
+    )
 }
 
 // What is told of a command once its commit is made.

@@ -12,7 +12,7 @@ ghost use Rattle.jcr_law.specs.Law.{no_text};
 ghost use Rattle.jcr_law.specs.State.{next_id};
 ghost use Rattle.jcr_call.specs.Comings.{reply_to_due};
 ghost use Rattle.jcr_call.specs.Dues.{due_of};
-ghost use Rattle.jcr_call.specs.Footings.{IsOn};
+ghost use Rattle.jcr_call.specs.Footings.{IsOn, RefusesAlike};
 ghost use Rattle.jcr_past.specs.Calls.{called};
 ghost use Rattle.jcr_eval.specs.Causes.{CommitCause, clash_reply, committed_reply, due_reply, is_seen_commit, reply_to_draw, uncommitted_reply};
 
@@ -20,6 +20,7 @@ use crate::replies::{cause_reply, is_reply};
 use jcr_call::{Coming, Due, Footing, come, next_id, version_reply};
 use jcr_law::JcrLaw;
 use jcr_past::{Call, call_of, draw_since};
+use jcr_plan::Assured;
 use jcr_trans::{Command, revision_reply, text_reply};
 use jr_items::clash;
 use jr_path::Path;
@@ -107,15 +108,20 @@ fn edit_due(
     }
 }
 
-// What a command is run on.
+// What a command is run on. The journal may be any, so that nothing is assured of the tree.
 fn footing<'a>(types: &'a Registry, call: &'a Call) -> Footing<'a>
-    ensures { IsOn result (called types.now call.now) }
+    ensures on { IsOn result (called types.now call.now) }
+    ensures alike { RefusesAlike result.assured (called types.now call.now) }
 {
     Footing {
         types,
         who: &call.who,
         base: &call.base,
         tokens: call.state.tokens.as_slice(),
+        assured: Assured {
+            typed: false,
+            referring: false,
+        },
     }
 }
 

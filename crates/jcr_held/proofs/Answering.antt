@@ -43,6 +43,7 @@ holds_own c x h = record {
   ids = refl;
   tokens = h.tokens;
   view = h.view;
+  references = h.references;
 }
 
 holds_counted : (c : Call) (x : Held) (state : State) (ok drew : Bool) (m : Command) → Holds (with_state c state) x
@@ -53,6 +54,7 @@ holds_counted c x state ok drew m h = record {
   ids = refl;
   tokens = h.tokens;
   view = h.view;
+  references = h.references;
 }
 
 -- ---- commands of the view
@@ -191,6 +193,7 @@ module _ (enough : (types : List TypeDef) (who : Who) (t : Nodes) (k : Knowledge
     tokens = holds.tokens;
     view = subst (λ (b : Bool). HoldsView (with_state c (viewed e c.state)) x.part (with_steps x.part.nodes x.pending o.steps) b)
         (sym settled) view_after;
+    references = holds.references;
   }
 
   counts_or : is_viewed m ≡ true → is_of_tokens m ≡ false → (b : Bool) → is_ok_text (answer_text o.answer) ≡ b

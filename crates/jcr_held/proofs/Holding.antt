@@ -21,6 +21,8 @@ use Rattle.jr_part.proofs.Puts.{children_agree, node_agrees, nothing_agrees}
 use Rattle.jr_overlay.specs.Overlays.{AreOver, Changed, edit_of, view_of}
 use Rattle.jr_overlay.proofs.Commits.{nothing_over}
 use Rattle.jr_overlay.proofs.EditsOf.{edit_exact}
+use Rattle.jcr_ref.specs.References.{ReferencesOk, dangling}
+use Rattle.jr_types.specs.Rules.{TypesOk}
 use Rattle.jcr_trans.specs.declared.command.Command.{Command}
 use Rattle.jcr_trans.specs.declared.command.Command.TheVariants as command
 use Rattle.jcr_view.specs.Needs.{needs_of, needs_to_rebase}
@@ -28,10 +30,16 @@ use Rattle.jcr_view.specs.Outcomes.{is_viewed}
 use Rattle.jcr_view.specs.Parts.{IsPartOf}
 use Rattle.jcr_view.specs.Rebases.{rebased, tree_again}
 use Rattle.jcr_law.specs.State.{Call}
+use Rattle.jcr_plan.proofs.Touching.{as_assured}
 use Rattle.jcr_call.specs.Calls.{call_moved}
+use Rattle.jcr_call.specs.Footings.{RefusesAlike}
 use Rattle.jcr_held.specs.declared.held.Held.{Held}
 use Rattle.jcr_held.specs.Alike.{AreAlike, moved_to}
 use Rattle.jcr_held.specs.Holds.{Holds, HoldsView, IsReady, asks_for}
+use Rattle.jcr_held.specs.References.{HoldsReferences, are_named, references_by}
+use Rattle.jcr_held.specs.declared.references.References.{References}
+use Rattle.jcr_held.specs.declared.references.References.TheVariants as references
+use Rattle.jcr_held.proofs.Dangling.{named_ok, told_so}
 
 -- what is alike is held alike
 pub holds_alike : (c : Call) (x y : Held) → AreAlike x y → Holds c x → Holds c y
@@ -43,6 +51,7 @@ holds_alike c x y a h = record {
   view = subst (λ (k : Knowledge). HoldsView c k y.pending y.is_kept) (sym a.part)
       (subst (λ (p : Changed). HoldsView c x.part p y.is_kept) (sym a.pending)
       (subst (λ (b : Bool). HoldsView c x.part x.pending b) (sym a.is_kept) h.view));
+  references = subst (HoldsReferences c.base) (sym a.references) h.references;
 }
 
 -- ---- the base moves
@@ -73,12 +82,13 @@ holds_moved c x v t h settled tree = record {
   ids = h.ids;
   tokens = h.tokens;
   view = (nothing_part t tree, ap (tree_again t) (pending_changes c x settled h));
+  references = tt;
 }
 
--- what is known of the tree that the base moves to
-pub holds_moved_knowing : (c : Call) (x : Held) (v : RevVec) (t : Nodes) (k : Knowledge) → Holds c x → x.is_kept ≡ false → IsTree t → is_sorted path_cmp k.nodes ≡ true → (AgreesWith c.base x.part → AgreesWith t k)
-    → Holds (call_moved c v t) (record (moved_to x v) { part = k })
-holds_moved_knowing c x v t k h settled tree order agrees =
+-- what is known of the tree that the base moves to, of which each REFERENCE names a node
+pub holds_moved_knowing : (c : Call) (x : Held) (v : RevVec) (t : Nodes) (k : Knowledge) → Holds c x → x.is_kept ≡ false → IsTree t → is_sorted path_cmp k.nodes ≡ true → (AgreesWith c.base x.part → AgreesWith t k) → ReferencesOk t
+    → Holds (call_moved c v t) (record (moved_to x v) { part = k; references = references.Named })
+holds_moved_knowing c x v t k h settled tree order agrees refers =
     let moved = holds_moved c x v t h settled tree in
     record {
       types = moved.types;
@@ -86,6 +96,7 @@ holds_moved_knowing c x v t k h settled tree order agrees =
       ids = moved.ids;
       tokens = moved.tokens;
       view = (record { tree = tree; order = order; agrees = agrees (view_settled c x settled h).0.agrees; over = nothing_over t }, moved.view.1);
+      references = refers;
     }
 
 -- ---- more is known of the tree at the base
@@ -108,6 +119,7 @@ holds_known c x more order agrees h = record {
   ids = h.ids;
   tokens = h.tokens;
   view = view_known c x.part more x.pending x.is_kept order agrees h.view;
+  references = h.references;
 }
 
 pub holds_node : (c : Call) (x : Held) (p : Path) (node : Option Node)
@@ -144,6 +156,7 @@ module _ (over : (t : Nodes) (k : Knowledge) (ws : List Write) → IsPartOf t k 
     ids = h.ids;
     tokens = h.tokens;
     view = view_again c x.part x.pending x.is_kept kept known h.view;
+    references = h.references;
   }
 
 -- ---- what a command asks for
@@ -189,3 +202,43 @@ pub again_known : (x y : Held) (needs : List Need) → AreAlike x y → needs �
     → All (LacksNothing y.part) needs → All (LacksNothing y.part) (needs_to_rebase (edit_of y.pending))
 again_known x y needs a is known =
     subst (All (LacksNothing y.part)) (is ∙ ap (λ (p : Changed). needs_to_rebase (edit_of p)) (sym a.pending)) known
+
+-- ---- what is assured of the tree at the base
+
+-- by the types, and by the references where they are known, an edit is refused as on the whole tree
+pub refused_alike : (c : Call) (x : Held) → Holds c x → x.is_kept ≡ false → TypesOk c.types c.base
+    → RefusesAlike (record { typed = true; referring = are_named x.references }) c
+refused_alike c x h settled typed tokens ws =
+    as_assured (record { typed = true; referring = are_named x.references }) c.types c.base tokens ws (view_settled c x settled h).0.tree
+    (record { typed = λ is. typed; referring = named_ok c.base x.references h.references })
+
+-- ---- whether a reference dangles is asked
+
+-- what the whole tree at the base tells of its references is so
+pub holds_asked : (c : Call) (x : Held) (u : Nodes) (r : References) → x.is_kept ≡ false
+    → ((t : Nodes) → IsTree t → AgreesWith t x.part → u ≡ t) → r ≡ references_by (dangling u) → Holds c x
+    → Holds c (record x { references = r })
+holds_asked c x u r settled whole told h =
+    let v : HoldsView c x.part x.pending false = view_settled c x settled h in
+    let is : r ≡ references_by (dangling c.base) =
+    told ∙ ap (λ (t : Nodes). references_by (dangling t)) (whole c.base v.0.tree v.0.agrees) in
+    record {
+      types = h.types;
+      who = h.who;
+      ids = h.ids;
+      tokens = h.tokens;
+      view = h.view;
+      references = subst (HoldsReferences c.base) (sym is) (told_so c.base (dangling c.base) refl);
+    }
+
+asks_apart : (x : Held) (r : References) (m : Command) → asks_for (record x { references = r }) m ≡ asks_for x m
+asks_apart x r command.Head = refl
+asks_apart x r (command.Refresh keep) = refl
+asks_apart x r m = refl
+
+-- a command is ready still, whatever is known of the references
+pub ready_asked : (x : Held) (r : References) (m : Command) → IsReady x m → IsReady (record x { references = r }) m
+ready_asked x r m h = record {
+  settled = h.settled;
+  known = subst (All (LacksNothing x.part)) (sym (asks_apart x r m)) h.known;
+}

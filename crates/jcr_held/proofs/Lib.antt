@@ -1,4 +1,6 @@
 mod Answering
+mod Dangling
 mod Dues
 mod Holding
+mod Referring
 mod Unwritten

@@ -1,8 +1,10 @@
 -- What is held, whatever is left to be looked at by loading.
-use Rattle.std.specs.Prelude.{◌≡◌, ℕ, ◌+◌, min, true}
+use Rattle.std.specs.Prelude.{◌≡◌, ℕ, ◌+◌, IsTrue, min, true}
 use Rattle.jr_rev.specs.declared.vector.RevVec.{RevVec}
 use Rattle.jr_part.specs.Parts.{nothing_known}
+use Rattle.jcr_held.specs.References.{is_asked}
 use Rattle.jcr_held.specs.declared.held.Held.{Held}
+use Rattle.jcr_held.specs.declared.references.References.TheVariants as references
 
 -- both hold the same; only what loading still has to look at may differ
 pub record AreAlike (x y : Held) : Type 0 where
@@ -11,21 +13,26 @@ pub record AreAlike (x y : Held) : Type 0 where
   pub part : y.part ≡ x.part
   pub pending : y.pending ≡ x.pending
   pub is_kept : y.is_kept ≡ x.is_kept
+  pub references : y.references ≡ x.references
   pub tokens : y.tokens ≡ x.tokens
 
--- only what is pending changes, and whether it is kept from an earlier base
-pub record ChangesPendingOnly (old new : Held) : Type 0 where
+-- only what is pending changes, and whether it is kept from an earlier base; of the references of the
+-- tree at the base it may be asked, where it wasn't yet
+pub record Readies (old new : Held) : Type 0 where
   pub types : new.types ≡ old.types
   pub who : new.who ≡ old.who
   pub part : new.part ≡ old.part
+  pub references : IsTrue (is_asked old.references) → new.references ≡ old.references
   pub tokens : new.tokens ≡ old.tokens
 
--- the base is at a vector, of whose tree nothing is known; what is pending is kept
+-- the base is at a vector, of whose tree nothing is known, nor of its references; what is pending is
+-- kept
 abbrev pub moved_to : Held → RevVec → Held
 moved_to x v = record x {
   who = record x.who { base = v };
   part = nothing_known;
   is_kept = true;
+  references = references.Unasked;
 }
 
 -- so many identifiers more, up to the limit

@@ -1,5 +1,5 @@
 -- What a session holds at its base, as the law has it.
-use Rattle.std.specs.Prelude.{◌≡◌, Bool, true, false, cond, List, [], ◌∷◌}
+use Rattle.std.specs.Prelude.{◌≡◌, Bool, true, false, cond, List, [], ◌∷◌, IsTrue}
 use Rattle.std.specs.List.{All}
 use Rattle.jr_part.specs.Parts.{Knowledge, LacksNothing}
 use Rattle.jr_part.specs.declared.need.Need.{Need}
@@ -12,6 +12,8 @@ use Rattle.jcr_view.specs.Outcomes.{is_viewed}
 use Rattle.jcr_view.specs.Parts.{IsPartOf}
 use Rattle.jcr_view.specs.Rebases.{tree_again}
 use Rattle.jcr_law.specs.State.{Call}
+use Rattle.jcr_held.specs.Comes.{commits}
+use Rattle.jcr_held.specs.References.{HoldsReferences, is_asked}
 use Rattle.jcr_held.specs.declared.held.Held.{Held}
 
 -- what is known and pending makes the view: pending over the tree at the base, or, kept from an
@@ -29,6 +31,7 @@ pub record Holds (c : Call) (x : Held) : Type 0 where
   pub ids : c.who.ids ≡ c.state.ids
   pub tokens : x.tokens ≡ c.state.tokens
   pub view : HoldsView c x.part x.pending x.is_kept
+  pub references : HoldsReferences c.base x.references
 
 -- the command reads the view, or the tree at the base, or commits; others need nothing of these
 abbrev pub asks_for : Held → Command → List Need
@@ -40,3 +43,7 @@ asks_for x m = cond (is_viewed m) (needs_of x.who x.part x.pending m) (need.All 
 pub record IsReady (x : Held) (m : Command) : Type 0 where
   pub settled : x.is_kept ≡ false
   pub known : All (LacksNothing x.part) (asks_for x m)
+
+-- before a command that commits it was asked whether a reference of the tree at the base dangles
+abbrev pub HasAsked : Held → Command → Type 0
+HasAsked x m = IsTrue (commits m) → IsTrue (is_asked x.references)

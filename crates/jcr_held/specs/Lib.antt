@@ -4,4 +4,5 @@ pub mod Begins
 pub mod Comes
 pub mod Follows
 pub mod Holds
+pub mod References
 pub mod Sees

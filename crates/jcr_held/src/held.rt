@@ -1,5 +1,5 @@
 // What a session holds between its commands.
-ghost use Rattle.std.specs.Prelude.{◌≡◌, IsFalse, IsTrue, OnErr, OnOk, Some, false, true};
+ghost use Rattle.std.specs.Prelude.{◌≡◌, IsFalse, IsTrue, None, OnErr, OnOk, Some, false, true};
 ghost use Rattle.std.specs.Option.{unwrap_or};
 ghost use Rattle.std.specs.FinMap.{is_sorted};
 ghost use Rattle.jr_path.specs.Names.{name_cmp, path_cmp};
@@ -7,6 +7,7 @@ ghost use Rattle.jr_tree.specs.Edits.{IsProper, applied};
 ghost use Rattle.jr_tree.specs.Trees.{IsTree, Nodes, dated_children_of, node_at};
 ghost use Rattle.jr_part.specs.Parts.{LacksNothing, nothing_known, with_children, with_node};
 ghost use Rattle.jr_part.specs.declared.need.Need.TheVariants as need;
+ghost use Rattle.jcr_ref.specs.References.{ReferencesOk};
 ghost use Rattle.jcr_view.specs.Outcomes.{is_viewed};
 ghost use Rattle.jcr_law.specs.State.{Call, used};
 ghost use Rattle.jcr_call.specs.Calls.{call_after, call_moved};
@@ -15,7 +16,9 @@ ghost use Rattle.jcr_held.specs.Accepts.{TokensFit, drops_pending, without_pendi
 ghost use Rattle.jcr_held.specs.Begins.{IsFirstCall, IsNewHeld};
 ghost use Rattle.jcr_held.specs.Follows.{Follows};
 ghost use Rattle.jcr_held.specs.Holds.{Holds};
+ghost use Rattle.jcr_held.specs.declared.references.References.TheVariants as references;
 
+use crate::references::References;
 use jcr_ref::MAX_IDS;
 use jcr_trans::Command;
 use jcr_view::Pending;
@@ -38,6 +41,8 @@ pub struct Held {
     pub(crate) pending: Pending,
     // What is pending is over an earlier base, and is to be made again over this one.
     pub(crate) is_kept: bool,
+    // What is known of the REFERENCEs of the tree at the base.
+    pub(crate) references: References,
     pub(crate) tokens: List<Text>,
     // What is still to be looked at by loading, the next last.
     pub(crate) left: Vec<Need>,
@@ -68,6 +73,7 @@ impl Held {
             part: Part::new(alloc),
             pending: Pending::new(alloc),
             is_kept: false,
+            references: References::Unasked,
             tokens: List::new(alloc),
             left: Vec::new(alloc),
         }
@@ -80,9 +86,9 @@ impl Held {
         self.who.base
     }
 
-    /// Moves the base to a vector, of whose tree nothing is known yet. What is pending is kept, and
-    /// made again over that tree before the next command that asks for something (JSR 283, 10.11.4
-    /// Refresh). It takes no memory.
+    /// Moves the base to a vector, of whose tree and references nothing is known yet. What is pending is
+    /// kept, and made again over that tree before the next command that asks for something (JSR 283,
+    /// 10.11.4 Refresh). It takes no memory.
     pub fn move_to(&mut self, base: RevVec)
         ensures begins { (c : Call) → IsNewHeld self.old → IsFirstCall self.old base c
             → Holds c self.new }
@@ -93,23 +99,30 @@ impl Held {
         self.who.base = base;
         self.part = Part::new(self.alloc);
         self.is_kept = true;
+        self.references = References::Unasked;
         self.left.clear();
     }
 
     /// Moves the base to a vector at which the tree is the one at the old base with an edit, as an own
-    /// commit by that revision leaves it. What is known of the tree follows the edit, so that nothing
-    /// is loaded again, and what is pending is kept as by `move_to` (JSR 283, 10.11 Saving). It answers
-    /// whether the whole tree is known still; where it wasn't, or memory is refused, nothing is known.
+    /// commit by that revision leaves it, of which its plan told that each REFERENCE names a node. What
+    /// is known of the tree follows the edit, so that nothing is loaded again, and what is pending is
+    /// kept as by `move_to` (JSR 283, 10.11 Saving; 3.8 Referential Integrity). It answers whether the
+    /// whole tree is known still; where it wasn't, or memory is refused, no node of it is known.
     pub fn follow(&mut self, base: RevVec, by: Revision, edit: &Edit) -> bool
         ensures whole { IsTrue result → LacksNothing self.new.part need.All }
         ensures nothing { IsFalse result → self.new.part ≡ nothing_known }
         ensures holds { (c : Call) → Holds c self.old → IsFalse self.old.is_kept
             → IsProper c.base edit.now.writes
+            → ReferencesOk (applied None c.base edit.now.writes)
             → Holds (call_moved c base (applied (Some by) c.base edit.now.writes)) self.new }
-        ensures same { AreAlike (record (moved_to self.old base) { part = self.new.part }) self.new }
+        ensures same { AreAlike (record (moved_to self.old base) {
+          part = self.new.part;
+          references = references.Named;
+        }) self.new }
     {
         self.who.base = base;
         self.is_kept = true;
+        self.references = References::Named;
         self.left.clear();
         follow(self.alloc, &mut self.part, edit, by)
     }

@@ -1,5 +1,5 @@
 // What a session has to read of the tree at its base before a command.
-ghost use Rattle.std.specs.Prelude.{◌≡◌, ◌∷◌, [], IfOk, IfSome, IsFalse, IsTrue, None, OnOk, Some, cond};
+ghost use Rattle.std.specs.Prelude.{◌≡◌, ◌∷◌, [], IfOk, IfSome, IsFalse, IsTrue, None, OnErr, OnOk, Some, cond};
 ghost use Rattle.std.specs.List.{All};
 ghost use Rattle.jr_part.specs.Parts.{LacksNothing};
 ghost use Rattle.jr_part.specs.declared.need.Need.TheVariants as need;
@@ -8,10 +8,13 @@ ghost use Rattle.jcr_view.specs.Needs.{needs_of, needs_to_rebase};
 ghost use Rattle.jcr_view.specs.Outcomes.{is_viewed};
 ghost use Rattle.jcr_view.specs.Rounds.{is_of_one_node};
 ghost use Rattle.jcr_law.specs.State.{Call};
-ghost use Rattle.jcr_held.specs.Alike.{AreAlike, ChangesPendingOnly};
-ghost use Rattle.jcr_held.specs.Holds.{Holds, IsReady, asks_for};
+ghost use Rattle.jcr_held.specs.Alike.{AreAlike, Readies};
+ghost use Rattle.jcr_held.specs.Holds.{HasAsked, Holds, IsReady, asks_for};
+ghost use Rattle.jcr_held.specs.References.{is_asked};
 
 use crate::Held;
+use crate::committing::commits;
+use crate::references::{References, ask};
 use jcr_trans::Command;
 use jcr_view::{each_round_learns, is_viewed, rebases_count};
 use jr_part::{Need, Part};
@@ -23,12 +26,14 @@ impl Held {
     /// What to read next of the tree at the base, a node or the children of one, before a command
     /// is run; None where all is known that it asks for, and nothing is kept from an earlier base.
     /// Commands that commit, and queries, ask for the whole tree (JSR 283, 6 Query; 10.11 Saving);
-    /// `head` and `refresh` for nothing.
+    /// `head` and `refresh` for nothing. Before one that commits, it is asked once at each base
+    /// whether a REFERENCE dangles there, where that isn't known (3.8.2 Referential Integrity).
     pub fn next_load(&mut self, command: &Command) -> Result<Option<Need>, AllocError>
         ensures ready { IfOk result (λ load. load ≡ None → IsReady self.new command.now) }
+        ensures asked { IfOk result (λ load. load ≡ None → HasAsked self.new command.now) }
         ensures one { IfOk result (λ load. IfSome load (λ n. IsTrue (is_of_one_node n))) }
         ensures holds { (c : Call) → Holds c self.old → Holds c self.new }
-        ensures others { ChangesPendingOnly self.old self.new }
+        ensures others { Readies self.old self.new }
     {
         match load_left(self.alloc, &self.part, &mut self.left)? {
             Some(load) => Ok(Some(load)),
@@ -39,9 +44,10 @@ impl Held {
     // What to read next where nothing is left to be looked at.
     fn load_anew(&mut self, command: &Command) -> Result<Option<Need>, AllocError>
         ensures ready { IfOk result (λ load. load ≡ None → IsReady self.new command.now) }
+        ensures asked { IfOk result (λ load. load ≡ None → HasAsked self.new command.now) }
         ensures one { IfOk result (λ load. IfSome load (λ n. IsTrue (is_of_one_node n))) }
         ensures holds { (c : Call) → Holds c self.old → Holds c self.new }
-        ensures others { ChangesPendingOnly self.old self.new }
+        ensures others { Readies self.old self.new }
     {
         match self.load_kept()? {
             Some(load) => Ok(Some(load)),
@@ -54,7 +60,7 @@ impl Held {
         ensures settled { IfOk result (λ load. load ≡ None → IsFalse self.new.is_kept) }
         ensures one { IfOk result (λ load. IfSome load (λ n. IsTrue (is_of_one_node n))) }
         ensures holds { (c : Call) → Holds c self.old → Holds c self.new }
-        ensures others { ChangesPendingOnly self.old self.new }
+        ensures others { Readies self.old self.new }
     {
         if !self.is_kept {
             return Ok(None);
@@ -74,7 +80,7 @@ impl Held {
         ensures none { IfOk result (λ load. load ≡ None) }
         ensures settled { OnOk result (IsFalse self.new.is_kept) }
         ensures holds { (c : Call) → Holds c self.old → Holds c self.new }
-        ensures others { ChangesPendingOnly self.old self.new }
+        ensures others { Readies self.old self.new }
     {
         rebases_count();
         self.pending.rebase(&self.part)?;
@@ -86,12 +92,61 @@ impl Held {
     fn load_for(&mut self, command: &Command) -> Result<Option<Need>, AllocError>
         requires settled { IsFalse self.old.is_kept }
         ensures ready { IfOk result (λ load. load ≡ None → IsReady self.new command.now) }
+        ensures asked { IfOk result (λ load. load ≡ None → HasAsked self.new command.now) }
         ensures one { IfOk result (λ load. IfSome load (λ n. IsTrue (is_of_one_node n))) }
         ensures holds { (c : Call) → Holds c self.old → Holds c self.new }
-        ensures others { ChangesPendingOnly self.old self.new }
+        ensures others { Readies self.old self.new }
     {
         let needs = self.asked(command)?;
-        self.load_of(needs)
+        match self.load_of(needs)? {
+            Some(load) => Ok(Some(load)),
+            None => self.ask_before(command),
+        }
+    }
+
+    // Nothing is to be read for a command. Before one that commits, it is asked whether a REFERENCE
+    // of the tree at the base dangles.
+    fn ask_before(&mut self, command: &Command) -> Result<Option<Need>, AllocError>
+        requires ready { IsReady self.old command.now }
+        ensures none { IfOk result (λ load. load ≡ None) }
+        ensures ready { IsReady self.new command.now }
+        ensures asked { OnOk result (HasAsked self.new command.now) }
+        ensures holds { (c : Call) → Holds c self.old → Holds c self.new }
+        ensures others { Readies self.old self.new }
+    {
+        if commits(command) {
+            self.ask_once()?;
+        }
+        Ok(None)
+    }
+
+    // Asks whether a REFERENCE of the tree at the base dangles, where that isn't known.
+    fn ask_once(&mut self) -> Result<(), AllocError>
+        requires settled { IsFalse self.old.is_kept }
+        requires known { LacksNothing self.old.part need.All }
+        ensures asked { OnOk result (IsTrue (is_asked self.new.references)) }
+        ensures once { IsTrue (is_asked self.old.references) → self.new ≡ self.old }
+        ensures same { self.new ≡ record self.old { references = self.new.references } }
+        ensures holds { (c : Call) → Holds c self.old → Holds c self.new }
+        ensures err { OnErr result (self.new ≡ self.old) }
+    {
+        match self.references {
+            References::Unasked => self.ask_references(),
+            References::Named | References::Dangling => Ok(()),
+        }
+    }
+
+    // Asks whether a REFERENCE of the tree at the base dangles.
+    fn ask_references(&mut self) -> Result<(), AllocError>
+        requires settled { IsFalse self.old.is_kept }
+        requires known { LacksNothing self.old.part need.All }
+        ensures asked { OnOk result (IsTrue (is_asked self.new.references)) }
+        ensures same { self.new ≡ record self.old { references = self.new.references } }
+        ensures holds { (c : Call) → Holds c self.old → Holds c self.new }
+        ensures err { OnErr result (self.new ≡ self.old) }
+    {
+        self.references = ask(self.alloc, self.part.whole())?;
+        Ok(())
     }
 
     // What a command asks for.

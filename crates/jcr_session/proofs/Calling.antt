@@ -19,6 +19,7 @@ use Rattle.jcr_law.specs.Lasting.{says_of, starts_of}
 use Rattle.jcr_law.specs.Queries.{QueryAnswers}
 use Rattle.jcr_law.specs.State.{Call}
 use Rattle.jcr_call.specs.declared.coming.Coming.{Coming}
+use Rattle.jr_types.specs.Rules.{TypesOk}
 use Rattle.jcr_held.specs.Comes.{ComesTo}
 use Rattle.jcr_held.specs.Holds.{Holds}
 use Rattle.jcr_held.specs.declared.held.Held.{Held}
@@ -77,8 +78,8 @@ module _ (law later : JcrLaw) (laws : later ≡ law) where
 
 -- ---- what a call of what is held comes to, for the next command
 
-pub comes_by : (run : SessionRun) (x : Command) (made : Result Coming AllocError) → slice_get run.commands run.index ≡ Some x → ((c : Call) → Holds c run.held → IfOk made (ComesTo c x)) → IfOk made (ComesNext run)
-comes_by run x (Ok coming) next h = λ m c is holds. subst (λ (y : Command). ComesTo c y coming) (same_next run.commands run.index x m next is) (h c holds)
+pub comes_by : (run : SessionRun) (x : Command) (made : Result Coming AllocError) → slice_get run.commands run.index ≡ Some x → ((c : Call) → Holds c run.held → TypesOk c.types c.base → IfOk made (ComesTo c x)) → IfOk made (ComesNext run)
+comes_by run x (Ok coming) next h = λ m c is holds typed. subst (λ (y : Command). ComesTo c y coming) (same_next run.commands run.index x m next is) (h c holds typed)
 comes_by run x (Err e) next h = tt
 
 same_text : (a b : Text) (u v : List (Name × Value)) → command.Query a u ≡ command.Query b v → (a ≡ b) × (u ≡ v)

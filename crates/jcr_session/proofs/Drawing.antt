@@ -8,7 +8,7 @@ use Rattle.jr_rev.proofs.Order.{same_revision}
 use Rattle.jr_tree.specs.declared.edit.Edit.{Edit}
 use Rattle.jr_tree.specs.declared.edit.Write.{Write}
 use Rattle.jr_tree.specs.declared.shared.Who.{Who}
-use Rattle.jr_tree.specs.Edits.{IsProper}
+use Rattle.jr_tree.specs.Edits.{IsProper, applied}
 use Rattle.jr_tree.specs.declared.shared.Refusal.{Refusal}
 use Rattle.oak_machine.specs.declared.event.Draw.{Draw}
 use Rattle.oak_machine.specs.declared.event.Event.TheVariants as event
@@ -26,6 +26,7 @@ use Rattle.oak_port.specs.declared.task.StepOut.TheVariants as out
 use Rattle.oak_port.specs.declared.task.Task.TheVariants as task
 use Rattle.core_heads.proofs.Runs.{fresh_run}
 use Rattle.jcr_plan.specs.declared.plans.Plan.{Plan}
+use Rattle.jcr_ref.specs.References.{ReferencesOk}
 use Rattle.jcr_trans.specs.declared.command.Command.{Command}
 use Rattle.jcr_law.specs.declared.law.JcrLaw.{JcrLaw}
 use Rattle.jcr_law.specs.Lasting.{says_of, starts_of}
@@ -34,7 +35,7 @@ use Rattle.jcr_law.specs.Since.{before_turn, draw_since}
 use Rattle.jcr_law.specs.Starting.{call_has_base}
 use Rattle.jcr_law.specs.State.{Call, call_of, command_at}
 use Rattle.jcr_call.specs.declared.coming.Coming.TheVariants as coming
-use Rattle.core_calls.specs.Seeing.{SeesTrees}
+use Rattle.core_calls.specs.Seeing.{SeesTrees, SeesTyped}
 use Rattle.core_calls.proofs.Called.{call_stays}
 use Rattle.jcr_session.specs.declared.next.Due.TheVariants as due
 use Rattle.jcr_session.specs.declared.commit.Pledge.{Pledge}
@@ -45,7 +46,7 @@ use Rattle.jcr_session.specs.declared.turn.Turn.TheVariants as turn
 use Rattle.jcr_session.specs.Asked.{ComesNext, IsAsked, MayDrawFor, MayForgo}
 use Rattle.jcr_session.specs.Standing.{HasDrawnFor, HasTurned, IsBeside, IsCalled, IsCommitting, IsFresh, IsIn, IsPlace, IsPrepared, IsTurned, Stands, StandsAt, due_for, due_to, is_allowed, is_writing}
 use Rattle.jcr_session.proofs.Committing.{committing_drawn, own as same_number}
-use Rattle.jcr_session.proofs.Lawful.{asked_allowed, at_between, between_asked}
+use Rattle.jcr_session.proofs.Lawful.{asked_allowed, at_between, between_asked, called_typed}
 use Rattle.jcr_session.proofs.Nexts.{allowed_due, due_at, next_due}
 use Rattle.jcr_session.proofs.Starting.{some_is}
 use Rattle.jcr_session.proofs.Saying.{asked_like, asked_waits, drawn_waits, get_within}
@@ -85,7 +86,7 @@ module _ (law : JcrLaw) (p : Shown) (run : SessionRun) (stands : Stands law p ru
   pub planned_draws : (mid : Shown) → IsBeside law p mid → mid.work ≡ Idle → IsPlace mid.room kept.accepted → kept.edit ≡ plan.edit → MayDrawFor law mid planned_run plan
   planned_draws mid beside idle place copied =
       let here = (at_between law p run stands between).1 in
-      let x = comes m.0 c m.1 here.holds in record {
+      let x = comes m.0 c m.1 here.holds (called_typed law p c (at_between law p run stands between).0 here.is) in record {
         command = m.0;
         call = c;
         asked = asked_waits law m.0 c p mid planned_run asked_planned beside idle;
@@ -197,6 +198,7 @@ module _ (law : JcrLaw) (mid : Shown) (run : SessionRun) (plan : Plan) (may : Ma
     in_new = record {
       nodes = moved (λ h n. AreNodes h.clusters h.sessions) in_behind.nodes;
       trees = moved (λ h n. SeesTrees law h.clusters h.sessions h.begin) in_behind.trees;
+      typed = moved (λ h n. SeesTyped law h.clusters h.sessions h.begin) in_behind.typed;
       run = steps.grows.run;
       login = moved (λ h n. has_login h.past n ≡ true) in_behind.login;
       stays = moved (λ h n. has_left h.past n ≡ false) in_behind.stays;
@@ -232,6 +234,7 @@ module _ (law : JcrLaw) (mid : Shown) (run : SessionRun) (plan : Plan) (may : Ma
     stands_new = record {
       nodes = in_new.nodes;
       trees = in_new.trees;
+      typed = in_new.typed;
       run_is = steps.grows.run;
       session = session_new;
       few = may.asked.few;
@@ -253,6 +256,7 @@ module _ (law : JcrLaw) (mid : Shown) (run : SessionRun) (plan : Plan) (may : Ma
             accepts = may.accepts;
             place = subst (λ (x : Option ℕ). IsPlace x may.pledge.accepted) (sym (steps.room ∙ begins.room_is)) may.place;
             proper = subst (λ (e : Edit). IsProper may.call.base e.writes) (sym may.edit_is) may.ok.proper;
+            referring = subst (λ (e : Edit). ReferencesOk (applied None may.call.base e.writes)) (sym may.edit_is) may.ok.referring;
             drew = drew_new;
           };
           commits = subst (λ (w : Work). IsCommitting new.history.past new.session w) (sym made.4)

@@ -21,6 +21,7 @@ use Rattle.oak_machine.specs.Sessions.{base_of, drawn_since, is_drawing}
 use Rattle.oak_port.specs.Ports.{HasRoom, Shown}
 use Rattle.oak_commit.specs.declared.outcome.CommitEnd.{CommitEnd}
 use Rattle.oak_commit.specs.declared.outcome.CommitEnd.TheVariants as commit
+use Rattle.jcr_ref.specs.References.{ReferencesOk}
 use Rattle.jcr_trans.specs.Answers.{ShowsRevision}
 use Rattle.jcr_trans.specs.Texts.{answer_text, memory_text}
 use Rattle.jcr_trans.specs.declared.command.Command.{Command}
@@ -253,7 +254,7 @@ module _ (law : JcrLaw) (p : Shown) (run : SessionRun) (r : Revision) (a : Pledg
   made_holds pin is held moves =
       subst (λ (v : RevVec). Holds (call_moved at_end.call v made_it.tree) held) is
       (moves at_end.call made_it.tree at_end.for.holds at_end.for.settled
-      (subst (λ (v : RevVec). SeesCommit at_end.call a.edit r v made_it.tree) (sym is) record { proper = at_end.for.proper; tree_is = made_it.tree_is; alone = made_alone }))
+      (subst (λ (v : RevVec). SeesCommit at_end.call a.edit r v made_it.tree) (sym is) record { proper = at_end.for.proper; referring = at_end.for.referring; tree_is = made_it.tree_is; alone = made_alone }))
 
   pub made_next : (m : Command) × (slice_get run.commands run.index ≡ Some m) × (Rattle.jcr_view.specs.Outcomes.is_viewed m ≡ false)
   made_next = (at_end.for.command, at_end.for.next, unviewed_due at_end.for.command (ap (λ (d : _). Rattle.std.proofs.Common.nat_eq (due_number d) 6) (sym (due_at run at_end.for.command at_end.for.next) ∙ at_end.for.commits)))
@@ -261,9 +262,9 @@ module _ (law : JcrLaw) (p : Shown) (run : SessionRun) (r : Revision) (a : Pledg
 -- ---- what is held, behind a commit
 
 module _ (c : Call) (t : Nodes) (old held : Held) (edit : Edit) (r : Revision) (v : RevVec) (holds : Holds c old) (settled : old.is_kept ≡ false) (sees : SeesCommit c edit r v t) where
-  pub follows_commit : IsNextAlone old.who.base v r → ((d : Call) → Holds d old → old.is_kept ≡ false → IsProper d.base edit.writes → Holds (call_moved d v (applied (Some r) d.base edit.writes)) held) → Holds (call_moved c v t) held
+  pub follows_commit : IsNextAlone old.who.base v r → ((d : Call) → Holds d old → old.is_kept ≡ false → IsProper d.base edit.writes → ReferencesOk (applied None d.base edit.writes) → Holds (call_moved d v (applied (Some r) d.base edit.writes)) held) → Holds (call_moved c v t) held
   follows_commit alone follows =
-      subst (λ (x : Nodes). Holds (call_moved c v x) held) (sym (sees.alone (subst (λ (w : Who). IsNextAlone w.base v r) holds.who alone))) (follows c holds settled sees.proper)
+      subst (λ (x : Nodes). Holds (call_moved c v x) held) (sym (sees.alone (subst (λ (w : Who). IsNextAlone w.base v r) holds.who alone))) (follows c holds settled sees.proper sees.referring)
 
   pub leaves_base : ((d : Call) (x : Nodes) → Holds d old → old.is_kept ≡ false → IsTree x → Holds (call_moved d v x) held) → Holds (call_moved c v t) held
   leaves_base moves = moves c t holds settled sees.tree_is

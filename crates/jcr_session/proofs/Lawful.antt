@@ -29,7 +29,8 @@ use Rattle.jcr_law.specs.Built.{Allowed, Asked, Unsupported, asked}
 use Rattle.jcr_law.specs.Commits.{edit_due, refusal_of_due, refusal_of_plan, unwritten_answer}
 use Rattle.jcr_law.specs.Law.{MaySay, SaysBy, asked_by, barred, head, memory, no_support, no_text, queried, refreshed, refused_edit, unwritten, viewed}
 use Rattle.jcr_law.specs.Since.{before_turn}
-use Rattle.jcr_law.specs.Starting.{call_has_base}
+use Rattle.jr_types.specs.Rules.{TypesOk}
+use Rattle.jcr_law.specs.Starting.{call_based, call_has_base}
 use Rattle.jcr_law.specs.State.{Call, accepted, command_at, is_ok_text}
 use Rattle.jcr_call.specs.Calls.{call_after}
 use Rattle.jcr_call.specs.Comings.{reply_to_due}
@@ -44,7 +45,7 @@ use Rattle.jcr_session.specs.declared.run.Phase.{Phase}
 use Rattle.jcr_session.specs.declared.run.Phase.TheVariants as phase
 use Rattle.jcr_session.specs.declared.run.SessionRun.{SessionRun}
 use Rattle.jcr_session.specs.Asked.{ComesNext, HasSeen, IsAsked, IsQueried, MayAnswer, MayForgo, MaySettle, Settles, has_drawn}
-use Rattle.jcr_session.specs.Standing.{IsBetween, IsIn, IsReading, IsRefreshed, Stands, StandsAt, due_for, due_to, is_allowed, reads_for}
+use Rattle.jcr_session.specs.Standing.{IsBetween, IsCalled, IsIn, IsReading, IsRefreshed, Stands, StandsAt, due_for, due_to, is_allowed, reads_for}
 use Rattle.jcr_session.proofs.Nexts.{allowed_due, barred_due, due_number, next_due, only_head, only_query, only_refresh, seen_viewed, unviewed_due}
 use Rattle.jcr_session.proofs.Saying.{asked_like}
 
@@ -113,6 +114,12 @@ module _ (law : JcrLaw) (p : Shown) (run now : SessionRun) where
   }
 
 -- ---- between two commands
+
+-- a session is called on a tree that meets the types
+pub called_typed : (law : JcrLaw) (p : Shown) (c : Call) → IsIn law p → IsCalled law p c → TypesOk c.types c.base
+called_typed law p c inside is =
+    subst (λ (y : Call). TypesOk y.types y.base) (sym (call_based law p.history.begin p.history.past p.session c is))
+    (inside.typed p.history.past inside.run p.session c.who.base (call_has_base law p.history.begin p.history.past p.session c is))
 
 module _ (law : JcrLaw) (p : Shown) (run : SessionRun) (stands : Stands law p run) (between : run.phase ≡ phase.Between) where
   pub at_between : IsIn law p × IsBetween law p run
@@ -233,7 +240,7 @@ module _ (law : JcrLaw) (p : Shown) (run : SessionRun) (stands : Stands law p ru
 
       pub commit_settles : (text : String Global) → ComesNext run (coming.Said text)
           → ((x : Call) (held : Held) (n : Command) (t : String Global) → Holds x held → ComesTo x n (coming.Said t) → is_ok_text (string_bytes t) ≡ true → TokensFit held None x n) → MaySettle law p run (string_bytes text)
-      commit_settles text comes keeps = let x = comes m c next at_between.1.holds in record {
+      commit_settles text comes keeps = let x = comes m c next at_between.1.holds (called_typed law p c at_between.0 at_between.1.is) in record {
         command = m;
         call = c;
         asked = between_asked;

@@ -28,7 +28,7 @@ use Rattle.jcr_held.specs.Begins.{IsFirstCall, IsNewHeld}
 use Rattle.jcr_held.specs.Holds.{Holds}
 use Rattle.jcr_held.specs.declared.held.Held.{Held}
 use Rattle.core_calls.specs.Events.{state_at_login}
-use Rattle.core_calls.specs.Seeing.{SeesTrees}
+use Rattle.core_calls.specs.Seeing.{SeesTrees, SeesTyped}
 use Rattle.core_calls.proofs.Called.{login_call}
 use Rattle.jcr_session.specs.declared.run.Phase.{Phase}
 use Rattle.jcr_session.specs.declared.run.Phase.TheVariants as phase
@@ -123,6 +123,9 @@ module _ (law : JcrLaw) (old mid new : Shown) (run : SessionRun) (stands : Stand
   trees_mid : SeesTrees law mid.history.clusters mid.history.sessions mid.history.begin
   trees_mid = subst (λ (h : History). SeesTrees law h.clusters h.sessions h.begin) (sym waits.grows.grown) stands.trees
 
+  typed_mid : SeesTyped law mid.history.clusters mid.history.sessions mid.history.begin
+  typed_mid = subst (λ (h : History). SeesTyped law h.clusters h.sessions h.begin) (sym waits.grows.grown) stands.typed
+
   moved : (F : History → ℕ → Type 0) → F logged s → F new.history new.session
   moved F x = subst (λ (h : History). F h new.session) (sym is_logged) (subst (λ (n : ℕ). F logged n) (sym steps.session) x)
 
@@ -136,6 +139,7 @@ module _ (law : JcrLaw) (old mid new : Shown) (run : SessionRun) (stands : Stand
   inside_now = record {
     nodes = moved (λ h n. AreNodes h.clusters h.sessions) nodes_mid;
     trees = moved (λ h n. SeesTrees law h.clusters h.sessions h.begin) trees_mid;
+    typed = moved (λ h n. SeesTyped law h.clusters h.sessions h.begin) typed_mid;
     run = steps.grows.run;
     login = moved (λ h n. has_login h.past n ≡ true) login_now;
     stays = moved (λ h n. has_left h.past n ≡ false) (not_left (starts_of law) (says_of law) mid.history.clusters mid.history.sessions mid.history.begin q run_logged.1 s out_now);
@@ -194,6 +198,7 @@ module _ (law : JcrLaw) (old mid new : Shown) (run : SessionRun) (stands : Stand
     stands_now = record {
       nodes = moved (λ h n. AreNodes h.clusters h.sessions) nodes_mid;
       trees = moved (λ h n. SeesTrees law h.clusters h.sessions h.begin) trees_mid;
+      typed = moved (λ h n. SeesTyped law h.clusters h.sessions h.begin) typed_mid;
       run_is = steps.grows.run;
       session = steps.session ∙ (waits.session ∙ stands.session);
       few = stands.few;

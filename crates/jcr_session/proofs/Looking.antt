@@ -38,6 +38,7 @@ module _ (law : JcrLaw) (old new : Shown) (run : SessionRun) (stands : Stands la
     read_stands = record {
       nodes = nodes_beside law old new beside stands.nodes;
       trees = shown_beside law old new beside (λ h n. Rattle.core_calls.specs.Seeing.SeesTrees law h.clusters h.sessions h.begin) stands.trees;
+      typed = shown_beside law old new beside (λ h n. Rattle.core_calls.specs.Seeing.SeesTyped law h.clusters h.sessions h.begin) stands.typed;
       run_is = beside.grows.run;
       session = beside.session ∙ (stands.session ∙ sym same.session);
       few = subst (λ (cs : List Command). length cs ≤ MOST_COMMANDS) (sym same.commands) stands.few;

@@ -22,7 +22,7 @@ use Rattle.jcr_law.specs.Since.{before_turn}
 use Rattle.jcr_law.specs.State.{Call, call_of, command_at, is_ok_text}
 use Rattle.jcr_call.specs.Calls.{call_after}
 use Rattle.jcr_held.specs.Holds.{Holds}
-use Rattle.core_calls.specs.Seeing.{SeesTrees}
+use Rattle.core_calls.specs.Seeing.{SeesTrees, SeesTyped}
 use Rattle.core_calls.proofs.Called.{said_call}
 use Rattle.jcr_session.specs.declared.limits.TheConstants.{MOST_COMMANDS}
 use Rattle.jcr_session.specs.declared.run.Phase.TheVariants as phase
@@ -118,6 +118,7 @@ module _ (law : JcrLaw) (old new : Shown) (run : SessionRun) (text : Text) (may 
     stands = record {
       nodes = moved (λ h s. AreNodes h.clusters h.sessions) may.asked.inside.nodes;
       trees = moved (λ h s. SeesTrees law h.clusters h.sessions h.begin) may.asked.inside.trees;
+      typed = moved (λ h s. SeesTyped law h.clusters h.sessions h.begin) may.asked.inside.typed;
       run_is = done.grows.run;
       session = done.session ∙ may.asked.session;
       few = may.asked.few;
@@ -166,6 +167,7 @@ module _ (law : JcrLaw) (old new : Shown) (run : SessionRun) (text : Text) (may 
       inside_said = record {
         nodes = inside_before.nodes;
         trees = inside_before.trees;
+        typed = inside_before.typed;
         run = whole;
         login = inside_before.login;
         stays = inside_before.stays;
@@ -175,7 +177,7 @@ module _ (law : JcrLaw) (old new : Shown) (run : SessionRun) (text : Text) (may 
 
       inside_now : IsIn law new
       inside_now = let y = moved (λ h s. IsIn law (record old { history = h; session = s })) inside_said in
-          record { nodes = y.nodes; trees = y.trees; run = y.run; login = y.login; stays = y.stays; detached = y.detached; unattached = y.unattached }
+          record { nodes = y.nodes; trees = y.trees; typed = y.typed; run = y.run; login = y.login; stays = y.stays; detached = y.detached; unattached = y.unattached }
 
       -- what the command after it is run with
       called_said : call_of law old.history.begin said old.session ≡ Some (call_after (is_ok_text text) (is_some (drawn_since q old.session)) may.call may.command)

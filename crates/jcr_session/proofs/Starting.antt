@@ -25,7 +25,7 @@ use Rattle.jcr_law.specs.State.{Call, call_of, command_at}
 use Rattle.jcr_call.specs.Calls.{call_moved}
 use Rattle.jcr_held.specs.Holds.{Holds}
 use Rattle.jcr_held.specs.declared.held.Held.{Held}
-use Rattle.core_calls.specs.Seeing.{SeesTrees}
+use Rattle.core_calls.specs.Seeing.{SeesTrees, SeesTyped}
 use Rattle.core_calls.proofs.Called.{refresh_call}
 use Rattle.jcr_session.specs.declared.limits.TheConstants.{MOST_COMMANDS}
 use Rattle.jcr_session.specs.declared.next.Due.TheVariants as due
@@ -107,6 +107,7 @@ module _ (law : JcrLaw) (old mid new : Shown) (t : Task) (answer : StepOut) (roo
     stands_by now session commands index next at = record {
       nodes = moved (λ h n. AreNodes h.clusters h.sessions) inside_mid.nodes;
       trees = moved (λ h n. SeesTrees law h.clusters h.sessions h.begin) inside_mid.trees;
+      typed = moved (λ h n. SeesTyped law h.clusters h.sessions h.begin) inside_mid.typed;
       run_is = steps.grows.run;
       session = same_session ∙ sym session;
       few = subst (λ (cs : List Command). length cs ≤ MOST_COMMANDS) (sym commands) stands.few;
@@ -194,6 +195,7 @@ module _ (law : JcrLaw) (old mid new : Shown) (room : Option ℕ) (run : Session
     inside_moved = record {
       nodes = by_moved (λ h n. AreNodes h.clusters h.sessions) inside_then.nodes;
       trees = by_moved (λ h n. SeesTrees law h.clusters h.sessions h.begin) inside_then.trees;
+      typed = by_moved (λ h n. SeesTyped law h.clusters h.sessions h.begin) inside_then.typed;
       run = steps.grows.run;
       login = by_moved (λ h n. has_login h.past n ≡ true) inside_then.login;
       stays = by_moved (λ h n. has_left h.past n ≡ false) inside_then.stays;

@@ -14,7 +14,7 @@ use Rattle.jcr_law.specs.declared.law.JcrLaw.{JcrLaw}
 use Rattle.jcr_law.specs.Lasting.{says_of, starts_of}
 use Rattle.jcr_law.specs.Since.{draw_since}
 use Rattle.jcr_law.specs.State.{Call, command_at}
-use Rattle.core_calls.specs.Seeing.{SeesTrees}
+use Rattle.core_calls.specs.Seeing.{SeesTrees, SeesTyped}
 use Rattle.jcr_session.specs.declared.limits.TheConstants.{MOST_COMMANDS}
 use Rattle.jcr_session.specs.declared.commit.Pledge.{Pledge}
 use Rattle.jcr_session.specs.declared.run.Phase.{Phase}
@@ -40,6 +40,7 @@ module _ (law : JcrLaw) (p q : Shown) (run : SessionRun) (stands : Stands law p 
     accepts = is.accepts;
     place = subst (λ (x : Option ℕ). IsPlace x a.accepted) (sym room) is.place;
     proper = is.proper;
+    referring = is.referring;
     drew = λ d now. is.drew d (sym (shown_beside law p q beside (λ h n. draw_since h.past n ≡ draw_since p.history.past p.session) (all_beside law p q beside stands.nodes).draw) ∙ now);
   }
 
@@ -105,6 +106,7 @@ module _ (law : JcrLaw) (p q : Shown) (run : SessionRun) (stands : Stands law p 
   stands_beside = record {
     nodes = nodes_beside law p q beside stands.nodes;
     trees = shown_beside law p q beside (λ h n. SeesTrees law h.clusters h.sessions h.begin) stands.trees;
+    typed = shown_beside law p q beside (λ h n. SeesTyped law h.clusters h.sessions h.begin) stands.typed;
     run_is = beside.grows.run;
     session = beside.session ∙ stands.session;
     few = stands.few;
@@ -124,7 +126,7 @@ nothing_behind [] = refl
 nothing_behind (x ∷ a) = ap (λ l. x ∷ l) (nothing_behind a)
 
 module _ (law : JcrLaw) (p : Shown) (session : ℕ) (commands : List Command) (run : SessionRun) (new : IsNew session law.earlier commands law.types run) (few : length commands ≤ MOST_COMMANDS) (nodes : AreNodes p.history.clusters p.history.sessions)
-    (trees : SeesTrees law p.history.clusters p.history.sessions p.history.begin) (run_is : IsRun (starts_of law) (says_of law) p.history) (idle : p.work ≡ Idle) (own : p.session ≡ session) (theirs : (i : ℕ) → command_at law session i ≡ slice_get commands i)
+    (trees : SeesTrees law p.history.clusters p.history.sessions p.history.begin) (typed : SeesTyped law p.history.clusters p.history.sessions p.history.begin) (run_is : IsRun (starts_of law) (says_of law) p.history) (idle : p.work ≡ Idle) (own : p.session ≡ session) (theirs : (i : ℕ) → command_at law session i ≡ slice_get commands i)
     (none : list_any (is_event_of p.history.past session) p.history.past ≡ false) where
   abbrev past : Past
   past = p.history.past
@@ -146,6 +148,7 @@ module _ (law : JcrLaw) (p : Shown) (session : ℕ) (commands : List Command) (r
   new_stands = record {
     nodes = nodes;
     trees = trees;
+    typed = typed;
     run_is = run_is;
     session = own ∙ sym new.session_is;
     few = subst (λ (cs : List Command). length cs ≤ MOST_COMMANDS) (sym new.commands_are) few;

@@ -26,7 +26,7 @@ use Rattle.jcr_law.specs.declared.law.JcrLaw.{JcrLaw}
 use Rattle.jcr_law.specs.Lasting.{says_of, starts_of}
 use Rattle.jcr_law.specs.Since.{before_turn, draw_since}
 use Rattle.jcr_law.specs.State.{Call, call_of}
-use Rattle.core_calls.specs.Seeing.{SeesTrees}
+use Rattle.core_calls.specs.Seeing.{SeesTrees, SeesTyped}
 use Rattle.core_calls.proofs.Called.{call_stays, refresh_call}
 use Rattle.jcr_session.specs.declared.commit.Pledge.{Pledge}
 use Rattle.jcr_session.specs.declared.run.Phase.{Phase}
@@ -71,6 +71,7 @@ module _ (law : JcrLaw) (old new : Shown) (answer : StepOut) (run : SessionRun) 
   inside_quiet quiet = record {
     nodes = moved (λ h s. AreNodes h.clusters h.sessions) inside.nodes;
     trees = moved (λ h s. SeesTrees law h.clusters h.sessions h.begin) inside.trees;
+    typed = moved (λ h s. SeesTyped law h.clusters h.sessions h.begin) inside.typed;
     run = steps.grows.run;
     login = moved (λ h s. has_login h.past s ≡ true) login_then;
     stays = moved (λ h s. has_left h.past s ≡ false) (quiet.left moment.past ∙ inside_moment.stays);
@@ -82,6 +83,7 @@ module _ (law : JcrLaw) (old new : Shown) (answer : StepOut) (run : SessionRun) 
   stands_quiet f next at = record {
     nodes = moved (λ h s. AreNodes h.clusters h.sessions) inside.nodes;
     trees = moved (λ h s. SeesTrees law h.clusters h.sessions h.begin) inside.trees;
+    typed = moved (λ h s. SeesTyped law h.clusters h.sessions h.begin) inside.typed;
     run_is = steps.grows.run;
     session = steps.session ∙ stands.session;
     few = stands.few;
@@ -129,6 +131,7 @@ module _ (law : JcrLaw) (old new : Shown) (answer : StepOut) (run : SessionRun) 
       accepts = at_commit.for.accepts;
       place = subst (λ (x : Option ℕ). IsPlace x a.accepted) (sym steps.room) at_commit.for.place;
       proper = at_commit.for.proper;
+      referring = at_commit.for.referring;
       drew = drew_now same;
     }
 
@@ -183,6 +186,7 @@ module _ (law : JcrLaw) (old new : Shown) (answer : StepOut) (run : SessionRun) 
       inside_moved = record {
         nodes = moved (λ h s. AreNodes h.clusters h.sessions) inside.nodes;
         trees = moved (λ h s. SeesTrees law h.clusters h.sessions h.begin) inside.trees;
+        typed = moved (λ h s. SeesTyped law h.clusters h.sessions h.begin) inside.typed;
         run = steps.grows.run;
         login = moved (λ h s. has_login h.past s ≡ true) login_then;
         stays = moved_by (λ h s. has_left h.past s ≡ false) inside_moment.stays;

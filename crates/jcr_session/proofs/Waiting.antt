@@ -136,6 +136,7 @@ module _ (law : JcrLaw) (old new : Shown) (beside : IsBeside law old new) where
     in_beside inside = record {
       nodes = nodes_beside;
       trees = shown_beside (λ h n. Rattle.core_calls.specs.Seeing.SeesTrees law h.clusters h.sessions h.begin) inside.trees;
+      typed = shown_beside (λ h n. Rattle.core_calls.specs.Seeing.SeesTyped law h.clusters h.sessions h.begin) inside.typed;
       run = beside.grows.run;
       login = shown_beside (λ h n. has_login h.past n ≡ true) (any_later (is_login_of old.session) added old.history.past inside.login);
       stays = shown_beside (λ h n. has_left h.past n ≡ false) (left_stays (added ++ old.history.past) added old.history.past old.session beside.grows.theirs inside.stays);

@@ -21,6 +21,8 @@ use Rattle.oak_machine.specs.Sessions.{drawn_since, is_drawing, next_index}
 use Rattle.oak_port.specs.Ports.{HasRoom, Idle, Shown}
 use Rattle.jcr_plan.specs.declared.plans.Plan.{Plan}
 use Rattle.jcr_plan.specs.Plans.{PlanOk}
+use Rattle.jr_types.specs.Rules.{TypesOk}
+use Rattle.jcr_ref.specs.References.{ReferencesOk}
 use Rattle.jcr_trans.specs.declared.command.Command.{Command}
 use Rattle.jcr_trans.specs.declared.command.Command.TheVariants as command
 use Rattle.jcr_view.specs.Outcomes.{is_viewed}
@@ -133,10 +135,10 @@ HasSeen old new result = (m : Command) (c : Call) → slice_get old.commands old
 
 -- ---- a commit
 
--- what the next command comes to before its commit
+-- what the next command comes to before its commit, where the tree at its base meets its types
 abbrev pub ComesNext : SessionRun → Coming → Type 0
 ComesNext run coming = (m : Command) (c : Call) → slice_get run.commands run.index ≡ Some m
-    → Holds c run.held → ComesTo c m coming
+    → Holds c run.held → TypesOk c.types c.base → ComesTo c m coming
 
 -- the plan is that of the next command, for which nothing was drawn yet, and its reply has a place
 pub record MayDrawFor (law : JcrLaw) (p : Shown) (run : SessionRun) (plan : Plan) : Type 0 where
@@ -156,11 +158,12 @@ pub record MayDrawFor (law : JcrLaw) (p : Shown) (run : SessionRun) (plan : Plan
   pub some : plan.edit.writes ≢ []
   pub ok : PlanOk call.types call.base call.state.tokens plan.edit.writes plan.marks
 
--- behind a commit by r of the edit on the base of c, t is the tree at v: that base with the edit,
--- where no other commit lies between
+-- behind a commit by r of the edit on the base of c, with which each REFERENCE names a node, t is the
+-- tree at v: that base with the edit, where no other commit lies between
 pub record SeesCommit (c : Call) (edit : Edit) (r : Revision) (v : RevVec) (t : Nodes)
     : Type 0 where
   pub proper : IsProper c.base edit.writes
+  pub referring : ReferencesOk (applied None c.base edit.writes)
   pub tree_is : IsTree t
   pub alone : IsNextAlone c.who.base v r → t ≡ applied (Some r) c.base edit.writes
 

@@ -8,7 +8,7 @@ use Rattle.jr_rev.specs.declared.revision.Revision.{Revision}
 use Rattle.jr_rev.specs.declared.vector.RevVec.{RevVec}
 use Rattle.jr_rev.specs.Vectors.{sees}
 use Rattle.jr_tree.specs.declared.edit.Edit.{Edit}
-use Rattle.jr_tree.specs.Edits.{IsProper}
+use Rattle.jr_tree.specs.Edits.{IsProper, applied}
 use Rattle.jr_tree.specs.Trees.{IsTree, Nodes}
 use Rattle.jr_part.specs.declared.need.Need.{Need}
 use Rattle.jr_part.specs.declared.need.Need.TheVariants as need
@@ -29,6 +29,7 @@ use Rattle.oak_port.specs.declared.task.Task.TheVariants as task
 use Rattle.oak_commit.specs.declared.outcome.CommitEnd.{CommitEnd}
 use Rattle.oak_commit.specs.declared.outcome.CommitEnd.TheVariants as commit
 use Rattle.jr_types.specs.declared.TypeDef.{TypeDef}
+use Rattle.jcr_ref.specs.References.{ReferencesOk}
 use Rattle.jcr_trans.specs.declared.command.Command.{Command}
 use Rattle.jcr_trans.specs.declared.command.Command.TheVariants as command
 use Rattle.jcr_law.specs.declared.law.JcrLaw.{JcrLaw}
@@ -43,7 +44,7 @@ use Rattle.jcr_held.specs.Begins.{IsNewHeld}
 use Rattle.jcr_held.specs.Comes.{commits}
 use Rattle.jcr_held.specs.Holds.{Holds, IsReady}
 use Rattle.jcr_held.specs.declared.held.Held.{Held}
-use Rattle.core_calls.specs.Seeing.{SeesTrees}
+use Rattle.core_calls.specs.Seeing.{SeesTrees, SeesTyped}
 use Rattle.jcr_session.specs.declared.limits.TheConstants.{COMMIT_REPLY_BYTES, MOST_COMMANDS}
 use Rattle.jcr_session.specs.declared.next.Due.{Due}
 use Rattle.jcr_session.specs.declared.next.Due.TheVariants as due
@@ -116,11 +117,13 @@ pub record IsBeside (law : JcrLaw) (old new : Shown) : Type 0 where
   pub beside : new.beside ≡ old.beside
   pub alone : IfSome old.beside.seats (λ seats. others ≡ [])
 
--- the history is a run by the law, where sessions see trees; in it the session has logged in,
--- hasn't left, and neither is attached to a checkpoint nor was when its next command began
+-- the history is a run by the law, where sessions see trees that meet its types; in it the session
+-- has logged in, hasn't left, and neither is attached to a checkpoint nor was when its next command
+-- began
 pub record IsIn (law : JcrLaw) (p : Shown) : Type 0 where
   pub nodes : AreNodes p.history.clusters p.history.sessions
   pub trees : SeesTrees law p.history.clusters p.history.sessions p.history.begin
+  pub typed : SeesTyped law p.history.clusters p.history.sessions p.history.begin
   pub run : IsRun (starts_of law) (says_of law) p.history
   pub login : IsTrue (has_login p.history.past p.session)
   pub stays : IsFalse (has_left p.history.past p.session)
@@ -229,6 +232,7 @@ pub record IsFor (p : Shown) (run : SessionRun) (c : Call) (pledge : Pledge) : T
   pub accepts : IsAcceptedOf c command pledge.accepted
   pub place : IsPlace p.room pledge.accepted
   pub proper : IsProper c.base pledge.edit.writes
+  pub referring : ReferencesOk (applied None c.base pledge.edit.writes)
   pub drew : HasDrawnFor p run pledge.edit
 
 -- ---- where it stands
@@ -300,12 +304,13 @@ StandsAt law p run (phase.Committing pledge) = IsIn law p × IsInCommit law p ru
 StandsAt law p run (phase.Committed e pledge) = IsIn law p × IsAtEnd law p run e pledge
 StandsAt law p run phase.Over = IsGone p run
 
--- the port is the session's; its history is a run by the law, where sessions see trees, and the law
--- has the session's commands; the session's replies are those of the history, and it stands where
--- these say
+-- the port is the session's; its history is a run by the law, where sessions see trees that meet its
+-- types, and the law has the session's commands; the session's replies are those of the history, and
+-- it stands where these say
 pub record Stands (law : JcrLaw) (p : Shown) (run : SessionRun) : Type 0 where
   pub nodes : AreNodes p.history.clusters p.history.sessions
   pub trees : SeesTrees law p.history.clusters p.history.sessions p.history.begin
+  pub typed : SeesTyped law p.history.clusters p.history.sessions p.history.begin
   pub run_is : IsRun (starts_of law) (says_of law) p.history
   pub session : p.session ≡ run.session
   pub few : length run.commands ≤ MOST_COMMANDS

@@ -42,6 +42,12 @@ returns-clause-bases_are_trees c = λ law clusters sessions nodes past run s v i
     tree_merged clusters sessions nodes (starts_of law) (says_of law) (proper_starts law) (marking law) past run v
     (closed_run clusters sessions nodes None (starts_of law) (says_of law) past run v held)
 
+pub returns-clause-bases_are_typed : goal.returns-clause-bases_are_typed
+returns-clause-bases_are_typed c = λ law clusters sessions nodes begun past run s v is.
+    let held = (sound_run clusters sessions nodes None (starts_of law) (says_of law) past run).bases s v is in
+    types_seen clusters sessions nodes (starts_of law) (says_of law) (proper_starts law) law.types (tokens_by law) (plans law) begun past run v
+    (closed_run clusters sessions nodes None (starts_of law) (says_of law) past run v held)
+
 pub returns-clause-free : goal.returns-clause-free
 returns-clause-free c = λ law h r d m drawn may.
     subst (λ (b : Begin). IsFree law.types (tree_by_commits h.past) (tokens_by law (record h { begin = b; past = before_draw h.past r }) d.session) d.edit.writes) (sym m.begun)

@@ -9,4 +9,4 @@ returns-in_default c =
     let on = called c.args.types.now c.args.call.now in
     IfOk-weaker c.edit_due.result _ _
     (λ due is. is ∙ at_once on c.args.command.now c.in_default.not-Save)
-    (c.edit_due.ensures on c.footing.ensures)
+    (c.edit_due.ensures on c.footing.ensures.on)

@@ -9,6 +9,7 @@ footing-footing-requires-clause-known c =
     whole_known c.args.self.now c.args.command.now c.requires.commits c.requires.ready.known
 
 pub returns : goal.returns
-returns c = λ d h.
-    let is = sym (c.in_ok-due.ensures.due d h (c.footing-footing.ensures d h)) ∙ ap (option_map due_of) c.in-Some.is in
-    comes_to d c.args.command.now c.in-Some.due c.come.result is (c.come.ensures.comes d (c.footing-footing.ensures d h) is)
+returns c = λ d h typed.
+    let on = c.footing-footing.ensures.on d h in
+    let is = sym (c.in_ok-due.ensures.due d h on) ∙ ap (option_map due_of) c.in-Some.is in
+    comes_to d c.args.command.now c.in-Some.due c.come.result is (c.come.ensures.comes d on (c.footing-footing.ensures.alike d h typed) is)

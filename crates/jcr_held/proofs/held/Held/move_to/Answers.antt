@@ -12,5 +12,6 @@ returns-clause-moved c = λ d t h settled tree.
       part = c.new.ensures;
       pending = refl;
       is_kept = refl;
+      references = refl;
       tokens = refl;
     }) (holds_moved d c.args.self.now c.args.base t h settled tree)

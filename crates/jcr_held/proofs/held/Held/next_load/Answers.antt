@@ -10,5 +10,6 @@ returns-in-None-clause-holds c = λ d h.
       part = refl;
       pending = refl;
       is_kept = refl;
+      references = refl;
       tokens = refl;
     }) h)
