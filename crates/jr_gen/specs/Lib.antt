@@ -1,3 +1,4 @@
 pub mod Draws
 pub mod Rounds
 pub mod Scripts
+pub mod Sizes

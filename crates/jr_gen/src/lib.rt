@@ -7,5 +7,5 @@ mod laws;
 mod rounds;
 mod script;
 
-pub use laws::scripts_are_whole;
+pub use laws::{generated_scripts_are_read, scripts_are_whole};
 pub use script::generate;
