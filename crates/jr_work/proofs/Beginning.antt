@@ -10,9 +10,11 @@ use Rattle.oak_machine.specs.Runs.{AreNodes}
 use Rattle.oak_port.specs.Ports.{Idle}
 use Rattle.oak_world.specs.Seen.{shown_at, shown_work}
 use Rattle.oak_world.specs.Worlds.{WorldOf, idle, live, start_world, work_in}
+use Rattle.jr_tree.specs.Trees.{initial_tree}
+use Rattle.jr_types.specs.Rules.{TypesOk}
 use Rattle.jr_types.specs.declared.TypeDef.{TypeDef}
 use Rattle.jcr_law.specs.declared.law.JcrLaw.{JcrLaw}
-use Rattle.core_calls.specs.Seeing.{SeesTrees}
+use Rattle.core_calls.specs.Seeing.{SeesTrees, SeesTyped}
 use Rattle.jcr_session.proofs.Staying.{new_stands}
 use Rattle.jr_script.specs.Bounds.{IsWithin}
 use Rattle.jr_script.specs.declared.script.Script.{Script}
@@ -31,7 +33,7 @@ use Rattle.jr_work.proofs.Within.{session_within, within_nodes}
 -- ---- one session more
 
 -- what stands in a list with one item more is of the list, or is that item
-pushed : {X : Type 0} (xs : List X) (x y : X) (k : ℕ) → slice_get (xs ++ x ∷ []) k ≡ Some y → (slice_get xs k ≡ Some y) ⊎ ((k ≡ length xs) × (x ≡ y))
+pub pushed : {X : Type 0} (xs : List X) (x y : X) (k : ℕ) → slice_get (xs ++ x ∷ []) k ≡ Some y → (slice_get xs k ≡ Some y) ⊎ ((k ≡ length xs) × (x ≡ y))
 pushed [] x y zero h = inr (refl, some_is_some x y h)
 pushed [] x y (suc k) h = none_is_some y h
 pushed (e ∷ xs) x y zero h = inl h
@@ -86,7 +88,8 @@ module _ (script : Script) (within : IsWithin script) where
   there_too (x ∷ xs) (e ∷ ys) (suc k) y h at = there_too xs ys k y (let same : length ys ≡ length xs = omega arith in same) at
 
   module _ (seats : List Seat) (new : AreNew script.types script.sessions (length script.sessions) seats)
-      (trees : SeesTrees (law_of script) script.clusters (map (λ s. s.cluster) script.sessions) None) where
+      (trees : SeesTrees (law_of script) script.clusters (map (λ s. s.cluster) script.sessions) None)
+      (typed : SeesTyped (law_of script) script.clusters (map (λ s. s.cluster) script.sessions) None) where
     seated : (s : ℕ) (seat : Seat) → slice_get seats s ≡ Some seat → IsSeated script start s seat
     seated s seat at = by (there_too script.sessions seats s seat new.many at)
       where
@@ -96,7 +99,7 @@ module _ (script : Script) (within : IsWithin script) where
             record {
               session = is.run.session_is;
               stands = λ n.
-                  new_stands (law_of script) (shown_at n start s) s session.commands seat.run is.run (session_within script within s session there).few (within_nodes script within) trees tt
+                  new_stands (law_of script) (shown_at n start s) s session.commands seat.run is.run (session_within script within s session there).few (within_nodes script within) trees typed tt
                   (idle_at (map (λ s. s.cluster) script.sessions) s) refl
                   (λ i. commands_at script s i ∙ ap (λ (o : Option SessionScript). slice_get (option_map_or (λ x. x.commands) o []) i) there) refl;
               flight = subst (λ (o : Option Flight). IsFlight [] s o) (sym is.flight) refl;
@@ -133,9 +136,11 @@ module _ (script : Script) (within : IsWithin script) (sessions : List SessionSc
   pub slice_few : length slice ≤ 64
   slice_few = let h = ap (λ (l : List ℕ). length l) are in let m = length-map script.sessions (λ (s : SessionScript). s.cluster) in let f = within.few in omega arith
 
-  pub begun_by : (others : List SessionScript) (law : JcrLaw) (stage : Stage) → ((l : JcrLaw) (clusters : ℕ) (sessions : List ℕ) → AreNodes clusters sessions → SeesTrees l clusters sessions None) → others ≡ script.sessions → AreNew law.types others (length others) stage.seats.items → law ≡ law_of script → stage.world ≡ start_world law script.clusters slice → stage.script ≡ script → IsBegun script stage
-  begun_by others law stage trees again seats law_is world_is script_is =
+  pub begun_by : (others : List SessionScript) (law : JcrLaw) (stage : Stage) → ((l : JcrLaw) (clusters : ℕ) (sessions : List ℕ) → AreNodes clusters sessions → SeesTrees l clusters sessions None)
+      → ((l : JcrLaw) (clusters : ℕ) (sessions : List ℕ) → AreNodes clusters sessions → TypesOk l.types initial_tree → SeesTyped l clusters sessions None) → others ≡ script.sessions → AreNew law.types others (length others) stage.seats.items → law ≡ law_of script → stage.world ≡ start_world law script.clusters slice → stage.script ≡ script → IsBegun script stage
+  begun_by others law stage trees typed again seats law_is world_is script_is =
       begun script within stage.seats.items
       (subst (λ (l : JcrLaw). AreNew l.types script.sessions (length script.sessions) stage.seats.items) law_is (subst (λ (l : List SessionScript). AreNew law.types l (length l) stage.seats.items) again seats))
-      (trees (law_of script) script.clusters (map (λ s. s.cluster) script.sessions) (within_nodes script within)) stage script_is
+      (trees (law_of script) script.clusters (map (λ s. s.cluster) script.sessions) (within_nodes script within))
+      (typed (law_of script) script.clusters (map (λ s. s.cluster) script.sessions) (within_nodes script within) within.types.typed) stage script_is
       (world_is ∙ (ap (λ (l : JcrLaw). start_world l script.clusters slice) law_is ∙ ap (start_world (law_of script) script.clusters) are)) refl

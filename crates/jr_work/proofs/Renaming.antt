@@ -20,6 +20,7 @@ module _ (law : JcrLaw) (p : Shown) (b : Beside) (d : Option StepKind) (run : Se
   in_renamed i = record {
     nodes = i.nodes;
     trees = i.trees;
+    typed = i.typed;
     run = i.run;
     login = i.login;
     stays = i.stays;
@@ -37,6 +38,7 @@ module _ (law : JcrLaw) (p : Shown) (b : Beside) (d : Option StepKind) (run : Se
     accepts = i.accepts;
     place = i.place;
     proper = i.proper;
+    referring = i.referring;
     drew = i.drew;
   }
 
@@ -104,6 +106,7 @@ module _ (law : JcrLaw) (p : Shown) (b : Beside) (d : Option StepKind) (run : Se
   stands_renamed s = record {
     nodes = s.nodes;
     trees = s.trees;
+    typed = s.typed;
     run_is = s.run_is;
     session = s.session;
     few = s.few;

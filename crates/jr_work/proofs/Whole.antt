@@ -7,7 +7,7 @@ use Rattle.std.proofs.lemmas.Bool.Decides.{nat_tests}
 use Rattle.std.proofs.lemmas.List.{map-append, reverse-append, take_all, take_more}
 use Rattle.std.proofs.lemmas.List.Elements.{All-get_or}
 use Rattle.std.proofs.lemmas.Option.{slice_get_within}
-use Rattle.oak_machine.specs.History.{History}
+use Rattle.oak_machine.specs.History.{History, Past}
 use Rattle.oak_machine.specs.Runs.{IsRun}
 use Rattle.oak_machine.specs.Sessions.{has_left, next_index}
 use Rattle.jcr_law.specs.declared.law.JcrLaw.{JcrLaw}
@@ -25,7 +25,7 @@ use Rattle.oak_world.specs.Worlds.{Story, live}
 use Rattle.jr_work.specs.declared.stage.Stage.{Stage}
 use Rattle.jr_work.specs.Parts.{IsCut, Part, Rule, by_entry, events_of, to_end, to_reply}
 use Rattle.jr_work.specs.Places.{commands_of, flying_sessions, history_at, is_over}
-use Rattle.jr_work.specs.Runs.{AreApart, HasRun, indexes_said}
+use Rattle.jr_work.specs.Runs.{AnswersScript, AreApart, HasRun}
 use Rattle.jr_work.specs.Schedules.{Scheduled, rules_of}
 use Rattle.jr_work.specs.SoFar.{IsCutSoFar}
 use Rattle.jr_work.specs.Stages.{AreOver, Closes, ClosesAll, IsBegun, IsStage, due_at, law_of, past_of}
@@ -143,12 +143,36 @@ over_more old new n rule one before ended t below = by (t == n) refl
 
 -- ---- the run
 
--- a session that is over has answered each command, in order
-answered_by : (script : Script) (h : Story) → IsRun (starts_of (law_of script)) (says_of (law_of script)) (live h) → (s : ℕ) (session : SessionScript) → slice_get script.sessions s ≡ Some session → is_over script h.past s ≡ true → indexes_said (live h) s ≡ range_with_len 0 (length session.commands)
-answered_by script h run s session there over =
-    said_so_far h.clusters h.sessions (starts_of (law_of script)) (says_of (law_of script)) s h.past run
-    ∙ ap (range_with_len 0) (equal (next_index h.past s) (length (commands_of script s)) (halves (next_index h.past s == length (commands_of script s)) (has_left h.past s) over).0
-    ∙ ap (λ (o : Option SessionScript). length (option_map_or (λ x. x.commands) o [])) there)
+-- a world whose journal is a run by the law of the script, over its cluster nodes and sessions, each of which has answered all its commands, answers the script
+pub answers_all : (script : Script) (h : Story) → IsWithin script → (live h) ≡ history_at script h.past → IsRun (starts_of (law_of script)) (says_of (law_of script)) (live h) → AreApart h.past
+    → ((s : ℕ) (session : SessionScript) → slice_get script.sessions s ≡ Some session → next_index h.past s ≡ length session.commands)
+    → ((law : JcrLaw) (h : History) → IsProductRun law h → ObeysThroughout law h)
+    → ((law : JcrLaw) (h : History) → IsNodesRun (starts_of law) (says_of law) h → NameOthers h.past → AnswersThroughout law h)
+    → AnswersScript script (live h)
+answers_all script h within is run apart all obey answer = record {
+  clusters = ap (λ (h : History). h.clusters) is;
+  sessions = ap (λ (h : History). h.sessions) is;
+  run = run;
+  answered = λ s session there. said_so_far h.clusters h.sessions (starts_of (law_of script)) (says_of (law_of script)) s h.past run ∙ ap (range_with_len 0) (all s session there);
+  apart = apart;
+  obeys = obey (law_of script) (live h) product_run;
+  reasons = answer (law_of script) (live h) (record { nodes = product_run.nodes; run = run }) (λ r item o is. (apart.causes r item o is).another);
+}
+  where
+    -- the run is one of the product
+    product_run : IsProductRun (law_of script) (live h)
+    product_run = subst (λ (h : History). IsProductRun (law_of script) h) (sym is) (record {
+      nodes = within_nodes script within;
+      begun = refl;
+      run = subst (λ (h : History). IsRun (starts_of (law_of script)) (says_of (law_of script)) h) is run;
+      typed = within.types.typed;
+    })
+
+-- a session that is over has answered each command
+all_said : (script : Script) (past : Past) (s : ℕ) (session : SessionScript) → slice_get script.sessions s ≡ Some session → is_over script past s ≡ true → next_index past s ≡ length session.commands
+all_said script past s session there over =
+    equal (next_index past s) (length (commands_of script s)) (halves (next_index past s == length (commands_of script s)) (has_left past s) over).0
+    ∙ ap (λ (o : Option SessionScript). length (option_map_or (λ x. x.commands) o [])) there
 
 module _ (script : Script) (begun played replied finished : Stage) (flying : List ℕ)
     (begins : IsBegun script begun) (plays : ClosesAll begun played (map by_entry begun.script.schedule))
@@ -233,28 +257,15 @@ module _ (script : Script) (begun played replied finished : Stage) (flying : Lis
   within : IsWithin script
   within = subst (λ (x : Script). IsWithin x) script_finished finishes.stage.within
 
-  -- the run is one of the product
-  product_run : IsProductRun (law_of script) (live finished.world.history)
-  product_run = subst (λ (h : History). IsProductRun (law_of script) h) (sym history_is) (record {
-    nodes = within_nodes script within;
-    begun = refl;
-    run = subst (λ (h : History). IsRun (starts_of (law_of script)) (says_of (law_of script)) h) history_is run_is;
-    typed = within.types.typed;
-  })
-
   -- the script was run to its end
   pub ran : HasRun script finished.world
   ran = record {
     law = law_is;
     follows = record {
-      clusters = ap (λ (h : History). h.clusters) history_is;
-      sessions = ap (λ (h : History). h.sessions) history_is;
-      run = run_is;
-      answered = λ s session there. answered_by script finished.world.history run_is s session there
-          (subst (λ (x : Script). is_over x (past_of finished) s ≡ true) script_finished (over s (subst (λ (n : ℕ). s < n) (sym seats_are) (slice_get_within script.sessions s session there))));
+      answers = answers_all script finished.world.history within history_is run_is apart
+          (λ s session there. all_said script (past_of finished) s session there
+          (subst (λ (x : Script). is_over x (past_of finished) s ≡ true) script_finished (over s (subst (λ (n : ℕ). s < n) (sym seats_are) (slice_get_within script.sessions s session there)))))
+          obey answer;
       scheduled = scheduled;
-      apart = apart;
-      obeys = obey (law_of script) (live finished.world.history) product_run;
-      answers = answer (law_of script) (live finished.world.history) (record { nodes = product_run.nodes; run = run_is }) (λ r item o is. (apart.causes r item o is).another);
     };
   }

@@ -8,3 +8,4 @@ pub mod Schedules
 pub mod Seats
 pub mod SoFar
 pub mod Stages
+pub mod Workers

@@ -35,18 +35,27 @@ pub record AreApart (past : Past) : Type 0 where
   pub causes : (r : Revision) (item : Item) (o : Revision) → refusal_of past r ≡ Some (item, o) → Cause past r item o
   pub complete : (r : Revision) → IsTrue (is_ended past r) → MeetsNone past r → IsTrue (is_committed past r) ⊎ Wanted past r
 
--- the history is a run of the machine by the law of the script, over its cluster nodes and its sessions, in which each command of a session is answered once, in order; the schedule cuts it; its commits are apart; at each time it obeyed the types, the locks and the references; and each reply had its reason
-pub record FollowsScript (script : Script) (h : History) : Type 0 where
+-- the history is a run of the machine by the law of the script, over its cluster nodes and its sessions, in which each command of a session is answered once, in order; its commits are apart; at each time it obeyed the types, the locks and the references; and each reply had its reason
+pub record AnswersScript (script : Script) (h : History) : Type 0 where
   pub clusters : h.clusters ≡ script.clusters
   pub sessions : h.sessions ≡ map (λ s. s.cluster) script.sessions
   pub run : IsRun (starts_of (law_of script)) (says_of (law_of script)) h
   pub answered : (s : ℕ) (session : SessionScript) → slice_get script.sessions s ≡ Some session → indexes_said h s ≡ range_with_len 0 (length session.commands)
-  pub scheduled : Scheduled script h
   pub apart : AreApart h.past
   pub obeys : ObeysThroughout (law_of script) h
-  pub answers : AnswersThroughout (law_of script) h
+  pub reasons : AnswersThroughout (law_of script) h
 
--- the script was run to its end: the world is of its law, and what its journal tells follows the script
+-- it answers the script, and the script's schedule cuts it
+pub record FollowsScript (script : Script) (h : History) : Type 0 where
+  pub answers : AnswersScript script h
+  pub scheduled : Scheduled script h
+
+-- the script was run to its end by its schedule: the world is of its law, and what its journal tells follows the script
 pub record HasRun (script : Script) (w : WorldOf JcrLaw) : Type 0 where
   pub law : w.law ≡ law_of script
   pub follows : FollowsScript script (live w.history)
+
+-- the script was run to its end by workers, whatever its schedule: the world is of its law, and what its journal tells answers the script
+pub record HasRunByWorkers (script : Script) (w : WorldOf JcrLaw) : Type 0 where
+  pub law : w.law ≡ law_of script
+  pub answers : AnswersScript script (live w.history)

@@ -2,9 +2,15 @@
 #![tactic(auto)]
 
 mod flight;
+mod gate;
 mod laws;
+mod port;
 mod run;
 mod stage;
+mod worker;
+mod workers;
 
+pub use gate::{Gate, NoGate};
 pub use laws::cuts_grow;
 pub use run::run_steps;
+pub use workers::run_workers;

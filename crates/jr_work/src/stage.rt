@@ -8,7 +8,7 @@ ghost use Rattle.jr_rev.specs.Revisions.{revision_cmp};
 ghost use Rattle.jr_script.specs.Bounds.{IsWithin};
 ghost use Rattle.jr_script.specs.Schedules.{IsEntryWithin, session_named};
 ghost use Rattle.oak_world.specs.Seen.{shown_at};
-ghost use Rattle.jcr_session.specs.Standing.{Stands};
+ghost use Rattle.jcr_session.specs.Standing.{IsNew, Stands};
 ghost use Rattle.jr_work.specs.Places.{flying_sessions, is_over};
 ghost use Rattle.jr_work.specs.Parts.{Part, Rule, by_entry, to_end, to_reply};
 ghost use Rattle.jr_script.specs.declared.script.Entry.TheVariants as entry;
@@ -45,7 +45,8 @@ pub(crate) struct Seat {
 }
 
 impl Stage {
-    // The sessions of a script before any turn. By the law that the product obeys they will see trees.
+    // The sessions of a script before any turn. By the law that the product obeys they will see trees
+    // that meet the types of the script.
     pub(crate) fn new(alloc: Global, script: Script) -> Result<Stage, AllocError>
         requires { IsWithin script }
         ensures { IfOk result (IsBegun script) }
@@ -246,7 +247,7 @@ fn sessions_of(alloc: Global, flying: &BTreeMap<Revision, u32>) -> Result<List<u
 }
 
 // The cluster node of each session.
-fn nodes_of(alloc: Global, sessions: &[SessionScript]) -> Result<Vec<u32>, AllocError>
+pub(crate) fn nodes_of(alloc: Global, sessions: &[SessionScript]) -> Result<Vec<u32>, AllocError>
     ensures { IfOk result (λ nodes. nodes.items ≡ map (λ s. s.cluster) sessions.now) }
 {
     let mut nodes = Vec::new(alloc);
@@ -284,13 +285,26 @@ fn seat_of(
     requires few { length session.now.commands ≤ 10000 }
     ensures { IfOk result (IsNewSeat types.now s session.now) }
 {
-    let commands = session.commands.copy()?;
-    let run = SessionRun::new(alloc, s, 0, commands, types.copy()?)?;
+    let run = session_of(alloc, types, s, session)?;
     Ok(Seat { run, flight: None })
 }
 
+// A session's run before its login, of the number and with the commands.
+pub(crate) fn session_of(
+    alloc: Global,
+    types: &Registry,
+    s: u32,
+    session: &SessionScript,
+) -> Result<SessionRun, AllocError>
+    requires few { length session.now.commands ≤ 10000 }
+    ensures { IfOk result (IsNew s 0 session.now.commands types.now) }
+{
+    let commands = session.commands.copy()?;
+    SessionRun::new(alloc, s, 0, commands, types.copy()?)
+}
+
 // The law of a script: its types, no session before it, and its sessions with their commands.
-fn law_of(alloc: Global, script: &Script) -> Result<JcrLaw, AllocError>
+pub(crate) fn law_of(alloc: Global, script: &Script) -> Result<JcrLaw, AllocError>
     ensures { IfOk result (λ law. law ≡ law_of script.now) }
 {
     let types = script.types.copy()?;

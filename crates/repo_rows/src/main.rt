@@ -1,6 +1,7 @@
 //! Scripts, a line each, behind a word for what is to be shown of them: the replies, the documents and events, whether the replies are
 //! those that the law lets be said, how many documents a session read, the order of events, or what the plain calls of the machine say
-//! of them; the top call over sources and sinks that fail, and over bytes that are no text; and the words of command lines.
+//! of them; the top call over sources and sinks that fail, over bytes that are no text, and for words that read nothing; and the words of
+//! command lines.
 #![tactic(auto)]
 
 mod loads;

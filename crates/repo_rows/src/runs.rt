@@ -2,7 +2,7 @@
 use jcr_law::JcrLaw;
 use jr_io::{MemSink, MemSource};
 use oak_world::World;
-use repo_top::{Given, Row, Takes, WordOption, Words, option_given, row_meant, steps_main};
+use repo_top::{Given, Row, Takes, Verb, WordOption, option_given, row_meant, steps_main};
 use std::alloc::{AllocError, Global};
 
 // What follows a text up to its first space, and the text behind it.
@@ -40,6 +40,11 @@ pub(crate) fn add_octets(alloc: Global, rest: &str, out: &mut String) -> Result<
     let (words, input) = cut_words(rest);
     let bytes = bytes_of(alloc, input)?;
     add_call(alloc, words, bytes.as_slice(), out)
+}
+
+// WORDS: the same of words that read nothing; a read would fail.
+pub(crate) fn add_unread(alloc: Global, words: &str, out: &mut String) -> Result<(), AllocError> {
+    add_call(alloc, (words, "0", "-"), &[], out)
 }
 
 // The first three words of a text, and the text behind them.
@@ -96,7 +101,7 @@ fn run(
 const TABLE: [Row; 2] = [
     Row {
         command: "run",
-        meaning: Words::Steps,
+        verb: Verb::Run,
         options: &[
             WordOption {
                 name: "workers",
@@ -112,7 +117,7 @@ const TABLE: [Row; 2] = [
     },
     Row {
         command: "gen",
-        meaning: Words::Steps,
+        verb: Verb::Gen,
         options: &[
             WordOption {
                 name: "seed",

@@ -5,7 +5,7 @@ ghost use Rattle.jr_script.specs.Bounds.{IsWithin};
 use crate::loads::{add_loads, add_same, reads_of};
 use crate::past::{add_order, add_past};
 use crate::plays::add_play;
-use crate::runs::{add_meaning, add_octets, add_option, add_status};
+use crate::runs::{add_meaning, add_octets, add_option, add_status, add_unread};
 use crate::told::told;
 use jcr_eval::eval;
 use jcr_law::JcrLaw;
@@ -41,6 +41,7 @@ fn add_answer(alloc: Global, word: &str, text: &str, out: &mut String) -> Result
         "same" => add_same(alloc, text, out),
         "status" => add_status(alloc, text, out),
         "octets" => add_octets(alloc, text, out),
+        "unread" => add_unread(alloc, text, out),
         "words" => add_meaning(alloc, text, out),
         "option" => add_option(alloc, text, out),
         _ => add_script(alloc, word, text, out),

@@ -1,7 +1,8 @@
-//! The program: reads a script, runs it, prints the replies.
+//! The program: does what its words ask for, over standard input and output.
 #![tactic(auto)]
 
 use jr_io::{StdSink, StdSource};
+use jr_work::NoGate;
 use repo_top::{Status, repo_main};
 use std::alloc::AllocError;
 use std::env::Env;
@@ -41,6 +42,7 @@ fn main(rt: HostRuntime) -> ExitCode {
         words.as_slice(),
         &mut source,
         &mut sink,
+        &NoGate,
         &mut left,
     );
     ExitCode::from(status.code())

@@ -1,20 +1,21 @@
--- How a call ends, from how its parts ended.
-use Rattle.std.proofs.Common.{◌≡◌, ℕ, ◌<◌, ◌≤◌, Option, Some, None, IfSome, IsNone, List, length, inl, inr, refl, sym, subst, arith}
+-- How a call ends, from what was done for its meaning.
+use Rattle.std.proofs.Common.{◌≡◌, ◌⊎◌, ℕ, ◌<◌, ◌≤◌, Bool, true, false, Option, Some, None, IfSome, IsNone, List, length, inl, inr, refl, sym, ◌∙◌, ap, subst, arith}
 use Rattle.repo_top.specs.declared.status.Status.{Status}
 use Rattle.repo_top.specs.declared.status.Status.TheVariants as status
+use Rattle.jr_io.specs.Causes.{Rose}
 use Rattle.jr_script.specs.declared.script.Script.{Script}
-use Rattle.oak_world.specs.Worlds.{WorldOf, live}
+use Rattle.oak_world.specs.Worlds.{WorldOf}
 use Rattle.jcr_law.specs.declared.law.JcrLaw.{JcrLaw}
-use Rattle.repo_top.specs.Ends.{Call, Ends, EndsWith, FailsNowhere, Faults, HasFault, HasLine, HasPrinted, HasRunAll, IsCalm, IsCause, IsDelivered, IsFault, IsPart, IsPartOf, IsReadWhole, IsRefused, IsSteps, IsTypes, IsUnread, Output, Prints, Spells, Tells, longest}
-use Rattle.jr_work.specs.Runs.{HasRun}
-use Rattle.repo_top.specs.Headline.{replies_of}
+use Rattle.repo_top.specs.Ends.{AsksFor, Call, IsTaken, Does, Effect, Ends, EndsWith, Faults, HasFault, HasLine, HasPrinted, HasRunAll, HasRunFor, Input, IsAsked, IsCalm, IsCause, IsDelivered, IsExpected, IsFault, IsScriptFor, IsMissing, IsPart, IsPartOf, IsReadWhole, TellsAll, IsRefused, IsTextFor, IsUnread, SourceKind, Output, Prints, Spells, Tells, WritesText, call, effect, source_kind, longest, told_of}
+use Rattle.repo_top.specs.Ends.SourceKind.{a_script, a_type_text}
+use Rattle.jr_gen.specs.Scripts.{script_text}
 use Rattle.repo_top.specs.Statuses.{fault_line, status_of}
 use Rattle.repo_top.specs.Typed.{IsCanonical}
 use Rattle.repo_top.specs.declared.status.Unrun.{Unrun}
 use Rattle.repo_top.specs.declared.status.Unrun.TheVariants as unrun
-use Rattle.repo_top.specs.Words.{HasMeaning, Means}
+use Rattle.repo_top.specs.Words.{Means}
 use Rattle.repo_top.specs.declared.words.Words.{Words}
-use Rattle.repo_top.specs.declared.words.Words.TheVariants.{Steps, Types}
+use Rattle.repo_top.specs.declared.words.Words.TheVariants.{Gen, Run, Steps, Types}
 use Rattle.repo_top.proofs.Options.{one_meaning}
 use mathlib.Core.Bool.{false≢true}
 
@@ -26,125 +27,261 @@ none_left (Some x) h = absurd (false≢true (sym h))
 pub told_text : (before now : Output) (text same : List ℕ) (answer result : Status) → text ≡ same → Tells before now text answer result → Tells before now same answer result
 told_text before now text same answer result e told = subst (λ (t : List ℕ). Tells before now t answer result) e told
 
+-- the words of a call ask for one thing
+one_asked : (c : Call) (a b : Words) → AsksFor c a → AsksFor c b → a ≡ b
+one_asked c a b p q = one_meaning c.words a b p.meant q.meant
+
+-- ---- what words ask for
+
+-- words have one meaning, and a call that may run no threads takes all but `run`
+pub taken_alone : (meaning : Words) → ((workers : ℕ) → meaning ≡ Run workers → ⊥) → IsTaken false meaning
+taken_alone Steps other = tt
+taken_alone Types other = tt
+taken_alone (Run workers) other = other workers refl
+taken_alone (Gen seed sessions runs) other = tt
+
+pub asks_all : (words : List (List ℕ)) (e : Effect) (meaning : Words) → Means words meaning → AsksFor (call true words e) meaning
+asks_all words e meaning meant = record { meant = meant; taken = tt }
+
+pub asks_alone : (words : List (List ℕ)) (e : Effect) (meaning : Words) → Means words meaning → IsTaken false meaning → AsksFor (call false words e) meaning
+asks_alone words e meaning meant taken = record { meant = meant; taken = taken }
+
+pub no_threads : (words : List (List ℕ)) (e : Effect) (meaning : Words) (workers : ℕ) → Means words meaning → meaning ≡ Run workers → (other : Words) → ¬ AsksFor (call false words e) other
+no_threads words e meaning workers meant is other asked =
+    subst (λ (m : Words). IsTaken false m) (one_meaning words other meaning asked.meant meant ∙ is) asked.taken
+
+pub meaningless : (words : List (List ℕ)) (threads : Bool) (e : Effect) → ((meaning : Words) → ¬ Means words meaning) → (meaning : Words) → ¬ AsksFor (call threads words e) meaning
+meaningless words threads e none meaning asked = none meaning asked.meant
+
+-- ---- the text of a script that is made
+
+-- memory was refused
+refused_made : (source : Input) (sink sink_now : Output) (left : Option (WorldOf JcrLaw)) (seed sessions : ℕ) (runs : Bool) (result : Status) → left ≡ None → IsRefused sink sink_now result → Does (Gen seed sessions runs) (effect source source sink sink_now left) result
+refused_made source sink sink_now left seed sessions runs result none refused = inl (record { why = unrun.Memory; missing = refl; none = none; faults = refused })
+
+pub printed_made : (source : Input) (sink sink_now : Output) (left : Option (WorldOf JcrLaw)) (seed sessions : ℕ) (runs : Bool) (result : Status) → runs ≡ false → left ≡ None → WritesText sink sink_now (script_text seed sessions) result → Does (Gen seed sessions runs) (effect source source sink sink_now left) result
+printed_made source sink sink_now left seed sessions true result off none writes = absurd (false≢true (sym off))
+printed_made source sink sink_now left seed sessions false result off none (inl told) =
+    inr (inr (record { text = script_text seed sessions; made = (refl, refl); none = none; tells = told }))
+printed_made source sink sink_now left seed sessions false result off none (inr refused) = refused_made source sink sink_now left seed sessions false result none refused
+
 -- ---- no world is left
 
-module _ (c : Call) (none : c.left ≡ None) where
+module _ (c : Call) (none : c.does.left ≡ None) where
   -- a text was written, or a part of it
-  told : (text : List ℕ) (answer result : Status) → IsPartOf c text → (IsDelivered c.sink c.sink_now text → EndsWith c answer) → Tells c.sink c.sink_now text answer result → EndsWith c result
+  told : (text : List ℕ) (answer result : Status) → IsPartOf c text → (IsDelivered c.does.sink c.does.sink_now text → EndsWith c answer) → Tells c.does.sink c.does.sink_now text answer result → EndsWith c result
   told text answer result part make (inl t) = subst (λ (r : Status). EndsWith c r) (sym t.0) (make t.1)
   told text answer result part make (inr t) =
       subst (λ (r : Status). EndsWith c r) (sym t.0)
       (record { fault = t.1; part = subst (λ (o : Option (WorldOf JcrLaw)). IsPart c o) (sym none) (text, part, t.2) })
 
   -- the line that says why was written, or a part of it
-  lined : (why : Unrun) (result : Status) → HasLine why → IsCause c why → (IsFault c (status_of why) → EndsWith c (status_of why)) → Tells c.sink c.sink_now (fault_line why) (status_of why) result → EndsWith c result
+  lined : (why : Unrun) (result : Status) → HasLine why → IsCause c why → (IsFault c (status_of why) → EndsWith c (status_of why)) → Tells c.does.sink c.does.sink_now (fault_line why) (status_of why) result → EndsWith c result
   lined why result line cause make tells =
       told (fault_line why) (status_of why) result (inr (why, line, cause, refl)) (λ whole. make (record { why = why; status = refl; unrun = none; cause = cause; line = whole })) tells
 
   -- memory was refused
-  refused : (result : Status) → HasMeaning c.words → IsRefused c.sink c.sink_now result → EndsWith c result
-  refused result meant tells =
-      subst (λ (r : Status). EndsWith c r) (sym tells.0) (record { meant = meant; ran = subst (λ (o : Option (WorldOf JcrLaw)). IfSome o (HasRunAll c)) (sym none) tt; nothing = tells.1 })
+  refused : (result : Status) → (meaning : Words) → AsksFor c meaning → IsRefused c.does.sink c.does.sink_now result → EndsWith c result
+  refused result meaning asked tells =
+      subst (λ (r : Status). EndsWith c r) (sym tells.0) (record { asked = (meaning, asked); ran = subst (λ (o : Option (WorldOf JcrLaw)). IfSome o (HasRunAll c)) (sym none) tt; nothing = tells.1 })
 
-  pub unrun_ends : (why : Unrun) (result : Status) → IsCause c why → Faults c.sink c.sink_now why result → EndsWith c result
+  unrun_ends : (why : Unrun) (result : Status) → IsCause c why → Faults c.does.sink c.does.sink_now why result → EndsWith c result
   unrun_ends unrun.Words result cause tells = lined unrun.Words result tt cause (λ f. f) tells
   unrun_ends (unrun.Script rule pointer offset) result cause (inl tells) = lined (unrun.Script rule pointer offset) result tt cause (λ f. f) tells
-  unrun_ends (unrun.Script rule pointer offset) result cause (inr tells) = refused result (cause.0, cause.1) tells
+  unrun_ends (unrun.Script rule pointer offset) result cause (inr tells) = refused result cause.0 cause.1 tells
   unrun_ends (unrun.Types offset) result cause (inl tells) = lined (unrun.Types offset) result tt cause (λ f. f) tells
-  unrun_ends (unrun.Types offset) result cause (inr tells) = refused result (cause.0, cause.1) tells
+  unrun_ends (unrun.Types offset) result cause (inr tells) = refused result cause.0 cause.1 tells
   unrun_ends unrun.ReadFault result cause tells = lined unrun.ReadFault result tt cause (λ f. f) tells
   unrun_ends unrun.TooLong result cause tells = lined unrun.TooLong result tt cause (λ f. f) tells
-  unrun_ends unrun.Memory result cause tells = refused result (cause.0, cause.1) tells
+  unrun_ends unrun.Memory result cause tells = refused result cause.0 cause.1 tells
 
--- what is meant didn't come of the source
-unread_cause : (c : Call) (meaning : Words) (why : Unrun) → Means c.words meaning → IsUnread meaning c.source c.source_now why → IsCause c why
-unread_cause c meaning unrun.Words meant unread = absurd (no_words meaning unread.0 unread.2)
-  where
-    no_words : (meaning : Words) (bytes : List ℕ) → HasFault meaning bytes unrun.Words → ⊥
-    no_words Steps bytes h = h
-    no_words Types bytes h = h
-unread_cause c meaning (unrun.Script rule pointer offset) meant unread = (meaning, meant, unread)
-unread_cause c meaning (unrun.Types offset) meant unread = (meaning, meant, unread)
-unread_cause c meaning unrun.ReadFault meant unread = (meaning, meant, unread)
-unread_cause c meaning unrun.TooLong meant unread = (meaning, meant, unread)
-unread_cause c meaning unrun.Memory meant unread = (meaning, meant, unread)
+-- what is meant didn't come to be
+no_words : (kind : Option SourceKind) (before now : Input) → IsMissing kind before now unrun.Words → ⊥
+no_words None before now missing = missing
+no_words (Some a_script) before now missing = missing.2
+no_words (Some a_type_text) before now missing = missing.2
+
+missing_cause : (c : Call) (meaning : Words) (why : Unrun) → AsksFor c meaning → IsMissing (source_kind meaning) c.does.source c.does.source_now why → IsCause c why
+missing_cause c meaning unrun.Words asked missing = absurd (no_words (source_kind meaning) c.does.source c.does.source_now missing)
+missing_cause c meaning (unrun.Script rule pointer offset) asked missing = (meaning, asked, missing)
+missing_cause c meaning (unrun.Types offset) asked missing = (meaning, asked, missing)
+missing_cause c meaning unrun.ReadFault asked missing = (meaning, asked, missing)
+missing_cause c meaning unrun.TooLong asked missing = (meaning, asked, missing)
+missing_cause c meaning unrun.Memory asked missing = (meaning, asked, missing)
 
 -- ---- a script is run
 
-module _ (c : Call) (script : Script) (meant : Means c.words Steps) (read : (bytes : List ℕ) × IsReadWhole c.source c.source_now bytes × Spells bytes script) where
-  run_all : (world : WorldOf JcrLaw) → HasRun script world → HasRunAll c world
-  run_all world ran = record { meant = meant; bytes = read.0; read = read.1; script = script; spells = read.2; ran = ran }
+module _ (c : Call) (meaning : Words) (asked : AsksFor c meaning) (script : Script) (given : IsScriptFor meaning c.does script) where
+  abbrev run_all : (world : WorldOf JcrLaw) → HasRunFor meaning script world → HasRunAll c world
+  run_all world ran = record { meaning = meaning; asked = asked; script = script; given = given; ran = ran }
 
-  run_ends : (o : Option (WorldOf JcrLaw)) (result : Status) → c.left ≡ o → IfSome o (HasRun script) → Prints c.sink c.sink_now o result → EndsWith c result
+  run_ends : (o : Option (WorldOf JcrLaw)) (result : Status) → c.does.left ≡ o → IfSome o (HasRunFor meaning script) → Prints (told_of meaning script) o c.does.sink c.does.sink_now result → EndsWith c result
   run_ends None result is ran prints =
-      subst (λ (r : Status). EndsWith c r) (sym prints.0) (record { meant = (Steps, meant); ran = subst (λ (o : Option (WorldOf JcrLaw)). IfSome o (HasRunAll c)) (sym is) tt; nothing = prints.1 })
+      subst (λ (r : Status). EndsWith c r) (sym prints.0) (record { asked = (meaning, asked); ran = subst (λ (o : Option (WorldOf JcrLaw)). IfSome o (HasRunAll c)) (sym is) tt; nothing = prints.1 })
   run_ends (Some world) result is ran (inl (inl t)) =
-      subst (λ (r : Status). EndsWith c r) (sym t.0) (inl (record { world = world; left = is; ran = run_all world ran; replies = t.1 }))
+      subst (λ (r : Status). EndsWith c r) (sym t.0) (inl (record { world = world; left = is; ran = run_all world ran; told = t.1 }))
   run_ends (Some world) result is ran (inl (inr t)) =
       subst (λ (r : Status). EndsWith c r) (sym t.0)
       (record { fault = t.1; part = subst (λ (o : Option (WorldOf JcrLaw)). IsPart c o) (sym is) (run_all world ran, t.2) })
   run_ends (Some world) result is ran (inr m) =
       subst (λ (r : Status). EndsWith c r) (sym m.0)
-      (record { meant = (Steps, meant); ran = subst (λ (o : Option (WorldOf JcrLaw)). IfSome o (HasRunAll c)) (sym is) (run_all world ran); nothing = m.1 })
+      (record { asked = (meaning, asked); ran = subst (λ (o : Option (WorldOf JcrLaw)). IfSome o (HasRunAll c)) (sym is) (run_all world ran); nothing = m.1 })
 
-steps_end : (c : Call) (result : Status) → Means c.words Steps → IsSteps c.source c.source_now c.sink c.sink_now c.left result → EndsWith c result
-steps_end c result meant (inl u) = unrun_ends c u.none u.why result (unread_cause c Steps u.why meant u.unread) u.faults
-steps_end c result meant (inr r) = run_ends c r.script meant r.read c.left result refl r.ran r.prints
+done_ends : (c : Call) (meaning : Words) (result : Status) → AsksFor c meaning → Does meaning c.does result → EndsWith c result
+done_ends c meaning result asked (inl u) = unrun_ends c u.none u.why result (missing_cause c meaning u.why asked u.missing) u.faults
+done_ends c meaning result asked (inr (inl r)) = run_ends c meaning asked r.script r.given c.does.left result refl r.ran r.prints
+done_ends c meaning result asked (inr (inr p)) =
+    let printed : HasPrinted c p.text = record { meaning = meaning; asked = asked; made = p.made } in
+    told c p.none p.text status.Done result (inl printed) (λ whole. inr (record { text = p.text; unrun = p.none; printed = printed; whole = whole })) p.tells
 
-types_end : (c : Call) (result : Status) → Means c.words Types → c.left ≡ None → IsTypes c.source c.source_now c.sink c.sink_now result → EndsWith c result
-types_end c result meant none (inl u) = unrun_ends c none u.why result (unread_cause c Types u.why meant u.unread) u.faults
-types_end c result meant none (inr p) =
-    let printed : HasPrinted c p.text = record { meant = meant; bytes = p.read.0; read = p.read.1; canonical = p.read.2 } in
-    told c none p.text status.Done result (inl printed) (λ whole. inr (record { text = p.text; unrun = none; printed = printed; whole = whole })) p.tells
+-- ---- the source, where nothing is read
+
+missing_apart : (kind : Option SourceKind) (before now : Input) (why : Unrun) → kind ≡ None → IsMissing kind before now why → now ≡ before
+missing_apart (Some kind) before now why none missing = absurd (cc none)
+missing_apart None before now unrun.Memory none missing = missing
+missing_apart None before now unrun.Words none missing = absurd missing
+missing_apart None before now (unrun.Script rule pointer offset) none missing = absurd missing
+missing_apart None before now (unrun.Types offset) none missing = absurd missing
+missing_apart None before now unrun.ReadFault none missing = absurd missing
+missing_apart None before now unrun.TooLong none missing = absurd missing
+
+given_apart : (meaning : Words) (e : Effect) (script : Script) → source_kind meaning ≡ None → IsScriptFor meaning e script → e.source_now ≡ e.source
+given_apart Steps e script none given = absurd (cc none)
+given_apart Types e script none given = absurd (cc none)
+given_apart (Run workers) e script none given = absurd (cc none)
+given_apart (Gen seed sessions runs) e script none given = given.0
+
+text_apart : (meaning : Words) (e : Effect) (text : List ℕ) → source_kind meaning ≡ None → IsTextFor meaning e text → e.source_now ≡ e.source
+text_apart Steps e text none made = absurd (cc none)
+text_apart Types e text none made = absurd (cc none)
+text_apart (Run workers) e text none made = absurd (cc none)
+text_apart (Gen seed sessions true) e text none made = absurd made
+text_apart (Gen seed sessions false) e text none made = made.0
+
+done_apart : (meaning : Words) (e : Effect) (result : Status) → source_kind meaning ≡ None → Does meaning e result → e.source_now ≡ e.source
+done_apart meaning e result none (inl u) = missing_apart (source_kind meaning) e.source e.source_now u.why none u.missing
+done_apart meaning e result none (inr (inl r)) = given_apart meaning e r.script none r.given
+done_apart meaning e result none (inr (inr p)) = text_apart meaning e p.text none p.made
 
 -- ---- where nothing fails
 
-all_bytes : (c : Call) (meaning : Words) (bytes all : List ℕ) → FailsNowhere c meaning bytes → IsReadWhole c.source c.source_now all → all ≡ bytes
-all_bytes c meaning bytes all calm read = subst (λ (o : Option (List ℕ)). IfSome o (λ left. all ≡ left)) calm.tells read.all
+all_bytes : (before now : Input) (bytes all : List ℕ) → TellsAll before now bytes → IsReadWhole before now all → all ≡ bytes
+all_bytes before now bytes all calm read = subst (λ (o : Option (List ℕ)). IfSome o (λ left. all ≡ left)) calm.tells read.all
 
--- the words have the one meaning, and the source gave the bytes
-told_fault : (c : Call) (meaning m : Words) (bytes all : List ℕ) (why : Unrun) → FailsNowhere c meaning bytes → Means c.words m → IsReadWhole c.source c.source_now all → HasFault m all why → (why : Unrun) × HasFault meaning bytes why
-told_fault c meaning m bytes all why calm meant read fault =
-    (why, subst (λ (b : List ℕ). HasFault meaning b why) (all_bytes c meaning bytes all calm read) (subst (λ (w : Words). HasFault w all why) (one_meaning c.words m meaning meant calm.meant) fault))
+module _ (e : Effect) (kind : SourceKind) (bytes : List ℕ) (calm : TellsAll e.source e.source_now bytes) where
+  -- the source gave bytes with a fault
+  told_fault : (all : List ℕ) (why : Unrun) → IsReadWhole e.source e.source_now all → HasFault kind all why → (why : Unrun) × HasFault kind bytes why
+  told_fault all why read fault = (why, subst (λ (b : List ℕ). HasFault kind b why) (all_bytes e.source e.source_now bytes all calm read) fault)
 
--- a fault with a line comes of the words, of the bytes, or of a source that failed or gave too many
-calm_fault : (c : Call) (s : Status) (why : Unrun) → s ≡ status_of why → IsCause c why → (meaning : Words) (bytes : List ℕ) → FailsNowhere c meaning bytes → IsCalm meaning bytes s
-calm_fault c s unrun.Words is cause meaning bytes calm = absurd (cause meaning calm.meant)
-calm_fault c s (unrun.Script rule pointer offset) is cause meaning bytes calm =
-    subst (λ (r : Status). IsCalm meaning bytes r) (sym is) (told_fault c meaning cause.0 bytes cause.2.0 (unrun.Script rule pointer offset) calm cause.1 cause.2.1 cause.2.2)
-calm_fault c s (unrun.Types offset) is cause meaning bytes calm =
-    subst (λ (r : Status). IsCalm meaning bytes r) (sym is) (told_fault c meaning cause.0 bytes cause.2.0 (unrun.Types offset) calm cause.1 cause.2.1 cause.2.2)
-calm_fault c s unrun.ReadFault is cause meaning bytes calm = absurd (calm.reads cause.2)
-calm_fault c s unrun.TooLong is cause meaning bytes calm = absurd (never (length bytes) calm.short (subst (λ (o : Option (List ℕ)). IfSome o (λ left. longest < length left)) calm.tells cause.2.1))
-  where
-    never : (n : ℕ) → n ≤ longest → longest < n → ⊥
-    never n short long = omega (arith, short, long)
-calm_fault c s unrun.Memory is cause meaning bytes calm = subst (λ (r : Status). IsCalm meaning bytes r) (sym is) tt
+  -- a fault with a line comes of the bytes, or of a source that failed or gave too many
+  calm_missing : (why : Unrun) (s : Status) → s ≡ status_of why → IsUnread kind e.source e.source_now why → IsExpected kind bytes s
+  calm_missing unrun.Words s is missing = absurd (no_words (Some kind) e.source e.source_now missing)
+  calm_missing (unrun.Script rule pointer offset) s is missing =
+      subst (λ (r : Status). IsExpected kind bytes r) (sym is) (told_fault missing.0 (unrun.Script rule pointer offset) missing.1 missing.2)
+  calm_missing (unrun.Types offset) s is missing =
+      subst (λ (r : Status). IsExpected kind bytes r) (sym is) (told_fault missing.0 (unrun.Types offset) missing.1 missing.2)
+  calm_missing unrun.ReadFault s is missing = absurd (calm.reads missing)
+  calm_missing unrun.TooLong s is missing = absurd (never (length bytes) calm.short (subst (λ (o : Option (List ℕ)). IfSome o (λ left. longest < length left)) calm.tells missing.1))
+    where
+      never : (n : ℕ) → n ≤ longest → longest < n → ⊥
+      never n short long = omega (arith, short, long)
+  calm_missing unrun.Memory s is missing = subst (λ (r : Status). IsExpected kind bytes r) (sym is) tt
 
-calm_ends : (c : Call) (result : Status) → EndsWith c result → (meaning : Words) (bytes : List ℕ) → FailsNowhere c meaning bytes → IsCalm meaning bytes result
-calm_ends c status.Done (inl end) meaning bytes calm =
-    subst (λ (w : Words). IsCalm w bytes status.Done) (one_meaning c.words Steps meaning end.ran.meant calm.meant)
-    (end.ran.script, subst (λ (b : List ℕ). Spells b end.ran.script) (all_bytes c meaning bytes end.ran.bytes calm end.ran.read) end.ran.spells)
-calm_ends c status.Done (inr end) meaning bytes calm =
-    let whole = subst (λ (b : List ℕ). IsCanonical b end.text) (all_bytes c meaning bytes end.printed.bytes calm end.printed.read) end.printed.canonical in
-    subst (λ (w : Words). IsCalm w bytes status.Done) (one_meaning c.words Types meaning end.printed.meant calm.meant) (whole.0, whole.1)
-calm_ends c status.Words end meaning bytes calm = calm_fault c status.Words end.why end.status end.cause meaning bytes calm
-calm_ends c status.Script end meaning bytes calm = calm_fault c status.Script end.why end.status end.cause meaning bytes calm
-calm_ends c status.ReadFault end meaning bytes calm = calm_fault c status.ReadFault end.why end.status end.cause meaning bytes calm
-calm_ends c status.WriteFault end meaning bytes calm = absurd (calm.writes end.fault)
-calm_ends c status.Memory end meaning bytes calm = tt
-calm_ends c status.TooLong end meaning bytes calm = calm_fault c status.TooLong end.why end.status end.cause meaning bytes calm
+-- the bytes of a script that was run are what is asked for
+run_asked : (meaning : Words) (kind : SourceKind) (e : Effect) (script : Script) (world : WorldOf JcrLaw) (bytes : List ℕ) → source_kind meaning ≡ Some kind → TellsAll e.source e.source_now bytes → IsScriptFor meaning e script → HasRunFor meaning script world → IsAsked kind bytes
+run_asked Steps kind e script world bytes is calm given ran =
+    let k : a_script ≡ kind = cc in
+    subst (λ (k : SourceKind). IsAsked k bytes) k (script, subst (λ (b : List ℕ). Spells b script) (all_bytes e.source e.source_now bytes given.0 calm given.1) given.2)
+run_asked (Run workers) kind e script world bytes is calm given ran =
+    let k : a_script ≡ kind = cc in
+    subst (λ (k : SourceKind). IsAsked k bytes) k (script, subst (λ (b : List ℕ). Spells b script) (all_bytes e.source e.source_now bytes given.0 calm given.1) given.2)
+run_asked Types kind e script world bytes is calm given ran = absurd ran
+run_asked (Gen seed sessions runs) kind e script world bytes is calm given ran = absurd (cc is)
 
-ends : (c : Call) (result : Status) → EndsWith c result → Ends c result
-ends c result says = record { says = says; calm = calm_ends c result says }
+-- the bytes of a text that is printed are what is asked for
+text_asked : (meaning : Words) (kind : SourceKind) (e : Effect) (text : List ℕ) (bytes : List ℕ) → source_kind meaning ≡ Some kind → TellsAll e.source e.source_now bytes → IsTextFor meaning e text → IsAsked kind bytes
+text_asked Types kind e text bytes is calm made =
+    let k : a_type_text ≡ kind = cc in
+    let whole = subst (λ (b : List ℕ). IsCanonical b text) (all_bytes e.source e.source_now bytes made.0 calm made.1) made.2 in
+    subst (λ (k : SourceKind). IsAsked k bytes) k (whole.0, whole.1)
+text_asked Steps kind e text bytes is calm made = absurd made
+text_asked (Run workers) kind e text bytes is calm made = absurd made
+text_asked (Gen seed sessions runs) kind e text bytes is calm made = absurd (cc is)
+
+-- a cause with a line, where bytes are read
+calm_cause : (c : Call) (meaning : Words) (kind : SourceKind) (bytes : List ℕ) (s : Status) (why : Unrun) → AsksFor c meaning → source_kind meaning ≡ Some kind → TellsAll c.does.source c.does.source_now bytes → s ≡ status_of why → IsCause c why → IsExpected kind bytes s
+calm_cause c meaning kind bytes s unrun.Words asked is calm status cause = absurd (cause meaning asked)
+calm_cause c meaning kind bytes s (unrun.Script rule pointer offset) asked is calm status cause =
+    calm_missing c.does kind bytes calm (unrun.Script rule pointer offset) s status
+    (subst (λ (k : Option SourceKind). IsMissing k c.does.source c.does.source_now (unrun.Script rule pointer offset)) (ap source_kind (one_asked c cause.0 meaning cause.1 asked) ∙ is) cause.2)
+calm_cause c meaning kind bytes s (unrun.Types offset) asked is calm status cause =
+    calm_missing c.does kind bytes calm (unrun.Types offset) s status
+    (subst (λ (k : Option SourceKind). IsMissing k c.does.source c.does.source_now (unrun.Types offset)) (ap source_kind (one_asked c cause.0 meaning cause.1 asked) ∙ is) cause.2)
+calm_cause c meaning kind bytes s unrun.ReadFault asked is calm status cause =
+    calm_missing c.does kind bytes calm unrun.ReadFault s status
+    (subst (λ (k : Option SourceKind). IsMissing k c.does.source c.does.source_now unrun.ReadFault) (ap source_kind (one_asked c cause.0 meaning cause.1 asked) ∙ is) cause.2)
+calm_cause c meaning kind bytes s unrun.TooLong asked is calm status cause =
+    calm_missing c.does kind bytes calm unrun.TooLong s status
+    (subst (λ (k : Option SourceKind). IsMissing k c.does.source c.does.source_now unrun.TooLong) (ap source_kind (one_asked c cause.0 meaning cause.1 asked) ∙ is) cause.2)
+calm_cause c meaning kind bytes s unrun.Memory asked is calm status cause =
+    subst (λ (r : Status). IsExpected kind bytes r) (sym status) tt
+
+module _ (c : Call) (meaning : Words) (asked : AsksFor c meaning) (writes : Rose c.does.sink.faults c.does.sink_now.faults → ⊥) where
+  -- where bytes are read
+  calm_read : (kind : SourceKind) → source_kind meaning ≡ Some kind → (bytes : List ℕ) → TellsAll c.does.source c.does.source_now bytes → (result : Status) → EndsWith c result → IsExpected kind bytes result
+  calm_read kind is bytes calm status.Done (inl end) =
+      run_asked end.ran.meaning kind c.does end.ran.script end.world bytes (ap source_kind (one_asked c end.ran.meaning meaning end.ran.asked asked) ∙ is) calm end.ran.given end.ran.ran
+  calm_read kind is bytes calm status.Done (inr end) =
+      text_asked end.printed.meaning kind c.does end.text bytes (ap source_kind (one_asked c end.printed.meaning meaning end.printed.asked asked) ∙ is) calm end.printed.made
+  calm_read kind is bytes calm status.Words end = calm_cause c meaning kind bytes status.Words end.why asked is calm end.status end.cause
+  calm_read kind is bytes calm status.Script end = calm_cause c meaning kind bytes status.Script end.why asked is calm end.status end.cause
+  calm_read kind is bytes calm status.ReadFault end = calm_cause c meaning kind bytes status.ReadFault end.why asked is calm end.status end.cause
+  calm_read kind is bytes calm status.WriteFault end = absurd (writes end.fault)
+  calm_read kind is bytes calm status.Memory end = tt
+  calm_read kind is bytes calm status.TooLong end = calm_cause c meaning kind bytes status.TooLong end.why asked is calm end.status end.cause
+
+  -- no fault has a line where nothing is read
+  no_line : source_kind meaning ≡ None → (s : Status) (why : Unrun) → s ≡ status_of why → (s ≡ status.Memory → ⊥) → IsCause c why → ⊥
+  no_line none s unrun.Words is fault cause = cause meaning asked
+  no_line none s (unrun.Script rule pointer offset) is fault cause = subst (λ (k : Option SourceKind). IsMissing k c.does.source c.does.source_now (unrun.Script rule pointer offset)) (ap source_kind (one_asked c cause.0 meaning cause.1 asked) ∙ none) cause.2
+  no_line none s (unrun.Types offset) is fault cause = subst (λ (k : Option SourceKind). IsMissing k c.does.source c.does.source_now (unrun.Types offset)) (ap source_kind (one_asked c cause.0 meaning cause.1 asked) ∙ none) cause.2
+  no_line none s unrun.ReadFault is fault cause = subst (λ (k : Option SourceKind). IsMissing k c.does.source c.does.source_now unrun.ReadFault) (ap source_kind (one_asked c cause.0 meaning cause.1 asked) ∙ none) cause.2
+  no_line none s unrun.TooLong is fault cause = subst (λ (k : Option SourceKind). IsMissing k c.does.source c.does.source_now unrun.TooLong) (ap source_kind (one_asked c cause.0 meaning cause.1 asked) ∙ none) cause.2
+  no_line none s unrun.Memory is fault cause = fault is
+
+  -- where nothing is read
+  calm_made : source_kind meaning ≡ None → (result : Status) → EndsWith c result → (result ≡ status.Done) ⊎ (result ≡ status.Memory)
+  calm_made none status.Done end = inl refl
+  calm_made none status.Memory end = inr refl
+  calm_made none status.WriteFault end = absurd (writes end.fault)
+  calm_made none status.Words end = absurd (no_line none status.Words end.why end.status (λ e. absurd (cc e)) end.cause)
+  calm_made none status.Script end = absurd (no_line none status.Script end.why end.status (λ e. absurd (cc e)) end.cause)
+  calm_made none status.ReadFault end = absurd (no_line none status.ReadFault end.why end.status (λ e. absurd (cc e)) end.cause)
+  calm_made none status.TooLong end = absurd (no_line none status.TooLong end.why end.status (λ e. absurd (cc e)) end.cause)
+
+  calm_ends : (kind : Option SourceKind) → source_kind meaning ≡ kind → (result : Status) → EndsWith c result → IsCalm kind c.does result
+  calm_ends (Some kind) is result says = λ bytes calm. calm_read kind is bytes calm result says
+  calm_ends None is result says = calm_made is result says
 
 -- ---- a call
 
-pub wordless : (c : Call) (result : Status) → c.left ≡ None → ((meaning : Words) → ¬ Means c.words meaning) → Faults c.sink c.sink_now unrun.Words result → Ends c result
-wordless c result none words faults = ends c result (unrun_ends c none unrun.Words result words faults)
+-- the words ask for nothing
+pub wordless : (c : Call) (result : Status) → c.does.left ≡ None → ((meaning : Words) → ¬ AsksFor c meaning) → Faults c.does.sink c.does.sink_now unrun.Words result → Ends c result
+wordless c result none words faults = record {
+  says = unrun_ends c none unrun.Words result words faults;
+  calm = λ meaning asked writes. absurd (words meaning asked);
+  apart = λ meaning asked is. absurd (words meaning asked);
+}
 
-pub steps_ends : (c : Call) (result : Status) (meaning : Words) → Means c.words meaning → meaning ≡ Steps → IsSteps c.source c.source_now c.sink c.sink_now c.left result → Ends c result
-steps_ends c result meaning meant is did = ends c result (steps_end c result (subst (Means c.words) is meant) did)
+-- what the words ask for is done
+pub does_ends : (c : Call) (result : Status) (meaning : Words) → AsksFor c meaning → Does meaning c.does result → Ends c result
+does_ends c result meaning asked did =
+    let says = done_ends c meaning result asked did in
+    record {
+      says = says;
+      calm = λ m asks writes. calm_ends c m asks writes (source_kind m) refl result says;
+      apart = λ m asks none. done_apart meaning c.does result (ap source_kind (one_asked c meaning m asked asks) ∙ none) did;
+    }
 
-pub types_ends : (c : Call) (result : Status) (meaning : Words) → Means c.words meaning → meaning ≡ Types → c.left ≡ None → IsTypes c.source c.source_now c.sink c.sink_now result → Ends c result
-types_ends c result meaning meant is none did = ends c result (types_end c result (subst (Means c.words) is meant) none did)
+pub does_run : (c : Call) (result : Status) (meaning : Words) (workers : ℕ) → meaning ≡ Run workers → AsksFor c meaning → Does (Run workers) c.does result → Ends c result
+does_run c result meaning workers is asked did = does_ends c result (Run workers) (subst (λ (m : Words). AsksFor c m) is asked) did

@@ -1,12 +1,12 @@
 -- Words are read in one way.
-use Rattle.std.proofs.Common.{codes, is_some, ◌==◌, ◌≡◌, ◌<◌, ◌≤◌, ◌-◌, ℕ, zero, suc, Bool, true, false, cond, List, [], ◌∷◌, ◌++◌, Option, Some, None, IsTrue, IsSome, ◌↔◌, length, map, take, drop, get_or, option_map, bytes_eq, refl, sym, ap, subst, ◌∙◌, ◌⊎◌, inl, inr, arith}
+use Rattle.std.proofs.Common.{codes, eq-eqb, is_some, ◌==◌, ◌≡◌, ◌<◌, ◌≤◌, ◌-◌, ℕ, zero, suc, Bool, true, false, cond, List, [], ◌∷◌, ◌++◌, Option, Some, None, IsTrue, IsSome, ◌↔◌, length, map, take, drop, get_or, option_map, bytes_eq, refl, sym, ap, subst, ◌∙◌, ◌⊎◌, inl, inr, arith}
 use Rattle.std.specs.List.{AllByRecursion, IsDistinct, find}
 use Rattle.std.proofs.lemmas.Bool.{eqb-true, false≢true}
 use Rattle.std.proofs.lemmas.Slice.Eq.{bytes_eq-Decides}
 use Rattle.std.proofs.lemmas.Grind.{common_steps}
 use Rattle.std.specs.Map.{keys_of, lookup}
 use Rattle.std.specs.Str.Parse.{digits_value}
-use Rattle.repo_top.specs.Words.{AreGiven, Begins, Fits, Gives, IsNumber, IsOption, IsPlain, IsRow, TableRow, Means, RowOption, AreOptions, table_row, row_option, option_word}
+use Rattle.repo_top.specs.Words.{AreGenWords, AreGiven, AreRunWords, AreSpelled, IsGenOption, Begins, Fits, Gives, GivesNumber, IsInRange, IsNumber, IsNumberOption, IsOption, IsPlain, IsRequiredNumber, IsRow, MakesMeaning, TableRow, Means, RowOption, AreOptions, gen_row, run_option, run_row, steps_row, types_row, verb_row, rows, seed_option, sessions_option, table_row, row_option, option_word, workers_option}
 use Rattle.repo_top.specs.declared.words.Given.{Given}
 use Rattle.repo_top.specs.declared.words.Given.TheVariants as given
 use Rattle.repo_top.specs.declared.words.Row.{Row}
@@ -14,7 +14,9 @@ use Rattle.repo_top.specs.declared.words.Takes.{Takes}
 use Rattle.repo_top.specs.declared.words.Takes.TheVariants as takes
 use Rattle.repo_top.specs.declared.words.WordOption.{WordOption}
 use Rattle.repo_top.specs.declared.words.Words.{Words}
-use Rattle.repo_top.specs.declared.words.Words.TheVariants.{Steps, Types}
+use Rattle.repo_top.specs.declared.words.Words.TheVariants.{Gen, Run, Steps, Types}
+use Rattle.repo_top.specs.declared.words.Verb.{Verb}
+use Rattle.repo_top.specs.declared.words.Verb.TheVariants as verb
 
 -- ---- a word is of one option
 
@@ -163,6 +165,12 @@ head_words f (x ∷ ws) w s at some e =
     let k : take (length (x ∷ ws) - 1) (drop 1 (x ∷ ws)) ≡ ws = grind (arith, common_steps) in
     ap (λ y. f y ∷ map f ws) (sym at) ∙ ap (λ y. y ∷ map f ws) e ∙ ap (λ ys. s ∷ map f ys) (sym k)
 
+pub rest_words : {A : Type 0} (f : A → List ℕ) (ws : List A) (w : List ℕ) (rest : List (List ℕ)) → map f ws ≡ w ∷ rest → rest ≡ map f (take (length ws - 1) (drop 1 ws))
+rest_words f [] w rest e = absurd (cc e)
+rest_words f (x ∷ ws) w rest e =
+    let k : take (length (x ∷ ws) - 1) (drop 1 (x ∷ ws)) ≡ ws = grind (arith, common_steps) in
+    let t : map f ws ≡ rest = cc in sym t ∙ ap (λ ys. map f ys) (sym k)
+
 pub no_words : {A : Type 0} (f : A → List ℕ) (ws : List A) → (length ws == 0) ≡ true → map f ws ≡ []
 no_words f [] e = refl
 no_words f (x ∷ ws) e = let h : length (x ∷ ws) ≡ 0 = eqb-true _ _ e in absurd (omega (arith, h))
@@ -279,72 +287,391 @@ module _ (table : List Row) (words : List (List ℕ)) (command : List ℕ) (behi
     },
   )
 
+-- ---- what is given is an option
+
+pub given_option : (options : List RowOption) (name : List ℕ) (g : Given) (given : List (List ℕ × Given)) (words : List (List ℕ)) → AreGiven options given words → lookup (bytes_eq name) given ≡ Some g → IsOption options name g
+given_option options name g [] words are e = absurd (cc e)
+given_option options name g (h ∷ more) words are e = at (given_option options name g more are.0 are.3) (bytes_eq name h.0) refl e
+  where
+    at : (lookup (bytes_eq name) more ≡ Some g → IsOption options name g) → (b : Bool) → bytes_eq name h.0 ≡ b → cond b (Some h.1) (lookup (bytes_eq name) more) ≡ Some g → IsOption options name g
+    at later true is e =
+        let n : name ≡ h.0 = bytes_eq-true name h.0 is in let k : h.1 ≡ g = cc in
+        subst (λ (n : List ℕ). IsOption options n g) (sym n) (subst (λ (g : Given). IsOption options h.0 g) k are.1)
+    at later false is e = later e
+
+found_all : (P : RowOption → Type 0) (p : RowOption → Bool) (options : List RowOption) (o : RowOption) → AllByRecursion P options → find p options ≡ Some o → P o
+found_all P p [] o all e = absurd (cc e)
+found_all P p (x ∷ options) o all e = at (found_all P p options o all.1) (p x) e
+  where
+    at : (find p options ≡ Some o → P o) → (b : Bool) → cond b (Some x) (find p options) ≡ Some o → P o
+    at later true e = let h : x ≡ o = cc in subst P h all.0
+    at later false e = later e
+
+-- an option that takes a number is given as one
+number_fits : (t : Takes) (least most : ℕ) (g : Given) → t ≡ takes.Number least most → Fits t g → (n : ℕ) × (g ≡ given.Number n) × (least ≤ n) × (n ≤ most)
+number_fits takes.Nothing least most g e fits = absurd (cc e)
+number_fits (takes.Number l m) least most given.Flag e fits = absurd fits
+number_fits (takes.Number l m) least most (given.Number n) e fits =
+    let a : l ≡ least = cc in let b : m ≡ most = cc in (n, refl, omega (arith, a, fits.0), omega (arith, b, fits.1))
+
+-- what is given by the name of an option is that option's
+same_option : (options : List RowOption) (name : List ℕ) (o : RowOption) (g : Given) → find (λ (o : RowOption). bytes_eq o.name name) options ≡ Some o → IsOption options name g → Fits o.takes g
+same_option options name o g e is =
+    let h : Some is.option ≡ Some o = sym is.named ∙ e in let k : is.option ≡ o = cc in
+    subst (λ (o : RowOption). Fits o.takes g) k is.fits
+
+-- the option of a name that takes a number is given as one in its range
+pub number_in_range : (options : List RowOption) (name : List ℕ) (o : RowOption) (least most : ℕ) → find (λ (o : RowOption). bytes_eq o.name name) options ≡ Some o → o.takes ≡ takes.Number least most → (gs : List (List ℕ × Given)) (words : List (List ℕ)) → AreGiven options gs words → (n : ℕ) → GivesNumber gs name n → (least ≤ n) × (n ≤ most)
+number_in_range options name o least most found is_number gs words are n gives =
+    let f = number_fits o.takes least most (given.Number n) is_number (same_option options name o (given.Number n) found (given_option options name (given.Number n) gs words are gives)) in
+    let e : n ≡ f.0 = cc in (omega (arith, e, f.2), omega (arith, e, f.3))
+
+-- a required number is given
+pub number_is_given : (options : List RowOption) (name : List ℕ) (gs : List (List ℕ × Given)) (words : List (List ℕ)) (r : Option Given) → IsRequiredNumber options name → AreOptions options gs words → r ≡ lookup (bytes_eq name) gs → (n : ℕ) × (r ≡ Some (given.Number n))
+number_is_given options name gs words r q are e =
+    let needs : IsTrue q.0.required → IsSome (lookup (bytes_eq q.0.name) gs) = found_all (λ (o : RowOption). IsTrue o.required → IsSome (lookup (bytes_eq o.name) gs)) (λ (o : RowOption). bytes_eq o.name name) options q.0 are.needed q.1 in
+    let n : q.0.name ≡ name = bytes_eq-true q.0.name name (find_passes (λ (o : RowOption). bytes_eq o.name name) options q.0 q.1) in
+    let some : IsSome (lookup (bytes_eq name) gs) = subst (λ (n : List ℕ). IsSome (lookup (bytes_eq n) gs)) n (needs q.2.0) in
+    at r e (subst (λ (o : Option Given). IsSome o) (sym e) some)
+  where
+    at : (r : Option Given) → r ≡ lookup (bytes_eq name) gs → IsSome r → (n : ℕ) × (r ≡ Some (given.Number n))
+    at None e some = absurd (false≢true some)
+    at (Some g) e some =
+        let f = number_fits q.0.takes q.2.1.0 q.2.1.1 g q.2.1.2 (same_option options name q.0 g q.1 (given_option options name g gs words are.each (sym e))) in
+        (f.0, ap (λ (g : Given). Some g) f.1)
+
+-- options are given in one way
+pub one_reading : (options : List RowOption) (a b : List (List ℕ × Given)) (words : List (List ℕ)) → AreGiven options a words → AreGiven options b words → a ≡ b
+one_reading options [] b words p q =
+    sym (none_is options words (λ name g rest is begins. let e : words ≡ option_word name begins.0 ∷ begins.1 = begins.2 in absurd (cc p)) b q)
+one_reading options (g ∷ more) b words p q =
+    let f = first_is options g.0 g.1 words p.0 p.1 p.2 b q in
+    ap (λ (m : List (List ℕ × Given)). g ∷ m) (one_reading options more f.0 p.0 p.3 f.2) ∙ sym f.1
+
 -- ---- the program's table
+
+-- a row that is found is that of its command
+row_found : (a b c d : Bool) (row : TableRow) → cond a (Some steps_row) (cond b (Some types_row) (cond c (Some run_row) (cond d (Some gen_row) None))) ≡ Some row → row ≡ verb_row row.verb
+row_found true b c d row e = let h : steps_row ≡ row = cc in subst (λ (r : TableRow). r ≡ verb_row r.verb) h refl
+row_found false true c d row e = let h : types_row ≡ row = cc in subst (λ (r : TableRow). r ≡ verb_row r.verb) h refl
+row_found false false true d row e = let h : run_row ≡ row = cc in subst (λ (r : TableRow). r ≡ verb_row r.verb) h refl
+row_found false false false true row e = let h : gen_row ≡ row = cc in subst (λ (r : TableRow). r ≡ verb_row r.verb) h refl
+row_found false false false false row e = absurd (cc e)
+
+pub row_known : (row : TableRow) (given : List (List ℕ × Given)) (words : List (List ℕ)) → IsRow rows row given words → row ≡ verb_row row.verb
+row_known row given words r =
+    row_found (bytes_eq (codes "steps") row.command) (bytes_eq (codes "types") row.command) (bytes_eq (codes "run") row.command) (bytes_eq (codes "gen") row.command) row r.first
+
+-- words spell one row, and give its options in one way
+one_row : (row other : TableRow) (given more : List (List ℕ × Given)) (words : List (List ℕ)) → IsRow rows row given words → IsRow rows other more words → (row ≡ other) × (given ≡ more)
+one_row row other given more words a b =
+    let p : words ≡ row.command ∷ a.rest = a.command in let q : words ≡ other.command ∷ b.rest = b.command in
+    let same : row.command ≡ other.command = cc in let rest : b.rest ≡ a.rest = cc in
+    let s : Some row ≡ Some other = sym a.first ∙ ap (λ (c : List ℕ). find (λ (r : TableRow). bytes_eq r.command c) rows) same ∙ b.first in
+    let r : row ≡ other = cc in
+    (r, one_reading row.options given more a.rest a.options.each (subst (λ (w : List (List ℕ)). AreGiven row.options more w) rest (subst (λ (o : TableRow). AreGiven o.options more b.rest) (sym r) b.options.each)))
+
+one_number : (gs : List (List ℕ × Given)) (name : List ℕ) (n m : ℕ) → GivesNumber gs name n → GivesNumber gs name m → n ≡ m
+one_number gs name n m a b = let e : Some (given.Number n) ≡ Some (given.Number m) = sym a ∙ b in cc
+
+-- a command with its options makes one meaning
+one_made : (verb : Verb) (given : List (List ℕ × Given)) (a b : Words) → MakesMeaning verb given a → MakesMeaning verb given b → a ≡ b
+one_made verb.Steps given a b p q = p ∙ sym q
+one_made verb.Types given a b p q = p ∙ sym q
+one_made verb.Run given (Run n) (Run m) p q = ap Run (one_number given (codes "workers") n m p q)
+one_made verb.Run given (Run n) Steps p q = absurd q
+one_made verb.Run given (Run n) Types p q = absurd q
+one_made verb.Run given (Run n) (Gen x y z) p q = absurd q
+one_made verb.Run given Steps b p q = absurd p
+one_made verb.Run given Types b p q = absurd p
+one_made verb.Run given (Gen x y z) b p q = absurd p
+one_made verb.Gen given (Gen x y z) (Gen u v w) p q =
+    let a : x ≡ u = one_number given (codes "seed") x u p.0 q.0 in
+    let b : y ≡ v = one_number given (codes "sessions") y v p.1 q.1 in
+    let c : z ≡ w = p.2 ∙ sym q.2 in cc
+one_made verb.Gen given (Gen x y z) Steps p q = absurd q
+one_made verb.Gen given (Gen x y z) Types p q = absurd q
+one_made verb.Gen given (Gen x y z) (Run n) p q = absurd q
+one_made verb.Gen given Steps b p q = absurd p
+one_made verb.Gen given Types b p q = absurd p
+one_made verb.Gen given (Run n) b p q = absurd p
+
+-- words have one meaning at most
+pub one_meaning : (words : List (List ℕ)) (a b : Words) → Means words a → Means words b → a ≡ b
+one_meaning words a b m n =
+    let r = one_row m.0 n.0 m.1 n.1 words m.2 n.2 in
+    one_made m.0.verb m.1 a b m.3 (subst (λ (g : List (List ℕ × Given)). MakesMeaning m.0.verb g b) (sym r.1) (subst (λ (o : TableRow). MakesMeaning o.verb n.1 b) (sym r.0) n.3))
+
+-- ---- numbers in their ranges
+
+made_in_range : (verb : Verb) (row : TableRow) (given : List (List ℕ × Given)) (words : List (List ℕ)) (meaning : Words) → row ≡ verb_row verb → AreGiven row.options given words → MakesMeaning verb given meaning → IsInRange meaning
+made_in_range verb.Steps row given words meaning is are makes = subst IsInRange (sym makes) tt
+made_in_range verb.Types row given words meaning is are makes = subst IsInRange (sym makes) tt
+made_in_range verb.Run row given words (Run n) is are makes =
+    number_in_range run_row.options (codes "workers") workers_option 1 16 refl refl given words (subst (λ (r : TableRow). AreGiven r.options given words) is are) n makes
+made_in_range verb.Run row given words Steps is are makes = absurd makes
+made_in_range verb.Run row given words Types is are makes = absurd makes
+made_in_range verb.Run row given words (Gen x y z) is are makes = absurd makes
+made_in_range verb.Gen row given words (Gen seed sessions runs) is are makes =
+    let all : AreGiven gen_row.options given words = subst (λ (r : TableRow). AreGiven r.options given words) is are in
+    let a = number_in_range gen_row.options (codes "seed") seed_option 0 18446744073709551615 refl refl given words all seed makes.0 in
+    let b = number_in_range gen_row.options (codes "sessions") sessions_option 1 64 refl refl given words all sessions makes.1 in
+    (omega (arith, a.1), b.0, b.1)
+made_in_range verb.Gen row given words Steps is are makes = absurd makes
+made_in_range verb.Gen row given words Types is are makes = absurd makes
+made_in_range verb.Gen row given words (Run n) is are makes = absurd makes
+
+pub meant_in_range : (words : List (List ℕ)) (meaning : Words) → Means words meaning → IsInRange meaning
+meant_in_range words meaning m = made_in_range m.0.verb m.0 m.1 m.2.rest meaning (row_known m.0 m.1 words m.2) m.2.options.each m.3
+
+-- the options of a row are those of its command
+row_options : (r : TableRow) (v : Verb) → r ≡ verb_row r.verb → r.verb ≡ v → r.options ≡ (verb_row v).options
+row_options r v known is = ap (λ (r : TableRow). r.options) (known ∙ ap verb_row is)
+
+module _ (r : TableRow) (known : r ≡ verb_row r.verb) where
+  pub workers_needed : r.verb ≡ verb.Run → IsRequiredNumber r.options (codes "workers")
+  workers_needed is =
+      subst (λ (os : List RowOption). IsRequiredNumber os (codes "workers")) (sym (row_options r verb.Run known is))
+      (workers_option, refl, (refl, (1, 16, refl)))
+
+  pub seed_needed : r.verb ≡ verb.Gen → IsRequiredNumber r.options (codes "seed")
+  seed_needed is =
+      subst (λ (os : List RowOption). IsRequiredNumber os (codes "seed")) (sym (row_options r verb.Gen known is))
+      (seed_option, refl, (refl, (0, 18446744073709551615, refl)))
+
+  pub sessions_needed : r.verb ≡ verb.Gen → IsRequiredNumber r.options (codes "sessions")
+  sessions_needed is =
+      subst (λ (os : List RowOption). IsRequiredNumber os (codes "sessions")) (sym (row_options r verb.Gen known is))
+      (sessions_option, refl, (refl, (1, 64, refl)))
+
+  pub workers_fit : r.verb ≡ verb.Run → (given : List (List ℕ × Given)) (words : List (List ℕ)) → AreGiven r.options given words → (n : ℕ) → GivesNumber given (codes "workers") n → n ≤ 16
+  workers_fit is given words are n gives =
+      let range = number_in_range run_row.options (codes "workers") workers_option 1 16 refl refl given words (subst (λ (os : List RowOption). AreGiven os given words) (row_options r verb.Run known is) are) n gives in
+      range.1
+
+  pub sessions_fit : r.verb ≡ verb.Gen → (given : List (List ℕ × Given)) (words : List (List ℕ)) → AreGiven r.options given words → (n : ℕ) → GivesNumber given (codes "sessions") n → n ≤ 64
+  sessions_fit is given words are n gives =
+      let range = number_in_range gen_row.options (codes "sessions") sessions_option 1 64 refl refl given words (subst (λ (os : List RowOption). AreGiven os given words) (row_options r verb.Gen known is) are) n gives in
+      range.1
+
+-- ---- commands without options
 
 nothing_given : (given : List (List ℕ × Given)) (words : List (List ℕ)) → AreGiven [] given words → words ≡ []
 nothing_given [] words are = are
 nothing_given (g ∷ more) words are = absurd (cc are.1.named)
 
-abbrev steps : TableRow
-steps = record { command = codes "steps"; meaning = Steps; options = [] }
+alone : (row : TableRow) → row.options ≡ [] → (r given : _) (words : List (List ℕ)) → IsRow rows r given words → r ≡ row → words ≡ row.command ∷ []
+alone row none r given words m is =
+    let o : AreOptions [] given m.rest = subst (λ (os : List RowOption). AreOptions os given m.rest) (ap (λ (i : TableRow). i.options) is ∙ none) m.options in
+    m.command ∙ (ap (λ (i : TableRow). i.command ∷ m.rest) is ∙ ap (λ (rest : List (List ℕ)). row.command ∷ rest) (nothing_given given m.rest o.each))
 
-abbrev types : TableRow
-types = record { command = codes "types"; meaning = Types; options = [] }
+-- the command of a meaning
+abbrev verb_of : Words → Verb
+verb_of Steps = verb.Steps
+verb_of Types = verb.Types
+verb_of (Run n) = verb.Run
+verb_of (Gen x y z) = verb.Gen
 
-two_rows : (b d : Bool) (first second row : TableRow) → cond b (Some first) (cond d (Some second) None) ≡ Some row → (row ≡ first) ⊎ (row ≡ second)
-two_rows true d first second row e = let h : first ≡ row = cc in inl (sym h)
-two_rows false true first second row e = let h : second ≡ row = cc in inr (sym h)
-two_rows false false first second row e = absurd (cc e)
+made_by : (verb : Verb) (given : List (List ℕ × Given)) (meaning : Words) → MakesMeaning verb given meaning → verb ≡ verb_of meaning
+made_by verb.Steps given meaning makes = ap verb_of (sym makes)
+made_by verb.Types given meaning makes = ap verb_of (sym makes)
+made_by verb.Run given (Run n) makes = refl
+made_by verb.Run given Steps makes = absurd makes
+made_by verb.Run given Types makes = absurd makes
+made_by verb.Run given (Gen x y z) makes = absurd makes
+made_by verb.Gen given (Gen x y z) makes = refl
+made_by verb.Gen given Steps makes = absurd makes
+made_by verb.Gen given Types makes = absurd makes
+made_by verb.Gen given (Run n) makes = absurd makes
 
-row_found : (words : List (List ℕ)) (meaning : Words) (m : Means words meaning) → (m.0 ≡ steps) ⊎ (m.0 ≡ types)
-row_found words meaning m = two_rows (bytes_eq (codes "steps") m.0.command) (bytes_eq (codes "types") m.0.command) steps types m.0 m.2.first
+-- words of a meaning spell the row of its command
+pub row_meant_by : (words : List (List ℕ)) (meaning : Words) (m : Means words meaning) → m.0 ≡ verb_row (verb_of meaning)
+row_meant_by words meaning m = row_known m.0 m.1 words m.2 ∙ ap verb_row (made_by m.0.verb m.1 meaning m.3)
 
-alone : (row : TableRow) → row.options ≡ [] → (words : List (List ℕ)) (meaning : Words) (m : Means words meaning) → m.0 ≡ row → words ≡ row.command ∷ []
-alone row none words meaning m is =
-    let r = m.2 in
-    let o : AreOptions [] m.1 r.rest = subst (λ (os : List RowOption). AreOptions os m.1 r.rest) (ap (λ (i : TableRow). i.options) is ∙ none) r.options in
-    r.command ∙ (ap (λ (i : TableRow). i.command ∷ r.rest) is ∙ ap (λ (rest : List (List ℕ)). row.command ∷ rest) (nothing_given m.1 r.rest o.each))
-
-abbrev is_steps : Words → Bool
-is_steps Steps = true
-is_steps Types = false
+no_options : (row : TableRow) → row.options ≡ [] → AreOptions row.options [] []
+unfolding IsDistinct
+no_options row none = subst (λ (os : List RowOption). AreOptions os [] []) (sym none) (record { each = refl; once = tt; needed = tt })
 
 pub steps_alone : (words : List (List ℕ)) → Means words Steps ↔ (words ≡ codes "steps" ∷ [])
-unfolding IsDistinct
 steps_alone words = (
-  λ m. elim (row_found words Steps m) [
-    | inl e ↦ alone steps refl words Steps m e
-    | inr e ↦ absurd (false≢true (ap is_steps (sym (ap (λ (i : TableRow). i.meaning) e) ∙ m.3)))
-  ],
-  λ e. (steps, [], record { rest = []; command = e; first = refl; options = record { each = refl; once = none; needed = tt } }, refl),
+  λ m. alone steps_row refl m.0 m.1 words m.2 (row_meant_by words Steps m),
+  λ e. (steps_row, [], record { rest = []; command = e; first = refl; options = no_options steps_row refl }, refl),
 )
-  where
-    none : IsDistinct bytes_eq (keys_of (let g : List (List ℕ × Given) = [] in g))
-    none = tt
 
 pub types_alone : (words : List (List ℕ)) → Means words Types ↔ (words ≡ codes "types" ∷ [])
-unfolding IsDistinct
 types_alone words = (
-  λ m. elim (row_found words Types m) [
-    | inl e ↦ absurd (false≢true (sym (ap is_steps (sym (ap (λ (i : TableRow). i.meaning) e) ∙ m.3))))
-    | inr e ↦ alone types refl words Types m e
-  ],
-  λ e. (types, [], record { rest = []; command = e; first = refl; options = record { each = refl; once = none; needed = tt } }, refl),
+  λ m. alone types_row refl m.0 m.1 words m.2 (row_meant_by words Types m),
+  λ e. (types_row, [], record { rest = []; command = e; first = refl; options = no_options types_row refl }, refl),
 )
+
+-- ---- `run`
+
+-- an option that takes a number is one word or two
+number_words : (name : List ℕ) (n : ℕ) (words rest : List (List ℕ)) → Begins name (given.Number n) words rest → rest ≡ [] → (digits : List ℕ) × IsNumber digits n × IsNumberOption name digits words
+number_words name n words rest (None, behind, is, gives) end =
+    let e : behind ≡ gives.0 ∷ rest = gives.2 in (gives.0, gives.1, inl (is ∙ ap (λ (b : List (List ℕ)). option_word name None ∷ b) (e ∙ ap (λ (r : List (List ℕ)). gives.0 ∷ r) end)))
+number_words name n words rest (Some value, behind, is, gives) end =
+    let e : behind ≡ rest = gives.1 in (value, gives.0, inr (is ∙ ap (λ (b : List (List ℕ)). option_word name (Some value) ∷ b) (e ∙ end)))
+
+-- the one option has the name that is found
+only_name : (o option : RowOption) (name : List ℕ) → find (λ (p : RowOption). bytes_eq p.name name) (o ∷ []) ≡ Some option → o.name ≡ name
+only_name o option name e = at (bytes_eq o.name name) refl e
   where
-    none : IsDistinct bytes_eq (keys_of (let g : List (List ℕ × Given) = [] in g))
-    none = tt
+    at : (b : Bool) → bytes_eq o.name name ≡ b → cond b (Some o) None ≡ Some option → o.name ≡ name
+    at true is e = bytes_eq-true o.name name is
+    at false is e = absurd (cc e)
 
-abbrev begins_steps : List (List ℕ) → Bool
-begins_steps [] = false
-begins_steps (w ∷ ws) = bytes_eq (codes "steps") w
+bytes_eq-same : (xs ys : List ℕ) → xs ≡ ys → bytes_eq xs ys ≡ true
+bytes_eq-same xs ys e = (bytes_eq-Decides xs ys).1 e
 
-not_both : {A : Type 0} (words : List (List ℕ)) → Means words Steps → Means words Types → A
-not_both words s t = absurd (false≢true (ap begins_steps (sym ((types_alone words).0 t) ∙ (steps_alone words).0 s)))
+-- the words of `run` give the number of workers, and nothing else
+workers_given : (gs : List (List ℕ × Given)) (rest : List (List ℕ)) (n : ℕ) → AreOptions run_row.options gs rest → GivesNumber gs (codes "workers") n → (digits : List ℕ) × IsNumber digits n × IsNumberOption (codes "workers") digits rest
+unfolding IsDistinct
+workers_given [] rest n are gives = absurd (cc gives)
+workers_given (g ∷ []) rest n are gives =
+    let name : codes "workers" ≡ g.0 = only_name workers_option are.each.1.option g.0 are.each.1.named in
+    let e : Some g.1 ≡ Some (given.Number n) = ap (λ b. cond b (Some g.1) None) (sym (bytes_eq-same (codes "workers") g.0 name)) ∙ gives in
+    let number : g.1 ≡ given.Number n = cc in
+    number_words (codes "workers") n rest are.each.0 (subst (λ (m : List ℕ). Begins m (given.Number n) rest are.each.0) (sym name) (subst (λ (h : Given). Begins g.0 h rest are.each.0) number are.each.2)) are.each.3
+workers_given (g ∷ (h ∷ more)) rest n are gives =
+    let a : codes "workers" ≡ g.0 = only_name workers_option are.each.1.option g.0 are.each.1.named in
+    let b : codes "workers" ≡ h.0 = only_name workers_option are.each.3.1.option h.0 are.each.3.1.named in
+    let apart : bytes_eq g.0 h.0 ≡ false = are.once.0.0 in
+    absurd (false≢true (sym apart ∙ bytes_eq-same g.0 h.0 (sym a ∙ b)))
 
--- words have one meaning at most
-pub one_meaning : (words : List (List ℕ)) (a b : Words) → Means words a → Means words b → a ≡ b
-one_meaning words Steps Steps m n = refl
-one_meaning words Steps Types m n = not_both words m n
-one_meaning words Types Steps m n = not_both words n m
-one_meaning words Types Types m n = refl
+-- a name that is no word with a value
+abbrev has_no_equals : List ℕ → Bool
+has_no_equals [] = true
+has_no_equals (x ∷ a) = cond (x == 61) false (has_no_equals a)
+
+plain_name : (a : List ℕ) → has_no_equals a ≡ true → IsPlain a
+plain_name [] h k l e = absurd (omega (arith, l))
+plain_name (x ∷ a) h zero l e =
+    absurd (false≢true (ap (λ b. cond b false (has_no_equals a)) (sym (eq-eqb x 61 e)) ∙ h))
+plain_name (x ∷ a) h (suc k) l e = at (λ t. plain_name a t k (omega (arith, l)) e) (x == 61) h
+  where
+    at : (has_no_equals a ≡ true → ⊥) → (b : Bool) → cond b false (has_no_equals a) ≡ true → ⊥
+    at later true h = false≢true h
+    at later false h = later h
+
+-- an option with a number, and no words behind it
+number_begins : (name digits : List ℕ) (n : ℕ) (words : List (List ℕ)) → IsNumber digits n → IsNumberOption name digits words → Begins name (given.Number n) words []
+number_begins name digits n words number (inl e) = (None, digits ∷ [], e, (digits, number, refl))
+number_begins name digits n words number (inr e) = (Some digits, [], e, (number, refl))
+
+workers_spelled : (digits : List ℕ) (n : ℕ) (rest : List (List ℕ)) → 1 ≤ n → n ≤ 16 → IsNumber digits n → IsNumberOption (codes "workers") digits rest → AreOptions run_row.options ((codes "workers", given.Number n) ∷ []) rest
+unfolding IsDistinct
+workers_spelled digits n rest some few number option = record {
+  each = ([], record { option = workers_option; named = refl; plain = plain_name (codes "workers") refl; fits = (some, few) }, number_begins (codes "workers") digits n rest number option, refl);
+  once = (tt, tt);
+  needed = ((λ _. refl), tt);
+}
+
+pub run_words : (words : List (List ℕ)) (workers : ℕ) → Means words (Run workers) ↔ AreRunWords words workers
+run_words words workers = (
+  λ m. let row = row_meant_by words (Run workers) m in
+      let range = meant_in_range words (Run workers) m in
+      let options : AreOptions run_row.options m.1 m.2.rest = subst (λ (r : TableRow). AreOptions r.options m.1 m.2.rest) row m.2.options in
+      let gives : GivesNumber m.1 (codes "workers") workers = subst (λ (r : TableRow). MakesMeaning r.verb m.1 (Run workers)) row m.3 in
+      let g = workers_given m.1 m.2.rest workers options gives in
+      record {
+        some = range.0;
+        few = range.1;
+        digits = g.0;
+        number = g.1;
+        options = m.2.rest;
+        option = g.2;
+        words_are = m.2.command ∙ ap (λ (r : TableRow). r.command ∷ m.2.rest) row;
+      },
+  λ a. (run_row, (codes "workers", given.Number workers) ∷ [], record { rest = a.options; command = a.words_are; first = refl; options = workers_spelled a.digits workers a.options a.some a.few a.number a.option }, refl),
+)
+
+-- ---- `gen`
+
+-- one of three options is found
+three_options : (a b c : Bool) (o : RowOption) → cond a (Some seed_option) (cond b (Some sessions_option) (cond c (Some run_option) None)) ≡ Some o → (o ≡ seed_option) × (a ≡ true) ⊎ ((o ≡ sessions_option) × (b ≡ true) ⊎ ((o ≡ run_option) × (c ≡ true)))
+three_options true b c o e = let h : seed_option ≡ o = cc in inl (sym h, refl)
+three_options false true c o e = let h : sessions_option ≡ o = cc in inr (inl (sym h, refl))
+three_options false false true o e = let h : run_option ≡ o = cc in inr (inr (sym h, refl))
+three_options false false false o e = absurd (cc e)
+
+module _ (name : List ℕ) where
+  seed_given : (g : Given) → codes "seed" ≡ name → Fits seed_option.takes g → IsGenOption name g
+  seed_given given.Flag e fits = absurd fits
+  seed_given (given.Number n) e fits = inl (sym e, omega (arith, fits.1))
+
+  sessions_given : (g : Given) → codes "sessions" ≡ name → Fits sessions_option.takes g → IsGenOption name g
+  sessions_given given.Flag e fits = absurd fits
+  sessions_given (given.Number n) e fits = inr (sym e, fits.0, fits.1)
+
+  run_given : (g : Given) → codes "run" ≡ name → Fits run_option.takes g → IsGenOption name g
+  run_given given.Flag e fits = sym e
+  run_given (given.Number n) e fits = absurd fits
+
+-- an option of the row is one of these, and the other way round
+gen_option : (name : List ℕ) (g : Given) → IsOption gen_row.options name g → IsGenOption name g
+gen_option name g is =
+    elim (three_options (bytes_eq (codes "seed") name) (bytes_eq (codes "sessions") name) (bytes_eq (codes "run") name) is.option is.named) [
+      | inl e ↦ seed_given name g (bytes_eq-true (codes "seed") name e.1) (subst (λ (o : RowOption). Fits o.takes g) e.0 is.fits)
+      | inr (inl e) ↦ sessions_given name g (bytes_eq-true (codes "sessions") name e.1) (subst (λ (o : RowOption). Fits o.takes g) e.0 is.fits)
+      | inr (inr e) ↦ run_given name g (bytes_eq-true (codes "run") name e.1) (subst (λ (o : RowOption). Fits o.takes g) e.0 is.fits)
+    ]
+
+option_of_gen : (name : List ℕ) (g : Given) → IsGenOption name g → IsOption gen_row.options name g
+option_of_gen name given.Flag e =
+    subst (λ (m : List ℕ). IsOption gen_row.options m given.Flag) (sym e)
+    (record { option = run_option; named = refl; plain = plain_name (codes "run") refl; fits = tt })
+option_of_gen name (given.Number n) (inl e) =
+    subst (λ (m : List ℕ). IsOption gen_row.options m (given.Number n)) (sym e.0)
+    (record { option = seed_option; named = refl; plain = plain_name (codes "seed") refl; fits = (omega arith, omega (arith, e.1)) })
+option_of_gen name (given.Number n) (inr e) =
+    subst (λ (m : List ℕ). IsOption gen_row.options m (given.Number n)) (sym e.0)
+    (record { option = sessions_option; named = refl; plain = plain_name (codes "sessions") refl; fits = (e.1, e.2) })
+
+each_of_gen : (all : List (List ℕ × Given)) (words : List (List ℕ)) → AreGiven gen_row.options all words → AllByRecursion (λ g. IsGenOption g.0 g.1) all × AreSpelled all words
+each_of_gen [] words are = (tt, are)
+each_of_gen (g ∷ more) words are =
+    let rest = each_of_gen more are.0 are.3 in
+    ((gen_option g.0 g.1 are.1, rest.0), (are.0, are.2, rest.1))
+
+gen_of_each : (all : List (List ℕ × Given)) (words : List (List ℕ)) → AllByRecursion (λ g. IsGenOption g.0 g.1) all → AreSpelled all words → AreGiven gen_row.options all words
+gen_of_each [] words each spelled = spelled
+gen_of_each (g ∷ more) words each spelled = (spelled.0, option_of_gen g.0 g.1 each.0, spelled.1, gen_of_each more spelled.0 each.1 spelled.2)
+
+-- what is given is there
+given_there : (all : List (List ℕ × Given)) (name : List ℕ) (n : ℕ) → GivesNumber all name n → IsSome (lookup (bytes_eq name) all)
+given_there all name n gives = subst (λ (o : Option Given). IsSome o) (sym gives) refl
+
+pub gen_words : (words : List (List ℕ)) (seed sessions : ℕ) (runs : Bool) → Means words (Gen seed sessions runs) ↔ AreGenWords words seed sessions runs
+gen_words words seed sessions runs = (
+  λ m. let row = row_meant_by words (Gen seed sessions runs) m in
+      let options : AreOptions gen_row.options m.1 m.2.rest = subst (λ (r : TableRow). AreOptions r.options m.1 m.2.rest) row m.2.options in
+      let makes : MakesMeaning verb.Gen m.1 (Gen seed sessions runs) = subst (λ (r : TableRow). MakesMeaning r.verb m.1 (Gen seed sessions runs)) row m.3 in
+      let each = each_of_gen m.1 m.2.rest options.each in
+      record {
+        all = m.1;
+        each = each.0;
+        once = options.once;
+        seed_is = makes.0;
+        sessions_are = makes.1;
+        run_is = makes.2;
+        options = m.2.rest;
+        spelled = each.1;
+        words_are = m.2.command ∙ ap (λ (r : TableRow). r.command ∷ m.2.rest) row;
+      },
+  λ a. (
+    gen_row,
+    a.all,
+    record {
+      rest = a.options;
+      command = a.words_are;
+      first = refl;
+      options = record {
+        each = gen_of_each a.all a.options a.each a.spelled;
+        once = a.once;
+        needed = (λ _. given_there a.all (codes "seed") seed a.seed_is, (λ _. given_there a.all (codes "sessions") sessions a.sessions_are, (λ h. absurd (false≢true h), tt)));
+      };
+    },
+    (a.seed_is, a.sessions_are, a.run_is),
+  ),
+)

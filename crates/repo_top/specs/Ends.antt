@@ -1,5 +1,5 @@
 -- How a call ends: what was read, what was written, and why.
-use Rattle.std.specs.Prelude.{◌≡◌, ◌⊎◌, ℕ, ◌≤◌, ◌<◌, ◌+◌, List, Option, None, Some, length, IfSome, ⊤}
+use Rattle.std.specs.Prelude.{◌≡◌, ◌⊎◌, ℕ, ◌≤◌, ◌<◌, ◌+◌, Bool, true, false, List, Option, None, Some, length, IfSome, ⊤}
 use Rattle.serde_json.specs.Data.{Data}
 use Rattle.jr_io.specs.Causes.{Rose, RoseBy, RoseExactly}
 use Rattle.jr_io.specs.Told.{Grows, IsDrained, IsPassedOn}
@@ -13,15 +13,17 @@ use Rattle.repo_top.specs.declared.status.Status.{Status}
 use Rattle.repo_top.specs.declared.status.Status.TheVariants as status
 use Rattle.jcr_law.specs.declared.law.JcrLaw.{JcrLaw}
 use Rattle.oak_world.specs.Worlds.{WorldOf, live}
-use Rattle.jr_work.specs.Runs.{HasRun}
+use Rattle.jr_gen.specs.Scripts.{script_text}
+use Rattle.jr_work.specs.Runs.{HasRun, HasRunByWorkers}
 use Rattle.repo_top.specs.Headline.{replies_of}
 use Rattle.repo_top.specs.Statuses.{fault_line, script_line, status_of, types_line}
+use Rattle.repo_top.specs.Summary.{summary_text}
 use Rattle.repo_top.specs.Typed.{Defines, FaultsAt, IsCanonical}
 use Rattle.repo_top.specs.declared.status.Unrun.{Unrun}
 use Rattle.repo_top.specs.declared.status.Unrun.TheVariants as unrun
-use Rattle.repo_top.specs.Words.{HasMeaning, Means}
+use Rattle.repo_top.specs.Words.{Means}
 use Rattle.repo_top.specs.declared.words.Words.{Words}
-use Rattle.repo_top.specs.declared.words.Words.TheVariants.{Steps, Types}
+use Rattle.repo_top.specs.declared.words.Words.TheVariants.{Gen, Run, Steps, Types}
 
 -- the greatest number of bytes of an input: 16 MiB
 abbrev pub longest : ℕ
@@ -65,18 +67,16 @@ output_of K sink = record {
   faults = K.fault_count sink;
 }
 
--- the words, the source and the sink before a call and after it, and the world that it leaves
-pub record Call : Type 0 where
-  pub words : List (List ℕ)
+-- what a call does: the source and the sink before it and after it, and the world that it leaves
+pub record Effect : Type 0 where
   pub source : Input
   pub source_now : Input
   pub sink : Output
   pub sink_now : Output
   pub left : Option (WorldOf JcrLaw)
 
-abbrev pub call : List (List ℕ) → Input → Input → Output → Output → Option (WorldOf JcrLaw) → Call
-call words source source_now sink sink_now left = record {
-  words = words;
+abbrev pub effect : Input → Input → Output → Output → Option (WorldOf JcrLaw) → Effect
+effect source source_now sink sink_now left = record {
   source = source;
   source_now = source_now;
   sink = sink;
@@ -84,7 +84,38 @@ call words source source_now sink sink_now left = record {
   left = left;
 }
 
+-- a call: whether it may run worker threads, its words, and what it does
+pub record Call : Type 0 where
+  pub threads : Bool
+  pub words : List (List ℕ)
+  pub does : Effect
+
+abbrev pub call : Bool → List (List ℕ) → Effect → Call
+call threads words does = record { threads = threads; words = words; does = does }
+
+-- a call that may run no threads takes all that words may mean but `run`
+abbrev pub IsTaken : Bool → Words → Type 0
+IsTaken false (Run workers) = ⊥
+IsTaken threads meaning = ⊤
+
+-- the words of a call ask for what they mean, which the call takes
+pub record AsksFor (c : Call) (meaning : Words) : Type 0 where
+  pub meant : Means c.words meaning
+  pub taken : IsTaken c.threads meaning
+
 -- ---- reading
+
+-- what is read from a source
+pub data SourceKind : Type 0 where
+  a_script : SourceKind
+  a_type_text : SourceKind
+
+-- what is read from the source; nothing where a script is made
+abbrev pub source_kind : Words → Option SourceKind
+source_kind Steps = Some a_script
+source_kind Types = Some a_type_text
+source_kind (Run workers) = Some a_script
+source_kind (Gen seed sessions runs) = None
 
 -- a source was read to its end, and these are all of its bytes
 pub record IsReadWhole (before now : Input) (bytes : List ℕ) : Type 0 where
@@ -94,26 +125,64 @@ pub record IsReadWhole (before now : Input) (bytes : List ℕ) : Type 0 where
   pub short : length bytes ≤ longest
 
 -- the bytes have the fault: they break a rule of scripts, or are no text of node types
-abbrev pub HasFault : Words → List ℕ → Unrun → Type 0
-HasFault Steps bytes (unrun.Script rule pointer offset) = BreaksRule bytes rule pointer offset
-HasFault Types bytes (unrun.Types offset) = FaultsAt bytes offset
-HasFault meaning bytes why = ⊥
+abbrev pub HasFault : SourceKind → List ℕ → Unrun → Type 0
+HasFault a_script bytes (unrun.Script rule pointer offset) = BreaksRule bytes rule pointer offset
+HasFault a_type_text bytes (unrun.Types offset) = FaultsAt bytes offset
+HasFault kind bytes why = ⊥
 
 -- why bytes have no canonical text of node types: their fault; or memory was refused
 abbrev pub IsUntyped : List ℕ → Unrun → Type 0
 IsUntyped bytes unrun.Memory = ⊤
-IsUntyped bytes why = HasFault Types bytes why
+IsUntyped bytes why = HasFault a_type_text bytes why
 
--- why what is meant didn't come of a source: its count of faults rose, it gave too many bytes,
+-- why what is read didn't come of the source: its count of faults rose, it gave too many bytes,
 -- these have a fault, or memory was refused
-abbrev pub IsUnread : Words → Input → Input → Unrun → Type 0
-IsUnread meaning before now unrun.ReadFault = Rose before.faults now.faults
-IsUnread meaning before now unrun.TooLong =
+abbrev pub IsUnread : SourceKind → Input → Input → Unrun → Type 0
+IsUnread kind before now unrun.ReadFault = Rose before.faults now.faults
+IsUnread kind before now unrun.TooLong =
     RoseBy (longest + 1) before.given now.given
     × IfSome before.left (λ left. longest < length left)
-IsUnread meaning before now unrun.Memory = ⊤
-IsUnread meaning before now why =
-    (bytes : List ℕ) × IsReadWhole before now bytes × HasFault meaning bytes why
+IsUnread kind before now unrun.Memory = ⊤
+IsUnread kind before now why =
+    (bytes : List ℕ) × IsReadWhole before now bytes × HasFault kind bytes why
+
+-- why what is meant didn't come to be; where the source isn't read it is as it was, and memory was
+-- refused
+abbrev pub IsMissing : Option SourceKind → Input → Input → Unrun → Type 0
+IsMissing (Some kind) before now why = IsUnread kind before now why
+IsMissing None before now unrun.Memory = now ≡ before
+IsMissing None before now why = ⊥
+
+-- the script that is run: the source was read whole, and its bytes are the script; or the script is
+-- made, and the source is as it was
+abbrev pub IsScriptFor : Words → Effect → Script → Type 0
+IsScriptFor (Gen seed sessions runs) e script =
+    (e.source_now ≡ e.source) × Spells (script_text seed sessions) script
+IsScriptFor meaning e script =
+    (bytes : List ℕ) × IsReadWhole e.source e.source_now bytes × Spells bytes script
+
+-- the text that is printed without a run: the canonical text of node types, of which the source was
+-- read whole; or the text of a script that is made, and the source is as it was
+abbrev pub IsTextFor : Words → Effect → List ℕ → Type 0
+IsTextFor Types e text =
+    (bytes : List ℕ) × IsReadWhole e.source e.source_now bytes × IsCanonical bytes text
+IsTextFor (Gen seed sessions false) e text =
+    (e.source_now ≡ e.source) × (text ≡ script_text seed sessions)
+IsTextFor _ e text = ⊥
+
+-- ---- running
+
+-- the script was run to its end as is meant: by its schedule, or by workers
+abbrev pub HasRunFor : Words → Script → WorldOf JcrLaw → Type 0
+HasRunFor Steps script world = HasRun script world
+HasRunFor (Run workers) script world = HasRunByWorkers script world
+HasRunFor (Gen seed sessions true) script world = HasRun script world
+HasRunFor _ script world = ⊥
+
+-- what is written of a run: the replies of its history; or the one line that counts them
+abbrev pub told_of : Words → Script → WorldOf JcrLaw → List ℕ
+told_of (Gen seed sessions runs) script world = summary_text sessions script (live world.history)
+told_of meaning script world = replies_of (live world.history)
 
 -- ---- writing
 
@@ -140,8 +209,13 @@ Tells before now text answer result =
 abbrev pub IsRefused : Output → Output → Status → Type 0
 IsRefused before now result = (result ≡ status.Memory) × (now ≡ before)
 
--- the line is written that says why no script is run and no node types are printed; none where
--- memory was refused, which the line of a broken input takes too
+-- the text is written; or memory was refused, and the sink is as it was
+abbrev pub WritesText : Output → Output → List ℕ → Status → Type 0
+WritesText before now text result =
+    Tells before now text status.Done result ⊎ IsRefused before now result
+
+-- the line is written that says why no script is run and no text is printed; none where memory was
+-- refused, which the line of a broken input takes too
 abbrev pub Faults : Output → Output → Unrun → Status → Type 0
 Faults before now unrun.Memory result = IsRefused before now result
 Faults before now (unrun.Script rule pointer offset) result =
@@ -151,132 +225,127 @@ Faults before now (unrun.Types offset) result =
     Tells before now (types_line offset) status.Script result ⊎ IsRefused before now result
 Faults before now why result = Tells before now (fault_line why) (status_of why) result
 
--- the replies of the world with which a run ended are written; or memory was refused, and the sink is as it was
-abbrev pub Prints : {L : Type 0} → Output → Output → Option (WorldOf L) → Status → Type 0
-Prints before now None result = IsRefused before now result
-Prints before now (Some world) result =
-    Tells before now (replies_of (live world.history)) status.Done result
-    ⊎ IsRefused before now result
+-- what is told of the world with which a run ended is written; or memory was refused, and the sink
+-- is as it was
+abbrev pub Prints : {L : Type 0} → (WorldOf L → List ℕ) → Option (WorldOf L) → Output → Output
+    → Status → Type 0
+Prints told None before now result = IsRefused before now result
+Prints told (Some world) before now result = WritesText before now (told world) result
 
--- ---- what each meaning does
+-- ---- what is done for each meaning
 
--- no script and no node types came of the source, and none is the world that is left; the line says
--- why
-pub record IsUnrun (meaning : Words) (before now : Input) (sink sink_now : Output)
-    (left : Option (WorldOf JcrLaw)) (result : Status) : Type 0 where
+-- no script and no text came to be, and none is the world that is left; the line says why
+pub record IsUnrun (meaning : Words) (e : Effect) (result : Status) : Type 0 where
   pub why : Unrun
-  pub unread : IsUnread meaning before now why
-  pub none : left ≡ None
-  pub faults : Faults sink sink_now why result
+  pub missing : IsMissing (source_kind meaning) e.source e.source_now why
+  pub none : e.left ≡ None
+  pub faults : Faults e.sink e.sink_now why result
 
--- a script was read; with a world that is left it was run to its end, and its replies are written
-pub record IsRunning (before now : Input) (sink sink_now : Output)
-    (left : Option (WorldOf JcrLaw)) (result : Status) : Type 0 where
+-- there is a script; with a world that is left it was run to its end, and what is told of the run is
+-- written
+pub record IsRunning (meaning : Words) (e : Effect) (result : Status) : Type 0 where
   pub script : Script
-  pub read : (bytes : List ℕ) × IsReadWhole before now bytes × Spells bytes script
-  pub ran : IfSome left (HasRun script)
-  pub prints : Prints sink sink_now left result
+  pub given : IsScriptFor meaning e script
+  pub ran : IfSome e.left (HasRunFor meaning script)
+  pub prints : Prints (told_of meaning script) e.left e.sink e.sink_now result
 
--- a text of node types was read, and its canonical text is written
-pub record IsPrinting (before now : Input) (sink sink_now : Output) (result : Status)
-    : Type 0 where
+-- there is a text, and it is written; none is the world that is left
+pub record IsPrinting (meaning : Words) (e : Effect) (result : Status) : Type 0 where
   pub text : List ℕ
-  pub read : (bytes : List ℕ) × IsReadWhole before now bytes × IsCanonical bytes text
-  pub tells : Tells sink sink_now text status.Done result
+  pub made : IsTextFor meaning e text
+  pub none : e.left ≡ None
+  pub tells : Tells e.sink e.sink_now text status.Done result
 
--- `steps`
-abbrev pub IsSteps : Input → Input → Output → Output → Option (WorldOf JcrLaw) → Status → Type 0
-IsSteps before now sink sink_now left result =
-    IsUnrun Steps before now sink sink_now left result
-    ⊎ IsRunning before now sink sink_now left result
-
--- `types`
-abbrev pub IsTypes : Input → Input → Output → Output → Status → Type 0
-IsTypes before now sink sink_now result =
-    IsUnrun Types before now sink sink_now None result
-    ⊎ IsPrinting before now sink sink_now result
+-- what is done for a meaning
+abbrev pub Does : Words → Effect → Status → Type 0
+Does meaning e result =
+    IsUnrun meaning e result ⊎ (IsRunning meaning e result ⊎ IsPrinting meaning e result)
 
 -- ---- how a call ends
 
--- a script was run to its end: the words ask for it, the source was read whole, its bytes are the script, and this is the world that it left
+-- a script was run to its end: the words ask for it, it is the script that was read or made, and
+-- this is the world that it left
 pub record HasRunAll (c : Call) (world : WorldOf JcrLaw) : Type 0 where
-  pub meant : Means c.words Steps
-  pub bytes : List ℕ
-  pub read : IsReadWhole c.source c.source_now bytes
+  pub meaning : Words
+  pub asked : AsksFor c meaning
   pub script : Script
-  pub spells : Spells bytes script
-  pub ran : HasRun script world
+  pub given : IsScriptFor meaning c.does script
+  pub ran : HasRunFor meaning script world
 
--- node types are printed: the words ask for it, and the source was read whole, of whose bytes this
--- is the canonical text
+-- what is written of a script that was run to its end
+abbrev pub due_text : {c : Call} {world : WorldOf JcrLaw} → HasRunAll c world → List ℕ
+due_text {c} {world} run = told_of run.meaning run.script world
+
+-- a text is printed without a run: the words ask for it
 pub record HasPrinted (c : Call) (text : List ℕ) : Type 0 where
-  pub meant : Means c.words Types
-  pub bytes : List ℕ
-  pub read : IsReadWhole c.source c.source_now bytes
-  pub canonical : IsCanonical bytes text
+  pub meaning : Words
+  pub asked : AsksFor c meaning
+  pub made : IsTextFor meaning c.does text
 
 -- a line says so
 abbrev pub HasLine : Unrun → Type 0
 HasLine unrun.Memory = ⊥
 HasLine _ = ⊤
 
--- why no script is run and no node types are printed: the words have no meaning; or they have one,
--- and what is meant didn't come of the source
+-- why no script is run and no text is printed: the words ask for nothing; or they ask for something
+-- that didn't come to be
 abbrev pub IsCause : Call → Unrun → Type 0
-IsCause c unrun.Words = (meaning : Words) → ¬ Means c.words meaning
-IsCause c why =
-    (meaning : Words) × Means c.words meaning × IsUnread meaning c.source c.source_now why
+IsCause c unrun.Words = (meaning : Words) → ¬ AsksFor c meaning
+IsCause c why = (meaning : Words) × AsksFor c meaning
+    × IsMissing (source_kind meaning) c.does.source c.does.source_now why
 
--- a script was run to its end, its world is left, and the replies of its history are written and passed on
+-- a script was run to its end, its world is left, and what is told of the run is written and passed on
 pub record IsRun (c : Call) : Type 0 where
   pub world : WorldOf JcrLaw
-  pub left : c.left ≡ Some world
+  pub left : c.does.left ≡ Some world
   pub ran : HasRunAll c world
-  pub replies : IsDelivered c.sink c.sink_now (replies_of (live world.history))
+  pub told : IsDelivered c.does.sink c.does.sink_now (due_text ran)
 
--- no world is left, and the canonical text of node types is written and passed on
+-- no world is left, and a text is written and passed on
 pub record IsPrinted (c : Call) : Type 0 where
   pub text : List ℕ
-  pub unrun : c.left ≡ None
+  pub unrun : c.does.left ≡ None
   pub printed : HasPrinted c text
-  pub whole : IsDelivered c.sink c.sink_now text
+  pub whole : IsDelivered c.does.sink c.does.sink_now text
 
 -- what the words ask for is done
 abbrev pub IsDone : Call → Type 0
 IsDone c = IsRun c ⊎ IsPrinted c
 
--- no script was run and no node types were printed, for a cause that has this status, and its line
--- is written and passed on
+-- no script was run and no text was printed, for a cause that has this status, and its line is
+-- written and passed on
 pub record IsFault (c : Call) (s : Status) : Type 0 where
   pub why : Unrun
   pub status : s ≡ status_of why
-  pub unrun : c.left ≡ None
+  pub unrun : c.does.left ≡ None
   pub cause : IsCause c why
-  pub line : IsDelivered c.sink c.sink_now (fault_line why)
+  pub line : IsDelivered c.does.sink c.does.sink_now (fault_line why)
 
--- what was written where no world is left before a sink failed: of the canonical text of node
--- types, or of the line that says why there is none and no script was run, which is so
+-- what was written where no world is left before a sink failed: of the text that the words ask for,
+-- or of the line that says why there is none and no script was run, which is so
 abbrev pub IsPartOf : Call → List ℕ → Type 0
 IsPartOf c text = HasPrinted c text
     ⊎ ((why : Unrun) × HasLine why × IsCause c why × (text ≡ fault_line why))
 
--- what was written before a sink failed: of the replies of the world that is left, or, where none
--- is left, of another text
+-- what was written before a sink failed: of what is told of the run whose world is left, or, where
+-- none is left, of another text
 abbrev pub IsPart : Call → Option (WorldOf JcrLaw) → Type 0
-IsPart c (Some world) = HasRunAll c world × GrowsUpTo c.sink c.sink_now (replies_of (live world.history))
-IsPart c None = (text : List ℕ) × IsPartOf c text × GrowsUpTo c.sink c.sink_now text
+IsPart c (Some world) =
+    (run : HasRunAll c world) × GrowsUpTo c.does.sink c.does.sink_now (due_text run)
+IsPart c None =
+    (text : List ℕ) × IsPartOf c text × GrowsUpTo c.does.sink c.does.sink_now text
 
 -- the sink failed
 pub record IsCut (c : Call) : Type 0 where
-  pub fault : Rose c.sink.faults c.sink_now.faults
-  pub part : IsPart c c.left
+  pub fault : Rose c.does.sink.faults c.does.sink_now.faults
+  pub part : IsPart c c.does.left
 
 -- memory was refused, and the sink is as it was; a world that is left is one with which a script was run to
 -- its end
 pub record IsStopped (c : Call) : Type 0 where
-  pub meant : HasMeaning c.words
-  pub ran : IfSome c.left (HasRunAll c)
-  pub nothing : c.sink_now ≡ c.sink
+  pub asked : (meaning : Words) × AsksFor c meaning
+  pub ran : IfSome c.does.left (HasRunAll c)
+  pub nothing : c.does.sink_now ≡ c.does.sink
 
 -- what each status says of a call
 abbrev pub EndsWith : Call → Status → Type 0
@@ -287,30 +356,37 @@ EndsWith c s = IsFault c s
 
 -- ---- where nothing fails
 
--- the bytes are what the words ask for: a script, or a text of node types
-abbrev pub IsAsked : Words → List ℕ → Type 0
-IsAsked Steps bytes = (script : Script) × Spells bytes script
-IsAsked Types bytes = (cnd : Cnd) × Defines bytes cnd
+-- the bytes are what is read: a script, or a text of node types
+abbrev pub IsAsked : SourceKind → List ℕ → Type 0
+IsAsked a_script bytes = (script : Script) × Spells bytes script
+IsAsked a_type_text bytes = (cnd : Cnd) × Defines bytes cnd
 
--- the status where nothing fails: done where the bytes are what is asked for, and bad script where
--- they have a fault; or memory was refused
-abbrev pub IsCalm : Words → List ℕ → Status → Type 0
-IsCalm meaning bytes status.Done = IsAsked meaning bytes
-IsCalm meaning bytes status.Script = (why : Unrun) × HasFault meaning bytes why
-IsCalm meaning bytes status.Memory = ⊤
-IsCalm meaning bytes _ = ⊥
-
--- the words have this meaning, the source tells its bytes, which aren't too many, and neither end
--- fails
-pub record FailsNowhere (c : Call) (meaning : Words) (bytes : List ℕ) : Type 0 where
-  pub meant : Means c.words meaning
-  pub tells : c.source.left ≡ Some bytes
+-- the source tells its bytes, which aren't too many, and it doesn't fail
+pub record TellsAll (before now : Input) (bytes : List ℕ) : Type 0 where
+  pub tells : before.left ≡ Some bytes
   pub short : length bytes ≤ longest
-  pub reads : Rose c.source.faults c.source_now.faults → ⊥
-  pub writes : Rose c.sink.faults c.sink_now.faults → ⊥
+  pub reads : Rose before.faults now.faults → ⊥
 
--- how a call ends: what its status says of it, and which status comes where nothing fails
+-- the status where bytes are read: done where they are what is asked for, and bad script where they
+-- have a fault; or memory was refused
+abbrev pub IsExpected : SourceKind → List ℕ → Status → Type 0
+IsExpected kind bytes status.Done = IsAsked kind bytes
+IsExpected kind bytes status.Script = (why : Unrun) × HasFault kind bytes why
+IsExpected kind bytes status.Memory = ⊤
+IsExpected kind bytes _ = ⊥
+
+-- the status where neither end fails; where nothing is read it is done, or memory was refused
+abbrev pub IsCalm : Option SourceKind → Effect → Status → Type 0
+IsCalm (Some kind) e result =
+    (bytes : List ℕ) → TellsAll e.source e.source_now bytes → IsExpected kind bytes result
+IsCalm None e result = (result ≡ status.Done) ⊎ (result ≡ status.Memory)
+
+-- how a call ends: what its status says of it, which status comes where nothing fails, and that the
+-- source is as it was where nothing is read
 pub record Ends (c : Call) (result : Status) : Type 0 where
   pub says : EndsWith c result
-  pub calm : (meaning : Words) (bytes : List ℕ) → FailsNowhere c meaning bytes
-      → IsCalm meaning bytes result
+  pub calm : (meaning : Words) → AsksFor c meaning
+      → (Rose c.does.sink.faults c.does.sink_now.faults → ⊥)
+      → IsCalm (source_kind meaning) c.does result
+  pub apart : (meaning : Words) → AsksFor c meaning → source_kind meaning ≡ None
+      → c.does.source_now ≡ c.does.source

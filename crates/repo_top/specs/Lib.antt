@@ -1,5 +1,6 @@
 pub mod Ends
 pub mod Headline
 pub mod Statuses
+pub mod Summary
 pub mod Typed
 pub mod Words

@@ -1,11 +1,15 @@
 // The top calls.
-ghost use Rattle.std.specs.Prelude.{◌≡◌, ℕ, List, None, IfOk, IfErr, IfSome, IsNone, map, string_bytes};
-ghost use Rattle.repo_top.specs.Ends.{Ends, Faults, IsReadWhole, IsSteps, IsTypes, IsUnread, Prints, Spells, Tells, call, input_of, output_of};
+ghost use Rattle.std.specs.Prelude.{◌≡◌, ℕ, List, None, Some, IfOk, IfErr, IfSome, IsNone, false, map, string_bytes, true};
+ghost use Rattle.repo_top.specs.Ends.{Does, Ends, Faults, HasRunFor, IsReadWhole, IsTaken, IsUnread, Prints, Spells, Tells, WritesText, call, effect, input_of, output_of, told_of};
+ghost use Rattle.repo_top.specs.Ends.SourceKind.{a_script};
+ghost use Rattle.repo_top.specs.Headline.{replies_of};
+ghost use Rattle.repo_top.specs.Words.{IsInRange};
 ghost use Rattle.jr_script.specs.Bounds.{IsWithin};
-ghost use Rattle.jr_work.specs.Runs.{HasRun};
+ghost use Rattle.oak_world.specs.Worlds.{live};
 ghost use Rattle.repo_top.specs.declared.status.Unrun.TheVariants as unrun;
-ghost use Rattle.repo_top.specs.declared.words.Words.TheVariants.{Steps};
+ghost use Rattle.repo_top.specs.declared.words.Words.TheVariants.{Run, Steps, Types};
 
+use crate::made::made;
 use crate::status::{Status, Unrun, script_line, types_line};
 use crate::types::types_of;
 use crate::words::{Words, words_meant};
@@ -14,7 +18,7 @@ use jr_io::{Failed, Sink, Source, read_all, write_all};
 use jr_path::Text;
 use jr_print::lines;
 use jr_script::{Script, read_script, scripts_are_within};
-use jr_work::run_steps;
+use jr_work::{Gate, run_steps, run_workers};
 use oak_world::World;
 use std::alloc::{AllocError, Global};
 use std::sync::Wait;
@@ -23,25 +27,33 @@ use std::thread::Threads;
 /// The greatest number of bytes of an input.
 pub const LONGEST_INPUT: usize = 16_777_216;
 
-/// All that the program does: takes the words of the command line, a source and a sink, and answers
-/// the status. `Ends` says what each status says of the words, of what was read, written and passed
-/// on, and of the world that is left.
-pub fn repo_main<R: Threads + Wait + Sync, S: Source, K: Sink>(
-    _rt: &R,
+/// All that the program does: takes the words of the command line, a source and a sink, the gate of the
+/// worker threads, and answers the status. `Ends` says what each status says of the words, of what was
+/// read, written and passed on, and of the world that is left.
+pub fn repo_main<R: Threads + Wait + Sync, S: Source, K: Sink, G: Gate + Sync>(
+    rt: &R,
     alloc: Global,
     words: &[String],
     source: &mut S,
     sink: &mut K,
+    gate: &G,
     left: &mut Option<World<JcrLaw>>,
 ) -> Status
-    ensures ends { Ends (call (map string_bytes words.now)
-        (input_of S.Source source.old) (input_of S.Source source.new)
-        (output_of K.Sink sink.old) (output_of K.Sink sink.new) left.new) result }
+    ensures ends { Ends (call true (map string_bytes words.now)
+        (effect (input_of S.Source source.old) (input_of S.Source source.new)
+        (output_of K.Sink sink.old) (output_of K.Sink sink.new) left.new)) result }
 {
-    steps_main(alloc, words, source, sink, left)
+    leave_none(left);
+    let Some(meaning) = words_meant(words) else {
+        return unrun(alloc, sink, &Unrun::Words);
+    };
+    match meaning {
+        Words::Run { workers } => run(rt, alloc, workers, source, sink, gate, left),
+        _ => alone(alloc, meaning, source, sink, left),
+    }
 }
 
-/// Every command but those that run threads: uses no lock, and returns.
+/// Every command but `run`, whose words have no meaning here: uses no lock, and returns.
 pub fn steps_main<S: Source, K: Sink>(
     alloc: Global,
     words: &[String],
@@ -49,21 +61,48 @@ pub fn steps_main<S: Source, K: Sink>(
     sink: &mut K,
     left: &mut Option<World<JcrLaw>>,
 ) -> Status
-    ensures ends { Ends (call (map string_bytes words.now)
-        (input_of S.Source source.old) (input_of S.Source source.new)
-        (output_of K.Sink sink.old) (output_of K.Sink sink.new) left.new) result }
+    ensures ends { Ends (call false (map string_bytes words.now)
+        (effect (input_of S.Source source.old) (input_of S.Source source.new)
+        (output_of K.Sink sink.old) (output_of K.Sink sink.new) left.new)) result }
 {
-    *left = None;
+    leave_none(left);
     let Some(meaning) = words_meant(words) else {
         return unrun(alloc, sink, &Unrun::Words);
     };
     match meaning {
-        Words::Steps => steps(alloc, source, sink, left),
-        Words::Types => types(alloc, source, sink),
+        Words::Run { .. } => unrun(alloc, sink, &Unrun::Words),
+        _ => alone(alloc, meaning, source, sink, left),
     }
 }
 
-// Runs the script that a source gives, and writes its replies.
+// What words ask for without worker threads.
+fn alone<S: Source, K: Sink>(
+    alloc: Global,
+    meaning: Words,
+    source: &mut S,
+    sink: &mut K,
+    left: &mut Option<World<JcrLaw>>,
+) -> Status
+    requires taken { IsTaken false meaning }
+    requires range { IsInRange meaning }
+    requires none { IsNone left.old }
+    ensures does { Does meaning
+        (effect (input_of S.Source source.old) (input_of S.Source source.new)
+        (output_of K.Sink sink.old) (output_of K.Sink sink.new) left.new) result }
+{
+    match meaning {
+        Words::Steps => steps(alloc, source, sink, left),
+        Words::Types => types(alloc, source, sink),
+        Words::Run { .. } => unreachable!(),
+        Words::Gen {
+            seed,
+            sessions,
+            runs,
+        } => made(alloc, seed, sessions, runs, sink, left),
+    }
+}
+
+// Runs the script that a source gives by its schedule, and writes its replies.
 fn steps<S: Source, K: Sink>(
     alloc: Global,
     source: &mut S,
@@ -71,8 +110,9 @@ fn steps<S: Source, K: Sink>(
     left: &mut Option<World<JcrLaw>>,
 ) -> Status
     requires none { IsNone left.old }
-    ensures ends { IsSteps (input_of S.Source source.old) (input_of S.Source source.new)
-        (output_of K.Sink sink.old) (output_of K.Sink sink.new) left.new result }
+    ensures does { Does Steps
+        (effect (input_of S.Source source.old) (input_of S.Source source.new)
+        (output_of K.Sink sink.old) (output_of K.Sink sink.new) left.new) result }
 {
     match script_of(alloc, source) {
         Ok(script) => {
@@ -83,10 +123,36 @@ fn steps<S: Source, K: Sink>(
     }
 }
 
+// Runs the script that a source gives by worker threads, and writes its replies.
+fn run<R: Threads + Wait + Sync, S: Source, K: Sink, G: Gate + Sync>(
+    rt: &R,
+    alloc: Global,
+    workers: u32,
+    source: &mut S,
+    sink: &mut K,
+    gate: &G,
+    left: &mut Option<World<JcrLaw>>,
+) -> Status
+    requires range { IsInRange (Run workers) }
+    requires none { IsNone left.old }
+    ensures does { Does (Run workers)
+        (effect (input_of S.Source source.old) (input_of S.Source source.new)
+        (output_of K.Sink sink.old) (output_of K.Sink sink.new) left.new) result }
+{
+    match script_of(alloc, source) {
+        Ok(script) => {
+            scripts_are_within();
+            run_by(rt, alloc, script, workers, sink, gate, left)
+        }
+        Err(why) => unrun(alloc, sink, &why),
+    }
+}
+
 // Writes the canonical text of the node types that a source gives.
 fn types<S: Source, K: Sink>(alloc: Global, source: &mut S, sink: &mut K) -> Status
-    ensures ends { IsTypes (input_of S.Source source.old) (input_of S.Source source.new)
-        (output_of K.Sink sink.old) (output_of K.Sink sink.new) result }
+    ensures does { Does Types
+        (effect (input_of S.Source source.old) (input_of S.Source source.new)
+        (output_of K.Sink sink.old) (output_of K.Sink sink.new) None) result }
 {
     match types_of(alloc, source) {
         Ok(text) => written(sink, text.as_bytes(), Status::Done),
@@ -100,13 +166,13 @@ fn script_of<S: Source>(alloc: Global, source: &mut S) -> Result<Script, Unrun>
         × IsReadWhole (input_of S.Source source.old) (input_of S.Source source.new) bytes
         × Spells bytes script) }
     ensures unread { IfErr result
-        (IsUnread Steps (input_of S.Source source.old) (input_of S.Source source.new)) }
+        (IsUnread a_script (input_of S.Source source.old) (input_of S.Source source.new)) }
 {
     let bytes = read_all(alloc, source, LONGEST_INPUT)?;
     Ok(read_script(alloc, bytes.as_slice())?)
 }
 
-// Runs a script, and writes its replies.
+// Runs a script by its schedule, and writes its replies.
 fn run_script<K: Sink>(
     alloc: Global,
     script: Script,
@@ -115,23 +181,74 @@ fn run_script<K: Sink>(
 ) -> Status
     requires within { IsWithin script }
     requires none { IsNone left.old }
-    ensures ran { IfSome left.new (HasRun script) }
-    ensures replies { Prints (output_of K.Sink sink.old) (output_of K.Sink sink.new) left.new
-        result }
+    ensures ran { IfSome left.new (HasRunFor Steps script) }
+    ensures prints { Prints (told_of Steps script) left.new
+        (output_of K.Sink sink.old) (output_of K.Sink sink.new) result }
 {
-    let Ok(world) = run_steps(alloc, script) else {
-        return Status::Memory;
-    };
+    match run_steps(alloc, script) {
+        Ok(world) => replied(alloc, world, sink, left),
+        Err(AllocError) => Status::Memory,
+    }
+}
+
+// Runs a script by so many worker threads, and writes its replies.
+fn run_by<R: Threads + Wait + Sync, K: Sink, G: Gate + Sync>(
+    rt: &R,
+    alloc: Global,
+    script: Script,
+    workers: u32,
+    sink: &mut K,
+    gate: &G,
+    left: &mut Option<World<JcrLaw>>,
+) -> Status
+    requires within { IsWithin script }
+    requires range { IsInRange (Run workers) }
+    requires none { IsNone left.old }
+    ensures ran { IfSome left.new (HasRunFor (Run workers) script) }
+    ensures prints { Prints (told_of (Run workers) script) left.new
+        (output_of K.Sink sink.old) (output_of K.Sink sink.new) result }
+{
+    match run_workers(rt, alloc, script, workers, gate) {
+        Ok(world) => replied(alloc, world, sink, left),
+        Err(AllocError) => Status::Memory,
+    }
+}
+
+// Leaves the world with which a run ended, and writes its replies.
+fn replied<K: Sink>(
+    alloc: Global,
+    world: World<JcrLaw>,
+    sink: &mut K,
+    left: &mut Option<World<JcrLaw>>,
+) -> Status
+    ensures left { left.new ≡ Some world }
+    ensures writes { WritesText (output_of K.Sink sink.old) (output_of K.Sink sink.new)
+        (replies_of (live world.history)) result }
+{
     let text = lines(alloc, world.journal());
-    *left = Some(world);
+    leave(world, left);
     match text {
         Ok(text) => written(sink, text.as_slice(), Status::Done),
         Err(AllocError) => Status::Memory,
     }
 }
 
-// Writes the line that says why no script is run and no node types are printed; none where memory
-// was refused.
+// No world is left.
+fn leave_none(left: &mut Option<World<JcrLaw>>)
+    ensures { IsNone left.new }
+{
+    *left = None;
+}
+
+// This world is left.
+pub(crate) fn leave(world: World<JcrLaw>, left: &mut Option<World<JcrLaw>>)
+    ensures { left.new ≡ Some world }
+{
+    *left = Some(world);
+}
+
+// Writes the line that says why no script is run and no text is printed; none where memory was
+// refused.
 fn unrun<K: Sink>(alloc: Global, sink: &mut K, why: &Unrun) -> Status
     ensures { Faults (output_of K.Sink sink.old) (output_of K.Sink sink.new) why.now result }
 {
@@ -178,7 +295,7 @@ fn untyped<K: Sink>(alloc: Global, sink: &mut K, offset: usize) -> Status
 }
 
 // Writes the bytes, passes on all that was written, and answers the status, or that the sink failed.
-fn written<K: Sink>(sink: &mut K, bytes: &[u8], status: Status) -> Status
+pub(crate) fn written<K: Sink>(sink: &mut K, bytes: &[u8], status: Status) -> Status
     ensures { Tells (output_of K.Sink sink.old) (output_of K.Sink sink.new) bytes.now status
         result }
 {

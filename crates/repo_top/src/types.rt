@@ -1,8 +1,8 @@
 // Node types that a source gives, as canonical text.
 ghost use Rattle.std.specs.Prelude.{ℕ, List, IfErr, IfOk, string_bytes};
 ghost use Rattle.repo_top.specs.Ends.{IsReadWhole, IsUnread, IsUntyped, input_of};
+ghost use Rattle.repo_top.specs.Ends.SourceKind.{a_type_text};
 ghost use Rattle.repo_top.specs.Typed.{IsCanonical};
-ghost use Rattle.repo_top.specs.declared.words.Words.TheVariants.{Types};
 
 use crate::status::Unrun;
 use crate::top::LONGEST_INPUT;
@@ -16,7 +16,7 @@ pub(crate) fn types_of<S: Source>(alloc: Global, source: &mut S) -> Result<Strin
         × IsReadWhole (input_of S.Source source.old) (input_of S.Source source.new) bytes
         × IsCanonical bytes (string_bytes text)) }
     ensures unread { IfErr result
-        (IsUnread Types (input_of S.Source source.old) (input_of S.Source source.new)) }
+        (IsUnread a_type_text (input_of S.Source source.old) (input_of S.Source source.new)) }
 {
     let bytes = read_all(alloc, source, LONGEST_INPUT)?;
     canonical(alloc, bytes.as_slice())

@@ -1,10 +1,10 @@
 // The words of the command line, read by a table.
-ghost use Rattle.std.specs.Prelude.{IsSome, Option, option_copied, ◌≡◌, ◌≢◌, ◌++◌, ◌∷◌, ◌≤◌, ◌↔◌, ℕ, List, MatchOption, IsTrue, map, string_bytes, bytes_eq, codes, [], option_map};
+ghost use Rattle.std.specs.Prelude.{IsSome, Option, option_copied, ◌≡◌, ◌≢◌, ◌++◌, ◌∷◌, ◌≤◌, ◌↔◌, ℕ, Bool, List, MatchOption, IsTrue, map, string_bytes, bytes_eq, codes, [], option_map};
 ghost use Rattle.std.specs.List.{find, IsDistinct};
 ghost use Rattle.std.specs.Map.{lookup, keys_of};
-ghost use Rattle.repo_top.specs.Words.{TableRow, table_row, row_option, AreGiven, Begins, IsNumber, IsOption, IsPlain, IsRow, Means, AreOptions, option_word, Gives, Fits};
+ghost use Rattle.repo_top.specs.Words.{TableRow, table_row, row_option, AreGiven, AreGenWords, AreRunWords, Begins, GivesNumber, IsNumber, IsOption, IsPlain, IsRequiredNumber, IsRow, SpellOptions, MakesMeaning, Means, AreOptions, option_word, verb_row, Gives, Fits};
 ghost use Rattle.repo_top.specs.declared.words.Given.{Given};
-ghost use Rattle.repo_top.specs.declared.words.Words.TheVariants.{Steps, Types};
+ghost use Rattle.repo_top.specs.declared.words.Words.TheVariants.{Gen, Run, Steps, Types};
 
 /// What a list of words means.
 #[derive(Clone, Copy, Debug, PartialEq, Eq)]
@@ -13,6 +13,27 @@ pub enum Words {
     Steps,
     /// `types`: reads a text of node types from the source, prints its canonical form.
     Types,
+    /// `run`: reads a script from the source, runs it by so many worker threads, 1 to 16, prints the
+    /// replies.
+    Run {
+        workers: u32,
+    },
+    /// `gen`: makes a script from a seed for so many sessions, 1 to 64, and prints it; or runs it on
+    /// one thread and prints one line that counts what came of it. The source isn't read.
+    Gen {
+        seed: u64,
+        sessions: u32,
+        runs: bool,
+    },
+}
+
+/// The command of a row.
+#[derive(Clone, Copy, Debug, PartialEq, Eq)]
+pub enum Verb {
+    Steps,
+    Types,
+    Run,
+    Gen,
 }
 
 /// What an option takes.
@@ -32,11 +53,11 @@ pub struct WordOption<'t> {
     pub required: bool,
 }
 
-/// A row of a table of words: a command, its meaning and its options.
+/// A row of a table of words: the word of a command, the command and its options.
 #[derive(Clone, Copy)]
 pub struct Row<'t> {
     pub command: &'t str,
-    pub meaning: Words,
+    pub verb: Verb,
     pub options: &'t [WordOption<'t>],
 }
 
@@ -55,24 +76,97 @@ struct FirstGiven<'w> {
     rest: &'w [String],
 }
 
-const ROWS: [Row; 2] = [
+const ROWS: [Row; 4] = [
     Row {
         command: "steps",
-        meaning: Words::Steps,
+        verb: Verb::Steps,
         options: &[],
     },
     Row {
         command: "types",
-        meaning: Words::Types,
+        verb: Verb::Types,
         options: &[],
+    },
+    Row {
+        command: "run",
+        verb: Verb::Run,
+        options: &[WordOption {
+            name: "workers",
+            takes: Takes::Number { least: 1, most: 16 },
+            required: true,
+        }],
+    },
+    Row {
+        command: "gen",
+        verb: Verb::Gen,
+        options: &[
+            WordOption {
+                name: "seed",
+                takes: Takes::Number {
+                    least: 0,
+                    most: u64::MAX,
+                },
+                required: true,
+            },
+            WordOption {
+                name: "sessions",
+                takes: Takes::Number { least: 1, most: 64 },
+                required: true,
+            },
+            WordOption {
+                name: "run",
+                takes: Takes::Nothing,
+                required: false,
+            },
+        ],
     },
 ];
 
 /// The meaning of a list of words, where it has one.
 pub fn words_meant(words: &[String]) -> Option<Words>
-    ensures { MatchOption result ((meaning : _) → ¬ Means (map string_bytes words.now) meaning) (Means (map string_bytes words.now)) }
+    ensures { MatchOption result
+        ((meaning : _) → ¬ Means (map string_bytes words.now) meaning)
+        (Means (map string_bytes words.now)) }
 {
-    Some(row_meant(&ROWS, words)?.meaning)
+    let row = row_meant(&ROWS, words)?;
+    Some(meaning_of(row, &words[1..]))
+}
+
+// What a command means with the options that words give it.
+fn meaning_of(row: &Row, words: &[String]) -> Words
+    requires row { table_row row.now ≡ verb_row row.now.verb }
+    requires given { SpellOptions (map row_option row.now.options.now) (map string_bytes words.now) }
+    ensures { (given : List (List ℕ × Given))
+        → AreGiven (map row_option row.now.options.now) given (map string_bytes words.now)
+        → MakesMeaning row.now.verb given result }
+{
+    match row.verb {
+        Verb::Steps => Words::Steps,
+        Verb::Types => Words::Types,
+        Verb::Run => Words::Run {
+            workers: number_given(row.options, words, "workers") as u32,
+        },
+        Verb::Gen => Words::Gen {
+            seed: number_given(row.options, words, "seed"),
+            sessions: number_given(row.options, words, "sessions") as u32,
+            runs: option_given(row.options, words, "run").is_some(),
+        },
+    }
+}
+
+// The number that words give a required option.
+fn number_given(options: &[WordOption], words: &[String], name: &str) -> u64
+    requires given { SpellOptions (map row_option options.now) (map string_bytes words.now) }
+    requires number { IsRequiredNumber (map row_option options.now) name.now }
+    ensures { (given : List (List ℕ × Given))
+        → AreGiven (map row_option options.now) given (map string_bytes words.now)
+        → GivesNumber given name.now result }
+{
+    match option_given(options, words, name) {
+        Some(Given::Number(number)) => number,
+        Some(Given::Flag) => unreachable!(),
+        None => unreachable!(),
+    }
 }
 
 /// The word `steps` alone means to run a script.
@@ -83,6 +177,21 @@ pub fn meaning_of_steps()
 /// The word `types` alone means to print node types.
 pub fn meaning_of_types()
     ensures { (words : List (List ℕ)) → Means words Types ↔ (words ≡ codes "types" ∷ []) }
+{}
+
+/// The words that mean to run a script by workers are `run` and their number, 1 to 16, as one word
+/// or two.
+pub fn meaning_of_run()
+    ensures { (words : List (List ℕ)) (workers : ℕ) →
+        Means words (Run workers) ↔ AreRunWords words workers }
+{}
+
+/// The words that mean to make a script are `gen`, the seed, any number below 2^64, and the number
+/// of sessions, 1 to 64, each as one word or two, and `--run` where it is to be run; the options in
+/// any order.
+pub fn meaning_of_gen()
+    ensures { (words : List (List ℕ)) (seed sessions : ℕ) (runs : Bool) →
+        Means words (Gen seed sessions runs) ↔ AreGenWords words seed sessions runs }
 {}
 
 /// The row of a table that a list of words spells.

@@ -3,10 +3,10 @@ use Rattle.repo_top.proofs.Faulty.{none_left}
 use Rattle.repo_top.proofs.top.steps.Goals as goal
 
 pub returns-in-Err : goal.returns-in-Err
-returns-in-Err g c = record { ends = inl (record { why = c.in-Err.why; unread = c.in-Err.ensures.unread; none = none_left _ c.requires.none; faults = c.unrun.ensures }) }
+returns-in-Err g c = record { does = inl (record { why = c.in-Err.why; missing = c.in-Err.ensures.unread; none = none_left _ c.requires.none; faults = c.unrun.ensures }) }
 
 pub returns-in-Ok : goal.returns-in-Ok
-returns-in-Ok g c = record { ends = inr (record { script = c.in-Ok.script; read = c.in-Ok.ensures.read; ran = c.run_script.ensures.ran; prints = c.run_script.ensures.replies }) }
+returns-in-Ok g c = record { does = inr (inl (record { script = c.in-Ok.script; given = c.in-Ok.ensures.read; ran = c.run_script.ensures.ran; prints = c.run_script.ensures.prints })) }
 
 pub run_script-requires-clause-within : goal.run_script-requires-clause-within
 run_script-requires-clause-within g c = let spelled = c.in-Ok.ensures.read.2 in c.scripts_are_within.ensures spelled.0 c.in-Ok.script spelled.2

@@ -21,5 +21,5 @@ new-requires-clause-nodes c = slice_nodes c.args.script c.requires c.as_slice.re
 
 pub returns : goal.returns
 returns c =
-    begun_by c.args.script c.requires c.as_slice.result.now c.as_slice.ensures _ c.as_slice-3.result.now c.in_ok-nodes.ensures c.as_slice-3.ensures.value c.as_slice-2.result.now _ _ c.the_product_obeys.ensures.bases_are_trees c.as_slice-2.ensures
+    begun_by c.args.script c.requires c.as_slice.result.now c.as_slice.ensures _ c.as_slice-3.result.now c.in_ok-nodes.ensures c.as_slice-3.ensures.value c.as_slice-2.result.now _ _ c.the_product_obeys.ensures.bases_are_trees c.the_product_obeys.ensures.bases_are_typed c.as_slice-2.ensures
     c.in_ok-seats.ensures c.in_ok-law.ensures c.in_ok-world.ensures refl

@@ -1,0 +1,5 @@
+//! Tests of scripts that workers run.
+#![tactic(auto)]
+
+#[cfg(test)]
+mod tests;
