@@ -1,21 +1,17 @@
 // Marks and what they clash with.
-use crate::rows::{cut, put_answer};
 use jr_path::{DeepCopy, Name, Path, PathFault};
 use oak_clash::{Mark, MarkAt, clashes, commit_root, marked_paths};
-use std::alloc::{AllocError, Global};
+use rows::{Out, cut};
+use std::alloc::Global;
 
-pub(crate) fn add(
-    alloc: Global,
-    word: &str,
-    rest: &str,
-    out: &mut String,
-) -> Result<bool, AllocError> {
+// Whether there is such a row.
+pub(crate) fn add(word: &str, rest: &str, out: &mut Out) -> bool {
     match word {
-        "clash" => put_answer(out, is_clash(alloc, rest) == Ok(true))?,
-        "root" => add_root(alloc, rest, out)?,
-        _ => return Ok(false),
+        "clash" => out.put_answer(is_clash(out.alloc, rest) == Ok(true)),
+        "root" => add_root(rest, out),
+        _ => return false,
     }
-    Ok(true)
+    true
 }
 
 // exists, touch, guard, or the name of a property.
@@ -49,18 +45,27 @@ fn marks(alloc: Global, texts: &str) -> Result<Vec<MarkAt>, PathFault> {
 }
 
 // Paths with marks: their commit root, and the marked nodes in order.
-fn add_root(alloc: Global, rest: &str, out: &mut String) -> Result<(), AllocError> {
-    match marks(alloc, rest) {
-        Ok(marks) => add_marked(alloc, marks.as_slice(), out),
-        Err(_) => out.push_str("no paths"),
+fn add_root(rest: &str, out: &mut Out) {
+    match marks(out.alloc, rest) {
+        Ok(marks) => add_marked(marks.as_slice(), out),
+        Err(_) => out.put("no paths"),
     }
 }
 
-fn add_marked(alloc: Global, marks: &[MarkAt], out: &mut String) -> Result<(), AllocError> {
-    out.push_str(commit_root(alloc, marks)?.text()?.as_str())?;
-    for node in marked_paths(alloc, marks)?.inner() {
-        out.push(' ')?;
-        out.push_str(node.text()?.as_str())?;
+fn add_marked(marks: &[MarkAt], out: &mut Out) {
+    match commit_root(out.alloc, marks) {
+        Ok(root) => out.put_path(&root),
+        Err(_) => out.is_broken = true,
     }
-    Ok(())
+    match marked_paths(out.alloc, marks) {
+        Ok(paths) => put_paths(paths.as_slice(), out),
+        Err(_) => out.is_broken = true,
+    }
+}
+
+fn put_paths(paths: &[Path], out: &mut Out) {
+    for path in paths {
+        out.put(" ");
+        out.put_path(path);
+    }
 }

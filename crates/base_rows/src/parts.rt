@@ -1,41 +1,31 @@
 // Parts of a tree.
-use crate::rows::{Kept, cut, put_number};
+use crate::trees::Kept;
 use jr_part::{Need, Part};
 use jr_path::{DeepCopy, List, Name, Path};
 use jr_rev::Revision;
 use jr_tree::{Edit, Tree};
-use std::alloc::{AllocError, Global};
+use rows::{Out, cut};
+use std::alloc::AllocError;
 
-pub(crate) fn add(
-    alloc: Global,
-    word: &str,
-    rest: &str,
-    kept: &mut Kept,
-    out: &mut String,
-) -> Result<bool, AllocError> {
+// Whether there is such a row.
+pub(crate) fn add(word: &str, rest: &str, kept: &mut Kept, out: &mut Out) -> bool {
     match word {
-        "known" => add_known(alloc, rest, &kept.tree, &mut kept.part, out)?,
-        "listed" => add_listed(alloc, rest, &mut kept.part, out)?,
-        "lacks" => add_lacks(alloc, rest, &kept.part, out)?,
-        "part" => add_part(alloc, rest, &kept.part, out)?,
-        "whole" => add_whole(alloc, &kept.part, out)?,
-        "follow" => add_follow(&kept.edit, &mut kept.part, out)?,
-        _ => return Ok(false),
+        "known" => add_known(rest, &kept.tree, &mut kept.part, out),
+        "listed" => add_listed(rest, &mut kept.part, out),
+        "lacks" => add_lacks(rest, &kept.part, out),
+        "part" => add_part(rest, &kept.part, out),
+        "whole" => add_whole(&kept.part, out),
+        "follow" => add_follow(&kept.edit, &mut kept.part, out),
+        _ => return false,
     }
-    Ok(true)
+    true
 }
 
 // PATH: what the tree has there is put.
-fn add_known(
-    alloc: Global,
-    rest: &str,
-    tree: &Tree,
-    part: &mut Part,
-    out: &mut String,
-) -> Result<(), AllocError> {
-    match Path::parse(alloc, rest) {
-        Ok(path) => put_known(&path, tree, part),
-        Err(_) => out.push_str("no path"),
+fn add_known(rest: &str, tree: &Tree, part: &mut Part, out: &mut Out) {
+    match out.path(rest) {
+        Some(path) => out.note(put_known(&path, tree, part)),
+        None => out.put("no path"),
     }
 }
 
@@ -47,33 +37,29 @@ fn put_known(path: &Path, tree: &Tree, part: &mut Part) -> Result<(), AllocError
 }
 
 // PATH NAME: the one child of that name is listed, or none without a name.
-fn add_listed(
-    alloc: Global,
-    rest: &str,
-    part: &mut Part,
-    out: &mut String,
-) -> Result<(), AllocError> {
+fn add_listed(rest: &str, part: &mut Part, out: &mut Out) {
     let (path, name) = cut(rest);
-    match Path::parse(alloc, path) {
-        Ok(path) => put_listed(alloc, &path, name, part),
-        Err(_) => out.push_str("no path"),
+    match out.path(path) {
+        Some(path) => put_listed(&path, Name::parse(out.alloc, name).ok(), part, out),
+        None => out.put("no path"),
     }
 }
 
-fn put_listed(alloc: Global, path: &Path, name: &str, part: &mut Part) -> Result<(), AllocError> {
-    let mut names: List<(Name, Option<Revision>)> = List::new(alloc);
-    if let Ok(name) = Name::parse(alloc, name) {
-        names.push((name, None))?;
+fn put_listed(path: &Path, name: Option<Name>, part: &mut Part, out: &mut Out) {
+    let mut names: List<(Name, Option<Revision>)> = List::new(out.alloc);
+    if let Some(name) = name {
+        let put = names.push((name, None));
+        out.note(put);
     }
-    part.put_children(path, names)
+    out.note(part.put_children(path, names));
 }
 
 // KIND PATH: what lacks first.
-fn add_lacks(alloc: Global, rest: &str, part: &Part, out: &mut String) -> Result<(), AllocError> {
+fn add_lacks(rest: &str, part: &Part, out: &mut Out) {
     let (kind, path) = cut(rest);
-    match Path::parse(alloc, path) {
-        Ok(path) => put_lacking(&need_of(kind, path), part, out),
-        Err(_) => out.push_str("no path"),
+    match out.path(path) {
+        Some(path) => put_lacking(lacking(&need_of(kind, path), part), out),
+        None => out.put("no path"),
     }
 }
 
@@ -86,68 +72,73 @@ fn need_of(kind: &str, path: Path) -> Need {
     }
 }
 
-fn put_lacking(need: &Need, part: &Part, out: &mut String) -> Result<(), AllocError> {
-    let need = need.copy()?;
-    match part.lacks(&need)? {
-        Some(lacking) => put_need(&lacking, out),
-        None => out.push_str("nothing"),
+fn lacking(need: &Need, part: &Part) -> Result<Option<Need>, AllocError> {
+    part.lacks(&need.copy()?)
+}
+
+fn put_lacking(lacking: Result<Option<Need>, AllocError>, out: &mut Out) {
+    match lacking {
+        Ok(Some(need)) => put_need(&need, out),
+        Ok(None) => out.put("nothing"),
+        Err(_) => out.is_broken = true,
     }
 }
 
-fn put_need(need: &Need, out: &mut String) -> Result<(), AllocError> {
+fn put_need(need: &Need, out: &mut Out) {
     match need {
         Need::Node(path) => put_path("node ", path, out),
         Need::Children(path) => put_path("children ", path, out),
         Need::Subtree(path) => put_path("subtree ", path, out),
-        Need::All => out.push_str("all"),
+        Need::All => out.put("all"),
     }
 }
 
-fn put_path(kind: &str, path: &Path, out: &mut String) -> Result<(), AllocError> {
-    out.push_str(kind)?;
-    out.push_str(path.text()?.as_str())
+fn put_path(kind: &str, path: &Path, out: &mut Out) {
+    out.put(kind);
+    out.put_path(path);
 }
 
 // PATH: how many properties the node has, and the names of its children.
-fn add_part(alloc: Global, rest: &str, part: &Part, out: &mut String) -> Result<(), AllocError> {
-    match Path::parse(alloc, rest) {
-        Ok(path) => put_part(alloc, &path, part, out),
-        Err(_) => out.push_str("no path"),
+fn add_part(rest: &str, part: &Part, out: &mut Out) {
+    match out.path(rest) {
+        Some(path) => put_part(&path, part, out),
+        None => out.put("no path"),
     }
 }
 
-fn put_part(alloc: Global, path: &Path, part: &Part, out: &mut String) -> Result<(), AllocError> {
+fn put_part(path: &Path, part: &Part, out: &mut Out) {
     match part.node(path) {
-        Some(Some(node)) => put_number(alloc, out, node.props.len())?,
-        Some(None) => out.push_str("absent")?,
-        None => out.push_str("unknown")?,
+        Some(Some(node)) => out.put_number(node.props.len() as u64),
+        Some(None) => out.put("absent"),
+        None => out.put("unknown"),
     }
     match part.children(path) {
         Some(names) => put_names(names, out),
-        None => out.push_str(" unlisted"),
+        None => out.put(" unlisted"),
     }
 }
 
-fn put_names(names: &[(Name, Option<Revision>)], out: &mut String) -> Result<(), AllocError> {
+fn put_names(names: &[(Name, Option<Revision>)], out: &mut Out) {
     for (name, _) in names {
-        out.push(' ')?;
-        out.push_str(name.as_str())?;
+        out.put(" ");
+        out.put(name.as_str());
     }
-    Ok(())
 }
 
 // How many nodes the whole tree has, once nothing lacks.
-fn add_whole(alloc: Global, part: &Part, out: &mut String) -> Result<(), AllocError> {
-    match part.lacks(&Need::All)? {
-        Some(_) => out.push_str("lacking"),
-        None => put_number(alloc, out, part.whole().len()),
+fn add_whole(part: &Part, out: &mut Out) {
+    match part.lacks(&Need::All) {
+        Ok(None) => out.put_number(part.whole().len() as u64),
+        Ok(Some(_)) => out.put("lacking"),
+        Err(_) => out.is_broken = true,
     }
 }
 
 // The writes that are not applied yet are made of the part, once nothing lacks.
-fn add_follow(edit: &Edit, part: &mut Part, out: &mut String) -> Result<(), AllocError> {
-    match part.lacks(&Need::All)? {
-        Some(_) => out.push_str("lacking"),
-        None => part.apply(edit, None),
+fn add_follow(edit: &Edit, part: &mut Part, out: &mut Out) {
+    match part.lacks(&Need::All) {
+        Ok(None) => out.note(part.apply(edit, None)),
+        Ok(Some(_)) => out.put("lacking"),
+        Err(_) => out.is_broken = true,
     }
 }

@@ -1,50 +1,59 @@
 // Texts of names, paths, ids, revisions and vectors, and JSON of properties.
-use crate::rows::{cut, put_number};
 use crate::values;
 use jr_path::{DeepCopy, DocId, Name, Path, PathFault};
-use jr_rev::{RevVec, Revision};
+use jr_rev::{BadRevision, RevVec, Revision};
 use jr_value::{Property, ValueFault};
+use rows::{Out, cut, short};
 use serde_json::Value as Json;
 use std::alloc::{AllocError, Global};
 
-pub(crate) fn add(
-    alloc: Global,
-    word: &str,
-    rest: &str,
-    out: &mut String,
-) -> Result<bool, AllocError> {
+// Whether there is such a row.
+pub(crate) fn add(word: &str, rest: &str, out: &mut Out) -> bool {
     match word {
-        "name" => add_name(alloc, rest, out)?,
-        "path" => add_path(alloc, rest, out)?,
-        "long" => add_long(alloc, rest, out)?,
-        "id" => add_id(alloc, rest, out)?,
-        "order" => add_order(alloc, rest, out)?,
-        "revision" => add_revision(alloc, rest, out)?,
-        "vector" => add_vector(alloc, rest, out)?,
-        "value" => add_value(alloc, rest, out)?,
-        "text" => values::add(alloc, rest, out)?,
-        _ => return Ok(false),
+        "name" => add_name(rest, out),
+        "path" => add_path(rest, out),
+        "long" => add_long(rest, out),
+        "id" => add_id(rest, out),
+        "order" => add_order(rest, out),
+        "revision" => add_revision(rest, out),
+        "vector" => put_vector(RevVec::parse(rest.as_bytes()), out),
+        "value" => add_value(rest, out),
+        "text" => values::add(rest, out),
+        _ => return false,
     }
-    Ok(true)
+    true
 }
 
-// NUMBER PIECE END: the piece so many times and the end, as a name where it has no slash, and else as a path.
-fn add_long(alloc: Global, rest: &str, out: &mut String) -> Result<(), AllocError> {
+// NUMBER PIECE END: the piece so many times and the end, as a name where it has no slash, and else
+// as a path.
+fn add_long(rest: &str, out: &mut Out) {
     let (number, rest) = cut(rest);
     let (piece, end) = cut(rest);
+    match long_text(out.alloc, short(number), piece, end) {
+        Ok(text) => add_either(piece.contains('/'), text.as_str(), out),
+        Err(_) => out.is_broken = true,
+    }
+}
+
+fn long_text(alloc: Global, number: u32, piece: &str, end: &str) -> Result<String, AllocError> {
     let mut text = String::new(alloc);
-    for _ in 0..number.parse::<u16>().unwrap_or(0) {
+    for _ in 0..number {
         text.push_str(piece)?;
     }
     text.push_str(end)?;
-    if piece.contains('/') {
-        add_path(alloc, text.as_str(), out)
+    Ok(text)
+}
+
+fn add_either(is_path: bool, text: &str, out: &mut Out) {
+    if is_path {
+        add_path(text, out);
     } else {
-        add_name(alloc, text.as_str(), out)
+        add_name(text, out);
     }
 }
 
-// NUMBER PATH: a document of the node, or with a number a previous one; the settings without a path.
+// NUMBER PATH: a document of the node, or with a number a previous one; the settings without a
+// path.
 fn id_of(alloc: Global, text: &str) -> Result<DocId, PathFault> {
     let (number, path) = cut(text);
     if path.is_empty() {
@@ -57,129 +66,121 @@ fn id_of(alloc: Global, text: &str) -> Result<DocId, PathFault> {
     }
 }
 
-fn add_id(alloc: Global, text: &str, out: &mut String) -> Result<(), AllocError> {
-    match id_of(alloc, text) {
-        Ok(id) => out.push_str(id.copy()?.text(alloc)?.as_str()),
-        Err(fault) => add_fault(alloc, fault, out),
+fn add_id(text: &str, out: &mut Out) {
+    match id_of(out.alloc, text) {
+        Ok(id) => out.put_made(copied_text(&id, out.alloc)),
+        Err(fault) => add_fault(&fault, out),
     }
+}
+
+fn copied_text(id: &DocId, alloc: Global) -> Result<String, AllocError> {
+    id.copy()?.text(alloc)
 }
 
 // Two ids with a comma between.
-fn add_order(alloc: Global, rest: &str, out: &mut String) -> Result<(), AllocError> {
+fn add_order(rest: &str, out: &mut Out) {
     let (first, second) = rest.split_once(',').unwrap_or((rest, ""));
-    let (Ok(first), Ok(second)) = (id_of(alloc, first), id_of(alloc, second)) else {
-        return out.push_str("no ids");
-    };
-    out.push_str(if first < second {
-        "before"
-    } else {
-        "not before"
-    })
+    out.put(match is_before(out.alloc, first, second) {
+        Ok(true) => "before",
+        Ok(false) => "not before",
+        Err(_) => "no ids",
+    });
 }
 
-fn add_fault(alloc: Global, fault: PathFault, out: &mut String) -> Result<(), AllocError> {
+fn is_before(alloc: Global, first: &str, second: &str) -> Result<bool, PathFault> {
+    let first = id_of(alloc, first)?;
+    Ok(first < id_of(alloc, second)?)
+}
+
+fn add_fault(fault: &PathFault, out: &mut Out) {
     match fault {
-        PathFault::BadName(at) => {
-            out.push_str("bad name ")?;
-            put_number(alloc, out, at)
-        }
-        PathFault::BadPath(at) => {
-            out.push_str("bad path ")?;
-            put_number(alloc, out, at)
-        }
-        PathFault::TooDeep(names) => {
-            out.push_str("too deep ")?;
-            put_number(alloc, out, names)
-        }
-        PathFault::TooLong(bytes) => {
-            out.push_str("too long ")?;
-            put_number(alloc, out, bytes)
-        }
-        PathFault::Memory => out.push_str("memory"),
+        PathFault::BadName(at) => put_fault("bad name ", *at, out),
+        PathFault::BadPath(at) => put_fault("bad path ", *at, out),
+        PathFault::TooDeep(names) => put_fault("too deep ", *names, out),
+        PathFault::TooLong(bytes) => put_fault("too long ", *bytes, out),
+        PathFault::Memory => out.put("memory"),
     }
 }
 
-fn add_name(alloc: Global, text: &str, out: &mut String) -> Result<(), AllocError> {
-    match Name::parse(alloc, text) {
-        Ok(name) => out.push_str(name.as_str()),
-        Err(fault) => add_fault(alloc, fault, out),
+fn put_fault(kind: &str, number: usize, out: &mut Out) {
+    out.put(kind);
+    out.put_number(number as u64);
+}
+
+fn add_name(text: &str, out: &mut Out) {
+    match Name::parse(out.alloc, text) {
+        Ok(name) => out.put(name.as_str()),
+        Err(fault) => add_fault(&fault, out),
     }
 }
 
-fn add_path(alloc: Global, text: &str, out: &mut String) -> Result<(), AllocError> {
-    match Path::parse(alloc, text) {
-        Ok(path) => out.push_str(path.text()?.as_str()),
-        Err(fault) => add_fault(alloc, fault, out),
+fn add_path(text: &str, out: &mut Out) {
+    match Path::parse(out.alloc, text) {
+        Ok(path) => out.put_path(&path),
+        Err(fault) => add_fault(&fault, out),
     }
 }
 
 // The text printed again, and the three numbers.
-fn add_revision(alloc: Global, text: &str, out: &mut String) -> Result<(), AllocError> {
+fn add_revision(text: &str, out: &mut Out) {
     match Revision::parse(text.as_bytes()) {
-        Ok(revision) => {
-            let mut printed = Vec::new(alloc);
-            revision.put_text(&mut printed)?;
-            add_bytes(printed.as_slice(), out)?;
-            put_numbers(alloc, &revision, out)
-        }
-        Err(fault) => put_number(alloc, out, fault.offset),
+        Ok(revision) => put_revision(&revision, out),
+        Err(fault) => out.put_number(fault.offset as u64),
     }
 }
 
-fn put_numbers(alloc: Global, revision: &Revision, out: &mut String) -> Result<(), AllocError> {
-    for number in [
-        revision.time,
-        u64::from(revision.counter),
-        u64::from(revision.cluster),
-    ] {
-        out.push(' ')?;
-        out.push_str(number.to_string(alloc)?.as_str())?;
-    }
-    Ok(())
+fn put_revision(revision: &Revision, out: &mut Out) {
+    let mut printed = Vec::new(out.alloc);
+    let put = revision.put_text(&mut printed);
+    out.note(put);
+    out.put_bytes(printed.as_slice());
+    put_after(revision.time, out);
+    put_after(u64::from(revision.counter), out);
+    put_after(u64::from(revision.cluster), out);
 }
 
-fn add_vector(alloc: Global, text: &str, out: &mut String) -> Result<(), AllocError> {
-    match RevVec::parse(text.as_bytes()) {
-        Ok(vector) => {
-            let mut printed = Vec::new(alloc);
-            vector.put_text(&mut printed)?;
-            add_bytes(printed.as_slice(), out)
-        }
-        Err(fault) => put_number(alloc, out, fault.offset),
-    }
+fn put_after(number: u64, out: &mut Out) {
+    out.put(" ");
+    out.put_number(number);
 }
 
-fn add_bytes(bytes: &[u8], out: &mut String) -> Result<(), AllocError> {
-    match str::from_utf8(bytes) {
-        Ok(text) => out.push_str(text),
-        Err(_) => out.push('?'),
+fn put_vector(vector: Result<RevVec, BadRevision>, out: &mut Out) {
+    match vector {
+        Ok(vector) => out.put_vector(&vector),
+        Err(fault) => out.put_number(fault.offset as u64),
     }
 }
 
-fn add_value(alloc: Global, text: &str, out: &mut String) -> Result<(), AllocError> {
-    let Ok(json) = Json::from_str(alloc, text) else {
-        return out.push_str("no JSON");
-    };
-    match Property::from_json(alloc, &json) {
-        Ok(property) => add_property(alloc, &property, out),
+fn add_value(text: &str, out: &mut Out) {
+    match Json::from_str(out.alloc, text) {
+        Ok(json) => add_json(&json, out),
+        Err(_) => out.put("no JSON"),
+    }
+}
+
+fn add_json(json: &Json, out: &mut Out) {
+    match Property::from_json(out.alloc, json) {
+        Ok(property) => add_property(&property, out),
         Err(ValueFault::ValueFormat(required, found)) => {
-            out.push_str("no ")?;
-            out.push_str(required.as_str())?;
-            out.push(' ')?;
-            out.push_str(found.as_str())
+            out.put("no ");
+            out.put(required.as_str());
+            out.put(" ");
+            out.put(found.as_str());
         }
-        Err(_) => out.push_str("memory"),
+        Err(_) => out.put("memory"),
     }
 }
 
 // The property's kind, its text and whether its copy equals it.
-fn add_property(alloc: Global, property: &Property, out: &mut String) -> Result<(), AllocError> {
-    out.push_str(property.kind().as_str())?;
-    out.push(' ')?;
-    out.push_str(property.json_text(alloc)?.as_str())?;
-    if property.copy()? == *property {
-        Ok(())
-    } else {
-        out.push_str(" and another copy")
+fn add_property(property: &Property, out: &mut Out) {
+    out.put(property.kind().as_str());
+    out.put(" ");
+    out.put_property(property);
+    if is_copied(property) != Ok(true) {
+        out.put(" and another copy");
     }
+}
+
+fn is_copied(property: &Property) -> Result<bool, AllocError> {
+    Ok(property.copy()? == *property)
 }

@@ -1,28 +1,24 @@
 // Vectors of revisions, and paths, compared.
-use crate::rows::{cut, put_answer};
 use jr_path::{DeepCopy, Item, Keyed, List, Name, Path, PathFault, PathText, Text};
 use jr_rev::{BadRevision, RevVec, Revision};
+use rows::{Out, cut};
 use std::alloc::{AllocError, Global};
 
-pub(crate) fn add(
-    alloc: Global,
-    word: &str,
-    rest: &str,
-    out: &mut String,
-) -> Result<bool, AllocError> {
+// Whether there is such a row.
+pub(crate) fn add(word: &str, rest: &str, out: &mut Out) -> bool {
     let (first, second) = cut(rest);
     match word {
-        "sees" => put_answer(out, sees(first, second) == Ok(true))?,
-        "below" => put_answer(out, is_below(first, second) == Ok(true))?,
-        "least" => put_vector(alloc, least(first, second), out)?,
-        "greatest" => put_vector(alloc, greatest(first, second), out)?,
-        "start" => put_vector(alloc, Ok(RevVec::start(2)), out)?,
-        "parts" => put_answer(out, are_parts(alloc, first, second) == Ok(true))?,
-        "deep" => put_answer(out, is_deep(alloc) == Ok(true))?,
-        "copies" => put_answer(out, is_text_copied(alloc)? && is_map_copied(alloc)?)?,
-        _ => return Ok(false),
+        "sees" => out.put_answer(sees(first, second) == Ok(true)),
+        "below" => out.put_answer(is_below(first, second) == Ok(true)),
+        "least" => put_vector(least(first, second), out),
+        "greatest" => put_vector(greatest(first, second), out),
+        "start" => put_vector(Ok(RevVec::start(2)), out),
+        "parts" => out.put_answer(are_parts(out.alloc, first, second) == Ok(true)),
+        "deep" => out.put_answer(is_deep(out.alloc) == Ok(true)),
+        "copies" => put_copied(is_text_copied(out.alloc), is_map_copied(out.alloc), out),
+        _ => return false,
     }
-    Ok(true)
+    true
 }
 
 fn sees(vector: &str, revision: &str) -> Result<bool, BadRevision> {
@@ -45,19 +41,10 @@ fn greatest(first: &str, second: &str) -> Result<RevVec, BadRevision> {
     Ok(RevVec::parse(first.as_bytes())?.max_with(&second))
 }
 
-fn put_vector(
-    alloc: Global,
-    vector: Result<RevVec, BadRevision>,
-    out: &mut String,
-) -> Result<(), AllocError> {
-    let Ok(vector) = vector else {
-        return out.push_str("no vectors");
-    };
-    let mut printed = Vec::new(alloc);
-    vector.put_text(&mut printed)?;
-    match str::from_utf8(printed.as_slice()) {
-        Ok(text) => out.push_str(text),
-        Err(_) => out.push('?'),
+fn put_vector(vector: Result<RevVec, BadRevision>, out: &mut Out) {
+    match vector {
+        Ok(vector) => out.put_vector(&vector),
+        Err(_) => out.put("no vectors"),
     }
 }
 
@@ -65,8 +52,7 @@ fn put_vector(
 fn are_parts(alloc: Global, path: &str, name: &str) -> Result<bool, PathFault> {
     let path = Path::parse(alloc, path)?;
     let name = Name::parse(alloc, name)?;
-    let child = path.child(&name)?;
-    Ok(is_child(&path, &child)? && is_item_copied(path, name)?)
+    Ok(is_child(&path, &path.child(&name)?)? && is_item_copied(path, name)?)
 }
 
 fn is_child(path: &Path, child: &Path) -> Result<bool, AllocError> {
@@ -74,7 +60,11 @@ fn is_child(path: &Path, child: &Path) -> Result<bool, AllocError> {
     if depth == 0 || path.is_under(child) || !child.is_under(path) {
         return Ok(false);
     }
-    Ok(child.prefix(depth - 1)? == *path && child.parent()? == Some(path.copy()?))
+    Ok(child.prefix(depth - 1)? == *path && is_parent(path, child)?)
+}
+
+fn is_parent(path: &Path, child: &Path) -> Result<bool, AllocError> {
+    Ok(child.parent()? == Some(path.copy()?))
 }
 
 fn is_item_copied(path: Path, name: Name) -> Result<bool, AllocError> {
@@ -94,13 +84,20 @@ fn is_deep(alloc: Global) -> Result<bool, PathFault> {
     Ok(PathText::read(alloc, text.as_str())?.copy()? == PathText::TooDeep(65))
 }
 
+fn put_copied(text: Result<bool, AllocError>, map: Result<bool, AllocError>, out: &mut Out) {
+    out.put_answer(text == Ok(true) && map == Ok(true));
+}
+
 fn is_text_copied(alloc: Global) -> Result<bool, AllocError> {
     let mut text = Text::copy_of(alloc, "a")?;
     text.push_str("b")?;
-    let is_copied = text.copy()?.as_str() == "ab";
+    Ok(text.copy()?.as_str() == "ab" && is_list_copied(text, alloc)?)
+}
+
+fn is_list_copied(text: Text, alloc: Global) -> Result<bool, AllocError> {
     let mut list: List<(u8, u32, Text)> = List::new(alloc);
     list.push((1, 2, text))?;
-    Ok(is_copied && list.copy()?.len() == 1)
+    Ok(list.copy()?.len() == 1)
 }
 
 fn is_map_copied(alloc: Global) -> Result<bool, AllocError> {

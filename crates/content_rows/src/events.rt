@@ -1,73 +1,73 @@
-// Events of commits. The commits are JSON: a list for each, in which a list for each change has a sign, a path, and a property's
-// name where the change is of one: `+` is for what is added, `-` for what is removed, `~` for a property that is changed.
-use crate::json::{items_of, json_of};
-use crate::rows::{cut, number};
-use crate::trees::{name_of, path_of};
+// Events of commits. The commits are JSON: a list for each, in which a list for each change has a
+// sign, a path, and a property's name where the change is of one: `+` is for what is added, `-` for
+// what is removed, `~` for a property that is changed.
 use jcr_observe::{Filter, events, events_text};
-use jr_path::{Item, List};
+use jr_path::{Item, List, Name, Path};
 use jr_rev::Revision;
 use jr_tree::{CommitChanges, ItemChange};
+use rows::{Out, cut, items_of, short, text_in};
 use serde_json::Value as Json;
 use std::alloc::{AllocError, Global};
 
 // PATH `deep` MASK (another word for a shallow filter)
-pub(crate) fn add(
-    alloc: Global,
-    asked: &str,
-    given: &str,
-    out: &mut String,
-) -> Result<(), AllocError> {
-    match (filter_of(alloc, asked)?, commits_of(alloc, given)?) {
-        (Some(filter), Some(commits)) => put_events(alloc, commits.as_slice(), &filter, out),
-        _ => out.push_str("no commits"),
+pub(crate) fn add(asked: &str, given: &str, out: &mut Out) {
+    match (filter_of(asked, out), commits_of(given, out)) {
+        (Some(filter), Some(commits)) => {
+            out.put_made(text_of(out.alloc, commits.as_slice(), &filter));
+        }
+        _ => out.put("no commits"),
     }
 }
 
-fn put_events(
+fn text_of(
     alloc: Global,
     commits: &[CommitChanges],
     filter: &Filter,
-    out: &mut String,
-) -> Result<(), AllocError> {
+) -> Result<String, AllocError> {
     let events = events(alloc, commits, filter)?;
-    out.push_str(events_text(alloc, events.as_slice())?.as_str())
+    events_text(alloc, events.as_slice())
 }
 
-fn filter_of(alloc: Global, asked: &str) -> Result<Option<Filter>, AllocError> {
+fn filter_of(asked: &str, out: &mut Out) -> Option<Filter> {
     let (path, rest) = cut(asked);
     let (word, mask) = cut(rest);
-    match path_of(alloc, path)? {
-        Some(path) => Ok(Some(Filter {
+    match out.path(path) {
+        Some(path) => Some(Filter {
             path,
             deep: word == "deep",
-            mask: number(mask),
-        })),
-        None => Ok(None),
+            mask: short(mask),
+        }),
+        None => None,
     }
 }
 
-fn commits_of(alloc: Global, text: &str) -> Result<Option<Vec<CommitChanges>>, AllocError> {
-    match json_of(alloc, text)? {
-        Some(json) => commits_in(alloc, items_of(&json)),
-        None => Ok(None),
+fn commits_of(text: &str, out: &mut Out) -> Option<List<CommitChanges>> {
+    match out.json(text) {
+        Some(json) => commits_in(items_of(&json), out),
+        None => None,
     }
 }
 
-fn commits_in(
-    alloc: Global,
-    items: Option<&[Json]>,
-) -> Result<Option<Vec<CommitChanges>>, AllocError> {
-    let Some(items) = items else {
-        return Ok(None);
-    };
-    let mut commits = Vec::new(alloc);
+fn commits_in(items: Option<&[Json]>, out: &mut Out) -> Option<List<CommitChanges>> {
+    let items = items?;
+    let mut commits = List::new(out.alloc);
     for item in items {
-        match changes_in(alloc, items_of(item))? {
-            Some(changes) => commits.push(commit_of(changes))?,
-            None => return Ok(None),
+        if !push_commit(&mut commits, item, out) {
+            return None;
         }
     }
-    Ok(Some(commits))
+    Some(commits)
+}
+
+fn push_commit(commits: &mut List<CommitChanges>, item: &Json, out: &mut Out) -> bool {
+    match changes_in(items_of(item), out) {
+        Some(changes) => {
+            let put = commits.push(commit_of(changes));
+            out.note(put);
+            true
+        }
+        None => false,
+    }
 }
 
 fn commit_of(changes: List<ItemChange>) -> CommitChanges {
@@ -81,54 +81,54 @@ fn commit_of(changes: List<ItemChange>) -> CommitChanges {
     }
 }
 
-fn changes_in(
-    alloc: Global,
-    items: Option<&[Json]>,
-) -> Result<Option<List<ItemChange>>, AllocError> {
-    let Some(items) = items else {
-        return Ok(None);
-    };
-    let mut changes = List::new(alloc);
+fn changes_in(items: Option<&[Json]>, out: &mut Out) -> Option<List<ItemChange>> {
+    let items = items?;
+    let mut changes = List::new(out.alloc);
     for item in items {
-        match change_of(alloc, item)? {
-            Some(change) => changes.push(change)?,
-            None => return Ok(None),
+        if !push_change(&mut changes, item, out) {
+            return None;
         }
     }
-    Ok(Some(changes))
+    Some(changes)
 }
 
-fn change_of(alloc: Global, json: &Json) -> Result<Option<ItemChange>, AllocError> {
+fn push_change(changes: &mut List<ItemChange>, item: &Json, out: &mut Out) -> bool {
+    match change_of(item, out) {
+        Some(change) => {
+            let put = changes.push(change);
+            out.note(put);
+            true
+        }
+        None => false,
+    }
+}
+
+fn change_of(json: &Json, out: &mut Out) -> Option<ItemChange> {
     match items_of(json) {
-        Some([Json::String(sign), Json::String(path)]) => {
-            node_change(alloc, sign.as_str(), path.as_str())
-        }
-        Some([Json::String(sign), Json::String(path), Json::String(name)]) => {
-            property_change(alloc, sign.as_str(), path.as_str(), name.as_str())
-        }
-        _ => Ok(None),
+        Some([sign, path]) => node_change(text_in(sign), out.path(text_in(path))),
+        Some([sign, path, name]) => property_change(
+            text_in(sign),
+            out.path(text_in(path)),
+            out.name(text_in(name)),
+        ),
+        _ => None,
     }
 }
 
-fn node_change(alloc: Global, sign: &str, path: &str) -> Result<Option<ItemChange>, AllocError> {
-    match path_of(alloc, path)? {
-        Some(path) => Ok(Some(change_with(sign, Item { path, name: None }))),
-        None => Ok(None),
+fn node_change(sign: &str, path: Option<Path>) -> Option<ItemChange> {
+    match path {
+        Some(path) => Some(change_with(sign, Item { path, name: None })),
+        None => None,
     }
 }
 
-fn property_change(
-    alloc: Global,
-    sign: &str,
-    path: &str,
-    name: &str,
-) -> Result<Option<ItemChange>, AllocError> {
-    match (path_of(alloc, path)?, name_of(alloc, name)?) {
+fn property_change(sign: &str, path: Option<Path>, name: Option<Name>) -> Option<ItemChange> {
+    match (path, name) {
         (Some(path), Some(name)) => {
             let name = Some(name);
-            Ok(Some(change_with(sign, Item { path, name })))
+            Some(change_with(sign, Item { path, name }))
         }
-        _ => Ok(None),
+        _ => None,
     }
 }
 

@@ -1,74 +1,51 @@
 // Locks and checked-in nodes.
-use crate::rows::cut;
-use crate::shows::{put_found, put_refusal, put_writes};
+use crate::shows::{put_edit, put_found};
 use jcr_lock::{frozen_by, lock_edit, locked_by, unlock_edit};
+use jr_edited::Edited;
 use jr_path::Path;
-use jr_tree::{Edit, Refusal, Tree};
+use jr_tree::Tree;
+use rows::{Out, cut};
 use std::alloc::{AllocError, Global};
 
-// `locked_by` PATH TOKENS, `lock_edit` PATH `deep` TOKEN (another word for a shallow one), `unlock_edit` PATH TOKENS
-pub(crate) fn add(
-    alloc: Global,
-    tree: &Tree,
-    word: &str,
-    path: &Path,
-    rest: &str,
-    out: &mut String,
-) -> Result<(), AllocError> {
+// `locked_by` PATH TOKENS, `lock_edit` PATH `deep` TOKEN (another word for a shallow one),
+// `unlock_edit` PATH TOKENS
+pub(crate) fn add(tree: &Tree, word: &str, path: &Path, rest: &str, out: &mut Out) {
     match word {
-        "lock_edit" => {
-            let (depth, token) = cut(rest);
-            put_edit(
-                alloc,
-                lock_edit(alloc, tree, path, depth == "deep", token),
-                out,
-            )
-        }
-        "unlock_edit" => add_unlock(alloc, tree, path, rest, out),
-        _ => add_locked(alloc, tree, path, rest, out),
+        "lock_edit" => add_lock(tree, path, cut(rest), out),
+        "unlock_edit" => add_unlock(tree, path, rest, out),
+        _ => put_found(&locked(out.alloc, tree, path, rest), out),
     }
 }
 
-fn add_unlock(
+fn add_lock(tree: &Tree, path: &Path, asked: (&str, &str), out: &mut Out) {
+    put_edit(
+        &lock_edit(out.alloc, tree, path, asked.0 == "deep", asked.1),
+        out,
+    );
+}
+
+fn add_unlock(tree: &Tree, path: &Path, tokens: &str, out: &mut Out) {
+    match words_of(out.alloc, tokens) {
+        Ok(tokens) => put_edit(&unlock_edit(out.alloc, tree, path, &tokens), out),
+        Err(_) => out.is_broken = true,
+    }
+}
+
+fn locked(
     alloc: Global,
     tree: &Tree,
     path: &Path,
     tokens: &str,
-    out: &mut String,
-) -> Result<(), AllocError> {
+) -> Result<Option<Path>, AllocError> {
     let tokens = words_of(alloc, tokens)?;
-    put_edit(alloc, unlock_edit(alloc, tree, path, &tokens), out)
+    locked_by(alloc, &Edited::unchanged(alloc, tree), path, &tokens)
 }
 
-fn add_locked(
-    alloc: Global,
-    tree: &Tree,
-    path: &Path,
-    tokens: &str,
-    out: &mut String,
-) -> Result<(), AllocError> {
-    let tokens = words_of(alloc, tokens)?;
-    put_found(locked_by(alloc, tree, path, &tokens)?.as_ref(), out)
-}
-
-pub(crate) fn add_frozen(
-    alloc: Global,
-    tree: &Tree,
-    path: &Path,
-    out: &mut String,
-) -> Result<(), AllocError> {
-    put_found(frozen_by(alloc, tree, path)?.as_ref(), out)
-}
-
-fn put_edit(
-    alloc: Global,
-    edit: Result<Edit, Refusal>,
-    out: &mut String,
-) -> Result<(), AllocError> {
-    match edit {
-        Ok(edit) => put_writes(alloc, edit.writes.as_slice(), out),
-        Err(refusal) => put_refusal(alloc, &refusal, out),
-    }
+pub(crate) fn add_frozen(tree: &Tree, path: &Path, out: &mut Out) {
+    put_found(
+        &frozen_by(out.alloc, &Edited::unchanged(out.alloc, tree), path),
+        out,
+    );
 }
 
 pub(crate) fn words_of(alloc: Global, text: &str) -> Result<Vec<String>, AllocError> {

@@ -1,38 +1,29 @@
-//! Rows of the content: each line of the input is a question about a tree or commits, and these as JSON behind ` | `; each line of
-//! the output is the answer.
+//! Rows of the content: each line of the input is a question about a tree or commits, and these as
+//! JSON behind ` | `; each line of the output is the answer.
 #![tactic(auto)]
 
 mod definitions;
 mod events;
-mod json;
 mod locks;
 mod plans;
+mod questions;
 mod references;
-mod rows;
 mod shows;
 mod trees;
 mod types;
 mod versions;
 mod view;
 
-use jr_io::{Sink, StdSink, StdSource, read_all, write_all};
+use jr_io::{StdSink, StdSource};
+use questions::Content;
+use rows::answer_all;
 use std::io;
 use std::process::ExitCode;
 
 fn main(rt: HostRuntime) -> ExitCode {
-    let alloc = rt.alloc();
     let mut source = StdSource::new(rt.reader());
-    let Ok(mut sink) = StdSink::new(alloc, io::writer(&rt)) else {
+    let Ok(mut sink) = StdSink::new(rt.alloc(), io::writer(&rt)) else {
         return ExitCode::from(5);
     };
-    let Ok(input) = read_all(alloc, &mut source, 100_000_000) else {
-        return ExitCode::from(3);
-    };
-    let Ok(text) = rows::answers(alloc, input.as_slice()) else {
-        return ExitCode::from(5);
-    };
-    if write_all(&mut sink, text.as_bytes()).is_err() || sink.flush().is_err() {
-        return ExitCode::from(4);
-    }
-    ExitCode::from(0)
+    ExitCode::from(answer_all(rt.alloc(), &mut source, &mut sink, &mut Content))
 }

@@ -1,331 +1,219 @@
 // Plans of edits.
-use crate::json::{items_of, json_of};
 use crate::locks::words_of;
-use crate::rows::cut;
-use crate::shows::{put_path, put_refusal};
-use crate::trees::{add_nodes, name_of, path_of, property_of};
+use crate::shows::{put_child, put_refusal};
+use crate::trees::add_nodes;
 use crate::types::register;
 use jcr_plan::{Assured, Plan, plan_of, plan_of_change};
 use jcr_ref::dangling;
+use jr_builtin::builtin;
+use jr_edited::Edited;
 use jr_items::OwnName;
-use jr_path::{DeepCopy, List, Name, Path};
-use jr_tree::{Edit, Node, Refusal, Tree, Write};
+use jr_path::{DeepCopy, Name, Path};
+use jr_tree::{Edit, Refusal, Tree};
 use jr_types::Registry;
 use jr_value::{Property, Value};
 use oak_clash::{Mark, MarkAt};
-use serde_json::Value as Json;
+use rows::{Out, cut, edit_of};
+use serde_json::{Map, Value as Json};
 use std::alloc::{AllocError, Global};
 
-// DEFINITIONS EDIT TOKENS: the marks of the plan, or its refusal. The tree has the initial nodes too, and a node for which no
-// type is given is an nt:unstructured. `plan` asks both calls, the second one assured that the types are met, and that no
-// reference dangles where that is so; `whole_plan` asks the first alone; `change_plan` the second alone, assured of both
-// though it may not be so.
-pub(crate) fn add(
-    alloc: Global,
-    word: &str,
-    asked: &str,
-    given: &str,
-    out: &mut String,
-) -> Result<(), AllocError> {
+// What a plan is asked about.
+#[derive(Drop)]
+struct Asked {
+    types: Registry,
+    tree: Tree,
+    edit: Edit,
+    tokens: Vec<String>,
+}
+
+// DEFINITIONS EDIT TOKENS: the marks of the plan, or its refusal. The tree has the initial nodes
+// too, and a node for which no type is given is an nt:unstructured. `plan` asks both calls, the
+// second one assured that the types are met, and that no reference dangles where that is so;
+// `whole_plan` asks the first alone; `change_plan` the second alone, assured of both though it may
+// not be so.
+pub(crate) fn add(word: &str, asked: &str, given: &str, out: &mut Out) {
     let (definitions, asked) = cut(asked);
-    let mut types = Registry::builtin(alloc)?;
-    if !register(alloc, &mut types, definitions, out)? {
-        return Ok(());
-    }
-    match typed_tree(alloc, given)? {
-        Some(tree) => add_plan(alloc, word, &types, &tree, asked, out),
-        None => out.push_str("no tree"),
+    if let Some(types) = types_of(definitions, out) {
+        add_plan(word, types, typed_tree(given, out), asked, out);
     }
 }
 
-fn typed_tree(alloc: Global, given: &str) -> Result<Option<Tree>, AllocError> {
-    let mut tree = Tree::initial(alloc)?;
-    match json_of(alloc, given)? {
-        Some(Json::Object(members)) => {
-            if !add_nodes(alloc, &mut tree, &members)? {
-                return Ok(None);
-            }
-            Ok(Some(with_types(alloc, &tree)?))
+fn types_of(definitions: &str, out: &mut Out) -> Option<Registry> {
+    match builtin(out.alloc) {
+        Ok(types) => with_definitions(types, definitions, out),
+        Err(_) => {
+            out.is_broken = true;
+            None
         }
-        _ => Ok(None),
     }
 }
 
-fn with_types(alloc: Global, tree: &Tree) -> Result<Tree, AllocError> {
+fn with_definitions(types: Registry, definitions: &str, out: &mut Out) -> Option<Registry> {
+    let mut types = types;
+    if register(&mut types, definitions, out) {
+        return Some(types);
+    }
+    None
+}
+
+fn typed_tree(given: &str, out: &mut Out) -> Option<Tree> {
+    match (out.json(given), Tree::initial(out.alloc)) {
+        (Some(Json::Object(members)), Ok(tree)) => with_nodes(tree, &members, out),
+        _ => None,
+    }
+}
+
+fn with_nodes(tree: Tree, members: &Map<String, Json>, out: &mut Out) -> Option<Tree> {
+    let mut tree = tree;
+    if !add_nodes(&mut tree, members, out) {
+        return None;
+    }
+    let typed = with_types(&tree, out.alloc);
+    out.got(typed)
+}
+
+fn with_types(tree: &Tree, alloc: Global) -> Result<Tree, AllocError> {
     let key = OwnName::PrimaryType.name(alloc)?;
     let mut typed = tree.copy()?;
     for (at, _) in tree.iter() {
         if tree.property(at, &key).is_none() {
-            let kind = Value::Name(OwnName::Unstructured.name(alloc)?);
-            typed.put(at, key.copy()?, Property::Single(kind))?;
+            put_type(&mut typed, at, &key, alloc)?;
         }
     }
     Ok(typed)
 }
 
-fn add_plan(
-    alloc: Global,
-    word: &str,
-    types: &Registry,
-    tree: &Tree,
-    asked: &str,
-    out: &mut String,
-) -> Result<(), AllocError> {
+fn put_type(tree: &mut Tree, at: &Path, key: &Name, alloc: Global) -> Result<(), AllocError> {
+    let kind = Property::Single(Value::Name(OwnName::Unstructured.name(alloc)?));
+    tree.put(at, key.copy()?, kind)
+}
+
+fn add_plan(word: &str, types: Registry, tree: Option<Tree>, asked: &str, out: &mut Out) {
     let (edit, tokens) = cut(asked);
-    let tokens = words_of(alloc, tokens)?;
-    match edit_of(alloc, tree, edit)? {
-        Some(edit) => put_asked(alloc, word, types, tree, edit, &tokens, out),
-        None => out.push_str("no edit"),
+    match tree {
+        Some(tree) => add_edit(word, types, tree, edit, words_of(out.alloc, tokens), out),
+        None => out.put("no tree"),
     }
 }
 
-fn put_asked(
-    alloc: Global,
+fn add_edit(
     word: &str,
-    types: &Registry,
-    tree: &Tree,
-    edit: Edit,
-    tokens: &[String],
-    out: &mut String,
-) -> Result<(), AllocError> {
+    types: Registry,
+    tree: Tree,
+    edit: &str,
+    tokens: Result<Vec<String>, AllocError>,
+    out: &mut Out,
+) {
+    match (edit_in(edit, &tree, out), tokens) {
+        (Some(edit), Ok(tokens)) => put_asked(
+            word,
+            &Asked {
+                types,
+                tree,
+                edit,
+                tokens,
+            },
+            out,
+        ),
+        (None, _) => out.put("no edit"),
+        _ => out.is_broken = true,
+    }
+}
+
+fn edit_in(text: &str, tree: &Tree, out: &mut Out) -> Option<Edit> {
+    match out.json(text) {
+        Some(json) => edit_of(&json, tree, out),
+        None => None,
+    }
+}
+
+fn put_asked(word: &str, asked: &Asked, out: &mut Out) {
     match word {
-        "whole_plan" => put_plan(alloc, plan_of(alloc, types, tree, edit, tokens), out),
-        "change_plan" => put_change(alloc, types, tree, edit, tokens, true, out),
-        _ => put_both(alloc, types, tree, edit, tokens, out),
+        "whole_plan" => put_plan(&whole_plan(asked, out.alloc), out),
+        "change_plan" => put_plan(&change_plan(asked, true, out.alloc), out),
+        _ => put_both(asked, out),
     }
 }
 
-// The answer of both calls, which is the same.
-fn put_both(
-    alloc: Global,
-    types: &Registry,
-    tree: &Tree,
-    edit: Edit,
-    tokens: &[String],
-    out: &mut String,
-) -> Result<(), AllocError> {
-    let mut other = String::new(alloc);
-    let referring = dangling(alloc, tree)?.is_none();
-    put_change(
-        alloc,
-        types,
-        tree,
-        edit.copy()?,
-        tokens,
-        referring,
-        &mut other,
-    )?;
-    let begin = out.len();
-    put_plan(alloc, plan_of(alloc, types, tree, edit, tokens), out)?;
-    put_unless_same(begin, &other, out)
+fn whole_plan(asked: &Asked, alloc: Global) -> Result<Result<Plan, Refusal>, AllocError> {
+    let edit = asked.edit.copy()?;
+    Ok(plan_of(alloc, &asked.types, &asked.tree, edit, &asked.tokens))
 }
 
-fn put_unless_same(begin: usize, other: &str, out: &mut String) -> Result<(), AllocError> {
-    if out.as_str().get(begin..) == Some(other) {
-        return Ok(());
-    }
-    out.push_str(" but of the change alone: ")?;
-    out.push_str(other)
-}
-
-fn put_change(
-    alloc: Global,
-    types: &Registry,
-    tree: &Tree,
-    edit: Edit,
-    tokens: &[String],
+fn change_plan(
+    asked: &Asked,
     referring: bool,
-    out: &mut String,
-) -> Result<(), AllocError> {
+    alloc: Global,
+) -> Result<Result<Plan, Refusal>, AllocError> {
+    let edit = asked.edit.copy()?;
+    let after = Edited::of(alloc, &asked.tree, &edit)?;
     let assured = Assured {
         typed: true,
         referring,
     };
-    let plan = plan_of_change(alloc, types, tree, edit, tokens, assured);
-    put_plan(alloc, plan, out)
+    Ok(plan_of_change(
+        alloc,
+        &asked.types,
+        &asked.tree,
+        &after,
+        edit,
+        &asked.tokens,
+        assured,
+    ))
 }
 
-fn put_plan(
-    alloc: Global,
-    plan: Result<Plan, Refusal>,
-    out: &mut String,
-) -> Result<(), AllocError> {
+// The answer of both calls, which is the same.
+fn put_both(asked: &Asked, out: &mut Out) {
+    let mut other = Out::new(out.alloc);
+    put_plan(
+        &change_plan(asked, is_referring(asked, out.alloc), out.alloc),
+        &mut other,
+    );
+    let begin = out.text.len();
+    put_plan(&whole_plan(asked, out.alloc), out);
+    put_unless_same(begin, other.text.as_str(), out);
+}
+
+fn is_referring(asked: &Asked, alloc: Global) -> bool {
+    matches!(dangling(alloc, &asked.tree), Ok(None))
+}
+
+fn put_unless_same(begin: usize, other: &str, out: &mut Out) {
+    if out.text.as_str().get(begin..) == Some(other) {
+        return;
+    }
+    out.put(" but of the change alone: ");
+    out.put(other);
+}
+
+fn put_plan(plan: &Result<Result<Plan, Refusal>, AllocError>, out: &mut Out) {
     match plan {
-        Ok(plan) => put_marks(plan.marks.as_slice(), out),
-        Err(refusal) => put_refusal(alloc, &refusal, out),
+        Ok(Ok(plan)) => put_marks(plan.marks.as_slice(), out),
+        Ok(Err(refusal)) => put_refusal(refusal, out),
+        Err(_) => out.is_broken = true,
     }
 }
 
-fn put_marks(marks: &[MarkAt], out: &mut String) -> Result<(), AllocError> {
-    out.push_str("plan")?;
+fn put_marks(marks: &[MarkAt], out: &mut Out) {
+    out.put("plan");
     for mark in marks {
-        put_mark(mark, out)?;
+        put_mark(mark, out);
     }
-    Ok(())
 }
 
-fn put_mark(mark: &MarkAt, out: &mut String) -> Result<(), AllocError> {
-    out.push_str(match &mark.mark {
-        Mark::Exists => " exists:",
-        Mark::Guard => " guard:",
-        Mark::Touch => " touch:",
-        Mark::Prop(_) => " prop:",
-    })?;
+fn put_mark(mark: &MarkAt, out: &mut Out) {
     match &mark.mark {
-        Mark::Prop(name) => put_path(&mark.path.child(name)?, out),
-        _ => put_path(&mark.path, out),
-    }
-}
-
-// A list of writes: ["here",P], ["gone",P], ["put",P,N,V], ["unset",P,N]; ["add",P] or ["add",P,TYPE] is a node with its type,
-// and ["remove",P] a node that goes with each of its properties.
-fn edit_of(alloc: Global, tree: &Tree, text: &str) -> Result<Option<Edit>, AllocError> {
-    let mut writes = List::new(alloc);
-    match json_of(alloc, text)? {
-        Some(json) => {
-            if !push_writes(&mut writes, alloc, tree, items_of(&json))? {
-                return Ok(None);
-            }
-            Ok(Some(Edit { writes }))
-        }
-        None => Ok(None),
-    }
-}
-
-fn push_writes(
-    writes: &mut List<Write>,
-    alloc: Global,
-    tree: &Tree,
-    items: Option<&[Json]>,
-) -> Result<bool, AllocError> {
-    let Some(items) = items else {
-        return Ok(false);
-    };
-    for item in items {
-        if !push_write(writes, alloc, tree, item)? {
-            return Ok(false);
+        Mark::Exists => put_at(" exists:", &mark.path, out),
+        Mark::Guard => put_at(" guard:", &mark.path, out),
+        Mark::Touch => put_at(" touch:", &mark.path, out),
+        Mark::Prop(name) => {
+            out.put(" prop:");
+            put_child(&mark.path, name, out);
         }
     }
-    Ok(true)
 }
 
-fn push_write(
-    writes: &mut List<Write>,
-    alloc: Global,
-    tree: &Tree,
-    item: &Json,
-) -> Result<bool, AllocError> {
-    match items_of(item) {
-        Some([Json::String(word), Json::String(path), rest @ ..]) => {
-            push_at(writes, alloc, tree, word.as_str(), path.as_str(), rest)
-        }
-        _ => Ok(false),
-    }
-}
-
-fn push_at(
-    writes: &mut List<Write>,
-    alloc: Global,
-    tree: &Tree,
-    word: &str,
-    path: &str,
-    rest: &[Json],
-) -> Result<bool, AllocError> {
-    match path_of(alloc, path)? {
-        Some(path) => push_of(writes, alloc, tree, word, &path, rest),
-        None => Ok(false),
-    }
-}
-
-fn push_of(
-    writes: &mut List<Write>,
-    alloc: Global,
-    tree: &Tree,
-    word: &str,
-    path: &Path,
-    rest: &[Json],
-) -> Result<bool, AllocError> {
-    match (word, rest) {
-        ("here", []) => pushed(writes, Write::Here(path.copy()?)),
-        ("gone", []) => pushed(writes, Write::Gone(path.copy()?)),
-        ("add", []) => push_node(writes, alloc, path, "nt:unstructured"),
-        ("add", [Json::String(kind)]) => push_node(writes, alloc, path, kind.as_str()),
-        ("remove", []) => push_removal(writes, path, tree.get(path)),
-        ("put", [Json::String(name), value]) => push_put(writes, alloc, path, name.as_str(), value),
-        ("unset", [Json::String(name)]) => push_unset(writes, alloc, path, name.as_str()),
-        _ => Ok(false),
-    }
-}
-
-fn pushed(writes: &mut List<Write>, write: Write) -> Result<bool, AllocError> {
-    writes.push(write)?;
-    Ok(true)
-}
-
-fn push_node(
-    writes: &mut List<Write>,
-    alloc: Global,
-    path: &Path,
-    kind: &str,
-) -> Result<bool, AllocError> {
-    writes.push(Write::Here(path.copy()?))?;
-    match name_of(alloc, kind)? {
-        Some(kind) => push_type(writes, alloc, path, kind),
-        None => Ok(false),
-    }
-}
-
-fn push_type(
-    writes: &mut List<Write>,
-    alloc: Global,
-    path: &Path,
-    kind: Name,
-) -> Result<bool, AllocError> {
-    let kind = Property::Single(Value::Name(kind));
-    let name = OwnName::PrimaryType.name(alloc)?;
-    pushed(writes, Write::Put(path.copy()?, name, kind))
-}
-
-fn push_removal(
-    writes: &mut List<Write>,
-    path: &Path,
-    node: Option<&Node>,
-) -> Result<bool, AllocError> {
-    writes.push(Write::Gone(path.copy()?))?;
-    match node {
-        Some(node) => push_unsets(writes, path, node),
-        None => Ok(false),
-    }
-}
-
-fn push_unsets(writes: &mut List<Write>, path: &Path, node: &Node) -> Result<bool, AllocError> {
-    for (name, _) in node.props.iter() {
-        writes.push(Write::Unset(path.copy()?, name.copy()?))?;
-    }
-    Ok(true)
-}
-
-fn push_put(
-    writes: &mut List<Write>,
-    alloc: Global,
-    path: &Path,
-    name: &str,
-    value: &Json,
-) -> Result<bool, AllocError> {
-    match (name_of(alloc, name)?, property_of(alloc, value)?) {
-        (Some(name), Some(property)) => pushed(writes, Write::Put(path.copy()?, name, property)),
-        _ => Ok(false),
-    }
-}
-
-fn push_unset(
-    writes: &mut List<Write>,
-    alloc: Global,
-    path: &Path,
-    name: &str,
-) -> Result<bool, AllocError> {
-    match name_of(alloc, name)? {
-        Some(name) => pushed(writes, Write::Unset(path.copy()?, name)),
-        None => Ok(false),
-    }
+fn put_at(word: &str, path: &Path, out: &mut Out) {
+    out.put(word);
+    out.put_path(path);
 }

@@ -1,5 +1,4 @@
 // Identifiers, references, and the histories of versions.
-use crate::rows::{cut, number};
 use crate::shows::{put_found, put_item, put_names, put_writes};
 use jcr_ref::{
     HistoryWrites, by_id, dangling, history_writes, identifier, referrers, version_names,
@@ -7,56 +6,52 @@ use jcr_ref::{
 use jr_path::{Item, Path};
 use jr_rev::RevVec;
 use jr_tree::{Tree, Who};
-use std::alloc::{AllocError, Global};
+use rows::{Out, cut, short};
+use std::alloc::AllocError;
 
 // `identifier` SESSION COUNT, `by_id` TEXT, `referrers` TEXT, `dangling`
-pub(crate) fn add(
-    alloc: Global,
-    tree: &Tree,
-    word: &str,
-    first: &str,
-    rest: &str,
-    out: &mut String,
-) -> Result<(), AllocError> {
+pub(crate) fn add(tree: &Tree, word: &str, first: &str, rest: &str, out: &mut Out) {
     match word {
-        "identifier" => out.push_str(identifier(alloc, number(first), number(rest))?.as_str()),
-        "by_id" => put_found(by_id(alloc, tree, first)?.as_ref(), out),
-        "referrers" => put_items(&referrers(alloc, tree, first)?, out),
-        _ => put_dangling(dangling(alloc, tree)?.as_ref(), out),
+        "identifier" => out.put_made(identifier(out.alloc, short(first), short(rest))),
+        "by_id" => put_found(&by_id(out.alloc, tree, first), out),
+        "referrers" => put_items(&referrers(out.alloc, tree, first), out),
+        _ => put_dangling(&dangling(out.alloc, tree), out),
     }
 }
 
-fn put_dangling(found: Option<&Item>, out: &mut String) -> Result<(), AllocError> {
+fn put_dangling(found: &Result<Option<Item>, AllocError>, out: &mut Out) {
     match found {
-        Some(item) => put_item(item, out),
-        None => out.push_str("none"),
+        Ok(Some(item)) => put_item(item, out),
+        Ok(None) => out.put("none"),
+        Err(_) => out.is_broken = true,
     }
 }
 
-fn put_items(items: &[Item], out: &mut String) -> Result<(), AllocError> {
+fn put_items(items: &Result<Vec<Item>, AllocError>, out: &mut Out) {
+    match items {
+        Ok(items) => put_all(items.as_slice(), out),
+        Err(_) => out.is_broken = true,
+    }
+}
+
+fn put_all(items: &[Item], out: &mut Out) {
     if items.is_empty() {
-        return out.push_str("nothing");
+        return out.put("nothing");
     }
     let mut between = "";
     for item in items {
-        out.push_str(between)?;
-        put_item(item, out)?;
+        out.put(between);
+        put_item(item, out);
         between = " ";
     }
-    Ok(())
 }
 
 // PATH SESSION EARLIER IDS: what the node writes for its history.
-pub(crate) fn add_history(
-    alloc: Global,
-    tree: &Tree,
-    path: &Path,
-    rest: &str,
-    out: &mut String,
-) -> Result<(), AllocError> {
-    match history_writes(alloc, tree, path, &who_of(rest))? {
-        Some(history) => put_history(alloc, &history, out),
-        None => out.push_str("no name"),
+pub(crate) fn add_history(tree: &Tree, path: &Path, rest: &str, out: &mut Out) {
+    match history_writes(out.alloc, tree, path, &who_of(rest)) {
+        Ok(Some(history)) => put_history(&history, out),
+        Ok(None) => out.put("no name"),
+        Err(_) => out.is_broken = true,
     }
 }
 
@@ -64,25 +59,19 @@ fn who_of(text: &str) -> Who {
     let (session, rest) = cut(text);
     let (earlier, ids) = cut(rest);
     Who {
-        session: number(session),
-        earlier: number(earlier),
-        ids: number(ids),
+        session: short(session),
+        earlier: short(earlier),
+        ids: short(ids),
         base: RevVec::start(1),
     }
 }
 
-fn put_history(alloc: Global, history: &HistoryWrites, out: &mut String) -> Result<(), AllocError> {
-    out.push_str("draws ")?;
-    out.push_str(history.drawn.to_string(alloc)?.as_str())?;
-    out.push_str(": ")?;
-    put_writes(alloc, history.writes.as_slice(), out)
+fn put_history(history: &HistoryWrites, out: &mut Out) {
+    out.put_numbered("draws ", u64::from(history.drawn));
+    out.put(": ");
+    put_writes(history.writes.as_slice(), out);
 }
 
-pub(crate) fn add_names(
-    alloc: Global,
-    tree: &Tree,
-    path: &Path,
-    out: &mut String,
-) -> Result<(), AllocError> {
-    put_names(&version_names(alloc, tree, path)?, out)
+pub(crate) fn add_names(tree: &Tree, path: &Path, out: &mut Out) {
+    put_names(&version_names(out.alloc, tree, path), out);
 }

@@ -1,94 +1,92 @@
-// A tree from JSON: an object with a member for each path, an object with a property for each name. `/` is always there.
-use crate::json::json_of;
-use jr_path::{DeepCopy, Name, Path, PathFault};
+// A tree from JSON: an object with a member for each path, an object with a property for each name.
+// `/` is always there.
+use jr_path::{DeepCopy, Path};
 use jr_tree::{Node, Tree};
-use jr_value::{Property, ValueFault};
+use rows::Out;
 use serde_json::{Map, Value as Json};
 use std::alloc::{AllocError, Global};
 
-pub(crate) fn tree_of(alloc: Global, text: &str) -> Result<Option<Tree>, AllocError> {
-    match json_of(alloc, text)? {
-        Some(json) => tree_in(alloc, &json),
-        None => Ok(None),
+pub(crate) fn tree_of(text: &str, out: &mut Out) -> Option<Tree> {
+    match out.json(text) {
+        Some(json) => tree_in(&json, out),
+        None => None,
     }
 }
 
-pub(crate) fn tree_in(alloc: Global, json: &Json) -> Result<Option<Tree>, AllocError> {
+pub(crate) fn tree_in(json: &Json, out: &mut Out) -> Option<Tree> {
     match json {
-        Json::Object(members) => nodes_of(alloc, members),
-        _ => Ok(None),
+        Json::Object(members) => nodes_of(members, out),
+        _ => None,
     }
 }
 
-fn nodes_of(alloc: Global, members: &Map<String, Json>) -> Result<Option<Tree>, AllocError> {
-    let mut tree = Tree::new(alloc);
-    tree.insert(Path::root(alloc), Node::new(alloc))?;
-    if !add_nodes(alloc, &mut tree, members)? {
-        return Ok(None);
+fn nodes_of(members: &Map<String, Json>, out: &mut Out) -> Option<Tree> {
+    let mut tree = Tree::new(out.alloc);
+    let put = tree.insert(Path::root(out.alloc), Node::new(out.alloc));
+    out.note(put);
+    if !add_nodes(&mut tree, members, out) {
+        return None;
     }
-    Ok(Some(tree))
+    Some(tree)
 }
 
 // Puts the nodes, and tells whether they are some.
-pub(crate) fn add_nodes(
-    alloc: Global,
-    tree: &mut Tree,
-    members: &Map<String, Json>,
-) -> Result<bool, AllocError> {
+pub(crate) fn add_nodes(tree: &mut Tree, members: &Map<String, Json>, out: &mut Out) -> bool {
     for (path, json) in members.iter() {
-        if !add_node(alloc, tree, path.as_str(), json)? {
-            return Ok(false);
+        if !add_node(tree, path.as_str(), json, out) {
+            return false;
         }
     }
-    Ok(true)
+    true
 }
 
 // Puts a node with its properties, and tells whether they are some.
-fn add_node(alloc: Global, tree: &mut Tree, path: &str, json: &Json) -> Result<bool, AllocError> {
-    match (path_of(alloc, path)?, json) {
-        (Some(path), Json::Object(members)) => {
-            tree.insert(path.copy()?, Node::new(alloc))?;
-            add_properties(alloc, tree, &path, members)
-        }
-        _ => Ok(false),
+fn add_node(tree: &mut Tree, path: &str, json: &Json, out: &mut Out) -> bool {
+    match (out.path(path), json) {
+        (Some(path), Json::Object(members)) => put_node(tree, &path, members, out),
+        _ => false,
     }
+}
+
+fn put_node(tree: &mut Tree, path: &Path, members: &Map<String, Json>, out: &mut Out) -> bool {
+    let put = insert(tree, path, out.alloc);
+    out.note(put);
+    add_properties(tree, path, members, out)
+}
+
+// Puts a node without properties.
+pub(crate) fn insert(tree: &mut Tree, path: &Path, alloc: Global) -> Result<(), AllocError> {
+    tree.insert(path.copy()?, Node::new(alloc))
 }
 
 fn add_properties(
-    alloc: Global,
     tree: &mut Tree,
     path: &Path,
     members: &Map<String, Json>,
-) -> Result<bool, AllocError> {
+    out: &mut Out,
+) -> bool {
     for (name, json) in members.iter() {
-        match (name_of(alloc, name.as_str())?, property_of(alloc, json)?) {
-            (Some(name), Some(property)) => tree.put(path, name, property)?,
-            _ => return Ok(false),
+        if !put_property(tree, path, name.as_str(), json, out) {
+            return false;
         }
     }
-    Ok(true)
+    true
 }
 
-pub(crate) fn path_of(alloc: Global, text: &str) -> Result<Option<Path>, AllocError> {
-    match Path::parse(alloc, text) {
-        Ok(path) => Ok(Some(path)),
-        Err(PathFault::Memory) => Err(AllocError),
-        Err(_) => Ok(None),
-    }
-}
-
-pub(crate) fn name_of(alloc: Global, text: &str) -> Result<Option<Name>, AllocError> {
-    match Name::parse(alloc, text) {
-        Ok(name) => Ok(Some(name)),
-        Err(PathFault::Memory) => Err(AllocError),
-        Err(_) => Ok(None),
-    }
-}
-
-pub(crate) fn property_of(alloc: Global, json: &Json) -> Result<Option<Property>, AllocError> {
-    match Property::from_json(alloc, json) {
-        Ok(property) => Ok(Some(property)),
-        Err(ValueFault::Memory) => Err(AllocError),
-        Err(_) => Ok(None),
+// Puts a property, and tells whether it is one.
+pub(crate) fn put_property(
+    tree: &mut Tree,
+    path: &Path,
+    name: &str,
+    json: &Json,
+    out: &mut Out,
+) -> bool {
+    match (out.name(name), out.property(json)) {
+        (Some(name), Some(property)) => {
+            let put = tree.put(path, name, property);
+            out.note(put);
+            true
+        }
+        _ => false,
     }
 }

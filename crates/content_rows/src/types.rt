@@ -1,183 +1,138 @@
 // Node types: definitions that come behind the built-in ones, and what a tree breaks of them.
-use crate::json::{items_of, json_of};
-use crate::rows::cut;
-use crate::shows::{put_names, put_path};
-use crate::trees::{name_of, tree_of};
+use crate::shows::put_all;
+use crate::trees::tree_of;
+use jr_builtin::builtin;
+use jr_defs::{NoType, read_type};
+use jr_edited::Edited;
 use jr_path::{DeepCopy, Name, Path};
+use jr_rules::{TypesOut, check};
 use jr_tree::Tree;
-use jr_types::{NoType, Registry, TypeDef, TypeFault, TypesOut, read_type};
+use jr_types::{Registry, TypeDef, TypeFault};
+use rows::{Out, cut, items_of};
 use serde_json::Value as Json;
-use std::alloc::{AllocError, Global};
+use std::alloc::AllocError;
 
-// `type` DEFINITIONS, `violation` DEFINITIONS, `subtypes` NAME DEFINITIONS, `is_a` NAME NAME, `added` NAMES
-pub(crate) fn add(
-    alloc: Global,
-    word: &str,
-    asked: &str,
-    given: &str,
-    out: &mut String,
-) -> Result<(), AllocError> {
-    let mut registry = Registry::builtin(alloc)?;
-    add_of_types(alloc, &mut registry, word, asked, given, out)
+// `type` DEFINITIONS, `violation` DEFINITIONS, `subtypes` NAME DEFINITIONS, `is_a` NAME NAME,
+// `added` NAMES
+pub(crate) fn add(word: &str, asked: &str, given: &str, out: &mut Out) {
+    match builtin(out.alloc) {
+        Ok(registry) => add_of_types(registry, word, asked, given, out),
+        Err(_) => out.is_broken = true,
+    }
 }
 
-fn add_of_types(
-    alloc: Global,
-    registry: &mut Registry,
-    word: &str,
-    asked: &str,
-    given: &str,
-    out: &mut String,
-) -> Result<(), AllocError> {
+fn add_of_types(registry: Registry, word: &str, asked: &str, given: &str, out: &mut Out) {
+    let mut registry = registry;
     match word {
-        "added" => add_again(alloc, registry, asked, out),
-        "is_a" => add_is_a(alloc, registry, asked, out),
-        "subtypes" => add_subtypes(alloc, registry, asked, out),
-        "type" => add_type(alloc, registry, asked, out),
-        _ => add_violation(alloc, registry, asked, given, out),
+        "added" => add_again(&registry, asked, out),
+        "is_a" => add_is_a(&registry, asked, out),
+        "subtypes" => add_subtypes(&mut registry, asked, out),
+        "type" => add_type(&mut registry, asked, out),
+        _ => add_violation(&mut registry, asked, given, out),
     }
 }
 
-fn add_type(
-    alloc: Global,
-    registry: &mut Registry,
-    definitions: &str,
-    out: &mut String,
-) -> Result<(), AllocError> {
-    if register(alloc, registry, definitions, out)? {
-        return out.push_str("read");
-    }
-    Ok(())
-}
-
-// Registers the definitions of a list, and tells whether all are; puts the refusal of the first that isn't.
-pub(crate) fn register(
-    alloc: Global,
-    registry: &mut Registry,
-    definitions: &str,
-    out: &mut String,
-) -> Result<bool, AllocError> {
-    match json_of(alloc, definitions)? {
-        Some(json) => register_all(alloc, registry, items_of(&json), out),
-        None => refused(out, "no list"),
+fn add_type(registry: &mut Registry, definitions: &str, out: &mut Out) {
+    if register(registry, definitions, out) {
+        out.put("read");
     }
 }
 
-fn register_all(
-    alloc: Global,
-    registry: &mut Registry,
-    items: Option<&[Json]>,
-    out: &mut String,
-) -> Result<bool, AllocError> {
+// Registers the definitions of a list, and tells whether all are; puts the refusal of the first
+// that isn't.
+pub(crate) fn register(registry: &mut Registry, definitions: &str, out: &mut Out) -> bool {
+    match out.json(definitions) {
+        Some(json) => register_all(registry, items_of(&json), out),
+        None => refused("no list", out),
+    }
+}
+
+fn register_all(registry: &mut Registry, items: Option<&[Json]>, out: &mut Out) -> bool {
     let Some(items) = items else {
-        return refused(out, "no list");
+        return refused("no list", out);
     };
     for item in items {
-        if !register_one(alloc, registry, item, out)? {
-            return Ok(false);
+        if !register_one(registry, item, out) {
+            return false;
         }
     }
-    Ok(true)
+    true
 }
 
-pub(crate) fn register_one(
-    alloc: Global,
-    registry: &mut Registry,
-    item: &Json,
-    out: &mut String,
-) -> Result<bool, AllocError> {
-    match read_type(alloc, item) {
-        Ok(definition) => register_type(alloc, registry, definition, out),
-        Err(NoType::NoDefinition) => refused(out, "no definition"),
-        Err(NoType::Memory) => Err(AllocError),
+pub(crate) fn register_one(registry: &mut Registry, item: &Json, out: &mut Out) -> bool {
+    match read_type(out.alloc, item) {
+        Ok(definition) => put_added(&registry.add(definition), out),
+        Err(NoType::NoDefinition) => refused("no definition", out),
+        Err(NoType::Memory) => broken(out),
     }
 }
 
-fn register_type(
-    alloc: Global,
-    registry: &mut Registry,
-    definition: TypeDef,
-    out: &mut String,
-) -> Result<bool, AllocError> {
-    match registry.add(definition) {
-        Ok(()) => Ok(true),
+// Whether the type is registered; puts the rule that it breaks.
+fn put_added(added: &Result<(), TypeFault>, out: &mut Out) -> bool {
+    match added {
+        Ok(()) => true,
         Err(TypeFault::BadType(rule)) => {
-            out.push_str("bad type ")?;
-            refused(out, rule.to_string(alloc)?.as_str())
+            out.put_numbered("bad type ", u64::from(*rule));
+            false
         }
-        Err(TypeFault::Memory) => Err(AllocError),
+        Err(TypeFault::Memory) => broken(out),
     }
 }
 
-fn refused(out: &mut String, text: &str) -> Result<bool, AllocError> {
-    out.push_str(text)?;
-    Ok(false)
+fn refused(text: &str, out: &mut Out) -> bool {
+    out.put(text);
+    false
+}
+
+fn broken(out: &mut Out) -> bool {
+    out.is_broken = true;
+    false
 }
 
 // Built-in types, added to a registry of none one behind another.
-fn add_again(
-    alloc: Global,
-    builtin: &Registry,
-    names: &str,
-    out: &mut String,
-) -> Result<(), AllocError> {
-    let mut registry = Registry::new(alloc)?;
-    if register_names(alloc, builtin, &mut registry, names, out)? {
-        return out.push_str("added");
+fn add_again(builtin: &Registry, names: &str, out: &mut Out) {
+    match Registry::new(out.alloc) {
+        Ok(registry) => add_names(builtin, registry, names, out),
+        Err(_) => out.is_broken = true,
     }
-    Ok(())
 }
 
-fn register_names(
-    alloc: Global,
-    builtin: &Registry,
-    registry: &mut Registry,
-    names: &str,
-    out: &mut String,
-) -> Result<bool, AllocError> {
+fn add_names(builtin: &Registry, registry: Registry, names: &str, out: &mut Out) {
+    let mut registry = registry;
     for name in names.split(' ') {
-        if !register_name(alloc, builtin, registry, name, out)? {
-            return Ok(false);
+        if !register_name(builtin, &mut registry, name, out) {
+            return;
         }
     }
-    Ok(true)
+    out.put("added");
 }
 
-fn register_name(
-    alloc: Global,
-    builtin: &Registry,
-    registry: &mut Registry,
-    name: &str,
-    out: &mut String,
-) -> Result<bool, AllocError> {
-    match name_of(alloc, name)? {
-        Some(name) => register_copy(alloc, builtin.get(&name), registry, out),
-        None => refused(out, "no name"),
+fn register_name(builtin: &Registry, registry: &mut Registry, name: &str, out: &mut Out) -> bool {
+    match out.name(name) {
+        Some(name) => register_copy(builtin.get(&name), registry, out),
+        None => refused("no name", out),
     }
 }
 
-fn register_copy(
-    alloc: Global,
-    definition: Option<&TypeDef>,
-    registry: &mut Registry,
-    out: &mut String,
-) -> Result<bool, AllocError> {
+fn register_copy(definition: Option<&TypeDef>, registry: &mut Registry, out: &mut Out) -> bool {
     match definition {
-        Some(definition) => register_type(alloc, registry, definition.copy()?, out),
-        None => refused(out, "no type"),
+        Some(definition) => put_added(&add_copy(definition, registry), out),
+        None => refused("no type", out),
     }
 }
 
-fn add_is_a(
-    alloc: Global,
-    registry: &Registry,
-    names: &str,
-    out: &mut String,
-) -> Result<(), AllocError> {
+fn add_copy(definition: &TypeDef, registry: &mut Registry) -> Result<(), TypeFault> {
+    match definition.copy() {
+        Ok(copy) => registry.add(copy),
+        Err(_) => Err(TypeFault::Memory),
+    }
+}
+
+fn add_is_a(registry: &Registry, names: &str, out: &mut Out) {
     let (name, of) = cut(names);
-    match (name_of(alloc, name)?, name_of(alloc, of)?) {
-        (Some(name), Some(of)) => out.push_str(truth(registry.is_a(&name, &of))),
-        _ => out.push_str("no name"),
+    match (out.name(name), out.name(of)) {
+        (Some(name), Some(of)) => out.put(truth(registry.is_a(&name, &of))),
+        _ => out.put("no name"),
     }
 }
 
@@ -185,102 +140,75 @@ fn truth(is: bool) -> &'static str {
     if is { "true" } else { "false" }
 }
 
-fn add_subtypes(
-    alloc: Global,
-    registry: &mut Registry,
-    asked: &str,
-    out: &mut String,
-) -> Result<(), AllocError> {
+fn add_subtypes(registry: &mut Registry, asked: &str, out: &mut Out) {
     let (name, definitions) = cut(asked);
-    if register(alloc, registry, definitions, out)? {
-        return add_subtypes_of(alloc, registry, name, out);
-    }
-    Ok(())
-}
-
-fn add_subtypes_of(
-    alloc: Global,
-    registry: &Registry,
-    name: &str,
-    out: &mut String,
-) -> Result<(), AllocError> {
-    match name_of(alloc, name)? {
-        Some(name) => put_some_names(&registry.subtypes(&name)?, out),
-        None => out.push_str("no name"),
+    if register(registry, definitions, out) {
+        add_subtypes_of(registry, name, out);
     }
 }
 
-fn put_some_names(names: &[Name], out: &mut String) -> Result<(), AllocError> {
+fn add_subtypes_of(registry: &Registry, name: &str, out: &mut Out) {
+    match out.name(name) {
+        Some(name) => put_subtypes(&registry.subtypes(&name), out),
+        None => out.put("no name"),
+    }
+}
+
+fn put_subtypes(names: &Result<Vec<Name>, AllocError>, out: &mut Out) {
+    match names {
+        Ok(names) => put_some_names(names.as_slice(), out),
+        Err(_) => out.is_broken = true,
+    }
+}
+
+fn put_some_names(names: &[Name], out: &mut Out) {
     if names.is_empty() {
-        return out.push_str("nothing");
+        out.put("nothing");
     }
-    put_names(names, out)
+    put_all(names, out);
 }
 
 // What the tree breaks first, by path, by rule, and then by item.
-fn add_violation(
-    alloc: Global,
-    registry: &mut Registry,
-    definitions: &str,
-    given: &str,
-    out: &mut String,
-) -> Result<(), AllocError> {
-    if register(alloc, registry, definitions, out)? {
-        return check_given(alloc, registry, given, out);
-    }
-    Ok(())
-}
-
-fn check_given(
-    alloc: Global,
-    registry: &Registry,
-    given: &str,
-    out: &mut String,
-) -> Result<(), AllocError> {
-    match tree_of(alloc, given)? {
-        Some(tree) => check_all(alloc, registry, &tree, out),
-        None => out.push_str("no tree"),
+fn add_violation(registry: &mut Registry, definitions: &str, given: &str, out: &mut Out) {
+    if register(registry, definitions, out) {
+        check_given(registry, given, out);
     }
 }
 
-fn check_all(
-    alloc: Global,
-    registry: &Registry,
-    tree: &Tree,
-    out: &mut String,
-) -> Result<(), AllocError> {
+fn check_given(registry: &Registry, given: &str, out: &mut Out) {
+    match tree_of(given, out) {
+        Some(tree) => check_all(registry, &tree, out),
+        None => out.put("no tree"),
+    }
+}
+
+fn check_all(registry: &Registry, tree: &Tree, out: &mut Out) {
     for (path, _) in tree.iter() {
-        if !check_one(alloc, registry, tree, path, out)? {
-            return Ok(());
+        if !check_one(registry, tree, path, out) {
+            return;
         }
     }
-    out.push_str("ok")
+    out.put("ok");
 }
 
 // Whether the node passes; puts what it breaks first.
-fn check_one(
-    alloc: Global,
-    registry: &Registry,
-    tree: &Tree,
-    path: &Path,
-    out: &mut String,
-) -> Result<bool, AllocError> {
+fn check_one(registry: &Registry, tree: &Tree, path: &Path, out: &mut Out) -> bool {
     if !tree.has(path) {
-        return refused(out, "no node");
+        return refused("no node", out);
     }
-    match registry.check(tree, path) {
-        Ok(()) => Ok(true),
-        Err(fault) => put_violation(alloc, &fault, out),
+    match check(registry, &Edited::unchanged(out.alloc, tree), path) {
+        Ok(()) => true,
+        Err(fault) => put_violation(&fault, out),
     }
 }
 
-fn put_violation(alloc: Global, fault: &TypesOut, out: &mut String) -> Result<bool, AllocError> {
+fn put_violation(fault: &TypesOut, out: &mut Out) -> bool {
     let TypesOut::Violation { node, item, rule } = fault else {
-        return Err(AllocError);
+        return broken(out);
     };
-    out.push_str(rule.to_string(alloc)?.as_str())?;
-    out.push(' ')?;
-    put_path(node, out)?;
-    out.push(' ')?;
-    refused(out, item.as_str())
+    out.put_number(u64::from(*rule));
+    out.put(" ");
+    out.put_path(node);
+    out.put(" ");
+    refused(item.as_str(), out)
 }

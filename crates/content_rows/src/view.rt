@@ -3,18 +3,19 @@
 ghost use Rattle.std.specs.Prelude.{◌≡◌, IfOk, IsFalse, IsTrue};
 ghost use Rattle.std.specs.FinMap.{is_sorted};
 ghost use Rattle.std.specs.FinMap.Entries.{below_all};
-ghost use Rattle.jcr_view.specs.Needs.{reads_all};
+ghost use Rattle.jcr_read.specs.Reading.{reads_all};
 ghost use Rattle.jr_part.specs.Parts.{LacksNothing};
 ghost use Rattle.jr_part.specs.declared.need.Need.TheVariants as need;
 ghost use Rattle.jr_path.specs.Names.{name_cmp};
 
-use crate::json::{items_of, json_of};
 use crate::shows::{put_refusal, put_writes};
 use crate::trees::{tree_in, tree_of};
 use crate::types::register_one;
+use crate::versions::tell_behind;
 use jcr_trans::Command;
 use jcr_view::{Pending, is_viewed};
 use jr_args::command;
+use jr_builtin::builtin;
 use jr_items::OwnName;
 use jr_part::{Need, Part};
 use jr_path::{DeepCopy, List, Name, Path};
@@ -22,6 +23,7 @@ use jr_rev::{RevVec, Revision};
 use jr_tree::{Node, Refusal, Tree, Who};
 use jr_types::Registry;
 use jr_value::{Property, Value};
+use rows::{Out, items_of, small};
 use serde_json::Value as Json;
 use std::alloc::{AllocError, Global};
 
@@ -41,33 +43,30 @@ struct Site {
 // `["who",SESSION,IDS]`, `["edit"]`, which tells what is pending, `["save"]`, `["refresh",KEEP]`,
 // `["forget"]`, after which nothing is known of the tree, and `["base",TREE]`: another tree at the
 // base, on which what is pending is made again.
-pub(crate) fn add(
-    alloc: Global,
-    steps: &str,
-    given: &str,
-    out: &mut String,
-) -> Result<(), AllocError> {
-    match (json_of(alloc, steps)?, tree_of(alloc, given)?) {
-        (Some(steps), Some(tree)) => add_all(alloc, items_of(&steps), &tree, out),
-        _ => out.push_str("no commands"),
+pub(crate) fn add(steps: &str, given: &str, out: &mut Out) {
+    match (out.json(steps), tree_of(given, out)) {
+        (Some(steps), Some(tree)) => add_all(items_of(&steps), site_on(&tree, out.alloc), out),
+        _ => out.put("no commands"),
     }
 }
 
-fn add_all(
-    alloc: Global,
-    steps: Option<&[Json]>,
-    tree: &Tree,
-    out: &mut String,
-) -> Result<(), AllocError> {
-    let mut site = site_on(alloc, based(alloc, tree)?)?;
-    for step in steps.unwrap_or(&[]) {
-        add_step(alloc, &mut site, step, out)?;
+fn add_all(steps: Option<&[Json]>, site: Result<Site, AllocError>, out: &mut Out) {
+    match site {
+        Ok(site) => add_steps(steps.unwrap_or(&[]), site, out),
+        Err(_) => out.is_broken = true,
     }
-    Ok(())
 }
 
-fn site_on(alloc: Global, base: Tree) -> Result<Site, AllocError> {
-    let types = Registry::builtin(alloc)?;
+fn add_steps(steps: &[Json], site: Site, out: &mut Out) {
+    let mut site = site;
+    for step in steps {
+        add_step(&mut site, step, out);
+    }
+}
+
+fn site_on(tree: &Tree, alloc: Global) -> Result<Site, AllocError> {
+    let types = builtin(alloc)?;
+    let base = based(tree, alloc)?;
     Ok(Site {
         types,
         base,
@@ -99,95 +98,71 @@ fn at_time(time: u64) -> Revision {
 
 // The tree with the start as the birth of each node. The root is an nt:unstructured where no type
 // is given.
-fn based(alloc: Global, tree: &Tree) -> Result<Tree, AllocError> {
+fn based(tree: &Tree, alloc: Global) -> Result<Tree, AllocError> {
     let mut base = Tree::new(alloc);
     for (path, node) in tree.iter() {
-        base.insert(path.copy()?, first_node(node)?)?;
+        insert_first(&mut base, path, node)?;
     }
-    type_root(alloc, tree, &mut base)?;
+    type_root(tree, &mut base, alloc)?;
     Ok(base)
 }
 
-fn first_node(node: &Node) -> Result<Node, AllocError> {
+fn insert_first(base: &mut Tree, path: &Path, node: &Node) -> Result<(), AllocError> {
     let props = node.props.copy()?;
-    Ok(Node {
-        props,
-        born: Some(at_time(0)),
-    })
+    let born = Some(at_time(0));
+    base.insert(path.copy()?, Node { props, born })
 }
 
-fn type_root(alloc: Global, tree: &Tree, base: &mut Tree) -> Result<(), AllocError> {
+fn type_root(tree: &Tree, base: &mut Tree, alloc: Global) -> Result<(), AllocError> {
     let name = OwnName::PrimaryType.name(alloc)?;
-    let root = Path::root(alloc);
-    if tree.property(&root, &name).is_some() {
+    if tree.property(&Path::root(alloc), &name).is_some() {
         return Ok(());
     }
-    let kind = Value::Name(OwnName::Unstructured.name(alloc)?);
-    base.put(&root, name, Property::Single(kind))
+    let kind = Property::Single(Value::Name(OwnName::Unstructured.name(alloc)?));
+    base.put(&Path::root(alloc), name, kind)
 }
 
-fn add_step(
-    alloc: Global,
-    site: &mut Site,
-    step: &Json,
-    out: &mut String,
-) -> Result<(), AllocError> {
+fn add_step(site: &mut Site, step: &Json, out: &mut Out) {
     match items_of(step) {
-        Some([Json::String(word), rest @ ..]) => {
-            add_of(alloc, site, word.as_str(), rest, step, out)
-        }
-        _ => out.push_str("no step"),
+        Some([Json::String(word), rest @ ..]) => add_of(site, word.as_str(), rest, step, out),
+        _ => out.put("no step"),
     }
 }
 
-fn add_of(
-    alloc: Global,
-    site: &mut Site,
-    word: &str,
-    rest: &[Json],
-    step: &Json,
-    out: &mut String,
-) -> Result<(), AllocError> {
+fn add_of(site: &mut Site, word: &str, rest: &[Json], step: &Json, out: &mut Out) {
     match (word, rest) {
-        ("define", [definition]) => define(alloc, &mut site.types, definition, out),
-        ("save", []) => save(alloc, site),
-        ("edit", []) => tell_edit(alloc, site, out),
-        ("refresh", [Json::Bool(keep)]) => refresh(alloc, site, *keep),
-        ("forget", []) => {
-            site.part = Part::new(alloc);
-            Ok(())
-        }
-        ("base", [tree]) => move_base(alloc, site, tree, out),
-        ("who", [session, ids]) => {
-            site.who.session = small(session);
-            site.who.ids = small(ids);
-            Ok(())
-        }
-        _ => tell(alloc, site, step, out),
+        ("define", [definition]) => define(&mut site.types, definition, out),
+        ("save", []) => save(site, out),
+        ("edit", []) => tell_edit(site, out),
+        ("refresh", [Json::Bool(keep)]) => refresh(site, *keep, out),
+        ("forget", []) => site.part = Part::new(out.alloc),
+        ("base", [tree]) => move_base(site, tree, out),
+        ("who", [session, ids]) => set_who(&mut site.who, small(session), small(ids)),
+        _ => tell(site, step, out),
     }
 }
 
-fn small(number: &Json) -> u32 {
-    u32::try_from(number.as_u64().unwrap_or(0)).unwrap_or(0)
+fn set_who(who: &mut Who, session: u32, ids: u32) {
+    who.session = session;
+    who.ids = ids;
 }
 
-fn define(
-    alloc: Global,
-    types: &mut Registry,
-    definition: &Json,
-    out: &mut String,
-) -> Result<(), AllocError> {
-    register_one(alloc, types, definition, out)?;
-    Ok(())
+fn define(types: &mut Registry, definition: &Json, out: &mut Out) {
+    register_one(types, definition, out);
 }
 
 // What is pending comes to the tree by the next revision, which the base then has too.
-fn save(alloc: Global, site: &mut Site) -> Result<(), AllocError> {
+fn save(site: &mut Site, out: &mut Out) {
+    let saved = saved(site);
+    out.note(saved);
+    begin(site, out.alloc);
+}
+
+fn saved(site: &mut Site) -> Result<(), AllocError> {
     let edit = site.pending.edit()?;
     let revision = next_revision(&site.who.base);
     site.base.apply(&edit, Some(revision))?;
     site.who.base.raise(revision);
-    begin(alloc, site);
     Ok(())
 }
 
@@ -199,101 +174,104 @@ fn next_revision(base: &RevVec) -> Revision {
 }
 
 // Nothing is known of the tree, and nothing is pending.
-fn begin(alloc: Global, site: &mut Site) {
+fn begin(site: &mut Site, alloc: Global) {
     site.part = Part::new(alloc);
     site.pending = Pending::new(alloc);
 }
 
-fn refresh(alloc: Global, site: &mut Site, keep: bool) -> Result<(), AllocError> {
+fn refresh(site: &mut Site, keep: bool, out: &mut Out) {
     if keep {
-        return rebase(alloc, site);
+        rebase(site, out);
+    } else {
+        begin(site, out.alloc);
     }
-    begin(alloc, site);
-    Ok(())
 }
 
-fn move_base(
-    alloc: Global,
-    site: &mut Site,
-    tree: &Json,
-    out: &mut String,
-) -> Result<(), AllocError> {
-    match tree_in(alloc, tree)? {
-        Some(tree) => {
-            site.base = based(alloc, &tree)?;
-            rebase(alloc, site)
+fn move_base(site: &mut Site, tree: &Json, out: &mut Out) {
+    match tree_in(tree, out) {
+        Some(tree) => set_base(site, based(&tree, out.alloc), out),
+        None => out.put("no tree"),
+    }
+}
+
+fn set_base(site: &mut Site, base: Result<Tree, AllocError>, out: &mut Out) {
+    match base {
+        Ok(base) => {
+            site.base = base;
+            rebase(site, out);
         }
-        None => out.push_str("no tree"),
+        Err(_) => out.is_broken = true,
     }
 }
 
-fn rebase(alloc: Global, site: &mut Site) -> Result<(), AllocError> {
-    site.part = Part::new(alloc);
-    let needs = site.pending.needs_to_rebase()?;
-    load_all(alloc, needs.as_slice(), &site.base, &mut site.part)?;
-    site.pending.rebase(&site.part)
+fn rebase(site: &mut Site, out: &mut Out) {
+    site.part = Part::new(out.alloc);
+    let rebased = rebased(&mut site.pending, &site.base, &mut site.part, out.alloc);
+    out.note(rebased);
 }
 
-fn tell_edit(alloc: Global, site: &mut Site, out: &mut String) -> Result<(), AllocError> {
-    let edit = site.pending.edit()?;
-    tell_behind(site, out)?;
-    put_writes(alloc, edit.writes.as_slice(), out)
-}
-
-fn tell_behind(site: &mut Site, out: &mut String) -> Result<(), AllocError> {
-    if site.told {
-        out.push_str(" > ")?;
-    }
-    site.told = true;
-    Ok(())
-}
-
-fn tell(alloc: Global, site: &mut Site, step: &Json, out: &mut String) -> Result<(), AllocError> {
-    tell_behind(site, out)?;
-    match command(alloc, step) {
-        Ok(command) => tell_command(alloc, site, &command, out),
-        Err(_) => out.push_str("no command"),
-    }
-}
-
-fn tell_command(
+fn rebased(
+    pending: &mut Pending,
+    base: &Tree,
+    part: &mut Part,
     alloc: Global,
-    site: &mut Site,
-    command: &Command,
-    out: &mut String,
 ) -> Result<(), AllocError> {
-    load(
-        alloc,
+    let needs = pending.needs_to_rebase()?;
+    load_all(needs.as_slice(), base, part, alloc)?;
+    pending.rebase(part)
+}
+
+fn tell_edit(site: &mut Site, out: &mut Out) {
+    tell_behind(&mut site.told, out);
+    match site.pending.edit() {
+        Ok(edit) => put_writes(edit.writes.as_slice(), out),
+        Err(_) => out.is_broken = true,
+    }
+}
+
+fn tell(site: &mut Site, step: &Json, out: &mut Out) {
+    tell_behind(&mut site.told, out);
+    match command(out.alloc, step) {
+        Ok(command) => tell_command(site, &command, out),
+        Err(_) => out.put("no command"),
+    }
+}
+
+fn tell_command(site: &mut Site, command: &Command, out: &mut Out) {
+    let loaded = load(
         &site.pending,
         command,
         &site.who,
         &site.base,
         &mut site.part,
-    )?;
+        out.alloc,
+    );
+    out.note(loaded);
     run(
-        alloc,
         &mut site.pending,
         command,
         &site.part,
         &site.types,
         &mut site.who,
         out,
-    )
+    );
 }
 
 fn run(
-    alloc: Global,
     pending: &mut Pending,
     command: &Command,
     part: &Part,
     types: &Registry,
     who: &mut Who,
-    out: &mut String,
-) -> Result<(), AllocError> {
-    if !is_viewed(command) || lacks_tree(command, part)? {
-        return out.push_str("no view command");
+    out: &mut Out,
+) {
+    if !is_viewed(command) {
+        return out.put("no view command");
     }
-    put_reply(alloc, pending.run(command, part, types, who), out)
+    match lacks_tree(command, part) {
+        Ok(false) => put_reply(&pending.run(command, part, types, who), out),
+        _ => out.put("no view command"),
+    }
 }
 
 // Whether the command goes over the whole tree, and some of it isn't known.
@@ -313,44 +291,56 @@ fn lacks_some(part: &Part) -> Result<bool, AllocError>
     Ok(part.lacks(&Need::All)?.is_some())
 }
 
-fn put_reply(
-    alloc: Global,
-    reply: Result<String, Refusal>,
-    out: &mut String,
-) -> Result<(), AllocError> {
+fn put_reply(reply: &Result<String, Refusal>, out: &mut Out) {
     match reply {
-        Ok(text) => out.push_str(text.as_str()),
-        Err(refusal) => put_refusal(alloc, &refusal, out),
+        Ok(text) => out.put(text.as_str()),
+        Err(refusal) => put_refusal(refusal, out),
     }
 }
 
 // Takes one thing after another from the tree, until nothing lacks that the command needs.
 fn load(
-    alloc: Global,
     pending: &Pending,
     command: &Command,
     who: &Who,
     base: &Tree,
     part: &mut Part,
+    alloc: Global,
 ) -> Result<(), AllocError> {
     for _ in 0..100_000_u32 {
         let needs = pending.needs(command, part, who)?;
-        match lacking(needs.as_slice(), part)? {
-            Some(need) => take(alloc, base, &need, part)?,
-            None => return Ok(()),
+        if !take_first(needs.as_slice(), base, part, alloc)? {
+            return Ok(());
         }
     }
     Ok(())
 }
 
-fn load_all(alloc: Global, needs: &[Need], base: &Tree, part: &mut Part) -> Result<(), AllocError> {
+fn load_all(needs: &[Need], base: &Tree, part: &mut Part, alloc: Global) -> Result<(), AllocError> {
     for _ in 0..100_000_u32 {
-        match lacking(needs, part)? {
-            Some(need) => take(alloc, base, &need, part)?,
-            None => return Ok(()),
+        if !take_first(needs, base, part, alloc)? {
+            return Ok(());
         }
     }
     Ok(())
+}
+
+// Takes from the tree what lacks first, and tells whether something does.
+fn take_first(
+    needs: &[Need],
+    base: &Tree,
+    part: &mut Part,
+    alloc: Global,
+) -> Result<bool, AllocError> {
+    match lacking(needs, part)? {
+        Some(need) => taken(base, &need, part, alloc),
+        None => Ok(false),
+    }
+}
+
+fn taken(base: &Tree, need: &Need, part: &mut Part, alloc: Global) -> Result<bool, AllocError> {
+    take(base, need, part, alloc)?;
+    Ok(true)
 }
 
 fn lacking(needs: &[Need], part: &Part) -> Result<Option<Need>, AllocError> {
@@ -363,10 +353,10 @@ fn lacking(needs: &[Need], part: &Part) -> Result<Option<Need>, AllocError> {
     Ok(None)
 }
 
-fn take(alloc: Global, base: &Tree, need: &Need, part: &mut Part) -> Result<(), AllocError> {
+fn take(base: &Tree, need: &Need, part: &mut Part, alloc: Global) -> Result<(), AllocError> {
     match need {
         Need::Node(path) => take_node(base, path, part),
-        Need::Children(path) => take_children(alloc, base, path, part),
+        Need::Children(path) => take_children(base, path, part, alloc),
         _ => Ok(()),
     }
 }
@@ -379,10 +369,10 @@ fn take_node(base: &Tree, path: &Path, part: &mut Part) -> Result<(), AllocError
 }
 
 fn take_children(
-    alloc: Global,
     base: &Tree,
     path: &Path,
     part: &mut Part,
+    alloc: Global,
 ) -> Result<(), AllocError> {
     let names = dated_children(alloc, base, path)?;
     if rise(names.as_slice()) {
@@ -398,10 +388,18 @@ fn dated_children(
 ) -> Result<List<(Name, Option<Revision>)>, AllocError> {
     let mut dated = List::new(alloc);
     for name in &base.children(path)? {
-        let birth = birth_of(base, path, name)?;
-        dated.push((name.copy()?, birth))?;
+        dated.push(dated_child(base, path, name)?)?;
     }
     Ok(dated)
+}
+
+fn dated_child(
+    base: &Tree,
+    path: &Path,
+    name: &Name,
+) -> Result<(Name, Option<Revision>), AllocError> {
+    let birth = birth_of(base, path, name)?;
+    Ok((name.copy()?, birth))
 }
 
 fn birth_of(base: &Tree, path: &Path, name: &Name) -> Result<Option<Revision>, AllocError> {

@@ -4,3 +4,4 @@ pub mod Sound
 pub mod Collecting
 pub mod Steps
 pub mod Sessions
+pub mod Unclashing

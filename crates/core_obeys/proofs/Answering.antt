@@ -35,7 +35,7 @@ use Rattle.jcr_law.specs.State.{Call, call_of, command_at}
 use Rattle.jcr_law.proofs.Answered.{answered_after}
 use Rattle.core_obeys.specs.Answering.{AnswersThroughout, HasReason, NameOthers, Accepts, AnswersDraw, accepting, clashing, hindered, AnswersEdit, refusing, unplanned, unwriting, undone, IsHindered, lacking, halted}
 use Rattle.core_obeys.specs.NoPlans.{NoPlan}
-use Rattle.core_obeys.specs.Product.{IsUnclashing}
+use Rattle.core_clash.specs.Unclashing.{IsUnclashing}
 use Rattle.core_obeys.proofs.Planned.{NoneDangles, due_why, never_both}
 use Rattle.core_obeys.proofs.Unclashing.{cause_of, named_others, unrefused}
 

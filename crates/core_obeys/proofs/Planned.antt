@@ -22,7 +22,7 @@ use Rattle.jr_items.specs.Names.{version_storage}
 use Rattle.jr_items.specs.Refusals.{over_limit, own_rule, refusal, refusal_at, when}
 use Rattle.jr_types.specs.declared.TypeDef.{TypeDef}
 use Rattle.jr_types.specs.Rules.{TypesOk, child_at, child_faults, node_types, property_faults}
-use Rattle.jr_types.specs.Violations.{Violation, child_names, failing_at, first_violation, property_names, violations_at}
+use Rattle.jr_rules.specs.Violations.{Violation, child_names, failing_at, first_violation, property_names, violations_at}
 use Rattle.jcr_lock.specs.Locks.{frozen_by, locked_by}
 use Rattle.jcr_ref.specs.References.{ReferencesOk, dangling}
 use Rattle.oak_clash.specs.declared.mark.MarkAt.{MarkAt}

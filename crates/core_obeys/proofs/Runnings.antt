@@ -14,9 +14,9 @@ use Rattle.jr_tree.specs.declared.edit.Write.{Write}
 use Rattle.jr_tree.specs.declared.edit.Write.TheVariants.{Here, Put}
 use Rattle.jr_tree.specs.Trees.{initial_tree}
 use Rattle.jr_items.specs.Names.{primary_type, lock_owner}
-use Rattle.jr_types.specs.Builtin.{builtin}
+use Rattle.jr_builtin.specs.Builtin.{builtin}
 use Rattle.jr_types.specs.Rules.{TypesOk}
-use Rattle.jr_types.proofs.Rows.{initial_meets_rules}
+use Rattle.jr_rules.proofs.Rows.{initial_meets_rules}
 use Rattle.jcr_plan.specs.Marks.{marks_of}
 use Rattle.jcr_plan.specs.Plans.{PlanOk}
 use Rattle.jcr_plan.proofs.Accepted.{accepted}
@@ -29,7 +29,7 @@ use Rattle.oak_machine.specs.Runs.{AreNodes, IsNode, any_said}
 use Rattle.oak_machine.proofs.Deciding.{apart_decided}
 use Rattle.core_merge.specs.Orders.{tree_by_commits}
 use Rattle.core_obeys.specs.Plans.{base_tree, Tokens, IsObeyingRun}
-use Rattle.core_obeys.specs.Product.{IsUnclashing}
+use Rattle.core_clash.specs.Unclashing.{IsUnclashing}
 use Rattle.core_obeys.proofs.Obeys.{types_obeyed}
 use Rattle.core_obeys.proofs.Starting.{plans_proper}
 

@@ -36,7 +36,7 @@ use Rattle.jcr_law.specs.Law.{no_text}
 use Rattle.jcr_law.specs.State.{Call}
 use Rattle.jcr_law.specs.Tasks.{stopped_at}
 use Rattle.core_obeys.specs.Answering.{NameOthers}
-use Rattle.core_obeys.specs.Product.{IsUnclashing}
+use Rattle.core_clash.specs.Unclashing.{IsUnclashing}
 
 module _ (clusters : ℕ) (sessions : List ℕ) (nodes : AreNodes clusters sessions) (begin : Begin) (starts : Starts) (says : Says) where
   -- what was drawn keeps its draw

@@ -24,7 +24,7 @@ use Rattle.jcr_law.specs.Since.{draw_since, stop_position}
 use Rattle.jcr_law.specs.State.{Call, call_of, command_at}
 use Rattle.jcr_law.specs.Tasks.{stopped_at}
 use Rattle.core_obeys.specs.NoPlans.{NoPlan}
-use Rattle.core_obeys.specs.Product.{IsUnclashing}
+use Rattle.core_clash.specs.Unclashing.{IsUnclashing}
 
 -- each refusal of a commit names another draw
 abbrev pub NameOthers : Past → Type 0

@@ -1,10 +1,8 @@
 -- Runs by the law of the product.
-use Rattle.std.specs.Prelude.{◌≡◌, ◌≢◌, None, IsFalse, IsTrue}
-use Rattle.jr_rev.specs.declared.revision.Revision.{Revision}
+use Rattle.std.specs.Prelude.{◌≡◌, None}
 use Rattle.jr_tree.specs.Trees.{initial_tree}
 use Rattle.jr_types.specs.Rules.{TypesOk}
-use Rattle.oak_machine.specs.Commits.{are_clashing, is_drawn, is_in_base}
-use Rattle.oak_machine.specs.History.{History, Past}
+use Rattle.oak_machine.specs.History.{History}
 use Rattle.oak_machine.specs.Runs.{AreNodes, IsRunOf}
 use Rattle.jcr_law.specs.declared.law.JcrLaw.{JcrLaw}
 use Rattle.jcr_law.specs.Lasting.{says_of, starts_of}
@@ -22,8 +20,3 @@ pub record IsProductRun (law : JcrLaw) (h : History) : Type 0 where
   pub begun : h.begin ≡ None
   pub run : IsRunOf (starts_of law) (says_of law) h.clusters h.sessions None h.past
   pub typed : TypesOk law.types initial_tree
-
--- r clashes with no other draw outside its base
-abbrev pub IsUnclashing : Past → Revision → Type 0
-IsUnclashing past r = (o : Revision) → r ≢ o → IsTrue (is_drawn past o)
-    → IsFalse (is_in_base past r o) → IsFalse (are_clashing past r o)

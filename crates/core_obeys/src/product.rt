@@ -25,7 +25,8 @@ ghost use Rattle.core_merge.specs.Orders.{tree_by_commits};
 ghost use Rattle.core_obeys.specs.Answering.{NameOthers};
 ghost use Rattle.core_obeys.specs.Obeying.{ObeysThroughout};
 ghost use Rattle.core_obeys.specs.Plans.{tokens_at_draw};
-ghost use Rattle.core_obeys.specs.Product.{IsProductRun, IsUnclashing, tokens_by};
+ghost use Rattle.core_clash.specs.Unclashing.{IsUnclashing};
+ghost use Rattle.core_obeys.specs.Product.{IsProductRun, tokens_by};
 ghost use Rattle.core_obeys.specs.Tidy.{IsTidy};
 
 /// In each run by the law of the product the tree of all commits, in the order in which they were made, is a tree and meets

@@ -19,7 +19,7 @@ use Rattle.jr_tree.specs.Trees.{Nodes, children_of, is_child_of}
 use Rattle.jr_items.specs.Items.{child_path, is_checked_in}
 use Rattle.jcr_ref.specs.Histories.{history_of, with_version}
 use Rattle.jcr_version.specs.Edits.{base_name, checked_in_version}
-use Rattle.jcr_version.specs.Histories.{version_name}
+use Rattle.jcr_frozen.specs.Histories.{version_name}
 
 -- the last name of a path of names is a name
 last_named : (p : Path) (n : Name) → All IsName (p ++ n ∷ []) → IsName n

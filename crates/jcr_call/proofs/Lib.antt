@@ -3,5 +3,6 @@ mod Childless
 mod Identifiers
 mod Improper
 mod Replying
+mod Standing
 mod Written
 pub mod QueryRead

@@ -8,8 +8,8 @@ use Rattle.jr_value.specs.declared.value.Value.{Value}
 use Rattle.jr_tree.specs.Trees.{Nodes}
 use Rattle.jr_types.specs.declared.TypeDef.{TypeDef}
 use Rattle.sql_parse.specs.Grammar.{IsParsed}
-use Rattle.sql_parse.specs.declared.fault.SqlFault.{SqlFault}
-use Rattle.sql_parse.specs.declared.fault.SqlFault.TheVariants as fault
+use Rattle.sql_pieces.specs.declared.fault.SqlFault.{SqlFault}
+use Rattle.sql_pieces.specs.declared.fault.SqlFault.TheVariants as fault
 use Rattle.sql_parse.specs.declared.query.Query.{Query}
 use Rattle.jcr_law.specs.Queries.{QueryAnswers, cast, rows, unknown_selector, untyped, wrong}
 use Rattle.jcr_law.specs.State.{Call}

@@ -9,7 +9,7 @@ use Rattle.jr_rev.specs.declared.revision.Revision.{Revision}
 use Rattle.jr_tree.specs.declared.edit.Edit.{Edit}
 use Rattle.jr_tree.specs.declared.edit.Write.{Write}
 use Rattle.jr_tree.specs.Edits.{IsProper}
-use Rattle.jr_tree.specs.Trees.{Nodes}
+use Rattle.jr_tree.specs.Trees.{IsTree, Nodes}
 use Rattle.jr_tree.specs.declared.shared.Refusal.{Refusal}
 use Rattle.jr_items.specs.Names.{version_storage}
 use Rattle.jr_items.specs.Refusals.{IsTheRefusal, own_rule}
@@ -29,7 +29,7 @@ use Rattle.jcr_law.specs.Proper.{is_proper}
 use Rattle.jcr_law.proofs.Proper.{proper_of}
 use Rattle.jcr_law.specs.State.{Call, accepted, next_id, with_token}
 use Rattle.jcr_call.specs.Comings.{IsAcceptedOf, IsTold, reply_to_due}
-use Rattle.jcr_call.specs.Footings.{IsOn, RefusesAlike}
+use Rattle.jcr_call.specs.Footings.{IsAsKnown, IsOn, RefusesAlike}
 use Rattle.jcr_call.specs.declared.footing.Footing.{Footing}
 use Rattle.jcr_call.specs.declared.coming.Accepted.{Accepted}
 
@@ -69,6 +69,10 @@ untold_tokens c (command.Restore p v) due is no_lock = refl
 untold_tokens c m due is no_lock = absurd (none-some due is)
 
 -- ---- the plan
+
+-- what is lent is a tree, where that is known
+pub tree_lent : (f : Footing) (c : Call) → IsOn f c → IsAsKnown f c → f.is_tree ≡ true → IsTree f.base.now
+tree_lent f c on known is = subst IsTree (sym on.base) (known.tree is)
 
 -- a refusal by what is lent is the plan's of the call
 pub refused_alike : (f : Footing) (c : Call) (tokens : List (List ℕ)) (ws : List Write) → IsOn f c → RefusesAlike f.assured c

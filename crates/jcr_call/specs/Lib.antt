@@ -3,4 +3,5 @@ pub mod Comings
 pub mod Dues
 pub mod Footings
 pub mod Reading
+pub mod Rooted
 pub mod Unset

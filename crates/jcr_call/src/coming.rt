@@ -2,6 +2,7 @@
 ghost use Rattle.std.specs.Prelude.{◌≡◌, ◌≢◌, [], IfErr, IfOk, List, None, Ok, Result, Some, map, string_bytes, true};
 ghost use Rattle.jr_tree.specs.declared.edit.Write.{Write};
 ghost use Rattle.jr_tree.specs.declared.shared.Refusal.{Refusal};
+ghost use Rattle.jr_tree.specs.Edits.{applied};
 ghost use Rattle.jr_items.specs.Refusals.{IsTheRefusal};
 ghost use Rattle.jcr_plan.specs.Marks.{marks_of};
 ghost use Rattle.jcr_plan.specs.Refusals.{plan_refusal};
@@ -9,11 +10,10 @@ ghost use Rattle.jcr_trans.specs.Answers.{ShowsText};
 ghost use Rattle.jcr_trans.specs.Texts.{answer_text};
 ghost use Rattle.jcr_version.specs.Edits.{checked_in_version};
 ghost use Rattle.jcr_law.specs.Commits.{edit_due, version_answer};
-ghost use Rattle.jcr_law.specs.Proper.{is_proper};
 ghost use Rattle.jcr_law.specs.State.{Call, next_id, with_token};
 ghost use Rattle.jcr_call.specs.Comings.{IsAcceptedOf, IsComing, IsTold, reply_to_due, said_of};
 ghost use Rattle.jcr_call.specs.Dues.{due_of};
-ghost use Rattle.jcr_call.specs.Footings.{IsOn, RefusesAlike};
+ghost use Rattle.jcr_call.specs.Footings.{IsAsKnown, IsOn, IsProperOn};
 
 use crate::due::Due;
 use crate::footing::Footing;
@@ -23,6 +23,7 @@ use crate::replies::{cause_text, improper_reply, unwritten_reply, version_reply}
 use crate::tokens::{all, strings, with_token};
 use jcr_plan::{Plan, plan_of_change};
 use jcr_trans::{Command, refusal_text, text_reply};
+use jr_edited::Edited;
 use jr_path::{List, Path, Text};
 use jr_tree::{Edit, Refusal};
 use std::alloc::{AllocError, Global};
@@ -44,9 +45,9 @@ pub struct Accepted {
 }
 
 /// What a command comes to by what is due for it (JSR 283, 10.11 Saving): a reply, where that is a
-/// refusal, has nothing to write, isn't proper or can't be planned; else a plan. It makes the tree
-/// after the edit. Of the rules of types and of the references there it goes over those alone that
-/// the edit touches, as far as the footing is assured of the tree before it.
+/// refusal, has nothing to write, isn't proper or can't be planned; else a plan. Of the tree after
+/// the edit, the rules of types and the references there it looks at what the edit touches alone, as
+/// far as the footing is assured of the tree before it.
 pub fn come(
     alloc: Global,
     footing: &Footing<'_>,
@@ -54,10 +55,10 @@ pub fn come(
     due: Due,
 ) -> Result<Coming, AllocError>
     // what it says is the reply to what is due
-    ensures reply { (c : Call) → IsOn footing.now c → RefusesAlike footing.now.assured c
+    ensures reply { (c : Call) → IsOn footing.now c → IsAsKnown footing.now c
         → IfOk result (λ coming. said_of coming ≡ reply_to_due c command.now (due_of due)) }
     // what is due for the command comes to this
-    ensures comes { (c : Call) → IsOn footing.now c → RefusesAlike footing.now.assured c
+    ensures comes { (c : Call) → IsOn footing.now c → IsAsKnown footing.now c
         → edit_due c command.now ≡ Some (due_of due)
         → IfOk result (IsComing c command.now (due_of due)) }
 {
@@ -74,17 +75,42 @@ fn come_edit(
     command: &Command,
     edit: Edit,
 ) -> Result<Coming, AllocError>
-    ensures reply { (c : Call) → IsOn footing.now c → RefusesAlike footing.now.assured c
+    ensures reply { (c : Call) → IsOn footing.now c → IsAsKnown footing.now c
         → IfOk result (λ coming. said_of coming ≡ reply_to_due c command.now (Ok edit.writes)) }
-    ensures comes { (c : Call) → IsOn footing.now c → RefusesAlike footing.now.assured c
+    ensures comes { (c : Call) → IsOn footing.now c → IsAsKnown footing.now c
         → edit_due c command.now ≡ Some (Ok edit.writes)
         → IfOk result (IsComing c command.now (Ok edit.writes)) }
 {
     if edit.writes.is_empty() {
         return Ok(Coming::Said(unwritten_reply(alloc, footing.base, command)?));
     }
-    if is_proper(alloc, footing.base, &edit)? {
-        come_plan(alloc, footing, command, edit)
+    come_written(
+        alloc,
+        footing,
+        command,
+        &Edited::of(alloc, footing.base, &edit)?,
+        edit,
+    )
+}
+
+// What a command comes to by an edit that writes something, where the tree after it is at hand.
+fn come_written(
+    alloc: Global,
+    footing: &Footing<'_>,
+    command: &Command,
+    after: &Edited<'_>,
+    edit: Edit,
+) -> Result<Coming, AllocError>
+    requires some { edit.writes ≢ [] }
+    requires after { after.now ≡ applied None footing.now.base.now edit.writes }
+    ensures reply { (c : Call) → IsOn footing.now c → IsAsKnown footing.now c
+        → IfOk result (λ coming. said_of coming ≡ reply_to_due c command.now (Ok edit.writes)) }
+    ensures comes { (c : Call) → IsOn footing.now c → IsAsKnown footing.now c
+        → edit_due c command.now ≡ Some (Ok edit.writes)
+        → IfOk result (IsComing c command.now (Ok edit.writes)) }
+{
+    if is_proper(alloc, footing.is_tree, footing.base, after, &edit)? {
+        come_plan(alloc, footing, command, after, edit)
     } else {
         Ok(Coming::Said(improper_reply(alloc)?))
     }
@@ -95,18 +121,20 @@ fn come_plan(
     alloc: Global,
     footing: &Footing<'_>,
     command: &Command,
+    after: &Edited<'_>,
     edit: Edit,
 ) -> Result<Coming, AllocError>
     requires some { edit.writes ≢ [] }
-    requires proper { is_proper footing.now.base.now edit.writes ≡ true }
-    ensures reply { (c : Call) → IsOn footing.now c → RefusesAlike footing.now.assured c
+    requires after { after.now ≡ applied None footing.now.base.now edit.writes }
+    requires proper { IsProperOn footing.now edit.writes true }
+    ensures reply { (c : Call) → IsOn footing.now c → IsAsKnown footing.now c
         → IfOk result (λ coming. said_of coming ≡ reply_to_due c command.now (Ok edit.writes)) }
-    ensures comes { (c : Call) → IsOn footing.now c → RefusesAlike footing.now.assured c
+    ensures comes { (c : Call) → IsOn footing.now c → IsAsKnown footing.now c
         → edit_due c command.now ≡ Some (Ok edit.writes)
         → IfOk result (IsComing c command.now (Ok edit.writes)) }
 {
     let tokens = strings(alloc, footing.tokens)?;
-    match planned(alloc, footing, edit, tokens.as_slice()) {
+    match planned(alloc, footing, after, edit, tokens.as_slice()) {
         Ok(plan) => Ok(Coming::Planned(plan, told(alloc, footing, command)?)),
         Err(refusal) => Ok(Coming::Said(cause_text(alloc, &refusal)?)),
     }
@@ -116,15 +144,17 @@ fn come_plan(
 fn planned(
     alloc: Global,
     footing: &Footing<'_>,
+    after: &Edited<'_>,
     edit: Edit,
     tokens: &[String],
 ) -> Result<Plan, Refusal>
+    requires { after.now ≡ applied None footing.now.base.now edit.writes }
     ensures edit { IfOk result (λ plan. plan.edit ≡ edit) }
     ensures marks { IfOk result (λ plan. plan.marks ≡ marks_of footing.now.base.now edit.writes) }
-    ensures accepted { (c : Call) → IsOn footing.now c → RefusesAlike footing.now.assured c
+    ensures accepted { (c : Call) → IsOn footing.now c → IsAsKnown footing.now c
         → IfOk result (λ plan. plan_refusal c.types c.base (map string_bytes tokens.now) edit.writes
         ≡ None) }
-    ensures refused { (c : Call) → IsOn footing.now c → RefusesAlike footing.now.assured c
+    ensures refused { (c : Call) → IsOn footing.now c → IsAsKnown footing.now c
         → IfErr result (IsTheRefusal
         (plan_refusal c.types c.base (map string_bytes tokens.now) edit.writes)) }
 {
@@ -132,6 +162,7 @@ fn planned(
         alloc,
         footing.types,
         footing.base,
+        after,
         edit,
         tokens,
         footing.assured,

@@ -10,6 +10,7 @@ mod ids;
 mod proper;
 mod queries;
 mod replies;
+mod rooted;
 mod tokens;
 mod versions;
 

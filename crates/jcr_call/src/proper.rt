@@ -1,94 +1,47 @@
 // Whether writes are proper on a tree.
-ghost use Rattle.std.specs.Prelude.{◌≡◌, ◌∷◌, ◌++◌, [], IfOk, List, None, OnOk, false, true};
-ghost use Rattle.std.specs.FinMap.{is_sorted};
-ghost use Rattle.std.specs.List.{list_all, list_any};
-ghost use Rattle.std.specs.Option.{option_map_or};
-ghost use Rattle.jr_path.specs.Names.{path_cmp};
+ghost use Rattle.std.specs.Prelude.{◌≡◌, ◌∷◌, ◌++◌, [], IfOk, IsTrue, List, None, OnOk, false};
+ghost use Rattle.std.specs.List.{list_all};
+ghost use Rattle.std.specs.Option.{option_copied, option_map_or};
 ghost use Rattle.jr_value.specs.Values.{same_property};
-ghost use Rattle.jr_tree.specs.Edits.{applied, is_change, is_emptied, is_once, is_unset_of};
+ghost use Rattle.jr_tree.specs.Edits.{applied, is_change, is_emptied, is_once};
 ghost use Rattle.jr_tree.specs.declared.edit.Write.{Write};
-ghost use Rattle.jr_tree.specs.Trees.{has_names_in_order, has_parent, property_at};
-ghost use Rattle.jcr_law.specs.Proper.{is_proper, is_tree};
+ghost use Rattle.jr_tree.specs.Trees.{IsTree};
+ghost use Rattle.jcr_law.specs.Proper.{is_proper};
 ghost use Rattle.jcr_call.specs.Unset.{AreUnset, has_property};
 
+use crate::rooted::leaves_tree;
+use jr_edited::Edited;
 use jr_path::{DeepCopy, Item, Keyed, Name, Path};
 use jr_tree::{Edit, Tree, Write};
 use jr_value::Property;
 use std::alloc::{AllocError, Global};
 use std::collections::BTreeSet;
 
-/// Whether an edit is proper on a tree: the tree after it is one, it writes each item once and
-/// changes it, and it unsets each property of a node that goes (JSR 283, 10.11 Saving).
-pub fn is_proper(alloc: Global, tree: &Tree, edit: &Edit) -> Result<bool, AllocError>
-    ensures { IfOk result (λ b. b ≡ is_proper tree.now edit.now.writes) }
+/// Whether an edit is proper on a tree: the tree after it, which the caller lends, is one, it writes
+/// each item once and changes it, and it unsets each property of a node that goes (JSR 283, 10.11
+/// Saving). Where the tree before is known to be one, it looks only at what is written.
+pub fn is_proper(
+    alloc: Global,
+    known: bool,
+    tree: &Tree,
+    after: &Edited<'_>,
+    edit: &Edit,
+) -> Result<bool, AllocError>
+    requires { after.now ≡ applied None tree.now edit.now.writes }
+    ensures { (IsTrue known → IsTree tree.now)
+        → IfOk result (λ b. b ≡ is_proper tree.now edit.now.writes) }
 {
-    let after = tree_after(tree, edit)?;
     let writes = edit.writes.as_slice();
-    if !is_tree(alloc, &after)? {
+    if !leaves_tree(alloc, known, after, writes)? {
         return Ok(false);
     }
     if !is_once(alloc, writes)? {
         return Ok(false);
     }
-    if !all_change(tree, &after, writes) {
+    if !all_change(tree, after, writes) {
         return Ok(false);
     }
     all_emptied(alloc, tree, writes)
-}
-
-// The tree after an edit.
-fn tree_after(tree: &Tree, edit: &Edit) -> Result<Tree, AllocError>
-    ensures { IfOk result (λ after. after ≡ applied None tree.now edit.now.writes) }
-{
-    let mut after = tree.copy()?;
-    after.apply(edit, None)?;
-    Ok(after)
-}
-
-// Whether the root is there, and the parent of each node; paths and names stand in order by
-// themselves.
-fn is_tree(alloc: Global, tree: &Tree) -> Result<bool, AllocError>
-    ensures { IfOk result (λ b. b ≡ is_tree tree.now) }
-{
-    if !tree.has(&Path::root(alloc)) {
-        return Ok(false);
-    }
-    know_order(tree);
-    have_parents(tree)
-}
-
-// Its paths stand in order, and so do the names of each node's properties. It does nothing: callers
-// learn the facts.
-fn know_order(tree: &Tree)
-    ensures paths { is_sorted path_cmp tree.now ≡ true }
-    ensures names { has_names_in_order tree.now ≡ true }
-{
-    let _ = tree.len();
-    for (_, node) in tree.iter() {
-        let _ = node.props.len();
-    }
-}
-
-// Whether the parent of each node is there.
-fn have_parents(tree: &Tree) -> Result<bool, AllocError>
-    ensures { IfOk result (λ b. b ≡ list_all (λ e. has_parent tree.now e.0) tree.now) }
-{
-    for (path, _) in tree.iter() {
-        if !has_parent(tree, path)? {
-            return Ok(false);
-        }
-    }
-    Ok(true)
-}
-
-// Whether the node above a path is there; the root needs none.
-fn has_parent(tree: &Tree, path: &Path) -> Result<bool, AllocError>
-    ensures { IfOk result (λ b. b ≡ has_parent tree.now path.now) }
-{
-    match path.parent()? {
-        Some(parent) => Ok(tree.has(&parent)),
-        None => Ok(true),
-    }
 }
 
 // Whether each item is written once.
@@ -105,20 +58,21 @@ fn is_once(alloc: Global, writes: &[Write]) -> Result<bool, AllocError>
 }
 
 // Whether each write changes its item from one tree to another.
-fn all_change(old: &Tree, new: &Tree, writes: &[Write]) -> bool
+fn all_change(old: &Tree, new: &Edited<'_>, writes: &[Write]) -> bool
     ensures { result ≡ list_all (is_change old.now new.now) writes.now }
 {
     writes.iter().all(|write| is_change(old, new, write))
 }
 
-fn is_change(old: &Tree, new: &Tree, write: &Write) -> bool
+fn is_change(old: &Tree, new: &Edited<'_>, write: &Write) -> bool
     ensures { result ≡ is_change old.now new.now write.now }
 {
     match write {
         Write::Here(path) => !old.has(path) && new.has(path),
         Write::Gone(path) => old.has(path) && !new.has(path),
         Write::Put(path, name, property) => {
-            !shows(old, path, name, property) && shows(new, path, name, property)
+            !is_same(old.property(path, name), property)
+                && is_same(new.property(path, name), property)
         }
         Write::Unset(path, name) => {
             old.property(path, name).is_some() && new.property(path, name).is_none()
@@ -126,12 +80,11 @@ fn is_change(old: &Tree, new: &Tree, write: &Write) -> bool
     }
 }
 
-// Whether the property of that name of the node at a path is the same as this one.
-fn shows(tree: &Tree, path: &Path, name: &Name, property: &Property) -> bool
-    ensures { result ≡ option_map_or (same_property property.now)
-        (property_at tree.now path.now name.now) false }
+// Whether the property is there, and the same as this one.
+fn is_same(found: Option<&Property>, property: &Property) -> bool
+    ensures { result ≡ option_map_or (same_property property.now) (option_copied found.entry) false }
 {
-    match tree.property(path, name) {
+    match found {
         Some(found) => property == found,
         None => false,
     }

@@ -18,7 +18,8 @@ use jr_tree::Tree;
 use jr_types::Registry;
 use jr_value::Value;
 use sql_eval::{Row, rows_text};
-use sql_parse::{Query, SqlFault, parse};
+use sql_parse::{Query, parse};
+use sql_pieces::SqlFault;
 use sql_plan::rows_fast;
 use std::alloc::{AllocError, Global};
 

@@ -9,7 +9,8 @@ ghost use Rattle.jcr_ref.specs.Histories.{history_of};
 ghost use Rattle.jcr_ref.specs.References.{identifier_of};
 ghost use Rattle.jcr_version.specs.Edits.{checked_in_version};
 
-use jcr_version::{checked_in_version, own_child};
+use jcr_frozen::own_child;
+use jcr_version::checked_in_version;
 use jr_items::{OwnName, has_mixin, is_flag, one_text};
 use jr_path::{Name, Path, PathFault};
 use jr_tree::Tree;

@@ -16,8 +16,8 @@ use Rattle.oak_machine.specs.History.{History}
 use Rattle.sql_parse.specs.Answers.{AreSame}
 use Rattle.sql_parse.specs.Grammar.{IsParsed}
 use Rattle.sql_parse.specs.Trees.{Asked, asked_of}
-use Rattle.sql_parse.specs.declared.fault.SqlFault.{SqlFault}
-use Rattle.sql_parse.specs.declared.fault.SqlFault.TheVariants as fault
+use Rattle.sql_pieces.specs.declared.fault.SqlFault.{SqlFault}
+use Rattle.sql_pieces.specs.declared.fault.SqlFault.TheVariants as fault
 use Rattle.sql_parse.specs.declared.query.Query.{Query}
 use Rattle.sql_parse.proofs.OneQuery.{one_answer}
 use Rattle.sql_eval.specs.declared.row.Row.{Row}

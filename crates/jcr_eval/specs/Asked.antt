@@ -6,8 +6,8 @@ use Rattle.jr_tree.specs.Trees.{Nodes}
 use Rattle.jr_types.specs.declared.TypeDef.{TypeDef}
 use Rattle.jr_value.specs.declared.value.Value.{Value}
 use Rattle.sql_parse.specs.Grammar.{IsParsed}
-use Rattle.sql_parse.specs.declared.fault.SqlFault.{SqlFault}
-use Rattle.sql_parse.specs.declared.fault.SqlFault.TheVariants as fault
+use Rattle.sql_pieces.specs.declared.fault.SqlFault.{SqlFault}
+use Rattle.sql_pieces.specs.declared.fault.SqlFault.TheVariants as fault
 use Rattle.sql_parse.specs.declared.query.Query.{Query}
 use Rattle.jcr_call.specs.Reading.{AnswersRead}
 use Rattle.jcr_past.specs.Shown.{is_refusal}

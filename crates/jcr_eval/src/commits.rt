@@ -12,7 +12,7 @@ ghost use Rattle.jcr_law.specs.Law.{no_text};
 ghost use Rattle.jcr_law.specs.State.{next_id};
 ghost use Rattle.jcr_call.specs.Comings.{reply_to_due};
 ghost use Rattle.jcr_call.specs.Dues.{due_of};
-ghost use Rattle.jcr_call.specs.Footings.{IsOn, RefusesAlike};
+ghost use Rattle.jcr_call.specs.Footings.{IsAsKnown, IsOn};
 ghost use Rattle.jcr_past.specs.Calls.{called};
 ghost use Rattle.jcr_eval.specs.Causes.{CommitCause, clash_reply, committed_reply, due_reply, is_seen_commit, reply_to_draw, uncommitted_reply};
 
@@ -111,13 +111,14 @@ fn edit_due(
 // What a command is run on. The journal may be any, so that nothing is assured of the tree.
 fn footing<'a>(types: &'a Registry, call: &'a Call) -> Footing<'a>
     ensures on { IsOn result (called types.now call.now) }
-    ensures alike { RefusesAlike result.assured (called types.now call.now) }
+    ensures assured { IsAsKnown result (called types.now call.now) }
 {
     Footing {
         types,
         who: &call.who,
         base: &call.base,
         tokens: call.state.tokens.as_slice(),
+        is_tree: false,
         assured: Assured {
             typed: false,
             referring: false,

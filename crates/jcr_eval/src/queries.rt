@@ -3,7 +3,7 @@ ghost use Rattle.std.specs.Prelude.{◌≡◌, ◌≢◌, ◌↔◌, IfOk, IsTru
 ghost use Rattle.oak_machine.specs.History.{history_of};
 ghost use Rattle.jr_items.specs.Refusals.{no_query, no_type, wrong_kind};
 ghost use Rattle.jr_types.specs.Types.{subtypes};
-ghost use Rattle.sql_parse.specs.declared.fault.SqlFault.TheVariants.{Memory};
+ghost use Rattle.sql_pieces.specs.declared.fault.SqlFault.TheVariants.{Memory};
 ghost use Rattle.sql_eval.specs.RowTexts.{rows_data};
 ghost use Rattle.sql_eval.specs.Rows.{AreRows};
 ghost use Rattle.jcr_trans.specs.Texts.{ok_text};
@@ -22,7 +22,8 @@ use jr_types::Registry;
 use jr_value::{Kind, Value};
 use oak_machine::Journal;
 use sql_eval::{Row, rows, rows_are_one, rows_text};
-use sql_parse::{Query, SqlFault, parse};
+use sql_parse::{Query, parse};
+use sql_pieces::SqlFault;
 use std::alloc::{AllocError, Global};
 
 pub(crate) fn query_says(

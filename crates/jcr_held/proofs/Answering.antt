@@ -21,9 +21,9 @@ use Rattle.jcr_trans.specs.Texts.{answer_text}
 use Rattle.jcr_trans.specs.declared.command.Command.{Command}
 use Rattle.jcr_trans.specs.declared.command.Command.TheVariants as command
 use Rattle.jcr_view.specs.Needs.{needs_of}
-use Rattle.jcr_view.specs.Outcomes.{Evaluated, Outcome, eval, is_viewed, is_writing, made_outcome, outcome, shown, shown_outcome, written}
+use Rattle.jcr_view.specs.Outcomes.{Evaluated, Outcome, eval, is_viewed, is_writing, made_outcome, outcome, shown_outcome, written}
+use Rattle.jcr_read.specs.Reading.{refused, shown}
 use Rattle.jcr_view.specs.Parts.{IsPartOf}
-use Rattle.jcr_view.specs.Reading.{refused}
 use Rattle.jcr_law.specs.declared.state.State.{State}
 use Rattle.jcr_law.specs.State.{Call, accepted, counted, is_ok_text, used, viewed}
 use Rattle.jcr_call.specs.Calls.{call_after, with_state}

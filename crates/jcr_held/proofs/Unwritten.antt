@@ -199,7 +199,8 @@ refuses None text h ok = none-some _ h
 refuses (Some r) text h ok =
     true≢false (sym ok ∙ sym (ap (λ (o : Option (List ℕ)). option_map_or is_ok_text o false) h))
 
-base_tree : (c : Call) (x : Held) → Holds c x → IsTree c.base
+-- the tree of a call that something is held of is one
+pub base_tree : (c : Call) (x : Held) → Holds c x → IsTree c.base
 base_tree c x h = by x.is_kept h.view
   where
     by : (b : Bool) → HoldsView c x.part x.pending b → IsTree c.base

@@ -2,7 +2,7 @@
 use Rattle.std.specs.Prelude.{◌≡◌, ℕ, ◌+◌, IsTrue, min, true}
 use Rattle.jr_rev.specs.declared.vector.RevVec.{RevVec}
 use Rattle.jr_part.specs.Parts.{nothing_known}
-use Rattle.jcr_held.specs.References.{is_asked}
+use Rattle.jcr_held.specs.References.{are_asked}
 use Rattle.jcr_held.specs.declared.held.Held.{Held}
 use Rattle.jcr_held.specs.declared.references.References.TheVariants as references
 
@@ -22,7 +22,7 @@ pub record Readies (old new : Held) : Type 0 where
   pub types : new.types ≡ old.types
   pub who : new.who ≡ old.who
   pub part : new.part ≡ old.part
-  pub references : IsTrue (is_asked old.references) → new.references ≡ old.references
+  pub references : IsTrue (are_asked old.references) → new.references ≡ old.references
   pub tokens : new.tokens ≡ old.tokens
 
 -- the base is at a vector, of whose tree nothing is known, nor of its references; what is pending is

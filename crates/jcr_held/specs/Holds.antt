@@ -13,7 +13,7 @@ use Rattle.jcr_view.specs.Parts.{IsPartOf}
 use Rattle.jcr_view.specs.Rebases.{tree_again}
 use Rattle.jcr_law.specs.State.{Call}
 use Rattle.jcr_held.specs.Comes.{commits}
-use Rattle.jcr_held.specs.References.{HoldsReferences, is_asked}
+use Rattle.jcr_held.specs.References.{HoldsReferences, are_asked}
 use Rattle.jcr_held.specs.declared.held.Held.{Held}
 
 -- what is known and pending makes the view: pending over the tree at the base, or, kept from an
@@ -46,4 +46,4 @@ pub record IsReady (x : Held) (m : Command) : Type 0 where
 
 -- before a command that commits it was asked whether a reference of the tree at the base dangles
 abbrev pub HasAsked : Held → Command → Type 0
-HasAsked x m = IsTrue (commits m) → IsTrue (is_asked x.references)
+HasAsked x m = IsTrue (commits m) → IsTrue (are_asked x.references)

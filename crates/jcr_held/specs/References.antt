@@ -13,10 +13,10 @@ HoldsReferences t references.Named = ReferencesOk t
 HoldsReferences t references.Dangling = IsTrue (is_some (dangling t))
 
 -- whether one dangles was asked, or is known without
-abbrev pub is_asked : References → Bool
-is_asked references.Unasked = false
-is_asked references.Named = true
-is_asked references.Dangling = true
+abbrev pub are_asked : References → Bool
+are_asked references.Unasked = false
+are_asked references.Named = true
+are_asked references.Dangling = true
 
 -- each is known to name a node
 abbrev pub are_named : References → Bool

@@ -7,7 +7,7 @@ ghost use Rattle.jr_overlay.specs.Overlays.{edit_of};
 ghost use Rattle.jr_types.specs.Rules.{TypesOk};
 ghost use Rattle.jcr_trans.specs.declared.command.Command.TheVariants.{Query};
 ghost use Rattle.jcr_call.specs.Dues.{due_of};
-ghost use Rattle.jcr_call.specs.Footings.{IsOn, RefusesAlike};
+ghost use Rattle.jcr_call.specs.Footings.{IsAsKnown, IsOn};
 ghost use Rattle.jcr_law.specs.Commits.{edit_due};
 ghost use Rattle.jcr_law.specs.Queries.{QueryAnswers};
 ghost use Rattle.jcr_law.specs.State.{Call};
@@ -66,20 +66,21 @@ impl Held {
         Ok(Some(Due::Edited(edit)))
     }
 
-    // What commands that commit are run on. Of the tree it is assured that it meets the rules of its
-    // types, and that each REFERENCE names a node where that is known.
+    // What commands that commit are run on. Of the tree it is assured that it is one and meets the rules
+    // of its types, and that each REFERENCE names a node where that is known.
     fn footing(&self) -> Footing<'_>
         requires settled { IsFalse self.now.is_kept }
         requires known { LacksNothing self.now.part need.All }
         ensures on { (c : Call) → Holds c self.now → IsOn result c }
-        ensures alike { (c : Call) → Holds c self.now → TypesOk c.types c.base
-            → RefusesAlike result.assured c }
+        ensures assured { (c : Call) → Holds c self.now → TypesOk c.types c.base
+            → IsAsKnown result c }
     {
         Footing {
             types: &self.types,
             who: &self.who,
             base: self.part.whole(),
             tokens: self.tokens.as_slice(),
+            is_tree: true,
             assured: Assured {
                 typed: true,
                 referring: are_named(self.references),

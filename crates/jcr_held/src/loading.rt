@@ -10,7 +10,7 @@ ghost use Rattle.jcr_view.specs.Rounds.{is_of_one_node};
 ghost use Rattle.jcr_law.specs.State.{Call};
 ghost use Rattle.jcr_held.specs.Alike.{AreAlike, Readies};
 ghost use Rattle.jcr_held.specs.Holds.{HasAsked, Holds, IsReady, asks_for};
-ghost use Rattle.jcr_held.specs.References.{is_asked};
+ghost use Rattle.jcr_held.specs.References.{are_asked};
 
 use crate::Held;
 use crate::committing::commits;
@@ -124,8 +124,8 @@ impl Held {
     fn ask_once(&mut self) -> Result<(), AllocError>
         requires settled { IsFalse self.old.is_kept }
         requires known { LacksNothing self.old.part need.All }
-        ensures asked { OnOk result (IsTrue (is_asked self.new.references)) }
-        ensures once { IsTrue (is_asked self.old.references) → self.new ≡ self.old }
+        ensures asked { OnOk result (IsTrue (are_asked self.new.references)) }
+        ensures once { IsTrue (are_asked self.old.references) → self.new ≡ self.old }
         ensures same { self.new ≡ record self.old { references = self.new.references } }
         ensures holds { (c : Call) → Holds c self.old → Holds c self.new }
         ensures err { OnErr result (self.new ≡ self.old) }
@@ -140,7 +140,7 @@ impl Held {
     fn ask_references(&mut self) -> Result<(), AllocError>
         requires settled { IsFalse self.old.is_kept }
         requires known { LacksNothing self.old.part need.All }
-        ensures asked { OnOk result (IsTrue (is_asked self.new.references)) }
+        ensures asked { OnOk result (IsTrue (are_asked self.new.references)) }
         ensures same { self.new ≡ record self.old { references = self.new.references } }
         ensures holds { (c : Call) → Holds c self.old → Holds c self.new }
         ensures err { OnErr result (self.new ≡ self.old) }

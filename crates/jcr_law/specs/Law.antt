@@ -31,7 +31,7 @@ use Rattle.jcr_trans.specs.Texts.{answer_text, ok_text}
 use Rattle.jcr_trans.specs.declared.command.Command.{Command}
 use Rattle.jcr_trans.specs.declared.command.Command.TheVariants as command
 use Rattle.jcr_view.specs.Outcomes.{eval, is_viewed}
-use Rattle.jcr_view.specs.Reading.{refused}
+use Rattle.jcr_read.specs.Reading.{refused}
 use Rattle.jcr_law.specs.declared.law.JcrLaw.{JcrLaw}
 use Rattle.jcr_law.specs.Built.{Asked, Allowed, Unsupported, asked}
 use Rattle.jcr_law.specs.Commits.{committed_answer, edit_due, refusal_of_due, unwritten_answer}

@@ -11,7 +11,7 @@ use Rattle.jr_items.specs.Refusals.{no_query, no_type, wrong_kind}
 use Rattle.jr_types.specs.declared.TypeDef.{TypeDef}
 use Rattle.jr_types.specs.Types.{subtypes, type_named}
 use Rattle.sql_parse.specs.Grammar.{IsParsed}
-use Rattle.sql_parse.specs.declared.fault.SqlFault.TheVariants as fault
+use Rattle.sql_pieces.specs.declared.fault.SqlFault.TheVariants as fault
 use Rattle.sql_parse.specs.declared.query.Query.{Query}
 use Rattle.sql_eval.specs.declared.row.Row.{Row}
 use Rattle.sql_eval.specs.RowTexts.{rows_data}
@@ -22,7 +22,7 @@ use Rattle.jcr_observe.specs.declared.event.JcrEvent.{JcrEvent}
 use Rattle.jcr_observe.specs.Observed.{events_of}
 use Rattle.jcr_observe.specs.Texts.{events_data}
 use Rattle.jcr_trans.specs.Texts.{answer_text, ok_text}
-use Rattle.jcr_view.specs.Reading.{refused}
+use Rattle.jcr_read.specs.Reading.{refused}
 use Rattle.jcr_law.specs.declared.state.Cursor.{Cursor}
 use Rattle.jcr_law.specs.State.{Call}
 

@@ -11,6 +11,7 @@ ghost use Rattle.jcr_lock.specs.Names.{lock_names};
 ghost use Rattle.jcr_lock.specs.Needed.{has_names_in_order, has_property, is_needed};
 
 use crate::covers::{LockNames, covering_lock, is_held, is_lock};
+use jr_edited::Edited;
 use jr_items::{OwnName, check_place, has_mixin, locked, no_item, unsupported};
 use jr_path::{DeepCopy, List, Name, Path, Text};
 use jr_tree::{Edit, Refusal, Tree, Write};
@@ -109,11 +110,24 @@ fn lock_in_way(
     ensures { IfOk result (λ found. found ≡ lock_in_way tree.now path.now deep) }
 {
     let names = LockNames::new(alloc)?;
-    match covering_lock(alloc, tree, &names, path)? {
+    lock_seen_in_way(alloc, &Edited::unchanged(alloc, tree), &names, path, deep)
+}
+
+fn lock_seen_in_way(
+    alloc: Global,
+    tree: &Edited<'_>,
+    names: &LockNames,
+    path: &Path,
+    deep: bool,
+) -> Result<Option<Path>, AllocError>
+    requires { names.now ≡ lock_names }
+    ensures { IfOk result (λ found. found ≡ lock_in_way tree.now path.now deep) }
+{
+    match covering_lock(alloc, tree, names, path)? {
         Some(at) => Ok(Some(at)),
         None => {
             if deep {
-                first_lock(tree, &names, path)
+                first_lock(tree, names, path)
             } else {
                 Ok(None)
             }
@@ -122,7 +136,7 @@ fn lock_in_way(
 }
 
 // The first lock at or below a path.
-fn first_lock(tree: &Tree, names: &LockNames, path: &Path) -> Result<Option<Path>, AllocError>
+fn first_lock(tree: &Edited<'_>, names: &LockNames, path: &Path) -> Result<Option<Path>, AllocError>
     requires { names.now ≡ lock_names }
     ensures { IfOk result (λ found. found ≡ first_lock tree.now path.now) }
 {
@@ -221,14 +235,14 @@ fn check_unlock(alloc: Global, tree: &Tree, path: &Path, tokens: &[String]) -> R
 {
     check_place(alloc, tree, path)?;
     match LockNames::new(alloc) {
-        Ok(names) => check_owner(alloc, tree, &names, path, tokens),
+        Ok(names) => check_owner(alloc, &Edited::unchanged(alloc, tree), &names, path, tokens),
         Err(AllocError) => Err(Refusal::memory(alloc)),
     }
 }
 
 fn check_owner(
     alloc: Global,
-    tree: &Tree,
+    tree: &Edited<'_>,
     names: &LockNames,
     path: &Path,
     tokens: &[String],

@@ -32,9 +32,9 @@ use Rattle.jcr_fill.specs.Filled.{next_text}
 use Rattle.jcr_fill.specs.Kept.{IsOwnOrNext, IsPutWith}
 use Rattle.jcr_fill.specs.Makings.{Making}
 use Rattle.jcr_fill.proofs.Touched.{unless_holds}
-use Rattle.jcr_make.specs.declared.mixins.Mixing.{Mixing}
-use Rattle.jcr_make.specs.Commands.{lists_mixin, with_mixins}
-use Rattle.jcr_make.specs.Histories.{counting, history_by, is_identified, mixed, mixin_refusal, mixing, named_history, own_history, place_mixing, with_history, with_seen}
+use Rattle.jcr_mixin.specs.declared.mixins.Mixing.{Mixing}
+use Rattle.jcr_mixin.specs.Commands.{lists_mixin, with_mixins}
+use Rattle.jcr_mixin.specs.Histories.{counting, history_by, is_identified, mixed, mixin_refusal, mixing, named_history, own_history, place_mixing, with_history, with_seen}
 
 -- ---- the node that gets a mixin
 

@@ -34,7 +34,7 @@ use Rattle.jcr_ref.specs.References.{identifier_of}
 use Rattle.jcr_write.proofs.Keeping.{passed}
 use Rattle.jcr_fill.specs.Makings.{Making}
 use Rattle.jcr_fill.proofs.Fills.{ok_same}
-use Rattle.jcr_make.specs.Histories.{all_put, begun_among, begun_by, counting, history_put, limited_history, named_history, with_history, with_seen}
+use Rattle.jcr_mixin.specs.Histories.{all_put, begun_among, begun_by, counting, history_put, limited_history, named_history, with_history, with_seen}
 use Rattle.jcr_make.proofs.PutNodes.{all_put_keeps, stays_by_put, there_by_put}
 
 -- nodes in order of their paths, each as it is seen

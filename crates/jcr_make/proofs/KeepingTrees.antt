@@ -38,9 +38,10 @@ use Rattle.jcr_fill.proofs.Children.{kept_by_put}
 use Rattle.jcr_fill.proofs.Fills.{ok_same}
 use Rattle.jcr_fill.proofs.KeepingTrees.{complete_keeps, complete_stays}
 use Rattle.jcr_fill.proofs.OneByOne.{came_first, each_keeps}
-use Rattle.jcr_make.specs.declared.mixins.Mixing.{Mixing}
-use Rattle.jcr_make.specs.Commands.{add_made, chosen_below, chosen_type, completed_new, completed_node, is_lost, lists_mixin, node_retyped, node_unmixed, retyped, type_made, unlisted, unmixed, unmixin_made, unmixin_refusal, with_kept, with_mixins}
-use Rattle.jcr_make.specs.Histories.{begun_by, is_identified, listing, mixed, mixin_given, mixin_made, mixin_refusal, mixing, place_mixing}
+use Rattle.jcr_mixin.specs.declared.mixins.Mixing.{Mixing}
+use Rattle.jcr_make.specs.Commands.{add_made, chosen_below, chosen_type, completed_new}
+use Rattle.jcr_mixin.specs.Commands.{completed_node, is_lost, lists_mixin, node_retyped, node_unmixed, retyped, type_made, unlisted, unmixed, unmixin_made, unmixin_refusal, with_kept, with_mixins}
+use Rattle.jcr_mixin.specs.Histories.{begun_by, is_identified, listing, mixed, mixin_given, mixin_made, mixin_refusal, mixing, place_mixing}
 use Rattle.jcr_make.specs.Subtrees.{furnished, limited, part_added, part_at, part_node, tree_made, with_part, with_set, with_sets}
 use Rattle.jcr_make.proofs.KeepingHistories.{begun_keeps, begun_stays}
 

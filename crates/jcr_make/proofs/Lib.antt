@@ -1,8 +1,6 @@
-pub mod Begun
 pub mod Counted
 pub mod KeepingHistories
 pub mod KeepingTrees
-pub mod Names
 pub mod PutNodes
 pub mod ReadBelow
 pub mod ReadTrees

@@ -15,7 +15,7 @@ use Rattle.jr_overlay.specs.Drafts.{Steps, drafted, with_step}
 use Rattle.jr_overlay.specs.Overlays.{View, whole_view}
 use Rattle.jr_overlay.specs.Views.{KeepTree, step_at}
 use Rattle.jr_overlay.proofs.KeepingSteps.{at_step}
-use Rattle.jcr_make.specs.Histories.{all_put}
+use Rattle.jcr_mixin.specs.Histories.{all_put}
 
 -- where a node is put
 abbrev put_over : Option Node → Option (Option Node) → Option (Option Node)

@@ -25,9 +25,10 @@ use Rattle.jr_overlay.specs.Overlays.{View}
 use Rattle.jcr_ref.specs.Histories.{root_of}
 use Rattle.jcr_write.specs.Places.{above, at_place, node_types, of_node, path_refusal, unless_refused}
 use Rattle.jcr_fill.specs.declared.completing.MissingChild.{MissingChild}
-use Rattle.jcr_make.specs.declared.mixins.Mixing.{Mixing}
-use Rattle.jcr_make.specs.Commands.{add_made, added_type, chosen_type, completed_new, completed_node, node_retyped, type_made, unmixin_made}
-use Rattle.jcr_make.specs.Histories.{begun_among, begun_by, counting, history_by, mixin_given, mixin_made, named_history, own_history, place_mixing, with_history, with_own_history, with_seen}
+use Rattle.jcr_mixin.specs.declared.mixins.Mixing.{Mixing}
+use Rattle.jcr_make.specs.Commands.{add_made, added_type, chosen_type, completed_new}
+use Rattle.jcr_mixin.specs.Commands.{completed_node, node_retyped, type_made, unmixin_made}
+use Rattle.jcr_mixin.specs.Histories.{begun_among, begun_by, counting, history_by, mixin_given, mixin_made, named_history, own_history, place_mixing, with_history, with_own_history, with_seen}
 use Rattle.jcr_fill.specs.Makings.{Making, absent_child, child_refusal, completed, missing_child, put_filled, with_child, with_children, with_own_child}
 use Rattle.jcr_make.specs.AlikeViews.{AreAlikeFrom}
 use Rattle.jcr_fill.specs.Steps.{and_then, each}

@@ -27,7 +27,7 @@ use Rattle.jcr_fill.specs.Steps.{and_then, each}
 use Rattle.jcr_fill.proofs.Touched.{all_have}
 use Rattle.jcr_make.specs.AlikeViews.{AreAlikeFrom}
 use Rattle.jcr_make.specs.Commands.{add_made, chosen_type}
-use Rattle.jcr_make.specs.Histories.{history_by, mixin_made, own_history, own_text}
+use Rattle.jcr_mixin.specs.Histories.{history_by, mixin_made, own_history, own_text}
 use Rattle.jcr_make.specs.Subtrees.{furnished, limited, makes_histories, makes_history, part_added, part_at, part_node, tree_made, with_part, with_set, with_sets}
 use Rattle.jcr_make.proofs.ReadBelow.{add_same, below_alike, chosen_same, completed_same, each_same, here, mixin_same, then_same}
 use Rattle.jcr_make.proofs.Touched.{any_has}

@@ -39,9 +39,10 @@ use Rattle.jcr_fill.specs.Kept.{IsAsBefore, IsPutWith}
 use Rattle.jcr_fill.specs.Makings.{Making, completed, making}
 use Rattle.jcr_fill.specs.Steps.{and_then, each}
 use Rattle.jcr_fill.proofs.Touched.{all_have, below_apart, completed_apart, completed_here, each_holds, put_apart, then_holds, unless_holds}
-use Rattle.jcr_make.specs.declared.mixins.Mixing.{Mixing}
-use Rattle.jcr_make.specs.Commands.{add_made, chosen_type, completed_new, completed_node, node_retyped, type_made}
-use Rattle.jcr_make.specs.Histories.{all_put, begun_among, begun_by, counting, due_history, history_by, history_put, limited_history, mixin_given, mixin_made, named_history, own_history, own_text, place_mixing, with_history, with_seen}
+use Rattle.jcr_mixin.specs.declared.mixins.Mixing.{Mixing}
+use Rattle.jcr_make.specs.Commands.{add_made, chosen_type, completed_new}
+use Rattle.jcr_mixin.specs.Commands.{completed_node, node_retyped, type_made}
+use Rattle.jcr_mixin.specs.Histories.{all_put, begun_among, begun_by, counting, due_history, history_by, history_put, limited_history, mixin_given, mixin_made, named_history, own_history, own_text, place_mixing, with_history, with_seen}
 use Rattle.jcr_make.specs.Subtrees.{furnished, limited, makes_histories, makes_history, part_added, part_at, part_node, tree_made, with_part, with_set, with_sets}
 use Rattle.jcr_make.proofs.Counted.{IsMixingAt, counted, first_named, mixed_uuid, named_is, named_own, own_due, placed, put_drafted}
 

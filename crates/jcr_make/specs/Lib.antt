@@ -1,4 +1,3 @@
 pub mod AlikeViews
 pub mod Commands
-pub mod Histories
 pub mod Subtrees

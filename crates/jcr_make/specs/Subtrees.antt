@@ -16,7 +16,7 @@ use Rattle.jcr_trans.specs.declared.command.TreeNode.{TreeNode}
 use Rattle.jcr_write.specs.Places.{unless_refused}
 use Rattle.jcr_write.specs.Writes.{set_made}
 use Rattle.jcr_make.specs.Commands.{add_made, chosen_type, completed_new}
-use Rattle.jcr_make.specs.Histories.{mixin_made}
+use Rattle.jcr_mixin.specs.Histories.{mixin_made}
 use Rattle.jcr_fill.specs.Makings.{Making, making}
 use Rattle.jcr_fill.specs.Steps.{and_then, each}
 

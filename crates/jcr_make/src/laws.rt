@@ -17,8 +17,9 @@ ghost use Rattle.jcr_write.specs.Places.{above};
 ghost use Rattle.jcr_fill.specs.Kept.{IsAsBefore};
 ghost use Rattle.jcr_fill.specs.Makings.{Making};
 ghost use Rattle.jcr_make.specs.AlikeViews.{AreAlikeFrom};
-ghost use Rattle.jcr_make.specs.Commands.{add_made, type_made, unmixin_made};
-ghost use Rattle.jcr_make.specs.Histories.{due_history, mixin_made, own_history};
+ghost use Rattle.jcr_make.specs.Commands.{add_made};
+ghost use Rattle.jcr_mixin.specs.Commands.{type_made, unmixin_made};
+ghost use Rattle.jcr_mixin.specs.Histories.{due_history, mixin_made, own_history};
 ghost use Rattle.jcr_make.specs.Subtrees.{makes_histories, tree_made};
 
 /// Of two views with the same nodes at and below a path, and with the same node above it, `add` makes the same.

@@ -6,14 +6,14 @@ ghost use Rattle.jr_overlay.specs.Overlays.{sighted};
 ghost use Rattle.jcr_write.specs.Places.{IsDueRefusal};
 ghost use Rattle.jcr_write.specs.Writes.{set_made};
 ghost use Rattle.jcr_make.specs.Commands.{chosen_type};
-ghost use Rattle.jcr_make.specs.Histories.{mixin_made};
+ghost use Rattle.jcr_mixin.specs.Histories.{mixin_made};
 ghost use Rattle.jcr_fill.specs.Makings.{making};
 ghost use Rattle.jcr_fill.specs.Steps.{and_then, each};
 ghost use Rattle.jcr_make.specs.Subtrees.{furnished, limited, part_added, part_at, part_node, tree_made, with_part, with_set};
 
 use crate::adding::{add, chosen_type};
-use crate::mixins::mixin;
 use jcr_fill::complete_new;
+use jcr_mixin::mixin;
 use jcr_trans::TreeNode;
 use jcr_write::set;
 use jr_items::{check_limits, check_not_system};

@@ -23,7 +23,7 @@ use Rattle.jr_items.specs.Names.{frozen_type}
 use Rattle.jr_items.specs.Items.{first_of, first_some, in_path_order, is_of_type, same_path, values_in, reference_in}
 use Rattle.jr_items.specs.Refusals.{refusal, refusal_at, when}
 use Rattle.jr_types.specs.declared.TypeDef.{TypeDef}
-use Rattle.jr_types.proofs.Meeting.{meets_rules}
+use Rattle.jr_rules.proofs.Meeting.{meets_rules}
 use Rattle.jcr_lock.specs.Locks.{locked_by, frozen_by}
 use Rattle.jcr_ref.specs.References.{ReferencesOk, dangling, items_where, is_dangling, target_of}
 use Rattle.jcr_plan.specs.Marks.{marks_of}
@@ -128,7 +128,7 @@ no_item test (e ∷ t) h p n x k = by (eq_by_cmp path_cmp p e.0) refl k (λ l. n
     by true s l rest = ap (λ q. test q x) (path_same p e.0 s) ∙ no_property (test e.0) n x e.1.props here l
     by false s l rest = rest l
 
-references_hold : (t : Nodes) → dangling t ≡ None → ReferencesOk t
+pub references_hold : (t : Nodes) → dangling t ≡ None → ReferencesOk t
 references_hold t none p n thawed = by (property_at t p n) refl
   where
     none_of : {X : Type 0} (xs : List X) → first_of xs ≡ None → xs ≡ []

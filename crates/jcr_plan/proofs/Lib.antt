@@ -7,4 +7,5 @@ pub mod OfWrites
 mod Refused
 mod Rows
 mod Stirred
+mod TouchedPaths
 pub mod Touching

@@ -17,7 +17,7 @@ use Rattle.oak_clash.specs.declared.mark.Mark.{Mark}
 use Rattle.oak_clash.specs.declared.mark.Mark.TheVariants.{Exists, Guard, Touch, Prop}
 use Rattle.oak_clash.specs.declared.mark.MarkAt.{MarkAt}
 use Rattle.oak_clash.specs.Clashes.{Meets, clashing}
-use Rattle.jr_types.specs.Builtin.{builtin}
+use Rattle.jr_builtin.specs.Builtin.{builtin}
 use Rattle.jcr_ref.specs.References.{identifier, identifier_number}
 use Rattle.jcr_plan.specs.Marks.{marks_of}
 use Rattle.jcr_plan.specs.Plans.{PlanOk}

@@ -12,7 +12,7 @@ use Rattle.jr_path.specs.Names.{name_cmp, parent_of, path_cmp}
 use Rattle.jr_path.specs.declared.name.Name.{Name}
 use Rattle.jr_path.specs.declared.path.Item.{Item}
 use Rattle.jr_path.specs.declared.path.Path.{Path}
-use Rattle.jr_path.proofs.Maps.{lookup-insert_entry, path_total}
+use Rattle.jr_path.proofs.Maps.{lookup-insert_entry}
 use Rattle.jr_path.proofs.Parts.{parent_of-child}
 use Rattle.jr_tree.specs.declared.tree.Node.{Node}
 use Rattle.jr_tree.specs.declared.edit.Write.{Write}
@@ -22,53 +22,28 @@ use Rattle.jr_tree.specs.Edits.{IsProper, applied, last_writes}
 use Rattle.jr_tree.proofs.AtPath.{come, filled, prop_of, props_of, node_at-applied}
 use Rattle.jr_tree.proofs.EditLaw.{fills_has}
 use Rattle.jr_tree.proofs.Pointwise.{same_path as path_same}
+use Rattle.jr_tree.proofs.Proper.{same_name as name_same}
 use Rattle.jr_items.specs.Names.{mixin_types, primary_type}
 use Rattle.jr_items.specs.Items.{child_path, first_of, first_some, same_name, same_path}
 use Rattle.jr_items.specs.Refusals.{checked_in, dangling as dangling_refusal, locked, over_limit, when}
 use Rattle.jr_tree.specs.declared.shared.Refusal.{Refusal}
 use Rattle.jcr_ref.specs.References.{dangling}
 use Rattle.oak_clash.specs.declared.mark.MarkAt.{MarkAt}
-use Rattle.jcr_plan.specs.Marks.{marks_of}
+use Rattle.jcr_plan.specs.Marks.{is_type_name, marks_of}
 use Rattle.jcr_plan.specs.Plans.{PlanOk, has_few_nodes}
 use Rattle.jr_types.specs.declared.TypeDef.{TypeDef}
 use Rattle.jr_types.specs.Rules.{TypesOk, child_at, child_faults, node_types, property_faults}
-use Rattle.jr_types.specs.Violations.{Violation, violations, child_names, failing_at, property_names, violations_at}
+use Rattle.jr_rules.specs.Violations.{Violation, child_names, failing_at, faults_among, property_names, violations, violations_among, violations_at}
 use Rattle.jcr_plan.specs.declared.causes.Assured.{Assured}
-use Rattle.jcr_plan.specs.Checked.{IsAsAssured, above_typed, dangling_by, is_touched, may_dangle, refusal_by, touched_by, violations_by, violations_where, with_paths}
+use Rattle.jcr_plan.specs.Checked.{IsAsAssured, above_typed, dangling_by, is_asked, is_renewed, is_touched, may_dangle, refusal_by, renewed_by, touched_by, violations_by, violations_touched}
 use Rattle.jcr_plan.specs.Refusals.{frozen_over, locked_over, plan_refusal, type_refusal}
 use Rattle.jcr_plan.proofs.Dangling.{dangles_not}
 use Rattle.jcr_plan.proofs.Refused.{all_there, planned}
 use Rattle.jcr_plan.proofs.Stirred.{any_flat, none_last, or_false, path_self, removed_other}
 
--- ---- a set of paths
-
-turned : (a b c : Bool) → (a || (b || c)) ≡ ((b || a) || c)
-turned true true c = refl
-turned true false c = refl
-turned false true c = refl
-turned false false c = refl
-
-with_found : (p : Path) (ps : List Path) (es : List (Path × Bool)) → is_some (lookup (is_at (path_cmp p)) (with_paths es ps)) ≡ (list_any (same_path p) ps || is_some (lookup (is_at (path_cmp p)) es))
-with_found p [] es = refl
-with_found p (q ∷ ps) es =
-    with_found p ps (insert_entry path_cmp es q true)
-    ∙ (ap (λ (o : Option Bool). list_any (same_path p) ps || is_some o) (lookup-insert_entry path_cmp path_total p q true es)
-    ∙ (ap (λ b. list_any (same_path p) ps || b) (by (same_path p q) (lookup (is_at (path_cmp p)) es)) ∙ turned (list_any (same_path p) ps) (same_path p q) (is_some (lookup (is_at (path_cmp p)) es))))
-  where
-    by : (b : Bool) (o : Option Bool) → is_some (cond b (Some true) o) ≡ (b || is_some o)
-    by true o = refl
-    by false o = refl
-
 or_none : (b : Bool) → (b || false) ≡ b
 or_none true = refl
 or_none false = refl
-
--- what is asked of the set is what is asked of the writes
-pub set_asked : (types : List TypeDef) (u : Nodes) (ws : List Write) (set : List (Path × Bool)) → set ≡ with_paths [] (flat_map touched_by ws)
-    → violations_where (λ p. is_some (lookup (is_at (path_cmp p)) set)) types u ≡ violations_where (is_touched ws) types u
-set_asked types u ws set is =
-    ap (λ (es : List (Path × Bool)). violations_where (λ p. is_some (lookup (is_at (path_cmp p)) es)) types u) is
-    ∙ (λ i. violations_where (λ p. (with_found p (flat_map touched_by ws) [] ∙ or_none (list_any (same_path p) (flat_map touched_by ws))) i) types u)
 
 -- ---- a node that no write touches
 
@@ -158,6 +133,52 @@ filter_never : {X : Type 0} (xs : List X) → filter (λ x. false) xs ≡ []
 filter_never [] = refl
 filter_never (x ∷ xs) = filter_never xs
 
+-- ---- the types of a node that isn't renewed
+
+abbrev renews : Path → Write → Bool
+renews p w = list_any (same_path p) (renewed_by w)
+
+alone : (p q : Path) → (same_path p q || false) ≡ false → eq_by_cmp path_cmp p q ≡ false
+alone p q h = (or_false (same_path p q) false h).0
+
+come_types : (p : Path) (o : Option Node) (w : Write) → renews p w ≡ false → come None p o w ≡ o
+come_types p o (Here q) h = ap (λ b. cond b (Some (record { props = props_of o; born = None })) o) (alone p q h)
+come_types p o (Gone q) h = ap (λ b. cond b None o) (alone p q h)
+come_types p o (Put q m x) h = refl
+come_types p o (Unset q m) h = refl
+
+-- no property that tells a type is among those that are written
+other_type : (k m : Name) → is_type_name k ≡ true → (p q : Path) → eq_by_cmp path_cmp p q ≡ true → list_any (same_path p) (cond (is_type_name m) (q ∷ []) []) ≡ false → eq_by_cmp name_cmp k m ≡ false
+other_type k m type p q here h = false_from_ne_true _ (λ e. by (is_type_name m) (ap is_type_name (sym (name_same k m e)) ∙ type) h)
+  where
+    by : (b : Bool) → b ≡ true → list_any (same_path p) (cond b (q ∷ []) []) ≡ false → ⊥
+    by true e l = false≢true (sym (alone p q l) ∙ here)
+    by false e l = false≢true e
+
+filled_types : (k : Name) → is_type_name k ≡ true → (p : Path) (o : Option Node) (w : Write) → renews p w ≡ false → prop_of k (filled p o w) ≡ prop_of k o
+filled_types k type p o (Here q) h = refl
+filled_types k type p o (Gone q) h = refl
+filled_types k type p o (Put q m x) h = by (eq_by_cmp path_cmp p q) refl o
+  where
+    by : (b : Bool) → eq_by_cmp path_cmp p q ≡ b → (o : Option Node) → prop_of k (cond b (option_map {T = Node} (λ node. record node { props = insert_entry name_cmp node.props m x }) o) o) ≡ prop_of k o
+    by false e o = refl
+    by true e None = refl
+    by true e (Some node) = lookup-insert_entry name_cmp nat_list_cmp_total k m x node.props ∙ ap (λ b. cond b (Some x) (lookup (is_at (name_cmp k)) node.props)) (other_type k m type p q e h)
+filled_types k type p o (Unset q m) h = by (eq_by_cmp path_cmp p q) refl o
+  where
+    by : (b : Bool) → eq_by_cmp path_cmp p q ≡ b → (o : Option Node) → prop_of k (cond b (option_map {T = Node} (λ node. record node { props = remove_entry (is_at (name_cmp m)) node.props }) o) o) ≡ prop_of k o
+    by false e o = refl
+    by true e None = refl
+    by true e (Some node) = removed_other k m (other_type k m type p q e h) node.props
+
+comes_types : (p : Path) (o : Option Node) (ws : List Write) → list_any (renews p) ws ≡ false → fold (come None p) o ws ≡ o
+comes_types p o [] h = refl
+comes_types p o (w ∷ ws) h = let parts = or_false (renews p w) (list_any (renews p) ws) h in comes_types p (come None p o w) ws parts.1 ∙ come_types p o w parts.0
+
+fills_types : (k : Name) → is_type_name k ≡ true → (p : Path) (o : Option Node) (ws : List Write) → list_any (renews p) ws ≡ false → prop_of k (fold (filled p) o ws) ≡ prop_of k o
+fills_types k type p o [] h = refl
+fills_types k type p o (w ∷ ws) h = let parts = or_false (renews p w) (list_any (renews p) ws) h in fills_types k type p (filled p o w) ws parts.1 ∙ filled_types k type p o w parts.0
+
 module _ (types : List TypeDef) (t : Nodes) (ws : List Write) (sorted : is_sorted path_cmp t ≡ true) (ok : TypesOk types t) where
   abbrev u : Nodes
   u = applied None t ws
@@ -197,15 +218,54 @@ module _ (types : List TypeDef) (t : Nodes) (ws : List Write) (sorted : is_sorte
     none_at : violations_at types u p ≡ []
     none_at = λ i. flat_map (λ rule. map (λ n. record { node = p; rule = rule; item = n }) (failing_none rule i)) (1 ∷ 2 ∷ 3 ∷ 4 ∷ 5 ∷ 6 ∷ 7 ∷ 8 ∷ 9 ∷ [])
 
-  each_alike : (es : Nodes) → list_all (λ e. is_some (node_at u e.0)) es ≡ true → flat_map (λ e. cond (is_touched ws e.0) (violations_at types u e.0) []) es ≡ flat_map (λ e. violations_at types u e.0) es
+  -- a node of which no more is written than properties stands and has its types as before
+  module _ (p : Path) (stands : is_some (node_at u p) ≡ true) (none : list_any (renews p) ws ≡ false) where
+    last : list_any (renews p) (last_writes ws) ≡ false
+    last = none_last (renews p) ws none
+
+    here : is_some (node_at t p) ≡ true
+    here = sym (ap is_some (node_at-applied None p t ws sorted) ∙ (fills_has p _ (last_writes ws) ∙ ap is_some (comes_types p (node_at t p) (last_writes ws) last))) ∙ stands
+
+    typed_as : (k : Name) → is_type_name k ≡ true → property_at u p k ≡ property_at t p k
+    typed_as k type = ap (prop_of k) (node_at-applied None p t ws sorted) ∙ (fills_types k type p _ (last_writes ws) last ∙ ap (prop_of k) (comes_types p (node_at t p) (last_writes ws) last))
+
+    -- a child that isn't touched breaks no rule either
+    child_as : (n : Name) → list_any (touches (child_path p n)) ws ≡ false → child_faults types (node_types u p) n (child_at u p n) ≡ []
+    child_as n still =
+        (λ i. child_faults types (record { primary = typed_as primary_type refl i; mixins = typed_as mixin_types refl i }) n (child i)) ∙ ok.children p n here
+      where
+        child : child_at u p n ≡ child_at t p n
+        child = ap (λ (o : Option Node). cond (is_some o) (Some (prop_of primary_type o)) None) (node_kept (child_path p n) still)
+
+  -- at a touched node it is enough to look at the children that are asked for
+  asked_alike : (p : Path) → is_some (node_at u p) ≡ true → violations_among (is_asked ws p) types u p ≡ violations_at types u p
+  asked_alike p stands = λ i. flat_map
+      (λ rule. map (λ n. record { node = p; rule = rule; item = n })
+      (filter (λ n. list_any (λ r. r == rule) (property_faults types (node_types u p) n (property_at u p n))) (property_names types u p)
+      ++ filter (λ n. list_any (λ r. r == rule) (faults n i)) (child_names types u p)))
+      (1 ∷ 2 ∷ 3 ∷ 4 ∷ 5 ∷ 6 ∷ 7 ∷ 8 ∷ 9 ∷ [])
+    where
+      unasked : (n : Name) → (is_renewed ws p || is_touched ws (child_path p n)) ≡ false → [] ≡ child_faults types (node_types u p) n (child_at u p n)
+      unasked n h =
+          let parts = or_false (is_renewed ws p) (is_touched ws (child_path p n)) h in
+          sym (child_as p stands (sym (any_flat (same_path p) renewed_by ws) ∙ parts.0) n (sym (any_flat (same_path (child_path p n)) touched_by ws) ∙ parts.1))
+
+      faults : (n : Name) → faults_among (is_asked ws p) types u p n ≡ child_faults types (node_types u p) n (child_at u p n)
+      faults n = by (is_renewed ws p || is_touched ws (child_path p n)) refl
+        where
+          by : (b : Bool) → (is_renewed ws p || is_touched ws (child_path p n)) ≡ b → cond b (child_faults types (node_types u p) n (child_at u p n)) [] ≡ child_faults types (node_types u p) n (child_at u p n)
+          by true h = refl
+          by false h = unasked n h
+
+  each_alike : (es : Nodes) → list_all (λ e. is_some (node_at u e.0)) es ≡ true → flat_map (λ e. cond (is_touched ws e.0) (violations_among (is_asked ws e.0) types u e.0) []) es ≡ flat_map (λ e. violations_at types u e.0) es
   each_alike [] h = refl
   each_alike (e ∷ es) h =
       let parts = and_parts _ _ h in
-      ap (λ (vs : List Violation). vs ++ flat_map (λ e. cond (is_touched ws e.0) (violations_at types u e.0) []) es) (by (is_touched ws e.0) refl parts.0)
+      ap (λ (vs : List Violation). vs ++ flat_map (λ e. cond (is_touched ws e.0) (violations_among (is_asked ws e.0) types u e.0) []) es) (by (is_touched ws e.0) refl parts.0)
       ∙ ap (λ (vs : List Violation). violations_at types u e.0 ++ vs) (each_alike es parts.1)
     where
-      by : (b : Bool) → is_touched ws e.0 ≡ b → is_some (node_at u e.0) ≡ true → cond b (violations_at types u e.0) [] ≡ violations_at types u e.0
-      by true k stands = refl
+      by : (b : Bool) → is_touched ws e.0 ≡ b → is_some (node_at u e.0) ≡ true → cond b (violations_among (is_asked ws e.0) types u e.0) [] ≡ violations_at types u e.0
+      by true k stands = asked_alike e.0 stands
       by false k stands = sym (none_at e.0 stands (sym (any_flat (same_path e.0) touched_by ws) ∙ k))
 
 -- the refusal of a plan, by the violations that are found and the reference without a node
@@ -218,7 +278,7 @@ with_findings types t tokens ws vs item = first_some
     ∷ when (not (has_few_nodes (applied None t ws))) (over_limit (codes "nodes") 100000)
     ∷ [])
 
-touched_alike : (types : List TypeDef) (t : Nodes) (ws : List Write) → is_sorted path_cmp t ≡ true → TypesOk types t → violations_where (is_touched ws) types (applied None t ws) ≡ violations types (applied None t ws)
+touched_alike : (types : List TypeDef) (t : Nodes) (ws : List Write) → is_sorted path_cmp t ≡ true → TypesOk types t → violations_touched ws types (applied None t ws) ≡ violations types (applied None t ws)
 touched_alike types t ws sorted ok = each_alike types t ws sorted ok (applied None t ws) (all_there (applied None t ws))
 
 pub alike : (types : List TypeDef) (t : Nodes) (tokens : List (List ℕ)) (ws : List Write) → is_sorted path_cmp t ≡ true → TypesOk types t → refusal_by (record { typed = true; referring = false }) types t tokens ws ≡ plan_refusal types t tokens ws
@@ -229,7 +289,7 @@ alike types t tokens ws sorted ok = ap (λ (vs : List Violation). with_findings 
 violations_alike : (assured : Assured) (types : List TypeDef) (t : Nodes) (ws : List Write) → is_sorted path_cmp t ≡ true → IsAsAssured assured types t → violations_by assured types (applied None t ws) ws ≡ violations types (applied None t ws)
 violations_alike assured types t ws sorted is = by assured.typed refl
   where
-    by : (b : Bool) → assured.typed ≡ b → cond b (violations_where (is_touched ws) types (applied None t ws)) (violations types (applied None t ws)) ≡ violations types (applied None t ws)
+    by : (b : Bool) → assured.typed ≡ b → cond b (violations_touched ws types (applied None t ws)) (violations types (applied None t ws)) ≡ violations types (applied None t ws)
     by true h = touched_alike types t ws sorted (is.typed h)
     by false h = refl
 

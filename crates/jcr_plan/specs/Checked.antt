@@ -1,8 +1,7 @@
 -- What is checked of an edit: all of the tree after it, or of what the tree before is known to meet only that which the edit touches.
-use Rattle.std.specs.Prelude.{true, cond, codes, not, ◌&&◌, ◌||◌, ℕ, List, [], ◌∷◌, Option, None, Bool, false, IsTrue, is_some, option_map, option_to_list}
-use Rattle.std.specs.List.{flat_map, fold, list_any}
-use Rattle.std.specs.BTreeMap.{insert_entry}
-use Rattle.jr_path.specs.Names.{parent_of, path_cmp}
+use Rattle.std.specs.Prelude.{◌≡◌, cond, codes, not, ◌&&◌, ◌||◌, ℕ, List, [], ◌∷◌, Option, None, Bool, false, IsTrue, is_some, option_map, option_to_list}
+use Rattle.std.specs.List.{flat_map, list_any}
+use Rattle.jr_path.specs.Names.{parent_of}
 use Rattle.jr_path.specs.declared.name.Name.{Name}
 use Rattle.jr_path.specs.declared.path.Item.{Item}
 use Rattle.jr_path.specs.declared.path.Path.{Path}
@@ -11,16 +10,19 @@ use Rattle.jr_tree.specs.declared.edit.Write.{Write}
 use Rattle.jr_tree.specs.declared.edit.Write.TheVariants.{Here, Gone, Put, Unset}
 use Rattle.jr_tree.specs.declared.shared.Refusal.{Refusal}
 use Rattle.jr_tree.specs.Edits.{applied}
-use Rattle.jr_tree.specs.Trees.{Nodes, property_at}
+use Rattle.jr_tree.specs.Merging.{with_room}
+use Rattle.jr_tree.specs.Trees.{Nodes, node_at, property_at}
 use Rattle.jr_items.specs.Names.{frozen_type, primary_type, uuid}
-use Rattle.jr_items.specs.Items.{first_of, first_some, is_of_type, one_text, reference_in, same_name, same_path, values_in}
+use Rattle.jr_items.specs.Items.{child_path, first_of, first_some, is_of_type, one_text, reference_in, same_name, same_path, values_in}
 use Rattle.jr_items.specs.Refusals.{checked_in, dangling as dangling_refusal, locked, over_limit, when}
 use Rattle.jr_types.specs.declared.TypeDef.{TypeDef}
 use Rattle.jr_types.specs.Rules.{TypesOk}
-use Rattle.jr_types.specs.Violations.{Violation, violations, violations_at}
+use Rattle.jr_rules.specs.Violations.{Violation, violations, violations_among}
 use Rattle.jcr_ref.specs.References.{ReferencesOk, dangling}
 use Rattle.jcr_plan.specs.declared.causes.Assured.{Assured}
 use Rattle.jcr_plan.specs.declared.referring.ReferenceNames.{ReferenceNames}
+use Rattle.jcr_plan.specs.declared.touched.Touched.{Touched}
+use Rattle.jcr_plan.specs.Marks.{is_type_name}
 use Rattle.jcr_plan.specs.Plans.{has_few_nodes}
 use Rattle.jcr_plan.specs.Refusals.{frozen_over, locked_over, type_refusal}
 
@@ -44,17 +46,46 @@ touched_by (Unset p n) = p ∷ above_typed p n
 abbrev pub is_touched : List Write → Path → Bool
 is_touched ws p = list_any (same_path p) (flat_map touched_by ws)
 
--- a set of paths with these too
-abbrev pub with_paths : List (Path × Bool) → List Path → List (Path × Bool)
-with_paths set ps = fold (λ es p. insert_entry path_cmp es p true) set ps
+-- the node of which a write changes more than properties: it comes or goes, or its types are written
+abbrev pub renewed_by : Write → List Path
+renewed_by (Here p) = p ∷ []
+renewed_by (Gone p) = p ∷ []
+renewed_by (Put p n x) = cond (is_type_name n) (p ∷ []) []
+renewed_by (Unset p n) = cond (is_type_name n) (p ∷ []) []
 
--- the violations of the nodes that pass the test, in their order
-abbrev pub violations_where : (Path → Bool) → List TypeDef → Nodes → List Violation
-violations_where test types t = flat_map (λ e. cond (test e.0) (violations_at types t e.0) []) t
+-- the node at a path is one of these
+abbrev pub is_renewed : List Write → Path → Bool
+is_renewed ws p = list_any (same_path p) (flat_map renewed_by ws)
+
+-- the child of that name of the node at a path is looked at: each where the node itself is renewed,
+-- else those that are touched too
+abbrev pub is_asked : List Write → Path → Name → Bool
+is_asked ws p n = is_renewed ws p || is_touched ws (child_path p n)
+
+-- the violations of the touched nodes, in their order
+abbrev pub violations_touched : List Write → List TypeDef → Nodes → List Violation
+violations_touched ws types t = flat_map (λ e.
+    cond (is_touched ws e.0) (violations_among (is_asked ws e.0) types t e.0) []) t
 
 -- the violations that are looked for
 abbrev pub violations_by : Assured → List TypeDef → Nodes → List Write → List Violation
-violations_by assured types u ws = cond assured.typed (violations_where (is_touched ws) types u) (violations types u)
+violations_by assured types u ws = cond assured.typed (violations_touched ws types u)
+    (violations types u)
+
+-- the touched nodes, and the renewed ones, as trees of nodes without properties
+pub record IsTouched (ws : List Write) (touched : Touched) : Type 0 where
+  pub nodes : touched.nodes ≡ with_room [] (flat_map touched_by ws)
+  pub renewed : touched.renewed ≡ with_room [] (flat_map renewed_by ws)
+
+-- the child is looked at, by these trees
+abbrev pub is_asked_in : Touched → Path → Name → Bool
+is_asked_in touched p n = is_some (node_at touched.renewed p)
+    || is_some (node_at touched.nodes (child_path p n))
+
+-- the violations of those of the touched nodes that stand in a tree
+abbrev pub violations_in : Touched → List TypeDef → Nodes → List Violation
+violations_in touched types t = flat_map (λ e. cond (is_some (node_at t e.0))
+    (violations_among (is_asked_in touched e.0) types t e.0) []) touched.nodes
 
 -- a value of the property is a REFERENCE
 abbrev pub has_reference : Property → Bool

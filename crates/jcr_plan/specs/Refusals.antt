@@ -10,7 +10,7 @@ use Rattle.jr_tree.specs.Trees.{Nodes}
 use Rattle.jr_items.specs.Items.{first_of, first_some, in_path_order}
 use Rattle.jr_items.specs.Refusals.{refusal, refusal_at, when}
 use Rattle.jr_types.specs.declared.TypeDef.{TypeDef}
-use Rattle.jr_types.specs.Violations.{Violation, first_violation}
+use Rattle.jr_rules.specs.Violations.{Violation, first_violation}
 use Rattle.jcr_lock.specs.Locks.{locked_by, frozen_by}
 use Rattle.jcr_ref.specs.References.{dangling}
 use Rattle.jcr_plan.specs.Plans.{changed_by, heeded, has_few_nodes}

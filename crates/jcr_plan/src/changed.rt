@@ -17,8 +17,9 @@ ghost use Rattle.jcr_plan.specs.Plans.{changed_by, is_ignored, is_ignored_child}
 ghost use Rattle.jcr_plan.specs.Refusals.{frozen_over, locked_over};
 
 use jcr_lock::{frozen_by, locked_by};
+use jr_edited::Edited;
 use jr_path::{DeepCopy, Name, Path};
-use jr_tree::{Tree, Write};
+use jr_tree::Write;
 use jr_types::{OnParentVersion, Registry};
 use std::alloc::{AllocError, Global};
 
@@ -26,8 +27,8 @@ use std::alloc::{AllocError, Global};
 pub(crate) fn first_frozen(
     alloc: Global,
     types: &Registry,
-    old: &Tree,
-    new: &Tree,
+    old: &Edited<'_>,
+    new: &Edited<'_>,
     writes: &[Write],
 ) -> Result<Option<Path>, AllocError>
     requires { new.now ≡ applied None old.now writes.now }
@@ -41,7 +42,7 @@ pub(crate) fn first_frozen(
 // The first lock, in path order, that covers a node that the writes change, and whose owner is not among the tokens.
 pub(crate) fn first_locked(
     alloc: Global,
-    old: &Tree,
+    old: &Edited<'_>,
     writes: &[Write],
     tokens: &[String],
 ) -> Result<Option<Path>, AllocError>
@@ -67,8 +68,8 @@ fn changed(alloc: Global, writes: &[Write]) -> Result<Vec<Path>, AllocError>
 fn changed_heeded(
     alloc: Global,
     types: &Registry,
-    old: &Tree,
-    new: &Tree,
+    old: &Edited<'_>,
+    new: &Edited<'_>,
     writes: &[Write],
 ) -> Result<Vec<Path>, AllocError>
     ensures { IfOk result (λ paths. paths.items ≡ flat_map changed_by (filter (λ w. not (is_ignored types.now old.now new.now w)) writes.now)) }
@@ -109,7 +110,7 @@ fn push_path(paths: &mut Vec<Path>, path: &Path) -> Result<(), AllocError>
 }
 
 // The checked-in nodes that cover these.
-fn covers_frozen(alloc: Global, tree: &Tree, paths: &[Path]) -> Result<Vec<Path>, AllocError>
+fn covers_frozen(alloc: Global, tree: &Edited<'_>, paths: &[Path]) -> Result<Vec<Path>, AllocError>
     ensures { IfOk result (λ covers. covers.items ≡ filter_map (frozen_by tree.now) paths.now) }
 {
     let mut covers = Vec::new(alloc);
@@ -124,7 +125,7 @@ fn covers_frozen(alloc: Global, tree: &Tree, paths: &[Path]) -> Result<Vec<Path>
 // The locks without a token that cover these.
 fn covers_locked(
     alloc: Global,
-    tree: &Tree,
+    tree: &Edited<'_>,
     paths: &[Path],
     tokens: &[String],
 ) -> Result<Vec<Path>, AllocError>
@@ -171,7 +172,12 @@ fn earlier<'a>(path: &'a Path, known: Option<&'a Path>) -> &'a Path
 
 // Whether the definition of the written item has IGNORE: by the types after the edit for what comes, by those before for
 // what goes.
-fn is_ignored(types: &Registry, old: &Tree, new: &Tree, write: &Write) -> Result<bool, AllocError>
+fn is_ignored(
+    types: &Registry,
+    old: &Edited<'_>,
+    new: &Edited<'_>,
+    write: &Write,
+) -> Result<bool, AllocError>
     ensures { IfOk result (λ answer. answer ≡ is_ignored types.now old.now new.now write.now) }
 {
     match write {
@@ -182,7 +188,7 @@ fn is_ignored(types: &Registry, old: &Tree, new: &Tree, write: &Write) -> Result
     }
 }
 
-fn is_ignored_child(types: &Registry, tree: &Tree, path: &Path) -> Result<bool, AllocError>
+fn is_ignored_child(types: &Registry, tree: &Edited<'_>, path: &Path) -> Result<bool, AllocError>
     ensures { IfOk result (λ answer. answer ≡ is_ignored_child types.now tree.now path.now) }
 {
     match (path.parent()?, path.last_name()) {
@@ -193,7 +199,7 @@ fn is_ignored_child(types: &Registry, tree: &Tree, path: &Path) -> Result<bool, 
 
 fn is_child_ignored(
     types: &Registry,
-    tree: &Tree,
+    tree: &Edited<'_>,
     parent: &Path,
     name: &Name,
 ) -> Result<bool, AllocError>
@@ -211,7 +217,7 @@ fn is_child_ignored(
 
 fn is_ignored_property(
     types: &Registry,
-    tree: &Tree,
+    tree: &Edited<'_>,
     path: &Path,
     name: &Name,
 ) -> Result<bool, AllocError>

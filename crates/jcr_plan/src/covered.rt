@@ -10,9 +10,9 @@ ghost use Rattle.jcr_lock.specs.Names.{lock_names};
 ghost use Rattle.jcr_plan.specs.Marks.{are_same, is_covered_anew, is_deepened, is_frozen_anew, is_path, locks_anew, stays};
 
 use jcr_lock::{LockNames, frozen_by, is_deep_lock, lock_covers};
+use jr_edited::Edited;
 use jr_items::upward;
 use jr_path::Path;
-use jr_tree::Tree;
 use jr_value::Property;
 use std::alloc::{AllocError, Global};
 
@@ -20,8 +20,8 @@ use std::alloc::{AllocError, Global};
 // becomes deep. It looks only at the node and those above it.
 pub(crate) fn is_newly_covered(
     alloc: Global,
-    old: &Tree,
-    new: &Tree,
+    old: &Edited<'_>,
+    new: &Edited<'_>,
     names: &LockNames,
     at: &Path,
 ) -> Result<bool, AllocError>
@@ -35,7 +35,7 @@ pub(crate) fn is_newly_covered(
 }
 
 // Whether the node stands in both trees.
-pub(crate) fn stays(old: &Tree, new: &Tree, at: &Path) -> bool
+pub(crate) fn stays(old: &Edited<'_>, new: &Edited<'_>, at: &Path) -> bool
     ensures { result ≡ stays old.now new.now at.now }
 {
     old.has(at) && new.has(at)
@@ -43,8 +43,8 @@ pub(crate) fn stays(old: &Tree, new: &Tree, at: &Path) -> bool
 
 fn is_covered_anew(
     alloc: Global,
-    old: &Tree,
-    new: &Tree,
+    old: &Edited<'_>,
+    new: &Edited<'_>,
     names: &LockNames,
     at: &Path,
 ) -> Result<bool, AllocError>
@@ -63,8 +63,8 @@ fn is_covered_anew(
 // Whether a lock covers the node that did not, or had another owner.
 fn gains_lock(
     alloc: Global,
-    old: &Tree,
-    new: &Tree,
+    old: &Edited<'_>,
+    new: &Edited<'_>,
     names: &LockNames,
     at: &Path,
 ) -> Result<bool, AllocError>
@@ -79,7 +79,13 @@ fn gains_lock(
     Ok(false)
 }
 
-fn locks_anew(old: &Tree, new: &Tree, names: &LockNames, at: &Path, above: &Path) -> bool
+fn locks_anew(
+    old: &Edited<'_>,
+    new: &Edited<'_>,
+    names: &LockNames,
+    at: &Path,
+    above: &Path,
+) -> bool
     requires { names.now ≡ lock_names }
     ensures { result ≡ locks_anew old.now new.now at.now above.now }
 {
@@ -87,7 +93,13 @@ fn locks_anew(old: &Tree, new: &Tree, names: &LockNames, at: &Path, above: &Path
 }
 
 // Whether the lock covered the node before, with the same owner.
-fn locked_alike(old: &Tree, new: &Tree, names: &LockNames, at: &Path, above: &Path) -> bool
+fn locked_alike(
+    old: &Edited<'_>,
+    new: &Edited<'_>,
+    names: &LockNames,
+    at: &Path,
+    above: &Path,
+) -> bool
     requires { names.now ≡ lock_names }
     ensures { result ≡ (lock_covers old.now above.now at.now && are_same (property_at old.now above.now lock_owner) (property_at new.now above.now lock_owner)) }
 {
@@ -108,7 +120,12 @@ fn are_same(old: Option<&Property>, new: Option<&Property>) -> bool
 }
 
 // Whether a checked-in node covers the node that did not.
-fn is_frozen_anew(alloc: Global, old: &Tree, new: &Tree, at: &Path) -> Result<bool, AllocError>
+fn is_frozen_anew(
+    alloc: Global,
+    old: &Edited<'_>,
+    new: &Edited<'_>,
+    at: &Path,
+) -> Result<bool, AllocError>
     ensures { IfOk result (λ answer. answer ≡ is_frozen_anew old.now new.now at.now) }
 {
     match frozen_by(alloc, new, at)? {
@@ -119,7 +136,7 @@ fn is_frozen_anew(alloc: Global, old: &Tree, new: &Tree, at: &Path) -> Result<bo
 
 fn is_frozen_by_another(
     alloc: Global,
-    tree: &Tree,
+    tree: &Edited<'_>,
     at: &Path,
     cover: &Path,
 ) -> Result<bool, AllocError>
@@ -132,7 +149,7 @@ fn is_frozen_by_another(
 }
 
 // Whether the lock of the node covers what is below it, and before did not.
-fn is_deepened(old: &Tree, new: &Tree, names: &LockNames, at: &Path) -> bool
+fn is_deepened(old: &Edited<'_>, new: &Edited<'_>, names: &LockNames, at: &Path) -> bool
     requires { names.now ≡ lock_names }
     ensures { result ≡ is_deepened old.now new.now at.now }
 {

@@ -8,6 +8,8 @@ mod laws;
 mod marking;
 mod plans;
 mod referring;
+mod touched;
+mod typed;
 
 pub use causes::{Assured, MAX_NODES};
 pub use laws::{

@@ -1,8 +1,6 @@
 // The marks of an edit on a tree, found write by write.
-ghost use Rattle.std.specs.Prelude.{◌≡◌, ◌==◌, ◌++◌, ◌∷◌, [], false, IfOk, IsTrue, OnOk};
+ghost use Rattle.std.specs.Prelude.{◌≡◌, ◌==◌, ◌++◌, ◌∷◌, [], false, IfOk, OnOk};
 ghost use Rattle.std.specs.List.{filter_map, flat_map, fold, list_any};
-ghost use Rattle.std.specs.FinMap.{is_sorted};
-ghost use Rattle.jr_path.specs.Names.{path_cmp};
 ghost use Rattle.std.specs.Option.{option_copied, option_map_or};
 ghost use Rattle.jr_tree.specs.Edits.{applied};
 ghost use Rattle.jr_items.specs.Items.{reference_in, same_name, values_in};
@@ -17,9 +15,10 @@ ghost use Rattle.jcr_plan.specs.ByWrite.{covered_below, is_cover_name, marks_by,
 use crate::covered::{is_newly_covered, stays};
 use jcr_lock::LockNames;
 use jcr_ref::targets_of;
+use jr_edited::Edited;
 use jr_items::OwnName;
 use jr_path::{DeepCopy, Keyed, List, Name, Path};
-use jr_tree::{Tree, Write};
+use jr_tree::Write;
 use jr_value::{Property, Value};
 use oak_clash::{Mark, MarkAt};
 use std::alloc::{AllocError, Global};
@@ -27,14 +26,14 @@ use std::alloc::{AllocError, Global};
 // The marks of writes that lead from one tree to another, each once, in path order and at one path in the order of marks.
 pub(crate) fn marks_between(
     alloc: Global,
-    old: &Tree,
-    new: &Tree,
+    old: &Edited<'_>,
+    new: &Edited<'_>,
     writes: &[Write],
 ) -> Result<List<MarkAt>, AllocError>
     requires { new.now ≡ applied None old.now writes.now }
     ensures { IfOk result (λ marks. marks ≡ marks_of old.now writes.now) }
 {
-    know_order(old);
+    old.in_order();
     let mut found = Keyed::new(alloc);
     note_writes(&mut found, alloc, old, new, writes)?;
     note_targets(&mut found, alloc, old, new, writes)?;
@@ -45,19 +44,12 @@ pub(crate) fn marks_between(
     Ok(marks)
 }
 
-// The nodes stand in the order of their paths. It does nothing: callers learn the fact.
-fn know_order(tree: &Tree)
-    ensures { IsTrue (is_sorted path_cmp tree.now) }
-{
-    let _ = tree.len();
-}
-
 // Notes the marks for which each write is the cause, but for the targets of new references.
 fn note_writes(
     found: &mut Keyed<MarkAt, bool>,
     alloc: Global,
-    old: &Tree,
-    new: &Tree,
+    old: &Edited<'_>,
+    new: &Edited<'_>,
     writes: &[Write],
 ) -> Result<(), AllocError>
     ensures { OnOk result (found.new ≡ fold (λ es w. with_marks es (marks_by old.now new.now w)) found.old writes.now) }
@@ -72,8 +64,8 @@ fn note_writes(
 fn note_write(
     found: &mut Keyed<MarkAt, bool>,
     alloc: Global,
-    old: &Tree,
-    new: &Tree,
+    old: &Edited<'_>,
+    new: &Edited<'_>,
     names: &LockNames,
     write: &Write,
 ) -> Result<(), AllocError>
@@ -92,8 +84,8 @@ fn note_write(
 fn note_moved(
     found: &mut Keyed<MarkAt, bool>,
     alloc: Global,
-    old: &Tree,
-    new: &Tree,
+    old: &Edited<'_>,
+    new: &Edited<'_>,
     names: &LockNames,
     path: &Path,
 ) -> Result<(), AllocError>
@@ -108,8 +100,8 @@ fn note_moved(
 fn note_written(
     found: &mut Keyed<MarkAt, bool>,
     alloc: Global,
-    old: &Tree,
-    new: &Tree,
+    old: &Edited<'_>,
+    new: &Edited<'_>,
     names: &LockNames,
     path: &Path,
     name: &Name,
@@ -130,8 +122,8 @@ fn note_written(
 // Notes the marks of a node whose types are written, where it stays.
 fn note_retyped(
     found: &mut Keyed<MarkAt, bool>,
-    old: &Tree,
-    new: &Tree,
+    old: &Edited<'_>,
+    new: &Edited<'_>,
     path: &Path,
 ) -> Result<(), AllocError>
     ensures { OnOk result (found.new ≡ with_marks found.old (retyped_marks old.now new.now path.now)) }
@@ -150,8 +142,8 @@ fn note_retyped(
 fn note_covered(
     found: &mut Keyed<MarkAt, bool>,
     alloc: Global,
-    old: &Tree,
-    new: &Tree,
+    old: &Edited<'_>,
+    new: &Edited<'_>,
     names: &LockNames,
     path: &Path,
 ) -> Result<(), AllocError>
@@ -186,7 +178,7 @@ fn note(found: &mut Keyed<MarkAt, bool>, path: Path, mark: Mark) -> Result<(), A
 }
 
 // Whether the property tells a node's types.
-fn is_type_name(name: &Name) -> bool
+pub(crate) fn is_type_name(name: &Name) -> bool
     ensures { result ≡ is_type_name name.now }
 {
     is_one(name, OwnName::PrimaryType) || is_one(name, OwnName::MixinTypes)
@@ -212,21 +204,35 @@ fn is_cover_name(name: &Name) -> bool
 fn note_targets(
     found: &mut Keyed<MarkAt, bool>,
     alloc: Global,
-    old: &Tree,
-    new: &Tree,
+    old: &Edited<'_>,
+    new: &Edited<'_>,
     writes: &[Write],
 ) -> Result<(), AllocError>
     ensures { OnOk result (found.new ≡ with_marks found.old (mark_each Touch (filter_map (target_of new.now) (flat_map (new_references old.now) writes.now)))) }
 {
     let ids = new_references(alloc, old, writes)?;
-    for target in &targets_of(alloc, new, &ids)? {
+    for target in &targets_in(alloc, new, &ids)? {
         note(found, target.copy()?, Mark::Touch)?;
     }
     Ok(())
 }
 
+// The nodes that these references name: the whole tree is gone over only where there are references.
+fn targets_in(alloc: Global, tree: &Edited<'_>, ids: &[u128]) -> Result<Vec<Path>, AllocError>
+    ensures { IfOk result (λ paths. paths.items ≡ filter_map (target_of tree.now) ids.now) }
+{
+    if ids.is_empty() {
+        return Ok(Vec::new(alloc));
+    }
+    targets_of(alloc, &tree.tree()?, ids)
+}
+
 // The references that the writes add to their properties.
-fn new_references(alloc: Global, old: &Tree, writes: &[Write]) -> Result<Vec<u128>, AllocError>
+fn new_references(
+    alloc: Global,
+    old: &Edited<'_>,
+    writes: &[Write],
+) -> Result<Vec<u128>, AllocError>
     ensures { IfOk result (λ ids. ids.items ≡ flat_map (new_references old.now) writes.now) }
 {
     let mut ids = Vec::new(alloc);
@@ -236,7 +242,7 @@ fn new_references(alloc: Global, old: &Tree, writes: &[Write]) -> Result<Vec<u12
     Ok(ids)
 }
 
-fn push_new(ids: &mut Vec<u128>, old: &Tree, write: &Write) -> Result<(), AllocError>
+fn push_new(ids: &mut Vec<u128>, old: &Edited<'_>, write: &Write) -> Result<(), AllocError>
     ensures { OnOk result (ids.new.items ≡ ids.old.items ++ new_references old.now write.now) }
 {
     match write {

@@ -11,7 +11,8 @@ ghost use Rattle.jcr_plan.specs.Refusals.{plan_refusal};
 
 use crate::causes::{Assured, check_plan};
 use crate::marking::marks_between;
-use jr_path::{DeepCopy, List};
+use jr_edited::Edited;
+use jr_path::List;
 use jr_tree::{Edit, Refusal, Tree, Write};
 use jr_types::Registry;
 use oak_clash::MarkAt;
@@ -48,7 +49,7 @@ pub fn plan_of(
         typed: false,
         referring: false,
     };
-    match planned_marks(alloc, types, tree, &edit, tokens, assured) {
+    match marks_on(alloc, types, tree, &edit, tokens, assured) {
         Ok(marks) => Ok(Plan { edit, marks }),
         Err(refusal) => Err(refusal),
     }
@@ -58,16 +59,18 @@ pub fn plan_of(
 /// meets the rules of its types, of the nodes of the tree after the edit only those are checked whose types, items, children
 /// or children's types it changes. Where each REFERENCE names a node, the references are not gone over, unless the edit
 /// removes a node with an identifier or writes an identifier, a REFERENCE or the primary type of an `nt:frozenNode`. So it
-/// costs what the edit changes, beside what making the tree after it costs. A law of this crate says that both calls answer
+/// costs what the edit changes. The tree after the edit is lent by the caller. A law of this crate says that both calls answer
 /// alike on a tree that is as the caller is assured.
 pub fn plan_of_change(
     alloc: Global,
     types: &Registry,
     tree: &Tree,
+    after: &Edited<'_>,
     edit: Edit,
     tokens: &[String],
     assured: Assured,
 ) -> Result<Plan, Refusal>
+    requires { after.now ≡ applied None tree.now edit.writes }
     ensures edit { IfOk result (λ plan. plan.edit ≡ edit) }
     ensures marks { IfOk result (λ plan. plan.marks ≡ marks_of tree.now edit.writes) }
     ensures accepted { IfOk result (λ plan. refusal_by assured types.now tree.now (map string_bytes tokens.now) edit.writes ≡ None) }
@@ -75,14 +78,14 @@ pub fn plan_of_change(
     // what may start on a tree that is as the caller is assured is a plan
     ensures plan { IfOk result (λ plan. IsTree tree.now → IsAsAssured assured types.now tree.now → IsProper tree.now edit.writes → PlanOk types.now tree.now (map string_bytes tokens.now) edit.writes plan.marks) }
 {
-    match planned_marks(alloc, types, tree, &edit, tokens, assured) {
+    match planned_marks(alloc, types, tree, after, &edit, tokens, assured) {
         Ok(marks) => Ok(Plan { edit, marks }),
         Err(refusal) => Err(refusal),
     }
 }
 
 // The marks of an edit that may be committed.
-fn planned_marks(
+fn marks_on(
     alloc: Global,
     types: &Registry,
     tree: &Tree,
@@ -94,26 +97,43 @@ fn planned_marks(
     ensures ok { IfOk result (λ marks. refusal_by assured types.now tree.now (map string_bytes tokens.now) edit.now.writes ≡ None) }
     ensures err { IfErr result (IsTheRefusal (refusal_by assured types.now tree.now (map string_bytes tokens.now) edit.now.writes)) }
 {
-    match tree_after(tree, edit) {
-        Ok(after) => checked_marks(alloc, types, tree, &after, edit, tokens, assured),
+    match Edited::of(alloc, tree, edit) {
+        Ok(after) => planned_marks(alloc, types, tree, &after, edit, tokens, assured),
         Err(AllocError) => Err(Refusal::memory(alloc)),
     }
 }
 
-// The tree after an edit.
-fn tree_after(tree: &Tree, edit: &Edit) -> Result<Tree, AllocError>
-    ensures { IfOk result (λ after. after ≡ applied None tree.now edit.now.writes) }
+// The same, with the tree after the edit at hand.
+fn planned_marks(
+    alloc: Global,
+    types: &Registry,
+    tree: &Tree,
+    after: &Edited<'_>,
+    edit: &Edit,
+    tokens: &[String],
+    assured: Assured,
+) -> Result<List<MarkAt>, Refusal>
+    requires { after.now ≡ applied None tree.now edit.now.writes }
+    ensures marks { IfOk result (λ marks. marks ≡ marks_of tree.now edit.now.writes) }
+    ensures ok { IfOk result (λ marks. refusal_by assured types.now tree.now (map string_bytes tokens.now) edit.now.writes ≡ None) }
+    ensures err { IfErr result (IsTheRefusal (refusal_by assured types.now tree.now (map string_bytes tokens.now) edit.now.writes)) }
 {
-    let mut after = tree.copy()?;
-    after.apply(edit, None)?;
-    Ok(after)
+    checked_marks(
+        alloc,
+        types,
+        &Edited::unchanged(alloc, tree),
+        after,
+        edit,
+        tokens,
+        assured,
+    )
 }
 
 fn checked_marks(
     alloc: Global,
     types: &Registry,
-    old: &Tree,
-    new: &Tree,
+    old: &Edited<'_>,
+    new: &Edited<'_>,
     edit: &Edit,
     tokens: &[String],
     assured: Assured,
@@ -131,8 +151,8 @@ fn checked_marks(
 // The marks, or want of memory as a refusal.
 fn marks_or_memory(
     alloc: Global,
-    old: &Tree,
-    new: &Tree,
+    old: &Edited<'_>,
+    new: &Edited<'_>,
     writes: &[Write],
 ) -> Result<List<MarkAt>, Refusal>
     requires { new.now ≡ applied None old.now writes.now }

@@ -6,9 +6,10 @@ ghost use Rattle.jr_items.specs.Names.{frozen_type, uuid};
 ghost use Rattle.jr_tree.specs.Trees.{property_at};
 ghost use Rattle.jcr_plan.specs.Checked.{has_reference, is_ever_frozen, is_identity, may_dangle, reference_names};
 
+use jr_edited::Edited;
 use jr_items::{OwnName, one_text};
 use jr_path::{Name, Path};
-use jr_tree::{Tree, Write};
+use jr_tree::Write;
 use jr_value::{Property, Value};
 use std::alloc::{AllocError, Global};
 
@@ -33,8 +34,8 @@ impl ReferenceNames {
 // Whether one of the writes may leave a REFERENCE that names no node. It looks only at the nodes that are written.
 pub(crate) fn may_dangle(
     alloc: Global,
-    old: &Tree,
-    new: &Tree,
+    old: &Edited<'_>,
+    new: &Edited<'_>,
     writes: &[Write],
 ) -> Result<bool, AllocError>
     ensures { IfOk result (λ answer. answer ≡ list_any (may_dangle old.now new.now) writes.now) }
@@ -43,7 +44,12 @@ pub(crate) fn may_dangle(
     Ok(one_may_dangle(old, new, &names, writes))
 }
 
-fn one_may_dangle(old: &Tree, new: &Tree, names: &ReferenceNames, writes: &[Write]) -> bool
+fn one_may_dangle(
+    old: &Edited<'_>,
+    new: &Edited<'_>,
+    names: &ReferenceNames,
+    writes: &[Write],
+) -> bool
     requires { names.now ≡ reference_names }
     ensures { result ≡ list_any (may_dangle old.now new.now) writes.now }
 {
@@ -55,7 +61,12 @@ fn one_may_dangle(old: &Tree, new: &Tree, names: &ReferenceNames, writes: &[Writ
     false
 }
 
-fn leaves_dangling(old: &Tree, new: &Tree, names: &ReferenceNames, write: &Write) -> bool
+fn leaves_dangling(
+    old: &Edited<'_>,
+    new: &Edited<'_>,
+    names: &ReferenceNames,
+    write: &Write,
+) -> bool
     requires { names.now ≡ reference_names }
     ensures { result ≡ may_dangle old.now new.now write.now }
 {
@@ -70,7 +81,7 @@ fn leaves_dangling(old: &Tree, new: &Tree, names: &ReferenceNames, write: &Write
 }
 
 // Whether the node has a `jcr:uuid` that is one text.
-fn has_identifier(tree: &Tree, names: &ReferenceNames, at: &Path) -> bool
+fn has_identifier(tree: &Edited<'_>, names: &ReferenceNames, at: &Path) -> bool
     requires { names.now ≡ reference_names }
     ensures { result ≡ is_some (one_text (property_at tree.now at.now uuid)) }
 {
@@ -78,7 +89,13 @@ fn has_identifier(tree: &Tree, names: &ReferenceNames, at: &Path) -> bool
 }
 
 // Whether the property is an identifier, or the primary type of an `nt:frozenNode`.
-fn is_identity(old: &Tree, new: &Tree, names: &ReferenceNames, at: &Path, name: &Name) -> bool
+fn is_identity(
+    old: &Edited<'_>,
+    new: &Edited<'_>,
+    names: &ReferenceNames,
+    at: &Path,
+    name: &Name,
+) -> bool
     requires { names.now ≡ reference_names }
     ensures { result ≡ is_identity old.now new.now at.now name.now }
 {
@@ -88,7 +105,7 @@ fn is_identity(old: &Tree, new: &Tree, names: &ReferenceNames, at: &Path, name: 
     OwnName::PrimaryType.is(name) && is_ever_frozen(old, new, names, at)
 }
 
-fn is_ever_frozen(old: &Tree, new: &Tree, names: &ReferenceNames, at: &Path) -> bool
+fn is_ever_frozen(old: &Edited<'_>, new: &Edited<'_>, names: &ReferenceNames, at: &Path) -> bool
     requires { names.now ≡ reference_names }
     ensures { result ≡ is_ever_frozen old.now new.now at.now }
 {
@@ -96,7 +113,7 @@ fn is_ever_frozen(old: &Tree, new: &Tree, names: &ReferenceNames, at: &Path) -> 
 }
 
 // Whether the node is an `nt:frozenNode`.
-fn is_frozen(tree: &Tree, names: &ReferenceNames, at: &Path) -> bool
+fn is_frozen(tree: &Edited<'_>, names: &ReferenceNames, at: &Path) -> bool
     requires { names.now ≡ reference_names }
     ensures { result ≡ is_of_type tree.now frozen_type at.now }
 {

@@ -27,8 +27,8 @@ use Rattle.jcr_ref.specs.Drawn.{latest_date}
 use Rattle.jcr_ref.specs.Histories.{history_of, number_by, version_names}
 use Rattle.jcr_ref.specs.References.{identifier_of}
 use Rattle.jcr_version.specs.Edits.{checked_in_writes, checkin_due, checkin_edit, checkin_own, checkin_refusal, checkin_writes, new_version, succeed, unless_refused}
-use Rattle.jcr_version.specs.Frozen.{frozen_tree}
-use Rattle.jcr_version.specs.Histories.{drawn_id, no_versions, predecessors_of, unversioned, version_name, versions_of}
+use Rattle.jcr_frozen.specs.Frozen.{frozen_tree}
+use Rattle.jcr_frozen.specs.Histories.{drawn_id, no_versions, predecessors_of, unversioned, version_name, versions_of}
 use Rattle.jcr_restore.specs.BroughtBack.{IsBack}
 use Rattle.jcr_restore.specs.CheckedIn.{IsCheckIn, IsLeftAlone, made_version}
 use Rattle.jcr_restore.specs.Edits.{frozen_of}

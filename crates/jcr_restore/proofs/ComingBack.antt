@@ -32,7 +32,7 @@ use Rattle.jr_tree.proofs.Undated.{node_at-undated, undate}
 use Rattle.jr_items.specs.Names.{base_version, is_checked_out, predecessors}
 use Rattle.jr_items.specs.Items.{property_of, same_name, same_path}
 use Rattle.jr_types.specs.declared.TypeDef.{TypeDef}
-use Rattle.jcr_version.specs.Frozen.{frozen_copy, frozen_props, is_frozen_down}
+use Rattle.jcr_frozen.specs.Frozen.{frozen_copy, frozen_props, is_frozen_down}
 use Rattle.jcr_restore.specs.declared.fates.Fate.{Fate}
 use Rattle.jcr_restore.specs.Restored.{brought, brought_props, fate_below, is_brought, is_staying, restored}
 use Rattle.jcr_restore.specs.BroughtBack.{CanComeBack, ComesBack, IsBack, is_checking_in, left_out}

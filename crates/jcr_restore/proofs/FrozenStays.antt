@@ -31,7 +31,7 @@ use Rattle.jr_items.specs.Items.{adding, property_of}
 use Rattle.jr_items.specs.Names.{frozen_mixin_types, frozen_node, frozen_primary_type, frozen_type, frozen_uuid, mixin_types, primary_type}
 use Rattle.jr_types.specs.declared.TypeDef.{TypeDef}
 use Rattle.jcr_lock.specs.Needed.{is_needed}
-use Rattle.jcr_version.specs.Frozen.{frozen_copy, frozen_identifier, frozen_props, frozen_tree, is_copied, is_frozen_with, with_copied, with_own, with_property}
+use Rattle.jcr_frozen.specs.Frozen.{frozen_copy, frozen_identifier, frozen_props, frozen_tree, is_copied, is_frozen_with, with_copied, with_own, with_property}
 use Rattle.jcr_restore.specs.Edits.{frozen_of}
 use Rattle.jcr_restore.proofs.Added.{is_elsewhere, node_there, prop_there}
 use Rattle.jcr_restore.proofs.Standing.{above_there, all_below, found_passes, node_below, same_front, under_itself}

@@ -24,17 +24,17 @@ use Rattle.jr_tree.proofs.Pointwise.{same_path}
 use Rattle.jr_items.specs.Items.{adding, child_path, is_versionable, many_names, property_of, same_name}
 use Rattle.jr_items.specs.Names.{base_version, frozen_node, is_checked_out, mixin_types, predecessors, primary_type, system, versionable, version_storage_name}
 use Rattle.jr_types.specs.Attributes.{child_passes}
-use Rattle.jr_types.specs.Checking.{types_said}
+use Rattle.jr_types.specs.Said.{types_said}
 use Rattle.jr_types.specs.declared.TypeDef.{TypeDef}
 use Rattle.jcr_lock.specs.Needed.{is_needed}
 use Rattle.jcr_ref.specs.Drawn.{latest_date}
 use Rattle.jcr_ref.specs.Histories.{history_of, number_by, version_names}
 use Rattle.jcr_ref.specs.References.{identifier_of}
-use Rattle.jcr_version.specs.Attributes.{child_has, has_asked, node_has}
-use Rattle.jcr_version.specs.declared.attributes.Asked.TheVariants as asked
+use Rattle.jcr_frozen.specs.Attributes.{child_has, has_asked, node_has}
+use Rattle.jcr_frozen.specs.declared.attributes.Asked.TheVariants as asked
 use Rattle.jcr_version.specs.Edits.{checked_in_writes, checkin_writes, succeed, version_nodes}
-use Rattle.jcr_version.specs.Frozen.{frozen_tree, is_frozen_along, is_frozen_down}
-use Rattle.jcr_version.specs.Histories.{drawn_id, predecessors_of, version_name, versions_of}
+use Rattle.jcr_frozen.specs.Frozen.{frozen_tree, is_frozen_along, is_frozen_down}
+use Rattle.jcr_frozen.specs.Histories.{drawn_id, predecessors_of, version_name, versions_of}
 use Rattle.jcr_restore.specs.BroughtBack.{left_out}
 use Rattle.jcr_restore.specs.CheckedIn.{IsCheckIn, made_version}
 use Rattle.jcr_restore.specs.Edits.{frozen_of}

@@ -10,7 +10,7 @@ use Rattle.jr_tree.specs.declared.tree.Node.{Node}
 use Rattle.jr_tree.specs.Trees.{IsTree, Nodes, node_at}
 use Rattle.jr_items.specs.Items.{child_path}
 use Rattle.jr_types.specs.declared.TypeDef.{TypeDef}
-use Rattle.jcr_version.specs.Frozen.{is_frozen_along, is_frozen_down}
+use Rattle.jcr_frozen.specs.Frozen.{is_frozen_along, is_frozen_down}
 use Rattle.jcr_restore.specs.declared.fates.Fate.TheVariants as fate
 use Rattle.jcr_restore.specs.Restored.{fate_below, is_kept_back, is_staying, is_there}
 use Rattle.jcr_restore.specs.BroughtBack.{left_out}

@@ -21,9 +21,9 @@ use Rattle.jr_tree.specs.declared.tree.Node.{Node}
 use Rattle.jr_items.specs.Names.{frozen_mixin_types, frozen_primary_type, frozen_type, frozen_uuid, mixin_types, primary_type, uuid}
 use Rattle.jr_items.specs.Items.{one_text, property_of, same_name}
 use Rattle.jr_types.specs.declared.TypeDef.{TypeDef}
-use Rattle.jcr_version.specs.declared.attributes.Asked.TheVariants as asked
-use Rattle.jcr_version.specs.Attributes.{property_has}
-use Rattle.jcr_version.specs.Frozen.{frozen_copy, frozen_identifier, frozen_props, is_copied, is_frozen_name, with_copied, with_property}
+use Rattle.jcr_frozen.specs.declared.attributes.Asked.TheVariants as asked
+use Rattle.jcr_frozen.specs.Attributes.{property_has}
+use Rattle.jcr_frozen.specs.Frozen.{frozen_copy, frozen_identifier, frozen_props, is_copied, is_frozen_name, with_copied, with_property}
 use Rattle.basics.proofs.Orders.{equal_of}
 use Rattle.basics.proofs.Options.{where_some}
 use Rattle.jcr_restore.specs.Restored.{brought_props, is_unkept, is_type_name, left_props, with_frozen, with_identifier, with_types}

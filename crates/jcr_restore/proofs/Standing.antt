@@ -19,7 +19,7 @@ use Rattle.jr_tree.specs.Trees.{IsTree, Nodes, has_parent, node_at, subtree_of}
 use Rattle.jr_tree.proofs.Entries.{sorted_filter}
 use Rattle.jr_tree.proofs.Pointwise.{same_path}
 use Rattle.jr_types.specs.declared.TypeDef.{TypeDef}
-use Rattle.jcr_version.specs.Frozen.{frozen_copy, frozen_tree, is_frozen_down, is_frozen_with}
+use Rattle.jcr_frozen.specs.Frozen.{frozen_copy, frozen_tree, is_frozen_down, is_frozen_with}
 use Rattle.jcr_restore.specs.Restored.{brought, fate_below, is_brought, is_staying, place_of, restored, with_staying}
 use Rattle.jcr_restore.proofs.Folded.{found_folded, found_mapped, if_passed}
 use Rattle.jcr_restore.proofs.PropertiesBack.{or_none}

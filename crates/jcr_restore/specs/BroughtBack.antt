@@ -9,9 +9,9 @@ use Rattle.jr_tree.specs.Trees.{IsTree, Nodes, node_at, property_at, subtree_of,
 use Rattle.jr_items.specs.Names.{base_version, is_checked_out, mixin_types, predecessors, primary_type, uuid}
 use Rattle.jr_items.specs.Items.{one_text, property_of, same_name, same_path}
 use Rattle.jr_types.specs.declared.TypeDef.{TypeDef}
-use Rattle.jcr_version.specs.declared.attributes.Asked.TheVariants as asked
-use Rattle.jcr_version.specs.Attributes.{property_has}
-use Rattle.jcr_version.specs.Frozen.{frozen_tree, is_frozen_down, is_frozen_name}
+use Rattle.jcr_frozen.specs.declared.attributes.Asked.TheVariants as asked
+use Rattle.jcr_frozen.specs.Attributes.{property_has}
+use Rattle.jcr_frozen.specs.Frozen.{frozen_tree, is_frozen_down, is_frozen_name}
 use Rattle.jcr_restore.specs.Edits.{after_restore}
 use Rattle.jcr_restore.specs.Restored.{is_unkept}
 

@@ -18,7 +18,7 @@ use Rattle.jr_items.specs.Refusals.{checked_in, or_else, taken, when}
 use Rattle.jr_types.specs.declared.TypeDef.{TypeDef}
 use Rattle.jcr_ref.specs.Histories.{history_of, number_at}
 use Rattle.jcr_version.specs.Edits.{checked_in_writes, unless_refused}
-use Rattle.jcr_version.specs.Histories.{no_version, no_versions}
+use Rattle.jcr_frozen.specs.Histories.{no_version, no_versions}
 use Rattle.jcr_restore.specs.Restored.{fate_below, is_brought, place_of, restored}
 
 -- the frozen node of a version

@@ -11,9 +11,9 @@ use Rattle.jr_tree.specs.Trees.{Nodes, born_at, node_at, subtree_of}
 use Rattle.jr_items.specs.Names.{frozen_mixin_types, frozen_primary_type, frozen_uuid, mixin_types, primary_type, uuid}
 use Rattle.jr_items.specs.Items.{child_path, property_of, same_name}
 use Rattle.jr_types.specs.declared.TypeDef.{TypeDef}
-use Rattle.jcr_version.specs.declared.attributes.Asked.TheVariants as asked
-use Rattle.jcr_version.specs.Attributes.{property_has}
-use Rattle.jcr_version.specs.Frozen.{is_frozen_along, is_frozen_name, with_property}
+use Rattle.jcr_frozen.specs.declared.attributes.Asked.TheVariants as asked
+use Rattle.jcr_frozen.specs.Attributes.{property_has}
+use Rattle.jcr_frozen.specs.Frozen.{is_frozen_along, is_frozen_name, with_property}
 use Rattle.jcr_restore.specs.declared.fates.Fate.{Fate}
 use Rattle.jcr_restore.specs.declared.fates.Fate.TheVariants as fate
 

@@ -9,7 +9,7 @@ ghost use Rattle.jcr_lock.specs.Locks.{IsDue, IsDueRefusal};
 ghost use Rattle.jcr_restore.specs.Edits.{after_restore, bringing_refusal, frozen_of, frozen_there, in_conflict, restore_edit, restore_own, restore_to, unfrozen};
 
 use crate::restored::Bringing;
-use jcr_version::{find_history, find_version, number_at, own_child};
+use jcr_frozen::{find_history, find_version, number_at, own_child};
 use jr_items::{OwnName, checked_in, is_same_text, taken};
 use jr_path::{List, Path};
 use jr_tree::{Edit, Refusal, Tree, changes};

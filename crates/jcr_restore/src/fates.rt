@@ -2,7 +2,7 @@
 ghost use Rattle.std.specs.Prelude.{◌≡◌, IfOk};
 ghost use Rattle.jcr_restore.specs.Restored.{fate_below, is_brought, is_kept_back, is_staying, is_there};
 
-use jcr_version::is_frozen_along;
+use jcr_frozen::is_frozen_along;
 use jr_path::{Name, Path};
 use jr_tree::Tree;
 use jr_types::Registry;

@@ -4,7 +4,7 @@ ghost use Rattle.std.specs.List.{fold};
 ghost use Rattle.std.specs.Option.{option_copied};
 ghost use Rattle.jcr_restore.specs.Restored.{brought_props, is_type_name, is_unkept, left_props, with_frozen, with_identifier, with_left, with_types};
 
-use jcr_version::{Asked, is_frozen_name, property_has, put_told};
+use jcr_frozen::{Asked, is_frozen_name, property_has, put_told};
 use jr_items::OwnName;
 use jr_path::{DeepCopy, Keyed, Name};
 use jr_tree::Node;

@@ -7,7 +7,7 @@ ghost use Rattle.jcr_restore.specs.Restored.{brought, fate_below, is_brought, is
 
 use crate::fates::fate_below;
 use crate::properties::brought_props;
-use jcr_version::{names_below, onto};
+use jcr_frozen::{names_below, onto};
 use jr_path::{DeepCopy, Path};
 use jr_rev::Revision;
 use jr_tree::{Node, Tree};

@@ -23,7 +23,7 @@ use Rattle.jcr_trans.specs.Texts.{answer_text, memory_text}
 use Rattle.jcr_trans.specs.declared.command.Command.{Command}
 use Rattle.jcr_trans.specs.declared.command.Command.TheVariants as command
 use Rattle.jcr_view.specs.Outcomes.{is_viewed}
-use Rattle.jcr_view.specs.Reading.{refused}
+use Rattle.jcr_read.specs.Reading.{refused}
 use Rattle.jcr_law.specs.declared.law.JcrLaw.{JcrLaw}
 use Rattle.jcr_law.specs.Built.{Allowed, Asked, Unsupported, asked}
 use Rattle.jcr_law.specs.Commits.{edit_due, refusal_of_due, refusal_of_plan, unwritten_answer}

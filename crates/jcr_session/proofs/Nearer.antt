@@ -158,7 +158,7 @@ module _ (law : JcrLaw) (old new : Shown) (run now : SessionRun) (a : Pledge) (s
       (subst (λ (x : SessionRun). StepsOn sooner (left_of run old.work) (left_of x new.work) (turn_by answer)) (sym (is ∙ ap (λ (f : Phase). record run { phase = phase_by answer f }) commits))
       (subst (λ (x : SessionRun). StepsOn sooner (left_of x old.work) (left_of (record run { phase = phase_by answer (phase.Committing a) }) new.work) (turn_by answer)) same_run goes))
 
-  module _ (starts : Starts) (says : Says) (before later : ℕ → Type 0) where
+  module _ (starts : Starts) (says : Says) (before later : ℕ) where
     -- one step
     pub once_nearer : (answer : StepOut) (t : Turn) → Steps starts says old new answer → LastsLess before later old new answer → now ≡ record run { phase = phase_by answer run.phase } → t ≡ turn_by answer → StepsOn (EndsSooner before later old) (left_of run old.work) (left_of now new.work) t
     once_nearer answer t steps lowers is turns =

@@ -1,5 +1,5 @@
 -- Reading steps bring nearer what is read.
-use Rattle.std.proofs.Common.{◌≡◌, ◌⊎◌, inl, inr, ℕ, true, false, cond, Bool, Some, None, Option, List, [], is_some, refl, sym, ap, ◌∙◌, subst}
+use Rattle.std.proofs.Common.{◌≡◌, ◌<◌, ◌⊎◌, inl, inr, ℕ, true, false, cond, Bool, Some, None, Option, List, [], is_some, refl, sym, ap, ◌∙◌, subst}
 use Rattle.std.specs.Prelude.{⊤, IfSome}
 use Rattle.std.specs.Map.{lookup}
 use Rattle.std.specs.BTreeMap.{insert_entry, is_at}
@@ -62,22 +62,22 @@ module _ (starts : Starts) (says : Says) (old new : Shown) (answer : StepOut) (s
         makes = subst (λ (o : Past). Makes (after o old.history) old.session old.work answer steps.own new.work) none steps.makes;
       }
 
-  sooner : (before now : ℕ → Type 0) → LastsLess before now old new answer → (IsWait answer → ⊥) → EndsSooner before now old
-  sooner before now lowers never alone n h = by (lowers (acted alone) n h)
+  sooner : (before now : ℕ) → LastsLess before now old new answer → (IsWait answer → ⊥) → EndsSooner before now old
+  sooner before now lowers never alone = by (lowers (acted alone))
     where
-      by : IsWait answer ⊎ now n → now n
+      by : IsWait answer ⊎ (now < before) → now < before
       by (inl wait) = absurd (never wait)
       by (inr x) = x
 
   -- or it waits
-  pub sooner_by : (before now : ℕ → Type 0) → LastsLess before now old new answer → IsWait answer ⊎ EndsSooner before now old
+  pub sooner_by : (before now : ℕ) → LastsLess before now old new answer → IsWait answer ⊎ EndsSooner before now old
   sooner_by before now lowers = by answer refl
     where
       by : (a : StepOut) → a ≡ answer → IsWait answer ⊎ EndsSooner before now old
       by (out.Wait q) is = inl (subst IsWait is tt)
       by a is = inr (sooner before now lowers (λ wait. subst IsWait (sym is) wait))
 
-  pub load_sooner : (before now : ℕ → Type 0) → LastsLess before now old new answer → loaded_by answer ≡ loaded.Going → EndsSooner before now old
+  pub load_sooner : (before now : ℕ) → LastsLess before now old new answer → loaded_by answer ≡ loaded.Going → EndsSooner before now old
   load_sooner before now lowers going = sooner before now lowers (unwaited answer going)
     where
       is_going : Loaded → Bool
@@ -88,7 +88,7 @@ module _ (starts : Starts) (says : Says) (old new : Shown) (answer : StepOut) (s
       unwaited (out.Wait q) h wait = false≢true (ap is_going h)
       unwaited a h wait = wait
 
-  pub list_sooner : (before now : ℕ → Type 0) → LastsLess before now old new answer → listed_by answer ≡ listed.Going → EndsSooner before now old
+  pub list_sooner : (before now : ℕ) → LastsLess before now old new answer → listed_by answer ≡ listed.Going → EndsSooner before now old
   list_sooner before now lowers going = sooner before now lowers (unwaited answer going)
     where
       is_going : Listed → Bool

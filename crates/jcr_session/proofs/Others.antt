@@ -1,5 +1,5 @@
 -- While events of others are added, what a session drew stays drawn by it, neither committed nor refused by them; and what others added at two times they added at once.
-use Rattle.std.proofs.Common.{◌≡◌, ℕ, Bool, true, false, cond, not, ◌||◌, ◌&&◌, Some, None, Option, List, [], ◌∷◌, ◌++◌, is_some, refl, sym, ap, ◌∙◌, subst}
+use Rattle.std.proofs.Common.{◌≡◌, ℕ, Bool, true, false, cond, not, ◌||◌, ◌&&◌, Some, None, Option, List, [], ◌∷◌, ◌++◌, refl, sym, ap, ◌∙◌, subst}
 use Rattle.std.specs.Prelude.{◌==◌}
 use Rattle.std.specs.Option.{option_map_or}
 use Rattle.std.specs.List.{list_any}
@@ -17,7 +17,7 @@ use Rattle.oak_machine.specs.Runs.{AreNodes, IsRunOf}
 use Rattle.oak_machine.specs.Sessions.{is_drawing, is_drawing_among}
 use Rattle.oak_machine.proofs.Induction.{first_of_both, neither}
 use Rattle.oak_machine.proofs.Stays.{any_later}
-use Rattle.core_heads.proofs.Runs.{fresh_run}
+use Rattle.core_heads.proofs.Drawn.{Keeps, drawn_some, draw_stays, keeps_one}
 
 pub append_assoc : {X : Type 0} (a b c : List X) → (a ++ b) ++ c ≡ a ++ (b ++ c)
 append_assoc [] b c = refl
@@ -29,34 +29,14 @@ any_both test (x ∷ a) b h k = let n = neither (test x) _ h in ap (λ c. c || l
 
 -- ---- draws
 
--- what is drawn in one past is so in another
-abbrev Keeps : Past → Past → Type 0
-Keeps a w = (r : Revision) (d : Draw) → draw_of a r ≡ Some d → draw_of w r ≡ Some d
-
-drawn_some : (o : Option Draw) → is_some o ≡ true → (d : Draw) × (o ≡ Some d)
-drawn_some None h = absurd (false≢true h)
-drawn_some (Some d) h = (d, refl)
-
 module _ (clusters : ℕ) (sessions : List ℕ) (nodes : AreNodes clusters sessions) (begin : Begin) (starts : Starts) (says : Says) where
-  keeps_one : (e : Event) (past : Past) → IsRunOf starts says clusters sessions begin (e ∷ past) → Keeps past (e ∷ past)
-  keeps_one (event.Draw d) past run r f h =
-      elim (is_same r d.revision) as (λ b. is_same r d.revision ≡ b → cond b (Some d) (draw_of past r) ≡ Some f) [
-        | true ↦ λ same. absurd (false≢true (ap is_some (sym (fresh_run clusters sessions nodes begin starts says d past run).fresh ∙ subst (λ (q : Revision). draw_of past q ≡ Some f) (same_revision r d.revision same) h)))
-        | false ↦ λ same. h
-      ] refl
-  keeps_one e past run r f h = h
-
-  pub draw_stays : (added past : Past) → IsRunOf starts says clusters sessions begin (added ++ past) → (r : Revision) (d : Draw) → draw_of past r ≡ Some d → draw_of (added ++ past) r ≡ Some d
-  draw_stays [] past run r d h = h
-  draw_stays (e ∷ added) past run r d h = keeps_one e (added ++ past) run r d (draw_stays added past run.1 r d h)
-
   -- a revision of the session stays one
   pub revision_stays : (added past : Past) → IsRunOf starts says clusters sessions begin (added ++ past) → (s : ℕ) (r : Revision) → is_revision_of past s r ≡ true → is_revision_of (added ++ past) s r ≡ true
   revision_stays added past run s r h = by (draw_of past r) refl h
     where
       by : (o : Option Draw) → draw_of past r ≡ o → option_map_or (λ d. d.session == s) o false ≡ true → option_map_or (λ d. d.session == s) (draw_of (added ++ past) r) false ≡ true
       by None is h = absurd (false≢true h)
-      by (Some d) is h = ap (λ (o : Option Draw). option_map_or (λ d. d.session == s) o false) (draw_stays added past run r d is) ∙ h
+      by (Some d) is h = ap (λ (o : Option Draw). option_map_or (λ d. d.session == s) o false) (draw_stays clusters sessions nodes begin starts says added past run r d is) ∙ h
 
   module _ (s : ℕ) where
     -- whether a revision that was drawn then is one of the session
@@ -75,7 +55,7 @@ module _ (clusters : ℕ) (sessions : List ℕ) (nodes : AreNodes clusters sessi
         ap (λ b. b || list_any (is_event_of w s) added) (same_owner (added ++ past) w v kw kv r (first_of_both _ _ run.0.open_.in_flight))
         ∙ ap (λ b. is_revision_of v s r || b) (any_same added past w v run.1 kw kv)
     any_same (event.Draw d ∷ added) past w v run kw kv =
-        ap (λ b. (d.session == s) || b) (any_same added past w v run.1 (λ r f h. kw r f (keeps_one (event.Draw d) (added ++ past) run r f h)) (λ r f h. kv r f (keeps_one (event.Draw d) (added ++ past) run r f h)))
+        ap (λ b. (d.session == s) || b) (any_same added past w v run.1 (λ r f h. kw r f (keeps_one clusters sessions nodes begin starts says (event.Draw d) (added ++ past) run r f h)) (λ r f h. kv r f (keeps_one clusters sessions nodes begin starts says (event.Draw d) (added ++ past) run r f h)))
     any_same (event.Login t x ∷ added) past w v run kw kv = ap (λ b. (t == s) || b) (any_same added past w v run.1 kw kv)
     any_same (event.Refresh t x ∷ added) past w v run kw kv = ap (λ b. (t == s) || b) (any_same added past w v run.1 kw kv)
     any_same (event.Attach t x ∷ added) past w v run kw kv = ap (λ b. (t == s) || b) (any_same added past w v run.1 kw kv)
@@ -102,7 +82,7 @@ module _ (clusters : ℕ) (sessions : List ℕ) (nodes : AreNodes clusters sessi
     others_both later added past run early first second =
         subst (λ (w : Past). list_any (is_event_of w s) (later ++ added) ≡ false) (sym (append_assoc later added past))
         (any_both (is_event_of (later ++ (added ++ past)) s) later added second
-        (any_same added past (later ++ (added ++ past)) (added ++ past) early (draw_stays later (added ++ past) run) (λ r d h. h) ∙ first))
+        (any_same added past (later ++ (added ++ past)) (added ++ past) early (draw_stays clusters sessions nodes begin starts says later (added ++ past) run) (λ r d h. h) ∙ first))
 
     module _ (r : Revision) where
       -- others neither commit nor refuse what the session drew

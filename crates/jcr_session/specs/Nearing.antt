@@ -1,5 +1,5 @@
 -- How reading steps and turns bring a session nearer to its end.
-use Rattle.std.specs.Prelude.{◌≡◌, ◌⊎◌, ◌<◌, ◌-◌, ℕ, suc, ⊤, length, Option, None, Some, is_some, IsTrue}
+use Rattle.std.specs.Prelude.{◌≡◌, ◌⊎◌, ◌<◌, ◌-◌, ℕ, ⊤, length, Option, None, Some, is_some, IsTrue}
 use Rattle.jr_part.specs.declared.need.Need.{Need}
 use Rattle.jr_part.specs.Parts.{knows}
 use Rattle.oak_port.specs.Ports.{Awaiting, Deciding, Shown, Undoing, Work, Writing}
@@ -9,10 +9,9 @@ use Rattle.jcr_session.specs.declared.run.SessionRun.{SessionRun}
 use Rattle.jcr_session.specs.declared.turn.Turn.{Turn}
 use Rattle.jcr_session.specs.declared.turn.Turn.TheVariants as turn
 
--- where nobody else steps the world, what would have ended within some steps, as `before` tells,
--- will end within one fewer, as `now` tells
-abbrev pub EndsSooner : (before now : ℕ → Type 0) → Shown → Type 0
-EndsSooner before now p = IsTrue (is_some p.beside.seats) → (n : ℕ) → before (suc n) → now n
+-- where nobody else steps the world, fewer of its steps are left of what is being done
+abbrev pub EndsSooner : (before now : ℕ) → Shown → Type 0
+EndsSooner before now p = IsTrue (is_some p.beside.seats) → now < before
 
 -- ---- reading steps
 

@@ -136,7 +136,7 @@ impl SessionRun {
             self.old self.new result }
         ensures granted { IsGranted result }
         ensures steps { StepsOn
-            (EndsSooner (P.lasts port.old) (P.lasts port.new) (P.shown port.old))
+            (EndsSooner (P.left port.old) (P.left port.new) (P.shown port.old))
             (left_of self.old (P.shown port.old).work)
             (left_of self.new (P.shown port.new).work) result }
     {

@@ -52,7 +52,7 @@ impl SessionRun {
         ensures err { OnErr result (IsTrue (may_read self.old)
             × IsRefused (P.shown port.new) self.new) }
         ensures nears { IfOk result (λ made. IsTrue made → HasNeared
-            (EndsSooner (P.lasts port.old) (P.lasts port.new) (P.shown port.old))
+            (EndsSooner (P.left port.old) (P.left port.new) (P.shown port.old))
             self.old.fetch self.new) }
     {
         if !self.may_read() {
@@ -158,7 +158,7 @@ impl SessionRun {
         ensures made { IfOk result IsTrue }
         ensures err { OnErr result (IsRefused (P.shown port.new) self.new) }
         ensures nears { IfOk result (λ made. IsNearer
-            (EndsSooner (P.lasts port.old) (P.lasts port.new) (P.shown port.old)) need self.new) }
+            (EndsSooner (P.left port.old) (P.left port.new) (P.shown port.old)) need self.new) }
     {
         match need {
             Need::Node(path) => self.read_node(port, path),
@@ -183,7 +183,7 @@ impl SessionRun {
         ensures made { IfOk result IsTrue }
         ensures err { OnErr result (IsRefused (P.shown port.new) self.new) }
         ensures nears { IfOk result (λ made. IsNearer
-            (EndsSooner (P.lasts port.old) (P.lasts port.new) (P.shown port.old))
+            (EndsSooner (P.left port.old) (P.left port.new) (P.shown port.old))
             (need.Node path) self.new) }
     {
         match load_came(port.step()) {
@@ -215,7 +215,7 @@ impl SessionRun {
         ensures made { IfOk result IsTrue }
         ensures err { OnErr result (IsRefused (P.shown port.new) self.new) }
         ensures nears { IfOk result (λ made. IsNearer
-            (EndsSooner (P.lasts port.old) (P.lasts port.new) (P.shown port.old))
+            (EndsSooner (P.left port.old) (P.left port.new) (P.shown port.old))
             (need.Children path) self.new) }
     {
         match list_came(port.step()) {

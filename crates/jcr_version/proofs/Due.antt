@@ -1,22 +1,12 @@
 -- Which edit or refusal is due, from what was asked before.
-use Rattle.std.proofs.Common.{◌≡◌, Bool, true, false, cond, Option, None, Some, List, refl, sym, ap, subst}
+use Rattle.std.proofs.Common.{◌≡◌, Option, None, List, sym, ap, subst}
 use Rattle.std.specs.Prelude.{IfOk, IfErr, Result, Ok, Err}
-use Rattle.std.proofs.lemmas.Option.{none-some}
 use Rattle.jr_tree.specs.declared.edit.Edit.{Edit}
 use Rattle.jr_tree.specs.declared.edit.Write.{Write}
 use Rattle.jr_tree.specs.declared.shared.Refusal.{Refusal}
 use Rattle.jr_items.specs.Refusals.{IsTheRefusal, or_else, out_of_memory}
 use Rattle.jcr_lock.specs.Locks.{IsDue, IsDueRefusal}
 use Rattle.jcr_version.specs.Edits.{unless_refused}
-
--- what is found where a test holds
-pub some_of : {X : Type 0} (b : Bool) (x y : X) → Some y ≡ cond b (Some x) None → (b ≡ true) × (y ≡ x)
-some_of true x y h = (refl, ap (λ (o : Option _). elim o [ Some z ↦ z | None ↦ y ]) h)
-some_of false x y h = absurd (none-some y (sym h))
-
-pub none_of : {X : Type 0} (b : Bool) (x : X) → None ≡ cond b (Some x) None → b ≡ false
-none_of true x h = absurd (none-some x h)
-none_of false x h = refl
 
 -- nothing was refused before
 pub own_due : (result : Result Edit Refusal) (r : Option Refusal) (due : Result (List Write) Refusal) → r ≡ None → IfOk result (IsDue due) → IfOk result (IsDue (unless_refused r due))

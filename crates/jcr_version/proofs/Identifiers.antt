@@ -3,7 +3,7 @@ use Rattle.std.proofs.Common.{◌≡◌, ℕ, ◌+◌, ◌*◌, ◌%◌, ◌^◌
 use Rattle.jr_value.specs.Json.{identifier_text}
 use Rattle.jr_tree.specs.declared.shared.Who.{Who}
 use Rattle.jcr_ref.specs.References.{identifier, identifier_number, uuid_text}
-use Rattle.jcr_version.specs.Histories.{drawn_id}
+use Rattle.jcr_frozen.specs.Histories.{drawn_id}
 
 -- sessions whose last 24 bits are the same have the same identifiers
 same_text : ((s c : ℕ) → identifier_text (identifier_number s c) ≡ identifier s c) → ((n : ℕ) → identifier_text n ≡ uuid_text n) → (a b c : ℕ) → a % 2 ^ 24 ≡ b % 2 ^ 24

@@ -1,4 +1,2 @@
 pub mod Due
 mod Identifiers
-pub mod Refused
-mod VersionNames

@@ -23,8 +23,8 @@ use Rattle.jr_types.specs.declared.TypeDef.{TypeDef}
 use Rattle.jcr_lock.specs.Needed.{is_needed}
 use Rattle.jcr_ref.specs.Drawn.{latest_date, too_many_ids}
 use Rattle.jcr_ref.specs.Histories.{history_of, labels_of, number_at, number_by, reference_to, version_names}
-use Rattle.jcr_version.specs.Frozen.{aborting, frozen_tree, with_property}
-use Rattle.jcr_version.specs.Histories.{drawn_id, is_numbered, no_version, no_versions, predecessors_of, version_name}
+use Rattle.jcr_frozen.specs.Frozen.{aborting, frozen_tree, with_property}
+use Rattle.jcr_frozen.specs.Histories.{drawn_id, is_numbered, no_version, no_versions, predecessors_of, version_name}
 
 -- an item stands in the way of a check-in
 abbrev pub aborted : List TypeDef → Nodes → Path → Option Refusal

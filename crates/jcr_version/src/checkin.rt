@@ -19,14 +19,13 @@ ghost use Rattle.jcr_lock.specs.Needed.{is_needed};
 ghost use Rattle.jcr_ref.specs.Histories.{history_of, number_by, version_names};
 ghost use Rattle.jcr_version.specs.Edits.{aborted, base_name, checked_in_version, checked_in_writes, checkin_drawn, checkin_due, checkin_edit, checkin_own, checkin_refusal, checkin_writes, having_drawn, new_version, next_version, succeed, version_nodes, version_props};
 ghost use Rattle.jcr_ref.specs.Drawn.{latest_date, too_many_ids};
-ghost use Rattle.jcr_version.specs.Histories.{drawn_id, is_named, is_numbered, version_name};
+ghost use Rattle.jcr_frozen.specs.Histories.{drawn_id, is_named, is_numbered, version_name};
 
-use crate::frozen::{first_aborting, is_versionable, push_frozen, put_property};
-use crate::histories::{
-    find_history, is_named, is_numbered, one_reference, own_child, references_in, version_name,
-    versions_of,
-};
 use crate::writes::{needed, push_adding, push_property};
+use jcr_frozen::{
+    find_history, first_aborting, is_named, is_numbered, is_versionable, one_reference, own_child,
+    push_frozen, put_property, references_in, version_name, versions_of,
+};
 use jcr_ref::{
     MAX_IDS, identifier, identifier_number, identifiers_are_uuids, latest_date, version_names,
 };
@@ -146,7 +145,7 @@ fn draw(
     }
 }
 
-#[tactic(auto, using(crate::proofs::Refused::first_of_two, crate::proofs::Refused::second_of_two, crate::proofs::Refused::none_of_two))]
+#[tactic(auto, using(jcr_frozen::proofs::Refused::first_of_two, jcr_frozen::proofs::Refused::second_of_two, jcr_frozen::proofs::Refused::none_of_two))]
 fn check_checkin(
     alloc: Global,
     types: &Registry,

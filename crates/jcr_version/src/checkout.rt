@@ -13,8 +13,8 @@ ghost use Rattle.jcr_lock.specs.Needed.{is_needed};
 ghost use Rattle.jcr_version.specs.Edits.{checkout_edit, checkout_writes};
 
 use crate::checkin::{is_checked_in, push_references};
-use crate::histories::{find_history, one_reference};
 use crate::writes::{needed, push_property};
+use jcr_frozen::{find_history, one_reference};
 use jr_items::OwnName;
 use jr_path::{List, Path};
 use jr_tree::{Edit, Refusal, Tree, Write};

@@ -8,8 +8,8 @@ ghost use Rattle.jcr_lock.specs.Needed.{is_needed};
 ghost use Rattle.jcr_lock.specs.Locks.{IsDue, IsDueRefusal};
 ghost use Rattle.jcr_version.specs.Edits.{is_used, label_edit, label_in_use, label_own, label_path, label_refusal, no_label, unlabel_edit, unlabel_own};
 
-use crate::histories::{find_history, find_version, number_at, own_child};
 use crate::writes::needed;
+use jcr_frozen::{find_history, find_version, number_at, own_child};
 use jr_items::{OwnName, checked_in, no_item};
 use jr_path::{DeepCopy, List, Name, Path};
 use jr_tree::{Edit, Refusal, Tree, Write};
@@ -57,7 +57,7 @@ fn label_in(
 }
 
 // The version, where it may have the label.
-#[tactic(auto, using(crate::proofs::Refused::first_of_two, crate::proofs::Refused::second_of_two, crate::proofs::Refused::none_of_two))]
+#[tactic(auto, using(jcr_frozen::proofs::Refused::first_of_two, jcr_frozen::proofs::Refused::second_of_two, jcr_frozen::proofs::Refused::none_of_two))]
 fn find_free(
     alloc: Global,
     tree: &Tree,

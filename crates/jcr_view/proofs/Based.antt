@@ -29,8 +29,9 @@ use Rattle.jcr_write.specs.Writes.{move_refusal, node_set, node_unset, order_nod
 use Rattle.jcr_fill.specs.Kept.{IsAsBefore}
 use Rattle.jcr_fill.specs.Makings.{Making, making}
 use Rattle.jcr_fill.specs.Steps.{and_then}
-use Rattle.jcr_make.specs.Commands.{add_made, node_unmixed, type_made}
-use Rattle.jcr_make.specs.Histories.{due_history, mixin_made}
+use Rattle.jcr_make.specs.Commands.{add_made}
+use Rattle.jcr_mixin.specs.Commands.{node_unmixed, type_made}
+use Rattle.jcr_mixin.specs.Histories.{due_history, mixin_made}
 use Rattle.jcr_make.specs.Subtrees.{makes_histories, tree_made}
 use Rattle.jcr_make.proofs.Touched.{add_elsewhere, mixin_elsewhere, tree_elsewhere, type_elsewhere}
 use Rattle.jcr_view.specs.Needs.{children_needs, listing_needs, needs_of}

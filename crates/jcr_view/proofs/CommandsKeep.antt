@@ -35,8 +35,9 @@ use Rattle.jcr_write.proofs.Keeping.{fails, move_keeps, none_here, none_later, o
 use Rattle.jcr_fill.specs.Makings.{Making, making}
 use Rattle.jcr_fill.proofs.Children.{kept_by_put}
 use Rattle.jcr_fill.proofs.Fills.{ok_same}
-use Rattle.jcr_make.specs.Commands.{add_made, type_made, unmixin_made}
-use Rattle.jcr_make.specs.Histories.{mixin_made}
+use Rattle.jcr_make.specs.Commands.{add_made}
+use Rattle.jcr_mixin.specs.Commands.{type_made, unmixin_made}
+use Rattle.jcr_mixin.specs.Histories.{mixin_made}
 use Rattle.jcr_make.specs.Subtrees.{tree_made}
 use Rattle.jcr_make.proofs.KeepingTrees.{add_keeps, add_stays, mixin_keeps, mixin_stays, put_stays, tree_keeps, tree_stays, type_keeps, type_stays, unmixin_keeps, unmixin_stays}
 use Rattle.jcr_view.specs.Outcomes.{drawing_none, eval, made_outcome, outcome}

@@ -40,7 +40,7 @@ use Rattle.jr_overlay.specs.Drafts.{Steps}
 use Rattle.jcr_fill.specs.Filled.{next_text}
 use Rattle.jcr_fill.specs.Makings.{Making, making}
 use Rattle.jcr_make.specs.AlikeViews.{AreAlikeFrom}
-use Rattle.jcr_make.specs.Histories.{due_history, own_text}
+use Rattle.jcr_mixin.specs.Histories.{due_history, own_text}
 use Rattle.jcr_make.specs.Subtrees.{makes_histories}
 use Rattle.jcr_make.proofs.Counted.{of_due}
 use Rattle.jcr_make.proofs.ReadBelow.{add_same, here, mixin_same, type_same, unmixin_same}
@@ -48,7 +48,7 @@ use Rattle.jcr_make.proofs.ReadTrees.{tree_same}
 use Rattle.jcr_view.specs.Needs.{children_needs, history_needs, listing_needs, needs_of, parent_needs, storage_needs, versionable_needs}
 use Rattle.jcr_view.specs.Outcomes.{drawing_none, made_outcome, outcome, shown_outcome}
 use Rattle.jcr_view.specs.Parts.{IsPartOf}
-use Rattle.jcr_view.specs.Reading.{answer_at, by_id_answer, get_answer, list_answer, node_identifier, refs_answer, refused, refused_or, versions_answer}
+use Rattle.jcr_read.specs.Reading.{answer_at, by_id_answer, get_answer, list_answer, node_identifier, refs_answer, refused, refused_or, versions_answer}
 
 -- of a node that both have
 at_same : (u w : View) (p : Path) (shows : Node → Answer) → u.node p ≡ w.node p

@@ -3,7 +3,6 @@ mod AgainKeeps
 mod AgainLeads
 mod Asked
 mod Based
-mod Below
 mod CommandsKeep
 mod Drawn
 mod Enough
@@ -12,7 +11,7 @@ mod Known
 mod Moved
 mod Needed
 mod OnePass
-mod Replied
 mod Rounds
 mod RoundsEnd
+mod Shown
 mod WholeLacks

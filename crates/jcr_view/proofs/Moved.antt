@@ -21,8 +21,8 @@ use Rattle.jcr_fill.specs.Makings.{Making, making}
 use Rattle.jcr_trans.specs.Answers.{Answer, Done}
 use Rattle.jcr_trans.specs.Texts.{answer_text}
 use Rattle.jcr_trans.specs.declared.command.Command.{Command}
-use Rattle.jcr_view.specs.Outcomes.{Evaluated, eval, evaluated, is_writing, made_outcome, shown, shown_outcome, written}
-use Rattle.jcr_view.specs.Reading.{Replies, refused}
+use Rattle.jcr_view.specs.Outcomes.{Evaluated, eval, evaluated, is_writing, made_outcome, shown_outcome, written}
+use Rattle.jcr_read.specs.Reading.{Replies, refused, shown}
 use Rattle.jcr_view.specs.Rebases.{moved_view, rebased, steps_again}
 
 -- steps over a tree of which all is known make of it what they make of a tree

@@ -24,7 +24,7 @@ use Rattle.jr_overlay.specs.Overlays.{Changed, seen}
 use Rattle.jcr_trans.specs.declared.command.Command.{Command}
 use Rattle.jcr_trans.specs.declared.command.Command.TheVariants as command
 use Rattle.jcr_write.specs.Places.{above}
-use Rattle.jcr_make.specs.Histories.{due_history}
+use Rattle.jcr_mixin.specs.Histories.{due_history}
 use Rattle.jcr_make.specs.Subtrees.{makes_histories}
 use Rattle.jcr_view.specs.Needs.{children_needs, history_needs, listing_needs, needs_of, parent_needs, storage_needs, versionable_needs}
 use Rattle.jcr_view.specs.Rounds.{IsOfNone}

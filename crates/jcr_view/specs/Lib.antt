@@ -1,7 +1,6 @@
 pub mod Needs
 pub mod Outcomes
 pub mod Parts
-pub mod Reading
 pub mod Rebases
 pub mod Rounds
 pub mod Whole

@@ -1,5 +1,5 @@
 -- What has to be known of the tree at the base before a command is made.
-use Rattle.std.specs.Prelude.{◌++◌, ◌-◌, cond, Bool, true, false, List, [], ◌∷◌, length, slice_get, Option, None, Some}
+use Rattle.std.specs.Prelude.{◌++◌, ◌-◌, cond, Bool, false, List, [], ◌∷◌, length, slice_get, Option, None, Some}
 use Rattle.std.specs.List.{fold}
 use Rattle.std.specs.Option.{option_map_or}
 use Rattle.std.specs.Ordering.{eq_by_cmp}
@@ -19,7 +19,7 @@ use Rattle.jcr_trans.specs.declared.command.Command.{Command}
 use Rattle.jcr_trans.specs.declared.command.Command.TheVariants as command
 use Rattle.jcr_trans.specs.declared.command.TreeNode.{TreeNode}
 use Rattle.jcr_write.specs.Places.{above}
-use Rattle.jcr_make.specs.Histories.{due_history}
+use Rattle.jcr_mixin.specs.Histories.{due_history}
 use Rattle.jcr_make.specs.Subtrees.{makes_histories}
 
 -- the children of p, where the base has a node there
@@ -74,13 +74,6 @@ needs_of who k c (command.ById id) = need.All ∷ []
 needs_of who k c (command.Refs p) = need.All ∷ []
 needs_of who k c (command.Versions p) = need.All ∷ []
 needs_of who k c _ = []
-
--- the command reads the whole tree
-abbrev pub reads_all : Command → Bool
-reads_all (command.ById id) = true
-reads_all (command.Refs p) = true
-reads_all (command.Versions p) = true
-reads_all _ = false
 
 -- the need is of the node at p
 abbrev pub is_node_at : Path → Need → Bool

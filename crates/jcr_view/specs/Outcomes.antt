@@ -10,11 +10,12 @@ use Rattle.jcr_trans.specs.Answers.{Answer, Done}
 use Rattle.jcr_trans.specs.declared.command.Command.{Command}
 use Rattle.jcr_trans.specs.declared.command.Command.TheVariants as command
 use Rattle.jcr_write.specs.Writes.{move_made, order_made, remove_made, set_made, unset_made}
-use Rattle.jcr_make.specs.Commands.{add_made, type_made, unmixin_made}
-use Rattle.jcr_make.specs.Histories.{mixin_made}
+use Rattle.jcr_make.specs.Commands.{add_made}
+use Rattle.jcr_mixin.specs.Commands.{type_made, unmixin_made}
+use Rattle.jcr_mixin.specs.Histories.{mixin_made}
 use Rattle.jcr_fill.specs.Makings.{Making, making}
 use Rattle.jcr_make.specs.Subtrees.{tree_made}
-use Rattle.jcr_view.specs.Reading.{by_id_answer, get_answer, id_answer, list_answer, props_answer, refs_answer, refused, versions_answer}
+use Rattle.jcr_read.specs.Reading.{refused, shown}
 
 -- what a command answers, what it makes of a view, and the identifiers drawn then
 pub record Outcome : Type 0 where
@@ -75,17 +76,6 @@ written types who view (command.SetType p n) m = type_made types who view p n m
 written types who view (command.OrderBefore p before) m =
     drawing_none m.ids (order_made types view m.steps p before)
 written types who view _ m = Ok m
-
--- what a reading command answers
-abbrev pub shown : List TypeDef → View → (base : Nodes) → Command → Answer
-shown types view base (command.Get p) = get_answer view p
-shown types view base (command.List p) = list_answer types view p
-shown types view base (command.Props p) = props_answer view p
-shown types view base (command.Id p) = id_answer view p
-shown types view base (command.ById id) = by_id_answer view id
-shown types view base (command.Refs p) = refs_answer view p
-shown types view base (command.Versions p) = versions_answer base p
-shown types view base _ = Done
 
 -- what is made counts; of a command that is refused nothing does
 abbrev pub made_outcome : (ids : ℕ) → Result Making Refusal → Outcome

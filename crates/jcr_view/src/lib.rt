@@ -6,7 +6,6 @@ mod commands;
 mod laws;
 mod needs;
 mod pending;
-mod reading;
 mod rebase;
 mod whole;
 mod writing;

@@ -7,12 +7,12 @@ ghost use Rattle.jr_items.specs.Names.{versionable};
 ghost use Rattle.jr_part.specs.declared.need.Need.TheVariants as need;
 ghost use Rattle.jr_part.specs.Parts.{known_at};
 ghost use Rattle.jr_overlay.specs.Overlays.{seen};
-ghost use Rattle.jcr_make.specs.Histories.{due_history};
+ghost use Rattle.jcr_mixin.specs.Histories.{due_history};
 ghost use Rattle.jcr_make.specs.Subtrees.{makes_histories, makes_history};
 ghost use Rattle.jcr_view.specs.Needs.{and_again, and_node, children_needs, ends_at, history_needs, listing_needs, needs_of, needs_to_rebase, parent_needs, storage_needs, versionable_needs};
 ghost use Rattle.jcr_write.specs.Places.{above};
 
-use jcr_make::{due_history, version_storage};
+use jcr_mixin::{due_history, version_storage};
 use jcr_trans::{Command, TreeNode};
 use jcr_write::above;
 use jr_items::OwnName;

@@ -6,7 +6,8 @@ ghost use Rattle.jcr_view.specs.Outcomes.{is_writing, written};
 ghost use Rattle.jcr_write.specs.Places.{IsDueRefusal};
 ghost use Rattle.jcr_write.specs.Writes.{order_made, set_made};
 
-use jcr_make::{add, mixin, set_type, tree, unmixin};
+use jcr_make::{add, tree};
+use jcr_mixin::{mixin, set_type, unmixin};
 use jcr_trans::Command;
 use jcr_write::{move_to, order_before, remove, set, unset};
 use jr_overlay::{Draft, Overlay, Sight};

@@ -11,7 +11,7 @@ use Rattle.jr_tree.specs.declared.shared.Refusal.{Refusal}
 use Rattle.jr_tree.specs.declared.tree.Node.{Node}
 use Rattle.jr_items.specs.Items.{first_some}
 use Rattle.jr_items.specs.Refusals.{in_system, limit_refusal, no_item, out_of_memory}
-use Rattle.jr_types.specs.Checking.{types_said}
+use Rattle.jr_types.specs.Said.{types_said}
 use Rattle.jr_types.specs.Types.{types_of}
 use Rattle.jr_types.specs.declared.TypeDef.{TypeDef}
 use Rattle.jr_overlay.specs.Drafts.{Steps, drafted, with_step}

@@ -1,19 +1,2 @@
 mod Answered
-mod Escapes
-mod Follows
-mod Kept
-mod Listed
-mod OneMeaning
-mod Proper
-mod ReadAttributes
-mod ReadBack
-mod ReadItems
-mod ReadLists
-mod ReadTypes
-mod Readable
-mod Said
-mod SaidFile
-mod Steps
-mod Tokens
-mod Turns
-mod Values
+pub mod OneMeaning

@@ -15,17 +15,17 @@ use Rattle.jr_value.specs.Reading.{IsFound}
 use Rattle.jr_value.specs.Texts.{IsText}
 use Rattle.jr_value.proofs.Unique.{property_one}
 use Rattle.jr_cnd.specs.Meaning.{IsMeaning, meaning}
-use Rattle.jr_cnd.specs.Pieces.{ArePieces, IsDefault, IsNameOrNone, IsSaid, Means, content, context_after, is_behind_less, left_behind, place_behind}
-use Rattle.jr_cnd.specs.Tokens.{first_token, gap_size}
+use Rattle.cnd_pieces.specs.Pieces.{ArePieces, IsDefault, IsNameOrNone, IsSaid, Means, content, context_after, is_behind_less, left_behind, place_behind}
+use Rattle.cnd_pieces.specs.Tokens.{first_token, gap_size}
 use Rattle.jr_cnd.specs.declared.cnd.Cnd.{Cnd}
-use Rattle.jr_cnd.specs.declared.context.Context.{Context}
-use Rattle.jr_cnd.specs.declared.context.Context.TheVariants as context
+use Rattle.cnd_pieces.specs.declared.context.Context.{Context}
+use Rattle.cnd_pieces.specs.declared.context.Context.TheVariants as context
 use Rattle.jr_cnd.specs.declared.fault.NoCnd.{NoCnd}
-use Rattle.jr_cnd.specs.declared.piece.Placed.{Placed}
-use Rattle.jr_cnd.specs.declared.piece.Says.{Says}
-use Rattle.jr_cnd.specs.declared.piece.Says.TheVariants as says
-use Rattle.jr_cnd.specs.declared.piece.TokenKind.{TokenKind}
-use Rattle.jr_cnd.specs.declared.piece.TokenKind.TheVariants as token
+use Rattle.cnd_pieces.specs.declared.piece.Placed.{Placed}
+use Rattle.cnd_pieces.specs.declared.piece.Says.{Says}
+use Rattle.cnd_pieces.specs.declared.piece.Says.TheVariants as says
+use Rattle.cnd_pieces.specs.declared.piece.TokenKind.{TokenKind}
+use Rattle.cnd_pieces.specs.declared.piece.TokenKind.TheVariants as token
 
 single : (x y : Value) → Single x ≡ Single y → x ≡ y
 single x y e = cc

@@ -13,11 +13,12 @@ use Rattle.jr_types.specs.declared.PropDef.{PropDef}
 use Rattle.jr_types.specs.declared.ChildDef.{ChildDef}
 use Rattle.jr_types.specs.declared.TypeDef.{TypeDef}
 use Rattle.jr_cnd.specs.Reading.{◌>>=◌, State, Read, after, bare_first, behind, many, name_at, no_pieces, place, required, sign_at, sign_first, text_at}
-use Rattle.jr_cnd.specs.Words.{is_prefix, item_word, kind_named, type_word}
-use Rattle.jr_cnd.specs.declared.piece.Placed.{Placed}
-use Rattle.jr_cnd.specs.declared.piece.Says.{Says}
-use Rattle.jr_cnd.specs.declared.piece.Says.TheVariants as says
-use Rattle.jr_cnd.specs.declared.piece.Sign.TheVariants as sign
+use Rattle.cnd_pieces.specs.Words.{is_prefix, kind_named}
+use Rattle.jr_cnd.specs.Words.{item_word, type_word}
+use Rattle.cnd_pieces.specs.declared.piece.Placed.{Placed}
+use Rattle.cnd_pieces.specs.declared.piece.Says.{Says}
+use Rattle.cnd_pieces.specs.declared.piece.Says.TheVariants as says
+use Rattle.cnd_pieces.specs.declared.piece.Sign.TheVariants as sign
 use Rattle.jr_cnd.specs.declared.words.TypeWord.{TypeWord}
 use Rattle.jr_cnd.specs.declared.words.TypeWord.TheVariants as type
 use Rattle.jr_cnd.specs.declared.words.ItemWord.{ItemWord}

@@ -1,16 +1,16 @@
 -- What a text of type definitions means.
 use Rattle.std.specs.Prelude.{◌≡◌, ℕ, List, [], ◌∷◌, ◌++◌, Option, None, Some, is_some, true, Result, Ok, Err, if◌then◌else◌, length, map}
-use Rattle.jr_types.specs.Builtin.{builtin}
+use Rattle.jr_builtin.specs.Builtin.{builtin}
 use Rattle.jr_types.specs.Rules.{type_fault}
 use Rattle.jr_types.specs.declared.TypeDef.{TypeDef}
 use Rattle.jr_cnd.specs.Grammar.{file_at}
-use Rattle.jr_cnd.specs.Pieces.{IsReadAs}
+use Rattle.cnd_pieces.specs.Pieces.{IsReadAs}
 use Rattle.jr_cnd.specs.declared.cnd.Cnd.{Cnd}
 use Rattle.jr_cnd.specs.declared.fault.NoCnd.{NoCnd}
 use Rattle.jr_cnd.specs.declared.fault.NoCnd.TheVariants as no
 use Rattle.jr_cnd.specs.declared.file.File.{File}
 use Rattle.jr_cnd.specs.declared.file.PlacedType.{PlacedType}
-use Rattle.jr_cnd.specs.declared.piece.Placed.{Placed}
+use Rattle.cnd_pieces.specs.declared.piece.Placed.{Placed}
 
 -- the place of the first definition that breaks a rule of the registry, over the types there and the definitions before it
 abbrev pub first_bad : List TypeDef → List PlacedType → Option ℕ

@@ -3,11 +3,11 @@ use Rattle.std.specs.Prelude.{◌≡◌, ℕ, Bool, true, false, ◌==◌, List,
 use Rattle.jr_path.specs.declared.name.Name.{Name}
 use Rattle.jr_cnd.specs.declared.fault.NoCnd.{NoCnd}
 use Rattle.jr_cnd.specs.declared.fault.NoCnd.TheVariants as no
-use Rattle.jr_cnd.specs.declared.piece.Placed.{Placed}
-use Rattle.jr_cnd.specs.declared.piece.Says.{Says}
-use Rattle.jr_cnd.specs.declared.piece.Says.TheVariants as says
-use Rattle.jr_cnd.specs.declared.piece.Sign.{Sign}
-use Rattle.jr_cnd.specs.declared.piece.Sign.TheVariants as sign
+use Rattle.cnd_pieces.specs.declared.piece.Placed.{Placed}
+use Rattle.cnd_pieces.specs.declared.piece.Says.{Says}
+use Rattle.cnd_pieces.specs.declared.piece.Says.TheVariants as says
+use Rattle.cnd_pieces.specs.declared.piece.Sign.{Sign}
+use Rattle.cnd_pieces.specs.declared.piece.Sign.TheVariants as sign
 
 -- the tokens that are left, and the offset behind the last
 pub record State : Type 0 where

@@ -1,12 +1,7 @@
--- What words mean by themselves, in any case of their letters.
+-- The attributes that words name, in any case of their letters.
 use Rattle.std.specs.Prelude.{ℕ, Bool, ◌||◌, List, [], ◌∷◌, Option, None, Some, option_map, if◌then◌else◌, find, codes}
-use Rattle.std.specs.List.{list_all}
-use Rattle.std.specs.Str.{str_eq_ignore_ascii_case}
-use Rattle.jr_path.specs.Grammar.{is_prefix_character}
-use Rattle.jr_value.specs.Json.{kind_text}
-use Rattle.jr_value.specs.Reading.{all_kinds}
-use Rattle.jr_value.specs.declared.value.Kind.{Kind}
-use Rattle.jr_types.specs.Reading.{opv_text}
+use Rattle.cnd_pieces.specs.Words.{is_a}
+use Rattle.jr_types.specs.Attributes.{opv_text}
 use Rattle.jr_types.specs.declared.OnParentVersion.{OnParentVersion}
 use Rattle.jr_types.specs.declared.OnParentVersion.TheVariants as opv
 use Rattle.jr_cnd.specs.declared.words.TypeWord.{TypeWord}
@@ -14,19 +9,9 @@ use Rattle.jr_cnd.specs.declared.words.TypeWord.TheVariants as type
 use Rattle.jr_cnd.specs.declared.words.ItemWord.{ItemWord}
 use Rattle.jr_cnd.specs.declared.words.ItemWord.TheVariants as item
 
--- two words that differ at most in the case of their letters
-abbrev pub is_a : List ℕ → List ℕ → Bool
-is_a = str_eq_ignore_ascii_case
-
 -- the word, or its one letter
 abbrev pub is_either : List ℕ → List ℕ → List ℕ → Bool
 is_either whole short word = is_a whole word || is_a short word
-
--- the kind that a word names; `undefined` is none
-abbrev pub kind_named : List ℕ → Option (Option Kind)
-kind_named word =
-    if is_a (codes "undefined") word then Some None
-    else option_map Some (find (λ k. is_a (kind_text k) word) all_kinds)
 
 -- the attributes of what a check-in of the parent does
 abbrev pub all_opvs : List OnParentVersion
@@ -52,7 +37,3 @@ item_word word =
     else (if is_either (codes "protected") (codes "p") word then Some item.Protected
     else (if is_a (codes "multiple") word then Some item.Multiple
     else option_map item.Opv (opv_named word))))
-
--- letters, digits, `_`, `-` and `.`
-abbrev pub is_prefix : List ℕ → Bool
-is_prefix = list_all is_prefix_character

@@ -5,18 +5,18 @@ ghost use Rattle.jr_cnd.specs.Reading.{Reads};
 
 use crate::NoCnd;
 use crate::cursor::Cursor;
-use crate::piece::{Placed, Says, Sign};
 use crate::words::{ItemWord, item_word};
+use cnd_pieces::{Placed, Says, Sign};
 use jr_types::OnParentVersion;
 
-// Those that were read.
+/// The attributes of an item that were read.
 #[derive(Clone, Copy)]
-pub(crate) struct ItemAttributes {
-    pub(crate) mandatory: bool,
-    pub(crate) autocreated: bool,
-    pub(crate) protected: bool,
-    pub(crate) multiple: bool,
-    opv: Option<OnParentVersion>,
+pub struct ItemAttributes {
+    pub mandatory: bool,
+    pub autocreated: bool,
+    pub protected: bool,
+    pub multiple: bool,
+    pub opv: Option<OnParentVersion>,
 }
 
 const NO_ATTRIBUTES: ItemAttributes = ItemAttributes {

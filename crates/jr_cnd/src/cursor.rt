@@ -4,7 +4,7 @@ ghost use Rattle.std.specs.Option.{option_copied, option_map};
 ghost use Rattle.jr_cnd.specs.Reading.{Reads, after, bare_first, bare_in, behind, is_sign, name_at, name_first, name_in, no_pieces, place, same_sign, sign_at, sign_first, text_at, text_first, text_in};
 
 use crate::NoCnd;
-use crate::piece::{Placed, Says, Sign};
+use cnd_pieces::{Placed, Says, Sign};
 use jr_path::{DeepCopy, Name, Text};
 use std::alloc::Global;
 use std::marker::Model;

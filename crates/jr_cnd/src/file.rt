@@ -1,31 +1,30 @@
 // A whole text of type definitions.
 ghost use Rattle.std.specs.Prelude.{◌≡◌, IfOk, map, option_map};
-ghost use Rattle.jr_types.specs.Builtin.{builtin};
+ghost use Rattle.jr_builtin.specs.Builtin.{builtin};
 ghost use Rattle.jr_cnd.specs.Grammar.{file_at, file_more, prefix_at, prefix_more, prefix_name_at, prefix_token, type_more};
 ghost use Rattle.jr_cnd.specs.Meaning.{Answers, IsAnswer, IsJudged, IsRegistering, first_bad, judged, meaning};
 ghost use Rattle.jr_cnd.specs.Reading.{Reads};
 
 use crate::cursor::{Cursor, bare_first};
-use crate::piece::{Placed, Sign};
-use crate::pieces::pieces_of;
-use crate::words::is_prefix;
 use crate::{Cnd, NoCnd, Prefix};
+use cnd_pieces::{Placed, Sign, is_prefix, pieces_of};
+use jr_builtin::builtin;
 use jr_path::{DeepCopy, List, Text};
 use jr_types::{Registry, TypeDef, TypeFault};
 use std::alloc::{AllocError, Global};
 
-// A definition, and the offset of its `[`.
+/// A definition, and the offset of its `[`.
 #[derive(Drop)]
-pub(crate) struct PlacedType {
-    start: usize,
-    definition: TypeDef,
+pub struct PlacedType {
+    pub start: usize,
+    pub definition: TypeDef,
 }
 
-// What was read of a text.
+/// What was read of a text.
 #[derive(Drop)]
-pub(crate) struct File {
-    prefixes: List<Prefix>,
-    types: List<PlacedType>,
+pub struct File {
+    pub prefixes: List<Prefix>,
+    pub types: List<PlacedType>,
 }
 
 // The token, where it is a prefix.
@@ -141,7 +140,7 @@ fn judge(registry: &mut Registry, types: &[PlacedType]) -> Result<(), NoCnd>
 fn keep_rules(alloc: Global, types: &[PlacedType]) -> Result<(), NoCnd>
     ensures { IsJudged (first_bad builtin types.now) result }
 {
-    let mut registry = Registry::builtin(alloc)?;
+    let mut registry = builtin(alloc)?;
     judge(&mut registry, types)
 }
 

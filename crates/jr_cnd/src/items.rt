@@ -6,8 +6,7 @@ ghost use Rattle.jr_cnd.specs.Reading.{Reads};
 
 use crate::NoCnd;
 use crate::cursor::Cursor;
-use crate::piece::{Placed, Says, Sign};
-use crate::words::kind_named;
+use cnd_pieces::{Placed, Says, Sign, kind_named};
 use jr_items::OwnName;
 use jr_path::{List, Name, Text};
 use jr_types::{ChildDef, PropDef};

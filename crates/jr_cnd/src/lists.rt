@@ -6,7 +6,7 @@ ghost use Rattle.jr_cnd.specs.Reading.{Reads};
 
 use crate::NoCnd;
 use crate::cursor::Cursor;
-use crate::piece::{Placed, Says, Sign};
+use cnd_pieces::{Placed, Says, Sign};
 use jr_path::{DeepCopy, List, Name, Text};
 use jr_value::Value;
 

@@ -8,27 +8,27 @@ ghost use Rattle.jr_cnd.specs.Reading.{Reads};
 
 use crate::NoCnd;
 use crate::cursor::Cursor;
-use crate::piece::{Placed, Says, Sign};
 use crate::words::{TypeWord, type_word};
+use cnd_pieces::{Placed, Says, Sign};
 use jr_items::OwnName;
 use jr_path::{DeepCopy, List, Name};
 use jr_types::{ChildDef, PropDef, TypeDef};
 use std::alloc::{AllocError, Global};
 
-// The attributes of a type that were read.
+/// The attributes of a type that were read.
 #[derive(Drop)]
-pub(crate) struct TypeAttributes {
-    mixin: bool,
-    is_abstract: bool,
-    orderable: bool,
-    primary_item: Option<Name>,
+pub struct TypeAttributes {
+    pub mixin: bool,
+    pub is_abstract: bool,
+    pub orderable: bool,
+    pub primary_item: Option<Name>,
 }
 
-// The items of a type that were read.
+/// The items of a type that were read.
 #[derive(Drop)]
-pub(crate) struct Items {
-    props: List<PropDef>,
-    children: List<ChildDef>,
+pub struct Items {
+    pub props: List<PropDef>,
+    pub children: List<ChildDef>,
 }
 
 // Whether the attribute isn't among these.

@@ -1,25 +1,23 @@
-// What words mean by themselves, in any case of their letters.
-ghost use Rattle.std.specs.Prelude.{◌≡◌, find};
-ghost use Rattle.jr_path.specs.Grammar.{is_prefix_character};
-ghost use Rattle.jr_value.specs.Json.{kind_text};
-ghost use Rattle.jr_value.specs.Reading.{all_kinds};
-ghost use Rattle.jr_cnd.specs.Words.{is_a, is_either, is_prefix, item_word, kind_named, opv_named, type_word};
+// The attributes that words name, in any case of their letters.
+ghost use Rattle.std.specs.Prelude.{◌≡◌};
+ghost use Rattle.cnd_pieces.specs.Words.{is_a};
+ghost use Rattle.jr_cnd.specs.Words.{is_either, item_word, opv_named, type_word};
 
+use cnd_pieces::is_a;
 use jr_types::OnParentVersion;
-use jr_value::{ALL_KINDS, Kind};
 
-// An attribute of a type.
+/// An attribute of a type.
 #[derive(Clone, Copy)]
-pub(crate) enum TypeWord {
+pub enum TypeWord {
     Mixin,
     Abstract,
     Orderable,
     PrimaryItem,
 }
 
-// An attribute of an item.
+/// An attribute of an item.
 #[derive(Clone, Copy)]
-pub(crate) enum ItemWord {
+pub enum ItemWord {
     Mandatory,
     Autocreated,
     Protected,
@@ -37,41 +35,11 @@ const ALL_OPVS: [OnParentVersion; 6] = [
     OnParentVersion::Abort,
 ];
 
-// Whether a word is another, but for case.
-fn is_a(wanted: &str, word: &str) -> bool
-    ensures { result ≡ is_a wanted.now word.now }
-{
-    wanted.eq_ignore_ascii_case(word)
-}
-
 // Whether a word is one of two others, but for case.
 fn is_either(whole: &str, short: &str, word: &str) -> bool
     ensures { result ≡ is_either whole.now short.now word.now }
 {
     is_a(whole, word) || is_a(short, word)
-}
-
-// The kind that a word names.
-fn some_kind(word: &str) -> Option<Kind>
-    ensures { result ≡ find (λ k. is_a (kind_text k) word.now) all_kinds }
-{
-    ALL_KINDS
-        .iter()
-        .copied()
-        .find(|kind| is_a(kind.as_str(), word))
-}
-
-// The kind that a word names, none for `undefined`.
-pub(crate) fn kind_named(word: &str) -> Option<Option<Kind>>
-    ensures { result ≡ kind_named word.now }
-{
-    if is_a("undefined", word) {
-        return Some(None);
-    }
-    match some_kind(word) {
-        Some(kind) => Some(Some(kind)),
-        None => None,
-    }
 }
 
 fn opv_named(word: &str) -> Option<OnParentVersion>
@@ -122,17 +90,4 @@ pub(crate) fn item_word(word: &str) -> Option<ItemWord>
         Some(opv) => Some(ItemWord::Opv(opv)),
         None => None,
     }
-}
-
-// Whether a bare token is a prefix.
-pub(crate) fn is_prefix(token: &str) -> bool
-    ensures { result ≡ is_prefix token.now }
-{
-    token.as_bytes().iter().all(|byte| is_prefix_byte(*byte))
-}
-
-fn is_prefix_byte(byte: u8) -> bool
-    ensures { result ≡ is_prefix_character byte }
-{
-    byte.is_ascii_alphanumeric() || b"_-.".contains(&byte)
 }

@@ -14,7 +14,7 @@ use Rattle.jcr_trans.specs.declared.command.SessionScript.{SessionScript}
 use Rattle.jr_args.specs.Commands as args
 use Rattle.jr_args.specs.Outcomes.{Breaks, Means, Outcome, Reading, guard}
 use Rattle.jr_args.proofs.Readings.{means}
-use Rattle.jr_types.specs.Builtin.{builtin}
+use Rattle.jr_builtin.specs.Builtin.{builtin}
 use Rattle.jr_script.specs.Numbers.{whole}
 use Rattle.jr_script.specs.Schedules.{entry_of}
 use Rattle.jr_script.specs.Scripts.{IsFault, IsJson, IsScript, clusters_of, few_of, schedule_of, script_of, session_of, sessions_of}

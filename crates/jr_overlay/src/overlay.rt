@@ -2,10 +2,11 @@
 ghost use Rattle.std.specs.Prelude.{◌≡◌, [], IfOk, IsTrue, OnOk, OnErr, map};
 ghost use Rattle.std.specs.FinMap.{is_sorted};
 ghost use Rattle.std.specs.Map.Iter.{deref_pair};
+ghost use Rattle.std.specs.Option.{option_copied};
 ghost use Rattle.jr_path.specs.Names.{path_cmp};
 ghost use Rattle.jr_overlay.specs.Drafts.{with_steps};
 ghost use Rattle.jr_overlay.specs.Merging.{changes_under, with_copy};
-ghost use Rattle.jr_overlay.specs.Overlays.{edit_of, new_nodes, old_nodes, view_of};
+ghost use Rattle.jr_overlay.specs.Overlays.{change_at, edit_of, new_nodes, old_nodes, view_of};
 
 use crate::commit::{make_places, move_in};
 use crate::merge::merged;
@@ -46,6 +47,20 @@ impl Overlay {
             alloc,
             changes: Keyed::new(alloc),
         }
+    }
+
+    /// A view in which these nodes are touched. It takes no memory.
+    pub fn of(alloc: Global, changes: Keyed<Path, Change>) -> Overlay
+        ensures { result ≡ changes }
+    {
+        Overlay { alloc, changes }
+    }
+
+    /// The touched node at a path, if it was touched.
+    pub fn at(&self, path: &Path) -> Option<&Change>
+        ensures { option_copied result ≡ change_at self.now path.now }
+    {
+        self.changes.get(path)
     }
 
     /// The edit that makes the view of the tree at its base: the writes by which they differ, in the order of
@@ -90,9 +105,9 @@ impl Overlay {
         copied(self.alloc, &found)
     }
 
-    // The touched nodes at or below a path in the place of those that are known there, in path
-    // order, all lent.
-    pub(crate) fn below<'a>(
+    /// The touched nodes at or below a path in the place of those that are known there, in path order,
+    /// all lent (JSR 283, 5.2 Traversal Access).
+    pub fn below<'a>(
         &'a self,
         known: &[(&'a Path, &'a Node)],
         path: &Path,
@@ -105,12 +120,9 @@ impl Overlay {
         merged(self.alloc, known, &self.under(path)?)
     }
 
-    // The touched nodes at or below a path, lent, with their paths from the root, in path order. It
-    // looks only at these.
-    pub(crate) fn under<'a>(
-        &'a self,
-        path: &Path,
-    ) -> Result<Vec<(&'a Path, &'a Change)>, AllocError>
+    /// The touched nodes at or below a path, lent, with their paths from the root, in path order. It
+    /// looks only at these.
+    pub fn under<'a>(&'a self, path: &Path) -> Result<Vec<(&'a Path, &'a Change)>, AllocError>
         ensures { IfOk result (λ found. map deref_pair found.items
             ≡ changes_under self.now path.now) }
     {

@@ -1,4 +1,5 @@
 pub mod Above
+pub mod Absent
 pub mod Among
 pub mod Children
 pub mod Follows

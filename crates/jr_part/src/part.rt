@@ -116,7 +116,6 @@ impl Part {
         if self.tree.has(path) {
             return self.put_gone(path);
         }
-        self.is_whole = false;
         self.absent.put(path.copy()?, ())
     }
 
@@ -193,8 +192,9 @@ impl Part {
         }
     }
 
-    /// Nothing of the whole tree lacks, and nothing will until the part is changed otherwise than by an
-    /// edit: `lacks` answers so at once. What is known stays the same.
+    /// Nothing of the whole tree lacks, and nothing will until a node or a list of children is put:
+    /// `lacks` answers so at once. An edit, and a path that is known to have no node, leave it so. What
+    /// is known stays the same.
     pub fn note_whole(&mut self)
         requires { LacksNothing self.old need.All }
         ensures { self.new ≡ self.old }

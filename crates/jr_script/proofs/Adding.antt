@@ -5,15 +5,15 @@ use Rattle.std.proofs.lemmas.Option.{none-some}
 use Rattle.serde_json.specs.Data.{Data, no_items, item}
 use Rattle.serde_json.specs.View.{items_view, view}
 use Rattle.serde_json.specs.declared.value.Value as json
-use Rattle.jr_types.specs.Builtin.{builtin}
-use Rattle.jr_types.specs.Reading.{IsTypeJson}
+use Rattle.jr_builtin.specs.Builtin.{builtin}
+use Rattle.jr_defs.specs.Reading.{IsTypeJson}
 use Rattle.jr_types.specs.Registered.{IsTypeFault}
 use Rattle.jr_types.specs.Rules.{type_fault}
 use Rattle.jr_types.specs.declared.TypeDef.{TypeDef}
 use Rattle.jr_types.specs.declared.adding.TypeFault.{TypeFault}
 use Rattle.jr_types.specs.declared.adding.TypeFault.TheVariants.{BadType}
 use Rattle.jr_cnd.specs.Meaning.{IsMeaning}
-use Rattle.jr_cnd.specs.Printable.{KeepRules}
+use Rattle.cnd_print.specs.Printable.{KeepRules}
 use Rattle.jr_cnd.specs.declared.cnd.Cnd.{Cnd}
 use Rattle.jr_args.specs.declared.fault.Fault.{Fault}
 use Rattle.jr_args.specs.declared.fault.Fault.TheVariants as fault

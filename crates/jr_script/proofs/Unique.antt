@@ -12,7 +12,7 @@ use Rattle.jr_script.specs.Scripts.{cluster_of, clusters_of, commands_of, few_of
 use Rattle.jr_script.specs.declared.script.Script.{Script}
 use Rattle.jr_script.specs.declared.script.TextFault.{TextFault}
 use Rattle.jr_script.specs.Types.{FailsAt, IsWith, Types, added, listed_of, types_of, with_type, written_of}
-use Rattle.jr_types.specs.Builtin.{builtin}
+use Rattle.jr_builtin.specs.Builtin.{builtin}
 use Rattle.jr_types.specs.declared.TypeDef.{TypeDef}
 use Rattle.jr_cnd.specs.Meaning.{IsMeaning}
 use Rattle.jr_cnd.specs.declared.cnd.Cnd.{Cnd}

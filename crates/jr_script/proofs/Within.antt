@@ -18,12 +18,12 @@ use Rattle.jr_script.specs.declared.reading.Turns.{Turns}
 use Rattle.jr_script.specs.declared.script.Script.{Script}
 use Rattle.jr_script.specs.declared.script.TextFault.{TextFault}
 use Rattle.jr_tree.specs.Trees.{Nodes, initial_tree}
-use Rattle.jr_types.specs.Builtin.{builtin}
+use Rattle.jr_builtin.specs.Builtin.{builtin}
 use Rattle.jr_types.specs.Rules.{TypesOk, type_fault}
 use Rattle.jr_types.specs.Types.{type_named}
 use Rattle.jr_types.specs.declared.TypeDef.{TypeDef}
 use Rattle.jr_cnd.specs.Meaning.{IsMeaning}
-use Rattle.jr_cnd.specs.Printable.{IsPrintable, KeepRules}
+use Rattle.cnd_print.specs.Printable.{IsPrintable, KeepRules}
 use Rattle.jr_cnd.specs.declared.cnd.Cnd.{Cnd}
 use Rattle.std.proofs.lemmas.Option.{none-some}
 use Rattle.jcr_trans.specs.declared.command.SessionScript.{SessionScript}

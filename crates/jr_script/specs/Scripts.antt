@@ -12,7 +12,7 @@ use Rattle.jr_args.specs.Commands.{command_of}
 use Rattle.jr_args.specs.Outcomes.{Means, Breaks, Reading, guard, is, judged, Then, under}
 use Rattle.jr_args.specs.Pointers.{pointer_text}
 use Rattle.jr_args.specs.Trees.{list_of, optional_of}
-use Rattle.jr_types.specs.Builtin.{builtin}
+use Rattle.jr_builtin.specs.Builtin.{builtin}
 use Rattle.jr_types.specs.declared.TypeDef.{TypeDef}
 use Rattle.jr_script.specs.Numbers.{IsWhole}
 use Rattle.jr_script.specs.Schedules.{entry_of}

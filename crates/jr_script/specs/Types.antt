@@ -2,12 +2,12 @@
 use Rattle.std.specs.Prelude.{◌≡◌, ◌⊎◌, ℕ, ◌+◌, List, [], ◌∷◌, ◌++◌, None, Result, Ok, Err, ⊤}
 use Rattle.serde_json.specs.Data.{Data, Items, array, string, no_items, item}
 use Rattle.jr_tree.specs.Trees.{initial_tree}
-use Rattle.jr_types.specs.Builtin.{builtin}
-use Rattle.jr_types.specs.Reading.{IsTypeJson}
+use Rattle.jr_builtin.specs.Builtin.{builtin}
+use Rattle.jr_defs.specs.Reading.{IsTypeJson}
 use Rattle.jr_types.specs.Rules.{TypesOk, type_fault}
 use Rattle.jr_types.specs.declared.TypeDef.{TypeDef}
 use Rattle.jr_cnd.specs.Meaning.{IsMeaning}
-use Rattle.jr_cnd.specs.Printable.{KeepRules}
+use Rattle.cnd_print.specs.Printable.{KeepRules}
 use Rattle.jr_cnd.specs.declared.cnd.Cnd.{Cnd}
 use Rattle.jr_cnd.specs.declared.fault.NoCnd.TheVariants as no
 use Rattle.jr_args.specs.declared.fault.Fault.{Fault}

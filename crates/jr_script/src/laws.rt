@@ -7,8 +7,10 @@ ghost use Rattle.jr_script.specs.Scripts.{IsScript, script_of};
 ghost use Rattle.jr_script.specs.declared.script.Script.{Script};
 ghost use Rattle.jr_script.specs.declared.script.TextFault.{TextFault};
 
-use jr_cnd::{meanings_can_be_printed, one_meaning};
-use jr_types::{added_types_keep_the_rules, the_initial_tree_meets_the_built_in_types};
+use cnd_print::meanings_can_be_printed;
+use jr_cnd::one_meaning;
+use jr_rules::the_initial_tree_meets_the_built_in_types;
+use jr_types::added_types_keep_the_rules;
 
 /// JSON has one outcome at most: it means one script, or its first fault is one rule broken at one place, or the text of its
 /// types fails at one offset.

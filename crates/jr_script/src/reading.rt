@@ -7,7 +7,7 @@ ghost use Rattle.serde_json.specs.View.{view, items_view, members_view};
 ghost use Rattle.jr_args.specs.Commands.{command_of};
 ghost use Rattle.jr_args.specs.Outcomes.{Answers};
 ghost use Rattle.jr_args.specs.Trees.{list_of, optional_of};
-ghost use Rattle.jr_types.specs.Builtin.{builtin};
+ghost use Rattle.jr_builtin.specs.Builtin.{builtin};
 ghost use Rattle.jr_script.specs.declared.script.ScriptFault.TheVariants.{Bad};
 ghost use Rattle.jr_script.specs.Types.{types_of};
 ghost use Rattle.jr_script.specs.Scripts.{are_keys, cluster_of, clusters_of, commands_of, counted_of, member_of, schedule_of, script_in, script_of, script_over, turns_in, session_in, session_of, sessions_of, IsFault, IsJson, IsScript};
@@ -18,6 +18,7 @@ use crate::script::{Entry, Script, ScriptFault, TextFault};
 use crate::types::{Types, types};
 use jcr_trans::{Command, SessionScript};
 use jr_args::{Fault, command, pointer};
+use jr_builtin::builtin;
 use jr_path::{List, Text};
 use jr_types::Registry;
 use serde_json::{Map, Value as Json};
@@ -189,7 +190,7 @@ fn types_in(alloc: Global, json: &Json) -> Result<Types, Fault>
         (get (codes "types") (view json.now))) result }
 {
     match json.get("types") {
-        None => Ok(Ok(Registry::builtin(alloc)?)),
+        None => Ok(Ok(builtin(alloc)?)),
         Some(given) => match types(alloc, given) {
             Ok(types) => Ok(types),
             Err(fault) => Err(fault.in_member(alloc, "types")),

@@ -1,18 +1,21 @@
 // The node types of a script: the built-in ones, and those of a list or a text.
 ghost use Rattle.std.specs.Prelude.{◌≡◌, ◌++◌, ◌∷◌, [], None, Ok, OnOk};
 ghost use Rattle.serde_json.specs.View.{view, items_view};
-ghost use Rattle.jr_types.specs.Builtin.{builtin};
-ghost use Rattle.jr_types.specs.Reading.{IsTypeJson};
+ghost use Rattle.jr_builtin.specs.Builtin.{builtin};
+ghost use Rattle.jr_defs.specs.Reading.{IsTypeJson};
 ghost use Rattle.jr_types.specs.Rules.{type_fault};
-ghost use Rattle.jr_cnd.specs.Printable.{KeepRules};
+ghost use Rattle.cnd_print.specs.Printable.{KeepRules};
 ghost use Rattle.jr_args.specs.Outcomes.{Answers, Means, is, judged};
 ghost use Rattle.jr_script.specs.Types.{Adds, added, listed_of, types_of, with_type, written_of};
 
 use crate::script::TextFault;
+use cnd_print::meanings_can_be_printed;
 use jr_args::Fault;
-use jr_cnd::{Cnd, NoCnd, meanings_can_be_printed, read_cnd};
+use jr_builtin::builtin;
+use jr_cnd::{Cnd, NoCnd, read_cnd};
+use jr_defs::{NoType, read_type};
 use jr_path::DeepCopy;
-use jr_types::{NoType, Registry, TypeDef, TypeFault, read_type};
+use jr_types::{Registry, TypeDef, TypeFault};
 use serde_json::Value as Json;
 use std::alloc::{AllocError, Global};
 
@@ -38,7 +41,7 @@ pub fn types(alloc: Global, json: &Json) -> Result<Types, Fault>
 fn listed(alloc: Global, items: &[Json]) -> Result<Types, Fault>
     ensures { Answers (listed_of (items_view items.now)) result }
 {
-    let mut registry = Registry::builtin(alloc)?;
+    let mut registry = builtin(alloc)?;
     match add_listed(alloc, &mut registry, items) {
         Ok(()) => Ok(Ok(registry)),
         Err(fault) => Err(fault),
@@ -98,7 +101,7 @@ fn defined(alloc: Global, cnd: &Cnd) -> Result<Types, Fault>
     requires { KeepRules builtin cnd.now.definitions }
     ensures { Answers (is (Means (Ok (builtin ++ cnd.now.definitions)))) result }
 {
-    let mut registry = Registry::builtin(alloc)?;
+    let mut registry = builtin(alloc)?;
     match add_kept(&mut registry, cnd.definitions.as_slice()) {
         Ok(()) => Ok(Ok(registry)),
         Err(_) => Err(Fault::Memory),

@@ -11,12 +11,12 @@ use Rattle.oak_port.specs.declared.task.StepOut.{StepOut}
 use Rattle.oak_port.specs.declared.task.StepOut.TheVariants as answers
 use Rattle.oak_port.specs.declared.task.TaskEnd.TheVariants as ends
 use Rattle.core_world.specs.States.{State}
-use Rattle.oak_world.specs.declared.actor.Work.{Work}
-use Rattle.oak_world.specs.declared.actor.Work.TheVariants as work
-use Rattle.oak_world.specs.declared.upkeep.Upkeep.{Upkeep}
-use Rattle.oak_world.specs.declared.upkeep.Upkeep.TheVariants as upkeep
+use Rattle.oak_step.specs.declared.work.Work.{Work}
+use Rattle.oak_step.specs.declared.work.Work.TheVariants as work
+use Rattle.oak_step.specs.declared.upkeep.Upkeep.{Upkeep}
+use Rattle.oak_step.specs.declared.upkeep.Upkeep.TheVariants as upkeep
 use Rattle.oak_world.specs.Steps.{Makes, MakesCommit, MakesUpdate, MakesUpkeep, Publishes}
-use Rattle.oak_world.specs.Upkeeps.{told_ids}
+use Rattle.oak_step.specs.Upkeeps.{told_ids}
 use Rattle.jr_shared.proofs.Lists.{never_longer, never_two_longer}
 
 module _ (s : ℕ) (w u : State) (same : u.past ≡ w.past) where

@@ -1,12 +1,9 @@
 -- The events of a session, and those of others: where a session's events are the same, what was added is of others.
-use mathlib.Core.Bool.{false≢true}
-use Rattle.std.proofs.Common.{◌≡◌, ℕ, ◌≤◌, Bool, true, false, cond, ◌||◌, Option, Some, None, List, [], ◌∷◌, ◌++◌, length, is_some, refl, sym, ap, ◌∙◌, subst, arith}
+use Rattle.std.proofs.Common.{◌≡◌, ℕ, ◌≤◌, Bool, true, false, cond, ◌||◌, Option, List, [], ◌∷◌, ◌++◌, length, refl, sym, ap, ◌∙◌, arith}
 use Rattle.std.specs.Prelude.{◌==◌}
 use Rattle.std.specs.List.{list_any}
 use Rattle.std.specs.Option.{option_map_or}
 use Rattle.jr_rev.specs.declared.revision.Revision.{Revision}
-use Rattle.jr_rev.specs.Revisions.{is_same}
-use Rattle.jr_rev.proofs.Order.{same_revision}
 use Rattle.oak_machine.specs.declared.event.Draw.{Draw}
 use Rattle.oak_machine.specs.declared.event.Event.{Event}
 use Rattle.oak_machine.specs.declared.event.Event.TheVariants as event
@@ -16,7 +13,7 @@ use Rattle.oak_machine.specs.Laws.{AreOthers, Says, Starts, is_event_of}
 use Rattle.oak_machine.specs.Runs.{AreNodes, IsRunOf}
 use Rattle.oak_machine.specs.Sessions.{is_attached}
 use Rattle.oak_machine.proofs.Induction.{first_of_both, neither, other}
-use Rattle.core_heads.proofs.Runs.{fresh_run}
+use Rattle.core_heads.proofs.Drawn.{Keeps, drawn_some, keeps_one}
 use Rattle.jr_shared.specs.Meanings.{own_events}
 
 -- ---- a session's own events
@@ -44,23 +41,7 @@ none_own (e ∷ more) past s h = none_first e (own_events (more ++ past) s) (own
 
 -- ---- in a run
 
--- what is drawn in one past is so in another
-abbrev Keeps : Past → Past → Type 0
-Keeps a w = (r : Revision) (d : Draw) → draw_of a r ≡ Some d → draw_of w r ≡ Some d
-
-drawn_some : (o : Option Draw) → is_some o ≡ true → (d : Draw) × (o ≡ Some d)
-drawn_some None h = absurd (false≢true h)
-drawn_some (Some d) h = (d, refl)
-
 module _ (clusters : ℕ) (sessions : List ℕ) (nodes : AreNodes clusters sessions) (begin : Begin) (starts : Starts) (says : Says) where
-  keeps_one : (e : Event) (past : Past) → IsRunOf starts says clusters sessions begin (e ∷ past) → Keeps past (e ∷ past)
-  keeps_one (event.Draw d) past run r f h =
-      elim (is_same r d.revision) as (λ b. is_same r d.revision ≡ b → cond b (Some d) (draw_of past r) ≡ Some f) [
-        | true ↦ λ same. absurd (false≢true (ap is_some (sym (fresh_run clusters sessions nodes begin starts says d past run).fresh ∙ subst (λ (q : Revision). draw_of past q ≡ Some f) (same_revision r d.revision same) h)))
-        | false ↦ λ same. h
-      ] refl
-  keeps_one e past run r f h = h
-
   module _ (s : ℕ) where
     -- whose a revision is that was drawn then
     same_owner : (past whole : Past) → Keeps past whole → (r : Revision) → is_drawn past r ≡ true → option_map_or (λ d. d.session == s) (draw_of whole r) false ≡ option_map_or (λ d. d.session == s) (draw_of past r) false
@@ -77,7 +58,7 @@ module _ (clusters : ℕ) (sessions : List ℕ) (nodes : AreNodes clusters sessi
     others_in : (more past whole : Past) → IsRunOf starts says clusters sessions begin (more ++ past) → Keeps (more ++ past) whole → NoneOwn more past s → list_any (is_event_of whole s) more ≡ false
     others_in [] past whole run keeps none = refl
     others_in (e ∷ more) past whole run keeps none =
-        let before : Keeps (more ++ past) whole = λ r d h. keeps r d (keeps_one e (more ++ past) run r d h) in
+        let before : Keeps (more ++ past) whole = λ r d h. keeps r d (keeps_one clusters sessions nodes begin starts says e (more ++ past) run r d h) in
         ap (λ b. b || list_any (is_event_of whole s) more) (never_own e (more ++ past) whole run before none.0) ∙ others_in more past whole run.1 before none.1
 
     -- where the session's events are the same, what was added is of others

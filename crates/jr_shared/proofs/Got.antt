@@ -13,20 +13,24 @@ use Rattle.oak_machine.specs.Runs.{AreNodes, IsRunOf}
 use Rattle.oak_machine.specs.Sessions.{base_of, has_left, has_login, is_attached, next_index}
 use Rattle.oak_machine.proofs.Induction.{base_stays}
 use Rattle.core_heads.proofs.Passing.{next_stays}
+use Rattle.core_world.specs.States.{State, memory_of}
 use Rattle.oak_port.specs.declared.task.Task.{Task}
 use Rattle.oak_port.specs.declared.task.Task.TheVariants as task
 use Rattle.oak_port.specs.Ports.{MayBegin}
-use Rattle.oak_world.specs.declared.actor.Work.{Work}
-use Rattle.oak_world.specs.Ending.{RestsIn, TaskEndsIn}
+use Rattle.oak_step.specs.declared.work.Work.{Work}
+use Rattle.oak_world.specs.Left.{left_in, left_of}
 use Rattle.oak_world.specs.Worlds.{ActorState, WorldOf, actor_in, idle, live, state_of, work_in}
 use Rattle.oak_world.proofs.Staying.{login_left, stay_left}
 use Rattle.jr_shared.specs.declared.locked.WorldFrame.{WorldFrame}
 use Rattle.jr_shared.specs.Meanings.{Owned, frame_of, journal_of, own_events, owned_of}
 use Rattle.jr_shared.specs.Holds.{HasLaw, IsGot, IsTold, Known, actor_by, has_seat, owned_by, seat_by}
-use Rattle.jr_shared.specs.Seen.{EndsIn, clusters_by, history_by, law_by, sessions_by, state_by, the}
+use Rattle.jr_shared.specs.Seen.{clusters_by, history_by, law_by, left_by, sessions_by, state_by, the}
 use Rattle.jr_shared.proofs.Events.{are_others, attached_stays, run_before}
 use Rattle.jr_shared.proofs.Lists.{found_part, grown_by}
-use Rattle.jr_shared.proofs.Rests.{blank, rests_alike}
+
+-- all of a state but the committers and the readers
+abbrev pub blank : State → State
+blank w = record w { running = λ q. None; reading = λ q. None }
 
 pub the_is : {A : Type 0} (o : Option A) (x : A) → o ≡ Some x → (there : is_some o ≡ true) → the o there ≡ x
 the_is None x e there = absurd (false≢true there)
@@ -113,8 +117,8 @@ module _ {L : Type 0} (law : Ghosts L) (old : Known L) (got : WorldOf L) (g : Is
     there = some_within got.history.sessions s 0 (subst (λ (n : ℕ). s < n) g.whole.seats seated)
 
     -- the documents and memories are those that the pass knows, if nothing was added
-    pub ends_old : (n : ℕ) → more ≡ [] → EndsIn n old s → TaskEndsIn n got s
-    ends_old n none h =
+    pub left_old : more ≡ [] → left_by old s ≡ left_in got s
+    left_old none =
         let steady = g.steady_is (seen_all none) in
         let past : got.history.past ≡ reverse old.seen = past_got ∙ ap (λ (xs : Past). xs ++ reverse old.seen) none in
         let same : state_by old ≡ blank (state_of got) =
@@ -122,7 +126,8 @@ module _ {L : Type 0} (law : Ghosts L) (old : Known L) (got : WorldOf L) (g : Is
         ∙ (ap (λ (xs : List ℕ). record (state_by old) { clusters = got.history.clusters; sessions = xs }) sessions_old
         ∙ (ap (λ (xs : Past). record (state_by old) { clusters = got.history.clusters; sessions = got.history.sessions; past = xs }) (sym past)
         ∙ ap (λ (o : Option (WorldOf L)). record (blank (state_of got)) { table = option_map_or (λ w. w.table) o (state_by (record old { steady = None })).table; memories = option_map_or (λ w. w.memories) o [] }) steady)) in
-        rests_alike s n (state_by old) (state_of got) same (work_in got.actors s) (subst (λ (v : Work). RestsIn s n (state_by old) v) work_got h)
+        ap (λ (x : State). left_of s x.table (memory_of x s) (actor_by old s).work) same
+        ∙ ap (λ (v : Work). left_of s got.table (memory_of (state_of got) s) v) work_got
 
     module _ (told : IsTold old) where
       same_events : own_events got.history.past s ≡ own_events (reverse old.seen) s

@@ -2,7 +2,6 @@ pub mod Lists
 pub mod Events
 pub mod Shapes
 pub mod Calm
-pub mod Rests
 pub mod Acts
 pub mod Got
 pub mod Holding

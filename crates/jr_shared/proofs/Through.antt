@@ -1,5 +1,5 @@
 -- What a port over a pass tells of a call that was made under one hold.
-use Rattle.std.proofs.Common.{◌≡◌, ◌≢◌, ◌↔◌, ◌⊎◌, inl, inr, ℕ, suc, ◌+◌, ◌<◌, true, false, Option, Some, None, Result, Ok, Err, [], ◌∷◌, ◌++◌, length, is_some, refl, sym, ap, subst, ◌∙◌, arith, length-append}
+use Rattle.std.proofs.Common.{◌≡◌, ◌≢◌, ◌↔◌, ◌⊎◌, inl, inr, ℕ, ◌+◌, ◌<◌, true, false, Option, Some, None, Result, Ok, Err, [], ◌∷◌, ◌++◌, length, is_some, refl, sym, ap, subst, ◌∙◌, arith, length-append}
 use Rattle.std.specs.Prelude.{◌==◌, IfSome, reverse, slice_get}
 use Rattle.std.specs.Borrow.{GName}
 use Rattle.std.specs.Map.{lookup}
@@ -16,29 +16,29 @@ use Rattle.oak_machine.specs.Laws.{AreOthers, after}
 use Rattle.oak_machine.specs.Runs.{IsRun}
 use Rattle.oak_machine.specs.Sessions.{base_of, has_left}
 use Rattle.oak_node.specs.Pins.{pin_of}
-use Rattle.core_world.specs.States.{memory_of}
+use Rattle.core_world.specs.States.{State, memory_of}
 use Rattle.oak_port.specs.declared.task.StepOut.{StepOut}
 use Rattle.oak_port.specs.declared.task.Task.{Task}
 use Rattle.oak_port.specs.Ports.{ActedAlone, AreOfStep, Answers, Grows, Idle, IsWait, Makes, OthersAlone, Starting, StaysSo, Steps, Work as Shows, is_by_due}
-use Rattle.oak_world.specs.declared.actor.Work.{Work}
-use Rattle.oak_world.specs.declared.actor.Work.TheVariants as work
-use Rattle.oak_world.specs.Ending.{RestsIn, TaskEndsIn}
+use Rattle.oak_step.specs.declared.work.Work.{Work}
+use Rattle.oak_step.specs.declared.work.Work.TheVariants as work
+use Rattle.oak_world.specs.Left.{left_in, left_of}
 use Rattle.oak_world.specs.Seen.{shown_at, shown_work}
-use Rattle.oak_world.specs.Steps.{Begins, kind_due}
+use Rattle.oak_step.specs.Works.{Begins, kind_due}
 use Rattle.oak_world.specs.Worlds.{ActorState, WorldOf, actor_in, idle, live, said_in, state_of, with_reply, with_work, work_in}
 use Rattle.oak_world.proofs.Keeping.{begins_shown}
-use Rattle.oak_world.proofs.Porting.{busy_shown, reserve_lasts}
+use Rattle.oak_world.proofs.Left.{over}
+use Rattle.oak_world.proofs.Porting.{busy_shown, reserve_left}
 use Rattle.oak_world.proofs.States.{actor_set}
 use Rattle.seat_lock.specs.declared.rule.Round.TheVariants as round
 use Rattle.jr_shared.specs.declared.locked.WorldFrame.{WorldFrame}
 use Rattle.jr_shared.specs.Meanings.{Owned, frame_of, own_events, owned_of, steady_of}
 use Rattle.jr_shared.specs.Holds.{DueIs, IsTold, Known, OneHold, PinIs, Reserved, Stepped, actor_by, has_seat, owned_by, seat_by}
-use Rattle.jr_shared.specs.Seen.{EndsIn, history_by, law_by, shown_through, state_by}
+use Rattle.jr_shared.specs.Seen.{history_by, law_by, left_by, shown_through, state_by}
 use Rattle.jr_shared.proofs.Acts.{step_grows}
 use Rattle.jr_shared.proofs.Got
-use Rattle.jr_shared.proofs.Got.{some_within, the_is}
+use Rattle.jr_shared.proofs.Got.{blank, some_within, the_is}
 use Rattle.jr_shared.proofs.Lists.{found_part, found_retold}
-use Rattle.jr_shared.proofs.Rests.{blank, rests_alike}
 use Rattle.jr_shared.proofs.Shapes.{none_between, shaped}
 
 -- lists that end alike begin alike
@@ -51,6 +51,10 @@ cancel (x ∷ xs) (y ∷ ys) zs h =
     let rest : xs ++ zs ≡ ys ++ zs = cc in
     let same = cancel xs ys zs rest in
     λ i. first i ∷ same i
+
+-- where no step is left nothing is being done
+pub over_by : {L : Type 0} (v : Known L) (s : ℕ) → left_by v s ≡ 0 → shown_work (actor_by v s).work ≡ Idle
+over_by v s none = ap shown_work (over s (state_by v).table (memory_of (state_by v) s) (actor_by v s).work none)
 
 module _ {L : Type 0} (law : Ghosts L) (old new : Known L) (s : ℕ) (made : WorldOf L → WorldOf L → Type 0) (h : OneHold law old new s made) where
   abbrev got : WorldOf L
@@ -134,13 +138,14 @@ module _ {L : Type 0} (law : Ghosts L) (old new : Known L) (s : ℕ) (made : Wor
     pub has_new : has_seat new s ≡ true
     has_new = ap is_some seat_new ∙ some_within left.actors s idle seated_left
 
-    pub ends_new : (n : ℕ) → TaskEndsIn n left s → EndsIn n new s
-    ends_new n m =
+    pub left_new : left_by new s ≡ left_in left s
+    left_new =
         let steady : new.steady ≡ Some (steady_of left) = ap (λ (v : Known L). v.steady) h.known in
-        let same : blank (state_of left) ≡ state_by new =
-        sym (ap (λ (x : History). record (state_by new) { clusters = x.clusters; sessions = x.sessions; past = x.past }) history_new
-        ∙ ap (λ (o : Option (WorldOf L)). record (blank (state_of left)) { table = option_map_or (λ w. w.table) o (state_by (record new { steady = None })).table; memories = option_map_or (λ w. w.memories) o [] }) steady) in
-        subst (λ (v : Work). RestsIn s n (state_by new) v) (sym (ap (λ (a : ActorState). a.work) actor_new)) (rests_alike s n (state_of left) (state_by new) same (work_in left.actors s) m)
+        let same : state_by new ≡ blank (state_of left) =
+        ap (λ (x : History). record (state_by new) { clusters = x.clusters; sessions = x.sessions; past = x.past }) history_new
+        ∙ ap (λ (o : Option (WorldOf L)). record (blank (state_of left)) { table = option_map_or (λ w. w.table) o (state_by (record new { steady = None })).table; memories = option_map_or (λ w. w.memories) o [] }) steady in
+        ap (λ (x : State). left_of s x.table (memory_of x s) (actor_by new s).work) same
+        ∙ ap (λ (a : ActorState). left_of s left.table (memory_of (state_of left) s) a.work) actor_new
 
     -- ---- what is due
 
@@ -149,9 +154,6 @@ module _ {L : Type 0} (law : Ghosts L) (old new : Known L) (s : ℕ) (made : Wor
 
     pub busy_is : (r : Option StepKind) → DueIs got s r left → (is_some r ≡ true) ↔ (shown_work (actor_by old s).work ≢ Idle)
     busy_is r d = subst (λ (v : Work). (is_some r ≡ true) ↔ (shown_work v ≢ Idle)) (sym (ap (λ (a : ActorState). a.work) actor_got)) (busy_shown r (work_in got.actors s) d.busy)
-
-    pub ends_is : (r : Option StepKind) → DueIs got s r left → (n : ℕ) × EndsIn n new s
-    ends_is r d = (d.ends.0, ends_new d.ends.0 (subst (λ (w : WorldOf L). TaskEndsIn d.ends.0 w s) (sym d.same) d.ends.1))
 
     module _ (told : IsTold old) (framed : is_some old.frame ≡ true) (name : GName) where
       others : AreOthers s more (reverse old.seen)
@@ -202,12 +204,12 @@ module _ {L : Type 0} (law : Ghosts L) (old new : Known L) (s : ℕ) (made : Wor
       none_added : live left.history ≡ live got.history → history_by new ≡ history_by old → more ≡ []
       none_added same stays = cancel more [] (reverse old.seen) (ap (λ (x : History). x.past) (sym (Got.history_got law old got h.got_is) ∙ (sym same ∙ (sym history_new ∙ stays))))
 
-      -- how long the task lasts, if no event was added and the call leaves it
-      pub lasts_on : left.history ≡ got.history → ((n : ℕ) → TaskEndsIn n got s → TaskEndsIn n left s) → history_by new ≡ history_by old → (n : ℕ) → EndsIn n old s → EndsIn n new s
-      lasts_on same on stays n m = ends_new n (on n (Got.ends_old law old got h.got_is s seat n (none_added (ap live same) stays) m))
+      -- how many steps are left, if no event was added and the call leaves that
+      pub left_on : left.history ≡ got.history → left_in left s ≡ left_in got s → history_by new ≡ history_by old → left_by new s ≡ left_by old s
+      left_on same on stays = left_new ∙ (on ∙ sym (Got.left_old law old got h.got_is s seat (none_added (ap live same) stays)))
 
-      pub lasts_same : left ≡ got → history_by new ≡ history_by old → (n : ℕ) → EndsIn n old s → EndsIn n new s
-      lasts_same same = lasts_on (ap (λ (w : WorldOf L). w.history) same) (λ n m. subst (λ (w : WorldOf L). TaskEndsIn n w s) (sym same) m)
+      pub left_same : left ≡ got → history_by new ≡ history_by old → left_by new s ≡ left_by old s
+      left_same same = left_on (ap (λ (w : WorldOf L). w.history) same) (ap (λ (w : WorldOf L). left_in w s) same)
 
       -- ---- a task begins
 
@@ -241,8 +243,8 @@ module _ {L : Type 0} (law : Ghosts L) (old new : Known L) (s : ℕ) (made : Wor
       reserved_history bytes (Ok x) m = ap (λ (w : WorldOf L). w.history) m.ok
       reserved_history bytes (Err x) m = ap (λ (w : WorldOf L). w.history) m.err
 
-      pub reserved_lasts : (bytes : ℕ) (r : Result Unit AllocError) → Reserved got s bytes r left → history_by new ≡ history_by old → (n : ℕ) → EndsIn n old s → EndsIn n new s
-      reserved_lasts bytes r m = lasts_on (reserved_history bytes r m) (reserve_lasts got left s (Got.seated law old got h.got_is s seat) (Some bytes) r m.ok m.err)
+      pub reserved_left : (bytes : ℕ) (r : Result Unit AllocError) → Reserved got s bytes r left → history_by new ≡ history_by old → left_by new s ≡ left_by old s
+      reserved_left bytes r m = left_on (reserved_history bytes r m) (reserve_left got left s (Got.seated law old got h.got_is s seat) (Some bytes) r m.ok m.err)
 
       -- ---- a reply is said
 
@@ -306,5 +308,8 @@ module _ {L : Type 0} (law : Ghosts L) (old new : Known L) (s : ℕ) (made : Wor
             (shaped (after more (history_by old)) s (shown_work (actor_by old s).work) o told_step.own (shown_work (actor_by new s).work) makes)
             same
 
-        pub lowers : ActedAlone (shown_through name old s) (shown_through name new s) o → (n : ℕ) → EndsIn (suc n) old s → IsWait o ⊎ EndsIn n new s
-        lowers a n e = elim (m.lowers n (Got.ends_old law old got h.got_is s seat (suc n) (none_by a) e)) [ inl k ↦ inl k | inr k ↦ inr (ends_new n k) ]
+        pub lowers : ActedAlone (shown_through name old s) (shown_through name new s) o → IsWait o ⊎ (left_by new s < left_by old s)
+        lowers a = elim m.lowers [
+          | inl k ↦ inl k
+          | inr k ↦ let was = Got.left_old law old got h.got_is s seat (none_by a) in let now = left_new in inr (omega (arith, k, was, now))
+        ]

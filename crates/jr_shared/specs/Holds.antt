@@ -1,5 +1,5 @@
 -- What a pass of a world knows, and what a call of the world under one hold of the lock makes of both.
-use Rattle.std.specs.Prelude.{◌≡◌, ◌≢◌, ◌↔◌, ◌⊎◌, ◌==◌, ℕ, suc, ◌++◌, Bool, [], length, map, is_some, reverse, IfSome, IsFalse, IsSome, OnErr, OnOk, Option, Some, Result}
+use Rattle.std.specs.Prelude.{◌≡◌, ◌≢◌, ◌↔◌, ◌⊎◌, ◌<◌, ◌==◌, ℕ, ◌++◌, Bool, [], length, map, is_some, reverse, IfSome, IsFalse, IsSome, OnErr, OnOk, Option, Some, Result}
 use Rattle.std.specs.Borrow.{GName}
 use Rattle.std.specs.List.{range_with_len}
 use Rattle.std.specs.Map.{lookup}
@@ -17,11 +17,12 @@ use Rattle.core_world.specs.States.{memory_of}
 use Rattle.oak_port.specs.declared.task.StepOut.{StepOut}
 use Rattle.oak_port.specs.declared.task.Task.{Task}
 use Rattle.oak_port.specs.Ports.{IsWait, Steps}
-use Rattle.oak_world.specs.declared.actor.Work.{Work}
-use Rattle.oak_world.specs.declared.actor.Work.TheVariants as work
-use Rattle.oak_world.specs.Ending.{TaskEndsIn}
+use Rattle.oak_step.specs.declared.work.Work.{Work}
+use Rattle.oak_step.specs.declared.work.Work.TheVariants as work
+use Rattle.oak_world.specs.Left.{left_in}
 use Rattle.oak_world.specs.Seen.{shown_at}
-use Rattle.oak_world.specs.Steps.{Begins, StepsIn, kind_due}
+use Rattle.oak_step.specs.Works.{Begins, kind_due}
+use Rattle.oak_world.specs.Steps.{StepsIn}
 use Rattle.oak_world.specs.Worlds.{ActorState, WorldOf, idle, state_of, with_reply, with_work, work_in}
 use Rattle.seat_lock.specs.declared.rule.Round.TheVariants as round
 use Rattle.seat_lock.specs.declared.rule.View.{View}
@@ -121,18 +122,17 @@ module _ {L : Type 0} where
     pub ok : OnOk r ((v : Work) × Begins (pin_of (memory_of (state_of w) s) s) t v × (u ≡ with_work w s v))
     pub err : OnErr r (u ≡ w)
 
-  -- session s makes a step, of which a port tells what it may tell, and which lowers the number of steps in which its task ends, or it waits
+  -- session s makes a step, of which a port tells what it may tell, and which lowers the number of steps that are left of its task, or it waits
   pub record Stepped (law : Ghosts L) (w : WorldOf L) (s : ℕ) (o : StepOut) (u : WorldOf L) : Type 0 where
     pub made : StepsIn w s u o
     pub told : (name : GName) → Steps (law.may_start w.law) (law.may_say w.law) (shown_at name w s) (shown_at name u s) o
-    pub lowers : (n : ℕ) → TaskEndsIn (suc n) w s → IsWait o ⊎ TaskEndsIn n u s
+    pub lowers : IsWait o ⊎ (left_in u s < left_in w s)
 
   -- it is asked, and nothing changes: for the kind of the next step, or for the session's pin
   pub record DueIs (w : WorldOf L) (s : ℕ) (r : Option StepKind) (u : WorldOf L) : Type 0 where
     pub same : u ≡ w
     pub due : r ≡ kind_due (work_in w.actors s)
     pub busy : IsSome r ↔ (work_in w.actors s ≢ work.Rest)
-    pub ends : (n : ℕ) × TaskEndsIn n w s
 
   -- the session's pin was told, and the world is as it was
   pub record PinIs (w : WorldOf L) (s : ℕ) (r : Option Pin) (u : WorldOf L) : Type 0 where

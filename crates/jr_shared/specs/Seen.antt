@@ -1,15 +1,15 @@
--- What a session is shown of a world through a pass of it, and how long its task lasts there.
+-- What a session is shown of a world through a pass of it, and how many steps are left of its task.
 use mathlib.Core.Bool.{false≢true}
 use Rattle.std.specs.Prelude.{◌≡◌, ℕ, List, [], reverse, is_some, true, Option, None, Some}
 use Rattle.std.specs.Borrow.{GName}
 use Rattle.std.specs.Option.{option_map_or}
 use Rattle.oak_machine.specs.History.{History}
 use Rattle.core_world.specs.Start.{start_table}
-use Rattle.core_world.specs.States.{State}
+use Rattle.core_world.specs.States.{State, memory_of}
 use Rattle.oak_port.specs.Ports.{Shown}
-use Rattle.oak_world.specs.Ending.{RestsIn}
+use Rattle.oak_world.specs.Left.{left_of}
 use Rattle.oak_world.specs.Seen.{shown_work}
-use Rattle.oak_world.specs.Steps.{kind_due}
+use Rattle.oak_step.specs.Works.{kind_due}
 use Rattle.jr_shared.specs.Holds.{Known, actor_by}
 
 -- what is there
@@ -57,6 +57,6 @@ module _ {L : Type 0} where
     reading = λ q. None;
   }
 
-  -- within so many steps of session s its task ends, or it waits, if no other event is added
-  abbrev pub EndsIn : ℕ → Known L → ℕ → Type 0
-  EndsIn n v s = RestsIn s n (state_by v) (actor_by v s).work
+  -- how many steps of session s are left of its task, if no other event is added
+  abbrev pub left_by : Known L → ℕ → ℕ
+  left_by v s = left_of s (state_by v).table (memory_of (state_by v) s) (actor_by v s).work

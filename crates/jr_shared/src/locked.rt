@@ -1,5 +1,5 @@
 // A world as the lock has it.
-ghost use Rattle.std.specs.Prelude.{◌≡◌, length};
+ghost use Rattle.std.specs.Prelude.{length};
 ghost use Rattle.jr_shared.specs.Holds.{IsWhole};
 
 use oak_machine::{Event, Law};

@@ -3,7 +3,7 @@ ghost use Rattle.std.specs.Prelude.{◌≡◌, ◌≢◌, ℕ, IsTrue, is_some};
 ghost use Rattle.std.proofs.Props.{props};
 ghost use Rattle.seat_lock.specs.Passes.{IsAtRest, IsOf, view_of, weight_of};
 ghost use Rattle.jr_shared.specs.Holds.{IsTold, has_seat, owned_by};
-ghost use Rattle.jr_shared.specs.Seen.{EndsIn, law_by, shown_through};
+ghost use Rattle.jr_shared.specs.Seen.{law_by, left_by, shown_through};
 
 use crate::locked::{LockedWorld, SessionPart, WorldFrame};
 use crate::shared::SharedWorld;
@@ -108,7 +108,7 @@ impl<'a, R: Wait, L: Law + Drop, J: Taken<L>> Port for SharedPort<'a, R, L, J> {
 
     ghost shown = { λ p. shown_through p.pass.ghost_name (view_of p.pass.now) p.actor };
 
-    ghost lasts = { λ p n. EndsIn n (view_of p.pass.now) p.actor };
+    ghost left = { λ p. left_by (view_of p.pass.now) p.actor };
 
     fn start(&mut self, task: Task) -> Result<(), AllocError> {
         self.shared.start(self.rt, self.pass, self.actor, task)

@@ -2,7 +2,7 @@
 ghost use Rattle.std.specs.Prelude.{◌≡◌, ◌≢◌, ◌<◌, ℕ, if◌then◌else◌, length, IfOk, IsTrue, None};
 ghost use Rattle.oak_machine.specs.Sessions.{next_index};
 ghost use Rattle.oak_port.specs.Ports.{HasRoom, MayBegin};
-ghost use Rattle.oak_world.specs.declared.actor.Work.TheVariants as work;
+ghost use Rattle.oak_step.specs.declared.work.Work.TheVariants as work;
 ghost use Rattle.oak_world.specs.Worlds.{said_in};
 ghost use Rattle.seat_lock.specs.Passes.{HasFrame, HasPart, IsAtRest, IsOf, seen_of, view_of, weight_of};
 ghost use Rattle.seat_lock.specs.Views.{handed, is_one_of, joined, kept_back};

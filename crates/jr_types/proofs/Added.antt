@@ -1,17 +1,12 @@
 -- A type that is added under a new name leaves the rules of a tree as they were.
 use Rattle.std.proofs.Common.{◌≡◌, ℕ, Bool, true, false, cond, ◌&&◌, ◌==◌, not, Option, None, Some, List, [], ◌∷◌, ◌++◌, refl, sym, ap, ◌∙◌, is_some, reverse}
 use Rattle.std.specs.Prelude.{option_to_list}
-use Rattle.std.specs.declared.cmp.Ordering.{Ordering}
-use Rattle.std.specs.declared.cmp.Ordering.TheVariants.{Less, Equal, Greater}
 use Rattle.std.specs.Option.{option_map_or}
-use Rattle.std.specs.Ordering.{is_eq}
 use Rattle.std.specs.List.{cons_option, filter_map, find, flat_map, list_any, list_all}
 use mathlib.Core.Bool.{false≢true}
 use Rattle.std.proofs.lemmas.List.{reverse-append}
-use Rattle.jr_path.specs.Names.{name_cmp}
 use Rattle.jr_path.specs.declared.name.Name.{Name}
 use Rattle.jr_path.specs.declared.path.Path.{Path}
-use Rattle.jr_path.proofs.Maps.{name_exact}
 use Rattle.jr_value.specs.declared.value.Property.{Property}
 use Rattle.jr_value.specs.declared.value.Property.TheVariants.{Single, Many}
 use Rattle.jr_value.specs.declared.value.Value.{Value}
@@ -23,16 +18,8 @@ use Rattle.jr_items.specs.Items.{same_name, is_empty, name_in, one_name, many_na
 use Rattle.jr_types.specs.declared.ChildDef.{ChildDef}
 use Rattle.jr_types.specs.declared.TypeDef.{TypeDef}
 use Rattle.jr_types.specs.Types.{type_named, lineage, lineage_among, supertypes_of, is_a, types_of, child_defs, fits_child}
-use Rattle.jr_types.proofs.Meeting.{left_nil, right_nil}
+use Rattle.jr_types.proofs.Same.{left_nil, right_nil, same}
 use Rattle.jr_types.specs.Rules.{Child, TypesOk, failing, is_primary_type, is_mixin, are_mixins, are_distinct, is_undefined, is_misfit, is_outside, is_missing, is_stray, is_of_no_type, mandatory_props, mandatory_children, property_faults, child_faults, node_types, child_at}
-
-exactly : (o : Ordering) → is_eq o ≡ true → o ≡ Equal
-exactly Less h = absurd (false≢true h)
-exactly Equal h = refl
-exactly Greater h = absurd (false≢true h)
-
-pub same : (n m : Name) → same_name n m ≡ true → n ≡ m
-same n m h = name_exact n m (exactly (name_cmp n m) h)
 
 first : (a b : Bool) → (a && b) ≡ true → a ≡ true
 first true b h = refl

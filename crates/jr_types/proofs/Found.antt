@@ -18,8 +18,7 @@ use Rattle.jr_types.specs.declared.TypeDef.{TypeDef}
 use Rattle.jr_types.specs.declared.registry.Registered.{Registered}
 use Rattle.jr_types.specs.Registered.{AreWithin, IsAlike, IsRegistered, definitions, types_at}
 use Rattle.jr_types.specs.Types.{type_named, lineage, lineage_among, supertypes_of}
-use Rattle.jr_types.proofs.Added.{same}
-use Rattle.jr_types.proofs.Meeting.{itself}
+use Rattle.jr_types.proofs.Same.{itself, same}
 
 abbrev pub Entries : Type 0
 Entries = List (String Global × Registered)

@@ -20,7 +20,7 @@ use Rattle.indexmap.specs.IndexMap.{IndexMap, insert_entry}
 use Rattle.indexmap.proofs.CallerLemmas.{insert_entry-new}
 use Rattle.jr_types.specs.Rules.{type_fault}
 use Rattle.jr_types.proofs.Found.{Entries, entry_of, found}
-use Rattle.jr_types.proofs.Meeting.{itself}
+use Rattle.jr_types.proofs.Same.{itself}
 
 get_front : (ts us : List TypeDef) (k : ℕ) → k < length ts → slice_get (ts ++ us) k ≡ slice_get ts k
 get_front [] us k l = grind arith

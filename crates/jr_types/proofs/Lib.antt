@@ -1,6 +1,5 @@
-pub mod Meeting
+pub mod Same
 pub mod Added
-pub mod Rows
 pub mod Found
 pub mod Alike
 pub mod Digits
@@ -10,8 +9,4 @@ pub mod Below
 pub mod NamesText
 pub mod Copied
 pub mod Further
-pub mod Counting
-pub mod Faults
-pub mod Breaks
-pub mod Covered
-pub mod ByParts
+pub mod Chosen

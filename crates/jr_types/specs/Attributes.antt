@@ -1,14 +1,24 @@
 -- The definition of an item, and its attribute.
-use Rattle.std.specs.Prelude.{Bool, false, List, Option, option_and_then}
+use Rattle.std.specs.Prelude.{ℕ, Bool, false, List, Option, codes, option_and_then}
 use Rattle.std.specs.Option.{option_map_or}
 use Rattle.jr_path.specs.declared.name.Name.{Name}
 use Rattle.jr_value.specs.declared.value.Property.{Property}
 use Rattle.jr_types.specs.declared.OnParentVersion.{OnParentVersion}
+use Rattle.jr_types.specs.declared.OnParentVersion.TheVariants as opv
 use Rattle.jr_types.specs.declared.TypeDef.{TypeDef}
 use Rattle.std.specs.List.{filter_map, list_any}
 use Rattle.jr_items.specs.Items.{first_of}
 use Rattle.jr_types.specs.Types.{NodeTypes, types_of, prop_def, child_def, child_defs}
 use Rattle.jr_types.specs.Rules.{Child}
+
+-- the word of an attribute
+abbrev pub opv_text : OnParentVersion → List ℕ
+opv_text opv.Copy = codes "COPY"
+opv_text opv.Version = codes "VERSION"
+opv_text opv.Initialize = codes "INITIALIZE"
+opv_text opv.Compute = codes "COMPUTE"
+opv_text opv.Ignore = codes "IGNORE"
+opv_text opv.Abort = codes "ABORT"
 
 -- the attribute of a property of a node of these types passes the test; a property without a
 -- definition passes none

@@ -1,10 +1,6 @@
 pub mod Attributes
-pub mod Builtin
-pub mod Checking
 pub mod Constraints
-pub mod Reading
 pub mod Registered
 pub mod Rules
+pub mod Said
 pub mod Types
-pub mod Violations
-pub mod Tables

@@ -5,10 +5,10 @@ ghost use Rattle.std.specs.Option.{option_copied};
 ghost use Rattle.jr_items.specs.Names.{primary_type};
 ghost use Rattle.jr_items.specs.Items.{first_of, property_of};
 ghost use Rattle.jr_types.specs.Attributes.{are_ordered, default_type};
-ghost use Rattle.jr_types.specs.Checking.{types_said};
+ghost use Rattle.jr_types.specs.Said.{types_said};
 ghost use Rattle.jr_types.specs.Types.{child_def, fits_child, prop_def, types_of};
 
-use crate::checking::{children_of, counting_children, counting_props, fitting_props};
+use crate::counting::{children_of, counting_children, counting_props, fitting_props};
 use crate::{ChildDef, PropDef, Registry, TypeDef};
 use jr_path::Name;
 use jr_tree::Node;

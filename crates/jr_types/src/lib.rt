@@ -1,27 +1,26 @@
 //! Node types: what the properties and children of a node may be (JSR 283, 3.7 Node Types).
 #![tactic(auto)]
 
+ghost use Rattle.std.specs.Prelude.{◌≡◌};
+ghost use Rattle.jr_types.specs.Attributes.{opv_text};
+
 mod adding;
-mod builtin;
-mod checking;
 mod constraints;
 mod copies;
+mod counting;
 mod items;
 mod laws;
-mod reading;
 mod registry;
+mod said;
 
 pub use adding::TypeFault;
-pub use checking::{TypesOut, children_of};
 pub use constraints::{Range, is_constraint};
+pub use counting::{children_of, counting_children, counting_props, fitting_props, is_of};
 use jr_path::{List, Name, Text};
 use jr_value::{Kind, Value};
-pub use laws::{
-    added_types_keep_the_rules, the_initial_tree_meets_the_built_in_types,
-    what_lists_no_violation_meets_the_rules,
-};
-pub use reading::{NoType, read_type};
+pub use laws::added_types_keep_the_rules;
 pub use registry::{Registered, Registry};
+pub use said::{name_in, one_name};
 
 /// What a check-in of the parent does with an item.
 #[derive(Clone, Copy, Debug, PartialEq, Eq, PartialOrd, Ord)]
@@ -32,6 +31,22 @@ pub enum OnParentVersion {
     Compute,
     Ignore,
     Abort,
+}
+
+impl OnParentVersion {
+    /// The attribute's word, in capitals.
+    pub fn as_str(self) -> &'static str
+        ensures { result.now ≡ opv_text self }
+    {
+        match self {
+            OnParentVersion::Copy => "COPY",
+            OnParentVersion::Version => "VERSION",
+            OnParentVersion::Initialize => "INITIALIZE",
+            OnParentVersion::Compute => "COMPUTE",
+            OnParentVersion::Ignore => "IGNORE",
+            OnParentVersion::Abort => "ABORT",
+        }
+    }
 }
 
 /// What a property of this name may be; with no name, a property of any other name.

@@ -2,6 +2,7 @@
 ghost use Rattle.std.specs.Prelude.{◌≡◌, [], false, slice_get, IfOk};
 ghost use Rattle.std.specs.Option.{option_copied, option_map_or};
 ghost use Rattle.std.specs.List.{list_any};
+ghost use Rattle.jr_items.specs.Names.{mixin_types, primary_type};
 ghost use Rattle.jr_items.specs.Items.{same_name};
 ghost use Rattle.jr_types.specs.Types.{is_a, order_def, subtypes, type_named, lineage};
 ghost use Rattle.jr_types.specs.Rules.{is_mixin};
@@ -63,6 +64,25 @@ impl Registry {
             mixin_types,
             order: order_def(alloc)?,
         })
+    }
+
+    /// Where the registry takes memory from.
+    pub fn alloc(&self) -> Global {
+        self.alloc
+    }
+
+    /// The name `jcr:primaryType`.
+    pub fn primary_type(&self) -> &Name
+        ensures { result.now ≡ primary_type }
+    {
+        &self.primary_type
+    }
+
+    /// The name `jcr:mixinTypes`.
+    pub fn mixin_types(&self) -> &Name
+        ensures { result.now ≡ mixin_types }
+    {
+        &self.mixin_types
     }
 
     /// The definition of the type of that name.

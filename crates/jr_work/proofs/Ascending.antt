@@ -270,14 +270,14 @@ module _ (stage : Stage) (is : IsStage stage) (es : List (Revision × ℕ)) (kep
   there (y ∷ xs) (suc j) h = there xs j (earlier_below j (length xs) h)
 
   session_there : (s k : ℕ) → slice_get stage.world.history.sessions s ≡ Some k → s < length stage.seats.items
-  session_there s k h = subst (λ (n : ℕ). s < n) (sym is.seats) (by (slice_get stage.script.sessions s) refl)
+  session_there s k h = subst (λ (n : ℕ). s < n) (sym is.seats) (by (slice_get stage.script.value.sessions s) refl)
     where
-      at : slice_get (map (λ (x : SessionScript). x.cluster) stage.script.sessions) s ≡ Some k
+      at : slice_get (map (λ (x : SessionScript). x.cluster) stage.script.value.sessions) s ≡ Some k
       at = ap (λ (x : History). slice_get x.sessions s) (sym is.history) ∙ h
 
-      by : (o : Option SessionScript) → slice_get stage.script.sessions s ≡ o → s < length stage.script.sessions
-      by None none = none_is_some k (sym (slice_get-map (λ (x : SessionScript). x.cluster) stage.script.sessions s ∙ ap (option_map (λ (x : SessionScript). x.cluster)) none) ∙ at)
-      by (Some x) some = slice_get_within stage.script.sessions s x some
+      by : (o : Option SessionScript) → slice_get stage.script.value.sessions s ≡ o → s < length stage.script.value.sessions
+      by None none = none_is_some k (sym (slice_get-map (λ (x : SessionScript). x.cluster) stage.script.value.sessions s ∙ ap (option_map (λ (x : SessionScript). x.cluster)) none) ∙ at)
+      by (Some x) some = slice_get_within stage.script.value.sessions s x some
 
   in_seat : (r : Revision) (s : ℕ) (seat : Seat) → IsFlown (past_of stage) r s → slice_get stage.seats.items s ≡ Some seat → (o : Option Flight) → seat.flight ≡ o → IsFlight (past_of stage) s o → is_some (found es r) ≡ true
   in_seat r s seat flown at None keeps idle =

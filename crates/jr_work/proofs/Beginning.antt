@@ -1,10 +1,9 @@
 -- The sessions of a script before any turn.
-use Rattle.std.proofs.Common.{◌≡◌, ◌⊎◌, inl, inr, ℕ, zero, suc, ◌+◌, ◌<◌, ◌≤◌, length, map, Some, None, Option, List, [], ◌∷◌, ◌++◌, get_or, refl, sym, ap, ◌∙◌, subst, arith, length-append}
+use Rattle.std.proofs.Common.{◌≡◌, ◌⊎◌, inl, inr, ℕ, zero, suc, ◌+◌, ◌<◌, ◌≤◌, length, map, Some, None, Option, List, [], ◌∷◌, ◌++◌, refl, sym, ap, ◌∙◌, subst, arith, length-append}
 use Rattle.std.specs.Prelude.{slice_get}
 use Rattle.std.specs.Option.{option_map_or}
 use Rattle.std.specs.List.{All}
-use Rattle.std.proofs.lemmas.List.{length-map}
-use Rattle.std.proofs.lemmas.Option.{slice_get_read}
+use Rattle.std.proofs.lemmas.List.{append-nil, append_assoc, length-map, nil_from_length}
 use mathlib.Core.Bool.{false≢true}
 use Rattle.oak_machine.specs.Runs.{AreNodes}
 use Rattle.oak_port.specs.Ports.{Idle}
@@ -43,11 +42,27 @@ pushed (e ∷ xs) x y (suc k) h = by (pushed xs x y k h)
     by (inl h) = inl h
     by (inr (p, q)) = inr (ap suc p, q)
 
+-- the list of what was yielded and what is left goes on, an item further
+pub goes_over : {X : Type 0} (xs ys rest all : List X) (x : X) → xs ++ rest ≡ all → rest ≡ x ∷ ys → (xs ++ x ∷ []) ++ ys ≡ all
+goes_over {X = X} xs ys rest all x whole left = append_assoc xs (x ∷ []) ys ∙ (ap (λ (l : List X). xs ++ l) (sym left) ∙ whole)
+
+-- what comes next stands behind what was yielded
+pub comes_next : {X : Type 0} (xs ys rest all : List X) (x : X) → xs ++ rest ≡ all → rest ≡ x ∷ ys → slice_get all (length xs) ≡ Some x
+comes_next {X = X} xs ys rest all x whole left = ap (λ (l : List X). slice_get l (length xs)) (sym (ap (λ (l : List X). xs ++ l) (sym left) ∙ whole)) ∙ at xs
+  where
+    at : (xs : List X) → slice_get (xs ++ x ∷ ys) (length xs) ≡ Some x
+    at [] = refl
+    at (e ∷ xs) = at xs
+
+-- all was yielded where nothing is left
+pub all_yielded : {X : Type 0} (xs rest all : List X) → xs ++ rest ≡ all → length rest ≡ 0 → xs ≡ all
+all_yielded {X = X} xs rest all whole none = sym (append-nil xs) ∙ (ap (λ (l : List X). xs ++ l) (sym (nil_from_length rest none)) ∙ whole)
+
 pub none_new : (types : List TypeDef) (sessions : List SessionScript) → AreNew types sessions 0 []
 none_new types sessions = record { many = refl; each = λ k session seat at there. none_is_some seat there }
 
-pub one_more_new : (types : List TypeDef) (sessions : List SessionScript) (n : ℕ) (seats : List Seat) (x : SessionScript) (seat : Seat) → n < length sessions → x ≡ get_or sessions n x → AreNew types sessions n seats → IsNewSeat types n x seat → AreNew types sessions (n + 1) (seats ++ seat ∷ [])
-one_more_new types sessions n seats x seat within there are new = record {
+one_more_new : (types : List TypeDef) (sessions : List SessionScript) (n : ℕ) (seats : List Seat) (x : SessionScript) (seat : Seat) → slice_get sessions n ≡ Some x → AreNew types sessions n seats → IsNewSeat types n x seat → AreNew types sessions (n + 1) (seats ++ seat ∷ [])
+one_more_new types sessions n seats x seat there are new = record {
   many = let h = length-append seats (seat ∷ []) in let m = are.many in omega arith;
   each = λ k session other at other_at. by k session other at (pushed seats seat other k other_at);
 }
@@ -56,13 +71,15 @@ one_more_new types sessions n seats x seat within there are new = record {
     by k session other at (inl h) = are.each k session other at h
     by k session other at (inr (p, q)) =
         let same : k ≡ n = p ∙ are.many in
-        let it : x ≡ session = some_is_some x session (sym (slice_get_read sessions (length sessions) n x refl within there) ∙ (ap (slice_get sessions) (sym same) ∙ at)) in
+        let it : x ≡ session = some_is_some x session (sym there ∙ (ap (slice_get sessions) (sym same) ∙ at)) in
         subst (λ (i : ℕ). IsNewSeat types i session other) (sym same) (subst (λ (y : SessionScript). IsNewSeat types n y other) it (subst (λ (z : Seat). IsNewSeat types n x z) q new))
 
 -- the same, where the new seat was pushed
-pub seats_more : (types : List TypeDef) (sessions : List SessionScript) (n : ℕ) (seats next : List Seat) (x : SessionScript) (seat : Seat) → n < length sessions → x ≡ get_or sessions n x → AreNew types sessions n seats → IsNewSeat types n x seat → next ≡ seats ++ seat ∷ [] → AreNew types sessions (n + 1) next
-seats_more types sessions n seats next x seat within there are new is =
-    subst (λ (l : List Seat). AreNew types sessions (n + 1) l) (sym is) (one_more_new types sessions n seats x seat within there are new)
+pub seats_more : (types : List TypeDef) (sessions yielded : List SessionScript) (seats next : List Seat) (x : SessionScript) (seat : Seat) (number : ℕ) → slice_get sessions (length yielded) ≡ Some x → AreNew types sessions (length yielded) seats → number ≡ length seats → IsNewSeat types number x seat → next ≡ seats ++ seat ∷ [] → AreNew types sessions (length (yielded ++ x ∷ [])) next
+seats_more types sessions yielded seats next x seat number there are number_is new is =
+    subst (λ (n : ℕ). AreNew types sessions n next) (sym (length-append yielded (x ∷ [])))
+    (subst (λ (l : List Seat). AreNew types sessions (length yielded + 1) l) (sym is)
+    (one_more_new types sessions (length yielded) seats x seat there are (subst (λ (n : ℕ). IsNewSeat types n x seat) (number_is ∙ are.many) new)))
 
 -- ---- what a script keeps
 
@@ -106,13 +123,14 @@ module _ (script : Script) (within : IsWithin script) where
               seen = λ r theirs unseen. absurd (false≢true theirs);
             }
 
-    pub begun : (stage : Stage) → stage.script ≡ script → stage.world ≡ start → stage.seats.items ≡ seats → IsBegun script stage
-    begun stage script_is world_is seats_are = record {
+    pub begun : (stage : Stage) → stage.script.value ≡ script → stage.schedule ≡ script.schedule → stage.world ≡ start → stage.seats.items ≡ seats → IsBegun script stage
+    begun stage script_is schedule_is world_is seats_are = record {
       script_is = script_is;
       stage_is = record {
         law = ap (λ (w : WorldOf JcrLaw). w.law) world_is ∙ ap law_of (sym script_is);
         history = subst (λ (x : Script). (live stage.world.history) ≡ history_at x stage.world.history.past) (sym script_is) (subst (λ (w : WorldOf JcrLaw). (live w.history) ≡ history_at script w.history.past) (sym world_is) refl);
         within = subst (λ (x : Script). IsWithin x) (sym script_is) within;
+        schedule = schedule_is ∙ ap (λ (x : Script). x.schedule) (sym script_is);
         seats = ap (λ (l : List Seat). length l) seats_are ∙ (new.many ∙ ap (λ (x : Script). length x.sessions) (sym script_is));
         each = λ s seat at.
             subst (λ (x : Script). IsSeated x stage.world s seat) (sym script_is)
@@ -121,26 +139,25 @@ module _ (script : Script) (within : IsWithin script) where
       first = ap (λ (w : WorldOf JcrLaw). w.history.past) world_is;
     }
 
--- ---- by what the calls tell
+  -- the same, by what the product's law says of every run
+  pub begun_by : (stage : Stage) → ((l : JcrLaw) (clusters : ℕ) (sessions : List ℕ) → AreNodes clusters sessions → SeesTrees l clusters sessions None)
+      → ((l : JcrLaw) (clusters : ℕ) (sessions : List ℕ) → AreNodes clusters sessions → TypesOk l.types initial_tree → SeesTyped l clusters sessions None) → AreNew script.types script.sessions (length script.sessions) stage.seats.items → stage.world ≡ start → stage.script.value ≡ script → stage.schedule ≡ script.schedule → IsBegun script stage
+  begun_by stage trees typed new world_is script_is schedule_is =
+      begun stage.seats.items new
+      (trees (law_of script) script.clusters (map (λ s. s.cluster) script.sessions) (within_nodes script within))
+      (typed (law_of script) script.clusters (map (λ s. s.cluster) script.sessions) (within_nodes script within) within.types.typed) stage script_is schedule_is world_is refl
 
-module _ (script : Script) (within : IsWithin script) (sessions : List SessionScript) (same : sessions ≡ script.sessions) (nodes slice : List ℕ) (made : nodes ≡ map (λ s. s.cluster) sessions) (lent : slice ≡ nodes) where
-  abbrev clusters_of : List ℕ
-  clusters_of = map (λ s. s.cluster) script.sessions
+-- ---- the world of a law, by the nodes that are lent to it
 
-  are : slice ≡ map (λ s. s.cluster) script.sessions
+module _ (law : JcrLaw) (clusters : ℕ) (sessions : List SessionScript) (same : sessions ≡ law.sessions) (nodes slice : List ℕ) (made : nodes ≡ map (λ s. s.cluster) sessions) (lent : slice ≡ nodes) where
+  are : slice ≡ map (λ s. s.cluster) law.sessions
   are = lent ∙ (made ∙ ap (map (λ (s : SessionScript). s.cluster)) same)
 
-  pub slice_nodes : AreNodes script.clusters slice
-  slice_nodes = subst (λ (l : List ℕ). AreNodes script.clusters l) (sym are) (within_nodes script within)
+  pub slice_nodes : AreNodes clusters (map (λ s. s.cluster) law.sessions) → AreNodes clusters slice
+  slice_nodes nodes = subst (λ (l : List ℕ). AreNodes clusters l) (sym are) nodes
 
-  pub slice_few : length slice ≤ 64
-  slice_few = let h = ap (λ (l : List ℕ). length l) are in let m = length-map script.sessions (λ (s : SessionScript). s.cluster) in let f = within.few in omega arith
+  pub slice_few : length law.sessions ≤ 64 → length slice ≤ 64
+  slice_few few = let h = ap (λ (l : List ℕ). length l) are in let m = length-map law.sessions (λ (s : SessionScript). s.cluster) in omega arith
 
-  pub begun_by : (others : List SessionScript) (law : JcrLaw) (stage : Stage) → ((l : JcrLaw) (clusters : ℕ) (sessions : List ℕ) → AreNodes clusters sessions → SeesTrees l clusters sessions None)
-      → ((l : JcrLaw) (clusters : ℕ) (sessions : List ℕ) → AreNodes clusters sessions → TypesOk l.types initial_tree → SeesTyped l clusters sessions None) → others ≡ script.sessions → AreNew law.types others (length others) stage.seats.items → law ≡ law_of script → stage.world ≡ start_world law script.clusters slice → stage.script ≡ script → IsBegun script stage
-  begun_by others law stage trees typed again seats law_is world_is script_is =
-      begun script within stage.seats.items
-      (subst (λ (l : JcrLaw). AreNew l.types script.sessions (length script.sessions) stage.seats.items) law_is (subst (λ (l : List SessionScript). AreNew law.types l (length l) stage.seats.items) again seats))
-      (trees (law_of script) script.clusters (map (λ s. s.cluster) script.sessions) (within_nodes script within))
-      (typed (law_of script) script.clusters (map (λ s. s.cluster) script.sessions) (within_nodes script within) within.types.typed) stage script_is
-      (world_is ∙ (ap (λ (l : JcrLaw). start_world l script.clusters slice) law_is ∙ ap (start_world (law_of script) script.clusters) are)) refl
+  pub slice_world : (world : WorldOf JcrLaw) → world ≡ start_world law clusters slice → world ≡ start_world law clusters (map (λ s. s.cluster) law.sessions)
+  slice_world world is = is ∙ ap (start_world law clusters) are

@@ -46,7 +46,7 @@ under_begins stage rule is = record {
   stage_is = is;
   over = λ t h. h;
   whole = refl;
-  way = way_begins stage.script (past_of stage) rule;
+  way = way_begins stage.script.value (past_of stage) rule;
   cut = λ parts h. h;
 }
 
@@ -61,7 +61,7 @@ still_due due now s t others mine last = by (t == s) refl
 -- ---- a turn of the part's session
 
 module _ (first stage new : Stage) (rule : Rule) (part : Past) (s : ℕ) (answer : Turn) (under : IsUnder first stage rule part) (come : HasCome stage new s answer) where
-  script_now : new.script ≡ first.script
+  script_now : new.script.value ≡ first.script.value
   script_now = come.script ∙ under.script
 
   whole_now : past_of new ≡ (come.own ++ part) ++ past_of first
@@ -71,21 +71,21 @@ module _ (first stage new : Stage) (rule : Rule) (part : Past) (s : ℕ) (answer
       append_assoc [] b c = refl
       append_assoc (x ∷ a) b c = ap (λ l. x ∷ l) (append_assoc a b c)
 
-  over_then : (t : ℕ) → is_over first.script (past_of first) t ≡ true → is_over first.script (past_of new) t ≡ true
+  over_then : (t : ℕ) → is_over first.script.value (past_of first) t ≡ true → is_over first.script.value (past_of new) t ≡ true
   over_then t h = subst (λ (x : Script). is_over x (past_of new) t ≡ true) under.script (come.over t (subst (λ (x : Script). is_over x (past_of stage) t ≡ true) (sym under.script) (under.over t h)))
 
   -- a step
-  module _ (step : IsStepAt stage.script (past_of stage) s (due_at stage.world s) come.own) where
-    step_first : IsStepAt first.script (past_of stage) s (due_at stage.world s) come.own
+  module _ (step : IsStepAt stage.script.value (past_of stage) s (due_at stage.world s) come.own) where
+    step_first : IsStepAt first.script.value (past_of stage) s (due_at stage.world s) come.own
     step_first = subst (λ (x : Script). IsStepAt x (past_of stage) s (due_at stage.world s) come.own) under.script step
 
-    step_part : IsStepAt first.script (part ++ past_of first) s (due_at stage.world s) come.own
-    step_part = subst (λ (p : Past). IsStepAt first.script p s (due_at stage.world s) come.own) under.whole step_first
+    step_part : IsStepAt first.script.value (part ++ past_of first) s (due_at stage.world s) come.own
+    step_part = subst (λ (p : Past). IsStepAt first.script.value p s (due_at stage.world s) come.own) under.whole step_first
 
-    pub awake_part : is_resting first.script (part ++ past_of first) s ≡ false
+    pub awake_part : is_resting first.script.value (part ++ past_of first) s ≡ false
     awake_part = step_part.awake
 
-    pub under_steps : session_of rule ≡ s → is_done first.script rule (past_of first) part ≡ false
+    pub under_steps : session_of rule ≡ s → is_done first.script.value rule (past_of first) part ≡ false
         → ((t : ℕ) → rule ≡ by_entry (entry.Last t) → is_last_due (due_at stage.world s) ≡ true → is_at_last (part ++ past_of first) t ≡ false)
         → IsUnder first new rule (come.own ++ part)
     under_steps same done late = record {
@@ -93,9 +93,9 @@ module _ (first stage new : Stage) (rule : Rule) (part : Past) (s : ℕ) (answer
       stage_is = come.stage;
       over = over_then;
       whole = whole_now;
-      way = way_steps first.script (past_of first) rule part (due_at stage.world s) come.own under.way (subst (λ (x : ℕ). IsStepAt first.script (part ++ past_of first) x (due_at stage.world s) come.own) (sym same) step_part) done late;
-      cut = λ parts h. subst (λ (p : Past). IsCutSoFar first.script (due_at new.world) parts (come.own ++ part) p) (sym come.past)
-          (cut_steps first.script (due_at stage.world) (due_at new.world) s (past_of stage) come.own step_first come.others parts part (under.cut parts h));
+      way = way_steps first.script.value (past_of first) rule part (due_at stage.world s) come.own under.way (subst (λ (x : ℕ). IsStepAt first.script.value (part ++ past_of first) x (due_at stage.world s) come.own) (sym same) step_part) done late;
+      cut = λ parts h. subst (λ (p : Past). IsCutSoFar first.script.value (due_at new.world) parts (come.own ++ part) p) (sym come.past)
+          (cut_steps first.script.value (due_at stage.world) (due_at new.world) s (past_of stage) come.own step_first come.others parts part (under.cut parts h));
     }
 
   past_stays : come.own ≡ [] → past_of new ≡ past_of stage
@@ -109,14 +109,14 @@ module _ (first stage new : Stage) (rule : Rule) (part : Past) (s : ℕ) (answer
     over = over_then;
     whole = past_stays none ∙ under.whole;
     way = under.way;
-    cut = λ parts h. subst (λ (p : Past). IsCutSoFar first.script (due_at new.world) parts part p) (sym (past_stays none))
-        (cut_due first.script (due_at stage.world) (due_at new.world) (λ t last. still_due (due_at stage.world) (due_at new.world) s t come.others (come.still none) last) parts part (past_of stage) (under.cut parts h));
+    cut = λ parts h. subst (λ (p : Past). IsCutSoFar first.script.value (due_at new.world) parts part p) (sym (past_stays none))
+        (cut_due first.script.value (due_at stage.world) (due_at new.world) (λ t last. still_due (due_at stage.world) (due_at new.world) s t come.others (come.still none) last) parts part (past_of stage) (under.cut parts h));
   }
 
 -- ---- a part is closed
 
 module _ (first stage : Stage) (rule : Rule) (part : Past) (under : IsUnder first stage rule part) where
-  pub under_closes : is_part first.script rule (past_of first) part [] ≡ true → IsQuiet first.script (due_at stage.world) rule (past_of first) part [] → Closes first stage rule
+  pub under_closes : is_part first.script.value rule (past_of first) part [] ≡ true → IsQuiet first.script.value (due_at stage.world) rule (past_of first) part [] → Closes first stage rule
   under_closes is quiet = record {
     script = under.script;
     stage = under.stage_is;
@@ -125,9 +125,9 @@ module _ (first stage : Stage) (rule : Rule) (part : Past) (under : IsUnder firs
         let same : past_of first ≡ events_of parts = h.whole in (
           record { rule = rule; events = part },
           refl,
-          cut_closes first.script (due_at stage.world) rule parts part (past_of stage) (under.cut parts h)
-              (subst (λ (p : Past). is_part first.script rule p part [] ≡ true) same is)
-              (subst (λ (p : Past). IsQuiet first.script (due_at stage.world) rule p part []) same quiet),
+          cut_closes first.script.value (due_at stage.world) rule parts part (past_of stage) (under.cut parts h)
+              (subst (λ (p : Past). is_part first.script.value rule p part [] ≡ true) same is)
+              (subst (λ (p : Past). IsQuiet first.script.value (due_at stage.world) rule p part []) same quiet),
         );
   }
 
@@ -151,13 +151,13 @@ module _ (first new : Stage) (s : ℕ) (answer : Turn) (is : IsStage first) (com
   abbrev one_turn : Rule
   one_turn = by_entry (entry.Turn s)
 
-  turn_steps : IsStepAt first.script (past_of first) s (due_at first.world s) come.own → Closes first new (by_entry (entry.Turn s))
+  turn_steps : IsStepAt first.script.value (past_of first) s (due_at first.world s) come.own → Closes first new (by_entry (entry.Turn s))
   turn_steps step =
       let under = under_steps first first new (by_entry (entry.Turn s)) [] s answer (under_begins first (by_entry (entry.Turn s)) is) come step refl refl (λ t same last. absurd (not_last t same)) in
       let same : come.own ++ [] ≡ come.own = append_nil come.own in
       under_closes first new (by_entry (entry.Turn s)) (come.own ++ []) under
-      (subst (λ (o : Past). is_part first.script (by_entry (entry.Turn s)) (past_of first) o [] ≡ true) (sym same)
-      (part_turns first.script (past_of first) s come.own (subst (λ (o : Past). IsUnderWay first.script (by_entry (entry.Turn s)) (past_of first) o) same under.way) (first_of_step first.script (past_of first) s (due_at first.world s) come.own step)))
+      (subst (λ (o : Past). is_part first.script.value (by_entry (entry.Turn s)) (past_of first) o [] ≡ true) (sym same)
+      (part_turns first.script.value (past_of first) s come.own (subst (λ (o : Past). IsUnderWay first.script.value (by_entry (entry.Turn s)) (past_of first) o) same under.way) (first_of_step first.script.value (past_of first) s (due_at first.world s) come.own step)))
       tt
     where
       append_nil : {X : Type 0} (a : List X) → a ++ [] ≡ a
@@ -167,16 +167,16 @@ module _ (first new : Stage) (s : ℕ) (answer : Turn) (is : IsStage first) (com
       not_last : (t : ℕ) → by_entry (entry.Turn s) ≡ by_entry (entry.Last t) → ⊥
       not_last t same = false≢true (ap is_last_rule same)
 
-  turn_rests : come.own ≡ [] → is_resting first.script (past_of first) s ≡ true → Closes first new (by_entry (entry.Turn s))
+  turn_rests : come.own ≡ [] → is_resting first.script.value (past_of first) s ≡ true → Closes first new (by_entry (entry.Turn s))
   turn_rests none rest =
       let under = under_stays first first new (by_entry (entry.Turn s)) [] s answer (under_begins first (by_entry (entry.Turn s)) is) come none in
-      under_closes first new (by_entry (entry.Turn s)) [] under (part_turns first.script (past_of first) s [] under.way rest) tt
+      under_closes first new (by_entry (entry.Turn s)) [] under (part_turns first.script.value (past_of first) s [] under.way rest) tt
 
-  by_answer : (a : Turn) → Comes first.script (past_of first) s (due_at first.world s) a come.own → Closes first new (by_entry (entry.Turn s))
+  by_answer : (a : Turn) → Comes first.script.value (past_of first) s (due_at first.world s) a come.own → Closes first new (by_entry (entry.Turn s))
   by_answer (turn.Stepped k) (step, plain) = turn_steps step
   by_answer (turn.Said i) (text, own, step) = turn_steps step
-  by_answer (turn.Waiting q) (none, waits) = turn_rests none (rests first.script (past_of first) s (inl waits))
-  by_answer turn.Ended (none, over) = turn_rests none (rests first.script (past_of first) s (inr over))
+  by_answer (turn.Waiting q) (none, waits) = turn_rests none (rests first.script.value (past_of first) s (inl waits))
+  by_answer turn.Ended (none, over) = turn_rests none (rests first.script.value (past_of first) s (inr over))
   by_answer turn.Memory h = absurd h
 
   -- one turn is a part of a number

@@ -80,18 +80,18 @@ module _ (first stage : Stage) (s n said : ℕ) where
 
   pub say_done : HasSaid first stage s n said → said ≡ n → Closes first stage (by_entry (entry.Say s n))
   say_done has all = under_closes first stage (by_entry (entry.Say s n)) has.part has.under
-      (part_says first.script (past_of first) s n has.part has.under.way (or_true (nat_le n (count_by (is_reply_of s) has.part)) _ (at_least n (count_by (is_reply_of s) has.part) (sym all ∙ has.count)))) tt
+      (part_says first.script.value (past_of first) s n has.part has.under.way (or_true (nat_le n (count_by (is_reply_of s) has.part)) _ (at_least n (count_by (is_reply_of s) has.part) (sym all ∙ has.count)))) tt
 
   module _ (has : HasSaid first stage s n said) (short : said < n) (new : Stage) where
-    not_done : is_resting first.script (has.part ++ past_of first) s ≡ false → is_done first.script (by_entry (entry.Say s n)) (past_of first) has.part ≡ false
-    not_done awake = ap (λ b. b || is_resting first.script (has.part ++ past_of first) s) (subst (λ (c : ℕ). nat_le n c ≡ false) has.count (short_of n said short)) ∙ awake
+    not_done : is_resting first.script.value (has.part ++ past_of first) s ≡ false → is_done first.script.value (by_entry (entry.Say s n)) (past_of first) has.part ≡ false
+    not_done awake = ap (λ b. b || is_resting first.script.value (has.part ++ past_of first) s) (subst (λ (c : ℕ). nat_le n c ≡ false) has.count (short_of n said short)) ∙ awake
 
     pub say_steps : (k : StepKind) → HasCome stage new s (turn.Stepped k) → HasSaid first new s n said
     say_steps k come = record {
       part = come.own ++ has.part;
       under = under_steps first stage new (by_entry (entry.Say s n)) has.part s (turn.Stepped k) has.under come come.came.0 refl
           (not_done (awake_part first stage new (by_entry (entry.Say s n)) has.part s (turn.Stepped k) has.under come come.came.0)) (λ t same last. no_last (by_entry (entry.Say s n)) t refl same);
-      count = has.count ∙ sym (same_count s has.part come.own stage.script (past_of stage) come.came.0.events come.came.1);
+      count = has.count ∙ sym (same_count s has.part come.own stage.script.value (past_of stage) come.came.0.events come.came.1);
       few = has.few;
     }
 
@@ -104,18 +104,18 @@ module _ (first stage : Stage) (s n said : ℕ) where
       few = one_less said n short;
     }
 
-  rest_done : (has : HasSaid first stage s n said) (new : Stage) (answer : Turn) (come : HasCome stage new s answer) → come.own ≡ [] → is_resting stage.script (past_of stage) s ≡ true → Closes first new (by_entry (entry.Say s n))
+  rest_done : (has : HasSaid first stage s n said) (new : Stage) (answer : Turn) (come : HasCome stage new s answer) → come.own ≡ [] → is_resting stage.script.value (past_of stage) s ≡ true → Closes first new (by_entry (entry.Say s n))
   rest_done has new answer come none rest =
       let under = under_stays first stage new (by_entry (entry.Say s n)) has.part s answer has.under come none in
       under_closes first new (by_entry (entry.Say s n)) has.part under
-      (part_says first.script (past_of first) s n has.part under.way (or_later (nat_le n (count_by (is_reply_of s) has.part)) _
-      (subst (λ (p : Past). is_resting first.script p s ≡ true) has.under.whole (subst (λ (x : Script). is_resting x (past_of stage) s ≡ true) has.under.script rest)))) tt
+      (part_says first.script.value (past_of first) s n has.part under.way (or_later (nat_le n (count_by (is_reply_of s) has.part)) _
+      (subst (λ (p : Past). is_resting first.script.value p s ≡ true) has.under.whole (subst (λ (x : Script). is_resting x (past_of stage) s ≡ true) has.under.script rest)))) tt
 
   pub say_waits : HasSaid first stage s n said → (new : Stage) (q : _) → HasCome stage new s (turn.Waiting q) → Closes first new (by_entry (entry.Say s n))
-  say_waits has new q come = rest_done has new (turn.Waiting q) come come.came.0 (rests stage.script (past_of stage) s (inl come.came.1))
+  say_waits has new q come = rest_done has new (turn.Waiting q) come come.came.0 (rests stage.script.value (past_of stage) s (inl come.came.1))
 
   pub say_over : HasSaid first stage s n said → (new : Stage) → HasCome stage new s turn.Ended → Closes first new (by_entry (entry.Say s n))
-  say_over has new come = rest_done has new turn.Ended come come.came.0 (rests stage.script (past_of stage) s (inr come.came.1))
+  say_over has new come = rest_done has new turn.Ended come come.came.0 (rests stage.script.value (past_of stage) s (inr come.came.1))
 
 -- ---- to the next reply, and to the end
 
@@ -134,14 +134,14 @@ module _ (first stage : Stage) (s : ℕ) where
     reply_steps k come = record {
       part = come.own ++ has.part;
       under = under_steps first stage new (to_reply s) has.part s (turn.Stepped k) has.under come come.came.0 refl has.unsaid (λ t same last. no_last (to_reply s) t refl same);
-      unsaid = not_said s has.part come.own stage.script (past_of stage) come.came.0.events come.came.1;
+      unsaid = not_said s has.part come.own stage.script.value (past_of stage) come.came.0.events come.came.1;
     }
 
     pub reply_said : (i : ℕ) → HasCome stage new s (turn.Said i) → Closes first new (to_reply s)
     reply_said i come =
         let under = under_steps first stage new (to_reply s) has.part s (turn.Said i) has.under come come.came.2 refl has.unsaid (λ t same last. no_last (to_reply s) t refl same) in
         under_closes first new (to_reply s) (come.own ++ has.part) under
-        (part_replies first.script (past_of first) s (come.own ++ has.part) under.way (subst (λ (o : Past). has_just_said s (o ++ has.part) ≡ true) (sym come.came.1) (number_itself s))) tt
+        (part_replies first.script.value (past_of first) s (come.own ++ has.part) under.way (subst (λ (o : Past). has_just_said s (o ++ has.part) ≡ true) (sym come.came.1) (number_itself s))) tt
 
 -- turns of s were made towards its end
 pub record IsEnding (first stage : Stage) (s : ℕ) : Type 0 where
@@ -157,11 +157,11 @@ module _ (first stage : Stage) (s : ℕ) where
   second false b h = h
 
   module _ (has : IsEnding first stage s) (new : Stage) where
-    made_one : (answer : Turn) (come : HasCome stage new s answer) → IsStepAt stage.script (past_of stage) s (due_at stage.world s) come.own → IsEnding first new s
+    made_one : (answer : Turn) (come : HasCome stage new s answer) → IsStepAt stage.script.value (past_of stage) s (due_at stage.world s) come.own → IsEnding first new s
     made_one answer come step = record {
       part = come.own ++ has.part;
       under = under_steps first stage new (to_end s) has.part s answer has.under come step refl
-          (second (is_waiting first.script (has.part ++ past_of first) s) _ (awake_part first stage new (to_end s) has.part s answer has.under come step)) (λ t same last. no_last (to_end s) t refl same);
+          (second (is_waiting first.script.value (has.part ++ past_of first) s) _ (awake_part first stage new (to_end s) has.part s answer has.under come step)) (λ t same last. no_last (to_end s) t refl same);
     }
 
     pub end_steps : (k : StepKind) → HasCome stage new s (turn.Stepped k) → IsEnding first new s
@@ -170,13 +170,13 @@ module _ (first stage : Stage) (s : ℕ) where
     pub end_said : (i : ℕ) → HasCome stage new s (turn.Said i) → IsEnding first new s
     end_said i come = made_one (turn.Said i) come come.came.2
 
-    over_first : HasCome stage new s turn.Ended → is_over first.script (has.part ++ past_of first) s ≡ true
-    over_first come = subst (λ (p : Past). is_over first.script p s ≡ true) has.under.whole (subst (λ (x : Script). is_over x (past_of stage) s ≡ true) has.under.script come.came.1)
+    over_first : HasCome stage new s turn.Ended → is_over first.script.value (has.part ++ past_of first) s ≡ true
+    over_first come = subst (λ (p : Past). is_over first.script.value p s ≡ true) has.under.whole (subst (λ (x : Script). is_over x (past_of stage) s ≡ true) has.under.script come.came.1)
 
     pub end_over : HasCome stage new s turn.Ended → Closes first new (to_end s)
     end_over come =
         let under = under_stays first stage new (to_end s) has.part s turn.Ended has.under come come.came.0 in
-        under_closes first new (to_end s) has.part under (part_closes first.script (past_of first) s has.part under.way (over_first come)) tt
+        under_closes first new (to_end s) has.part under (part_closes first.script.value (past_of first) s has.part under.way (over_first come)) tt
 
-    pub end_is_over : HasCome stage new s turn.Ended → is_over new.script (past_of new) s ≡ true
+    pub end_is_over : HasCome stage new s turn.Ended → is_over new.script.value (past_of new) s ≡ true
     end_is_over come = subst (λ (x : Script). is_over x (past_of new) s ≡ true) (sym come.script) (come.over s come.came.1)

@@ -5,13 +5,13 @@ use Rattle.jr_rev.specs.declared.revision.Revision.{Revision}
 use Rattle.oak_commit.specs.declared.outcome.CommitEnd.{CommitEnd}
 use Rattle.oak_commit.specs.declared.outcome.CommitEnd.TheVariants as end
 use Rattle.oak_port.specs.Ports.{Deciding, Undoing, Work as Shows, Writing}
-use Rattle.oak_world.specs.declared.actor.Work.{Work}
-use Rattle.oak_world.specs.declared.actor.Work.TheVariants as work
-use Rattle.oak_world.specs.declared.upkeep.Upkeep.{Upkeep}
-use Rattle.oak_world.specs.declared.upkeep.Upkeep.TheVariants as upkeep
-use Rattle.oak_world.specs.Upkeeps.{kind_kept}
+use Rattle.oak_step.specs.declared.work.Work.{Work}
+use Rattle.oak_step.specs.declared.work.Work.TheVariants as work
+use Rattle.oak_step.specs.declared.upkeep.Upkeep.{Upkeep}
+use Rattle.oak_step.specs.declared.upkeep.Upkeep.TheVariants as upkeep
+use Rattle.oak_step.specs.Upkeeps.{kind_kept}
 use Rattle.oak_world.specs.Seen.{shown_by, shown_work}
-use Rattle.oak_world.specs.Steps.{kind_due}
+use Rattle.oak_step.specs.Works.{kind_due}
 use Rattle.jr_work.specs.SoFar.{is_last_due}
 
 abbrev pub at_commit : Shows → Bool

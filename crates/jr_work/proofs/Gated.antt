@@ -1,6 +1,6 @@
 -- Others act between two calls of a port: what the calls tell together, and how long what is being done lasts then.
 use mathlib.Core.Bool.{false≢true}
-use Rattle.std.proofs.Common.{◌≡◌, ◌≢◌, ℕ, suc, ◌+◌, ◌≤◌, max, Bool, true, false, cond, ◌||◌, Option, Some, None, List, [], ◌∷◌, ◌++◌, is_some, refl, sym, ap, ◌∙◌, subst, arith}
+use Rattle.std.proofs.Common.{◌≡◌, ◌≢◌, ◌⊎◌, ℕ, suc, ◌+◌, ◌<◌, ◌≤◌, max, Bool, true, false, cond, ◌||◌, Option, Some, None, List, [], ◌∷◌, ◌++◌, is_some, refl, sym, ap, ◌∙◌, subst, arith}
 use Rattle.std.specs.Prelude.{◌==◌, IfSome}
 use Rattle.std.specs.List.{list_any}
 use Rattle.std.specs.Option.{option_map_or}
@@ -22,7 +22,7 @@ use Rattle.oak_machine.specs.Heads.{greatest_time, head_of, last_draw_time}
 use Rattle.oak_machine.specs.Laws.{AreOthers, Says, Starts, after, is_event_of, is_revision_of}
 use Rattle.oak_machine.specs.Runs.{IsRun, IsRunOf}
 use Rattle.oak_port.specs.declared.task.StepOut.{StepOut}
-use Rattle.oak_port.specs.Ports.{ActedAlone, AreOfStep, Beside, Idle, LastsLess, LastsOn, Makes, Seat, Shown, StaysSo, Steps, Work, is_by_due}
+use Rattle.oak_port.specs.Ports.{ActedAlone, AreOfStep, Beside, Idle, IsWait, LastsLess, LastsOn, Makes, Seat, Shown, StaysSo, Steps, Work, is_by_due}
 use Rattle.jr_shared.proofs.Shapes.{none_between, shaped}
 
 -- ---- draws
@@ -188,15 +188,15 @@ module _ (starts : Starts) (says : Says) (old mid : Shown) (waits : StaysSo star
         (append_cancel_right (steps.own ++ others) a.own old.history.past (append_assoc steps.own others old.history.past ∙ past))
 
     -- what is being done comes nearer to its end, as far as without those who might have acted
-    pub lowers_behind : (before between now : ℕ → Type 0) → LastsOn before between old mid → LastsLess between now mid new answer → LastsLess before now old new answer
-    lowers_behind before between now on less a n lasts =
+    pub lowers_behind : (before between now : ℕ) → LastsOn before between old mid → LastsLess between now mid new answer → LastsLess before now old new answer
+    lowers_behind before between now on less a =
         let none = none_acted a in
         let second : steps.others ≡ [] = empty_first steps.others waits.others none in
         let first : waits.others ≡ [] = empty_second steps.others waits.others none in
         let still : mid.history ≡ old.history = waits.grows.grown ∙ ap (λ (p : Past). after p old.history) first in
         let at : after steps.others mid.history ≡ mid.history = ap (λ (p : Past). after p mid.history) second in
-        less (record {
+        subst (λ (n : ℕ). IsWait answer ⊎ (now < n)) (on still) (less (record {
           own = steps.own;
           grown = steps.grows.grown ∙ ap (after steps.own) at;
           makes = subst (λ (h : History). Makes h mid.session mid.work answer steps.own new.work) at steps.makes;
-        }) n (on still (suc n) lasts)
+        }))

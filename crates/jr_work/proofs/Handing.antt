@@ -21,7 +21,7 @@ use Rattle.jr_shared.proofs.Handing.{first_owns, first_told}
 use Rattle.seat_lock.specs.Views.{handed, is_one_of, kept_back}
 use Rattle.jr_work.specs.Places.{history_at}
 use Rattle.jr_work.specs.Stages.{law_of}
-use Rattle.jr_work.specs.Workers.{HasHandedOut, HasNotBegun, IsReady, KnowsScript, frame_for}
+use Rattle.jr_work.specs.Workers.{HasHandedOut, HasNotBegun, IsHandedOut, KnowsScript, frame_for}
 use Rattle.jr_work.proofs.Naming.{AreNamed}
 
 -- ---- what a pass has seen
@@ -91,7 +91,7 @@ module _ (script : Script) (workers worker : ℕ) (v w : Known JcrLaw) (names : 
   knows_still round frame seen = record { rest = round ∙ out.knows.rest; frame = frame ∙ out.knows.frame; told = told; run = run_unseen (starts_of (law_of script)) (says_of (law_of script)) w (seen ∙ out.unseen) }
 
   -- the pass that is handed out
-  pub ready_by : w ≡ handed names v → ((s : ℕ) → owned_by w s ≡ cond (is_one_of names s) (owned_by v s) None) → IsReady script workers worker w
+  pub ready_by : w ≡ handed names v → ((s : ℕ) → owned_by w s ≡ cond (is_one_of names s) (owned_by v s) None) → IsHandedOut script workers worker w
   ready_by is owns = record {
     knows = knows_still (ap (λ (x : Known JcrLaw). x.round) is ∙ sym out.knows.rest) (ap (λ (x : Known JcrLaw). x.frame) is) (ap (λ (x : Known JcrLaw). x.seen) is);
     weight = ap (λ (x : Known JcrLaw). x.weight) is;

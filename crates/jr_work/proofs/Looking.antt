@@ -90,12 +90,12 @@ module _ (law : JcrLaw) (run : SessionRun) (b : Beside) (d : Option StepKind) wh
 -- ---- a reading step
 
 module _ (n : GName) (s : ℕ) (old new : Stage) (seat seat_now : Seat)
-    (stage : IsStage old) (at : slice_get old.seats.items s ≡ Some seat) (script_same : new.script ≡ old.script) (seats_now : new.seats.items ≡ slice_set old.seats.items s seat_now)
+    (stage : IsStage old) (at : slice_get old.seats.items s ≡ Some seat) (script_same : new.script.value ≡ old.script.value) (schedule_same : new.schedule ≡ old.schedule) (seats_now : new.seats.items ≡ slice_set old.seats.items s seat_now)
     (kept : seat_now.flight ≡ seat.flight) (read : HasRead n s old.world new.world seat.run seat_now.run) where
   looked : HasLooked old.world.law (shown_at n old.world s) (shown_at n new.world s) seat.run seat_now.run
   looked = read.1
 
-  seated : IsSeated old.script old.world s seat
+  seated : IsSeated old.script.value old.world s seat
   seated = stage.each s seat at
 
   none_added : looked.beside.others ≡ []
@@ -138,40 +138,41 @@ module _ (n : GName) (s : ℕ) (old new : Stage) (seat seat_now : Seat)
       by true unread = none_is_some r (sym (uncommitted unread).none ∙ is)
       by false rests = ap (λ (x : Shown). awaited x.work) (looked.still rests).0 ∙ is
 
-  mine : IsSeated old.script new.world s seat_now
+  mine : IsSeated old.script.value new.world s seat_now
   mine = record {
     session = looked.same.session ∙ seated.session;
     stands = λ m. subst (λ (l : JcrLaw). Stands l (shown_at m new.world s) seat_now.run) (sym read.0)
         (stands_renamed old.world.law (shown_at n new.world s) (shown_at m new.world s).beside (shown_at m new.world s).due seat_now.run looked.stands);
     flight = subst (λ (p : Past). IsFlight p s seat_now.flight) (sym same_past) (subst (λ (o : Option Flight). IsFlight (past_of old) s o) (sym kept) seated.flight);
-    seen = subst (λ (p : Past). IsSeenBut old.script p s (awaited (shown_work (work_in new.world.actors s)))) (sym same_past) (λ r m u. mine_awaited r (seated.seen r m u));
+    seen = subst (λ (p : Past). IsSeenBut old.script.value p s (awaited (shown_work (work_in new.world.actors s)))) (sym same_past) (λ r m u. mine_awaited r (seated.seen r m u));
   }
 
   -- the others are seated as they were
-  theirs : (t : ℕ) (other : Seat) → (t == s) ≡ false → IsSeated old.script old.world t other → IsSeated old.script new.world t other
+  theirs : (t : ℕ) (other : Seat) → (t == s) ≡ false → IsSeated old.script.value old.world t other → IsSeated old.script.value new.world t other
   theirs t other apart is = record {
     session = is.session;
     stands = λ m. subst (λ (l : JcrLaw). Stands l (shown_at m new.world t) other.run) (sym read.0)
         (stands_told old.world.law other.run (shown_at m new.world t).beside (shown_at m new.world t).due (shown_at m old.world t) (live new.world.history) (shown_work (work_in new.world.actors t)) (actor_in new.world.actors t).reply
         same_history (ap (λ (x : PortSeat). x.work) (other_seat t apart)) (ap (λ (x : PortSeat). x.room) (other_seat t apart)) (is.stands m));
     flight = subst (λ (p : Past). IsFlight p t other.flight) (sym same_past) is.flight;
-    seen = subst (λ (p : Past). IsSeenBut old.script p t (awaited (shown_work (work_in new.world.actors t)))) (sym same_past) (λ r m u. ap (λ (x : PortSeat). awaited x.work) (other_seat t apart) ∙ is.seen r m u);
+    seen = subst (λ (p : Past). IsSeenBut old.script.value p t (awaited (shown_work (work_in new.world.actors t)))) (sym same_past) (λ r m u. ap (λ (x : PortSeat). awaited x.work) (other_seat t apart) ∙ is.seen r m u);
   }
 
-  each_now : (t : ℕ) (other : Seat) → slice_get new.seats.items t ≡ Some other → IsSeated old.script new.world t other
-  each_now t other is = elim (t == s) as (λ b. (t == s) ≡ b → IsSeated old.script new.world t other) [
+  each_now : (t : ℕ) (other : Seat) → slice_get new.seats.items t ≡ Some other → IsSeated old.script.value new.world t other
+  each_now t other is = elim (t == s) as (λ b. (t == s) ≡ b → IsSeated old.script.value new.world t other) [
     | true ↦ λ same.
         let e : t ≡ s = equal t s same in
         let it : seat_now ≡ other = some_is_some seat_now other (sym (set_same old.seats.items s seat_now seat at) ∙ (ap (λ (l : List Seat). slice_get l s) (sym seats_now) ∙ (ap (slice_get new.seats.items) (sym e) ∙ is))) in
-        subst (λ (x : ℕ). IsSeated old.script new.world x other) (sym e) (subst (λ (x : Seat). IsSeated old.script new.world s x) it mine)
+        subst (λ (x : ℕ). IsSeated old.script.value new.world x other) (sym e) (subst (λ (x : Seat). IsSeated old.script.value new.world s x) it mine)
     | false ↦ λ apart. theirs t other apart (stage.each t other (sym (set_other old.seats.items s t seat_now apart) ∙ (ap (λ (l : List Seat). slice_get l t) (sym seats_now) ∙ is)))
   ] refl
 
   stage_now : IsStage new
   stage_now = record {
     law = read.0 ∙ (stage.law ∙ ap law_of (sym script_same));
-    history = same_history ∙ (stage.history ∙ (ap (λ (x : Script). history_at x (past_of old)) (sym script_same) ∙ ap (history_at new.script) (sym same_past)));
+    history = same_history ∙ (stage.history ∙ (ap (λ (x : Script). history_at x (past_of old)) (sym script_same) ∙ ap (history_at new.script.value) (sym same_past)));
     within = subst (λ (x : Script). IsWithin x) (sym script_same) stage.within;
+    schedule = schedule_same ∙ (stage.schedule ∙ ap (λ (x : Script). x.schedule) (sym script_same));
     seats = ap (λ (l : List Seat). length l) seats_now ∙ (set_long old.seats.items s seat_now ∙ (stage.seats ∙ ap (λ (x : Script). length x.sessions) (sym script_same)));
     each = λ t other is. subst (λ (x : Script). IsSeated x new.world t other) (sym script_same) (each_now t other is);
   }
@@ -181,13 +182,13 @@ module _ (n : GName) (s : ℕ) (old new : Stage) (seat seat_now : Seat)
   read_closes = record {
     script = script_same;
     stage = stage_now;
-    over = λ t over. subst (λ (p : Past). is_over old.script p t ≡ true) (sym same_past) over;
+    over = λ t over. subst (λ (p : Past). is_over old.script.value p t ≡ true) (sym same_past) over;
     closes = λ parts h. (
       record { rule = by_entry (entry.Read s); events = [] },
       refl,
-      subst (λ (p : Past). IsCutSoFar old.script (due_at new.world) (record { rule = by_entry (entry.Read s); events = [] } ∷ parts) [] p) (sym same_past)
-          (cut_closes old.script (due_at new.world) (by_entry (entry.Read s)) parts [] (past_of old)
-          (cut_due old.script (due_at old.world) (due_at new.world) last_stays parts [] (past_of old) h) refl tt),
+      subst (λ (p : Past). IsCutSoFar old.script.value (due_at new.world) (record { rule = by_entry (entry.Read s); events = [] } ∷ parts) [] p) (sym same_past)
+          (cut_closes old.script.value (due_at new.world) (by_entry (entry.Read s)) parts [] (past_of old)
+          (cut_due old.script.value (due_at old.world) (due_at new.world) last_stays parts [] (past_of old) h) refl tt),
     );
   }
 

@@ -147,27 +147,27 @@ module _ (script : Script) (s : ℕ) (due : Option StepKind) (o : Option Flight)
 
 -- ---- a part is closed
 
-close_done : (first new : Stage) (s : ℕ) (part : Past) (e : Entry) → IsOfCommit s e → IsUnder first new (by_entry e) part → is_entry_done first.script e (past_of first) part ≡ true → Closes first new (by_entry e)
-close_done first new s part e same under done = of_commit (λ x. IsUnder first new (by_entry x) part → is_entry_done first.script x (past_of first) part ≡ true → Closes first new (by_entry x)) s
-    (λ u d. under_closes first new (by_entry (entry.Draw s)) part u (part_draws first.script (past_of first) s part u.way d) tt)
-    (λ n u d. under_closes first new (by_entry (entry.Write s n)) part u (part_writes first.script (past_of first) s n part u.way d) tt)
-    (λ u d. under_closes first new (by_entry (entry.Last s)) part u (part_rests first.script (past_of first) s part u.way d) (u.way.knows, inl d))
+close_done : (first new : Stage) (s : ℕ) (part : Past) (e : Entry) → IsOfCommit s e → IsUnder first new (by_entry e) part → is_entry_done first.script.value e (past_of first) part ≡ true → Closes first new (by_entry e)
+close_done first new s part e same under done = of_commit (λ x. IsUnder first new (by_entry x) part → is_entry_done first.script.value x (past_of first) part ≡ true → Closes first new (by_entry x)) s
+    (λ u d. under_closes first new (by_entry (entry.Draw s)) part u (part_draws first.script.value (past_of first) s part u.way d) tt)
+    (λ n u d. under_closes first new (by_entry (entry.Write s n)) part u (part_writes first.script.value (past_of first) s n part u.way d) tt)
+    (λ u d. under_closes first new (by_entry (entry.Last s)) part u (part_rests first.script.value (past_of first) s part u.way d) (u.way.knows, inl d))
     e same under done
 
 -- where it has come, the part may end
 close_come : (first new : Stage) (s : ℕ) (o : Option Flight) (part : Past) → IsFlight (part ++ past_of first) s o → (e : Entry) → IsOfCommit s e → IsUnder first new (by_entry e) part → comes (due_at new.world s) e o ≡ true → Closes first new (by_entry e)
 close_come first new s o part flight e same under come = of_commit (λ x. IsUnder first new (by_entry x) part → comes (due_at new.world s) x o ≡ true → Closes first new (by_entry x)) s
     (λ u k. under_closes first new (by_entry (entry.Draw s)) part u
-    (part_draws first.script (past_of first) s part u.way
-    (first_true (is_drawing (part ++ past_of first) s) (has_just_said s part) (is_resting first.script (part ++ past_of first) s) (drawn (part ++ past_of first) s (due_at new.world s) o flight k))) tt)
+    (part_draws first.script.value (past_of first) s part u.way
+    (first_true (is_drawing (part ++ past_of first) s) (has_just_said s part) (is_resting first.script.value (part ++ past_of first) s) (drawn (part ++ past_of first) s (due_at new.world s) o flight k))) tt)
     (λ n u k. under_closes first new (by_entry (entry.Write s n)) part u
-    (part_writes first.script (past_of first) s n part u.way
-    (first_true (has_written n (part ++ past_of first) s) (has_just_said s part) (is_resting first.script (part ++ past_of first) s) (wrote (part ++ past_of first) s n (due_at new.world s) o flight k))) tt)
+    (part_writes first.script.value (past_of first) s n part u.way
+    (first_true (has_written n (part ++ past_of first) s) (has_just_said s part) (is_resting first.script.value (part ++ past_of first) s) (wrote (part ++ past_of first) s n (due_at new.world s) o flight k))) tt)
     (λ u k. close_last u (last_write (part ++ past_of first) s (due_at new.world s) o flight k))
     e same under come
   where
     close_last : IsUnder first new (by_entry (entry.Last s)) part → (is_at_last (part ++ past_of first) s ≡ true) × (is_last_due (due_at new.world s) ≡ true) → Closes first new (by_entry (entry.Last s))
-    close_last u (at, last) = under_closes first new (by_entry (entry.Last s)) part u (part_at_last first.script (past_of first) s part u.way at) (u.way.knows, inr last)
+    close_last u (at, last) = under_closes first new (by_entry (entry.Last s)) part u (part_at_last first.script.value (past_of first) s part u.way at) (u.way.knows, inr last)
 
 -- ---- turns
 
@@ -199,31 +199,31 @@ module _ (first stage : Stage) (s : ℕ) (e : Entry) (named : IsOfCommit s e) (h
         subst (λ (x : ℕ). is_at_last (has.part ++ past_of first) x ≡ false) (sym it.1)
         (no_last_write (has.part ++ past_of first) s (due_at stage.world s) seat.flight flight (subst (λ (x : Entry). comes (due_at stage.world s) x seat.flight ≡ false) it.0 (sym come_is ∙ short)) last)
 
-    made_one : (answer : Turn) (come : HasCome stage new s answer) → IsStepAt stage.script (past_of stage) s (due_at stage.world s) come.own → IsUnder first new (by_entry e) (come.own ++ has.part)
+    made_one : (answer : Turn) (come : HasCome stage new s answer) → IsStepAt stage.script.value (past_of stage) s (due_at stage.world s) come.own → IsUnder first new (by_entry e) (come.own ++ has.part)
     made_one answer come step = under_steps first stage new (by_entry e) has.part s answer has.under come step (session_of_commit s e named)
-        (not_done first.script s (due_at stage.world s) seat.flight (past_of first) has.part flight e named has.unsaid (awake_part first stage new (by_entry e) has.part s answer has.under come step) (sym come_is ∙ short))
+        (not_done first.script.value s (due_at stage.world s) seat.flight (past_of first) has.part flight e named has.unsaid (awake_part first stage new (by_entry e) has.part s answer has.under come step) (sym come_is ∙ short))
         late
 
     pub go_steps : (k : StepKind) → HasCome stage new s (turn.Stepped k) → HasGone first new (by_entry e) s
     go_steps k come = record {
       part = come.own ++ has.part;
       under = made_one (turn.Stepped k) come come.came.0;
-      unsaid = not_said s has.part come.own stage.script (past_of stage) come.came.0.events come.came.1;
+      unsaid = not_said s has.part come.own stage.script.value (past_of stage) come.came.0.events come.came.1;
     }
 
     pub go_said : (i : ℕ) → HasCome stage new s (turn.Said i) → Closes first new (by_entry e)
     go_said i come = close_done first new s (come.own ++ has.part) e named (made_one (turn.Said i) come come.came.2)
-        (done_said first.script s (past_of first) (come.own ++ has.part) e named (subst (λ (o : Past). has_just_said s (o ++ has.part) ≡ true) (sym come.came.1) (number_itself s)))
+        (done_said first.script.value s (past_of first) (come.own ++ has.part) e named (subst (λ (o : Past). has_just_said s (o ++ has.part) ≡ true) (sym come.came.1) (number_itself s)))
 
-    at_rest : (answer : Turn) (come : HasCome stage new s answer) → come.own ≡ [] → is_resting stage.script (past_of stage) s ≡ true → Closes first new (by_entry e)
+    at_rest : (answer : Turn) (come : HasCome stage new s answer) → come.own ≡ [] → is_resting stage.script.value (past_of stage) s ≡ true → Closes first new (by_entry e)
     at_rest answer come none rest = close_done first new s has.part e named (under_stays first stage new (by_entry e) has.part s answer has.under come none)
-        (done_rests first.script s (past_of first) has.part e named (subst (λ (p : Past). is_resting first.script p s ≡ true) has.under.whole (subst (λ (x : Script). is_resting x (past_of stage) s ≡ true) has.under.script rest)))
+        (done_rests first.script.value s (past_of first) has.part e named (subst (λ (p : Past). is_resting first.script.value p s ≡ true) has.under.whole (subst (λ (x : Script). is_resting x (past_of stage) s ≡ true) has.under.script rest)))
 
     pub go_waits : (q : _) → HasCome stage new s (turn.Waiting q) → Closes first new (by_entry e)
-    go_waits q come = at_rest (turn.Waiting q) come come.came.0 (rests stage.script (past_of stage) s (inl come.came.1))
+    go_waits q come = at_rest (turn.Waiting q) come come.came.0 (rests stage.script.value (past_of stage) s (inl come.came.1))
 
     pub go_over : HasCome stage new s turn.Ended → Closes first new (by_entry e)
-    go_over come = at_rest turn.Ended come come.came.0 (rests stage.script (past_of stage) s (inr come.came.1))
+    go_over come = at_rest turn.Ended come come.came.0 (rests stage.script.value (past_of stage) s (inr come.came.1))
 
 -- ---- the turns of an entry
 
@@ -240,18 +240,18 @@ seat_at (x ∷ xs) zero below = (x, refl)
 seat_at (x ∷ xs) (suc j) below = seat_at xs j (earlier_place j (length xs) below)
 
 -- the script, and so the number of seats, stays
-pub seats_stay : (first stage : Stage) → IsStage first → IsStage stage → stage.script ≡ first.script → length stage.seats.items ≡ length first.seats.items
+pub seats_stay : (first stage : Stage) → IsStage first → IsStage stage → stage.script.value ≡ first.script.value → length stage.seats.items ≡ length first.seats.items
 seats_stay first stage is now same = now.seats ∙ (ap (λ (x : Script). length x.sessions) same ∙ sym is.seats)
 
 -- each seat is of a session of the world
 pub session_there : (stage : Stage) (s : ℕ) → IsStage stage → s < length stage.seats.items → s < length stage.world.history.sessions
-session_there stage s is below = subst (λ (n : ℕ). s < n) (is.seats ∙ sym (ap (λ (h : History). length h.sessions) is.history ∙ length-map stage.script.sessions (λ (x : SessionScript). x.cluster))) below
+session_there stage s is below = subst (λ (n : ℕ). s < n) (is.seats ∙ sym (ap (λ (h : History). length h.sessions) is.history ∙ length-map stage.script.value.sessions (λ (x : SessionScript). x.cluster))) below
 
 pub has_session : (stage : Stage) (s : ℕ) → IsStage stage → s < length stage.seats.items → is_some (slice_get stage.world.history.sessions s) ≡ true
 has_session stage s is below = ap is_some (seat_at stage.world.history.sessions s (session_there stage s is below)).1
 
 pub as_many : (stage : Stage) → IsStage stage → length stage.seats.items ≡ length stage.world.history.sessions
-as_many stage is = is.seats ∙ sym (ap (λ (h : History). length h.sessions) is.history ∙ length-map stage.script.sessions (λ (x : SessionScript). x.cluster))
+as_many stage is = is.seats ∙ sym (ap (λ (h : History). length h.sessions) is.history ∙ length-map stage.script.value.sessions (λ (x : SessionScript). x.cluster))
 
 abbrev pub is_stepped : Turn → Bool
 is_stepped (turn.Stepped k) = true

@@ -77,19 +77,19 @@ on_ok (Err e) P p = tt
 module _ (stage : Stage) (is : IsStage stage) where
   -- each seat is of a session of the world
   pub session_there : (s : ℕ) → s < length stage.seats.items → is_some (slice_get stage.world.history.sessions s) ≡ true
-  session_there s within = subst (λ (h : History). is_some (slice_get h.sessions s) ≡ true) (sym is.history) (ap is_some (slice_get-map (λ (x : SessionScript). x.cluster) stage.script.sessions s) ∙ by stage.script.sessions s (let h : s < length stage.script.sessions = omega (arith, is.seats) in h))
+  session_there s within = subst (λ (h : History). is_some (slice_get h.sessions s) ≡ true) (sym is.history) (ap is_some (slice_get-map (λ (x : SessionScript). x.cluster) stage.script.value.sessions s) ∙ by stage.script.value.sessions s (let h : s < length stage.script.value.sessions = omega (arith, is.seats) in h))
     where
       by : (xs : List SessionScript) (k : ℕ) → k < length xs → is_some (option_map (λ (x : SessionScript). x.cluster) (slice_get xs k)) ≡ true
       by [] k h = absurd (omega arith)
       by (x ∷ xs) zero h = refl
       by (x ∷ xs) (suc k) h = by xs k (omega arith)
 
-module _ (s : ℕ) (old new : Stage) (seat seat_now : Seat) (stage : IsStage old) (at : slice_get old.seats.items s ≡ Some seat) (script_same : new.script ≡ old.script) (seats_now : new.seats.items ≡ slice_set old.seats.items s seat_now) where
+module _ (s : ℕ) (old new : Stage) (seat seat_now : Seat) (stage : IsStage old) (at : slice_get old.seats.items s ≡ Some seat) (script_same : new.script.value ≡ old.script.value) (schedule_same : new.schedule ≡ old.schedule) (seats_now : new.seats.items ≡ slice_set old.seats.items s seat_now) where
   pub come_by : (answer : Turn) → (answer ≡ turn.Memory → ⊥) → HasTurnedIn s old.world new.world seat.run seat_now.run answer → seat_now.flight ≡ flight_by answer (past_of new) seat.flight → HasCome old new s answer
-  come_by (turn.Stepped k) made (n, law, turned) kept = has_come n s old new seat seat_now (turn.Stepped k) stage at script_same seats_now law turned kept
-  come_by (turn.Said i) made (n, law, turned) kept = has_come n s old new seat seat_now (turn.Said i) stage at script_same seats_now law turned kept
-  come_by (turn.Waiting q) made (n, law, turned) kept = has_come n s old new seat seat_now (turn.Waiting q) stage at script_same seats_now law turned kept
-  come_by turn.Ended made (n, law, turned) kept = has_come n s old new seat seat_now turn.Ended stage at script_same seats_now law turned kept
+  come_by (turn.Stepped k) made (n, law, turned) kept = has_come n s old new seat seat_now (turn.Stepped k) stage at script_same schedule_same seats_now law turned kept
+  come_by (turn.Said i) made (n, law, turned) kept = has_come n s old new seat seat_now (turn.Said i) stage at script_same schedule_same seats_now law turned kept
+  come_by (turn.Waiting q) made (n, law, turned) kept = has_come n s old new seat seat_now (turn.Waiting q) stage at script_same schedule_same seats_now law turned kept
+  come_by turn.Ended made (n, law, turned) kept = has_come n s old new seat seat_now turn.Ended stage at script_same schedule_same seats_now law turned kept
   come_by turn.Memory made h kept = absurd (made refl)
 
 -- a part under way leaves the seats that there were
@@ -97,7 +97,7 @@ pub there_still : (first stage : Stage) (rule : Rule) (part : Past) (s : ℕ) �
 there_still first stage rule part s is under within =
     let now = under.stage_is.seats in
     let before = is.seats in
-    let same : length stage.script.sessions ≡ length first.script.sessions = ap (λ (x : Script). length x.sessions) under.script in
+    let same : length stage.script.value.sessions ≡ length first.script.value.sessions = ap (λ (x : Script). length x.sessions) under.script in
     omega arith
 
 -- a session stands where it stood, in the world of its port

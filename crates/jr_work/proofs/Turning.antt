@@ -172,50 +172,51 @@ module _ (script : Script) (n : GName) (s : ℕ) (old new : WorldOf JcrLaw) (sea
 -- ---- the stage
 
 module _ (n : GName) (s : ℕ) (old new : Stage) (seat seat_now : Seat) (answer : Turn)
-    (stage : IsStage old) (at : slice_get old.seats.items s ≡ Some seat) (script_same : new.script ≡ old.script) (seats_now : new.seats.items ≡ slice_set old.seats.items s seat_now)
+    (stage : IsStage old) (at : slice_get old.seats.items s ≡ Some seat) (script_same : new.script.value ≡ old.script.value) (schedule_same : new.schedule ≡ old.schedule) (seats_now : new.seats.items ≡ slice_set old.seats.items s seat_now)
     (law_same : new.world.law ≡ old.world.law) (turned : IsTurned old.world.law (shown_at n old.world s) (shown_at n new.world s) seat.run seat_now.run answer)
     (kept : seat_now.flight ≡ flight_by answer new.world.history.past seat.flight) where
-  seated : IsSeated old.script old.world s seat
+  seated : IsSeated old.script.value old.world s seat
   seated = stage.each s seat at
 
-  to : IsComeTo old.script n s old.world new.world seat seat_now.run answer stage.law stage.history seated law_same turned (flight_by answer (turned.own ++ old.world.history.past) seat.flight)
-  to = come_to old.script n s old.world new.world seat seat_now.run stage.law stage.history seated law_same answer turned
+  to : IsComeTo old.script.value n s old.world new.world seat seat_now.run answer stage.law stage.history seated law_same turned (flight_by answer (turned.own ++ old.world.history.past) seat.flight)
+  to = come_to old.script.value n s old.world new.world seat seat_now.run stage.law stage.history seated law_same answer turned
 
   pasts : new.world.history.past ≡ turned.own ++ old.world.history.past
-  pasts = past_now old.script n s old.world new.world seat seat_now.run answer stage.law stage.history seated turned
+  pasts = past_now old.script.value n s old.world new.world seat seat_now.run answer stage.law stage.history seated turned
 
-  mine : IsSeated old.script new.world s seat_now
+  mine : IsSeated old.script.value new.world s seat_now
   mine = record {
-    session = session_now old.script n s old.world new.world seat seat_now.run answer stage.law stage.history seated turned;
-    stands = stands_now old.script n s old.world new.world seat seat_now.run answer stage.law stage.history seated turned law_same;
+    session = session_now old.script.value n s old.world new.world seat seat_now.run answer stage.law stage.history seated turned;
+    stands = stands_now old.script.value n s old.world new.world seat seat_now.run answer stage.law stage.history seated turned law_same;
     flight = subst (λ (o : Option Flight). IsFlight new.world.history.past s o) (sym kept ∙ refl) (subst (λ (p : Past). IsFlight p s (flight_by answer p seat.flight)) (sym pasts) to.flown);
-    seen = subst (λ (p : Past). IsSeenBut old.script p s (awaited (shown_work (work_in new.world.actors s)))) (sym pasts) to.seen;
+    seen = subst (λ (p : Past). IsSeenBut old.script.value p s (awaited (shown_work (work_in new.world.actors s)))) (sym pasts) to.seen;
   }
 
-  each_now : (t : ℕ) (other : Seat) → slice_get new.seats.items t ≡ Some other → IsSeated old.script new.world t other
-  each_now t other is = elim (t == s) as (λ b. (t == s) ≡ b → IsSeated old.script new.world t other) [
+  each_now : (t : ℕ) (other : Seat) → slice_get new.seats.items t ≡ Some other → IsSeated old.script.value new.world t other
+  each_now t other is = elim (t == s) as (λ b. (t == s) ≡ b → IsSeated old.script.value new.world t other) [
     | true ↦ λ same.
         let e : t ≡ s = equal t s same in
         let it : seat_now ≡ other = some_is_some seat_now other (sym (set_same old.seats.items s seat_now seat at) ∙ (ap (λ (l : List Seat). slice_get l s) (sym seats_now) ∙ (ap (slice_get new.seats.items) (sym e) ∙ is))) in
-        subst (λ (x : ℕ). IsSeated old.script new.world x other) (sym e) (subst (λ (x : Seat). IsSeated old.script new.world s x) it mine)
+        subst (λ (x : ℕ). IsSeated old.script.value new.world x other) (sym e) (subst (λ (x : Seat). IsSeated old.script.value new.world s x) it mine)
     | false ↦ λ apart.
-        seated_other old.script n s old.world new.world seat seat_now.run answer stage.law stage.history seated turned t apart other
+        seated_other old.script.value n s old.world new.world seat seat_now.run answer stage.law stage.history seated turned t apart other
         (stage.each t other (sym (set_other old.seats.items s t seat_now apart) ∙ (ap (λ (l : List Seat). slice_get l t) (sym seats_now) ∙ is))) to.shape law_same
   ] refl
 
   pub stage_now : IsStage new
   stage_now = record {
     law = law_same ∙ (stage.law ∙ ap law_of (sym script_same));
-    history = history_now old.script n s old.world new.world seat seat_now.run answer stage.law stage.history seated turned ∙ ap (λ (x : Script). history_at x new.world.history.past) (sym script_same);
+    history = history_now old.script.value n s old.world new.world seat seat_now.run answer stage.law stage.history seated turned ∙ ap (λ (x : Script). history_at x new.world.history.past) (sym script_same);
     within = subst (λ (x : Script). IsWithin x) (sym script_same) stage.within;
+    schedule = schedule_same ∙ (stage.schedule ∙ ap (λ (x : Script). x.schedule) (sym script_same));
     seats = ap (λ (l : List Seat). length l) seats_now ∙ (set_long old.seats.items s seat_now ∙ (stage.seats ∙ ap (λ (x : Script). length x.sessions) (sym script_same)));
     each = λ t other is. subst (λ (x : Script). IsSeated x new.world t other) (sym script_same) (each_now t other is);
   }
 
-  over_now : (t : ℕ) → is_over old.script old.world.history.past t ≡ true → is_over old.script new.world.history.past t ≡ true
-  over_now t over = subst (λ (p : Past). is_over old.script p t ≡ true) (sym pasts) (elim (t == s) as (λ b. (t == s) ≡ b → is_over old.script (turned.own ++ old.world.history.past) t ≡ true) [
-    | true ↦ λ same. subst (λ (x : ℕ). is_over old.script (turned.own ++ old.world.history.past) x ≡ true) (sym (equal t s same)) (to.over (subst (λ (x : ℕ). is_over old.script old.world.history.past x ≡ true) (equal t s same) over))
-    | false ↦ λ apart. over_other old.script n s old.world new.world seat seat_now.run answer stage.law stage.history seated turned t apart to.shape over
+  over_now : (t : ℕ) → is_over old.script.value old.world.history.past t ≡ true → is_over old.script.value new.world.history.past t ≡ true
+  over_now t over = subst (λ (p : Past). is_over old.script.value p t ≡ true) (sym pasts) (elim (t == s) as (λ b. (t == s) ≡ b → is_over old.script.value (turned.own ++ old.world.history.past) t ≡ true) [
+    | true ↦ λ same. subst (λ (x : ℕ). is_over old.script.value (turned.own ++ old.world.history.past) x ≡ true) (sym (equal t s same)) (to.over (subst (λ (x : ℕ). is_over old.script.value old.world.history.past x ≡ true) (equal t s same) over))
+    | false ↦ λ apart. over_other old.script.value n s old.world new.world seat seat_now.run answer stage.law stage.history seated turned t apart to.shape over
   ] refl)
 
   pub has_come : HasCome old new s answer
@@ -224,7 +225,7 @@ module _ (n : GName) (s : ℕ) (old new : Stage) (seat seat_now : Seat) (answer 
     stage = stage_now;
     own = turned.own;
     past = pasts;
-    others = λ t apart. ap (λ (x : PortSeat). x.due) (other_seat old.script n s old.world new.world seat seat_now.run answer stage.law stage.history seated turned t apart);
+    others = λ t apart. ap (λ (x : PortSeat). x.due) (other_seat old.script.value n s old.world new.world seat seat_now.run answer stage.law stage.history seated turned t apart);
     still = to.still;
     over = over_now;
     came = to.came;

@@ -38,9 +38,10 @@ use Rattle.jr_shared.proofs.Got.{some_part, the_is}
 use Rattle.seat_lock.specs.declared.rule.Round.TheVariants as round
 use Rattle.jr_work.specs.Places.{commands_of, history_at}
 use Rattle.jr_work.specs.Stages.{law_of}
-use Rattle.jr_work.specs.Workers.{HasEnded, HasGoneOn, HasNotBegun, HasRunOne, HasSaidAll, KnowsScript, frame_for}
+use Rattle.jr_work.specs.Workers.{HasRunOut, HasGoneOn, HasNotBegun, HasRunOne, HasSaidAll, KnowsScript, frame_for}
 use Rattle.jr_work.proofs.Handing.{history_known}
 use Rattle.jr_work.proofs.Owning.{own_next}
+use Rattle.jr_work.proofs.Reaching.{seat_at}
 use Rattle.jr_work.proofs.Turning.{commands_at}
 use Rattle.jr_work.proofs.Within.{session_within, within_nodes}
 
@@ -81,10 +82,10 @@ module _ (law : JcrLaw) (first mid new : Shown) (run was now : SessionRun) (on :
   goes_on turn.Ended made turned = on_more turn.Ended turned
   goes_on turn.Memory made turned = absurd (made refl)
 
-  pub ends : (answer : Turn) → answer ≡ turn.Ended → HasTurned law mid new was now answer → HasEnded law first new run now
+  pub ends : (answer : Turn) → answer ≡ turn.Ended → HasTurned law mid new was now answer → HasRunOut law first new run now
   ends answer is turned = by (subst (λ (a : Turn). HasTurned law mid new was now a) is turned)
     where
-      by : IsTurned law mid new was now turn.Ended → HasEnded law first new run now
+      by : IsTurned law mid new was now turn.Ended → HasRunOut law first new run now
       by turned = record { on = on_more turn.Ended turned; all = turned.made.2 }
 
 -- ---- a session of a pass begins
@@ -113,15 +114,19 @@ module _ (script : Script) (within : IsWithin script) (v : Known JcrLaw) (knows 
       (subst (λ (w : Past). IsRun (starts_of (law_of script)) (says_of (law_of script)) (record (history_by v) { past = w })) (sym all) knows.run)
       (ap (λ (w : Past). own_events w s) all ∙ sym same))
 
-  pub first_stands : (session : SessionScript) → slice_get script.sessions s ≡ Some session → ((l : JcrLaw) (clusters : ℕ) (sessions : List ℕ) → AreNodes clusters sessions → SeesTrees l clusters sessions None)
+  pub first_stands : (commands : List Command) → commands ≡ commands_of script s → s < length script.sessions → ((l : JcrLaw) (clusters : ℕ) (sessions : List ℕ) → AreNodes clusters sessions → SeesTrees l clusters sessions None)
       → ((l : JcrLaw) (clusters : ℕ) (sessions : List ℕ) → AreNodes clusters sessions → TypesOk l.types initial_tree → SeesTyped l clusters sessions None)
-      → (types : List TypeDef) → types ≡ script.types → (run : SessionRun) → IsNew s 0 session.commands types run → (name : GName) → Stands (law_of script) (shown_through name v s) run
-  first_stands session there trees typed types same run new name =
-      new_stands (law_of script) (shown_through name v s) s session.commands run (subst (λ (l : List TypeDef). IsNew s 0 session.commands l run) same new) (session_within script within s session there).few nodes
-      (subst (λ (h : History). SeesTrees (law_of script) h.clusters h.sessions h.begin) (sym history) (trees (law_of script) script.clusters (map (λ x. x.cluster) script.sessions) (within_nodes script within)))
-      (subst (λ (h : History). SeesTyped (law_of script) h.clusters h.sessions h.begin) (sym history) (typed (law_of script) script.clusters (map (λ x. x.cluster) script.sessions) (within_nodes script within) within.types.typed)) knows.run
-      (ap (λ (o : Option Owned). shown_work (unwrap_or (option_and_then (λ p. p.seat) o) idle).work) first) refl
-      (λ i. commands_at script s i ∙ ap (λ (o : Option SessionScript). slice_get (option_map_or (λ x. x.commands) o []) i) there) none_yet
+      → (types : List TypeDef) → types ≡ script.types → (run : SessionRun) → IsNew s 0 commands types run → (name : GName) → Stands (law_of script) (shown_through name v s) run
+  first_stands commands is below trees typed types same run new name = by (seat_at script.sessions s below)
+    where
+      by : (session : SessionScript) × (slice_get script.sessions s ≡ Some session) → Stands (law_of script) (shown_through name v s) run
+      by (session, there) =
+          new_stands (law_of script) (shown_through name v s) s session.commands run
+          (subst (λ (c : List Command). IsNew s 0 c script.types run) (is ∙ ap (λ (o : Option SessionScript). option_map_or (λ x. x.commands) o []) there) (subst (λ (l : List TypeDef). IsNew s 0 commands l run) same new)) (session_within script within s session there).few nodes
+          (subst (λ (h : History). SeesTrees (law_of script) h.clusters h.sessions h.begin) (sym history) (trees (law_of script) script.clusters (map (λ x. x.cluster) script.sessions) (within_nodes script within)))
+          (subst (λ (h : History). SeesTyped (law_of script) h.clusters h.sessions h.begin) (sym history) (typed (law_of script) script.clusters (map (λ x. x.cluster) script.sessions) (within_nodes script within) within.types.typed)) knows.run
+          (ap (λ (o : Option Owned). shown_work (unwrap_or (option_and_then (λ p. p.seat) o) idle).work) first) refl
+          (λ i. commands_at script s i ∙ ap (λ (o : Option SessionScript). slice_get (option_map_or (λ x. x.commands) o []) i) there) none_yet
 
 -- it stands so at a port of the pass, whatever reference leads there
 pub stands_port : (script : Script) (v w : Known JcrLaw) (s t : ℕ) (m : GName) (run : SessionRun) → KnowsScript script v → ((name : GName) → Stands (law_of script) (shown_through name v s) run)
@@ -145,7 +150,7 @@ same_frame f g p q r = λ i. record { law = p i; clusters = q i; sessions = r i 
 -- what is known of the port's pass once its session has ended
 module _ (script : Script) (v w : Known JcrLaw) (s t : ℕ) (n m : GName) (run now : SessionRun) (knows : KnowsScript script v) (commands : run.commands ≡ commands_of script s)
     (began : Stands (law_of script) (shown_through n v s) run) (framed : is_some w.frame ≡ true) (law : law_by w framed ≡ law_of script) (told : IsTold w) (rest : w.round ≡ round.Idle) (seat : has_seat w t ≡ true)
-    (ended : HasEnded (law_of script) (shown_through n v s) (shown_through m w t) run now) where
+    (ended : HasRunOut (law_of script) (shown_through n v s) (shown_through m w t) run now) where
   session_now : now.session ≡ s
   session_now = ended.on.session ∙ sym began.session
 
@@ -191,15 +196,15 @@ module _ (script : Script) (v u w : Known JcrLaw) (s r t : ℕ) (d n m : GName) 
     (stands : (name : GName) → Stands (law_of script) (shown_through name v s) run) (begun : is_some u.frame ≡ true) (same : u ≡ v) (session : r ≡ s) (name : n ≡ d)
     (framed : is_some w.frame ≡ true) (law : law_by w framed ≡ law_by u begun) (told : IsTold w) (rest : w.round ≡ round.Idle) (seat : has_seat w t ≡ true)
     (weight : w.weight ≡ v.weight) (others : (q : ℕ) → q ≢ t → owned_by w q ≡ owned_by v q)
-    (ended : HasEnded (law_by u begun) (shown_through n u r) (shown_through m w t) run now) where
+    (ended : HasRunOut (law_by u begun) (shown_through n u r) (shown_through m w t) run now) where
   law_begun : law_by u begun ≡ law_of script
   law_begun = ap (λ (f : WorldFrame JcrLaw). f.law) (the_is u.frame (frame_for script) (ap (λ (x : Known JcrLaw). x.frame) same ∙ knows.frame) begun)
 
-  ended_here : HasEnded (law_of script) (shown_through n v s) (shown_through m w t) run now
+  ended_here : HasRunOut (law_of script) (shown_through n v s) (shown_through m w t) run now
   ended_here =
-      subst (λ (l : JcrLaw). HasEnded l (shown_through n v s) (shown_through m w t) run now) law_begun
-      (subst (λ (i : ℕ). HasEnded (law_by u begun) (shown_through n v i) (shown_through m w t) run now) session
-      (subst (λ (y : Known JcrLaw). HasEnded (law_by u begun) (shown_through n y r) (shown_through m w t) run now) same ended))
+      subst (λ (l : JcrLaw). HasRunOut l (shown_through n v s) (shown_through m w t) run now) law_begun
+      (subst (λ (i : ℕ). HasRunOut (law_by u begun) (shown_through n v i) (shown_through m w t) run now) session
+      (subst (λ (y : Known JcrLaw). HasRunOut (law_by u begun) (shown_through n y r) (shown_through m w t) run now) same ended))
 
   -- the reference is the caller's, and the session has run
   pub ran_through : (d ≡ m) × HasRunOne script v w s

@@ -62,12 +62,12 @@ all_more old mid new rules rule all one = record {
   closes = λ parts h. with_one parts (all.closes parts h);
 }
   where
-    with_one : (parts : List Part) → (added : List Part) × (rules_of added ≡ rules) × IsCutSoFar old.script (due_at mid.world) (added ++ parts) [] (past_of mid)
-        → (added : List Part) × (rules_of added ≡ rules ++ rule ∷ []) × IsCutSoFar old.script (due_at new.world) (added ++ parts) [] (past_of new)
+    with_one : (parts : List Part) → (added : List Part) × (rules_of added ≡ rules) × IsCutSoFar old.script.value (due_at mid.world) (added ++ parts) [] (past_of mid)
+        → (added : List Part) × (rules_of added ≡ rules ++ rule ∷ []) × IsCutSoFar old.script.value (due_at new.world) (added ++ parts) [] (past_of new)
     with_one parts (added, same, cut) = last (one.closes (added ++ parts) (subst (λ (x : Script). IsCutSoFar x (due_at mid.world) (added ++ parts) [] (past_of mid)) (sym all.script) cut))
       where
-        last : (p : Part) × (p.rule ≡ rule) × IsCutSoFar mid.script (due_at new.world) (p ∷ (added ++ parts)) [] (past_of new)
-            → (added : List Part) × (rules_of added ≡ rules ++ rule ∷ []) × IsCutSoFar old.script (due_at new.world) (added ++ parts) [] (past_of new)
+        last : (p : Part) × (p.rule ≡ rule) × IsCutSoFar mid.script.value (due_at new.world) (p ∷ (added ++ parts)) [] (past_of new)
+            → (added : List Part) × (rules_of added ≡ rules ++ rule ∷ []) × IsCutSoFar old.script.value (due_at new.world) (added ++ parts) [] (past_of new)
         last (p, is, cut_now) = (
           p ∷ added,
           more_rules p added ∙ (ap (λ (l : List Rule). l ++ p.rule ∷ []) same ∙ ap (λ (r : Rule). rules ++ r ∷ []) is),
@@ -90,24 +90,27 @@ module _ (first stage : Stage) (rules : List Rule) (all : ClosesAll first stage 
   pub below_still : IsStage first → (s : ℕ) → s < length first.seats.items → s < length stage.seats.items
   below_still is s below = subst (λ (n : ℕ). s < n) (sym (seats_still is)) below
 
-  -- an entry is in the schedule still, and of a session with a seat
-  pub entry_there : (i : ℕ) → i < length first.script.schedule → i < length stage.script.schedule
-  entry_there i below = subst (λ (x : Script). i < length x.schedule) (sym all.script) below
+  pub schedule_still : IsStage first → stage.schedule ≡ first.schedule
+  schedule_still is = all.stage.schedule ∙ (ap (λ (x : Script). x.schedule) all.script ∙ sym is.schedule)
 
-  pub entry_within : IsStage first → (i : ℕ) (e : Entry) → i < length first.script.schedule → e ≡ get_or stage.script.schedule i e → IsEntryWithin (length stage.seats.items) e
+  -- an entry is in the schedule still, and of a session with a seat
+  pub entry_there : IsStage first → (i : ℕ) → i < length first.schedule → i < length stage.schedule
+  entry_there is i below = subst (λ (l : List Entry). i < length l) (sym (schedule_still is)) below
+
+  pub entry_within : IsStage first → (i : ℕ) (e : Entry) → i < length first.schedule → e ≡ get_or stage.schedule i e → IsEntryWithin (length stage.seats.items) e
   entry_within stage_is i e below is =
       subst (λ (n : ℕ). IsEntryWithin n e) (sym (all.stage.seats ∙ ap (λ (x : Script). length x.sessions) all.script))
-      (subst (λ (x : Entry). IsEntryWithin (length first.script.sessions) x) (sym (is ∙ ap (λ (x : Script). get_or x.schedule i e) all.script))
-      (All-get_or (IsEntryWithin (length first.script.sessions)) first.script.schedule i e below stage_is.within.entries))
+      (subst (λ (x : Entry). IsEntryWithin (length first.script.value.sessions) x) (sym (is ∙ ap (λ (l : List Entry). get_or l i e) (all.stage.schedule ∙ ap (λ (x : Script). x.schedule) all.script)))
+      (All-get_or (IsEntryWithin (length first.script.value.sessions)) first.script.value.schedule i e (subst (λ (l : List Entry). i < length l) stage_is.schedule below) stage_is.within.entries))
 
   pub listed_there : IsStage first → (xs : List ℕ) → All (λ s. s < length first.seats.items) xs → (i s : ℕ) → i < length xs → s ≡ get_or xs i s → s < length stage.seats.items
   listed_there is xs there i s below at =
       below_still is s (subst (λ (x : ℕ). x < length first.seats.items) (sym at) (All-get_or (λ x. x < length first.seats.items) xs i s below there))
 
-pub played_more : (first stage new : Stage) (i : ℕ) (d e : Entry) (xs : List Entry) → ClosesAll first stage (map by_entry (take i first.script.schedule)) → i < length first.script.schedule → xs ≡ stage.script.schedule → e ≡ get_or xs i d → Closes stage new (by_entry e) → ClosesAll first new (map by_entry (take (i + 1) first.script.schedule))
-played_more first stage new i d e xs all below same is one =
-    subst (λ (rules : List Rule). ClosesAll first new rules) (sym (take_one_more by_entry first.script.schedule i d e below (is ∙ ap (λ (l : List Entry). get_or l i d) (same ∙ ap (λ (x : Script). x.schedule) all.script))))
-    (all_more first stage new (map by_entry (take i first.script.schedule)) (by_entry e) all one)
+pub played_more : (first stage new : Stage) → IsStage first → (i : ℕ) (d e : Entry) (xs : List Entry) → ClosesAll first stage (map by_entry (take i first.schedule)) → i < length first.schedule → xs ≡ stage.schedule → e ≡ get_or xs i d → Closes stage new (by_entry e) → ClosesAll first new (map by_entry (take (i + 1) first.schedule))
+played_more first stage new stage_is i d e xs all below same is one =
+    subst (λ (rules : List Rule). ClosesAll first new rules) (sym (take_one_more by_entry first.schedule i d e below (is ∙ ap (λ (l : List Entry). get_or l i d) (same ∙ schedule_still first stage (map by_entry (take i first.schedule)) all stage_is))))
+    (all_more first stage new (map by_entry (take i first.schedule)) (by_entry e) all one)
 
 pub replied_more : (first stage new : Stage) (xs : List ℕ) (i d s : ℕ) → ClosesAll first stage (map to_reply (take i xs)) → i < length xs → s ≡ get_or xs i d → Closes stage new (to_reply s) → ClosesAll first new (map to_reply (take (i + 1) xs))
 replied_more first stage new xs i d s all below is one =
@@ -134,11 +137,11 @@ over_none stage t below = absurd (none t below)
     none : (t : ℕ) → t < 0 → ⊥
     none t h = omega arith
 
-pub over_more : (old new : Stage) (n : ℕ) (rule : Rule) → Closes old new rule → AreOver old n → is_over new.script (past_of new) n ≡ true → AreOver new (n + 1)
+pub over_more : (old new : Stage) (n : ℕ) (rule : Rule) → Closes old new rule → AreOver old n → is_over new.script.value (past_of new) n ≡ true → AreOver new (n + 1)
 over_more old new n rule one before ended t below = by (t == n) refl
   where
-    by : (b : Bool) → (t == n) ≡ b → is_over new.script (past_of new) t ≡ true
-    by true same = subst (λ (x : ℕ). is_over new.script (past_of new) x ≡ true) (sym (equal t n same)) ended
+    by : (b : Bool) → (t == n) ≡ b → is_over new.script.value (past_of new) t ≡ true
+    by true same = subst (λ (x : ℕ). is_over new.script.value (past_of new) x ≡ true) (sym (equal t n same)) ended
     by false apart = subst (λ (x : Script). is_over x (past_of new) t ≡ true) (sym one.script) (one.over t (before t (below_more t n below apart)))
 
 -- ---- the run
@@ -175,20 +178,20 @@ all_said script past s session there over =
     ∙ ap (λ (o : Option SessionScript). length (option_map_or (λ x. x.commands) o [])) there
 
 module _ (script : Script) (begun played replied finished : Stage) (flying : List ℕ)
-    (begins : IsBegun script begun) (plays : ClosesAll begun played (map by_entry begun.script.schedule))
+    (begins : IsBegun script begun) (plays : ClosesAll begun played (map by_entry begun.schedule))
     (flies : flying ≡ flying_sessions (past_of played)) (replies : ClosesAll played replied (map to_reply flying))
     (finishes : ClosesAll replied finished (map to_end (range_with_len 0 (length replied.seats.items))))
     (over : AreOver finished (length replied.seats.items))
     (run : IsRun (starts_of finished.world.law) (says_of finished.world.law) (live finished.world.history)) (apart : AreApart finished.world.history.past)
     (obey : (law : JcrLaw) (h : History) → IsProductRun law h → ObeysThroughout law h)
     (answer : (law : JcrLaw) (h : History) → IsNodesRun (starts_of law) (says_of law) h → NameOthers h.past → AnswersThroughout law h) where
-  script_played : played.script ≡ script
+  script_played : played.script.value ≡ script
   script_played = plays.script ∙ begins.script_is
 
-  script_replied : replied.script ≡ script
+  script_replied : replied.script.value ≡ script
   script_replied = replies.script ∙ script_played
 
-  script_finished : finished.script ≡ script
+  script_finished : finished.script.value ≡ script
   script_finished = finishes.script ∙ script_replied
 
   law_is : finished.world.law ≡ law_of script
@@ -204,17 +207,17 @@ module _ (script : Script) (begun played replied finished : Stage) (flying : Lis
   run_is = subst (λ (l : JcrLaw). IsRun (starts_of l) (says_of l) (live finished.world.history)) law_is run
 
   -- before any turn nothing is cut
-  first_cut : IsCutSoFar begun.script (due_at begun.world) [] [] (past_of begun)
+  first_cut : IsCutSoFar begun.script.value (due_at begun.world) [] [] (past_of begun)
   first_cut = record { whole = begins.first; cut = tt; quiet = tt }
 
   played_parts : (added : List Part) × (rules_of added ≡ map by_entry script.schedule) × IsCutSoFar script (due_at played.world) added [] (past_of played)
   played_parts = by (plays.closes [] first_cut)
     where
-      by : (added : List Part) × (rules_of added ≡ map by_entry begun.script.schedule) × IsCutSoFar begun.script (due_at played.world) (added ++ []) [] (past_of played)
+      by : (added : List Part) × (rules_of added ≡ map by_entry begun.schedule) × IsCutSoFar begun.script.value (due_at played.world) (added ++ []) [] (past_of played)
           → (added : List Part) × (rules_of added ≡ map by_entry script.schedule) × IsCutSoFar script (due_at played.world) added [] (past_of played)
       by (added, rules, cut) = (
         added,
-        rules ∙ ap (λ (x : Script). map by_entry x.schedule) begins.script_is,
+        rules ∙ (ap (map by_entry) begins.stage_is.schedule ∙ ap (λ (x : Script). map by_entry x.schedule) begins.script_is),
         subst (λ (l : List Part). IsCutSoFar script (due_at played.world) l [] (past_of played)) (append_nil added) (subst (λ (x : Script). IsCutSoFar x (due_at played.world) (added ++ []) [] (past_of played)) begins.script_is cut),
       )
 

@@ -7,7 +7,7 @@ use Rattle.jr_script.specs.declared.script.Script.{Script}
 use Rattle.jr_shared.specs.Holds.{Known, owned_by}
 use Rattle.jr_shared.specs.Meanings.{Owned}
 use Rattle.jr_shared.proofs.Lists.{found_part}
-use Rattle.jr_work.specs.Workers.{HasAnswered, HasNotBegun, HasRunOne, HasSaidAll, HasWorked, IsReady, KnowsScript}
+use Rattle.jr_work.specs.Workers.{HasAnswered, HasNotBegun, HasRunOne, HasSaidAll, HasWorked, IsHandedOut, KnowsScript}
 
 -- what the pass finds of session s has all its replies
 abbrev HasFound : Script → Known JcrLaw → ℕ → Type 0
@@ -33,7 +33,7 @@ above : (s n : ℕ) → n + 1 ≤ s → s ≢ n
 above s n h = omega arith
 
 module _ (script : Script) (workers worker : ℕ) where
-  pub working_begins : (v : Known JcrLaw) → IsReady script workers worker v → IsWorking script workers worker 0 v
+  pub working_begins : (v : Known JcrLaw) → IsHandedOut script workers worker v → IsWorking script workers worker 0 v
   working_begins v is = record {
     knows = is.knows;
     weight = is.weight;

@@ -1,6 +1,7 @@
 pub mod Awaited
 pub mod Flights
 pub mod Growing
+pub mod Hands
 pub mod Parts
 pub mod Places
 pub mod Runs

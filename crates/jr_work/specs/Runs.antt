@@ -13,7 +13,8 @@ use Rattle.oak_machine.specs.Runs.{IsRun}
 use Rattle.core_clash.specs.Sound.{Cause}
 use Rattle.core_obeys.specs.Answering.{AnswersThroughout}
 use Rattle.core_obeys.specs.Obeying.{ObeysThroughout}
-use Rattle.oak_world.specs.Clashes.{MeetsNone, Wanted}
+use Rattle.core_clash.specs.Unclashing.{IsUnclashing}
+use Rattle.oak_world.specs.Clashes.{Wanted}
 use Rattle.oak_world.specs.Worlds.{WorldOf, live}
 use Rattle.jcr_law.specs.declared.law.JcrLaw.{JcrLaw}
 use Rattle.jcr_law.specs.Lasting.{says_of, starts_of}
@@ -33,7 +34,7 @@ indexes_said h s = filter_map (index_said s) (reverse h.past)
 pub record AreApart (past : Past) : Type 0 where
   pub seen : (r o : Revision) → (r ≡ o → ⊥) → IsTrue (is_committed past r) → IsTrue (is_committed past o) → IsTrue (are_clashing past r o) → IsTrue (is_in_base past r o) ⊎ IsTrue (is_in_base past o r)
   pub causes : (r : Revision) (item : Item) (o : Revision) → refusal_of past r ≡ Some (item, o) → Cause past r item o
-  pub complete : (r : Revision) → IsTrue (is_ended past r) → MeetsNone past r → IsTrue (is_committed past r) ⊎ Wanted past r
+  pub complete : (r : Revision) → IsTrue (is_ended past r) → IsUnclashing past r → IsTrue (is_committed past r) ⊎ Wanted past r
 
 -- the history is a run of the machine by the law of the script, over its cluster nodes and its sessions, in which each command of a session is answered once, in order; its commits are apart; at each time it obeyed the types, the locks and the references; and each reply had its reason
 pub record AnswersScript (script : Script) (h : History) : Type 0 where

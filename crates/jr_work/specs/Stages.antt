@@ -11,7 +11,7 @@ use Rattle.oak_machine.specs.History.{Past}
 use Rattle.oak_machine.specs.Sessions.{is_reply_of}
 use Rattle.oak_port.specs.Ports.{Awaiting, Work}
 use Rattle.oak_world.specs.Seen.{shown_at, shown_work}
-use Rattle.oak_world.specs.Steps.{kind_due}
+use Rattle.oak_step.specs.Works.{kind_due}
 use Rattle.oak_world.specs.Worlds.{WorldOf, live, work_in}
 use Rattle.jcr_law.specs.declared.law.JcrLaw.{JcrLaw}
 use Rattle.jcr_session.specs.declared.run.SessionRun.{SessionRun}
@@ -57,17 +57,18 @@ pub record IsSeated (script : Script) (w : WorldOf JcrLaw) (s : ℕ) (seat : Sea
   pub flight : IsFlight w.history.past s seat.flight
   pub seen : IsSeenBut script w.history.past s (awaited (shown_work (work_in w.actors s)))
 
--- the script keeps its bounds, and the world is of its law, cluster nodes and sessions, each of which is seated
+-- the script keeps its bounds, the schedule is its own, and the world is of its law, cluster nodes and sessions, each of which is seated
 pub record IsStage (stage : Stage) : Type 0 where
-  pub within : IsWithin stage.script
-  pub law : stage.world.law ≡ law_of stage.script
-  pub history : (live stage.world.history) ≡ history_at stage.script (past_of stage)
-  pub seats : length stage.seats.items ≡ length stage.script.sessions
-  pub each : (s : ℕ) (seat : Seat) → slice_get stage.seats.items s ≡ Some seat → IsSeated stage.script stage.world s seat
+  pub within : IsWithin stage.script.value
+  pub schedule : stage.schedule ≡ stage.script.value.schedule
+  pub law : stage.world.law ≡ law_of stage.script.value
+  pub history : (live stage.world.history) ≡ history_at stage.script.value (past_of stage)
+  pub seats : length stage.seats.items ≡ length stage.script.value.sessions
+  pub each : (s : ℕ) (seat : Seat) → slice_get stage.seats.items s ≡ Some seat → IsSeated stage.script.value stage.world s seat
 
 -- before any turn
 pub record IsBegun (script : Script) (stage : Stage) : Type 0 where
-  pub script_is : stage.script ≡ script
+  pub script_is : stage.script.value ≡ script
   pub stage_is : IsStage stage
   pub first : past_of stage ≡ []
 
@@ -83,14 +84,14 @@ Comes script past s due turn.Memory own = ⊥
 
 -- a turn of session s was made, or none could be; what is due for the others stays, a last write is due still where no step was made, and who had ended has
 pub record HasCome (old new : Stage) (s : ℕ) (answer : Turn) : Type 0 where
-  pub script : new.script ≡ old.script
+  pub script : new.script.value ≡ old.script.value
   pub stage : IsStage new
   pub own : Past
   pub past : past_of new ≡ own ++ past_of old
   pub others : (t : ℕ) → (t == s) ≡ false → due_at new.world t ≡ due_at old.world t
   pub still : own ≡ [] → IsTrue (is_last_due (due_at old.world s)) → IsTrue (is_last_due (due_at new.world s))
-  pub over : (t : ℕ) → IsTrue (is_over old.script (past_of old) t) → IsTrue (is_over old.script (past_of new) t)
-  pub came : Comes old.script (past_of old) s (due_at old.world s) answer own
+  pub over : (t : ℕ) → IsTrue (is_over old.script.value (past_of old) t) → IsTrue (is_over old.script.value (past_of new) t)
+  pub came : Comes old.script.value (past_of old) s (due_at old.world s) answer own
 
 -- the same of a session's own turn, in the world that it was shown through some reference; nothing, where memory was refused
 abbrev pub HasTurnedIn : ℕ → WorldOf JcrLaw → WorldOf JcrLaw → SessionRun → SessionRun → Turn → Type 0
@@ -132,27 +133,27 @@ IsOfCommit s e = ⊥
 
 -- a part under way by its rule: its events since the first stage, the newest first, behind whatever parts the journal was cut into before
 pub record IsUnder (first stage : Stage) (rule : Rule) (part : Past) : Type 0 where
-  pub script : stage.script ≡ first.script
+  pub script : stage.script.value ≡ first.script.value
   pub stage_is : IsStage stage
-  pub over : (t : ℕ) → IsTrue (is_over first.script (past_of first) t) → IsTrue (is_over first.script (past_of stage) t)
+  pub over : (t : ℕ) → IsTrue (is_over first.script.value (past_of first) t) → IsTrue (is_over first.script.value (past_of stage) t)
   pub whole : past_of stage ≡ part ++ past_of first
-  pub way : IsUnderWay first.script rule (past_of first) part
-  pub cut : (parts : List Part) → IsCutSoFar first.script (due_at first.world) parts [] (past_of first) → IsCutSoFar first.script (due_at stage.world) parts part (past_of stage)
+  pub way : IsUnderWay first.script.value rule (past_of first) part
+  pub cut : (parts : List Part) → IsCutSoFar first.script.value (due_at first.world) parts [] (past_of first) → IsCutSoFar first.script.value (due_at stage.world) parts part (past_of stage)
 
 -- turns were made that are a part by its rule, behind whatever parts the journal was cut into before
 pub record Closes (old new : Stage) (rule : Rule) : Type 0 where
-  pub script : new.script ≡ old.script
+  pub script : new.script.value ≡ old.script.value
   pub stage : IsStage new
-  pub over : (t : ℕ) → IsTrue (is_over old.script (past_of old) t) → IsTrue (is_over old.script (past_of new) t)
-  pub closes : (parts : List Part) → IsCutSoFar old.script (due_at old.world) parts [] (past_of old) → (p : Part) × (p.rule ≡ rule) × IsCutSoFar old.script (due_at new.world) (p ∷ parts) [] (past_of new)
+  pub over : (t : ℕ) → IsTrue (is_over old.script.value (past_of old) t) → IsTrue (is_over old.script.value (past_of new) t)
+  pub closes : (parts : List Part) → IsCutSoFar old.script.value (due_at old.world) parts [] (past_of old) → (p : Part) × (p.rule ≡ rule) × IsCutSoFar old.script.value (due_at new.world) (p ∷ parts) [] (past_of new)
 
 -- turns were made that are parts by these rules, one after another, behind whatever parts the journal was cut into before
 pub record ClosesAll (old new : Stage) (rules : List Rule) : Type 0 where
-  pub script : new.script ≡ old.script
+  pub script : new.script.value ≡ old.script.value
   pub stage : IsStage new
-  pub over : (t : ℕ) → IsTrue (is_over old.script (past_of old) t) → IsTrue (is_over old.script (past_of new) t)
-  pub closes : (parts : List Part) → IsCutSoFar old.script (due_at old.world) parts [] (past_of old) → (added : List Part) × (rules_of added ≡ rules) × IsCutSoFar old.script (due_at new.world) (added ++ parts) [] (past_of new)
+  pub over : (t : ℕ) → IsTrue (is_over old.script.value (past_of old) t) → IsTrue (is_over old.script.value (past_of new) t)
+  pub closes : (parts : List Part) → IsCutSoFar old.script.value (due_at old.world) parts [] (past_of old) → (added : List Part) × (rules_of added ≡ rules) × IsCutSoFar old.script.value (due_at new.world) (added ++ parts) [] (past_of new)
 
 -- the first sessions have ended
 abbrev pub AreOver : Stage → ℕ → Type 0
-AreOver stage n = (t : ℕ) → t < n → IsTrue (is_over stage.script (past_of stage) t)
+AreOver stage n = (t : ℕ) → t < n → IsTrue (is_over stage.script.value (past_of stage) t)

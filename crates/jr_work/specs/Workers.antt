@@ -10,7 +10,9 @@ use Rattle.jcr_law.specs.declared.law.JcrLaw.{JcrLaw}
 use Rattle.jcr_law.specs.Lasting.{says_of, starts_of}
 use Rattle.jcr_session.specs.declared.run.SessionRun.{SessionRun}
 use Rattle.jcr_session.specs.Standing.{Stands}
+use Rattle.jr_script.specs.Bounds.{IsWithin}
 use Rattle.jr_script.specs.declared.script.Script.{Script}
+use Rattle.jr_types.specs.declared.TypeDef.{TypeDef}
 use Rattle.seat_lock.specs.declared.counted.Counted.{Ghosts}
 use Rattle.seat_lock.specs.declared.lock.SeatLock.{SeatLock}
 use Rattle.seat_lock.specs.declared.pass.Pass.{Pass}
@@ -23,8 +25,18 @@ use Rattle.jr_shared.specs.Holds.{IsTold, Known, owned_by}
 use Rattle.jr_shared.specs.Meanings.{Owned}
 use Rattle.jr_shared.specs.Seen.{history_by}
 use Rattle.jr_work.specs.declared.worker.Job.{Job}
+use Rattle.jr_work.specs.Hands.{IsInHand}
 use Rattle.jr_work.specs.Places.{commands_of}
 use Rattle.jr_work.specs.Stages.{law_of}
+
+-- ---- a crew
+
+-- the workers of a script, which keeps its bounds, share its node types, and know how many sessions
+-- there are
+pub record IsCrewOf (script : Script) (types : List TypeDef) (sessions : ℕ) : Type 0 where
+  pub within : IsWithin script
+  pub types_are : types ≡ script.types
+  pub many : sessions ≡ length script.sessions
 
 -- ---- a pass
 
@@ -71,7 +83,7 @@ pub record HasGoneOn (law : JcrLaw) (old new : Shown) (run now : SessionRun) : T
   pub stands : Stands law new now
 
 -- and all its commands are answered
-pub record HasEnded (law : JcrLaw) (old new : Shown) (run now : SessionRun) : Type 0 where
+pub record HasRunOut (law : JcrLaw) (old new : Shown) (run now : SessionRun) : Type 0 where
   pub on : HasGoneOn law old new run now
   pub all : now.index ≡ length now.commands
 
@@ -85,7 +97,7 @@ pub record HasRunOne (script : Script) (old new : Known JcrLaw) (s : ℕ) : Type
 -- ---- a worker
 
 -- a pass for a worker of so many: it has the worker's sessions, none of which has begun
-pub record IsReady (script : Script) (workers worker : ℕ) (v : Known JcrLaw) : Type 0 where
+pub record IsHandedOut (script : Script) (workers worker : ℕ) (v : Known JcrLaw) : Type 0 where
   pub knows : KnowsScript script v
   pub weight : v.weight ≡ 1
   pub first : (s : ℕ) → s < length script.sessions → s % workers ≡ worker → HasNotBegun v s
@@ -95,6 +107,13 @@ pub record HasWorked (script : Script) (workers worker : ℕ) (v : Known JcrLaw)
   pub rest : v.round ≡ round.Idle
   pub weight : v.weight ≡ 1
   pub said : (s : ℕ) → s < length script.sessions → s % workers ≡ worker → HasAnswered script v s
+
+-- a worker begins with a pass of the lock that is handed out to it, and the commands of its sessions
+abbrev pub IsJob : Script → ℕ → SeatLock (LockedWorld JcrLaw) Event Owned (WorldFrame JcrLaw) (WorldOf JcrLaw)
+    → Job → Type 0
+IsJob script workers lock job =
+    IsOf lock job.pass × IsHandedOut script workers job.worker (view_of job.pass)
+    × IsInHand script.sessions workers job.worker 0 job.hand
 
 -- the workers are numbered from 0 on
 abbrev pub AreInOrder : List Job → Type 0

@@ -24,7 +24,7 @@ pub(crate) fn gated_step<P: Port, G: Gate>(port: &mut P, gate: &G, session: u32)
     ensures law { P.law port.new ≡ P.law port.old }
     ensures steps { Steps (P.L.may_start (P.law port.old)) (P.L.may_say (P.law port.old))
         (P.shown port.old) (P.shown port.new) result }
-    ensures lowers { LastsLess (P.lasts port.old) (P.lasts port.new)
+    ensures lowers { LastsLess (P.left port.old) (P.left port.new)
         (P.shown port.old) (P.shown port.new) result }
 {
     match port.due() {

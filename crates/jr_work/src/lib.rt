@@ -3,6 +3,7 @@
 
 mod flight;
 mod gate;
+mod hands;
 mod laws;
 mod port;
 mod run;

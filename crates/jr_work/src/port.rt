@@ -61,7 +61,7 @@ where
 impl<'a, R: Wait, K: Took> Port for ScriptPort<'a, R, K> {
     type L = JcrLaw;
 
-    ghost use Rattle.jr_shared.specs.Seen.{EndsIn, law_by, shown_through};
+    ghost use Rattle.jr_shared.specs.Seen.{law_by, left_by, shown_through};
     ghost use Rattle.seat_lock.specs.Passes.{view_of};
 
     ghost law = { λ p. law_by (view_of p.port.pass.now) p.port.framed };
@@ -69,7 +69,7 @@ impl<'a, R: Wait, K: Took> Port for ScriptPort<'a, R, K> {
     ghost shown = { λ p. shown_through p.port.pass.ghost_name (view_of p.port.pass.now)
         p.port.actor };
 
-    ghost lasts = { λ p n. EndsIn n (view_of p.port.pass.now) p.port.actor };
+    ghost left = { λ p. left_by (view_of p.port.pass.now) p.port.actor };
 
     fn start(&mut self, task: Task) -> Result<(), AllocError> {
         self.port.start(task)
@@ -114,7 +114,7 @@ where
 impl<'a, R: Wait, G: Gate, K: Took> Port for GatedPort<'a, R, G, K> {
     type L = JcrLaw;
 
-    ghost use Rattle.jr_shared.specs.Seen.{EndsIn, law_by, shown_through};
+    ghost use Rattle.jr_shared.specs.Seen.{law_by, left_by, shown_through};
     ghost use Rattle.seat_lock.specs.Passes.{view_of};
 
     ghost law = { λ p. law_by (view_of p.port.port.pass.now) p.port.port.framed };
@@ -122,7 +122,7 @@ impl<'a, R: Wait, G: Gate, K: Took> Port for GatedPort<'a, R, G, K> {
     ghost shown = { λ p. shown_through p.port.port.pass.ghost_name
         (view_of p.port.port.pass.now) p.port.port.actor };
 
-    ghost lasts = { λ p n. EndsIn n (view_of p.port.port.pass.now) p.port.port.actor };
+    ghost left = { λ p. left_by (view_of p.port.port.pass.now) p.port.port.actor };
 
     fn start(&mut self, task: Task) -> Result<(), AllocError> {
         self.port.start(task)

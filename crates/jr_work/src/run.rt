@@ -40,10 +40,10 @@ impl Stage {
     // The turns for each entry of the schedule.
     fn play_all(&mut self) -> Result<(), AllocError>
         requires stage { IsStage self.old }
-        ensures { OnOk result (ClosesAll self.old self.new (map by_entry self.old.script.schedule)) }
+        ensures { OnOk result (ClosesAll self.old self.new (map by_entry self.old.schedule)) }
     {
-        for i in 0..self.script.schedule.len() {
-            let entry = self.script.schedule.as_slice()[i];
+        for i in 0..self.schedule.len() {
+            let entry = self.schedule.as_slice()[i];
             self.play(entry)?;
         }
         Ok(())

@@ -7,19 +7,21 @@ ghost use Rattle.std.specs.Option.{option_map_or};
 ghost use Rattle.jr_rev.specs.Revisions.{revision_cmp};
 ghost use Rattle.jr_script.specs.Bounds.{IsWithin};
 ghost use Rattle.jr_script.specs.Schedules.{IsEntryWithin, session_named};
+ghost use Rattle.oak_machine.specs.Runs.{AreNodes};
 ghost use Rattle.oak_world.specs.Seen.{shown_at};
+ghost use Rattle.oak_world.specs.Worlds.{start_world};
 ghost use Rattle.jcr_session.specs.Standing.{IsNew, Stands};
 ghost use Rattle.jr_work.specs.Places.{flying_sessions, is_over};
 ghost use Rattle.jr_work.specs.Parts.{Part, Rule, by_entry, to_end, to_reply};
 ghost use Rattle.jr_script.specs.declared.script.Entry.TheVariants as entry;
-ghost use Rattle.jr_work.specs.Stages.{Closes, HasCome, HasRead, HasTurnedIn, IsBegun, IsOfCommit, IsStage, flight_behind, flight_by, has_come, law_of};
+ghost use Rattle.jr_work.specs.Stages.{Closes, HasCome, HasRead, HasTurnedIn, IsBegun, IsOfCommit, IsStage, flight_behind, flight_by, has_come};
 ghost use Rattle.jr_work.specs.Seats.{AreNew, IsNewSeat};
 
 use crate::flight::{Flight, flight_after};
 use core_obeys::the_product_obeys;
 use jcr_law::JcrLaw;
 use jcr_session::{SessionRun, Turn};
-use jcr_trans::SessionScript;
+use jcr_trans::{Command, SessionScript};
 use jr_path::{DeepCopy, List};
 use jr_rev::Revision;
 use jr_script::{Entry, Script};
@@ -27,12 +29,15 @@ use jr_types::Registry;
 use oak_world::{SoloPort, World};
 use std::alloc::{AllocError, Global};
 use std::collections::BTreeMap;
+use std::snapshot::Snapshot;
 
-// The world, the sessions by number, and the script that they are of.
+// The world, the sessions by number, each with its commands, and the schedule. The script that all
+// these are of is there for clauses alone.
 #[derive(Drop)]
 pub(crate) struct Stage {
     pub alloc: Global,
-    pub script: Script,
+    pub script: Snapshot<Script>,
+    pub schedule: List<Entry>,
     pub world: World<JcrLaw>,
     pub seats: Vec<Seat>,
 }
@@ -52,13 +57,30 @@ impl Stage {
         ensures { IfOk result (IsBegun script) }
     {
         the_product_obeys();
-        let nodes = nodes_of(alloc, script.sessions.as_slice())?;
-        let law = law_of(alloc, &script)?;
-        let seats = seats_of(alloc, &law.types, script.sessions.as_slice())?;
-        let world = World::new(alloc, law, script.clusters, nodes.as_slice())?;
+        let shown = Snapshot::of(&script);
+        let Script {
+            clusters,
+            types,
+            sessions,
+            schedule,
+        } = script;
+        // The law takes the script's parts, and then gives them back.
+        let law = JcrLaw {
+            types,
+            earlier: 0,
+            sessions,
+        };
+        let world = world_of(alloc, clusters, &law)?;
+        let JcrLaw {
+            types,
+            sessions,
+            ..
+        } = law;
+        let seats = seats_of(alloc, &types, sessions)?;
         Ok(Stage {
             alloc,
-            script,
+            script: shown,
+            schedule,
             world,
             seats,
         })
@@ -175,7 +197,7 @@ impl Stage {
         requires stage { IsStage self.old }
         requires there { s < length self.old.seats.items }
         ensures closes { OnOk result (Closes self.old self.new (to_end s)) }
-        ensures over { OnOk result (IsTrue (is_over self.new.script self.new.world.history.past s)) }
+        ensures over { OnOk result (IsTrue (is_over self.new.script.value self.new.world.history.past s)) }
     {
         for _ in 0..u64::MAX {
             match self.turn(s)? {
@@ -246,8 +268,23 @@ fn sessions_of(alloc: Global, flying: &BTreeMap<Revision, u32>) -> Result<List<u
     Ok(sessions)
 }
 
+// The world of a law before any step, with the law's sessions on so many cluster nodes.
+pub(crate) fn world_of(
+    alloc: Global,
+    clusters: u32,
+    law: &JcrLaw,
+) -> Result<World<JcrLaw>, AllocError>
+    requires nodes { AreNodes clusters (map (λ s. s.cluster) law.now.sessions) }
+    requires few { length law.now.sessions ≤ 64 }
+    ensures { IfOk result (λ world. world
+        ≡ start_world law.now clusters (map (λ s. s.cluster) law.now.sessions)) }
+{
+    let nodes = nodes_of(alloc, law.sessions.as_slice())?;
+    World::new(alloc, law, clusters, nodes.as_slice())
+}
+
 // The cluster node of each session.
-pub(crate) fn nodes_of(alloc: Global, sessions: &[SessionScript]) -> Result<Vec<u32>, AllocError>
+fn nodes_of(alloc: Global, sessions: &[SessionScript]) -> Result<Vec<u32>, AllocError>
     ensures { IfOk result (λ nodes. nodes.items ≡ map (λ s. s.cluster) sessions.now) }
 {
     let mut nodes = Vec::new(alloc);
@@ -257,35 +294,35 @@ pub(crate) fn nodes_of(alloc: Global, sessions: &[SessionScript]) -> Result<Vec<
     Ok(nodes)
 }
 
-// The sessions, none of which has logged in.
+// The sessions, none of which has logged in, each with its commands.
 fn seats_of(
     alloc: Global,
     types: &Registry,
-    sessions: &[SessionScript],
+    sessions: List<SessionScript>,
 ) -> Result<Vec<Seat>, AllocError>
-    requires many { length sessions.now ≤ 64 }
-    requires few { All (λ s. length s.commands ≤ 10000) sessions.now }
-    ensures { IfOk result (λ seats. AreNew types.now sessions.now (length sessions.now) seats.items) }
+    requires many { length sessions ≤ 64 }
+    requires few { All (λ s. length s.commands ≤ 10000) sessions }
+    ensures { IfOk result (λ seats. AreNew types.now sessions (length sessions) seats.items) }
 {
     let mut seats = Vec::new(alloc);
-    for (s, session) in sessions.iter().enumerate() {
-        let seat = seat_of(alloc, types, s as u32, session)?;
+    for session in sessions.into_inner() {
+        let seat = seat_of(alloc, types, seats.len() as u32, session)?;
         seats.push(seat)?;
     }
     Ok(seats)
 }
 
-// A session that has not logged in, of the number and with the commands.
+// A session that has not logged in, of the number and with its commands.
 fn seat_of(
     alloc: Global,
     types: &Registry,
     s: u32,
-    session: &SessionScript,
+    session: SessionScript,
 ) -> Result<Seat, AllocError>
-    requires few { length session.now.commands ≤ 10000 }
-    ensures { IfOk result (IsNewSeat types.now s session.now) }
+    requires few { length session.commands ≤ 10000 }
+    ensures { IfOk result (IsNewSeat types.now s session) }
 {
-    let run = session_of(alloc, types, s, session)?;
+    let run = session_of(alloc, types, s, session.commands)?;
     Ok(Seat { run, flight: None })
 }
 
@@ -294,42 +331,12 @@ pub(crate) fn session_of(
     alloc: Global,
     types: &Registry,
     s: u32,
-    session: &SessionScript,
+    commands: List<Command>,
 ) -> Result<SessionRun, AllocError>
-    requires few { length session.now.commands ≤ 10000 }
-    ensures { IfOk result (IsNew s 0 session.now.commands types.now) }
+    requires few { length commands ≤ 10000 }
+    ensures { IfOk result (IsNew s 0 commands types.now) }
 {
-    let commands = session.commands.copy()?;
     SessionRun::new(alloc, s, 0, commands, types.copy()?)
-}
-
-// The law of a script: its types, no session before it, and its sessions with their commands.
-pub(crate) fn law_of(alloc: Global, script: &Script) -> Result<JcrLaw, AllocError>
-    ensures { IfOk result (λ law. law ≡ law_of script.now) }
-{
-    let types = script.types.copy()?;
-    let sessions = sessions_copied(alloc, script.sessions.as_slice())?;
-    Ok(JcrLaw {
-        types,
-        earlier: 0,
-        sessions,
-    })
-}
-
-fn sessions_copied(
-    alloc: Global,
-    sessions: &[SessionScript],
-) -> Result<List<SessionScript>, AllocError>
-    ensures { IfOk result (λ copies. copies ≡ sessions.now) }
-{
-    let mut copies = List::new(alloc);
-    for session in sessions {
-        copies.push(SessionScript {
-            cluster: session.cluster,
-            commands: session.commands.copy()?,
-        })?;
-    }
-    Ok(copies)
 }
 
 // A turn of a session in its world.

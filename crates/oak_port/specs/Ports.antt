@@ -1,6 +1,6 @@
 -- What a session is told of a world: the history so far and what is being done for the session, and
 -- what a step makes of these.
-use Rattle.std.specs.Prelude.{◌≡◌, ◌↔◌, ◌⊎◌, ◌≤◌, ℕ, suc, Bool, true, false, ⊤, List, [], ◌∷◌}
+use Rattle.std.specs.Prelude.{◌≡◌, ◌↔◌, ◌⊎◌, ◌<◌, ◌≤◌, ℕ, Bool, true, false, ⊤, List, [], ◌∷◌}
 use Rattle.std.specs.Prelude.{reverse, slice_get, Option, None, Some, IfSome, IsTrue, IsFalse}
 use Rattle.std.specs.Borrow.{GName}
 use Rattle.std.specs.Option.{option_map_or}
@@ -274,15 +274,13 @@ pub record ActedAlone (old new : Shown) (answer : StepOut) : Type 0 where
   pub grown : new.history ≡ after own old.history
   pub makes : Makes old.history old.session old.work answer own new.work
 
--- a step of the session, which acted alone, waits, or what would have ended within some steps, as
--- `before` tells, will end within one fewer, as `now` tells
-abbrev pub LastsLess : (before now : ℕ → Type 0) → Shown → Shown → StepOut → Type 0
-LastsLess before now old new answer =
-    ActedAlone old new answer → (n : ℕ) → before (suc n) → IsWait answer ⊎ now n
+-- a step of the session, which acted alone, waits, or fewer steps are left of what is being done
+abbrev pub LastsLess : (before now : ℕ) → Shown → Shown → StepOut → Type 0
+LastsLess before now old new answer = ActedAlone old new answer → IsWait answer ⊎ (now < before)
 
--- where nobody acted, what would have ended within some steps will still end within as many
-abbrev pub LastsOn : (before now : ℕ → Type 0) → Shown → Shown → Type 0
-LastsOn before now old new = (new.history ≡ old.history) → (n : ℕ) → before n → now n
+-- where nothing was added to the history, as many steps are left
+abbrev pub LastsOn : (before now : ℕ) → Shown → Shown → Type 0
+LastsOn before now old new = (new.history ≡ old.history) → now ≡ before
 
 -- ---- what a task asks
 

@@ -21,8 +21,9 @@ pub trait Port {
     /// kind of its next step, and what stands beside it.
     ghost shown: { Self → Shown };
 
-    /// Within so many steps what is being done ends, or one of them waits, where nobody else acts.
-    ghost lasts: { Self → ℕ → Type 0 };
+    /// How many steps are left of what is being done, where nobody else acts; only others' events may
+    /// raise it.
+    ghost left: { Self → ℕ };
 
     /// Begins a task. Memory may be refused, and then nothing is begun.
     fn start(&mut self, task: Task) -> Result<(), AllocError>
@@ -44,21 +45,19 @@ pub trait Port {
         ensures law { law self.new ≡ law self.old }
         ensures steps { Steps (Self.L.may_start (law self.old)) (Self.L.may_say (law self.old))
             (shown self.old) (shown self.new) result }
-        ensures lowers { LastsLess (lasts self.old) (lasts self.new)
+        ensures lowers { LastsLess (left self.old) (left self.new)
             (shown self.old) (shown self.new) result };
 
-    /// The kind of the next step; None where nothing is being done. What is being done ends: there
-    /// is a number of steps that are left, and at 0 nothing is being done.
+    /// The kind of the next step; None where nothing is being done. Where no step is left nothing is.
     fn due(&mut self) -> Option<StepKind>
         ensures law { law self.new ≡ law self.old }
         ensures same { StaysSo (Self.L.may_start (law self.old)) (Self.L.may_say (law self.old))
             (shown self.old) (shown self.new) }
         ensures due { result ≡ (shown self.new).due }
         ensures busy { IsSome result ↔ ((shown self.old).work ≢ Idle) }
-        ensures lasts { LastsOn (lasts self.old) (lasts self.new)
+        ensures left { LastsOn (left self.old) (left self.new)
             (shown self.old) (shown self.new) }
-        ensures ends { (n : ℕ) × lasts self.new n }
-        ensures over { lasts self.old 0 → (shown self.old).work ≡ Idle };
+        ensures over { left self.old ≡ 0 → (shown self.old).work ≡ Idle };
 
     /// The session's pin; None before its login and once it has left.
     fn pin(&mut self) -> Option<Pin>
@@ -68,7 +67,7 @@ pub trait Port {
         ensures base { IsFalse (has_left (shown self.old).history.past (shown self.old).session)
             → option_map (λ pin. pin.base) result
             ≡ base_of (shown self.old).history.past (shown self.old).session }
-        ensures lasts { LastsOn (lasts self.old) (lasts self.new)
+        ensures left { LastsOn (left self.old) (left self.new)
             (shown self.old) (shown self.new) };
 
     /// The position in the journal, from 0, of the stop of the cluster node of that number; None
@@ -78,7 +77,7 @@ pub trait Port {
         ensures same { StaysSo (Self.L.may_start (law self.old)) (Self.L.may_say (law self.old))
             (shown self.old) (shown self.new) }
         ensures none { result ≡ None }
-        ensures lasts { LastsOn (lasts self.old) (lasts self.new)
+        ensures left { LastsOn (left self.old) (left self.new)
             (shown self.old) (shown self.new) };
 
     /// Keeps a place for the session's next reply, of this many bytes. Where memory is refused, the
@@ -90,7 +89,7 @@ pub trait Port {
             (shown self.old).work (Some bytes)) }
         ensures err { OnErr result (StaysSo (Self.L.may_start (law self.old))
             (Self.L.may_say (law self.old)) (shown self.old) (shown self.new)) }
-        ensures lasts { LastsOn (lasts self.old) (lasts self.new)
+        ensures left { LastsOn (left self.old) (left self.new)
             (shown self.old) (shown self.new) };
 
     /// Says the session's next reply. It has a place, so this takes no memory.

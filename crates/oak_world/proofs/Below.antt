@@ -12,7 +12,7 @@ use Rattle.jr_path.specs.declared.path.DocId.{DocId}
 use Rattle.jr_path.specs.declared.path.DocId.TheVariants as id
 use Rattle.jr_path.specs.declared.path.Path.{Path}
 use Rattle.oak_world.specs.Kept.{AreBelow}
-use Rattle.oak_world.specs.Upkeeps.{told_above, told_at, told_ids}
+use Rattle.oak_step.specs.Upkeeps.{told_above, told_at, told_ids}
 
 -- the last one, and those before it
 pub below_parts : (rest : List DocId) (i : DocId) → AreBelow (rest ++ i ∷ []) → AreBelow rest × (eq_by_cmp path_cmp [] (names_of i) ≡ false)

@@ -23,12 +23,13 @@ use Rattle.oak_port.specs.declared.task.Task.{Task}
 use Rattle.oak_port.specs.declared.task.Task.TheVariants as task
 use Rattle.oak_port.specs.Ports.{MayBegin, Steps as StepSeen}
 use Rattle.oak_world.specs.declared.actor.Actor.{Actor}
-use Rattle.oak_world.specs.declared.actor.Work.{Work}
-use Rattle.oak_world.specs.declared.actor.Work.TheVariants as work
+use Rattle.oak_step.specs.declared.work.Work.{Work}
+use Rattle.oak_step.specs.declared.work.Work.TheVariants as work
 use Rattle.oak_world.specs.Kept.{ArePlaced, IsPlaced, IsWorld}
-use Rattle.oak_world.specs.Parts.{CanStep, Steps, needed, parts}
+use Rattle.oak_step.specs.Parts.{CanStep, Steps, needed, parts}
 use Rattle.oak_world.specs.Seen.{shown_at}
-use Rattle.oak_world.specs.Steps.{Begins, StepsIn, reads_after}
+use Rattle.oak_step.specs.Works.{Begins}
+use Rattle.oak_world.specs.Steps.{StepsIn, reads_after}
 use Rattle.oak_world.specs.Worlds.{ActorState, WorldOf, actor_in, live, said_in, shown_actor, shown_world, state_of, with_reply, with_work, work_in}
 use Rattle.oak_world.proofs.Calls.{actor_shown, begun_is, can, its_placed, own_are, replied_is, said_is, same_is, seen, set_placed, step_keeps_all, steps_in}
 use Rattle.oak_world.proofs.Keeping.{reply_keeps, said_keep, start_keeps}

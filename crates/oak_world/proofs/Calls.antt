@@ -23,10 +23,10 @@ use Rattle.core_world.specs.States.{memory_at, with_memory}
 use Rattle.oak_port.specs.declared.task.StepOut.{StepOut}
 use Rattle.oak_port.specs.Ports.{Steps as StepSeen}
 use Rattle.oak_world.specs.declared.actor.Actor.{Actor}
-use Rattle.oak_world.specs.declared.actor.Work.{Work}
-use Rattle.oak_world.specs.declared.actor.Work.TheVariants as work
+use Rattle.oak_step.specs.declared.work.Work.{Work}
+use Rattle.oak_step.specs.declared.work.Work.TheVariants as work
 use Rattle.oak_world.specs.Kept.{ArePlaced, IsPlaced, IsWorld, May}
-use Rattle.oak_world.specs.Parts.{CanStep, Parts, Steps, needed, parts}
+use Rattle.oak_step.specs.Parts.{CanStep, Parts, Steps, needed, parts}
 use Rattle.oak_world.specs.Steps.{Makes, StepsIn, reads_after}
 use Rattle.oak_world.specs.Seen.{shown_at}
 use Rattle.oak_world.specs.Worlds.{ActorState, WorldOf, actor_in, idle, live, node_in, parts_at, said_in, shown_actor, shown_world, state_of, with_parts, with_reply, with_work, work_in}

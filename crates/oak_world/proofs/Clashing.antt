@@ -6,11 +6,12 @@ use Rattle.oak_machine.specs.Laws.{Says, Starts, StartsProper}
 use Rattle.core_world.specs.Kept.{IsKept}
 use Rattle.core_world.specs.States.{State}
 use Rattle.core_world.proofs.Truths.{comes_through}
-use Rattle.oak_world.specs.Clashes.{MeetsNone, Wanted}
+use Rattle.core_clash.specs.Unclashing.{IsUnclashing}
+use Rattle.oak_world.specs.Clashes.{Wanted}
 
 module _ (starts : Starts) (says : Says) (proper : StartsProper starts) (w : State) (kept : IsKept starts says w) (r : Revision) where
   -- what clashes with none is committed, or wanted memory
-  pub comes_or_wants : is_ended w.past r ≡ true → MeetsNone w.past r → (is_committed w.past r ≡ true) ⊎ Wanted w.past r
+  pub comes_or_wants : is_ended w.past r ≡ true → IsUnclashing w.past r → (is_committed w.past r ≡ true) ⊎ Wanted w.past r
   comes_or_wants ended none = by (is_committed w.past r) refl (comes_through starts says proper w kept.sessions r ended none)
     where
       by : (b : Bool) → is_committed w.past r ≡ b → (is_committed w.past r ≡ true) ⊎ (((kept.sessions.committing.writers r).wants ≡ true) × (is_refused w.past r ≡ false)) → (is_committed w.past r ≡ true) ⊎ Wanted w.past r

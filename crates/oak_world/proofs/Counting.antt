@@ -21,12 +21,8 @@ use Rattle.oak_node.specs.Memory.{NodeState}
 use Rattle.oak_node.specs.Notes.{IsPending}
 use Rattle.oak_node.specs.Seen.{seen_paths}
 use Rattle.core_world.proofs.Tables.{path_itself}
-use Rattle.oak_world.specs.Upkeeps.{told_above, told_at, told_ids}
-
--- the names of all the paths
-abbrev pub total : List Path → ℕ
-total [] = 0
-total (p ∷ ps) = length p + total ps
+use Rattle.oak_step.specs.Upkeeps.{told_above, told_at, told_ids}
+use Rattle.oak_world.specs.Left.{names_in}
 
 -- ---- members
 
@@ -55,14 +51,14 @@ without p (y ∷ ys) = cond (eq_by_cmp path_cmp p y) ys (y ∷ without p ys)
 one_behind : (l y a b : ℕ) → a ≡ l + b → y + a ≡ l + (y + b)
 one_behind l y a b h = omega (arith, h)
 
-without_total : (p : Path) (ys : List Path) → Contains ys p → total ys ≡ length p + total (without p ys)
+without_total : (p : Path) (ys : List Path) → Contains ys p → names_in ys ≡ length p + names_in (without p ys)
 without_total p [] there = absurd (contains_none p there)
 without_total p (y ∷ ys) there = by (eq_by_cmp path_cmp p y) refl (contains_cases y p ys there) (without_total p ys)
   where
-    by : (b : Bool) → eq_by_cmp path_cmp p y ≡ b → (y ≡ p) ⊎ Contains ys p → (Contains ys p → total ys ≡ length p + total (without p ys)) → length y + total ys ≡ length p + total (cond b ys (y ∷ without p ys))
-    by true e c rest = ap (λ (q : Path). length q + total ys) (sym (same_path p y e))
+    by : (b : Bool) → eq_by_cmp path_cmp p y ≡ b → (y ≡ p) ⊎ Contains ys p → (Contains ys p → names_in ys ≡ length p + names_in (without p ys)) → length y + names_in ys ≡ length p + names_in (cond b ys (y ∷ without p ys))
+    by true e c rest = ap (λ (q : Path). length q + names_in ys) (sym (same_path p y e))
     by false e (inl same) rest = absurd (false≢true (sym e ∙ (ap (eq_by_cmp path_cmp p) same ∙ path_itself p)))
-    by false e (inr c) rest = one_behind (length p) (length y) (total ys) (total (without p ys)) (rest c)
+    by false e (inr c) rest = one_behind (length p) (length y) (names_in ys) (names_in (without p ys)) (rest c)
 
 without_has : (p q : Path) (ys : List Path) → Contains ys q → eq_by_cmp path_cmp p q ≡ false → Contains (without p ys) q
 without_has p q [] there apart = absurd (contains_none q there)
@@ -89,11 +85,11 @@ more_least : (l a b c : ℕ) → a ≤ b → c ≡ l + b → l + a ≤ c
 more_least l a b c h k = omega (arith, h, k)
 
 -- paths that are each once among others have no more names
-fewer : (xs ys : List Path) → IsStrictlySortedBy path_cmp xs → ((p : Path) → Contains xs p → Contains ys p) → total xs ≤ total ys
+fewer : (xs ys : List Path) → IsStrictlySortedBy path_cmp xs → ((p : Path) → Contains xs p → Contains ys p) → names_in xs ≤ names_in ys
 unfolding IsStrictlySortedBy
-fewer [] ys sorted among = none_least (total ys)
+fewer [] ys sorted among = none_least (names_in ys)
 fewer (x ∷ xs) ys sorted among =
-    more_least (length x) (total xs) (total (without x ys)) (total ys)
+    more_least (length x) (names_in xs) (names_in (without x ys)) (names_in ys)
     (fewer xs (without x ys) sorted.1 (λ p c. without_has x p ys (among p (contains_behind x p xs c)) (above_all x p xs sorted.0 c)))
     (without_total x ys (among x (contains_first x x xs refl)))
 
@@ -121,16 +117,16 @@ none_more n = omega arith
 both_more : (a b c r l t : ℕ) → a ≤ b + t → b ≤ c + r → r ≡ l → a ≤ c + (l + t)
 both_more a b c r l t h k e = omega (arith, h, k, e)
 
-told_count : (ps : List Path) (es : List (DocId × Bool)) → length (keys_of (fold told_above es ps)) ≤ length (keys_of es) + total ps
+told_count : (ps : List Path) (es : List (DocId × Bool)) → length (keys_of (fold told_above es ps)) ≤ length (keys_of es) + names_in ps
 told_count [] es = none_more (length (keys_of es))
 told_count (p ∷ ps) es =
-    both_more (length (keys_of (fold told_above (told_above es p) ps))) (length (keys_of (told_above es p))) (length (keys_of es)) (length (range_with_len 0 (length p))) (length p) (total ps)
+    both_more (length (keys_of (fold told_above (told_above es p) ps))) (length (keys_of (told_above es p))) (length (keys_of es)) (length (range_with_len 0 (length p))) (length p) (names_in ps)
     (told_count ps (told_above es p)) (above_count p (range_with_len 0 (length p)) es) (length-range_with_len 0 (length p))
 
 -- there are no more of them than the notes have names
-pub told_few : (m : NodeState) (n : Pending) → IsPending m n → length (told_ids n.paths) ≤ total (seen_paths m.head m.notes)
+pub told_few : (m : NodeState) (n : Pending) → IsPending m n → length (told_ids n.paths) ≤ names_in (seen_paths m.head m.notes)
 told_few m n pending =
-    along (length (told_ids n.paths)) (total n.paths) (total (seen_paths m.head m.notes)) (told_count n.paths []) (fewer n.paths (seen_paths m.head m.notes) pending.ordered (λ p c. (pending.noted p).0 c))
+    along (length (told_ids n.paths)) (names_in n.paths) (names_in (seen_paths m.head m.notes)) (told_count n.paths []) (fewer n.paths (seen_paths m.head m.notes) pending.ordered (λ p c. (pending.noted p).0 c))
   where
     along : (a b c : ℕ) → a ≤ 0 + b → b ≤ c → a ≤ c
     along a b c h k = omega (arith, h, k)

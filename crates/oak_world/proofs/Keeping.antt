@@ -42,17 +42,18 @@ use Rattle.oak_port.specs.declared.task.StepOut.{StepOut}
 use Rattle.oak_port.specs.declared.task.Task.{Task}
 use Rattle.oak_port.specs.declared.task.Task.TheVariants as task
 use Rattle.oak_port.specs.Ports.{Answers, Beside, Idle, Makes as Tells, MayBegin, Seat, Starting, OthersAlone, Steps as StepSeen, Work as Shows}
-use Rattle.oak_world.specs.declared.actor.Work.{Work}
-use Rattle.oak_world.specs.declared.actor.Work.TheVariants as work
-use Rattle.oak_world.specs.declared.upkeep.Upkeep.{Upkeep}
-use Rattle.oak_world.specs.declared.upkeep.Upkeep.TheVariants as upkeep
+use Rattle.oak_step.specs.declared.work.Work.{Work}
+use Rattle.oak_step.specs.declared.work.Work.TheVariants as work
+use Rattle.oak_step.specs.declared.upkeep.Upkeep.{Upkeep}
+use Rattle.oak_step.specs.declared.upkeep.Upkeep.TheVariants as upkeep
 use Rattle.oak_world.specs.Kept.{IsWorld, May, MayKeepUp}
-use Rattle.oak_world.specs.Parts.{CanKeepUp, CanStep, HasRoot, needed}
+use Rattle.oak_step.specs.Parts.{CanKeepUp, CanStep, HasRoot, needed}
 use Rattle.oak_world.specs.Seen.{no_seat, seat_of, shown_at, shown_by, shown_upkeep, shown_work}
-use Rattle.oak_world.specs.Steps.{Begins, CanBegin, HasCome, StepsIn, kind_due, kind_of}
+use Rattle.oak_step.specs.Works.{Begins, CanBegin, kind_due, kind_of}
+use Rattle.oak_world.specs.Steps.{HasCome, StepsIn}
 use Rattle.oak_world.specs.Worlds.{ActorState, Story, WorldOf, actor_in, live, node_in, reading_of, running_as, running_of, said_in, state_of, state_with, with_reply, with_work, work_in}
 use Rattle.oak_world.proofs.States.{actor_other, actor_set, session_same, session_set}
-use Rattle.oak_world.proofs.Stages.{counted_stage, done_stage}
+use Rattle.oak_step.proofs.Stages.{counted_stage, done_stage}
 use Rattle.oak_world.proofs.Staying.{may_last}
 use Rattle.oak_world.proofs.StepsOf.{IsStepOf}
 use Rattle.oak_world.proofs.Walking.{any_step}

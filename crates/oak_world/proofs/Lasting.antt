@@ -11,8 +11,8 @@ use Rattle.oak_machine.specs.Runs.{AreNodes, IsRunOf}
 use Rattle.core_heads.proofs.Runs.{later_run}
 use Rattle.core_read.proofs.Latest.{at_most_trans}
 use Rattle.core_world.specs.Kept.{WereOnRoot}
-use Rattle.oak_world.specs.declared.upkeep.Upkeep.{Upkeep}
-use Rattle.oak_world.specs.declared.upkeep.Upkeep.TheVariants as upkeep
+use Rattle.oak_step.specs.declared.upkeep.Upkeep.{Upkeep}
+use Rattle.oak_step.specs.declared.upkeep.Upkeep.TheVariants as upkeep
 use Rattle.oak_world.specs.Kept.{IsOwn, MayKeepUp}
 use Rattle.oak_world.specs.Worlds.{Story, live}
 

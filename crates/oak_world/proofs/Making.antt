@@ -29,12 +29,13 @@ use Rattle.core_clash.specs.Core.{root_of}
 use Rattle.core_clash.specs.Sessions.{Running}
 use Rattle.core_world.specs.States.{State, memory_at, nodes_in, with_memory, with_session}
 use Rattle.core_world.specs.Steps.{after_last, after_mark, after_update, after_write, after_write_in_want, lasted_by, marked_by, moved_head, with_reader, with_result}
-use Rattle.oak_world.specs.declared.actor.Work.TheVariants as work
-use Rattle.oak_world.specs.Parts.{IsLast, IsMade, IsMarked, IsUndone, IsWritten, Parts, committed, end_events, fed_made, marked, op_due, parts, refusal_at, result_of}
+use Rattle.oak_step.specs.declared.work.Work.TheVariants as work
+use Rattle.oak_step.specs.Parts.{IsLast, IsMade, IsMarked, IsUndone, IsWritten, Parts, committed, end_events, fed_made, marked, op_due, parts, refusal_at, result_of}
 use Rattle.oak_world.specs.Steps.{MakesUpdate}
 use Rattle.oak_world.specs.Worlds.{ActorState, WorldOf, node_in, parts_at, reading_of, running_as, running_of, state_of, with_parts, work_in}
-use Rattle.oak_world.proofs.Feeding.{blocked_last, blocked_mark, fed_last, fed_mark, fed_undo, fed_write, going_is, op_last, op_mark, op_write}
-use Rattle.oak_world.proofs.Stages.{IsLastStage, IsMarkStage, IsUndoStage, IsWriteStage}
+use Rattle.oak_step.proofs.Feeding.{blocked_last, blocked_mark, fed_last, fed_mark, fed_undo, fed_write, op_last, op_mark, op_write}
+use Rattle.oak_world.proofs.Going.{going_is}
+use Rattle.oak_step.proofs.Stages.{IsLastStage, IsMarkStage, IsUndoStage, IsWriteStage}
 use Rattle.oak_world.proofs.States.{memory_same, moved, moved_is, newest, quiet_is, rest_is, session_same}
 
 -- the end of a revision, with the head where that moved

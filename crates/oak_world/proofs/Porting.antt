@@ -12,13 +12,14 @@ use Rattle.oak_machine.specs.Laws.{Says, Starts}
 use Rattle.oak_machine.specs.Runs.{IsRun}
 use Rattle.oak_port.specs.declared.task.Task.{Task}
 use Rattle.oak_port.specs.Ports.{Answers, HasRoom, Idle, OthersAlone, Starting}
-use Rattle.oak_world.specs.declared.actor.Work.{Work}
-use Rattle.oak_world.specs.declared.actor.Work.TheVariants as work
-use Rattle.oak_world.specs.Ending.{TaskEndsIn}
+use Rattle.oak_step.specs.declared.work.Work.{Work}
+use Rattle.oak_step.specs.declared.work.Work.TheVariants as work
+use Rattle.oak_world.specs.Left.{left_in}
 use Rattle.oak_world.specs.Seen.{shown_at, shown_work}
-use Rattle.oak_world.specs.Steps.{Begins, IsIdle}
+use Rattle.oak_step.specs.Works.{Begins}
+use Rattle.oak_world.specs.Steps.{IsIdle}
 use Rattle.oak_world.specs.Worlds.{WorldOf, actor_in, live, said_in, with_reply, with_work, work_in}
-use Rattle.oak_world.proofs.Ending.{same_ends}
+use Rattle.oak_world.proofs.Left.{same_left}
 use Rattle.oak_world.proofs.States.{replied_state, replied_work}
 use Rattle.oak_world.proofs.Keeping.{answers_shown, begins_shown, idle_shown, still_waits, waits}
 
@@ -49,10 +50,10 @@ module _ {L : Type 0} (w u : WorldOf L) (s : ℕ) (r : Result Unit AllocError) w
       by (Ok x) ok err = ap (λ (x : WorldOf L). x.law) ok
       by (Err x) ok err = ap (λ (x : WorldOf L). x.law) err
 
--- room for a reply leaves how long the task lasts
-pub reserve_lasts : {L : Type 0} (w u : WorldOf L) (s : ℕ) → s < length w.actors → (room : Option ℕ) (r : Result Unit AllocError) → OnOk r (u ≡ with_reply w s room) → OnErr r (u ≡ w) → (n : ℕ) → TaskEndsIn n w s → TaskEndsIn n u s
-reserve_lasts {L} w u s seat room (Ok x) ok err n h = subst (λ (v : WorldOf L). TaskEndsIn n v s) (sym ok) (same_ends w (with_reply w s room) s n (replied_state w s seat room) (replied_work w s seat room) h)
-reserve_lasts {L} w u s seat room (Err x) ok err n h = subst (λ (v : WorldOf L). TaskEndsIn n v s) (sym err) h
+-- room for a reply leaves as many steps
+pub reserve_left : {L : Type 0} (w u : WorldOf L) (s : ℕ) → s < length w.actors → (room : Option ℕ) (r : Result Unit AllocError) → OnOk r (u ≡ with_reply w s room) → OnErr r (u ≡ w) → left_in u s ≡ left_in w s
+reserve_left {L} w u s seat room (Ok x) ok err = ap (λ (v : WorldOf L). left_in v s) ok ∙ same_left w (with_reply w s room) s (replied_state w s seat room) (replied_work w s seat room)
+reserve_left {L} w u s seat room (Err x) ok err = ap (λ (v : WorldOf L). left_in v s) err
 
 module _ (starts : Starts) (says : Says) {L : Type 0} (w : WorldOf L) (s : ℕ) (there : is_some (slice_get w.history.sessions s) ≡ true) (run : IsRun starts says (live w.history)) (seats : length w.actors ≡ length w.history.sessions) (name : GName) where
   pub seat : s < length w.actors

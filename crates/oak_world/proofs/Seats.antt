@@ -16,7 +16,7 @@ use Rattle.core_world.specs.States.{memory_at, memory_of}
 use Rattle.core_world.proofs.Lives.{its_node, on_node}
 use Rattle.oak_world.specs.declared.actor.Actor.{Actor}
 use Rattle.oak_world.specs.Kept.{IsWorld}
-use Rattle.oak_world.specs.Steps.{kind_due}
+use Rattle.oak_step.specs.Works.{kind_due}
 use Rattle.oak_world.specs.Worlds.{ActorState, WorldOf, actor_in, node_in, shown_actor, shown_world, state_of, work_in}
 use Rattle.oak_world.proofs.Calls.{actor_shown}
 

@@ -10,9 +10,9 @@ use Rattle.oak_machine.specs.Laws.{Says, Starts}
 use Rattle.oak_port.specs.declared.task.StepOut.{StepOut}
 use Rattle.oak_port.specs.declared.task.Task.{Task}
 use Rattle.oak_port.specs.Ports.{Steps as StepSeen}
-use Rattle.oak_world.specs.declared.actor.Work.{Work}
+use Rattle.oak_step.specs.declared.work.Work.{Work}
 use Rattle.oak_world.specs.Seen.{shown_at}
-use Rattle.oak_world.specs.Steps.{Begins}
+use Rattle.oak_step.specs.Works.{Begins}
 use Rattle.oak_world.specs.Worlds.{WorldOf, said_in, with_reply, with_work}
 
 module _ {L : Type 0} (w u : WorldOf L) (s : ℕ) (there : is_some (slice_get w.history.sessions s) ≡ true) where

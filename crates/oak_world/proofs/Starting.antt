@@ -28,8 +28,8 @@ use Rattle.oak_read.specs.declared.reader.Reader.{Reader}
 use Rattle.core_clash.specs.Sessions.{Running}
 use Rattle.std.proofs.Math.Path.{fun_ext}
 use Rattle.oak_world.specs.declared.actor.Actor.{Actor}
-use Rattle.oak_world.specs.declared.actor.Work.{Work}
-use Rattle.oak_world.specs.declared.actor.Work.TheVariants as work
+use Rattle.oak_step.specs.declared.work.Work.{Work}
+use Rattle.oak_step.specs.declared.work.Work.TheVariants as work
 use Rattle.oak_world.specs.Kept.{ArePlaced, IsPlaced, IsWorld, May}
 use Rattle.oak_world.specs.Worlds.{ActorState, WorldOf, idle, live, reading_of, running_of, shown_actor, shown_world, start_world, state_of, work_in}
 

@@ -18,8 +18,8 @@ use Rattle.core_clash.specs.Views.{In}
 use Rattle.core_clash.proofs.Basics.{or_right}
 use Rattle.core_nodes.proofs.Pasts.{still_drawn}
 use Rattle.core_world.proofs.Truths.{root_stays}
-use Rattle.oak_world.specs.declared.actor.Work.{Work}
-use Rattle.oak_world.specs.declared.actor.Work.TheVariants as work
+use Rattle.oak_step.specs.declared.work.Work.{Work}
+use Rattle.oak_step.specs.declared.work.Work.TheVariants as work
 use Rattle.oak_world.specs.Kept.{May}
 use Rattle.oak_world.proofs.Lasting.{upkeep_lasts}
 use Rattle.oak_world.specs.Steps.{HasCome}

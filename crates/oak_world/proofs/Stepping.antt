@@ -31,16 +31,16 @@ use Rattle.core_world.specs.Steps.{after_finish, after_update, after_want, back_
 use Rattle.oak_port.specs.declared.task.StepOut.{StepOut}
 use Rattle.oak_port.specs.declared.task.StepOut.TheVariants as answers
 use Rattle.oak_port.specs.declared.task.TaskEnd.TheVariants as ends
-use Rattle.oak_world.specs.declared.actor.Work.{Work}
-use Rattle.oak_world.specs.declared.actor.Work.TheVariants as work
-use Rattle.oak_world.specs.declared.upkeep.Upkeep.{Upkeep}
-use Rattle.oak_world.specs.declared.upkeep.Upkeep.TheVariants as upkeep
-use Rattle.oak_world.specs.Upkeeps.{told_ids}
-use Rattle.oak_world.specs.Parts.{CommitsOn, EndsSo, IsGivenUp, KeepsUp, Parts, PublishesOn, Steps, UpdatesOn, Updates, base_at, parts, parts_ended, read_on}
+use Rattle.oak_step.specs.declared.work.Work.{Work}
+use Rattle.oak_step.specs.declared.work.Work.TheVariants as work
+use Rattle.oak_step.specs.declared.upkeep.Upkeep.{Upkeep}
+use Rattle.oak_step.specs.declared.upkeep.Upkeep.TheVariants as upkeep
+use Rattle.oak_step.specs.Upkeeps.{told_ids}
+use Rattle.oak_step.specs.Parts.{CommitsOn, EndsSo, IsGivenUp, KeepsUp, Parts, PublishesOn, Steps, UpdatesOn, Updates, base_at, parts, parts_ended, read_on}
 use Rattle.oak_world.specs.Steps.{Makes, MakesCommit, MakesUpdate, MakesUpkeep, Publishes}
 use Rattle.oak_world.specs.Worlds.{ActorState, WorldOf, node_in, parts_at, reading_of, running_as, running_of, state_of, with_parts, work_in}
 use Rattle.oak_world.proofs.Making.{begins_is, ended_is, makes_last, makes_mark, makes_undo, makes_write, reads_is, runs_is, same_is, sets_is, told_is}
-use Rattle.oak_world.proofs.Stages.{IsMarkStage, last_stage, mark_stage, undo_stage, write_stage}
+use Rattle.oak_step.proofs.Stages.{IsMarkStage, last_stage, mark_stage, undo_stage, write_stage}
 
 -- parts with the same documents, memory and events
 same_parts : (p q : Parts) → p.table ≡ q.table → p.memory ≡ q.memory → p.list ≡ q.list → p ≡ q

@@ -13,10 +13,10 @@ use Rattle.core_world.specs.States.{State, history_in, listed_at}
 use Rattle.core_world.proofs.Flights.{number_itself, other_number, same_number}
 use Rattle.oak_port.specs.declared.task.StepOut.{StepOut}
 use Rattle.oak_port.specs.Ports.{AreOfStep, Makes as Tells, is_by_due}
-use Rattle.oak_world.specs.declared.actor.Work.{Work}
+use Rattle.oak_step.specs.declared.work.Work.{Work}
 use Rattle.oak_world.specs.Kept.{May}
 use Rattle.oak_world.specs.Seen.{shown_work}
-use Rattle.oak_world.specs.Steps.{kind_due}
+use Rattle.oak_step.specs.Works.{kind_due}
 
 -- a step of session s, from one state to the next: the events that it adds, which are of no other session; the state is kept, the session may do what it does then, and it is told so
 pub record IsStepOf (starts : Starts) (says : Says) (s : ℕ) (w : State) (v : Work) (u : State) (x : Work) (o : StepOut) : Type 0 where

@@ -43,14 +43,14 @@ use Rattle.oak_port.specs.declared.task.StepOut.{StepOut}
 use Rattle.oak_port.specs.declared.task.StepOut.TheVariants as answers
 use Rattle.oak_port.specs.declared.task.TaskEnd.TheVariants as ends
 use Rattle.oak_port.specs.Ports.{AreOfStep, Idle, Makes as Tells, Publishing, Work as Shows}
-use Rattle.oak_world.specs.declared.actor.Work.{Work}
-use Rattle.oak_world.specs.declared.actor.Work.TheVariants as work
-use Rattle.oak_world.specs.declared.upkeep.Upkeep.{Upkeep}
-use Rattle.oak_world.specs.declared.upkeep.Upkeep.TheVariants as upkeep
+use Rattle.oak_step.specs.declared.work.Work.{Work}
+use Rattle.oak_step.specs.declared.work.Work.TheVariants as work
+use Rattle.oak_step.specs.declared.upkeep.Upkeep.{Upkeep}
+use Rattle.oak_step.specs.declared.upkeep.Upkeep.TheVariants as upkeep
 use Rattle.oak_world.specs.Kept.{AreBelow, IsOwn, MayKeepUp}
 use Rattle.oak_world.specs.Seen.{shown_upkeep, shown_work}
 use Rattle.oak_world.specs.Steps.{HasCome, MakesUpkeep, Publishes}
-use Rattle.oak_world.specs.Upkeeps.{set_checkpoint, told_ids}
+use Rattle.oak_step.specs.Upkeeps.{set_checkpoint, told_ids}
 use Rattle.oak_world.proofs.Below.{below_parts, told_below}
 use Rattle.oak_world.proofs.Lasting.{local_lasts}
 use Rattle.oak_world.proofs.StepsOf.{IsStepOf, apart_one, flipped, kind_told, with_true}

@@ -1,5 +1,4 @@
 -- What a step of a session keeps, and what the session is told by it.
-use Rattle.core_world.specs.States.{moved_in}
 use Rattle.core_world.proofs.Unsplit.{last_lists, mark_lists, undoing_lists, want_lists, write_lists}
 use Rattle.std.proofs.Common.{◌≡◌, ◌⊎◌, inl, inr, ℕ, Bool, true, false, cond, not, ◌&&◌, Option, Some, None, List, [], ◌∷◌, ◌++◌, map, drop, is_some, refl, sym, ap, subst, ◌∙◌}
 use Rattle.std.specs.Prelude.{◌==◌, slice_get, reverse}
@@ -87,15 +86,16 @@ use Rattle.oak_port.specs.declared.task.Task.TheVariants as task
 use Rattle.oak_port.specs.declared.task.TaskEnd.{TaskEnd}
 use Rattle.oak_port.specs.declared.task.TaskEnd.TheVariants as ends
 use Rattle.oak_port.specs.Ports.{AreOfStep, Awaiting, HoldsBack, Idle, IsFinish, Makes as Tells, Starting, Work as Shows, Writing, is_by_due, is_due, tree_of}
-use Rattle.oak_world.specs.declared.actor.Work.{Work}
-use Rattle.oak_world.specs.declared.actor.Work.TheVariants as work
+use Rattle.oak_step.specs.declared.work.Work.{Work}
+use Rattle.oak_step.specs.declared.work.Work.TheVariants as work
 use Rattle.oak_world.specs.Kept.{IsAtWork, May}
-use Rattle.oak_world.specs.Parts.{EndsSo, committed, end_of_reading, marked, read_on}
+use Rattle.oak_step.specs.Parts.{EndsSo, committed, end_of_reading, marked, read_on}
 use Rattle.oak_world.specs.Seen.{shown_by, shown_work, task_of}
-use Rattle.oak_world.specs.Steps.{HasCome, Makes, MakesCommit, MakesUpdate, kind_due, kind_of}
+use Rattle.oak_step.specs.Works.{kind_due, kind_of}
+use Rattle.oak_world.specs.Steps.{HasCome, Makes, MakesCommit, MakesUpdate}
 use Rattle.oak_world.specs.Worlds.{reading_of, running_as, running_of}
-use Rattle.oak_world.proofs.Feeding.{stage_last, stage_mark, stage_write}
-use Rattle.oak_world.proofs.Stages.{finish_stage}
+use Rattle.oak_step.proofs.Feeding.{stage_last, stage_mark, stage_write}
+use Rattle.oak_step.proofs.Stages.{finish_stage}
 use Rattle.oak_world.proofs.StepsOf.{IsStepOf, apart_one, flipped, kind_told, with_true}
 use Rattle.oak_world.proofs.Upkeeping.{upkeep_step}
 use Rattle.oak_world.proofs.Staying.{come_left, same_roots}

@@ -1,12 +1,8 @@
--- What the journal tells of commits that clash.
-use Rattle.std.specs.Prelude.{◌≡◌, IsFalse, IsTrue}
+-- Commits that ended for want of memory.
+use Rattle.std.specs.Prelude.{IsFalse}
 use Rattle.jr_rev.specs.declared.revision.Revision.{Revision}
 use Rattle.oak_machine.specs.History.{Past}
-use Rattle.oak_machine.specs.Commits.{are_clashing, is_committed, is_drawn, is_in_base, is_refused}
-
--- r clashes with no other draw that its base doesn't see
-abbrev pub MeetsNone : Past → Revision → Type 0
-MeetsNone past r = (o : Revision) → (r ≡ o → ⊥) → IsTrue (is_drawn past o) → IsFalse (is_in_base past r o) → IsFalse (are_clashing past r o)
+use Rattle.oak_machine.specs.Commits.{is_committed, is_refused}
 
 -- r ended, neither committed nor refused: memory was refused to it before its commit point
 pub record Wanted (past : Past) (r : Revision) : Type 0 where

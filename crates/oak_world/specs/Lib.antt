@@ -1,9 +1,7 @@
 pub mod Rooms
-pub mod Upkeeps
-pub mod Parts
 pub mod Worlds
 pub mod Steps
 pub mod Kept
 pub mod Seen
 pub mod Clashes
-pub mod Ending
+pub mod Left

@@ -8,12 +8,12 @@ use Rattle.oak_commit.specs.declared.outcome.CommitEnd.TheVariants as end
 use Rattle.core_watch.specs.Standing.{path_read}
 use Rattle.oak_port.specs.declared.task.Task.{Task}
 use Rattle.oak_port.specs.declared.task.Task.TheVariants as task
-use Rattle.oak_world.specs.declared.upkeep.Upkeep.{Upkeep}
-use Rattle.oak_world.specs.declared.upkeep.Upkeep.TheVariants as upkeep
+use Rattle.oak_step.specs.declared.upkeep.Upkeep.{Upkeep}
+use Rattle.oak_step.specs.declared.upkeep.Upkeep.TheVariants as upkeep
 use Rattle.oak_port.specs.Ports.{Awaiting, Deciding, Idle, Learning, Publishing, Seat, Shown, Starting, Undoing, Work as Shows, Writing}
-use Rattle.oak_world.specs.declared.actor.Work.{Work}
-use Rattle.oak_world.specs.declared.actor.Work.TheVariants as work
-use Rattle.oak_world.specs.Steps.{kind_due}
+use Rattle.oak_step.specs.declared.work.Work.{Work}
+use Rattle.oak_step.specs.declared.work.Work.TheVariants as work
+use Rattle.oak_step.specs.Works.{kind_due}
 use Rattle.oak_world.specs.Worlds.{ActorState, WorldOf, actor_in, live, work_in}
 
 -- the task of a reader: a list where it has a parent, and else a load

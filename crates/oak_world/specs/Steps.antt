@@ -1,7 +1,6 @@
 -- What sessions do, and what a step makes of a world.
-use Rattle.std.specs.Prelude.{◌≡◌, ◌≢◌, ◌⊎◌, ◌≤◌, ◌+◌, ◌-◌, ◌^◌, ℕ, min, List, [], ◌∷◌, ◌++◌, length, slice_get, slice_set, Option, Some, None, is_some, IsTrue, IsFalse, IsSome}
+use Rattle.std.specs.Prelude.{◌≡◌, ◌≢◌, ◌⊎◌, ◌≤◌, ◌+◌, ◌-◌, ◌^◌, ℕ, min, List, [], ◌∷◌, ◌++◌, length, slice_get, slice_set, Option, Some, None, is_some, IsTrue, IsFalse}
 use Rattle.std.specs.Option.{IsSomeAnd}
-use Rattle.std.specs.declared.alloc.Global.{Global}
 use Rattle.jr_path.specs.declared.path.Path.{Path}
 use Rattle.jr_path.specs.declared.path.Item.{Item}
 use Rattle.jr_path.specs.declared.text.Text.{Text}
@@ -14,7 +13,6 @@ use Rattle.oak_commit.specs.Committing.{Committing, begun, refused, wanting, wit
 use Rattle.oak_commit.specs.Kept.{undoes}
 use Rattle.oak_commit.specs.Stages.{stage_of}
 use Rattle.oak_commit.specs.declared.outcome.CommitEnd.TheVariants as end
-use Rattle.oak_commit.specs.declared.stage.Stage.{Stage}
 use Rattle.oak_commit.specs.declared.stage.Stage.TheVariants as stage
 use Rattle.oak_doc.specs.declared.asks.Ask.TheVariants as ask
 use Rattle.oak_machine.specs.declared.event.Event.TheVariants as event
@@ -32,73 +30,22 @@ use Rattle.oak_doc.specs.declared.update.Change.TheVariants as change
 use Rattle.oak_node.specs.Notes.{IsPending}
 use Rattle.oak_node.specs.Heads.{AwaitsEarlier, learned, next_draw}
 use Rattle.oak_node.specs.Pins.{pin_now}
-use Rattle.oak_read.specs.Reading.{children_reader, due, node_reader}
+use Rattle.oak_read.specs.Reading.{due}
 use Rattle.core_world.specs.States.{State, base_in, memory_of, nodes_in}
 use Rattle.core_world.specs.Steps.{after_back, after_checkpoint, after_learn, after_out, after_pending, after_release, after_unfound, after_went, after_draw, after_finish, after_last, after_leave, after_login, after_mark, after_refresh, after_undoing, after_want, after_write, after_write_in_want, with_reader}
 use Rattle.oak_port.specs.declared.task.StepOut.{StepOut}
 use Rattle.oak_port.specs.declared.task.StepOut.TheVariants as answers
-use Rattle.oak_port.specs.declared.task.Task.{Task}
-use Rattle.oak_port.specs.declared.task.Task.TheVariants as task
 use Rattle.oak_port.specs.declared.task.TaskEnd.TheVariants as ends
-use Rattle.oak_world.specs.declared.upkeep.Upkeep.{Upkeep}
-use Rattle.oak_world.specs.declared.upkeep.Upkeep.TheVariants as upkeep
-use Rattle.oak_world.specs.Upkeeps.{kind_kept, set_checkpoint, told_ids}
-use Rattle.oak_world.specs.declared.actor.Work.{Work}
-use Rattle.oak_world.specs.declared.actor.Work.TheVariants as work
-use Rattle.oak_world.specs.Parts.{EndsSo, committed, end_of_reading, marked, read_on}
+use Rattle.oak_step.specs.declared.upkeep.Upkeep.{Upkeep}
+use Rattle.oak_step.specs.declared.upkeep.Upkeep.TheVariants as upkeep
+use Rattle.oak_step.specs.Upkeeps.{set_checkpoint, told_ids}
+use Rattle.oak_step.specs.declared.work.Work.{Work}
+use Rattle.oak_step.specs.declared.work.Work.TheVariants as work
+use Rattle.oak_step.specs.Works.{kind_due}
+use Rattle.oak_step.specs.Parts.{EndsSo, committed, end_of_reading, marked, read_on}
 use Rattle.oak_world.specs.Worlds.{WorldOf, actor_in, running_as, state_of, work_in}
 
--- ---- what a session does
-
--- what a session does that is told to do a task, at its pin
-abbrev pub Begins : Option Pin → Task → Work → Type 0
-Begins pin task.Login v = v ≡ work.Login
-Begins pin task.End v = v ≡ work.End
-Begins pin task.Refresh v = v ≡ work.Refresh
-Begins pin (task.Load p) v = (a : Global) × (at : Pin) × (pin ≡ Some at) × (v ≡ work.Read (node_reader a at p))
-Begins pin (task.List p) v = (a : Global) × (at : Pin) × (pin ≡ Some at) × (v ≡ work.Read (children_reader a at p))
-Begins pin (task.Commit edit marks) v = v ≡ work.Plan edit marks
-Begins pin task.BackWrite v = v ≡ work.Upkeep upkeep.Write
-Begins pin task.BackRead v = v ≡ work.Upkeep upkeep.Read
-Begins pin (task.Checkpoint i) v = v ≡ work.Upkeep (upkeep.Checkpoint i)
-Begins pin (task.Release i) v = v ≡ work.Upkeep (upkeep.Release i)
-Begins pin _ v = ⊥
-
--- a session may be told to do a task: a world does the task, and it reads where it has a pin
-abbrev pub CanBegin : Option Pin → Task → Type 0
-CanBegin pin (task.Load p) = IsSome pin
-CanBegin pin (task.List p) = IsSome pin
-CanBegin pin (task.Split p) = ⊥
-CanBegin pin task.Sweep = ⊥
-CanBegin pin task.Collect = ⊥
-CanBegin pin (task.Attach i) = ⊥
-CanBegin pin task.Detach = ⊥
-CanBegin pin task.Observe = ⊥
-CanBegin pin (task.Changes since) = ⊥
-CanBegin pin (task.Stop k) = ⊥
-CanBegin pin (task.Recover k) = ⊥
-CanBegin pin _ = Unit {0}
-
--- the kind of the next step
-abbrev pub kind_of : Stage → Option StepKind
-kind_of stage.Mark = Some kind.Mark
-kind_of stage.Write = Some kind.Write
-kind_of stage.Look = Some kind.Read
-kind_of stage.Last = Some kind.Last
-kind_of stage.Undo = Some kind.Undo
-kind_of stage.Finish = Some kind.Finish
-kind_of stage.Done = None
-
-abbrev pub kind_due : Work → Option StepKind
-kind_due work.Rest = None
-kind_due work.Login = Some kind.Login
-kind_due work.End = Some kind.End
-kind_due work.Refresh = Some kind.Pin
-kind_due (work.Read r) = Some kind.Read
-kind_due (work.Plan edit marks) = Some kind.Draw
-kind_due (work.Commit c) = kind_of (stage_of c)
-kind_due (work.Move r) = Some kind.Pin
-kind_due (work.Upkeep u) = Some (kind_kept u)
+-- ---- who may be told what
 
 -- the session has come, and not left
 pub record HasCome (h : History) (s : ℕ) : Type 0 where

@@ -17,9 +17,9 @@ use Rattle.core_clash.specs.Sessions.{Running}
 use Rattle.core_world.specs.Start.{start_table}
 use Rattle.core_world.specs.States.{State, memory_at, with_memory}
 use Rattle.oak_world.specs.declared.actor.Actor.{Actor}
-use Rattle.oak_world.specs.declared.actor.Work.{Work}
-use Rattle.oak_world.specs.declared.actor.Work.TheVariants as work
-use Rattle.oak_world.specs.Parts.{Parts, parts}
+use Rattle.oak_step.specs.declared.work.Work.{Work}
+use Rattle.oak_step.specs.declared.work.Work.TheVariants as work
+use Rattle.oak_step.specs.Parts.{Parts, parts}
 
 -- ---- a world
 

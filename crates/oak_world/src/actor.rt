@@ -1,111 +1,23 @@
-// A session's seat in the world: what it does, and what is kept for its reply.
-ghost use Rattle.std.specs.Prelude.{◌≡◌, ◌≤◌, ◌+◌, ◌∷◌, ◌++◌, [], IfOk, None, OnErr, OnOk, Some, length};
+// A session's seat in the world: what it does, what is kept for its reply, and its steps.
+ghost use Rattle.std.specs.Prelude.{◌≡◌, ◌≤◌, ◌+◌, ◌∷◌, ◌++◌, [], IfOk, None, OnErr, OnOk, Some, cond, length};
 ghost use Rattle.std.specs.Option.{IsSomeAnd};
 ghost use Rattle.oak_machine.specs.declared.event.Event.TheVariants as event;
-ghost use Rattle.oak_world.specs.declared.actor.Work.TheVariants as work;
+ghost use Rattle.oak_read.specs.Reading.{IsTable};
+ghost use Rattle.oak_step.specs.Parts.{CanStep, HasRoot, Steps, parts};
+ghost use Rattle.oak_step.specs.declared.work.Work.TheVariants as work;
 ghost use Rattle.oak_world.specs.Kept.{IsPlaced};
-ghost use Rattle.oak_world.specs.Steps.{Begins, CanBegin, kind_due, kind_of};
+ghost use Rattle.oak_world.specs.Steps.{reads_after, reads_of_load};
 ghost use Rattle.oak_world.specs.Worlds.{shown_actor};
 
-use crate::upkeep::Upkeep;
-use jr_path::{List, Text};
-use jr_rev::{Pin, Revision};
-use jr_tree::Edit;
-use oak_clash::MarkAt;
-use oak_commit::{Committer, Stage};
-use oak_machine::{Event, Events, StepKind};
-use oak_port::Task;
-use oak_read::Reader;
+use jr_path::Text;
+use oak_machine::{Event, Events};
+use oak_node::NodeMem;
+use oak_port::StepOut;
+use oak_step::{Work, step_work};
+use oak_store::DocTable;
 use std::alloc::{AllocError, Global};
 use std::marker::Model;
-
-// What a session does.
-#[derive(Drop)]
-pub(crate) enum Work {
-    // Nothing.
-    Rest,
-    Login,
-    End,
-    Refresh,
-    // A load, or a list.
-    Read(Reader),
-    // A commit that hasn't drawn its revision.
-    Plan(Edit, List<MarkAt>),
-    // A commit from its draw to its end.
-    Commit(Committer),
-    // An accepted commit that has ended: the base moves as soon as the head sees its revision.
-    Move(Revision),
-    // Background work, or a change of the settings.
-    Upkeep(Upkeep),
-}
-
-impl Work {
-    // What a session does that is told to do a task, at its pin.
-    pub(crate) fn of(alloc: Global, pin: Option<Pin>, task: Task) -> Result<Work, AllocError>
-        requires { CanBegin pin task }
-        ensures { IfOk result (Begins pin task) }
-    {
-        match task {
-            Task::Login => Ok(Work::Login),
-            Task::End => Ok(Work::End),
-            Task::Refresh => Ok(Work::Refresh),
-            Task::Load(path) => match pin {
-                Some(pin) => Ok(Work::Read(Reader::node(alloc, &path, &pin)?)),
-                None => unreachable!(),
-            },
-            Task::List(path) => match pin {
-                Some(pin) => Ok(Work::Read(Reader::children(alloc, &path, &pin)?)),
-                None => unreachable!(),
-            },
-            Task::Commit(edit, marks) => Ok(Work::Plan(edit, marks)),
-            Task::BackWrite => Ok(Work::Upkeep(Upkeep::Write)),
-            Task::BackRead => Ok(Work::Upkeep(Upkeep::Read)),
-            Task::Checkpoint(name) => Ok(Work::Upkeep(Upkeep::Checkpoint(name))),
-            Task::Release(name) => Ok(Work::Upkeep(Upkeep::Release(name))),
-            // No world does these yet.
-            Task::Split(_)
-            | Task::Sweep
-            | Task::Collect
-            | Task::Attach(_)
-            | Task::Detach
-            | Task::Observe
-            | Task::Changes(_)
-            | Task::Stop(_)
-            | Task::Recover(_) => unreachable!(),
-        }
-    }
-
-    // The kind of the next step, if there is one.
-    pub(crate) fn due(&self) -> Option<StepKind>
-        ensures { result ≡ kind_due self.now }
-    {
-        match self {
-            Work::Rest => None,
-            Work::Login => Some(StepKind::Login),
-            Work::End => Some(StepKind::End),
-            Work::Refresh | Work::Move(_) => Some(StepKind::Pin),
-            Work::Read(_) => Some(StepKind::Read),
-            Work::Plan(_, _) => Some(StepKind::Draw),
-            Work::Commit(committer) => kind_of(committer.stage()),
-            Work::Upkeep(upkeep) => Some(upkeep.due()),
-        }
-    }
-}
-
-// The kind of the step of a committer.
-fn kind_of(stage: Stage) -> Option<StepKind>
-    ensures { result ≡ kind_of stage }
-{
-    match stage {
-        Stage::Mark => Some(StepKind::Mark),
-        Stage::Write => Some(StepKind::Write),
-        Stage::Look => Some(StepKind::Read),
-        Stage::Last => Some(StepKind::Last),
-        Stage::Undo => Some(StepKind::Undo),
-        Stage::Finish => Some(StepKind::Finish),
-        Stage::Done => None,
-    }
-}
+use std::mem;
 
 // A session, with what is kept for it.
 #[derive(Drop)]
@@ -168,6 +80,93 @@ impl Actor {
             events.push_kept(Event::Said(s, index, room.fill(text)));
             self.places -= 1;
         }
+    }
+}
+
+// One step of a session: it keeps its places of the journal, and no others.
+pub(crate) fn step_actor(
+    alloc: Global,
+    table: &mut DocTable,
+    memory: &mut NodeMem,
+    events: &mut Events,
+    node: u32,
+    s: u32,
+    actor: &mut Actor,
+) -> StepOut
+    requires can { CanStep s memory.old events.old.places actor.old.work }
+    requires table { IsTable table.old.documents }
+    requires root { HasRoot table.old }
+    requires placed { IsPlaced actor.old }
+    requires places { actor.old.places ≤ events.old.places }
+    ensures made { Steps s node (parts table.old memory.old events.old.list) actor.old.work (parts table.new memory.new events.new.list) actor.new.work result }
+    ensures began { actor.new.began ≡ actor.old.began }
+    ensures reply { actor.new.reply ≡ actor.old.reply }
+    ensures reads { actor.new.reads ≡ reads_after actor.old.work result actor.old.reads }
+    ensures order { IsTable table.new.documents }
+    ensures placed { IsPlaced actor.new }
+    ensures places { events.new.places + actor.old.places ≡ events.old.places + actor.new.places }
+{
+    let others = events.places() - actor.places;
+    let reads = actor.reads;
+    let reading = is_read(&actor.work);
+    let work = mem::replace(&mut actor.work, Work::Rest);
+    let (work, out) = step_work(alloc, table, memory, events, node, s, work);
+    actor.reads = reads_after(reading, &out, reads);
+    actor.work = work;
+    actor.places = events.places() - others;
+    settle(events, actor);
+    out
+}
+
+// Whether it is a load or a list.
+fn is_read(work: &Work) -> bool
+    ensures { (out : _) (reads : _) → reads_after work.now out reads ≡ cond result (reads_of_load out reads) reads }
+{
+    match work {
+        Work::Read(_) => true,
+        Work::Rest
+        | Work::Login
+        | Work::End
+        | Work::Refresh
+        | Work::Plan(_, _)
+        | Work::Commit(_)
+        | Work::Move(_)
+        | Work::Upkeep(_) => false,
+    }
+}
+
+// How many documents a session's loads have read after a step.
+fn reads_after(reading: bool, out: &StepOut, reads: u64) -> u64
+    ensures { result ≡ cond reading (reads_of_load out.now reads) reads }
+{
+    match out {
+        StepOut::Memory => reads,
+        _ => {
+            if reading {
+                reads.saturating_add(1)
+            } else {
+                reads
+            }
+        }
+    }
+}
+
+// Gives back the places that a session at rest has no use for.
+fn settle(events: &mut Events, actor: &mut Actor)
+    requires placed { IsPlaced actor.old }
+    requires places { actor.old.places ≤ events.old.places }
+    ensures list { events.new.list ≡ events.old.list }
+    ensures work { actor.new.work ≡ actor.old.work }
+    ensures began { actor.new.began ≡ actor.old.began }
+    ensures reply { actor.new.reply ≡ actor.old.reply }
+    ensures reads { actor.new.reads ≡ actor.old.reads }
+    ensures placed { IsPlaced actor.new }
+    ensures places { events.new.places + actor.old.places ≡ events.old.places + actor.new.places }
+{
+    if let Work::Rest = actor.work {
+        let used = if actor.reply.is_some() { 1 } else { 0 };
+        events.give_back(actor.places - used);
+        actor.places = used;
     }
 }
 

@@ -3,14 +3,8 @@
 #![tactic(auto)]
 
 mod actor;
-mod commit;
-mod load;
 mod port;
-mod session;
 mod start;
-mod step;
-mod store;
-mod upkeep;
 mod world;
 
 pub use port::SoloPort;

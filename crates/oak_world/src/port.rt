@@ -1,6 +1,6 @@
 // A world as one session sees it.
 ghost use Rattle.std.specs.Prelude.{◌≡◌, IsTrue, is_some, slice_get};
-ghost use Rattle.oak_world.specs.Ending.{TaskEndsIn};
+ghost use Rattle.oak_world.specs.Left.{left_in};
 ghost use Rattle.oak_world.specs.Seen.{shown_at};
 
 use crate::World;
@@ -36,7 +36,7 @@ impl<'a, L: Law + Drop> Port for SoloPort<'a, L> {
 
     ghost shown = { λ p. shown_at p.world.ghost_name p.world.now p.actor };
 
-    ghost lasts = { λ p n. TaskEndsIn n p.world.now p.actor };
+    ghost left = { λ p. left_in p.world.now p.actor };
 
     fn start(&mut self, task: Task) -> Result<(), AllocError> {
         self.world.is_kept();

@@ -1,5 +1,5 @@
 // A world under a law.
-ghost use Rattle.std.specs.Prelude.{IfOk, IsFalse, IsSome, IsTrue, None, OnErr, OnOk, Some, is_some, length, map, slice_get, ◌-◌, ◌<◌, ◌^◌, ◌↔◌, ◌≡◌, ◌≢◌, ◌≤◌, ◌⊎◌, ℕ, suc};
+ghost use Rattle.std.specs.Prelude.{IfOk, IsFalse, IsSome, IsTrue, None, OnErr, OnOk, Some, is_some, length, map, slice_get, ◌-◌, ◌<◌, ◌^◌, ◌↔◌, ◌≡◌, ◌≢◌, ◌≤◌, ◌⊎◌};
 ghost use Rattle.std.specs.Borrow.{GName};
 ghost use Rattle.std.specs.List.{range_with_len};
 ghost use Rattle.std.specs.Option.{option_map};
@@ -20,33 +20,36 @@ ghost use Rattle.oak_read.specs.Meaning.{documents_in, found_node};
 ghost use Rattle.core_clash.specs.Sound.{Cause};
 ghost use Rattle.core_world.specs.Kept.{IsFreeOf, IsKept};
 ghost use Rattle.core_world.specs.States.{memory_of, nodes_in};
-ghost use Rattle.oak_world.specs.declared.actor.Work.{Work};
-ghost use Rattle.oak_world.specs.declared.actor.Work.TheVariants as work;
-ghost use Rattle.oak_world.specs.Clashes.{MeetsNone, Wanted};
-ghost use Rattle.oak_world.specs.Ending.{TaskEndsIn};
+ghost use Rattle.core_clash.specs.Unclashing.{IsUnclashing};
+ghost use Rattle.oak_step.specs.declared.work.Work.{Work};
+ghost use Rattle.oak_step.specs.declared.work.Work.TheVariants as work;
+ghost use Rattle.oak_world.specs.Clashes.{Wanted};
+ghost use Rattle.oak_world.specs.Left.{left_in};
 ghost use Rattle.oak_world.specs.Seen.{shown_at};
-ghost use Rattle.oak_world.specs.Steps.{Begins, HasPlace, IsIdle, Plays, StepsIn, Turns, kind_due};
+ghost use Rattle.oak_step.specs.Works.{Begins, kind_due};
+ghost use Rattle.oak_world.specs.Steps.{HasPlace, IsIdle, Plays, StepsIn, Turns};
 ghost use Rattle.oak_world.specs.Worlds.{actor_in, live, said_in, start_world, state_of, with_reply, with_work, work_in};
 
-use crate::actor::{Actor, Room, Work};
+use crate::actor::{Actor, Room, step_actor};
 use crate::start::start_documents;
-use crate::step::step_actor;
 use jr_path::List;
 use jr_rev::{Pin, RevVec};
 use oak_machine::{Event, Events, Journal, Law, StepKind};
 use oak_node::NodeMem;
 use oak_port::{StepOut, Task};
+use oak_step::Work;
 use oak_store::DocTable;
 use std::alloc::{AllocError, Global};
 use std::marker::Model;
+use std::snapshot::Snapshot;
 
-/// The law, the journal, the documents, the memories of one to eight cluster nodes, and what each session does. Its steps are
-/// those of Oak's DocumentNodeStore (Oak, DocumentNodeStore): one operation on one document or on one node's memory, in any order of
-/// the sessions.
+/// The law, which clauses alone read and which takes no memory; the journal, the documents, the memories of one to eight cluster nodes,
+/// and what each session does. Its steps are those of Oak's DocumentNodeStore (Oak, DocumentNodeStore): one operation on one document or
+/// on one node's memory, in any order of the sessions.
 #[derive(Drop)]
 pub struct World<L: Law> {
     alloc: Global,
-    law: L,
+    law: Snapshot<L>,
     journal: Journal,
     table: DocTable,
     memories: Vec<NodeMem>,
@@ -60,9 +63,9 @@ impl<L: Law> Model for World<L> {
 
     ghost Value = { WorldOf L };
 
-    ghost view = { λ w. shown_world w.law w.journal w.table w.memories.items w.actors.items };
+    ghost view = { λ w. shown_world w.law.value w.journal w.table w.memories.items w.actors.items };
 
-    ghost invariant = { λ w. (IsWorld (L.may_start w.law) (L.may_say w.law) (shown_world w.law w.journal w.table w.memories.items w.actors.items) × ArePlaced w.actors.items w.journal.events.places) × (w.journal.start ≡ None) };
+    ghost invariant = { λ w. (IsWorld (L.may_start w.law.value) (L.may_say w.law.value) (shown_world w.law.value w.journal w.table w.memories.items w.actors.items) × ArePlaced w.actors.items w.journal.events.places) × (w.journal.start ≡ None) };
 }
 
 impl<L: Law + Drop> World<L> {
@@ -70,14 +73,14 @@ impl<L: Law + Drop> World<L> {
     /// in the list. The store has four documents: `/`, `/jcr:system`, `/jcr:system/jcr:versionStorage` and the settings.
     pub fn new(
         alloc: Global,
-        law: L,
+        law: &L,
         clusters: u32,
         sessions: &[u32],
     ) -> Result<World<L>, AllocError>
         requires clusters { 1 ≤ clusters × clusters ≤ 8 }
         requires sessions { length sessions.now ≤ 64 }
         requires nodes { AreNodes clusters sessions.now }
-        ensures { IfOk result (λ world. world ≡ start_world law clusters sessions.now) }
+        ensures { IfOk result (λ world. world ≡ start_world law.now clusters sessions.now) }
     {
         let mut numbers = List::new(alloc);
         let mut actors = Vec::new(alloc);
@@ -97,19 +100,12 @@ impl<L: Law + Drop> World<L> {
         };
         Ok(World {
             alloc,
-            law,
+            law: Snapshot::of(law),
             journal,
             table,
             memories,
             actors,
         })
-    }
-
-    /// The law.
-    pub fn law(&self) -> &L
-        ensures { result.now ≡ self.now.law }
-    {
-        &self.law
     }
 
     /// The events so far: a run of the machine by the law. Each of its sessions has a seat. Of two commits that are made and
@@ -121,7 +117,7 @@ impl<L: Law + Drop> World<L> {
         ensures seats { length self.now.actors ≡ length self.now.history.sessions }
         ensures apart { (r o : Revision) → (r ≡ o → ⊥) → IsTrue (is_committed self.now.history.past r) → IsTrue (is_committed self.now.history.past o) → IsTrue (are_clashing self.now.history.past r o) → IsTrue (is_in_base self.now.history.past r o) ⊎ IsTrue (is_in_base self.now.history.past o r) }
         ensures causes { (r : Revision) (item : Item) (o : Revision) → refusal_of self.now.history.past r ≡ Some (item, o) → Cause self.now.history.past r item o }
-        ensures through { (r : Revision) → IsTrue (is_ended self.now.history.past r) → MeetsNone self.now.history.past r → IsTrue (is_committed self.now.history.past r) ⊎ Wanted self.now.history.past r }
+        ensures through { (r : Revision) → IsTrue (is_ended self.now.history.past r) → IsUnclashing self.now.history.past r → IsTrue (is_committed self.now.history.past r) ⊎ Wanted self.now.history.past r }
     {
         &self.journal
     }
@@ -132,7 +128,7 @@ impl<L: Law + Drop> World<L> {
         ensures seats { length self.now.actors ≡ length self.now.history.sessions }
         ensures apart { (r o : Revision) → (r ≡ o → ⊥) → IsTrue (is_committed self.now.history.past r) → IsTrue (is_committed self.now.history.past o) → IsTrue (are_clashing self.now.history.past r o) → IsTrue (is_in_base self.now.history.past r o) ⊎ IsTrue (is_in_base self.now.history.past o r) }
         ensures causes { (r : Revision) (item : Item) (o : Revision) → refusal_of self.now.history.past r ≡ Some (item, o) → Cause self.now.history.past r item o }
-        ensures through { (r : Revision) → IsTrue (is_ended self.now.history.past r) → MeetsNone self.now.history.past r → IsTrue (is_committed self.now.history.past r) ⊎ Wanted self.now.history.past r }
+        ensures through { (r : Revision) → IsTrue (is_ended self.now.history.past r) → IsUnclashing self.now.history.past r → IsTrue (is_committed self.now.history.past r) ⊎ Wanted self.now.history.past r }
     {
         let _ = &self.journal;
     }
@@ -181,14 +177,13 @@ impl<L: Law + Drop> World<L> {
     }
 
     /// One step of a session that has a task. A port tells of it what the second clause says, whatever the reference that leads to the world.
-    /// It lowers the number of steps in which the task ends, or the session waits.
+    /// It lowers the number of steps that are left of the task, or the session waits.
     pub fn step(&mut self, actor: u32) -> StepOut
         requires there { IsTrue (is_some (slice_get self.old.history.sessions actor)) }
         requires busy { work_in self.old.actors actor ≢ work.Rest }
         ensures made { StepsIn self.old actor self.new result }
         ensures seen { (name : GName) → Steps (L.may_start self.old.law) (L.may_say self.old.law) (shown_at name self.old actor) (shown_at name self.new actor) result }
-        ensures lowers { (n : ℕ) → TaskEndsIn (suc n) self.old actor
-            → IsWait result ⊎ TaskEndsIn n self.new actor }
+        ensures lowers { IsWait result ⊎ (left_in self.new actor < left_in self.old actor) }
     {
         let node = self.node(actor);
         are_few(self.journal.events.as_slice());
@@ -205,13 +200,12 @@ impl<L: Law + Drop> World<L> {
         )
     }
 
-    /// The kind of the session's next step; None where it has no task. It takes no memory. There is a number of steps in which
-    /// the task ends where the session alone takes steps, unless it waits.
+    /// The kind of the session's next step; None where it has no task. It takes no memory. Where no step is left it has none.
     pub fn due(&self, actor: u32) -> Option<StepKind>
         requires { IsTrue (is_some (slice_get self.now.history.sessions actor)) }
         ensures due { result ≡ kind_due (work_in self.now.actors actor) }
         ensures busy { IsSome result ↔ (work_in self.now.actors actor ≢ work.Rest) }
-        ensures ends { (n : ℕ) × TaskEndsIn n self.now actor }
+        ensures over { left_in self.now actor ≡ 0 → work_in self.now.actors actor ≡ work.Rest }
     {
         let seat = &self.actors[actor as usize];
         seat.work.due()

@@ -6,34 +6,38 @@ use jcr_law::JcrLaw;
 use jr_script::Script;
 use jr_work::run_steps;
 use oak_world::World;
+use rows::{Out, cut, number};
 use std::alloc::{AllocError, Global};
 
 // MOST SCRIPT: `y` where session 1 reads no more documents than that, else how many.
-pub(crate) fn add_loads(alloc: Global, rest: &str, out: &mut String) -> Result<(), AllocError> {
-    let (most, text) = rest.split_once(' ').unwrap_or((rest, ""));
-    match reads_in(alloc, text)? {
-        Some(reads) => add_within(alloc, reads, most.parse().unwrap_or(0), out),
-        None => Ok(()),
+pub(crate) fn add_loads(rest: &str, out: &mut Out) {
+    let (most, text) = cut(rest);
+    match reads_in(out.alloc, text) {
+        Ok(Some(reads)) => put_within(reads, number(most), out),
+        Ok(None) => {}
+        Err(_) => out.is_broken = true,
     }
 }
 
-fn add_within(alloc: Global, reads: u64, most: u64, out: &mut String) -> Result<(), AllocError> {
+fn put_within(reads: u64, most: u64, out: &mut Out) {
     if reads <= most {
-        out.push('y')
+        out.put("y");
     } else {
-        out.push_str(reads.to_string(alloc)?.as_str())
+        out.put_number(reads);
     }
 }
 
 // SCRIPT, a tab, SCRIPT: `y` where session 1 reads as many documents in either.
-pub(crate) fn add_same(alloc: Global, rest: &str, out: &mut String) -> Result<(), AllocError> {
+pub(crate) fn add_same(rest: &str, out: &mut Out) {
     let (one, other) = rest.split_once('\t').unwrap_or((rest, ""));
-    let one = reads_in(alloc, one)?;
-    let other = reads_in(alloc, other)?;
-    out.push(if one == other { 'y' } else { 'n' })
+    match (reads_in(out.alloc, one), reads_in(out.alloc, other)) {
+        (Ok(one), Ok(other)) => out.put(if one == other { "y" } else { "n" }),
+        _ => out.is_broken = true,
+    }
 }
 
-// How many documents session 1 of a script reads; none where there is no such session, or no script.
+// How many documents session 1 of a script reads; none where there is no such session, or no
+// script.
 fn reads_in(alloc: Global, text: &str) -> Result<Option<u64>, AllocError> {
     match script(alloc, text) {
         Ok(script) => reads_by(alloc, script),

@@ -1,81 +1,60 @@
 // Journals by the plain calls of the machine.
-use jcr_law::JcrLaw;
+use crate::scripts::{before_all, push_copy};
 use jr_path::DeepCopy;
 use jr_rev::{RevVec, Revision};
-use oak_machine::{Event, Events, Journal, StepKind};
+use oak_machine::{Event, Journal, StepKind};
 use oak_past::{follows, local_head, tree_at};
-use oak_world::World;
-use std::alloc::{AllocError, Global};
+use rows::Out;
 
-// Of each event of a copy of the journal, whether it may follow what is before it, with the head there, and whether it may follow once
-// more; and how many nodes there are at a login and at a head.
-pub(crate) fn add_past(
-    alloc: Global,
-    world: &World<JcrLaw>,
-    out: &mut String,
-) -> Result<(), AllocError> {
-    add_events(alloc, &world.journal().copy()?, out)
+// Of each event of a copy of the journal, whether it may follow what is before it, with the head
+// there, and whether it may follow once more; and how many nodes there are at a login and at a
+// head.
+pub(crate) fn add_past(journal: &Journal, out: &mut Out) {
+    match (journal.copy(), before_all(out.alloc, journal)) {
+        (Ok(journal), Ok(before)) => add_events(&journal, before, out),
+        _ => out.is_broken = true,
+    }
 }
 
-fn add_events(alloc: Global, journal: &Journal, out: &mut String) -> Result<(), AllocError> {
-    let mut before = Journal {
-        clusters: journal.clusters,
-        sessions: journal.sessions.copy()?,
-        events: Events::new(alloc),
-        start: None,
-    };
+fn add_events(journal: &Journal, before: Journal, out: &mut Out) {
+    let mut before = before;
     for event in journal.events.as_slice() {
-        add_follows(alloc, &before, event, out)?;
-        before.events.push(event.copy()?)?;
-        add_after(alloc, &before, event, out)?;
+        add_follows(&before, event, out);
+        let pushed = push_copy(&mut before, event);
+        out.note(pushed);
+        add_after(&before, event, out);
     }
-    Ok(())
 }
 
-fn add_follows(
-    alloc: Global,
-    before: &Journal,
-    event: &Event,
-    out: &mut String,
-) -> Result<(), AllocError> {
-    out.push(if follows(before, event) { 'y' } else { 'n' })?;
+fn add_follows(before: &Journal, event: &Event, out: &mut Out) {
+    add_may(before, event, out);
     match local_head(before, 1) {
-        Some(r) => out.push_str(r.time.to_string(alloc)?.as_str()),
-        None => out.push('-'),
+        Some(r) => out.put_number(r.time),
+        None => out.put("-"),
     }
 }
 
-fn add_after(
-    alloc: Global,
-    after: &Journal,
-    event: &Event,
-    out: &mut String,
-) -> Result<(), AllocError> {
+fn add_after(after: &Journal, event: &Event, out: &mut Out) {
     if is_once(event) {
-        out.push(if follows(after, event) { 'y' } else { 'n' })?;
+        add_may(after, event, out);
     }
     match event {
-        Event::Login(_, v) => add_nodes(alloc, after, v, out)?,
-        Event::Head(_, v) => add_head(alloc, after, v, out)?,
+        Event::Login(_, v) => add_nodes(after, v, out),
+        Event::Head(_, v) => add_head(after, v, out),
         _ => {}
     }
-    out.push(' ')
+    out.put(" ");
 }
 
-// How many nodes there are at a head, and whether a bound may follow there, or a later one, or a head that goes back, or one of a
-// cluster node that isn't there.
-fn add_head(
-    alloc: Global,
-    after: &Journal,
-    v: &RevVec,
-    out: &mut String,
-) -> Result<(), AllocError> {
-    add_nodes(alloc, after, v, out)?;
+// How many nodes there are at a head, and whether a bound may follow there, or a later one, or a
+// head that goes back, or one of a cluster node that isn't there.
+fn add_head(after: &Journal, v: &RevVec, out: &mut Out) {
+    add_nodes(after, v, out);
     let start = RevVec::start(1);
-    add_may(after, Event::Bound(*v, start), out)?;
-    add_may(after, Event::Bound(later(v), start), out)?;
-    add_may(after, Event::Head(1, start), out)?;
-    add_may(after, Event::Head(2, *v), out)
+    add_may(after, &Event::Bound(*v, start), out);
+    add_may(after, &Event::Bound(later(v), start), out);
+    add_may(after, &Event::Head(1, start), out);
+    add_may(after, &Event::Head(2, *v), out);
 }
 
 fn later(v: &RevVec) -> RevVec {
@@ -88,8 +67,8 @@ fn later(v: &RevVec) -> RevVec {
     later
 }
 
-fn add_may(after: &Journal, event: Event, out: &mut String) -> Result<(), AllocError> {
-    out.push(if follows(after, &event) { 'y' } else { 'n' })
+fn add_may(after: &Journal, event: &Event, out: &mut Out) {
+    out.put(if follows(after, event) { "y" } else { "n" });
 }
 
 fn is_once(event: &Event) -> bool {
@@ -99,46 +78,32 @@ fn is_once(event: &Event) -> bool {
     )
 }
 
-fn add_nodes(
-    alloc: Global,
-    journal: &Journal,
-    v: &RevVec,
-    out: &mut String,
-) -> Result<(), AllocError> {
-    let tree = tree_at(journal, v)?;
-    out.push('/')?;
-    out.push_str(tree.len().to_string(alloc)?.as_str())
+fn add_nodes(journal: &Journal, v: &RevVec, out: &mut Out) {
+    match tree_at(journal, v) {
+        Ok(tree) => out.put_numbered("/", tree.len() as u64),
+        Err(_) => out.is_broken = true,
+    }
 }
 
 // The events in their order, each with its session.
-pub(crate) fn add_order(
-    alloc: Global,
-    world: &World<JcrLaw>,
-    out: &mut String,
-) -> Result<(), AllocError> {
-    for event in world.journal().events.as_slice() {
-        add_event(alloc, event, out)?;
-        out.push(' ')?;
+pub(crate) fn add_order(journal: &Journal, out: &mut Out) {
+    for event in journal.events.as_slice() {
+        add_event(event, out);
+        out.put(" ");
     }
-    Ok(())
 }
 
-fn add_event(alloc: Global, event: &Event, out: &mut String) -> Result<(), AllocError> {
+fn add_event(event: &Event, out: &mut Out) {
     match event {
-        Event::Login(s, _) => add_of(alloc, "Login", *s, out),
-        Event::Draw(d) => add_of(alloc, "Draw", d.session, out),
-        Event::Went(s, StepKind::Write) => add_of(alloc, "Write", *s, out),
-        Event::Went(s, StepKind::End) => add_of(alloc, "Left", *s, out),
-        Event::Commit(_) => out.push_str("Commit"),
-        Event::End(_) => out.push_str("End"),
-        Event::Head(..) => out.push_str("Head"),
-        Event::Refresh(s, _) => add_of(alloc, "Refresh", *s, out),
-        Event::Said(s, _, _) => add_of(alloc, "Said", *s, out),
-        _ => out.push_str("another"),
+        Event::Login(s, _) => out.put_numbered("Login", u64::from(*s)),
+        Event::Draw(d) => out.put_numbered("Draw", u64::from(d.session)),
+        Event::Went(s, StepKind::Write) => out.put_numbered("Write", u64::from(*s)),
+        Event::Went(s, StepKind::End) => out.put_numbered("Left", u64::from(*s)),
+        Event::Commit(_) => out.put("Commit"),
+        Event::End(_) => out.put("End"),
+        Event::Head(..) => out.put("Head"),
+        Event::Refresh(s, _) => out.put_numbered("Refresh", u64::from(*s)),
+        Event::Said(s, _, _) => out.put_numbered("Said", u64::from(*s)),
+        _ => out.put("another"),
     }
-}
-
-fn add_of(alloc: Global, word: &str, session: u32, out: &mut String) -> Result<(), AllocError> {
-    out.push_str(word)?;
-    out.push_str(session.to_string(alloc)?.as_str())
 }

@@ -3,12 +3,8 @@ use jcr_law::JcrLaw;
 use jr_io::{MemSink, MemSource};
 use oak_world::World;
 use repo_top::{Given, Row, Takes, Verb, WordOption, option_given, row_meant, steps_main};
+use rows::{Out, cut};
 use std::alloc::{AllocError, Global};
-
-// What follows a text up to its first space, and the text behind it.
-fn cut(text: &str) -> (&str, &str) {
-    text.split_once(' ').unwrap_or((text, ""))
-}
 
 // The words of a text, between its spaces.
 fn words_of(alloc: Global, text: &str) -> Result<Vec<String>, AllocError> {
@@ -30,21 +26,24 @@ fn fails(alloc: Global, text: &str) -> Result<Vec<u64>, AllocError> {
 }
 
 // WORD READ WRITE INPUT: the status, whether a world is left, and what is written.
-pub(crate) fn add_status(alloc: Global, rest: &str, out: &mut String) -> Result<(), AllocError> {
+pub(crate) fn add_status(rest: &str, out: &mut Out) {
     let (words, input) = cut_words(rest);
-    add_call(alloc, words, input.as_bytes(), out)
+    add_call(words, input.as_bytes(), out);
 }
 
-// WORD READ WRITE BYTES: the same of an input whose bytes are these, each by two hexadecimal digits, with spaces between them.
-pub(crate) fn add_octets(alloc: Global, rest: &str, out: &mut String) -> Result<(), AllocError> {
+// WORD READ WRITE BYTES: the same of an input whose bytes are these, each by two hexadecimal
+// digits, with spaces between them.
+pub(crate) fn add_octets(rest: &str, out: &mut Out) {
     let (words, input) = cut_words(rest);
-    let bytes = bytes_of(alloc, input)?;
-    add_call(alloc, words, bytes.as_slice(), out)
+    match bytes_of(out.alloc, input) {
+        Ok(bytes) => add_call(words, bytes.as_slice(), out),
+        Err(_) => out.is_broken = true,
+    }
 }
 
 // WORDS: the same of words that read nothing; a read would fail.
-pub(crate) fn add_unread(alloc: Global, words: &str, out: &mut String) -> Result<(), AllocError> {
-    add_call(alloc, (words, "0", "-"), &[], out)
+pub(crate) fn add_unread(words: &str, out: &mut Out) {
+    add_call((words, "0", "-"), &[], out);
 }
 
 // The first three words of a text, and the text behind them.
@@ -63,19 +62,15 @@ fn bytes_of(alloc: Global, text: &str) -> Result<Vec<u8>, AllocError> {
     Ok(bytes)
 }
 
-fn add_call(
-    alloc: Global,
-    words: (&str, &str, &str),
-    input: &[u8],
-    out: &mut String,
-) -> Result<(), AllocError> {
+fn add_call(words: (&str, &str, &str), input: &[u8], out: &mut Out) {
     let (word, read, write) = words;
-    let mut source = source(alloc, read, input)?;
-    let mut sink = MemSink::new(alloc, 1000, 64, fails(alloc, write)?)?;
-    run(alloc, word, &mut source, &mut sink, out)?;
-    match str::from_utf8(sink.written()) {
-        Ok(text) => out.push_str(text),
-        Err(_) => out.push('?'),
+    match (
+        words_of(out.alloc, word),
+        source(out.alloc, read, input),
+        sink(out.alloc, write),
+    ) {
+        (Ok(words), Ok(source), Ok(sink)) => run(words.as_slice(), source, sink, out),
+        _ => out.is_broken = true,
     }
 }
 
@@ -84,18 +79,18 @@ fn source(alloc: Global, read: &str, input: &[u8]) -> Result<MemSource, AllocErr
     Ok(MemSource::new(bytes, 7, fails(alloc, read)?))
 }
 
-fn run(
-    alloc: Global,
-    word: &str,
-    source: &mut MemSource,
-    sink: &mut MemSink,
-    out: &mut String,
-) -> Result<(), AllocError> {
-    let words = words_of(alloc, word)?;
+fn sink(alloc: Global, write: &str) -> Result<MemSink, AllocError> {
+    MemSink::new(alloc, 1000, 64, fails(alloc, write)?)
+}
+
+fn run(words: &[String], source: MemSource, sink: MemSink, out: &mut Out) {
+    let mut source = source;
+    let mut sink = sink;
     let mut left: Option<World<JcrLaw>> = None;
-    let status = steps_main(alloc, words.as_slice(), source, sink, &mut left);
-    out.push_str(status.code().to_string(alloc)?.as_str())?;
-    out.push_str(if left.is_some() { " left " } else { " none " })
+    let status = steps_main(out.alloc, words, &mut source, &mut sink, &mut left);
+    out.put_number(u64::from(status.code()));
+    out.put(if left.is_some() { " left " } else { " none " });
+    out.put_bytes(sink.written());
 }
 
 const TABLE: [Row; 2] = [
@@ -142,21 +137,33 @@ const TABLE: [Row; 2] = [
 ];
 
 // The command of the row of a table that words spell.
-pub(crate) fn add_meaning(alloc: Global, text: &str, out: &mut String) -> Result<(), AllocError> {
-    let words = words_of(alloc, text)?;
-    match row_meant(&TABLE, words.as_slice()) {
-        Some(row) => out.push_str(row.command),
-        None => out.push_str("none"),
+pub(crate) fn add_meaning(text: &str, out: &mut Out) {
+    match words_of(out.alloc, text) {
+        Ok(words) => put_row(row_meant(&TABLE, words.as_slice()), out),
+        Err(_) => out.is_broken = true,
+    }
+}
+
+fn put_row(row: Option<&Row>, out: &mut Out) {
+    match row {
+        Some(row) => out.put(row.command),
+        None => out.put("none"),
     }
 }
 
 // NAME WORDS: what the words give the option of a name in the second row.
-pub(crate) fn add_option(alloc: Global, rest: &str, out: &mut String) -> Result<(), AllocError> {
+pub(crate) fn add_option(rest: &str, out: &mut Out) {
     let (name, text) = cut(rest);
-    let words = words_of(alloc, text)?;
-    match option_given(TABLE[1].options, words.as_slice(), name) {
-        Some(Given::Number(number)) => out.push_str(number.to_string(alloc)?.as_str()),
-        Some(Given::Flag) => out.push_str("flag"),
-        None => out.push_str("none"),
+    match words_of(out.alloc, text) {
+        Ok(words) => put_given(option_given(TABLE[1].options, words.as_slice(), name), out),
+        Err(_) => out.is_broken = true,
+    }
+}
+
+fn put_given(given: Option<Given>, out: &mut Out) {
+    match given {
+        Some(Given::Number(number)) => out.put_number(number),
+        Some(Given::Flag) => out.put("flag"),
+        None => out.put("none"),
     }
 }

@@ -2,56 +2,24 @@
 ghost use Rattle.std.specs.Prelude.{IfOk};
 ghost use Rattle.jr_script.specs.Bounds.{IsWithin};
 
-use crate::loads::{add_loads, add_same, reads_of};
+use crate::loads::reads_of;
 use crate::past::{add_order, add_past};
-use crate::plays::add_play;
-use crate::runs::{add_meaning, add_octets, add_option, add_status, add_unread};
 use crate::told::told;
 use jcr_eval::eval;
 use jcr_law::JcrLaw;
-use jr_path::{DeepCopy, List};
+use jr_path::DeepCopy;
 use jr_print::lines;
 use jr_script::{Script, ScriptFault, read_script, scripts_are_within};
 use jr_work::run_steps;
 use oak_machine::{Event, Events, Journal};
 use oak_world::World;
+use rows::Out;
 use std::alloc::{AllocError, Global};
 
-pub(crate) fn answers(alloc: Global, input: &[u8]) -> Result<String, AllocError> {
-    let mut out = String::new(alloc);
-    if let Ok(text) = str::from_utf8(input) {
-        add_answers(alloc, text, &mut out)?;
-    }
-    Ok(out)
-}
-
-fn add_answers(alloc: Global, text: &str, out: &mut String) -> Result<(), AllocError> {
-    for line in text.lines() {
-        let (word, text) = line.split_once(' ').unwrap_or((line, ""));
-        add_answer(alloc, word, text, out)?;
-        out.push('\n')?;
-    }
-    Ok(())
-}
-
-fn add_answer(alloc: Global, word: &str, text: &str, out: &mut String) -> Result<(), AllocError> {
-    match word {
-        "play" => add_play(alloc, text, out),
-        "loads" => add_loads(alloc, text, out),
-        "same" => add_same(alloc, text, out),
-        "status" => add_status(alloc, text, out),
-        "octets" => add_octets(alloc, text, out),
-        "unread" => add_unread(alloc, text, out),
-        "words" => add_meaning(alloc, text, out),
-        "option" => add_option(alloc, text, out),
-        _ => add_script(alloc, word, text, out),
-    }
-}
-
-fn add_script(alloc: Global, word: &str, text: &str, out: &mut String) -> Result<(), AllocError> {
-    match script(alloc, text) {
-        Ok(script) => add_run(alloc, word, script, out),
-        Err(fault) => add_fault(alloc, fault, out),
+pub(crate) fn add(word: &str, text: &str, out: &mut Out) {
+    match script(out.alloc, text) {
+        Ok(script) => add_run(word, text, script, out),
+        Err(fault) => put_fault(&fault, out),
     }
 }
 
@@ -68,106 +36,136 @@ pub(crate) fn script(alloc: Global, text: &str) -> Result<Script, ScriptFault>
 }
 
 // The rule that is broken, and where.
-fn add_fault(alloc: Global, fault: ScriptFault, out: &mut String) -> Result<(), AllocError> {
+fn put_fault(fault: &ScriptFault, out: &mut Out) {
     match fault {
         ScriptFault::Bad {
             rule,
             pointer,
             offset: _,
         } => {
-            out.push_str(rule.to_string(alloc)?.as_str())?;
-            out.push(' ')?;
-            out.push_str(pointer.as_str())
+            out.put_number(u64::from(*rule));
+            out.put(" ");
+            out.put(pointer.as_str());
         }
-        ScriptFault::Memory => out.push_str("memory"),
+        ScriptFault::Memory => out.put("memory"),
     }
 }
 
-fn add_run(alloc: Global, word: &str, script: Script, out: &mut String) -> Result<(), AllocError>
+fn add_run(word: &str, text: &str, script: Script, out: &mut Out)
     requires { IsWithin script }
 {
-    let world = run_steps(alloc, script)?;
-    add_world(alloc, word, &world, out)
-}
-
-fn add_world(
-    alloc: Global,
-    word: &str,
-    world: &World<JcrLaw>,
-    out: &mut String,
-) -> Result<(), AllocError> {
-    match word {
-        "replies" => add_replies(alloc, world, out),
-        "told" => told(alloc, world, out),
-        "law" => add_law(alloc, world, out),
-        "past" => add_past(alloc, world, out),
-        "order" => add_order(alloc, world, out),
-        _ => add_reads(alloc, world, out),
+    match run_steps(out.alloc, script) {
+        Ok(world) => put_world(word, text, &world, out),
+        Err(_) => out.is_broken = true,
     }
 }
 
-fn add_replies(alloc: Global, world: &World<JcrLaw>, out: &mut String) -> Result<(), AllocError> {
-    let text = lines(alloc, world.journal())?;
-    match str::from_utf8(text.as_slice()) {
-        Ok(text) => out.push_str(text),
-        Err(_) => out.push('?'),
+fn put_world(word: &str, text: &str, world: &World<JcrLaw>, out: &mut Out) {
+    match word {
+        "replies" => put_replies(world.journal(), out),
+        "told" => told(world, out),
+        "law" => put_law(text, world.journal(), out),
+        "past" => add_past(world.journal(), out),
+        "order" => add_order(world.journal(), out),
+        _ => put_reads(world, out),
+    }
+}
+
+fn put_replies(journal: &Journal, out: &mut Out) {
+    match lines(out.alloc, journal) {
+        Ok(text) => out.put_bytes(text.as_slice()),
+        Err(_) => out.is_broken = true,
     }
 }
 
 // How many documents session 1 read; none where there is no such session.
-fn add_reads(alloc: Global, world: &World<JcrLaw>, out: &mut String) -> Result<(), AllocError> {
-    match reads_of(world) {
-        Some(reads) => out.push_str(reads.to_string(alloc)?.as_str()),
-        None => Ok(()),
+fn put_reads(world: &World<JcrLaw>, out: &mut Out) {
+    if let Some(reads) = reads_of(world) {
+        out.put_number(reads);
     }
 }
 
-// The lines of the replies of the journal, each as the law lets its session say it by the journal before.
-fn add_law(alloc: Global, world: &World<JcrLaw>, out: &mut String) -> Result<(), AllocError> {
-    let journal = world.journal();
-    let mut before = Journal {
+// The law of a script. The run takes the commands, so the script is read once more for it.
+pub(crate) fn law_of(alloc: Global, text: &str) -> Result<JcrLaw, ScriptFault> {
+    match script(alloc, text) {
+        Ok(script) => Ok(law_in(script, 0)),
+        Err(fault) => Err(fault),
+    }
+}
+
+// The law of a script, before whose sessions there were so many.
+pub(crate) fn law_in(script: Script, earlier: u32) -> JcrLaw {
+    let Script {
+        types,
+        sessions,
+        ..
+    } = script;
+    JcrLaw {
+        types,
+        earlier,
+        sessions,
+    }
+}
+
+// The lines of the replies of the journal, each as the law of the script lets its session say it by
+// the journal before.
+fn put_law(text: &str, journal: &Journal, out: &mut Out) {
+    match law_of(out.alloc, text) {
+        Ok(law) => put_lawful(&law, journal, out),
+        Err(fault) => put_fault(&fault, out),
+    }
+}
+
+fn put_lawful(law: &JcrLaw, journal: &Journal, out: &mut Out) {
+    match before_all(out.alloc, journal) {
+        Ok(before) => put_events(law, before, journal, out),
+        Err(_) => out.is_broken = true,
+    }
+}
+
+// The journal without its events.
+pub(crate) fn before_all(alloc: Global, journal: &Journal) -> Result<Journal, AllocError> {
+    let sessions = journal.sessions.copy()?;
+    Ok(Journal {
         clusters: journal.clusters,
-        sessions: journal.sessions.copy()?,
+        sessions,
         events: Events::new(alloc),
         start: None,
-    };
+    })
+}
+
+fn put_events(law: &JcrLaw, before: Journal, journal: &Journal, out: &mut Out) {
+    let mut before = before;
     for event in journal.events.as_slice() {
-        add_said(alloc, world.law(), &before, event, out)?;
-        before.events.push(event.copy()?)?;
+        put_said(law, &before, event, out);
+        let pushed = push_copy(&mut before, event);
+        out.note(pushed);
     }
-    Ok(())
 }
 
-fn add_said(
-    alloc: Global,
-    law: &JcrLaw,
-    before: &Journal,
-    event: &Event,
-    out: &mut String,
-) -> Result<(), AllocError> {
-    let Event::Said(session, index, text) = event else {
-        return Ok(());
-    };
-    out.push_str(session.to_string(alloc)?.as_str())?;
-    out.push(' ')?;
-    out.push_str(index.to_string(alloc)?.as_str())?;
-    out.push(' ')?;
-    add_reply(alloc, law, before, (*session, *index), text.as_str(), out)?;
-    out.push('\n')
+pub(crate) fn push_copy(journal: &mut Journal, event: &Event) -> Result<(), AllocError> {
+    journal.events.push(event.copy()?)
 }
 
-// The reply of that index of a session, where the law lets it be said.
-fn add_reply(
-    alloc: Global,
-    law: &JcrLaw,
-    before: &Journal,
-    reply: (u32, u32),
-    text: &str,
-    out: &mut String,
-) -> Result<(), AllocError> {
-    if eval(alloc, law, before, reply.0, reply.1, text)? {
-        out.push_str(text)
-    } else {
-        out.push_str("unlawful")
+fn put_said(law: &JcrLaw, before: &Journal, event: &Event, out: &mut Out) {
+    if let Event::Said(session, index, text) = event {
+        out.put_number(u64::from(*session));
+        out.put_numbered(" ", u64::from(*index));
+        out.put(" ");
+        put_reply(
+            eval(out.alloc, law, before, *session, *index, text.as_str()),
+            text.as_str(),
+            out,
+        );
+        out.put("\n");
+    }
+}
+
+// The reply, where the law lets it be said.
+fn put_reply(is_lawful: Result<bool, AllocError>, text: &str, out: &mut Out) {
+    match is_lawful {
+        Ok(true) => out.put(text),
+        Ok(false) => out.put("unlawful"),
+        Err(_) => out.is_broken = true,
     }
 }

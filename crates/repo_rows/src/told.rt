@@ -1,93 +1,93 @@
 // Documents and events as text.
 use jcr_law::JcrLaw;
 use jr_rev::{RevVec, Revision};
+use jr_value::Property;
 use oak_doc::Document;
 use oak_machine::{Event, StepKind};
 use oak_world::World;
-use std::alloc::{AllocError, Global};
+use rows::Out;
 
 // The documents, a line each, and then the names of the events.
-pub(crate) fn told(
-    alloc: Global,
-    world: &World<JcrLaw>,
-    out: &mut String,
-) -> Result<(), AllocError> {
+pub(crate) fn told(world: &World<JcrLaw>, out: &mut Out) {
     for (_, document) in world.documents().documents().iter() {
-        add_document(alloc, document, out)?;
-        out.push('\n')?;
+        put_document(document, out);
+        out.put("\n");
     }
     for event in world.journal().events.as_slice() {
-        out.push_str(name_of(event))?;
-        out.push(' ')?;
+        out.put(name_of(event));
+        out.put(" ");
     }
-    Ok(())
 }
 
-fn add_number(alloc: Global, number: u64, out: &mut String) -> Result<(), AllocError> {
-    out.push_str(number.to_string(alloc)?.as_str())?;
-    out.push(' ')
+fn put_count(number: u64, out: &mut Out) {
+    out.put_number(number);
+    out.put(" ");
 }
 
 // The time of a vector's one revision, or `-`.
-fn add_vector(alloc: Global, vector: &RevVec, out: &mut String) -> Result<(), AllocError> {
+fn put_time(vector: &RevVec, out: &mut Out) {
     match vector.get(1) {
-        Some(r) => add_number(alloc, r.time, out),
-        None => out.push_str("- "),
+        Some(r) => put_count(r.time, out),
+        None => out.put("- "),
     }
 }
 
 // A word, and the time of a revision.
-fn add_entry(alloc: Global, word: &str, r: &Revision, out: &mut String) -> Result<(), AllocError> {
-    out.push_str(word)?;
-    out.push(' ')?;
-    add_number(alloc, r.time, out)
+fn put_entry(word: &str, r: &Revision, out: &mut Out) {
+    out.put(word);
+    out.put(" ");
+    put_count(r.time, out);
 }
 
-// A document: its id, its number, `_lastRev`, `_sweepRev` and `_sessions`; then its entries, each with the time of its revision, all of
-// which are of cluster node 1; then how many entries the other fields have.
-fn add_document(alloc: Global, document: &Document, out: &mut String) -> Result<(), AllocError> {
-    out.push_str(document.id.text(alloc)?.as_str())?;
-    out.push(' ')?;
-    add_number(alloc, document.mod_count, out)?;
-    add_vector(alloc, &document.last_rev, out)?;
-    add_vector(alloc, &document.sweep_rev, out)?;
-    add_number(alloc, document.sessions as u64, out)?;
+// A document: its id, its number, `_lastRev`, `_sweepRev` and `_sessions`; then its entries, each
+// with the time of its revision, all of which are of cluster node 1; then how many entries the
+// other fields have.
+fn put_document(document: &Document, out: &mut Out) {
+    out.put_id("", &document.id);
+    out.put(" ");
+    put_count(document.mod_count, out);
+    put_time(&document.last_rev, out);
+    put_time(&document.sweep_rev, out);
+    put_count(document.sessions as u64, out);
     for (r, deleted) in document.deleted.iter() {
-        add_entry(alloc, if *deleted { "gone" } else { "here" }, r, out)?;
+        put_entry(if *deleted { "gone" } else { "here" }, r, out);
     }
     for (r, _) in document.commit_root.iter() {
-        add_entry(alloc, "root", r, out)?;
+        put_entry("root", r, out);
     }
     for (r, _) in document.revisions.iter() {
-        add_entry(alloc, "committed", r, out)?;
+        put_entry("committed", r, out);
     }
-    add_properties(alloc, document, out)?;
-    add_others(alloc, document, out)
-}
-
-fn add_others(alloc: Global, document: &Document, out: &mut String) -> Result<(), AllocError> {
-    add_number(alloc, document.collisions.len() as u64, out)?;
-    add_number(alloc, document.guard.len() as u64, out)?;
-    add_number(alloc, document.prev.inner().len() as u64, out)?;
-    add_number(alloc, document.checkpoints.len() as u64, out)?;
-    add_number(alloc, document.readers.len() as u64, out)
-}
-
-fn add_properties(alloc: Global, document: &Document, out: &mut String) -> Result<(), AllocError> {
     for (r, _) in document.touched.iter() {
-        add_entry(alloc, "touched", r, out)?;
+        put_entry("touched", r, out);
     }
+    put_properties(document, out);
+    put_others(document, out);
+}
+
+fn put_others(document: &Document, out: &mut Out) {
+    put_count(document.collisions.len() as u64, out);
+    put_count(document.guard.len() as u64, out);
+    put_count(document.prev.inner().len() as u64, out);
+    put_count(document.checkpoints.len() as u64, out);
+    put_count(document.readers.len() as u64, out);
+}
+
+fn put_properties(document: &Document, out: &mut Out) {
     for (name, values) in document.props.iter() {
         for (r, value) in values.iter() {
-            add_entry(alloc, name.as_str(), r, out)?;
-            match value {
-                Some(property) => out.push_str(property.json_text(alloc)?.as_str())?,
-                None => out.push_str("null")?,
-            }
-            out.push(' ')?;
+            put_entry(name.as_str(), r, out);
+            put_value(value, out);
         }
     }
-    Ok(())
+}
+
+fn put_value(value: &Option<Property>, out: &mut Out) {
+    match value {
+        Some(property) => out.put_property(property),
+        None => out.put("null"),
+    }
+    out.put(" ");
 }
 
 fn name_of(event: &Event) -> &'static str {

@@ -2,7 +2,7 @@
 use Rattle.std.specs.Prelude.{◌≡◌, ◌⊎◌, ℕ, List, Ok, IsUtf8}
 use Rattle.std.specs.Str.{IsValidUpTo}
 use Rattle.jr_cnd.specs.Meaning.{IsMeaning}
-use Rattle.jr_cnd.specs.Printing.{cnd_text}
+use Rattle.cnd_print.specs.Printing.{cnd_text}
 use Rattle.jr_cnd.specs.declared.cnd.Cnd.{Cnd}
 use Rattle.jr_script.specs.Types.{FailsAt}
 

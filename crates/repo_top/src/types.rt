@@ -6,7 +6,8 @@ ghost use Rattle.repo_top.specs.Typed.{IsCanonical};
 
 use crate::status::Unrun;
 use crate::top::LONGEST_INPUT;
-use jr_cnd::{NoCnd, print_cnd, read_cnd};
+use cnd_print::print_cnd;
+use jr_cnd::{NoCnd, read_cnd};
 use jr_io::{Source, read_all};
 use std::alloc::Global;
 

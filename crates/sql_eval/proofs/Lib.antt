@@ -1,5 +1,3 @@
-pub mod Cased
-pub mod Rests
 pub mod Orders
 pub mod Missing
 pub mod Places

@@ -13,7 +13,7 @@ use Rattle.sql_eval.specs.declared.row.Row.{Row}
 use Rattle.sql_eval.specs.Conditions.{Tuple, operand_of}
 use Rattle.sql_eval.specs.Keys.{by_paths_total, missing_first_total}
 use Rattle.sql_eval.specs.Rows.{AreRows, IsStablySorted, by_orders, by_paths, filtered, row_of}
-use Rattle.sql_eval.specs.Values.{directed, missing_first}
+use Rattle.sql_values.specs.Values.{directed, missing_first}
 use Rattle.sql_eval.proofs.OneOrder.{stably_sorted_is_one}
 
 no_order : {X : Type 0} → IsTotalOrder {K = X} (λ x y. Equal)

@@ -17,7 +17,7 @@ use Rattle.sql_eval.specs.declared.key.Ranked.{Ranked}
 use Rattle.sql_eval.specs.Conditions.{Tuple, operand_of}
 use Rattle.sql_eval.specs.Keys.{key_cmp, key_in, key_of, ranked_cmp, ranked_of}
 use Rattle.sql_eval.specs.Rows.{IsStablySorted, by_orders}
-use Rattle.sql_eval.specs.Values.{directed, missing_first}
+use Rattle.sql_values.specs.Values.{directed, missing_first}
 
 -- lists compare by what a function makes of their elements as the lists of these do
 pub mapped_cmp : {X Y : Type 0} (f : X → Y) (R : Y → Y → Ordering) (xs ys : List X) → slice_cmp (on f R) xs ys ≡ slice_cmp R (map f xs) (map f ys)

@@ -20,13 +20,13 @@ use Rattle.sql_parse.specs.declared.query.Operand.{Operand}
 use Rattle.sql_parse.specs.declared.query.Operand.TheVariants as operand
 use Rattle.sql_parse.specs.declared.query.Order.{Order}
 use Rattle.sql_parse.specs.declared.query.Query.{Query}
-use Rattle.sql_eval.specs.declared.characters.Case.TheVariants.{Lower, Upper}
+use Rattle.sql_values.specs.declared.characters.Case.TheVariants.{Lower, Upper}
 use Rattle.sql_eval.specs.declared.row.Row.{Row}
 use Rattle.sql_eval.specs.Conditions.{Tuple, holds, is_child, is_descendant, is_same, name_of, operand_of, path_passes, property_of, spot_of}
 use Rattle.sql_eval.specs.Joins.{tuples_of}
 use Rattle.sql_eval.specs.Rows.{AreRows, IsStablySorted, by_orders, by_paths, filtered, row_of, that_pass}
-use Rattle.sql_eval.specs.Texts.{cased, in_case, lengths_of, local_part}
-use Rattle.sql_eval.specs.Values.{directed, missing_first, some_compares}
+use Rattle.sql_values.specs.Texts.{cased, in_case, lengths_of, local_part}
+use Rattle.sql_values.specs.Values.{directed, missing_first, some_compares}
 
 -- what an operand is, of the operand without its places in memory
 abbrev look_at : Tuple → Look → Option Property

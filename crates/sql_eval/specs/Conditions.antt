@@ -17,9 +17,9 @@ use Rattle.sql_parse.specs.declared.query.Operand.{Operand}
 use Rattle.sql_parse.specs.declared.query.Operand.TheVariants as operand
 use Rattle.sql_parse.specs.declared.query.Condition.{Condition}
 use Rattle.sql_parse.specs.declared.query.Condition.TheVariants as condition
-use Rattle.sql_eval.specs.declared.characters.Case.TheVariants.{Lower, Upper}
-use Rattle.sql_eval.specs.Texts.{lengths_of, in_case, cased, local_part}
-use Rattle.sql_eval.specs.Values.{some_compares}
+use Rattle.sql_values.specs.declared.characters.Case.TheVariants.{Lower, Upper}
+use Rattle.sql_values.specs.Texts.{lengths_of, in_case, cased, local_part}
+use Rattle.sql_values.specs.Values.{some_compares}
 
 -- a node with its path
 abbrev pub Spot : Type 0

@@ -16,7 +16,7 @@ use Rattle.sql_parse.specs.declared.query.JoinKind.{JoinKind}
 use Rattle.sql_parse.specs.declared.query.JoinKind.TheVariants.{Inner, LeftOuter, RightOuter}
 use Rattle.sql_parse.specs.declared.query.On.{On}
 use Rattle.sql_parse.specs.declared.query.On.TheVariants as join_on
-use Rattle.sql_eval.specs.Values.{some_equal, values_in}
+use Rattle.sql_values.specs.Values.{some_equal, values_in}
 use Rattle.sql_eval.specs.Conditions.{Spot, Tuple, spot_of, property_of, path_passes, is_same, is_child, is_descendant}
 
 -- whether the value is a NAME among these

@@ -19,7 +19,7 @@ use Rattle.sql_parse.specs.declared.query.Order.{Order}
 use Rattle.sql_eval.specs.declared.key.Key.{Key}
 use Rattle.sql_eval.specs.declared.key.Key.TheVariants.{Rising, Falling}
 use Rattle.sql_eval.specs.declared.key.Ranked.{Ranked}
-use Rattle.sql_eval.specs.Values.{kinds_first, missing_first, values_of}
+use Rattle.sql_values.specs.Values.{kinds_first, missing_first, values_of}
 use Rattle.sql_eval.specs.Conditions.{Spot, Tuple, operand_of}
 use Rattle.sql_eval.specs.Rows.{by_paths}
 

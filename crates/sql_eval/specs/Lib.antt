@@ -1,7 +1,3 @@
-pub mod Texts
-pub mod Patterns
-pub mod Matching
-pub mod Values
 pub mod Conditions
 pub mod Joins
 pub mod Shown

@@ -19,7 +19,7 @@ use Rattle.sql_parse.specs.declared.query.Query.{Query}
 use Rattle.sql_eval.specs.declared.row.Cell.{Cell}
 use Rattle.sql_eval.specs.declared.row.Cell.TheVariants as cell
 use Rattle.sql_eval.specs.declared.row.Row.{Row}
-use Rattle.sql_eval.specs.Values.{directed, missing_first}
+use Rattle.sql_values.specs.Values.{directed, missing_first}
 use Rattle.sql_eval.specs.Conditions.{Tuple, spot_of, property_of, operand_of, holds}
 use Rattle.sql_eval.specs.Joins.{tuples_of}
 

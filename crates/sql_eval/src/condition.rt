@@ -3,15 +3,15 @@ ghost use Rattle.std.specs.Prelude.{◌≡◌, IfOk};
 ghost use Rattle.std.specs.Map.Iter.{deref_pair};
 ghost use Rattle.std.specs.Option.{option_map, option_map_or};
 ghost use Rattle.sql_eval.specs.Conditions.{holds, is_child, is_descendant, is_same, operand_of, path_passes};
-ghost use Rattle.sql_eval.specs.Values.{some_compares};
+ghost use Rattle.sql_values.specs.Values.{some_compares};
 
-use crate::compare::some_compares;
 use crate::operand::operand_of;
 use crate::tuple::{Spot, Tuple};
 use jr_path::Path;
 use jr_tree::is_child;
 use jr_value::Value;
 use sql_parse::{Condition, Operand, Operator};
+use sql_values::some_compares;
 use std::alloc::{AllocError, Global};
 
 /// Whether a tuple is as a condition asks (JSR 283, 6.7.12 Constraint).

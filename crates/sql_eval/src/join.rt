@@ -8,13 +8,13 @@ ghost use Rattle.jr_path.specs.Names.{name_cmp};
 ghost use Rattle.sql_eval.specs.Conditions.{is_child, is_descendant, is_same, property_of, spot_of};
 ghost use Rattle.sql_eval.specs.Joins.{is_lonely_spot, is_lonely_tuple, is_name_among, is_typed, joined, joins, lonely_spots, lonely_tuples, nodes_of_type, pairs, paths_pass, tuples_of, type_properties, with_spot};
 
-use crate::compare::{some_equal, values_in, values_of};
 use crate::condition::{is_spot_child, is_spot_descendant, is_spot_same};
 use crate::tuple::{Spot, Tuple, property_in};
 use jr_path::Name;
 use jr_tree::{Node, Tree};
 use jr_value::{Property, Value};
 use sql_parse::{Join, JoinKind, On, PropertyOf};
+use sql_values::{some_equal, values_in, values_of};
 use std::alloc::{AllocError, Global};
 
 /// The names of the properties that have the types of a node: its primary type and its mixins.

@@ -2,14 +2,11 @@
 //! and projected.
 #![tactic(auto)]
 
-mod characters;
-mod compare;
 mod condition;
 mod evaluate;
 mod join;
 mod key;
 mod laws;
-mod like;
 mod operand;
 mod order;
 mod row;
@@ -17,7 +14,6 @@ mod sorting;
 mod text;
 mod tuple;
 
-pub use compare::{kinds_first, values_in};
 pub use condition::holds;
 pub use evaluate::{rows, rows_in_order, that_pass};
 pub use join::{has_type, joins, singles, type_properties};

@@ -5,16 +5,15 @@ ghost use Rattle.std.specs.Option.{option_copied, option_map};
 ghost use Rattle.jr_value.specs.declared.value.Value.TheVariants as value;
 ghost use Rattle.jr_value.specs.declared.value.Property.TheVariants.{Single};
 ghost use Rattle.sql_eval.specs.Conditions.{name_of, operand_of};
-ghost use Rattle.sql_eval.specs.Texts.{cased, in_case, lengths_of, local_part};
-ghost use Rattle.sql_eval.specs.Values.{values_in};
+ghost use Rattle.sql_values.specs.Texts.{cased, in_case, lengths_of, local_part};
+ghost use Rattle.sql_values.specs.Values.{values_in};
 
-use crate::characters::{Case, in_case, lengths_of, local_part};
-use crate::compare::{values_in, values_of};
 use crate::order::{Ordered, lists_cmp};
 use crate::tuple::{Spot, Tuple};
 use jr_path::{Path, Text};
 use jr_value::{Property, Value};
 use sql_parse::Operand;
+use sql_values::{Case, in_case, lengths_of, local_part, values_in, values_of};
 use std::alloc::{AllocError, Global};
 use std::cmp::Ordering;
 use std::marker::Model;
@@ -165,7 +164,7 @@ fn text(alloc: Global, text: &str) -> Result<Property, AllocError>
 }
 
 impl<'a> Ordered for Operated<'a> {
-    ghost use Rattle.sql_eval.specs.Values.{missing_first};
+    ghost use Rattle.sql_values.specs.Values.{missing_first};
 
     ghost by = { missing_first };
 

@@ -2,6 +2,8 @@
 ghost use Rattle.std.specs.Prelude.{◌≡◌};
 ghost use Rattle.std.specs.Cmp.Lexicographic.{slice_cmp};
 
+use jr_value::Value;
+use sql_values::kinds_first;
 use std::cmp::Ordering;
 
 /// What rows are ordered by.
@@ -38,5 +40,15 @@ pub(crate) fn lists_cmp<T: Ordered>(items: &[T], others: &[T]) -> Ordering
                 }
             },
         }
+    }
+}
+
+impl Ordered for Value {
+    ghost use Rattle.sql_values.specs.Values.{kinds_first};
+
+    ghost by = { kinds_first };
+
+    fn order(&self, other: &Value) -> Ordering {
+        kinds_first(self, other)
     }
 }

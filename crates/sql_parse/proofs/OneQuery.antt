@@ -5,14 +5,14 @@ use Rattle.jr_value.specs.declared.value.Kind.{Kind}
 use Rattle.jr_value.specs.declared.value.Value.{Value}
 use Rattle.sql_parse.specs.Answers.{AreSame}
 use Rattle.sql_parse.specs.Grammar.{IsAnswer, IsParsed, query_at, start}
-use Rattle.sql_parse.specs.Pieces.{IsReadAs}
-use Rattle.sql_parse.specs.Reading.{Read, State}
+use Rattle.sql_pieces.specs.Pieces.{IsReadAs}
+use Rattle.sql_pieces.specs.Reading.{Read, State}
 use Rattle.sql_parse.specs.Trees.{Asked, asked_of}
-use Rattle.sql_parse.specs.declared.fault.SqlFault.{SqlFault}
-use Rattle.sql_parse.specs.declared.fault.SqlFault.TheVariants as fault
-use Rattle.sql_parse.specs.declared.piece.Placed.{Placed}
+use Rattle.sql_pieces.specs.declared.fault.SqlFault.{SqlFault}
+use Rattle.sql_pieces.specs.declared.fault.SqlFault.TheVariants as fault
+use Rattle.sql_pieces.specs.declared.piece.Placed.{Placed}
 use Rattle.sql_parse.specs.declared.query.Query.{Query}
-use Rattle.sql_parse.proofs.OneSaid.{read_one}
+use Rattle.sql_pieces.proofs.OneSaid.{read_one}
 
 -- what is read is one
 read_same : (x y : Asked × State) (r : Read Asked) → r ≡ Ok x → r ≡ Ok y → x ≡ y

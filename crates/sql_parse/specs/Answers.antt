@@ -1,8 +1,8 @@
 -- When two answers to a text are the same.
 use Rattle.std.specs.Prelude.{◌≡◌, Result, Ok, Err}
 use Rattle.sql_parse.specs.Trees.{asked_of}
-use Rattle.sql_parse.specs.declared.fault.SqlFault.{SqlFault}
-use Rattle.sql_parse.specs.declared.fault.SqlFault.TheVariants as fault
+use Rattle.sql_pieces.specs.declared.fault.SqlFault.{SqlFault}
+use Rattle.sql_pieces.specs.declared.fault.SqlFault.TheVariants as fault
 use Rattle.sql_parse.specs.declared.query.Query.{Query}
 
 -- two answers are the same, but for where the parts of a query lie in memory, or memory was refused

@@ -5,15 +5,16 @@ use Rattle.jr_value.specs.declared.value.Kind.{Kind}
 use Rattle.jr_value.specs.declared.value.Kind.TheVariants as kind
 use Rattle.jr_value.specs.declared.value.Value.{Value}
 use Rattle.jr_value.specs.declared.value.Value.TheVariants as value
-use Rattle.sql_parse.specs.Leaves.{is_a, kind_named, place_named}
-use Rattle.sql_parse.specs.Pieces.{IsReadAs}
-use Rattle.sql_parse.specs.Reading.{◌>>=◌, State, Read, after, any_name_at, behind, call_first, many, name_at, place, required, sign_at, sign_first, word_at, word_first}
-use Rattle.sql_parse.specs.declared.fault.SqlFault.{SqlFault}
-use Rattle.sql_parse.specs.declared.fault.SqlFault.TheVariants as fault
-use Rattle.sql_parse.specs.declared.piece.Placed.{Placed}
-use Rattle.sql_parse.specs.declared.piece.Says.{Says}
-use Rattle.sql_parse.specs.declared.piece.Says.TheVariants as says
-use Rattle.sql_parse.specs.declared.piece.Sign.TheVariants as sign
+use Rattle.sql_pieces.specs.Firsts.{kind_first, literal_first, path_first, selector_first, text_first}
+use Rattle.sql_pieces.specs.Leaves.{is_a, place_named}
+use Rattle.sql_pieces.specs.Pieces.{IsReadAs}
+use Rattle.sql_pieces.specs.Reading.{◌>>=◌, State, Read, after, any_name_at, behind, call_first, many, name_at, place, required, sign_at, sign_first, word_at, word_first}
+use Rattle.sql_pieces.specs.declared.fault.SqlFault.{SqlFault}
+use Rattle.sql_pieces.specs.declared.fault.SqlFault.TheVariants as fault
+use Rattle.sql_pieces.specs.declared.piece.Placed.{Placed}
+use Rattle.sql_pieces.specs.declared.piece.Says.{Says}
+use Rattle.sql_pieces.specs.declared.piece.Says.TheVariants as says
+use Rattle.sql_pieces.specs.declared.piece.Sign.TheVariants as sign
 use Rattle.sql_parse.specs.declared.sources.Sources.{Sources}
 use Rattle.sql_parse.specs.declared.query.Query.{Query}
 use Rattle.sql_parse.specs.declared.query.Join.{Join}
@@ -364,46 +365,15 @@ operator_at s = do
   o ← required (operator_first s.pieces) (place s)
   Ok (o, after s)
 
-abbrev pub truth_in : List ℕ → Option Value
-truth_in name = if is_a (codes "TRUE") name then Some (value.Boolean true) else (if is_a (codes "FALSE") name then Some (value.Boolean false) else None)
-
-abbrev pub literal_in : Says → Option Value
-literal_in (says.Text text path cast) = Some (value.Str text)
-literal_in (says.Number n) = Some (value.Long n)
-literal_in (says.Variable v) = Some v
-literal_in (says.Word name) = truth_in name
-literal_in _ = None
-
-abbrev pub literal_first : List Placed → Option Value
-literal_first [] = None
-literal_first (p ∷ ps) = literal_in p.says
-
 abbrev pub literal_at : State → Read Value
 literal_at s = do
   v ← required (literal_first s.pieces) (place s)
   Ok (v, after s)
 
--- a text, and its value in a CAST
-abbrev pub text_in : Says → Option (List ℕ × Option Value)
-text_in (says.Text text path cast) = Some (text, cast)
-text_in _ = None
-
-abbrev pub text_first : List Placed → Option (List ℕ × Option Value)
-text_first [] = None
-text_first (p ∷ ps) = text_in p.says
-
 abbrev pub text_at : State → Read (List ℕ × Option Value)
 text_at s = do
   t ← required (text_first s.pieces) (place s)
   Ok (t, after s)
-
-abbrev pub kind_in : Says → Option Kind
-kind_in (says.Word name) = kind_named name
-kind_in _ = None
-
-abbrev pub kind_first : List Placed → Option Kind
-kind_first [] = None
-kind_first (p ∷ ps) = kind_in p.says
 
 abbrev pub kind_at : State → Read Kind
 kind_at s = do
@@ -435,29 +405,10 @@ static_at s = if word_first (codes "CAST") s.pieces then cast_at s else literal_
 
 -- ---- conditions
 
-abbrev pub path_in : Says → Option (List (List ℕ))
-path_in (says.Path path) = Some path
-path_in (says.Text text path cast) = path
-path_in _ = None
-
-abbrev pub path_first : List Placed → Option (List (List ℕ))
-path_first [] = None
-path_first (p ∷ ps) = path_in p.says
-
 abbrev pub path_at : State → Read (List (List ℕ))
 path_at s = do
   p ← required (path_first s.pieces) (place s)
   Ok (p, after s)
-
-abbrev pub is_selector : Says → Bool
-is_selector (says.Word name) = true
-is_selector (says.Bracketed name) = true
-is_selector _ = false
-
--- a name comes next, which is no path
-abbrev pub selector_first : List Placed → Bool
-selector_first [] = false
-selector_first (p ∷ ps) = is_selector p.says
 
 abbrev pub selector_comma : Names → State → Read ℕ
 selector_comma names s = do

@@ -1,12 +1,12 @@
 // The columns of a query.
 ghost use Rattle.std.specs.Prelude.{◌≡◌, IfOk};
 ghost use Rattle.sql_parse.specs.Grammar.{alias_at, column_at, column_more, columns_at, first_column, first_of, node_columns, nodes_first, skim_column, skim_columns, skim_more};
-ghost use Rattle.sql_parse.specs.Reading.{any_name_at, Reads};
+ghost use Rattle.sql_pieces.specs.Reading.{any_name_at, Reads};
 
-use crate::cursor::{Cursor, behind, name_first, sign_first};
-use crate::piece::{Placed, Sign};
-use crate::{Column, SqlFault};
+use crate::Column;
+use crate::cursor::Cursor;
 use jr_path::{List, Name};
+use sql_pieces::{Placed, Sign, SqlFault, behind, name_first, sign_first};
 use std::alloc::{AllocError, Global};
 
 // Whether the first pieces are a name, `.` and `*`, if they begin with a name.

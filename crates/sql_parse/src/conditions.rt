@@ -1,59 +1,21 @@
 // What is asked of a row.
-ghost use Rattle.std.specs.Prelude.{◌≡◌, ◌≤◌, IfOk};
+ghost use Rattle.std.specs.Prelude.{◌≡◌, ◌≤◌};
 ghost use Rattle.std.specs.Option.{option_map};
-ghost use Rattle.sql_parse.specs.Grammar.{and_with, filter_at, follows_name, grouped, negated, not_at, not_first, or_with, path_at, path_first, path_in, place_call, selector_before, selector_first, is_selector, test_at, tested};
-ghost use Rattle.sql_parse.specs.Reading.{Reads, ReadsAs};
+ghost use Rattle.sql_parse.specs.Grammar.{and_with, filter_at, follows_name, grouped, negated, not_at, not_first, or_with, path_at, place_call, selector_before, test_at, tested};
+ghost use Rattle.sql_pieces.specs.Reading.{Reads, ReadsAs};
 ghost use Rattle.sql_parse.specs.Depths.{tested_in};
 ghost use Rattle.sql_parse.specs.Trees.{look_of, test_of};
 
-use crate::cursor::{Cursor, behind, sign_first, word_first};
+use crate::cursor::Cursor;
 use crate::depth::{Nested, and, not, or};
 use crate::names::only_or;
 use crate::operands::operator_first;
-use crate::piece::{Placed, Says, Sign};
-use crate::{Condition, DEEPEST, Operand, SqlFault};
-use jr_path::{DeepCopy, Name, Path};
-use std::alloc::{AllocError, Global};
-
-fn path_in(says: &Says) -> Result<Option<Path>, AllocError>
-    ensures { IfOk result (λ path. path ≡ path_in says.now) }
-{
-    match says {
-        Says::Path(path) => Ok(Some(path.copy()?)),
-        Says::Text(_, path, _) => Ok(path.copy()?),
-        _ => Ok(None),
-    }
-}
-
-// The path that comes first.
-fn path_first(pieces: &[Placed]) -> Result<Option<Path>, AllocError>
-    ensures { IfOk result (λ path. path ≡ path_first pieces.now) }
-{
-    match pieces {
-        [piece, ..] => Ok(path_in(&piece.says)?),
-        [] => Ok(None),
-    }
-}
-
-fn is_selector(says: &Says) -> bool
-    ensures { result ≡ is_selector says.now }
-{
-    match says {
-        Says::Word(_) => true,
-        Says::Bracketed(_) => true,
-        _ => false,
-    }
-}
-
-// Whether a name comes first.
-fn selector_first(pieces: &[Placed]) -> bool
-    ensures { result ≡ selector_first pieces.now }
-{
-    match pieces {
-        [piece, ..] => is_selector(&piece.says),
-        [] => false,
-    }
-}
+use crate::{Condition, DEEPEST, Operand};
+use jr_path::{Name, Path};
+use sql_pieces::{
+    Placed, Sign, SqlFault, behind, path_first, selector_first, sign_first, word_first,
+};
+use std::alloc::Global;
 
 // Whether the first piece can follow a property's first name.
 fn follows_name(pieces: &[Placed]) -> bool

@@ -1,13 +1,10 @@
 // A place in the pieces of a query, and the reading of one piece.
 ghost use Rattle.std.specs.Prelude.{◌≡◌};
-ghost use Rattle.std.specs.Option.{option_copied};
-ghost use Rattle.sql_parse.specs.Reading.{after, behind, call_first, is_sign, is_word, name_at, name_first, name_in, place, same_sign, sign_at, sign_first, word_at, word_first, Reads};
+ghost use Rattle.sql_pieces.specs.Reading.{Reads, after, call_first, name_at, place, sign_at, sign_first, word_at, word_first};
 
-use crate::SqlFault;
-use crate::leaves::is_a;
-use crate::piece::{Placed, Says, Sign};
 use jr_path::{DeepCopy, Name};
 use jr_value::Kind;
+use sql_pieces::{Placed, Sign, SqlFault, behind, call_first, name_first, sign_first, word_first};
 use std::marker::Model;
 
 // What is left of a query, and what was noted so far.
@@ -20,91 +17,11 @@ pub(crate) struct Cursor<'a> {
 }
 
 impl<'a> Model for Cursor<'a> {
-    ghost use Rattle.sql_parse.specs.Reading.{State};
+    ghost use Rattle.sql_pieces.specs.Reading.{State};
 
     ghost Value = { State };
 
     ghost view = { λ c. record { pieces = c.pieces.now; stop = c.stop; refused = c.refused } };
-}
-
-// All pieces but the first.
-pub(crate) fn behind(pieces: &[Placed]) -> &[Placed]
-    ensures { result.now ≡ behind pieces.now }
-{
-    match pieces {
-        [_, rest @ ..] => rest,
-        [] => pieces,
-    }
-}
-
-fn same_sign(a: Sign, b: Sign) -> bool
-    ensures { result ≡ same_sign a b }
-{
-    a == b
-}
-
-fn is_sign(wanted: Sign, says: &Says) -> bool
-    ensures { result ≡ is_sign wanted says.now }
-{
-    match says {
-        Says::Sign(sign) => same_sign(*sign, wanted),
-        _ => false,
-    }
-}
-
-// Whether the first piece is this sign.
-pub(crate) fn sign_first(wanted: Sign, pieces: &[Placed]) -> bool
-    ensures { result ≡ sign_first wanted pieces.now }
-{
-    match pieces {
-        [piece, ..] => is_sign(wanted, &piece.says),
-        [] => false,
-    }
-}
-
-fn is_word(wanted: &str, says: &Says) -> bool
-    ensures { result ≡ is_word wanted.now says.now }
-{
-    match says {
-        Says::Word(name) => is_a(wanted, name.as_str().as_bytes()),
-        _ => false,
-    }
-}
-
-// Whether the first piece is this word, in any case.
-pub(crate) fn word_first(wanted: &str, pieces: &[Placed]) -> bool
-    ensures { result ≡ word_first wanted.now pieces.now }
-{
-    match pieces {
-        [piece, ..] => is_word(wanted, &piece.says),
-        [] => false,
-    }
-}
-
-// Whether the first pieces are this word and `(`.
-pub(crate) fn call_first(wanted: &str, pieces: &[Placed]) -> bool
-    ensures { result ≡ call_first wanted.now pieces.now }
-{
-    word_first(wanted, pieces) && sign_first(Sign::Open, behind(pieces))
-}
-
-fn name_in(says: &Says) -> Option<&Name>
-    ensures { option_copied result ≡ name_in says.now }
-{
-    match says {
-        Says::Word(name) => Some(name),
-        Says::Bracketed(name) => Some(name),
-        _ => None,
-    }
-}
-
-pub(crate) fn name_first(pieces: &[Placed]) -> Option<&Name>
-    ensures { option_copied result ≡ name_first pieces.now }
-{
-    match pieces {
-        [piece, ..] => name_in(&piece.says),
-        [] => None,
-    }
 }
 
 impl<'a> Cursor<'a> {

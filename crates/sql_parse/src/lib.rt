@@ -5,19 +5,14 @@ mod columns;
 mod conditions;
 mod cursor;
 mod depth;
-mod fault;
 mod laws;
-mod leaves;
 mod names;
 mod operands;
 mod orders;
 mod parser;
-mod piece;
-mod pieces;
 mod query;
 mod sources;
 
-pub use fault::SqlFault;
 pub use laws::answers_are_one;
 pub use parser::parse;
 pub use query::{

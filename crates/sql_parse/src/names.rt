@@ -1,14 +1,13 @@
 // Names of selectors and properties.
 ghost use Rattle.std.specs.Prelude.{◌≡◌};
 ghost use Rattle.sql_parse.specs.Grammar.{declared_at, is_one, only_at, property_at};
-ghost use Rattle.sql_parse.specs.Leaves.{place_named};
-ghost use Rattle.sql_parse.specs.Reading.{Gives, Reads, required};
+ghost use Rattle.sql_pieces.specs.Leaves.{place_named};
+ghost use Rattle.sql_pieces.specs.Reading.{Gives, Reads, required};
 
-use crate::cursor::{Cursor, name_first};
-use crate::leaves::place_named;
-use crate::piece::Sign;
-use crate::{PropertyOf, SqlFault};
+use crate::PropertyOf;
+use crate::cursor::Cursor;
 use jr_path::{DeepCopy, Name};
+use sql_pieces::{Sign, SqlFault, name_first, place_named};
 
 // Whether there is one selector alone.
 fn is_one(names: &[Name]) -> bool

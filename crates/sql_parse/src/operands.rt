@@ -1,17 +1,16 @@
 // Operands and values.
-ghost use Rattle.std.specs.Prelude.{◌≡◌, IfOk};
-ghost use Rattle.sql_parse.specs.Grammar.{cast_at, first_kind, kind_at, kind_first, kind_in, literal_at, literal_first, literal_in, operand_at, operator_at, operator_first, operator_in, plain_operand, property_call, selector_call, static_at, text_at, text_first, truth_in};
-ghost use Rattle.sql_parse.specs.Reading.{Reads, ReadsAs};
+ghost use Rattle.std.specs.Prelude.{◌≡◌};
+ghost use Rattle.sql_parse.specs.Grammar.{cast_at, first_kind, kind_at, literal_at, operand_at, operator_at, operator_first, operator_in, plain_operand, property_call, selector_call, static_at, text_at};
+ghost use Rattle.sql_pieces.specs.Reading.{Reads, ReadsAs};
 ghost use Rattle.sql_parse.specs.Trees.{look_of};
 
 use crate::cursor::Cursor;
-use crate::leaves::{is_a, kind_named};
 use crate::names::only_or;
-use crate::piece::{Placed, Says, Sign};
-use crate::{DEEPEST, Operand, Operator, PropertyOf, SqlFault};
-use jr_path::{DeepCopy, Name, Text};
+use crate::{DEEPEST, Operand, Operator, PropertyOf};
+use jr_path::{Name, Text};
 use jr_value::{Kind, Value};
-use std::alloc::{AllocError, Global};
+use sql_pieces::{Placed, Says, Sign, SqlFault, is_a, kind_first, literal_first, text_first};
+use std::alloc::Global;
 
 fn operator_in(says: &Says) -> Option<Operator>
     ensures { result ≡ operator_in says.now }
@@ -40,75 +39,6 @@ pub(crate) fn operator_first(pieces: &[Placed]) -> Option<Operator>
 {
     match pieces {
         [piece, ..] => operator_in(&piece.says),
-        [] => None,
-    }
-}
-
-fn truth_in(name: &str) -> Option<Value>
-    ensures { result ≡ truth_in name.now }
-{
-    if is_a("TRUE", name.as_bytes()) {
-        return Some(Value::Boolean(true));
-    }
-    if is_a("FALSE", name.as_bytes()) {
-        return Some(Value::Boolean(false));
-    }
-    None
-}
-
-fn literal_in(says: &Says) -> Result<Option<Value>, AllocError>
-    ensures { IfOk result (λ value. value ≡ literal_in says.now) }
-{
-    match says {
-        Says::Text(text, _, _) => Ok(Some(Value::Str(text.copy()?))),
-        Says::Number(number) => Ok(Some(Value::Long(*number))),
-        Says::Variable(value) => Ok(Some(value.copy()?)),
-        Says::Word(name) => Ok(truth_in(name.as_str())),
-        _ => Ok(None),
-    }
-}
-
-// The value that comes first, but for a CAST.
-fn literal_first(pieces: &[Placed]) -> Result<Option<Value>, AllocError>
-    ensures { IfOk result (λ value. value ≡ literal_first pieces.now) }
-{
-    match pieces {
-        [piece, ..] => Ok(literal_in(&piece.says)?),
-        [] => Ok(None),
-    }
-}
-
-// The text that comes first, with its value in a CAST.
-fn text_first(pieces: &[Placed]) -> Result<Option<(Text, Option<Value>)>, AllocError>
-    ensures { IfOk result (λ text. text ≡ text_first pieces.now) }
-{
-    match pieces {
-        [
-            Placed {
-                says: Says::Text(text, _, value),
-                ..
-            },
-            ..
-        ] => Ok(Some((text.copy()?, value.copy()?))),
-        _ => Ok(None),
-    }
-}
-
-fn kind_in(says: &Says) -> Option<Kind>
-    ensures { result ≡ kind_in says.now }
-{
-    match says {
-        Says::Word(name) => kind_named(name.as_str().as_bytes()),
-        _ => None,
-    }
-}
-
-// The kind whose word comes first.
-fn kind_first(pieces: &[Placed]) -> Option<Kind>
-    ensures { result ≡ kind_first pieces.now }
-{
-    match pieces {
-        [piece, ..] => kind_in(&piece.says),
         [] => None,
     }
 }

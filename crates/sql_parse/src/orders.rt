@@ -1,13 +1,13 @@
 // By what the rows of a query are ordered.
 ghost use Rattle.std.specs.Prelude.{◌≡◌, ◌++◌, ◌∷◌, [], IfOk, map};
 ghost use Rattle.sql_parse.specs.Grammar.{direction_at, first_order, order_at, order_more, orders_at};
-ghost use Rattle.sql_parse.specs.Reading.{Reads, ReadsAs};
+ghost use Rattle.sql_pieces.specs.Reading.{Reads, ReadsAs};
 ghost use Rattle.sql_parse.specs.Trees.{by_of};
 
 use crate::cursor::Cursor;
-use crate::piece::Sign;
-use crate::{Direction, Order, SqlFault};
+use crate::{Direction, Order};
 use jr_path::{List, Name};
+use sql_pieces::{Sign, SqlFault};
 use std::alloc::Global;
 
 impl<'a> Cursor<'a> {

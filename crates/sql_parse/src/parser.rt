@@ -1,16 +1,15 @@
 // A query from its text.
 ghost use Rattle.std.specs.Prelude.{◌≡◌, length};
 ghost use Rattle.sql_parse.specs.Grammar.{IsAnswer, IsParsed, end_at, froms_at, is_whole, no_pieces, query_at, rest_at, selected_at, whole_at};
-ghost use Rattle.sql_parse.specs.Reading.{Gives, Reads, ReadsAs, paired};
+ghost use Rattle.sql_pieces.specs.Reading.{Gives, Reads, ReadsAs, paired};
 ghost use Rattle.sql_parse.specs.Trees.{asked_of, rest_of};
 
 use crate::cursor::Cursor;
-use crate::piece::Placed;
-use crate::pieces::pieces_of;
 use crate::sources::Sources;
-use crate::{Column, Condition, Order, Query, SqlFault};
+use crate::{Column, Condition, Order, Query};
 use jr_path::{List, Name};
 use jr_value::{Kind, Value};
+use sql_pieces::{Placed, SqlFault, pieces_of};
 use std::alloc::Global;
 
 impl<'a> Cursor<'a> {

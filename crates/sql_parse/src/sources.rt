@@ -1,12 +1,12 @@
 // The selectors of a query and their joins.
 ghost use Rattle.std.specs.Prelude.{◌≡◌, IfOk};
 ghost use Rattle.sql_parse.specs.Grammar.{join_at, join_first, join_kind_at, no_bare, on_at, pair_at, selector_at, source_at, sources_at};
-ghost use Rattle.sql_parse.specs.Reading.{Gives, Reads};
+ghost use Rattle.sql_pieces.specs.Reading.{Gives, Reads};
 
-use crate::cursor::{Cursor, word_first};
-use crate::piece::{Placed, Sign};
-use crate::{Join, JoinKind, On, SqlFault};
+use crate::cursor::Cursor;
+use crate::{Join, JoinKind, On};
 use jr_path::{DeepCopy, List, Name};
+use sql_pieces::{Placed, Sign, SqlFault, word_first};
 use std::alloc::Global;
 
 // The types and the names of the selectors in order, and the join of each but the first.

@@ -23,7 +23,7 @@ use Rattle.sql_parse.specs.declared.query.Operator.TheVariants as op
 use Rattle.sql_eval.specs.Conditions.{Spot, Tuple, is_child, is_descendant, is_same, property_in, property_of, spot_of}
 use Rattle.sql_eval.specs.Joins.{joins, paths_pass, with_spot}
 use Rattle.sql_eval.specs.Keys.{kinds_first_total}
-use Rattle.sql_eval.specs.Values.{compares, some_equal, values_in}
+use Rattle.sql_values.specs.Values.{compares, some_equal, values_in}
 use Rattle.sql_plan.specs.Index.{Sought, Any as AnyKey, Value, Path, is_same_key, key_cmp, path_in, value_in}
 use Rattle.sql_plan.specs.Links.{Equal as EqualBy, Paths, above, chosen, equal_link, keys_of_node, keys_of_tuple, link_of, paths_link, reached, reached_by, values_sought}
 use Rattle.sql_plan.specs.declared.link.Reach.{Reach}

@@ -21,8 +21,8 @@ use Rattle.sql_eval.specs.Conditions.{Spot, Tuple, holds, operand_of, property_i
 use Rattle.sql_eval.specs.Joins.{is_lonely_spot, is_lonely_tuple, joined, joined_all, joins, lonely, lonely_spots, lonely_tuples, nodes_of_type, pairs, tuples_of, with_spot}
 use Rattle.sql_eval.specs.Conditions.{is_child, is_descendant, is_same, name_of, path_passes}
 use Rattle.sql_eval.specs.Rows.{that_pass}
-use Rattle.sql_eval.specs.Texts.{lengths_of, local_part}
-use Rattle.sql_eval.specs.Values.{some_compares}
+use Rattle.sql_values.specs.Texts.{lengths_of, local_part}
+use Rattle.sql_values.specs.Values.{some_compares}
 use Rattle.jr_value.specs.declared.value.Value.TheVariants as value
 use Rattle.jr_value.specs.declared.value.Property.TheVariants.{Single}
 use Rattle.sql_plan.specs.Early.{alone, asked, asked_in, asks_only, early_nodes, is_right_outer, joined_early, kind_is, looks_only, only_asked, passes, tuples_early}

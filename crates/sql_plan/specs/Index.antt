@@ -6,7 +6,7 @@ use Rattle.std.specs.declared.cmp.Ordering.{Ordering}
 use Rattle.jr_path.specs.Names.{path_cmp}
 use Rattle.jr_path.specs.declared.path.Path.{Path as PathOf}
 use Rattle.jr_value.specs.declared.value.Value.{Value as ValueOf}
-use Rattle.sql_eval.specs.Values.{kinds_first}
+use Rattle.sql_values.specs.Values.{kinds_first}
 use Rattle.sql_plan.specs.declared.index.Key.{Key}
 use Rattle.sql_plan.specs.declared.index.Key.TheVariants as key
 use Rattle.sql_plan.specs.declared.index.Entry.{Entry}

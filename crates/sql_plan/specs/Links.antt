@@ -10,7 +10,7 @@ use Rattle.sql_parse.specs.declared.query.On.{On}
 use Rattle.sql_parse.specs.declared.query.On.TheVariants as join_on
 use Rattle.sql_parse.specs.declared.query.PropertyOf.{PropertyOf}
 use Rattle.sql_eval.specs.Conditions.{Spot, Tuple, property_in, property_of, spot_of}
-use Rattle.sql_eval.specs.Values.{values_in}
+use Rattle.sql_values.specs.Values.{values_in}
 use Rattle.sql_plan.specs.Index.{Sought, Any, Value, Path}
 use Rattle.sql_plan.specs.declared.link.Link.{Link}
 use Rattle.sql_plan.specs.declared.link.Link.TheVariants as link

@@ -8,7 +8,7 @@ ghost use Rattle.sql_plan.specs.Index.{Sought, is_same_key, key_cmp, placed_key,
 
 use jr_path::Name;
 use jr_value::Value;
-use sql_eval::kinds_first;
+use sql_values::kinds_first;
 use std::alloc::{AllocError, Global};
 use std::cmp::Ordering;
 use std::marker::Model;

@@ -8,8 +8,9 @@ ghost use Rattle.sql_plan.specs.Links.{equal_link, keys_of_node, keys_of_tuple, 
 use crate::index::Key;
 use jr_path::{Name, Path};
 use jr_value::Value;
-use sql_eval::{Spot, Tuple, property_in, values_in};
+use sql_eval::{Spot, Tuple, property_in};
 use sql_parse::{On, PropertyOf};
+use sql_values::values_in;
 use std::alloc::{AllocError, Global};
 
 /// By what a tuple and a node find each other.

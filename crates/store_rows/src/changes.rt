@@ -1,162 +1,148 @@
-// One change of one document.
-use crate::rows::{cut, id_of, number, put_number, revision};
-use jr_path::{DeepCopy, Item, List, Name, Path, PathFault, Text};
-use jr_rev::{Pin, RevVec, Revision};
+// Changes of documents, as rows have them: WORD@KEY=VALUE, of which a part may be left out.
+use crate::replies::word_of;
+use crate::texts::{cut, id, pin};
+use jr_path::{DocId, Item, List, Name, Path, Text};
+use jr_rev::Revision;
 use jr_value::{Property, Value};
-use oak_doc::{Change, Cond, Document, EntryKey, Field, Kept, OpFault, PrevEntry, UpdateOp};
+use oak_doc::{Change, Document, PrevEntry, UpdateOp};
 use oak_store::DocTable;
-use std::alloc::{AllocError, Global};
+use rows::{Out, number, revision, short};
+use std::alloc::AllocError;
 
-// ID WORD ARGUMENTS: how many entries the fields of the document then have.
-pub(crate) fn make(
-    alloc: Global,
-    rest: &str,
-    table: &mut DocTable,
-    out: &mut String,
-) -> Result<(), AllocError> {
-    match update_of(alloc, rest, None) {
-        Ok(op) => update(alloc, &op, table, out),
-        Err(_) => out.push_str("no change"),
+// ID CHANGE ..; ID CHANGE ..: each is made, in this order, in a document that is made where there
+// is none.
+pub(crate) fn make_all(text: &str, table: &mut DocTable, out: &mut Out) {
+    for update in text.split(';') {
+        make(update.trim(), table, out);
     }
 }
 
-// NUMBER ID WORD ARGUMENTS: the change where the document has this number.
-pub(crate) fn refuse(
-    alloc: Global,
-    rest: &str,
-    table: &mut DocTable,
-    out: &mut String,
-) -> Result<(), AllocError> {
-    let (mod_count, rest) = cut(rest);
-    match update_of(alloc, rest, Some(Cond::Unchanged(number(mod_count)))) {
-        Ok(op) => update(alloc, &op, table, out),
-        Err(_) => out.push_str("no change"),
-    }
-}
-
-fn update(
-    alloc: Global,
-    op: &UpdateOp,
-    table: &mut DocTable,
-    out: &mut String,
-) -> Result<(), AllocError> {
-    match table.update(op) {
-        Ok(_) => match table.find(&op.id) {
-            Some(document) => put_sizes(alloc, document, out),
-            None => out.push_str("lost"),
-        },
-        Err(OpFault::Unmet(_, Kept::Number(number))) => {
-            out.push_str("unmet ")?;
-            put_number(alloc, out, number as usize)
+// STEP ID CHANGE ..; STEP ID CHANGE ..: those of a step are made.
+pub(crate) fn make_at(text: &str, step: u64, table: &mut DocTable, out: &mut Out) {
+    for part in text.split(';') {
+        let (at, update) = cut(part.trim(), ' ');
+        if number(at) == step {
+            make(update, table, out);
         }
-        Err(_) => out.push_str("refused"),
     }
 }
 
-fn update_of(alloc: Global, rest: &str, cond: Option<Cond>) -> Result<UpdateOp, PathFault> {
-    let (id, rest) = cut(rest);
-    let mut changes = List::new(alloc);
-    changes.push(change_of(alloc, rest)?)?;
+// ID CHANGE .., or `drop ID`, which removes the document.
+fn make(text: &str, table: &mut DocTable, out: &mut Out) {
+    let (word, rest) = cut(text, ' ');
+    match word {
+        "" => {}
+        "drop" => remove(&id(rest, out), table),
+        _ => update(word, rest, table, out),
+    }
+}
+
+fn remove(id: &DocId, table: &mut DocTable) {
+    let number = number_of(table.find(id));
+    table.remove_if(id, number);
+}
+
+fn number_of(document: Option<&Document>) -> u64 {
+    match document {
+        Some(document) => document.mod_count,
+        None => 0,
+    }
+}
+
+fn update(document: &str, words: &str, table: &mut DocTable, out: &mut Out) {
     let op = UpdateOp {
-        id: id_of(alloc, id)?,
+        id: id(document, out),
         create: true,
-        cond,
-        changes,
+        cond: None,
+        changes: changes(words, out),
     };
-    Ok(op.copy()?)
-}
-
-fn change_of(alloc: Global, rest: &str) -> Result<Change, PathFault> {
-    let (word, rest) = cut(rest);
-    let (first, second) = cut(rest);
-    let r = revision(first);
-    match word {
-        "here" => Ok(Change::Deleted(r, false)),
-        "gone" => Ok(Change::Deleted(r, true)),
-        "root" => Ok(Change::CommitRoot(r, 0)),
-        "committed" => Ok(Change::Revisions(r)),
-        "touched" => Ok(Change::Touched(r)),
-        "guard" => Ok(Change::Guard(r)),
-        "undo" => Ok(Change::Undo(r)),
-        "last" => Ok(Change::LastRev(r)),
-        "sweep" => Ok(Change::SweepRev(r)),
-        "list" => Ok(Change::List(entry(number(second), r))),
-        "unlist" => Ok(Change::Unlist(number(first))),
-        "detach" => Ok(Change::Detach(7)),
-        _ => large_change_of(alloc, word, r, second),
+    if word_of(&op, table) != " made" {
+        out.is_broken = true;
     }
 }
 
-fn entry(number: u64, r: Revision) -> PrevEntry {
-    PrevEntry {
+fn changes(words: &str, out: &mut Out) -> List<Change> {
+    let mut changes = List::new(out.alloc);
+    for word in words.split(' ') {
+        if !word.is_empty() {
+            let put = changes.push(change(word, out));
+            out.note(put);
+        }
+    }
+    changes
+}
+
+fn change(text: &str, out: &mut Out) -> Change {
+    let (word, rest) = cut(text, '@');
+    let (key, value) = cut(rest, '=');
+    let r = revision(key);
+    match word {
+        "here" => Change::Deleted(r, false),
+        "gone" => Change::Deleted(r, true),
+        "root" => Change::CommitRoot(r, short(value)),
+        "rev" => Change::Revisions(r),
+        "hit" => hit(r, value, out),
+        "touch" => Change::Touched(r),
+        "guard" => Change::Guard(r),
+        "last" => Change::LastRev(r),
+        "swept" => Change::SweepRev(r),
+        "list" => listed(number(key), value),
+        _ => large_change(word, key, value, out),
+    }
+}
+
+// The collision with another revision, in the root.
+fn hit(r: Revision, other: &str, out: &Out) -> Change {
+    let item = Item {
+        path: Path::root(out.alloc),
+        name: None,
+    };
+    Change::Collision(r, revision(other), item)
+}
+
+// HIGH,LOW
+fn listed(number: u64, text: &str) -> Change {
+    let (high, low) = cut(text, ',');
+    Change::List(PrevEntry {
         number,
-        high: r,
-        low: r,
-    }
+        high: revision(high),
+        low: revision(low),
+    })
 }
 
-fn large_change_of(
-    alloc: Global,
-    word: &str,
-    r: Revision,
-    rest: &str,
-) -> Result<Change, PathFault> {
+fn large_change(word: &str, key: &str, value: &str, out: &mut Out) -> Change {
     match word {
-        "put" => put(alloc, r, rest),
-        "unset" => Ok(Change::Prop(Name::parse(alloc, rest)?, r, None)),
-        "collision" => collision(alloc, r, rest),
-        "prune" => prune(alloc, r, rest),
-        "checkpoint" => Ok(Change::Checkpoint(Text::copy_of(alloc, rest)?, start())),
-        "attach" => Ok(Change::Attach(7, Text::copy_of(alloc, rest)?)),
-        _ => Ok(Change::Release(Text::copy_of(alloc, rest)?)),
+        "checkpoint" => Change::Checkpoint(text(Text::copy_of(out.alloc, key), out), pin(value)),
+        "reader" => Change::Attach(short(key), text(Text::copy_of(out.alloc, value), out)),
+        _ => put(word, revision(key), value, out),
     }
 }
 
-fn start() -> Pin {
-    Pin {
-        base: RevVec::start(1),
-        sweep: RevVec::start(1),
+fn text(copied: Result<Text, AllocError>, out: &mut Out) -> Text {
+    match copied {
+        Ok(text) => text,
+        Err(_) => {
+            out.is_broken = true;
+            Text::new(out.alloc)
+        }
     }
 }
 
-fn put(alloc: Global, r: Revision, name: &str) -> Result<Change, PathFault> {
-    let five = Property::Single(Value::Long(5));
-    Ok(Change::Prop(Name::parse(alloc, name)?, r, Some(five)))
-}
-
-fn collision(alloc: Global, r: Revision, path: &str) -> Result<Change, PathFault> {
-    let path = Path::parse(alloc, path)?;
-    Ok(Change::Collision(r, revision("2"), Item { path, name: None }))
-}
-
-fn prune(alloc: Global, r: Revision, name: &str) -> Result<Change, PathFault> {
-    let field = Field::Prop(Name::parse(alloc, name)?);
-    let mut keys = List::new(alloc);
-    keys.push(EntryKey { field, revision: r })?;
-    Ok(Change::Prune(keys))
-}
-
-// How many entries the fields have: `_deleted`, `_commitRoot`, `_revisions`, `_collisions`, `_touched`, `_guard`, `_prev`, properties,
-// checkpoints, readers; and the number.
-pub(crate) fn put_sizes(
-    alloc: Global,
-    document: &Document,
-    out: &mut String,
-) -> Result<(), AllocError> {
-    for size in [
-        document.deleted.len(),
-        document.commit_root.len(),
-        document.revisions.len(),
-        document.collisions.len(),
-        document.touched.len(),
-        document.guard.len(),
-        document.prev.inner().len(),
-        document.props.len(),
-        document.checkpoints.len(),
-        document.readers.len(),
-        document.mod_count as usize,
-    ] {
-        put_number(alloc, out, size)?;
+// The value of a property.
+fn put(name: &str, r: Revision, value: &str, out: &mut Out) -> Change {
+    match Name::parse(out.alloc, name) {
+        Ok(name) => Change::Prop(name, r, property(value)),
+        Err(_) => {
+            out.is_broken = true;
+            Change::Undo(r)
+        }
     }
-    Ok(())
+}
+
+// A number from 0 on; without one the property is removed.
+fn property(text: &str) -> Option<Property> {
+    match text.parse::<u32>() {
+        Ok(number) => Some(Property::Single(Value::Long(i64::from(number)))),
+        Err(_) => None,
+    }
 }

@@ -1,195 +1,197 @@
-// A commit that adds a node which another added too, memory that is refused, and a commit that sets a property of
-// which an entry has moved to a previous document.
-use jr_path::{DocId, Keyed, List, Name, Path, PathFault};
-use jr_rev::{RevVec, Revision};
+// Commits, also over previous documents.
+ghost use Rattle.std.specs.Prelude.{◌≡◌, IsTrue};
+ghost use Rattle.oak_commit.specs.Committing.{due_of};
+ghost use Rattle.oak_doc.specs.declared.asks.Ask.TheVariants as ask;
+
+use crate::asks::put_item;
+use crate::replies::{Row, STEPS, begin, reply_to};
+use crate::texts::{cut, path};
+use jr_path::{DocId, List, Name, Path};
+use jr_rev::Revision;
 use jr_tree::{Edit, Write};
 use jr_value::{Property, Value};
 use oak_clash::{Mark, MarkAt};
-use oak_commit::{CommitEnd, Committer};
-use oak_doc::{Ask, Cond, Document, Kept, PrevEntry, Reply};
-use std::alloc::{AllocError, Global};
+use oak_commit::{CommitEnd, Committer, Stage};
+use oak_doc::{Ask, Reply};
+use oak_store::DocTable;
+use rows::{Out, revision, vector};
+use std::alloc::AllocError;
+use std::mem;
 
-// Letters of what a store answers: what is due before each of them, and how the commit ended.
-pub(crate) fn add(alloc: Global, letters: &str, out: &mut String) -> Result<(), AllocError> {
-    match adding(alloc) {
-        Ok(committer) => add_told(alloc, committer, letters, out),
-        Err(_) => out.push_str("no path"),
+// REVISION BASE WORD ..: a commit of the revision with writes and marks. A word is WORD@PATH or
+// WORD@PATH=NAME; each value that is put is 5.
+pub(crate) fn add(row: &Row<'_>, table: &mut DocTable, out: &mut Out) {
+    let (r, rest) = cut(row.arguments, ' ');
+    let (base, words) = cut(rest, ' ');
+    let edit = edit(words, out);
+    match Committer::new(
+        out.alloc,
+        revision(r),
+        &vector(base),
+        edit,
+        marks(words, out),
+    ) {
+        Ok(committer) => run(row, committer, table, out),
+        Err(_) => out.is_broken = true,
     }
 }
 
-// The same of a commit that sets a property.
-pub(crate) fn add_moved(alloc: Global, letters: &str, out: &mut String) -> Result<(), AllocError> {
-    match setting(alloc) {
-        Ok(committer) => add_told(alloc, committer, letters, out),
-        Err(_) => out.push_str("no path"),
+fn edit(words: &str, out: &mut Out) -> Edit {
+    let mut writes = List::new(out.alloc);
+    for text in words.split(' ') {
+        push_write(text, &mut writes, out);
     }
+    Edit { writes }
 }
 
-fn add_told(
-    alloc: Global,
-    committer: Committer,
-    letters: &str,
-    out: &mut String,
-) -> Result<(), AllocError> {
-    let mut committer = committer;
-    for letter in letters.chars() {
-        step(alloc, &mut committer, letter, out)?;
-    }
-    add_end(committer, out)
-}
-
-fn step(
-    alloc: Global,
-    committer: &mut Committer,
-    letter: char,
-    out: &mut String,
-) -> Result<(), AllocError> {
-    add_due(alloc, committer, out)?;
-    out.push(' ')?;
-    committer.feed(reply(alloc, letter)?)
-}
-
-fn revision(time: u64, cluster: u32) -> Revision {
-    Revision {
-        time,
-        counter: 0,
-        cluster,
-    }
-}
-
-// Revision 2 of cluster node 2, whose base sees nothing, adds the node /a.
-fn adding(alloc: Global) -> Result<Committer, PathFault> {
-    let edit = edit(alloc)?;
-    let marks = marks(alloc)?;
-    Ok(Committer::new(alloc, revision(2, 2), &RevVec::none(), edit, marks)?)
-}
-
-fn edit(alloc: Global) -> Result<Edit, PathFault> {
-    let mut writes = List::new(alloc);
-    writes.push(Write::Here(Path::parse(alloc, "/a")?))?;
-    Ok(Edit { writes })
-}
-
-fn marks(alloc: Global) -> Result<List<MarkAt>, PathFault> {
-    let mut marks = List::new(alloc);
-    marks.push(mark_at(Path::root(alloc), Mark::Touch))?;
-    marks.push(mark_at(Path::parse(alloc, "/a")?, Mark::Exists))?;
-    Ok(marks)
-}
-
-// Revision 2 of cluster node 2, whose base sees nothing, sets /a/x to 5.
-fn setting(alloc: Global) -> Result<Committer, PathFault> {
-    let edit = setting_edit(alloc)?;
-    let mut marks = List::new(alloc);
-    marks.push(mark_at(
-        Path::parse(alloc, "/a")?,
-        Mark::Prop(Name::parse(alloc, "x")?),
-    ))?;
-    Ok(Committer::new(alloc, revision(2, 2), &RevVec::none(), edit, marks)?)
-}
-
-fn setting_edit(alloc: Global) -> Result<Edit, PathFault> {
-    let mut writes = List::new(alloc);
-    writes.push(Write::Put(Path::parse(alloc, "/a")?, Name::parse(alloc, "x")?, five()))?;
-    Ok(Edit { writes })
-}
-
-fn five() -> Property {
-    Property::Single(Value::Long(5))
-}
-
-fn mark_at(path: Path, mark: Mark) -> MarkAt {
-    MarkAt { path, mark }
-}
-
-// The id of the document that is to be found, updated or undone; else what is due.
-fn add_due(alloc: Global, committer: &Committer, out: &mut String) -> Result<(), AllocError> {
-    match committer.next()? {
-        Ask::Find(id) => add_id(alloc, &id, out),
-        Ask::Update(op) => add_id(alloc, &op.id, out),
-        Ask::Undo(_) => add_id(alloc, committer.undo_id(), out),
-        Ask::Memory(_) => out.push_str("finish"),
-        _ => out.push_str("done"),
-    }
-}
-
-fn add_id(alloc: Global, id: &DocId, out: &mut String) -> Result<(), AllocError> {
-    out.push_str(id.text(alloc)?.as_str())
-}
-
-// An update of a document that is new, one of /a, which another added, and one of /a, which lists two previous
-// documents; one of these with what another set, and one that is gone; an update whose condition is false, since the
-// other is committed; memory refused; an undoing; the end.
-fn reply(alloc: Global, letter: char) -> Result<Reply, AllocError> {
-    match letter {
-        'n' => Ok(Reply::Updated(None)),
-        'a' => told(added_document(alloc)),
-        'l' => told(listing_document(alloc)),
-        'p' => previous(alloc),
-        'g' => Ok(Reply::Found(None)),
-        'u' => Ok(Reply::Unmet(Cond::NotCommitted(revision(1, 1)), Kept::Nothing)),
-        'm' => Ok(Reply::NoMemory),
-        'd' => Ok(Reply::Undone),
-        _ => Ok(Reply::Finished),
-    }
-}
-
-fn told(document: Result<Document, PathFault>) -> Result<Reply, AllocError> {
-    match document {
-        Ok(document) => Ok(Reply::Updated(Some(document))),
-        Err(_) => Err(AllocError),
-    }
-}
-
-fn previous(alloc: Global) -> Result<Reply, AllocError> {
-    match previous_document(alloc) {
-        Ok(document) => Ok(Reply::Found(Some(document))),
-        Err(_) => Err(AllocError),
-    }
-}
-
-// The document of /a, which revision 1 of cluster node 1 added.
-fn added_document(alloc: Global) -> Result<Document, PathFault> {
-    let mut added = Document::empty(alloc, DocId::Node(Path::parse(alloc, "/a")?));
-    added.deleted.put(revision(1, 1), false)?;
-    added.commit_root.put(revision(1, 1), 0)?;
-    Ok(added)
-}
-
-// The document of /a, which tells that the root is the commit root of revision 1 of cluster node 1, and lists the
-// previous documents 7 and 4.
-fn listing_document(alloc: Global) -> Result<Document, PathFault> {
-    let mut listing = Document::empty(alloc, DocId::Node(Path::parse(alloc, "/a")?));
-    listing.commit_root.put(revision(1, 1), 0)?;
-    listing.prev.push(entry(7))?;
-    listing.prev.push(entry(4))?;
-    Ok(listing)
-}
-
-fn entry(number: u64) -> PrevEntry {
-    PrevEntry {
-        number,
-        high: revision(1, 1),
-        low: revision(1, 1),
-    }
-}
-
-// A previous document of /a, to which what revision 1 of cluster node 1 set x to has moved.
-fn previous_document(alloc: Global) -> Result<Document, PathFault> {
-    let mut values = Keyed::new(alloc);
-    values.put(revision(1, 1), Some(five()))?;
-    let mut moved = Document::empty(alloc, DocId::Prev(4, Path::parse(alloc, "/a")?));
-    moved.props.put(Name::parse(alloc, "x")?, values)?;
-    Ok(moved)
-}
-
-fn add_end(committer: Committer, out: &mut String) -> Result<(), AllocError> {
-    let Ask::Done = committer.next()? else {
-        return out.push_str("not ended");
+fn push_write(text: &str, writes: &mut List<Write>, out: &mut Out) {
+    let (word, rest) = cut(text, '@');
+    let (at, name) = cut(rest, '=');
+    let put = match word {
+        "here" => writes.push(Write::Here(path(at, out))),
+        "gone" => writes.push(Write::Gone(path(at, out))),
+        "put" => put_write(path(at, out), name, writes, out),
+        "unset" => put_unset(path(at, out), name, writes, out),
+        _ => Ok(()),
     };
-    out.push_str(match committer.end() {
-        CommitEnd::Committed(_) => "committed",
-        CommitEnd::Clash { .. } => "refused",
-        CommitEnd::Memory => "no memory",
-    })
+    out.note(put);
+}
+
+fn put_write(
+    at: Path,
+    name: &str,
+    writes: &mut List<Write>,
+    out: &mut Out,
+) -> Result<(), AllocError> {
+    match Name::parse(out.alloc, name) {
+        Ok(name) => writes.push(Write::Put(at, name, Property::Single(Value::Long(5)))),
+        Err(_) => Err(AllocError),
+    }
+}
+
+fn put_unset(
+    at: Path,
+    name: &str,
+    writes: &mut List<Write>,
+    out: &mut Out,
+) -> Result<(), AllocError> {
+    match Name::parse(out.alloc, name) {
+        Ok(name) => writes.push(Write::Unset(at, name)),
+        Err(_) => Err(AllocError),
+    }
+}
+
+fn marks(words: &str, out: &mut Out) -> List<MarkAt> {
+    let mut marks = List::new(out.alloc);
+    for text in words.split(' ') {
+        push_mark(text, &mut marks, out);
+    }
+    marks
+}
+
+fn push_mark(text: &str, marks: &mut List<MarkAt>, out: &mut Out) {
+    let (word, rest) = cut(text, '@');
+    let (at, name) = cut(rest, '=');
+    if let Some(mark) = mark(word, name, out) {
+        let path = path(at, out);
+        let put = marks.push(MarkAt { path, mark });
+        out.note(put);
+    }
+}
+
+fn mark(word: &str, name: &str, out: &Out) -> Option<Mark> {
+    match word {
+        "exists" => Some(Mark::Exists),
+        "guard" => Some(Mark::Guard),
+        "touch" => Some(Mark::Touch),
+        "prop" => mark_of_property(name, out),
+        _ => None,
+    }
+}
+
+fn mark_of_property(name: &str, out: &Out) -> Option<Mark> {
+    match Name::parse(out.alloc, name) {
+        Ok(name) => Some(Mark::Prop(name)),
+        Err(_) => None,
+    }
+}
+
+fn run(row: &Row<'_>, committer: Committer, table: &mut DocTable, out: &mut Out) {
+    let mut committer = committer;
+    for step in 1..STEPS {
+        if committer.stage() != Stage::Done {
+            let made = make_step(row, step, &mut committer, table, out);
+            out.note(made);
+        }
+    }
+    end(committer, out);
+}
+
+fn make_step(
+    row: &Row<'_>,
+    step: u64,
+    committer: &mut Committer,
+    table: &mut DocTable,
+    out: &mut Out,
+) -> Result<(), AllocError> {
+    begin(row, step, word(committer.stage()), table, out);
+    let reply = reply(row, committer, table, out)?;
+    committer.feed(reply)
+}
+
+fn reply(
+    row: &Row<'_>,
+    committer: &Committer,
+    table: &mut DocTable,
+    out: &mut Out,
+) -> Result<Reply, AllocError> {
+    match committer.next()? {
+        Ask::Undo(r) => Ok(undone(committer.undo_id(), r, table, out)),
+        ask => Ok(reply_to(row, ask, table, out)),
+    }
+}
+
+fn undone(id: &DocId, r: Revision, table: &mut DocTable, out: &mut Out) -> Reply {
+    table.undo(id, r);
+    out.put_id("", id);
+    out.put("; ");
+    Reply::Undone
+}
+
+fn word(stage: Stage) -> &'static str {
+    match stage {
+        Stage::Mark => "mark",
+        Stage::Write => "write",
+        Stage::Look => "look",
+        Stage::Last => "last",
+        Stage::Undo => "undo",
+        Stage::Finish => "finish",
+        Stage::Done => "done",
+    }
+}
+
+fn end(committer: Committer, out: &mut Out) {
+    if is_done(&committer) {
+        put_end(&committer.end(), out);
+    } else {
+        mem::forget(committer);
+    }
+}
+
+pub(crate) fn is_done(committer: &Committer) -> bool
+    ensures { IsTrue result → due_of committer.now ≡ ask.Done }
+{
+    matches!(committer.next(), Ok(Ask::Done))
+}
+
+fn put_end(end: &CommitEnd, out: &mut Out) {
+    match end {
+        CommitEnd::Committed(r) => out.put_revision("end committed ", *r),
+        CommitEnd::Clash { item, other } => {
+            out.put("end refused");
+            put_item(item, out);
+            out.put_revision(" for ", *other);
+        }
+        CommitEnd::Memory => out.put("end no memory"),
+    }
 }

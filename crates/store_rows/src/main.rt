@@ -1,31 +1,37 @@
-//! Rows of documents: each line of the input changes a document of a table, undoes or removes one, or reads a node or its
-//! children, or is of the memory of a cluster node; each line of the output says what came of it.
+//! Rows of documents and of background work: each line of the input changes a document of a table,
+//! undoes or removes one, reads a node or its children, or is of the memory of a cluster node;
+//! behind the line == tasks it is a task over a table of documents at rest, and each line of the
+//! output has the steps for which its automaton asks, with what they came to, and its end.
 #![tactic(auto)]
 
+mod asks;
+mod background;
 mod changes;
+mod collections;
 mod commits;
+mod letters;
 mod nodes;
 mod reading;
-mod rows;
+mod replies;
+mod sections;
+mod settings;
+mod splits;
+mod tables;
+mod tasks;
+mod texts;
+mod updates;
 
-use jr_io::{Sink, StdSink, StdSource, read_all, write_all};
+use jr_io::{StdSink, StdSource};
+use rows::answer_all;
+use sections::Store;
 use std::io;
 use std::process::ExitCode;
 
 fn main(rt: HostRuntime) -> ExitCode {
-    let alloc = rt.alloc();
     let mut source = StdSource::new(rt.reader());
-    let Ok(mut sink) = StdSink::new(alloc, io::writer(&rt)) else {
+    let Ok(mut sink) = StdSink::new(rt.alloc(), io::writer(&rt)) else {
         return ExitCode::from(5);
     };
-    let Ok(input) = read_all(alloc, &mut source, 1_000_000) else {
-        return ExitCode::from(3);
-    };
-    let Ok(text) = rows::answers(alloc, input.as_slice()) else {
-        return ExitCode::from(5);
-    };
-    if write_all(&mut sink, text.as_bytes()).is_err() || sink.flush().is_err() {
-        return ExitCode::from(4);
-    }
-    ExitCode::from(0)
+    let mut rows = Store::new(rt.alloc());
+    ExitCode::from(answer_all(rt.alloc(), &mut source, &mut sink, &mut rows))
 }

@@ -1,7 +1,7 @@
 use Rattle.std.proofs.Common.{◌∙◌, ap, sym}
 use Rattle.std.proofs.lemmas.Result.{err_from_is_err_and}
 use Rattle.jr_overlay.specs.Overlays.{Sighted, sighted}
-use Rattle.jcr_make.specs.Histories.{mixin_made}
+use Rattle.jcr_mixin.specs.Histories.{mixin_made}
 use Rattle.jcr_fill.specs.Makings.{making}
 use Rattle.jcr_fill.proofs.Loops.{own_loop_err, own_loop_next}
 use Rattle.jcr_make.proofs.subtree.give_mixins.Goals as goal

@@ -1,6 +1,6 @@
 use Rattle.std.proofs.Common.{◌≡◌, drop}
 use Rattle.jr_overlay.specs.Overlays.{sighted}
-use Rattle.jcr_make.specs.Histories.{mixin_made}
+use Rattle.jcr_mixin.specs.Histories.{mixin_made}
 use Rattle.jcr_fill.specs.Makings.{making}
 use Rattle.jcr_fill.specs.Steps.{each}
 use Rattle.jcr_make.proofs.subtree.give_mixins.Given as goal

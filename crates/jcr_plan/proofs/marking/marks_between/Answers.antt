@@ -14,7 +14,7 @@ loop-mark-init c =
     let all : c.into_iter-mark-iterator.result ≡ c.note_targets.new.found = search rules in
     ap (λ ms. ms ++ keys_of c.into_iter-mark-iterator.result) c.new-marks.ensures
     ∙ (ap keys_of all
-    ∙ marks_found c.args.old.now c.args.writes.now c.args.new.now c.note_targets.new.found c.know_order.ensures c.requires
+    ∙ marks_found c.args.old.now c.args.writes.now c.args.new.now c.note_targets.new.found c.in_order.ensures c.requires
     (c.in_ok-note_targets.ensures
     ∙ ap (λ (es : Marked). with_marks es (mark_each Touch (filter_map (target_of c.args.new.now) (flat_map (new_references c.args.old.now) c.args.writes.now))))
     (c.in_ok-note_writes.ensures ∙ ap (λ (es : Marked). fold (λ es w. with_marks es (marks_by c.args.old.now c.args.new.now w)) es c.args.writes.now) c.new-found.ensures)))

@@ -1,7 +1,7 @@
 use Rattle.std.proofs.Common.{◌≡◌, drop}
 use Rattle.std.specs.List.{find}
 use Rattle.jr_items.specs.Items.{child_path}
-use Rattle.jcr_version.specs.Histories.{is_numbered}
+use Rattle.jcr_frozen.specs.Histories.{is_numbered}
 use Rattle.jcr_version.proofs.checkin.name_of.Given as goal
 
 -- what is left decides

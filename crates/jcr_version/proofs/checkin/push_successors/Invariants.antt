@@ -1,7 +1,7 @@
 use Rattle.std.proofs.Common.{◌≡◌, ◌++◌, drop, map}
 use Rattle.std.specs.List.{filter}
 use Rattle.jcr_version.specs.Edits.{succeed}
-use Rattle.jcr_version.specs.Histories.{is_named}
+use Rattle.jcr_frozen.specs.Histories.{is_named}
 use Rattle.jcr_version.proofs.checkin.push_successors.Given as goal
 
 -- what is left leads there

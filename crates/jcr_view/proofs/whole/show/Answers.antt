@@ -1,7 +1,6 @@
 use Rattle.std.proofs.Common.{subst}
 use Rattle.jr_overlay.specs.Overlays.{View}
-use Rattle.jcr_view.specs.Outcomes.{shown}
-use Rattle.jcr_view.specs.Reading.{Replies}
+use Rattle.jcr_read.specs.Reading.{Replies, shown}
 use Rattle.jcr_view.proofs.whole.show.Goals as goal
 
 pub returns-in_default : goal.returns-in_default

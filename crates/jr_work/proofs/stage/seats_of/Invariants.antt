@@ -1,6 +1,10 @@
+use Rattle.std.proofs.Common.{◌≡◌, ◌++◌, length}
 use Rattle.jr_work.specs.Seats.{AreNew}
 use Rattle.jr_work.proofs.stage.seats_of.Given as goal
 
--- the sessions so far
-abbrev pub invariant-loop-s : goal.invariant-loop-s
-invariant-loop-s l = AreNew l.types l.sessions l.s l.seats.items
+-- the sessions so far have their seats
+abbrev pub invariant-loop-session : goal.invariant-loop-session
+invariant-loop-session l = record {
+  whole : l.yielded ++ l.session-iterator.rest.items ≡ l.fn.sessions;
+  new : AreNew l.types l.fn.sessions (length l.yielded) l.seats.items;
+}

@@ -6,17 +6,17 @@ use Rattle.jr_work.proofs.workers.gather.Goals as goal
 
 pub join-requires-clause-own : goal.join-requires-clause-own
 join-requires-clause-own g c =
-    let last = given_last _ c.args.crew.now.script.now c.args.crew.now.workers c.args.crew.now.shared.now.lock c.passes.passes.items c.pop.new.self.items c.pop.result c.in-Some.pass c.pop.ensures.items c.in-Some.is c.passes.invariant.each c.in_ok-pass.field-0 c.in_ok-pass.was in
+    let last = given_last _ c.args.crew.now.script.now.value c.args.crew.now.workers c.args.crew.now.shared.now.lock c.passes.passes.items c.pop.new.self.items c.pop.result c.in-Some.pass c.pop.ensures.items c.in-Some.is c.passes.invariant.each c.in_ok-pass.field-0 c.in_ok-pass.was in
     (c.passes.invariant.own, last.0)
 
 pub join-requires-clause-rest : goal.join-requires-clause-rest
 join-requires-clause-rest g c =
-    let last = given_last _ c.args.crew.now.script.now c.args.crew.now.workers c.args.crew.now.shared.now.lock c.passes.passes.items c.pop.new.self.items c.pop.result c.in-Some.pass c.pop.ensures.items c.in-Some.is c.passes.invariant.each c.in_ok-pass.field-0 c.in_ok-pass.was in
+    let last = given_last _ c.args.crew.now.script.now.value c.args.crew.now.workers c.args.crew.now.shared.now.lock c.passes.passes.items c.pop.new.self.items c.pop.result c.in-Some.pass c.pop.ensures.items c.in-Some.is c.passes.invariant.each c.in_ok-pass.field-0 c.in_ok-pass.was in
     last.1.rest
 
 pub passes-preserved : goal.passes-preserved
 passes-preserved g c =
-    let script = c.args.crew.now.script.now in
+    let script = c.args.crew.now.script.now.value in
     let workers = c.args.crew.now.workers in
     let last = given_last _ script workers c.args.crew.now.shared.now.lock c.passes.passes.items c.pop.new.self.items c.pop.result c.in-Some.pass c.pop.ensures.items c.in-Some.is c.passes.invariant.each c.in_ok-pass.field-0 c.in_ok-pass.was in
     let fewer = one_fewer c.passes.passes.items c.pop.new.self.items c.pop.result c.in-Some.pass c.pop.ensures.items c.in-Some.is in
@@ -29,7 +29,7 @@ passes-preserved g c =
 
 pub returns-clause-all : goal.returns-clause-all
 returns-clause-all g c =
-    let script = c.args.crew.now.script.now in
+    let script = c.args.crew.now.script.now.value in
     let workers = c.args.crew.now.workers in
     let none = none_left c.pop.result _ _ c.in_default.not-Some c.pop.ensures.cases in
     let empty : length c.passes.passes.items ≡ 0 = search rules in

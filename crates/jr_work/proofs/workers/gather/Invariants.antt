@@ -8,8 +8,8 @@ use Rattle.jr_work.proofs.workers.gather.Given as goal
 abbrev pub invariant-passes : goal.invariant-passes
 invariant-passes g l = record {
   own : IsOf l.crew.shared.now.lock l.main;
-  gathering : IsGathering l.crew.script.now l.crew.workers (length l.passes.items) (view_of l.main);
-  each : AreGivenBack l.crew.script.now l.crew.workers l.crew.shared.now.lock l.passes.items;
+  gathering : IsGathering l.crew.script.now.value l.crew.workers (length l.passes.items) (view_of l.main);
+  each : AreGivenBack l.crew.script.now.value l.crew.workers l.crew.shared.now.lock l.passes.items;
 }
 
 abbrev pub decreases-passes : goal.decreases-passes

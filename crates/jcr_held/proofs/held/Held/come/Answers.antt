@@ -12,4 +12,4 @@ pub returns : goal.returns
 returns c = λ d h typed.
     let on = c.footing-footing.ensures.on d h in
     let is = sym (c.in_ok-due.ensures.due d h on) ∙ ap (option_map due_of) c.in-Some.is in
-    comes_to d c.args.command.now c.in-Some.due c.come.result is (c.come.ensures.comes d on (c.footing-footing.ensures.alike d h typed) is)
+    comes_to d c.args.command.now c.in-Some.due c.come.result is (c.come.ensures.comes d on (c.footing-footing.ensures.assured d h typed) is)

@@ -49,12 +49,12 @@ returns-in-Memory-clause-steps g c =
     let a = commits_by c.args.self.now.phase c.requires.commits in
     let law = g.P.Port.law c.args.port.now in
     let later = g.P.Port.law c.step.new.self in
-    twice_nearer law (g.P.Port.shown c.args.port.now) (g.P.Port.shown c.step-answer.new.self) c.args.self.now c.committed_on.new.self a.0 c.requires.stands a.1 (EndsSooner (g.P.Port.lasts c.args.port.now) (g.P.Port.lasts c.step-answer.new.self) (g.P.Port.shown c.args.port.now))
+    twice_nearer law (g.P.Port.shown c.args.port.now) (g.P.Port.shown c.step-answer.new.self) c.args.self.now c.committed_on.new.self a.0 c.requires.stands a.1 (EndsSooner (g.P.Port.left c.args.port.now) (g.P.Port.left c.step-answer.new.self) (g.P.Port.shown c.args.port.now))
     (starts_of law) (starts_of later) (says_of law) (says_of later) (g.P.Port.shown c.step.new.self) c.step.result c.step-answer.result c.committed_on.result c.in-Memory.is c.step.ensures.steps c.step-answer.ensures.steps c.committed_on.ensures.run c.committed_on.ensures.turn
 
 pub returns-in_default-clause-steps : goal.returns-in_default-clause-steps
 returns-in_default-clause-steps g c =
     let a = commits_by c.args.self.now.phase c.requires.commits in
     let law = g.P.Port.law c.args.port.now in
-    once_nearer law (g.P.Port.shown c.args.port.now) (g.P.Port.shown c.step.new.self) c.args.self.now c.committed_on-in_default.new.self a.0 c.requires.stands a.1 (starts_of law) (says_of law) (g.P.Port.lasts c.args.port.now) (g.P.Port.lasts c.step.new.self)
+    once_nearer law (g.P.Port.shown c.args.port.now) (g.P.Port.shown c.step.new.self) c.args.self.now c.committed_on-in_default.new.self a.0 c.requires.stands a.1 (starts_of law) (says_of law) (g.P.Port.left c.args.port.now) (g.P.Port.left c.step.new.self)
     c.step.result c.committed_on-in_default.result c.step.ensures.steps c.step.ensures.lowers c.committed_on-in_default.ensures.run c.committed_on-in_default.ensures.turn

@@ -32,10 +32,10 @@ returns-in-None-clause-read g c =
 -- what was being read comes nearer, or something begins to be read
 pub returns-in-Some-clause-nears : goal.returns-in-Some-clause-nears
 returns-in-Some-clause-nears g c =
-    subst (λ (o : Option Need). IfOk c.read_on.result (λ made. made ≡ true → HasNeared (EndsSooner (g.P.Port.lasts c.args.port.now) (g.P.Port.lasts c.read_on.new.port) (g.P.Port.shown c.args.port.now)) o c.read_on.new.self)) c.in-Some.ensures.value
+    subst (λ (o : Option Need). IfOk c.read_on.result (λ made. made ≡ true → HasNeared (EndsSooner (g.P.Port.left c.args.port.now) (g.P.Port.left c.read_on.new.port) (g.P.Port.shown c.args.port.now)) o c.read_on.new.self)) c.in-Some.ensures.value
     (made_if c.read_on.result _ _ (λ made near is. near) c.read_on.ensures.nears)
 
 pub returns-in-None-clause-nears : goal.returns-in-None-clause-nears
 returns-in-None-clause-nears g c =
-    subst (λ (o : Option Need). IfOk c.read_next.result (λ made. made ≡ true → HasNeared (EndsSooner (g.P.Port.lasts c.args.port.now) (g.P.Port.lasts c.read_next.new.port) (g.P.Port.shown c.args.port.now)) o c.read_next.new.self)) c.in-None.ensures.value
+    subst (λ (o : Option Need). IfOk c.read_next.result (λ made. made ≡ true → HasNeared (EndsSooner (g.P.Port.left c.args.port.now) (g.P.Port.left c.read_next.new.port) (g.P.Port.shown c.args.port.now)) o c.read_next.new.self)) c.in-None.ensures.value
     c.read_next.ensures.nears

@@ -31,7 +31,7 @@ returns-in_ok-put_children-in-Names-clause-looked g c =
 pub returns-in-Going-clause-nears : goal.returns-in-Going-clause-nears
 returns-in-Going-clause-nears g c =
     let law = g.P.Port.law c.args.port.now in
-    inr (refl, list_sooner (starts_of law) (says_of law) (g.P.Port.shown c.args.port.now) (g.P.Port.shown c.step.new.self) c.step.result c.step.ensures.steps (g.P.Port.lasts c.args.port.now) (g.P.Port.lasts c.step.new.self) c.step.ensures.lowers (sym c.list_came.ensures ∙ c.in-Going.is))
+    inr (refl, list_sooner (starts_of law) (says_of law) (g.P.Port.shown c.args.port.now) (g.P.Port.shown c.step.new.self) c.step.result c.step.ensures.steps (g.P.Port.left c.args.port.now) (g.P.Port.left c.step.new.self) c.step.ensures.lowers (sym c.list_came.ensures ∙ c.in-Going.is))
 
 pub returns-in_ok-put_children-in-Names-clause-nears : goal.returns-in_ok-put_children-in-Names-clause-nears
 returns-in_ok-put_children-in-Names-clause-nears g c =

@@ -28,7 +28,7 @@ returns-in_ok-put_node-in-Found-clause-looked g c =
 pub returns-in-Going-clause-nears : goal.returns-in-Going-clause-nears
 returns-in-Going-clause-nears g c =
     let law = g.P.Port.law c.args.port.now in
-    inr (refl, load_sooner (starts_of law) (says_of law) (g.P.Port.shown c.args.port.now) (g.P.Port.shown c.step.new.self) c.step.result c.step.ensures.steps (g.P.Port.lasts c.args.port.now) (g.P.Port.lasts c.step.new.self) c.step.ensures.lowers (sym c.load_came.ensures ∙ c.in-Going.is))
+    inr (refl, load_sooner (starts_of law) (says_of law) (g.P.Port.shown c.args.port.now) (g.P.Port.shown c.step.new.self) c.step.result c.step.ensures.steps (g.P.Port.left c.args.port.now) (g.P.Port.left c.step.new.self) c.step.ensures.lowers (sym c.load_came.ensures ∙ c.in-Going.is))
 
 pub returns-in_ok-put_node-in-Found-clause-nears : goal.returns-in_ok-put_node-in-Found-clause-nears
 returns-in_ok-put_node-in-Found-clause-nears g c =

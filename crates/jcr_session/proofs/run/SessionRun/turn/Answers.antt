@@ -53,12 +53,12 @@ returns-in-Err-clause-granted g c = λ saving. reads_unsaving c.args.self.now (s
 -- it comes nearer
 pub returns-then-not-may_read-clause-nears : goal.returns-then-not-may_read-clause-nears
 returns-then-not-may_read-clause-nears g c =
-    turn_nearer (g.P.Port.law c.args.port.now) (g.P.Port.shown c.args.port.now) (g.P.Port.shown c.counted.new.port) c.args.self.now c.counted.new.self (EndsSooner (g.P.Port.lasts c.args.port.now) (g.P.Port.lasts c.counted.new.port) (g.P.Port.shown c.args.port.now))
+    turn_nearer (g.P.Port.law c.args.port.now) (g.P.Port.shown c.args.port.now) (g.P.Port.shown c.counted.new.port) c.args.self.now c.counted.new.self (EndsSooner (g.P.Port.left c.args.port.now) (g.P.Port.left c.counted.new.port) (g.P.Port.shown c.args.port.now))
     (left_of c.args.self.now (g.P.Port.shown c.args.port.now).work) (left_of c.counted.new.self (g.P.Port.shown c.counted.new.port).work) (g.P.Port.shown c.args.port.now).work (g.P.Port.shown c.counted.new.port).work c.counted.result c.requires.stands c.counted.ensures.turned refl refl c.counted.ensures.steps
 
 pub returns-in-Ok-true-clause-nears : goal.returns-in-Ok-true-clause-nears
 returns-in-Ok-true-clause-nears g c =
-    let sooner = EndsSooner (g.P.Port.lasts c.args.port.now) (g.P.Port.lasts c.go_on.new.port) (g.P.Port.shown c.args.port.now) in
+    let sooner = EndsSooner (g.P.Port.left c.args.port.now) (g.P.Port.left c.go_on.new.port) (g.P.Port.shown c.args.port.now) in
     let before = left_of c.args.self.now (g.P.Port.shown c.args.port.now).work in
     let later = left_of c.go_on.new.self (g.P.Port.shown c.go_on.new.port).work in
     turn_nearer (g.P.Port.law c.args.port.now) (g.P.Port.shown c.args.port.now) (g.P.Port.shown c.go_on.new.port) c.args.self.now c.go_on.new.self sooner before later (g.P.Port.shown c.args.port.now).work (g.P.Port.shown c.go_on.new.port).work c.go_on.result c.requires.stands (returns-in-Ok-true-clause-turned g c) refl refl
@@ -68,7 +68,7 @@ returns-in-Ok-true-clause-nears g c =
 
 pub returns-in-Err-clause-nears : goal.returns-in-Err-clause-nears
 returns-in-Err-clause-nears g c =
-    let sooner = EndsSooner (g.P.Port.lasts c.args.port.now) (g.P.Port.lasts c.say_memory.new.port) (g.P.Port.shown c.args.port.now) in
+    let sooner = EndsSooner (g.P.Port.left c.args.port.now) (g.P.Port.left c.say_memory.new.port) (g.P.Port.shown c.args.port.now) in
     let before = left_of c.args.self.now (g.P.Port.shown c.args.port.now).work in
     let later = left_of c.say_memory.new.self (g.P.Port.shown c.say_memory.new.port).work in
     turn_nearer (g.P.Port.law c.args.port.now) (g.P.Port.shown c.args.port.now) (g.P.Port.shown c.say_memory.new.port) c.args.self.now c.say_memory.new.self sooner before later (g.P.Port.shown c.args.port.now).work (g.P.Port.shown c.say_memory.new.port).work c.say_memory.result c.requires.stands (returns-in-Err-clause-turned g c) refl refl

@@ -3,9 +3,8 @@ use Rattle.jr_path.specs.declared.name.Name.{Name}
 use Rattle.jr_tree.specs.Trees.{Nodes}
 use Rattle.jr_overlay.specs.Overlays.{View, known_view}
 use Rattle.jcr_trans.specs.declared.command.Command.TheVariants as command
-use Rattle.jcr_view.specs.Outcomes.{shown}
-use Rattle.jcr_view.specs.Reading.{Replies, by_id_answer, versions_answer}
-use Rattle.jcr_view.proofs.Replied.{read_as, seen_as}
+use Rattle.jcr_read.specs.Reading.{Replies, by_id_answer, shown, versions_answer}
+use Rattle.jcr_read.proofs.Replied.{read_as, seen_as}
 use Rattle.jcr_view.proofs.pending.Pending.read.Goals as goal
 
 pub returns-in-ById : goal.returns-in-ById

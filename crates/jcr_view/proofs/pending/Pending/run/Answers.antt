@@ -1,6 +1,6 @@
 use Rattle.std.proofs.Common.{sym, ◌∙◌}
 use Rattle.jr_overlay.specs.Overlays.{known_view}
-use Rattle.jcr_view.proofs.Replied.{shown_refused}
+use Rattle.jcr_view.proofs.Shown.{shown_refused}
 use Rattle.jcr_view.proofs.pending.Pending.run.Goals as goal
 
 pub returns-else-is_writing-clause-refused : goal.returns-else-is_writing-clause-refused

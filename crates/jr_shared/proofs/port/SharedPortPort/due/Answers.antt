@@ -1,8 +1,7 @@
-use Rattle.std.proofs.Common.{sym, ap, ◌∙◌}
+use Rattle.std.proofs.Common.{sym, ◌∙◌}
 use Rattle.atomic_table.specs.Seated.{TableId}
 use Rattle.seat_lock.specs.Passes.{view_of}
-use Rattle.oak_world.specs.Seen.{shown_work}
-use Rattle.jr_shared.proofs.Through.{busy_is, due_is, ends_is, framed_new, has_new, lasts_same, law_stays, others_new, rest_new, stays_so, told_new, weight_new}
+use Rattle.jr_shared.proofs.Through.{busy_is, due_is, framed_new, has_new, left_same, law_stays, others_new, over_by, rest_new, stays_so, told_new, weight_new}
 use Rattle.jr_shared.proofs.port.SharedPortPort.due.Goals as goal
 
 pub invariant_of-self : goal.invariant_of-self
@@ -29,11 +28,8 @@ returns-clause-due g c = due_is g.L.Law (view_of c.args.self.now.pass.now) (view
 pub returns-clause-busy : goal.returns-clause-busy
 returns-clause-busy g c = busy_is g.L.Law (view_of c.args.self.now.pass.now) (view_of c.due.new.pass) c.args.self.now.actor _ c.due.ensures.hold c.args.self.now.seat c.due.result c.due.ensures.hold.made_is
 
-pub returns-clause-lasts : goal.returns-clause-lasts
-returns-clause-lasts g c = lasts_same g.L.Law (view_of c.args.self.now.pass.now) (view_of c.due.new.pass) c.args.self.now.actor _ c.due.ensures.hold c.args.self.now.seat c.args.self.now.told c.args.self.now.framed c.args.self.now.pass.ghost_name c.due.ensures.hold.made_is.same
-
-pub returns-clause-ends : goal.returns-clause-ends
-returns-clause-ends g c = ends_is g.L.Law (view_of c.args.self.now.pass.now) (view_of c.due.new.pass) c.args.self.now.actor _ c.due.ensures.hold c.args.self.now.seat c.due.result c.due.ensures.hold.made_is
+pub returns-clause-left : goal.returns-clause-left
+returns-clause-left g c = left_same g.L.Law (view_of c.args.self.now.pass.now) (view_of c.due.new.pass) c.args.self.now.actor _ c.due.ensures.hold c.args.self.now.seat c.args.self.now.told c.args.self.now.framed c.args.self.now.pass.ghost_name c.due.ensures.hold.made_is.same
 
 pub returns-clause-over : goal.returns-clause-over
-returns-clause-over g c = λ rests. ap shown_work rests
+returns-clause-over g c = over_by (view_of c.args.self.now.pass.now) c.args.self.now.actor

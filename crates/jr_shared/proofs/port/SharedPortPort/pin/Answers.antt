@@ -1,7 +1,7 @@
 use Rattle.std.proofs.Common.{sym, ◌∙◌}
 use Rattle.atomic_table.specs.Seated.{TableId}
 use Rattle.seat_lock.specs.Passes.{view_of}
-use Rattle.jr_shared.proofs.Through.{framed_new, has_new, lasts_same, law_stays, others_new, pin_is, rest_new, stays_so, told_new, weight_new}
+use Rattle.jr_shared.proofs.Through.{framed_new, has_new, left_same, law_stays, others_new, pin_is, rest_new, stays_so, told_new, weight_new}
 use Rattle.jr_shared.proofs.port.SharedPortPort.pin.Goals as goal
 
 pub invariant_of-self : goal.invariant_of-self
@@ -25,5 +25,5 @@ returns-clause-same g c = stays_so g.L.Law (view_of c.args.self.now.pass.now) (v
 pub returns-clause-base : goal.returns-clause-base
 returns-clause-base g c = pin_is g.L.Law (view_of c.args.self.now.pass.now) (view_of c.pin.new.pass) c.args.self.now.actor _ c.pin.ensures.hold c.args.self.now.seat c.args.self.now.told c.args.self.now.framed c.args.self.now.pass.ghost_name c.pin.result c.pin.ensures.hold.made_is
 
-pub returns-clause-lasts : goal.returns-clause-lasts
-returns-clause-lasts g c = lasts_same g.L.Law (view_of c.args.self.now.pass.now) (view_of c.pin.new.pass) c.args.self.now.actor _ c.pin.ensures.hold c.args.self.now.seat c.args.self.now.told c.args.self.now.framed c.args.self.now.pass.ghost_name c.pin.ensures.hold.made_is.same
+pub returns-clause-left : goal.returns-clause-left
+returns-clause-left g c = left_same g.L.Law (view_of c.args.self.now.pass.now) (view_of c.pin.new.pass) c.args.self.now.actor _ c.pin.ensures.hold c.args.self.now.seat c.args.self.now.told c.args.self.now.framed c.args.self.now.pass.ghost_name c.pin.ensures.hold.made_is.same

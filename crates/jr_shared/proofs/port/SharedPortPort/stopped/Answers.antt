@@ -1,7 +1,7 @@
 use Rattle.std.proofs.Common.{sym, ◌∙◌}
 use Rattle.atomic_table.specs.Seated.{TableId}
 use Rattle.seat_lock.specs.Passes.{view_of}
-use Rattle.jr_shared.proofs.Through.{framed_new, has_new, lasts_same, law_stays, others_new, rest_new, stays_so, told_new, weight_new}
+use Rattle.jr_shared.proofs.Through.{framed_new, has_new, left_same, law_stays, others_new, rest_new, stays_so, told_new, weight_new}
 use Rattle.jr_shared.proofs.port.SharedPortPort.stopped.Goals as goal
 
 pub invariant_of-self : goal.invariant_of-self
@@ -22,5 +22,5 @@ returns-clause-law g c = law_stays g.L.Law (view_of c.args.self.now.pass.now) (v
 pub returns-clause-same : goal.returns-clause-same
 returns-clause-same g c = stays_so g.L.Law (view_of c.args.self.now.pass.now) (view_of c.stopped.new.pass) c.args.self.now.actor _ c.stopped.ensures.hold c.args.self.now.seat c.args.self.now.told c.args.self.now.framed c.args.self.now.pass.ghost_name c.stopped.ensures.hold.made_is
 
-pub returns-clause-lasts : goal.returns-clause-lasts
-returns-clause-lasts g c = lasts_same g.L.Law (view_of c.args.self.now.pass.now) (view_of c.stopped.new.pass) c.args.self.now.actor _ c.stopped.ensures.hold c.args.self.now.seat c.args.self.now.told c.args.self.now.framed c.args.self.now.pass.ghost_name c.stopped.ensures.hold.made_is
+pub returns-clause-left : goal.returns-clause-left
+returns-clause-left g c = left_same g.L.Law (view_of c.args.self.now.pass.now) (view_of c.stopped.new.pass) c.args.self.now.actor _ c.stopped.ensures.hold c.args.self.now.seat c.args.self.now.told c.args.self.now.framed c.args.self.now.pass.ghost_name c.stopped.ensures.hold.made_is

@@ -3,9 +3,9 @@ use Rattle.std.specs.List.{filter, flat_map}
 use Rattle.std.specs.Option.{option_copied}
 use Rattle.jr_items.specs.Names.{primary_type}
 use Rattle.jr_items.specs.Items.{first_of, property_of}
-use Rattle.jr_types.specs.Checking.{counting_children, types_said}
+use Rattle.jr_types.specs.Said.{counting_children, types_said}
 use Rattle.jr_types.specs.Types.{fits_child, types_of}
-use Rattle.jr_types.proofs.Counting.{child_chosen}
+use Rattle.jr_types.proofs.Chosen.{child_chosen}
 use Rattle.jr_types.proofs.registry.Registry.child_def.Goals as goal
 
 pub returns : goal.returns

@@ -3,9 +3,9 @@ use Rattle.std.specs.Prelude.{is_some, option_and_then}
 use Rattle.std.specs.List.{filter, flat_map}
 use Rattle.std.specs.Option.{option_copied}
 use Rattle.jr_items.specs.Items.{first_of}
-use Rattle.jr_types.specs.Checking.{counting_children, types_said}
+use Rattle.jr_types.specs.Said.{counting_children, types_said}
 use Rattle.jr_types.specs.Types.{types_of}
-use Rattle.jr_types.proofs.Counting.{default_chosen}
+use Rattle.jr_types.proofs.Chosen.{default_chosen}
 use Rattle.jr_types.proofs.registry.Registry.default_type.Goals as goal
 
 pub returns : goal.returns

@@ -2,9 +2,9 @@ use Rattle.std.proofs.Common.{rules, None, Some, ◌≡◌, ◌∙◌, map, ap, 
 use Rattle.std.specs.List.{filter, flat_map}
 use Rattle.std.specs.Option.{option_copied}
 use Rattle.jr_items.specs.Items.{first_of}
-use Rattle.jr_types.specs.Checking.{counting_props, types_said}
+use Rattle.jr_types.specs.Said.{counting_props, types_said}
 use Rattle.jr_types.specs.Types.{fits, props_of, types_of}
-use Rattle.jr_types.proofs.Counting.{prop_chosen}
+use Rattle.jr_types.proofs.Chosen.{prop_chosen}
 use Rattle.jr_types.proofs.registry.Registry.prop_def.Goals as goal
 
 pub returns : goal.returns

@@ -5,4 +5,4 @@ use Rattle.jr_work.proofs.stage.Stage.play_all.Given as goal
 
 -- the entries so far have their parts
 abbrev pub invariant-loop-i : goal.invariant-loop-i
-invariant-loop-i l = ClosesAll l.initial.self l.self (map by_entry (take l.i l.initial.self.script.schedule))
+invariant-loop-i l = ClosesAll l.initial.self l.self (map by_entry (take l.i l.initial.self.schedule))

@@ -13,4 +13,4 @@ read_one-requires-clause-stands c = (c.requires.stage.each c.args.s c.index_mut-
 pub returns : goal.returns
 returns c =
     read_closes c.in_ok-read_one.ensures.0 c.args.s c.args.self.now _ c.index_mut-seat.result.now (record { run = c.read_one.new.run; flight = c.index_mut-seat.result.now.flight }) c.requires.stage
-    (slice_get_read _ _ _ _ refl c.requires.there c.index_mut-seat.ensures.value) refl refl refl c.in_ok-read_one.ensures.1
+    (slice_get_read _ _ _ _ refl c.requires.there c.index_mut-seat.ensures.value) refl refl refl refl c.in_ok-read_one.ensures.1

@@ -12,5 +12,5 @@ turn_once-requires-clause-stands c = (c.requires.stage.each c.args.s c.index_mut
 pub returns-in_ok-seat-in_default : goal.returns-in_ok-seat-in_default
 returns-in_ok-seat-in_default c =
     come_by c.args.s c.args.self.now _ c.index_mut-seat.result.now (record { run = c.turn_once.new.run; flight = c.in_ok-seat-in_default.field-0 }) c.requires.stage
-    (slice_get_read _ _ _ _ refl c.requires.there c.index_mut-seat.ensures.value) refl refl
+    (slice_get_read _ _ _ _ refl c.requires.there c.index_mut-seat.ensures.value) refl refl refl
     c.turn_once.result c.in_default.not-Memory c.turn_once.ensures c.in_ok-seat-in_default.ensures

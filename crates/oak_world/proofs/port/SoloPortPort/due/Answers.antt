@@ -1,4 +1,4 @@
-use Rattle.std.proofs.Common.{ap}
+use Rattle.std.proofs.Common.{ap, refl}
 use Rattle.oak_world.specs.Seen.{shown_work}
 use Rattle.oak_world.specs.Worlds.{work_in}
 use Rattle.oak_world.proofs.Keeping.{still_waits}
@@ -11,11 +11,8 @@ returns-clause-same g c = still_waits (g.L.Law.may_start c.args.self.now.world.n
 pub returns-clause-busy : goal.returns-clause-busy
 returns-clause-busy g c = busy_shown c.due.result (work_in c.args.self.now.world.now.actors c.args.self.now.actor) c.due.ensures.busy
 
-pub returns-clause-lasts : goal.returns-clause-lasts
-returns-clause-lasts g c = λ same n h. h
-
-pub returns-clause-ends : goal.returns-clause-ends
-returns-clause-ends g c = c.due.ensures.ends
+pub returns-clause-left : goal.returns-clause-left
+returns-clause-left g c = λ same. refl
 
 pub returns-clause-over : goal.returns-clause-over
-returns-clause-over g c = λ h. ap shown_work h
+returns-clause-over g c = λ h. ap shown_work (c.due.ensures.over h)

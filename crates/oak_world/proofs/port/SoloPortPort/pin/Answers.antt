@@ -1,3 +1,4 @@
+use Rattle.std.proofs.Common.{refl}
 use Rattle.oak_world.proofs.Keeping.{still_waits}
 use Rattle.oak_world.proofs.port.SoloPortPort.pin.Goals as goal
 
@@ -7,5 +8,5 @@ returns-clause-same g c = still_waits (g.L.Law.may_start c.args.self.now.world.n
 pub returns-clause-base : goal.returns-clause-base
 returns-clause-base g c = c.pin.ensures.base
 
-pub returns-clause-lasts : goal.returns-clause-lasts
-returns-clause-lasts g c = λ same n h. h
+pub returns-clause-left : goal.returns-clause-left
+returns-clause-left g c = λ same. refl

@@ -16,4 +16,4 @@ pub returns-clause-steps : goal.returns-clause-steps
 returns-clause-steps g c = c.step.ensures.seen c.args.self.now.world.ghost_name
 
 pub returns-clause-lowers : goal.returns-clause-lowers
-returns-clause-lowers g c = λ alone n h. c.step.ensures.lowers n h
+returns-clause-lowers g c = λ alone. c.step.ensures.lowers

@@ -9,17 +9,17 @@ pub returns-clause-low : goal.returns-clause-low
 returns-clause-low g c =
     let there = there_by _ c.args.self.now c.args.actor c.self.view_is c.requires in
     subst (λ (xs : List ℕ). 1 ≤ slice_index_or xs c.args.actor 0) (sym c.as_slice-nodes.ensures)
-    (node_low (g.L.Law.may_start c.self.inside.law) (g.L.Law.may_say c.self.inside.law) (g.L.Law.proper c.self.inside.law) c.self.inside.law c.self.inside.journal c.self.inside.table c.self.inside.memories.items c.self.inside.actors.items c.self.invariant.0.0 c.args.actor there (slice_index_or c.self.inside.journal.sessions c.args.actor 0) (index_there c.self.inside.journal.sessions c.args.actor there))
+    (node_low (g.L.Law.may_start c.self.inside.law.value) (g.L.Law.may_say c.self.inside.law.value) (g.L.Law.proper c.self.inside.law.value) c.self.inside.law.value c.self.inside.journal c.self.inside.table c.self.inside.memories.items c.self.inside.actors.items c.self.invariant.0.0 c.args.actor there (slice_index_or c.self.inside.journal.sessions c.args.actor 0) (index_there c.self.inside.journal.sessions c.args.actor there))
 
 pub returns-clause-memory : goal.returns-clause-memory
 returns-clause-memory g c =
     let there = there_by _ c.args.self.now c.args.actor c.self.view_is c.requires in
     subst (λ (xs : List ℕ). slice_index_or xs c.args.actor 0 - 1 < length c.args.self.now.memories) (sym c.as_slice-nodes.ensures)
     (subst (λ (w : WorldOf _). slice_index_or c.self.inside.journal.sessions c.args.actor 0 - 1 < length w.memories) c.self.view_is
-    (memory_within (g.L.Law.may_start c.self.inside.law) (g.L.Law.may_say c.self.inside.law) (g.L.Law.proper c.self.inside.law) c.self.inside.law c.self.inside.journal c.self.inside.table c.self.inside.memories.items c.self.inside.actors.items c.self.invariant.0.0 c.args.actor there (slice_index_or c.self.inside.journal.sessions c.args.actor 0) (index_there c.self.inside.journal.sessions c.args.actor there)))
+    (memory_within (g.L.Law.may_start c.self.inside.law.value) (g.L.Law.may_say c.self.inside.law.value) (g.L.Law.proper c.self.inside.law.value) c.self.inside.law.value c.self.inside.journal c.self.inside.table c.self.inside.memories.items c.self.inside.actors.items c.self.invariant.0.0 c.args.actor there (slice_index_or c.self.inside.journal.sessions c.args.actor 0) (index_there c.self.inside.journal.sessions c.args.actor there)))
 
 pub returns-clause-seat : goal.returns-clause-seat
 returns-clause-seat g c =
     let there = there_by _ c.args.self.now c.args.actor c.self.view_is c.requires in
     subst (λ (w : WorldOf _). c.args.actor < length w.actors) c.self.view_is
-    (subst (λ (n : ℕ). c.args.actor < n) (sym (length-map c.self.inside.actors.items shown_actor)) (actor_within (g.L.Law.may_start c.self.inside.law) (g.L.Law.may_say c.self.inside.law) (g.L.Law.proper c.self.inside.law) c.self.inside.law c.self.inside.journal c.self.inside.table c.self.inside.memories.items c.self.inside.actors.items c.self.invariant.0.0 c.args.actor there))
+    (subst (λ (n : ℕ). c.args.actor < n) (sym (length-map c.self.inside.actors.items shown_actor)) (actor_within (g.L.Law.may_start c.self.inside.law.value) (g.L.Law.may_say c.self.inside.law.value) (g.L.Law.proper c.self.inside.law.value) c.self.inside.law.value c.self.inside.journal c.self.inside.table c.self.inside.memories.items c.self.inside.actors.items c.self.invariant.0.0 c.args.actor there))

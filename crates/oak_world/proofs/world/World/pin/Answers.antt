@@ -11,14 +11,14 @@ use Rattle.oak_world.proofs.world.World.pin.Goals as goal
 
 pub index-memory-requires : goal.index-memory-requires
 index-memory-requires g c =
-    let there = memory_there (g.L.Law.may_start c.self.inside.law) (g.L.Law.may_say c.self.inside.law) (g.L.Law.proper c.self.inside.law) c.self.inside.law c.self.inside.journal c.self.inside.table c.self.inside.memories.items c.self.inside.actors.items
+    let there = memory_there (g.L.Law.may_start c.self.inside.law.value) (g.L.Law.may_say c.self.inside.law.value) (g.L.Law.proper c.self.inside.law.value) c.self.inside.law.value c.self.inside.journal c.self.inside.table c.self.inside.memories.items c.self.inside.actors.items
     c.self.invariant.0.0 c.args.self.now c.self.view_is c.args.actor c.node-node.result c.node-node.ensures.node in
     omega (arith, there, c.self.inside.memories.ok.0)
 
 pub returns-clause-pin : goal.returns-clause-pin
 returns-clause-pin g c =
     c.pin_of.ensures
-    ∙ pin_is (g.L.Law.may_start c.self.inside.law) (g.L.Law.may_say c.self.inside.law) (g.L.Law.proper c.self.inside.law) c.self.inside.law c.self.inside.journal c.self.inside.table c.self.inside.memories.items c.self.inside.actors.items
+    ∙ pin_is (g.L.Law.may_start c.self.inside.law.value) (g.L.Law.may_say c.self.inside.law.value) (g.L.Law.proper c.self.inside.law.value) c.self.inside.law.value c.self.inside.journal c.self.inside.table c.self.inside.memories.items c.self.inside.actors.items
     c.self.invariant.0.0 c.args.self.now c.self.view_is c.args.actor c.node-node.result c.node-node.ensures.node c.index-memory.result.now c.index-memory.ensures
 
 pub returns-clause-base : goal.returns-clause-base

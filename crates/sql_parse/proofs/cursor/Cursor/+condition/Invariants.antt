@@ -1,7 +1,7 @@
 use Rattle.std.proofs.Common.{◌≡◌, ◌+◌, ◌*◌, length}
 use Rattle.std.specs.Prelude.{codes}
 use Rattle.sql_parse.specs.Grammar.{and_more, not_at, or_more}
-use Rattle.sql_parse.specs.Reading.{many, word_first}
+use Rattle.sql_pieces.specs.Reading.{many, word_first}
 use Rattle.sql_parse.specs.Depths.{tested_in}
 use Rattle.sql_parse.proofs.cursor.Cursor.+condition.Given as goal
 

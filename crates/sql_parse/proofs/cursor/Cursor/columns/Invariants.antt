@@ -1,7 +1,7 @@
 use Rattle.std.proofs.Common.{◌≡◌, length}
 use Rattle.sql_parse.specs.Grammar.{column_more}
-use Rattle.sql_parse.specs.Reading.{many, sign_first}
-use Rattle.sql_parse.specs.declared.piece.Sign.TheVariants.{Comma}
+use Rattle.sql_pieces.specs.Reading.{many, sign_first}
+use Rattle.sql_pieces.specs.declared.piece.Sign.TheVariants.{Comma}
 use Rattle.sql_parse.proofs.cursor.Cursor.columns.Given as goal
 
 abbrev pub invariant-loop-turns : goal.invariant-loop-turns

@@ -1,6 +1,6 @@
 use Rattle.std.proofs.Common.{◌≡◌, length}
 use Rattle.sql_parse.specs.Grammar.{join_at, join_first}
-use Rattle.sql_parse.specs.Reading.{many}
+use Rattle.sql_pieces.specs.Reading.{many}
 use Rattle.sql_parse.proofs.cursor.Cursor.sources.Given as goal
 
 abbrev pub invariant-loop-turns : goal.invariant-loop-turns

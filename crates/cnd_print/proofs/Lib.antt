@@ -1,0 +1,17 @@
+mod Escapes
+mod Follows
+mod Kept
+mod Listed
+mod Proper
+mod ReadAttributes
+mod ReadBack
+mod ReadItems
+mod ReadLists
+mod ReadTypes
+mod Readable
+mod Said
+mod SaidFile
+mod Steps
+mod Tokens
+mod Turns
+mod Values

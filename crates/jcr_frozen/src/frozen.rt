@@ -1,0 +1,358 @@
+// Frozen nodes: what a version keeps of a node, and what forbids its check-in.
+ghost use Rattle.std.specs.Prelude.{◌≡◌, ◌++◌, [], false, IfOk, OnOk, drop, length};
+ghost use Rattle.std.specs.BTreeMap.{insert_entry};
+ghost use Rattle.std.specs.List.{fold};
+ghost use Rattle.std.specs.Option.{option_copied, option_map_or};
+ghost use Rattle.jr_path.specs.Names.{name_cmp, parent_of};
+ghost use Rattle.jr_value.specs.declared.value.Property.TheVariants.{Single};
+ghost use Rattle.jr_value.specs.declared.value.Value.TheVariants as value;
+ghost use Rattle.jr_items.specs.Items.{is_versionable, property_of};
+ghost use Rattle.jr_items.specs.Own.{own_name};
+ghost use Rattle.jr_items.specs.Names.{frozen_uuid};
+ghost use Rattle.jcr_frozen.specs.Frozen.{aborting, aborting_at, aborting_property, frozen_copy, frozen_identifier, frozen_tree, is_aborting, is_copied, is_frozen_along, is_frozen_down, is_frozen_name, is_frozen_with, with_copied, with_own, with_property};
+
+use crate::attributes::{Asked, node_has, property_has};
+use jr_items::{OwnName, has_mixin, one_text};
+use jr_path::{DeepCopy, Item, Keyed, Name, Path, Text};
+use jr_tree::{Node, Tree};
+use jr_types::Registry;
+use jr_value::{Property, Value};
+use std::alloc::{AllocError, Global};
+
+/// Whether the node at a path has `mix:versionable` among its mixins.
+pub fn is_versionable(alloc: Global, tree: &Tree, path: &Path) -> Result<bool, AllocError>
+    ensures { IfOk result (λ answer. answer ≡ is_versionable tree.now path.now) }
+{
+    let types = OwnName::MixinTypes.name(alloc)?;
+    let versionable = OwnName::Versionable.name(alloc)?;
+    Ok(has_mixin(tree, &types, &versionable, path))
+}
+
+/// Whether a node is frozen with the node above (JSR 283, 3.13.9 Frozen Node): a version keeps it, and it is not
+/// versionable itself.
+pub fn is_frozen_along(
+    alloc: Global,
+    types: &Registry,
+    tree: &Tree,
+    path: &Path,
+) -> Result<bool, AllocError>
+    ensures { IfOk result (λ answer. answer ≡ is_frozen_along types.now tree.now path.now) }
+{
+    if !node_has(Asked::Kept, types, tree, path)? {
+        return Ok(false);
+    }
+    Ok(!is_versionable(alloc, tree, path)?)
+}
+
+// Whether each node on the way down by these names is frozen with the node above.
+fn is_frozen_down(
+    alloc: Global,
+    types: &Registry,
+    tree: &Tree,
+    path: &Path,
+    names: &[Name],
+) -> Result<bool, AllocError>
+    ensures { IfOk result (λ answer. answer ≡ is_frozen_down types.now tree.now path.now names.now) }
+{
+    match names {
+        [] => Ok(true),
+        [first, rest @ ..] => {
+            let child = path.child(first)?;
+            if is_frozen_along(alloc, types, tree, &child)? {
+                is_frozen_down(alloc, types, tree, &child, rest)
+            } else {
+                Ok(false)
+            }
+        }
+    }
+}
+
+// Whether a node at or below another is frozen with it.
+fn is_frozen_with(
+    alloc: Global,
+    types: &Registry,
+    tree: &Tree,
+    path: &Path,
+    at: &Path,
+) -> Result<bool, AllocError>
+    ensures { IfOk result (λ answer. answer ≡ is_frozen_with types.now tree.now path.now at.now) }
+{
+    is_frozen_down(alloc, types, tree, path, names_below(path, at))
+}
+
+/// The names of the second path behind as many as the first has.
+pub fn names_below<'a>(path: &Path, at: &'a Path) -> &'a [Name]
+    ensures { result.now ≡ drop (length path.now) at.now }
+{
+    match at.names().get(path.depth()..) {
+        Some(names) => names,
+        None => &[],
+    }
+}
+
+/// The path that these names lead to from another.
+pub fn onto(path: &Path, names: &[Name]) -> Result<Path, AllocError>
+    ensures { IfOk result (λ led. led ≡ path.now ++ names.now) }
+{
+    let mut onto = path.copy()?;
+    for name in names {
+        onto = onto.child(name)?;
+    }
+    Ok(onto)
+}
+
+/// Puts the frozen nodes of a node and of what is frozen with it, at a place and below, behind other nodes.
+pub fn push_frozen(
+    nodes: &mut Vec<(Path, Node)>,
+    alloc: Global,
+    types: &Registry,
+    tree: &Tree,
+    path: &Path,
+    place: &Path,
+) -> Result<(), AllocError>
+    ensures { OnOk result (nodes.new.items ≡ nodes.old.items ++ frozen_tree types.now tree.now path.now place.now) }
+{
+    for (at, node) in &tree.under(path)? {
+        if is_frozen_with(alloc, types, tree, path, at)? {
+            let frozen_at = onto(place, names_below(path, at))?;
+            nodes.push((frozen_at, frozen_copy(alloc, types, node)?))?;
+        }
+    }
+    Ok(())
+}
+
+// The frozen node of a node.
+fn frozen_copy(alloc: Global, types: &Registry, node: &Node) -> Result<Node, AllocError>
+    ensures { IfOk result (λ copy. copy ≡ frozen_copy types.now node.now) }
+{
+    let mut props = copied_props(alloc, types, node)?;
+    put_own(&mut props, alloc, node)?;
+    Ok(Node { props, born: None })
+}
+
+// The properties that the frozen node has as the node has them.
+fn copied_props(
+    alloc: Global,
+    types: &Registry,
+    node: &Node,
+) -> Result<Keyed<Name, Property>, AllocError>
+    ensures { IfOk result (λ props. props ≡ fold (with_copied types.now node.now) [] node.now.props) }
+{
+    let mut props = Keyed::new(alloc);
+    for (name, property) in node.props.iter() {
+        put_copied(&mut props, types, node, name, property)?;
+    }
+    Ok(props)
+}
+
+fn put_copied(
+    props: &mut Keyed<Name, Property>,
+    types: &Registry,
+    node: &Node,
+    name: &Name,
+    property: &Property,
+) -> Result<(), AllocError>
+    ensures { OnOk result (props.new ≡ with_copied types.now node.now props.old (name.now, property.now)) }
+{
+    if is_copied(types, node, name, property)? {
+        props.put(name.copy()?, property.copy()?)?;
+    }
+    Ok(())
+}
+
+fn is_copied(
+    types: &Registry,
+    node: &Node,
+    name: &Name,
+    property: &Property,
+) -> Result<bool, AllocError>
+    ensures { IfOk result (λ answer. answer ≡ is_copied types.now node.now name.now property.now) }
+{
+    if is_frozen_name(name) {
+        return Ok(false);
+    }
+    property_has(Asked::Kept, types, node, name, property)
+}
+
+/// Whether a name is that of a property that each frozen node has for itself.
+pub fn is_frozen_name(name: &Name) -> bool
+    ensures { result ≡ is_frozen_name name.now }
+{
+    OwnName::PrimaryType.is(name)
+        || OwnName::MixinTypes.is(name)
+        || OwnName::FrozenPrimaryType.is(name)
+        || OwnName::FrozenMixinTypes.is(name)
+        || OwnName::FrozenUuid.is(name)
+}
+
+// The frozen node's own type, and the node's type, mixins and identifier under other names.
+fn put_own(props: &mut Keyed<Name, Property>, alloc: Global, node: &Node) -> Result<(), AllocError>
+    ensures { OnOk result (props.new ≡ with_own node.now props.old) }
+{
+    let own = Property::Single(Value::Name(OwnName::FrozenType.name(alloc)?));
+    props.put(OwnName::PrimaryType.name(alloc)?, own)?;
+    put_told(
+        props,
+        alloc,
+        node,
+        OwnName::PrimaryType,
+        OwnName::FrozenPrimaryType,
+    )?;
+    put_told(
+        props,
+        alloc,
+        node,
+        OwnName::MixinTypes,
+        OwnName::FrozenMixinTypes,
+    )?;
+    put_identifier(props, alloc, node)
+}
+
+/// Puts a property of the node, if it has it, under another name.
+pub fn put_told(
+    props: &mut Keyed<Name, Property>,
+    alloc: Global,
+    node: &Node,
+    name: OwnName,
+    other: OwnName,
+) -> Result<(), AllocError>
+    ensures { OnOk result (props.new ≡ with_property props.old (own_name other) (property_of node.now (own_name name))) }
+{
+    let name = name.name(alloc)?;
+    put_property(props, alloc, other, node.props.get(&name))
+}
+
+/// Puts a copy of a property, if there is one.
+pub fn put_property(
+    props: &mut Keyed<Name, Property>,
+    alloc: Global,
+    name: OwnName,
+    property: Option<&Property>,
+) -> Result<(), AllocError>
+    ensures { OnOk result (props.new ≡ with_property props.old (own_name name) (option_copied property.entry)) }
+{
+    match property {
+        Some(property) => props.put(name.name(alloc)?, property.copy()?),
+        None => Ok(()),
+    }
+}
+
+// The node's identifier, where its `jcr:uuid` is one text.
+fn put_identifier(
+    props: &mut Keyed<Name, Property>,
+    alloc: Global,
+    node: &Node,
+) -> Result<(), AllocError>
+    ensures { OnOk result (props.new ≡ with_property props.old frozen_uuid (frozen_identifier node.now)) }
+{
+    let uuid = OwnName::Uuid.name(alloc)?;
+    match one_text(node.props.get(&uuid)) {
+        Some(id) => put_text(props, alloc, OwnName::FrozenUuid, id),
+        None => Ok(()),
+    }
+}
+
+// Puts a text.
+fn put_text(
+    props: &mut Keyed<Name, Property>,
+    alloc: Global,
+    name: OwnName,
+    text: &str,
+) -> Result<(), AllocError>
+    ensures { OnOk result (props.new ≡ insert_entry name_cmp props.old (own_name name) (Single (value.Str text.now))) }
+{
+    let text = Property::Single(Value::Str(Text::copy_of(alloc, text)?));
+    props.put(name.name(alloc)?, text)
+}
+
+/// The first item that forbids the check-in of a node, in path order, a node before its properties.
+pub fn first_aborting(
+    alloc: Global,
+    types: &Registry,
+    tree: &Tree,
+    path: &Path,
+) -> Result<Option<Item>, AllocError>
+    ensures { IfOk result (λ found. found ≡ aborting types.now tree.now path.now) }
+{
+    for (at, node) in &tree.under(path)? {
+        if let Some(item) = aborting_at(alloc, types, tree, path, at, node)? {
+            return Ok(Some(item));
+        }
+    }
+    Ok(None)
+}
+
+// The first item at a path that forbids the check-in.
+fn aborting_at(
+    alloc: Global,
+    types: &Registry,
+    tree: &Tree,
+    path: &Path,
+    at: &Path,
+    node: &Node,
+) -> Result<Option<Item>, AllocError>
+    ensures { IfOk result (λ found. found ≡ aborting_at types.now tree.now path.now at.now node.now) }
+{
+    if is_aborting(alloc, types, tree, path, at)? {
+        return Ok(Some(Item {
+            path: at.copy()?,
+            name: None,
+        }));
+    }
+    if is_frozen_with(alloc, types, tree, path, at)? {
+        aborting_property(types, at, node)
+    } else {
+        Ok(None)
+    }
+}
+
+// Whether the node is a child of what is frozen, and forbids the check-in.
+fn is_aborting(
+    alloc: Global,
+    types: &Registry,
+    tree: &Tree,
+    path: &Path,
+    at: &Path,
+) -> Result<bool, AllocError>
+    ensures { IfOk result (λ answer. answer ≡ is_aborting types.now tree.now path.now at.now) }
+{
+    if at == path {
+        return Ok(false);
+    }
+    if is_below_frozen(alloc, types, tree, path, at)? {
+        node_has(Asked::Aborts, types, tree, at)
+    } else {
+        Ok(false)
+    }
+}
+
+// Whether the node above is frozen.
+fn is_below_frozen(
+    alloc: Global,
+    types: &Registry,
+    tree: &Tree,
+    path: &Path,
+    at: &Path,
+) -> Result<bool, AllocError>
+    ensures { IfOk result (λ answer. answer ≡ option_map_or (is_frozen_with types.now tree.now path.now) (parent_of at.now) false) }
+{
+    match at.parent()? {
+        Some(above) => is_frozen_with(alloc, types, tree, path, &above),
+        None => Ok(false),
+    }
+}
+
+// The first property of a node that forbids the check-in.
+fn aborting_property(types: &Registry, at: &Path, node: &Node) -> Result<Option<Item>, AllocError>
+    ensures { IfOk result (λ found. found ≡ aborting_property types.now at.now node.now) }
+{
+    for (name, property) in node.props.iter() {
+        if property_has(Asked::Aborts, types, node, name, property)? {
+            return Ok(Some(Item {
+                path: at.copy()?,
+                name: Some(name.copy()?),
+            }));
+        }
+    }
+    Ok(None)
+}

@@ -1,5 +1,0 @@
-use Rattle.jcr_view.proofs.Below.{all_below}
-use Rattle.jcr_view.proofs.reading.is_all_below.Goals as goal
-
-pub returns : goal.returns
-returns c = all_below c.args.tree.now

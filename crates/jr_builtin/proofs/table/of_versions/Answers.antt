@@ -1,0 +1,43 @@
+use Rattle.std.proofs.Common.{refl}
+use Rattle.std.specs.Prelude.{codes}
+use Rattle.jr_path.proofs.OwnNames.{prefixed_name}
+use Rattle.jr_builtin.proofs.table.of_versions.Goals as goal
+
+pub primary-requires : goal.primary-requires
+primary-requires c = prefixed_name (codes "nt") (codes "frozenNode") refl
+
+pub prop-requires : goal.prop-requires
+prop-requires c = prefixed_name (codes "jcr") (codes "frozenPrimaryType") refl
+
+pub prop-requires-in-14 : goal.prop-requires-in-14
+prop-requires-in-14 c = prefixed_name (codes "jcr") (codes "frozenMixinTypes") refl
+
+pub prop-requires-in-14-2 : goal.prop-requires-in-14-2
+prop-requires-in-14-2 c = prefixed_name (codes "jcr") (codes "frozenUuid") refl
+
+pub any_child-requires-clause-required : goal.any_child-requires-clause-required
+any_child-requires-clause-required c = prefixed_name (codes "nt") (codes "frozenNode") refl
+
+pub primary-requires-in-15 : goal.primary-requires-in-15
+primary-requires-in-15 c = prefixed_name (codes "nt") (codes "version") refl
+
+pub above-requires : goal.above-requires
+above-requires c = prefixed_name (codes "mix") (codes "referenceable") refl
+
+pub prop-requires-in-15 : goal.prop-requires-in-15
+prop-requires-in-15 c = prefixed_name (codes "jcr") (codes "created") refl
+
+pub prop-requires-in-15-2 : goal.prop-requires-in-15-2
+prop-requires-in-15-2 c = prefixed_name (codes "jcr") (codes "predecessors") refl
+
+pub prop-requires-in-15-3 : goal.prop-requires-in-15-3
+prop-requires-in-15-3 c = prefixed_name (codes "jcr") (codes "successors") refl
+
+pub child-requires-clause-name : goal.child-requires-clause-name
+child-requires-clause-name c = prefixed_name (codes "jcr") (codes "frozenNode") refl
+
+pub child-requires-clause-required : goal.child-requires-clause-required
+child-requires-clause-required c = prefixed_name (codes "nt") (codes "frozenNode") refl
+
+pub primary-requires-in-16 : goal.primary-requires-in-16
+primary-requires-in-16 c = prefixed_name (codes "nt") (codes "versionLabels") refl

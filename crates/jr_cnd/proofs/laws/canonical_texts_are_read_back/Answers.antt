@@ -1,5 +1,0 @@
-use Rattle.jr_cnd.proofs.ReadBack.{answered_back, read_back}
-use Rattle.jr_cnd.proofs.laws.canonical_texts_are_read_back.Goals as goal
-
-pub returns : goal.returns
-returns c = record { means = read_back; answered = answered_back }

@@ -1,5 +1,0 @@
-use Rattle.jr_cnd.proofs.Tokens.{text_token, text_written}
-use Rattle.jr_cnd.proofs.laws.printed_texts_are_tokens.Goals as goal
-
-pub returns : goal.returns
-returns c = record { token = text_token; written = text_written }

@@ -1,7 +1,0 @@
-use Rattle.std.proofs.Common.{◌≡◌, ◌++◌, take}
-use Rattle.std.specs.List.{flat_map}
-use Rattle.jr_cnd.specs.Printing.{type_text}
-use Rattle.jr_cnd.proofs.printing.put_types.Given as goal
-
-abbrev pub invariant-loop-definition : goal.invariant-loop-definition
-invariant-loop-definition l = l.out ≡ l.initial.out ++ flat_map type_text (take l.definition-index l.types)

@@ -1,0 +1,6 @@
+//! Definitions of node types from JSON.
+#![tactic(auto)]
+
+mod reading;
+
+pub use reading::{NoType, read_type};

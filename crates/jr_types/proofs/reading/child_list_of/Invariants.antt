@@ -1,8 +1,0 @@
-use Rattle.std.proofs.Common.{take}
-use Rattle.serde_json.specs.View.{items_view}
-use Rattle.jr_types.specs.Reading.{AreRead, IsChildJson}
-use Rattle.jr_types.proofs.reading.child_list_of.Given as goal
-
--- the items so far are read
-abbrev pub invariant-loop-item : goal.invariant-loop-item
-invariant-loop-item l = AreRead IsChildJson (items_view (take l.item-index l.items)) l.list

@@ -1,6 +1,0 @@
-use Rattle.std.proofs.Common.{◌≡◌, map, take}
-use Rattle.jr_types.specs.Checking.{child_rule, first_break}
-use Rattle.jr_types.proofs.registry.Registry.first_child.Given as goal
-
-abbrev pub invariant-loop-name : goal.invariant-loop-name
-invariant-loop-name l = l.first ≡ first_break (child_rule l.self l.tree l.path) (map (λ n. n.now) (take l.name-index l.names))

@@ -1,0 +1,3 @@
+pub mod Upkeeps
+pub mod Works
+pub mod Parts

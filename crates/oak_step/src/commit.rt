@@ -1,0 +1,328 @@
+// The steps of a commit.
+ghost use Rattle.std.specs.Prelude.{◌≡◌, ◌<◌, ◌≤◌, ◌+◌, ◌*◌, ◌-◌, ◌^◌, ◌∷◌, ◌++◌, [], IfOk, IsSome, OnErr, OnOk, length, slice_get};
+ghost use Rattle.oak_clash.specs.Clashes.{marked_paths};
+ghost use Rattle.oak_commit.specs.Committing.{begun, due_of, written_paths};
+ghost use Rattle.oak_commit.specs.Stages.{stage_of};
+ghost use Rattle.oak_commit.specs.declared.stage.Stage.TheVariants as stage;
+ghost use Rattle.oak_doc.specs.declared.asks.Ask.TheVariants as ask;
+ghost use Rattle.oak_machine.specs.declared.event.Event.TheVariants as event;
+ghost use Rattle.oak_node.specs.Heads.{IsInFlight, finished, known_time, next_draw, with_draw};
+ghost use Rattle.oak_node.specs.Notes.{with_notes};
+ghost use Rattle.oak_read.specs.Reading.{IsTable};
+ghost use Rattle.oak_step.specs.Parts.{IsDue, IsLast, IsLastFault, IsMarked, IsRefusedBy, IsUndone, IsWritten, base_at, end_events, needed_by, refusal_at};
+
+use crate::session::base_of;
+use crate::store;
+use jr_path::{DeepCopy, Item, List};
+use jr_rev::{RevVec, Revision};
+use jr_tree::Edit;
+use oak_clash::{MarkAt, marked_paths};
+use oak_commit::Committer;
+use oak_doc::{Ask, Kept, OpFault, Reply, UpdateOp};
+use oak_machine::{Draw, Event, Events, StepKind};
+use oak_node::NodeMem;
+use oak_store::DocTable;
+use std::alloc::{AllocError, Global};
+
+// The draw of an edit with its marks, at the session's base: the paths of the marked nodes are noted with it, and the journal
+// keeps places for all that the commit appends from then on, but for its marks. Where memory is refused nothing changes.
+pub(crate) fn begin(
+    alloc: Global,
+    memory: &mut NodeMem,
+    events: &mut Events,
+    s: u32,
+    edit: Edit,
+    marks: List<MarkAt>,
+) -> Result<Committer, AllocError>
+    requires { known_time memory.old < 2 ^ 64 - 1 }
+    ensures committer { IfOk result (λ committer. committer ≡ begun (next_draw memory.old) (base_at memory.old s) edit marks) }
+    ensures memory { OnOk result (memory.new ≡ with_notes (next_draw memory.old) (with_draw memory.old (next_draw memory.old)) (marked_paths marks)) }
+    ensures list { OnOk result (events.new.list ≡ events.old.list ++ event.Draw (record { revision = next_draw memory.old; session = s; base = base_at memory.old s; edit = edit; marks = marks }) ∷ []) }
+    ensures places { OnOk result (events.new.places ≡ events.old.places + 2 * length (written_paths marks) + 4) }
+    ensures kept { OnErr result (memory.new ≡ memory.old) }
+    ensures err { OnErr result (events.new.list ≡ events.old.list) }
+    ensures back { OnErr result (events.new.places ≡ events.old.places) }
+{
+    let base = base_of(memory, s);
+    let revision = memory.next_draw();
+    let committer = prepared(alloc, revision, &base, &edit, &marks)?;
+    draw(
+        alloc,
+        memory,
+        events,
+        committer.documents(),
+        marks.as_slice(),
+    )?;
+    events.push_kept(Event::Draw(Draw {
+        revision,
+        session: s,
+        base,
+        edit,
+        marks,
+    }));
+    Ok(committer)
+}
+
+// The committer of copies of an edit and its marks.
+fn prepared(
+    alloc: Global,
+    revision: Revision,
+    base: &RevVec,
+    edit: &Edit,
+    marks: &List<MarkAt>,
+) -> Result<Committer, AllocError>
+    ensures { IfOk result (λ committer. committer ≡ begun revision base.now edit.now marks.now) }
+{
+    Committer::new(alloc, revision, base, edit.copy()?, marks.copy()?)
+}
+
+// The draw of a commit of so many documents, with the paths of its marks and with places for all its events but its marks.
+fn draw(
+    alloc: Global,
+    memory: &mut NodeMem,
+    events: &mut Events,
+    documents: usize,
+    marks: &[MarkAt],
+) -> Result<(), AllocError>
+    requires { known_time memory.old < 2 ^ 64 - 1 }
+    ensures memory { OnOk result (memory.new ≡ with_notes (next_draw memory.old) (with_draw memory.old (next_draw memory.old)) (marked_paths marks.now)) }
+    ensures places { OnOk result (events.new.places ≡ events.old.places + 2 * documents + 5) }
+    ensures kept { OnErr result (memory.new ≡ memory.old) }
+    ensures back { OnErr result (events.new.places ≡ events.old.places) }
+    ensures list { events.new.list ≡ events.old.list }
+{
+    if documents > u32::MAX as usize {
+        return Err(AllocError);
+    }
+    let paths = marked_paths(alloc, marks)?;
+    let places = 2 * documents + 5;
+    events.keep(places)?;
+    if memory.draw_noting(paths.as_slice()).is_err() {
+        events.give_back(places);
+        return Err(AllocError);
+    }
+    Ok(())
+}
+
+// The update that is due.
+fn next_update(committer: &Committer) -> Result<UpdateOp, AllocError>
+    requires { IsDue committer.now }
+    ensures { IfOk result (λ op. ask.Update op ≡ due_of committer.now) }
+{
+    match committer.next()? {
+        Ask::Update(op) => Ok(op),
+        _ => unreachable!(),
+    }
+}
+
+// The mark that is due: it is made, or the commit is refused since the other is committed. Where memory is refused nothing
+// changes.
+#[tactic(auto, using(crate::proofs::Acting::mark_asks, crate::proofs::Acting::mark_there))]
+pub(crate) fn mark(
+    table: &mut DocTable,
+    events: &mut Events,
+    committer: &mut Committer,
+    s: u32,
+) -> Result<(), AllocError>
+    requires table { IsTable table.old.documents }
+    requires stage { stage_of committer.old ≡ stage.Mark }
+    ensures made { OnOk result (IsMarked s table.old table.new events.old.list events.new.list committer.old committer.new) }
+    ensures needs { OnOk result (needed_by committer.new ≤ needed_by committer.old) }
+    ensures table { OnErr result (table.new ≡ table.old) }
+    ensures list { OnErr result (events.new.list ≡ events.old.list) }
+    ensures committer { OnErr result (committer.new ≡ committer.old) }
+    ensures places { events.new.places ≡ events.old.places }
+    ensures order { IsTable table.new.documents }
+{
+    let (item, other) = met(committer)?;
+    let op = next_update(committer)?;
+    events.keep(1)?;
+    mark_by(table, events, committer, s, &op, item, other)
+}
+
+// The mark that is due, by its update, with its own item and the other revision, and with a place
+// that is kept for it.
+fn mark_by(
+    table: &mut DocTable,
+    events: &mut Events,
+    committer: &mut Committer,
+    s: u32,
+    op: &UpdateOp,
+    item: Item,
+    other: Revision,
+) -> Result<(), AllocError>
+    requires table { IsTable table.old.documents }
+    requires stage { stage_of committer.old ≡ stage.Mark }
+    requires due { ask.Update op.now ≡ due_of committer.old }
+    requires refusal { refusal_at committer.old (event.Refuse committer.old.revision item other) }
+    requires place { 0 < events.old.places }
+    ensures made { OnOk result (IsMarked s table.old table.new events.old.list events.new.list committer.old committer.new) }
+    ensures needs { OnOk result (needed_by committer.new ≤ needed_by committer.old) }
+    ensures table { OnErr result (table.new ≡ table.old) }
+    ensures list { OnErr result (events.new.list ≡ events.old.list) }
+    ensures committer { OnErr result (committer.new ≡ committer.old) }
+    ensures place { events.new.places + 1 ≡ events.old.places }
+    ensures order { IsTable table.new.documents }
+{
+    match store::update(table, op) {
+        Ok(before) => {
+            events.push_kept(Event::Went(s, StepKind::Mark));
+            // It takes memory for what is found in a document that is written, and this is a mark.
+            let _ = committer.feed(Reply::Updated(before));
+            Ok(())
+        }
+        Err(OpFault::Unmet(cond, kept)) => {
+            events.push_kept(Event::Refuse(committer.revision(), item, other));
+            // A refusal takes no memory.
+            let _ = committer.feed(Reply::Unmet(cond, kept));
+            Ok(())
+        }
+        Err(OpFault::Memory) => {
+            events.give_back(1);
+            Err(AllocError)
+        }
+        // A mark makes the document where there is none.
+        Err(OpFault::Absent) => unreachable!(),
+    }
+}
+
+// Its own item and the other revision of the mark that is due.
+fn met(committer: &Committer) -> Result<(Item, Revision), AllocError>
+    requires { IsSome (slice_get committer.now.writer.due 0) }
+    ensures { IfOk result (λ met. refusal_at committer.now (event.Refuse committer.now.revision met.0 met.1)) }
+{
+    match (committer.due_item(), committer.due_other()) {
+        (Some(item), Some(other)) => Ok((item.copy()?, other)),
+        _ => unreachable!(),
+    }
+}
+
+// The write of the document that is next, with a place that is kept for it. Where memory is refused for the write nothing
+// changes.
+#[tactic(auto, using(crate::proofs::Acting::write_asks))]
+pub(crate) fn write(
+    table: &mut DocTable,
+    events: &mut Events,
+    committer: &mut Committer,
+    s: u32,
+) -> Result<(), AllocError>
+    requires table { IsTable table.old.documents }
+    requires stage { stage_of committer.old ≡ stage.Write }
+    requires place { 0 < events.old.places }
+    ensures made { OnOk result (IsWritten s table.old table.new events.old.list events.new.list committer.old committer.new) }
+    ensures needs { OnOk result (needed_by committer.new + 1 ≤ needed_by committer.old) }
+    ensures place { OnOk result (events.new.places + 1 ≡ events.old.places) }
+    ensures table { OnErr result (table.new ≡ table.old) }
+    ensures list { OnErr result (events.new.list ≡ events.old.list) }
+    ensures committer { OnErr result (committer.new ≡ committer.old) }
+    ensures places { OnErr result (events.new.places ≡ events.old.places) }
+    ensures order { IsTable table.new.documents }
+{
+    let op = next_update(committer)?;
+    match store::update(table, &op) {
+        Ok(before) => {
+            events.push_kept(Event::Went(s, StepKind::Write));
+            // Where memory is refused for what is found in the document, the committer turns to
+            // undoing itself, and the write is made.
+            let _ = committer.feed(Reply::Updated(before));
+            Ok(())
+        }
+        Err(OpFault::Memory) => Err(AllocError),
+        // A write makes the document where there is none, and has no condition.
+        Err(OpFault::Absent) => unreachable!(),
+        Err(OpFault::Unmet(_, _)) => unreachable!(),
+    }
+}
+
+// The last write, with a place that is kept for it: the revision is committed, or it is refused since another has marked it.
+// Where memory is refused nothing changes.
+#[tactic(auto, using(crate::proofs::Acting::last_asks))]
+pub(crate) fn last(
+    table: &mut DocTable,
+    events: &mut Events,
+    committer: &mut Committer,
+) -> Result<(), AllocError>
+    requires table { IsTable table.old.documents }
+    requires stage { stage_of committer.old ≡ stage.Last }
+    requires place { 0 < events.old.places }
+    ensures made { OnOk result (IsLast table.old table.new events.old.list events.new.list committer.old committer.new) }
+    ensures needs { OnOk result (needed_by committer.new + 1 ≤ needed_by committer.old) }
+    ensures place { OnOk result (events.new.places + 1 ≡ events.old.places) }
+    ensures table { OnErr result (table.new ≡ table.old) }
+    ensures list { OnErr result (events.new.list ≡ events.old.list) }
+    ensures committer { OnErr result (committer.new ≡ committer.old) }
+    ensures places { OnErr result (events.new.places ≡ events.old.places) }
+    ensures order { IsTable table.new.documents }
+{
+    let op = next_update(committer)?;
+    let r = committer.revision();
+    match store::update(table, &op) {
+        Ok(before) => {
+            events.push_kept(Event::Commit(r));
+            // It takes memory for what is found in a document that is written, and all are.
+            let _ = committer.feed(Reply::Updated(before));
+            Ok(())
+        }
+        Err(fault) => refused_last(events, committer, fault),
+    }
+}
+
+// The last write was refused: the commit is, where a collision is noted there; and else memory was.
+fn refused_last(
+    events: &mut Events,
+    committer: &mut Committer,
+    fault: OpFault,
+) -> Result<(), AllocError>
+    requires place { 0 < events.old.places }
+    requires stage { stage_of committer.old ≡ stage.Last }
+    requires fault { IsLastFault fault }
+    ensures made { OnOk result (IsRefusedBy fault events.old.list events.new.list committer.old committer.new) }
+    ensures place { OnOk result (events.new.places + 1 ≡ events.old.places) }
+    ensures list { OnErr result (events.new.list ≡ events.old.list) }
+    ensures committer { OnErr result (committer.new ≡ committer.old) }
+    ensures places { OnErr result (events.new.places ≡ events.old.places) }
+{
+    match fault {
+        OpFault::Unmet(cond, Kept::Entry(other, item)) => {
+            events.push_kept(Event::Refuse(committer.revision(), item.copy()?, other));
+            // A refusal takes no memory.
+            let _ = committer.feed(Reply::Unmet(cond, Kept::Entry(other, item)));
+            Ok(())
+        }
+        OpFault::Memory => Err(AllocError),
+        OpFault::Absent => unreachable!(),
+        OpFault::Unmet(_, Kept::Number(_)) => unreachable!(),
+        OpFault::Unmet(_, Kept::Nothing) => unreachable!(),
+    }
+}
+
+// The undoing of a document, with a place that is kept for it. It takes no memory.
+pub(crate) fn undo(table: &mut DocTable, events: &mut Events, committer: &mut Committer, s: u32)
+    requires table { IsTable table.old.documents }
+    requires stage { stage_of committer.old ≡ stage.Undo }
+    requires place { 0 < events.old.places }
+    ensures made { IsUndone s table.old table.new events.old.list events.new.list committer.old committer.new }
+    ensures needs { needed_by committer.new + 1 ≤ needed_by committer.old }
+    ensures places { events.new.places + 1 ≡ events.old.places }
+    ensures order { IsTable table.new.documents }
+{
+    store::undo(table, committer.undo_id(), committer.revision());
+    events.push_kept(Event::Went(s, StepKind::Undo));
+    // Undoing takes no memory.
+    let _ = committer.feed(Reply::Undone);
+}
+
+// The end of a revision of a node, with two places that are kept for it. It takes no memory.
+pub(crate) fn end(memory: &mut NodeMem, events: &mut Events, node: u32, r: Revision)
+    requires flying { IsInFlight memory.old r }
+    requires places { 2 ≤ events.old.places }
+    ensures memory { memory.new ≡ finished memory.old r }
+    ensures list { events.new.list ≡ events.old.list ++ end_events node memory.old r }
+    ensures places { events.old.places ≤ events.new.places + 2 }
+{
+    let moved = memory.finish(r);
+    events.push_kept(Event::End(r));
+    if moved {
+        events.push_kept(Event::Head(node, memory.head()));
+    }
+}

@@ -1,0 +1,14 @@
+//! What a session is doing, and one step of it: on the documents, on the memory of its cluster node, and on the events.
+#![tactic(auto)]
+
+mod commit;
+mod load;
+mod session;
+mod step;
+mod store;
+mod upkeep;
+mod work;
+
+pub use step::step_work;
+pub use upkeep::Upkeep;
+pub use work::Work;

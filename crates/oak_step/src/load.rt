@@ -1,0 +1,67 @@
+// Loads and lists, one document at a time.
+ghost use Rattle.std.specs.Prelude.{◌≡◌, IfOk, OnErr, OnOk};
+ghost use Rattle.std.specs.Option.{option_copied};
+ghost use Rattle.oak_doc.specs.declared.asks.Ask.TheVariants as ask;
+ghost use Rattle.oak_read.specs.Reading.{answer, due, fed};
+ghost use Rattle.oak_step.specs.Parts.{ReadsOn, end_of_reading};
+
+use crate::work::Work;
+use jr_path::DeepCopy;
+use oak_doc::{Ask, Document, Reply};
+use oak_machine::StepKind;
+use oak_port::{StepOut, TaskEnd};
+use oak_read::{ReadOut, Reader};
+use oak_store::DocTable;
+use std::alloc::AllocError;
+
+// The reader is fed what the documents answer to what is due, and where it is done then it gives what it read.
+pub(crate) fn read(table: &DocTable, reader: Reader) -> (Work, StepOut)
+    ensures { ReadsOn table.now reader result.0 result.1 }
+{
+    let mut reader = reader;
+    if read_once(table, &mut reader).is_err() {
+        return (Work::Rest, StepOut::Memory);
+    }
+    if reader.is_done() {
+        return (Work::Rest, StepOut::Ready(given(reader)));
+    }
+    (Work::Read(reader), StepOut::Went(StepKind::Read))
+}
+
+// Feeds the reader what the documents answer to what is due.
+fn read_once(table: &DocTable, reader: &mut Reader) -> Result<(), AllocError>
+    ensures ok { OnOk result (reader.new ≡ fed reader.old (answer table.now.documents (due reader.old))) }
+    ensures err { OnErr result (reader.new ≡ reader.old) }
+{
+    match reader.next()? {
+        Ask::Find(id) => {
+            let found = copied(table.find(&id))?;
+            reader.feed(Reply::Found(found))
+        }
+        Ask::NextAfter(id) => {
+            let found = copied(table.next_after(id.as_ref()))?;
+            reader.feed(Reply::Found(found))
+        }
+        _ => reader.feed(Reply::Found(None)),
+    }
+}
+
+fn copied(document: Option<&Document>) -> Result<Option<Document>, AllocError>
+    ensures { IfOk result (λ copy. copy ≡ option_copied document.entry) }
+{
+    match document {
+        Some(document) => Ok(Some(document.copy()?)),
+        None => Ok(None),
+    }
+}
+
+// What a reader gives that is done.
+fn given(reader: Reader) -> TaskEnd
+    requires { due reader ≡ ask.Done }
+    ensures { end_of_reading reader.step ≡ Some result }
+{
+    match reader.take() {
+        ReadOut::Node(node) => TaskEnd::Node(node),
+        ReadOut::Children(names) => TaskEnd::Children(names),
+    }
+}

@@ -1,0 +1,102 @@
+// What a session does, and the kind of its next step.
+ghost use Rattle.std.specs.Prelude.{◌≡◌, IfOk};
+ghost use Rattle.oak_step.specs.Works.{Begins, CanBegin, kind_due, kind_of};
+
+use crate::upkeep::Upkeep;
+use jr_path::List;
+use jr_rev::{Pin, Revision};
+use jr_tree::Edit;
+use oak_clash::MarkAt;
+use oak_commit::{Committer, Stage};
+use oak_machine::StepKind;
+use oak_port::Task;
+use oak_read::Reader;
+use std::alloc::{AllocError, Global};
+
+/// What a session does.
+#[derive(Drop)]
+pub enum Work {
+    /// Nothing.
+    Rest,
+    Login,
+    End,
+    Refresh,
+    /// A load, or a list.
+    Read(Reader),
+    /// A commit that hasn't drawn its revision.
+    Plan(Edit, List<MarkAt>),
+    /// A commit from its draw to its end.
+    Commit(Committer),
+    /// An accepted commit that has ended: the base moves as soon as the head sees its revision.
+    Move(Revision),
+    /// Background work, or a change of the settings.
+    Upkeep(Upkeep),
+}
+
+impl Work {
+    /// What a session does that is told to do a task, at its pin.
+    pub fn of(alloc: Global, pin: Option<Pin>, task: Task) -> Result<Work, AllocError>
+        requires { CanBegin pin task }
+        ensures { IfOk result (Begins pin task) }
+    {
+        match task {
+            Task::Login => Ok(Work::Login),
+            Task::End => Ok(Work::End),
+            Task::Refresh => Ok(Work::Refresh),
+            Task::Load(path) => match pin {
+                Some(pin) => Ok(Work::Read(Reader::node(alloc, &path, &pin)?)),
+                None => unreachable!(),
+            },
+            Task::List(path) => match pin {
+                Some(pin) => Ok(Work::Read(Reader::children(alloc, &path, &pin)?)),
+                None => unreachable!(),
+            },
+            Task::Commit(edit, marks) => Ok(Work::Plan(edit, marks)),
+            Task::BackWrite => Ok(Work::Upkeep(Upkeep::Write)),
+            Task::BackRead => Ok(Work::Upkeep(Upkeep::Read)),
+            Task::Checkpoint(name) => Ok(Work::Upkeep(Upkeep::Checkpoint(name))),
+            Task::Release(name) => Ok(Work::Upkeep(Upkeep::Release(name))),
+            // No world does these yet.
+            Task::Split(_)
+            | Task::Sweep
+            | Task::Collect
+            | Task::Attach(_)
+            | Task::Detach
+            | Task::Observe
+            | Task::Changes(_)
+            | Task::Stop(_)
+            | Task::Recover(_) => unreachable!(),
+        }
+    }
+
+    /// The kind of the next step, if there is one.
+    pub fn due(&self) -> Option<StepKind>
+        ensures { result ≡ kind_due self.now }
+    {
+        match self {
+            Work::Rest => None,
+            Work::Login => Some(StepKind::Login),
+            Work::End => Some(StepKind::End),
+            Work::Refresh | Work::Move(_) => Some(StepKind::Pin),
+            Work::Read(_) => Some(StepKind::Read),
+            Work::Plan(_, _) => Some(StepKind::Draw),
+            Work::Commit(committer) => kind_of(committer.stage()),
+            Work::Upkeep(upkeep) => Some(upkeep.due()),
+        }
+    }
+}
+
+// The kind of the step of a committer.
+fn kind_of(stage: Stage) -> Option<StepKind>
+    ensures { result ≡ kind_of stage }
+{
+    match stage {
+        Stage::Mark => Some(StepKind::Mark),
+        Stage::Write => Some(StepKind::Write),
+        Stage::Look => Some(StepKind::Read),
+        Stage::Last => Some(StepKind::Last),
+        Stage::Undo => Some(StepKind::Undo),
+        Stage::Finish => Some(StepKind::Finish),
+        Stage::Done => None,
+    }
+}

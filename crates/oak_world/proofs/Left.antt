@@ -1,0 +1,420 @@
+-- A step of a session lowers the number of steps that are left, or it waits.
+use mathlib.Core.Bool.{false≢true}
+use Rattle.std.proofs.Common.{◌≡◌, ◌⊎◌, inl, inr, ℕ, suc, ◌+◌, ◌<◌, ◌≤◌, true, Option, Some, None, Result, Ok, Err, List, [], ◌∷◌, ◌++◌, length, drop, map, is_some, refl, sym, ap, subst, ◌∙◌, arith, length-append}
+use Rattle.std.specs.Prelude.{slice_get, slice_set}
+use Rattle.std.specs.Option.{unwrap_or}
+use Rattle.std.proofs.lemmas.Option.{slice_get_within}
+use Rattle.jr_path.specs.declared.path.DocId.{DocId}
+use Rattle.jr_path.specs.declared.path.DocId.TheVariants as id
+use Rattle.jr_path.specs.declared.path.Item.{Item}
+use Rattle.jr_path.specs.declared.path.Path.{Path}
+use Rattle.jr_rev.specs.declared.revision.Revision.{Revision}
+use Rattle.oak_commit.specs.Clashing.{Met, mark_op}
+use Rattle.oak_commit.specs.Committing.{Committing, begun, first_path, refused, wanting, with_undone, written_alone}
+use Rattle.oak_commit.specs.Kept.{undoes}
+use Rattle.oak_commit.specs.Stages.{stage_of}
+use Rattle.oak_commit.specs.declared.outcome.CommitEnd.{CommitEnd}
+use Rattle.oak_commit.specs.declared.outcome.CommitEnd.TheVariants as end
+use Rattle.oak_commit.specs.declared.stage.Stage.TheVariants as stage
+use Rattle.oak_doc.specs.Updates.{updated}
+use Rattle.oak_doc.specs.declared.document.Document.{Document}
+use Rattle.oak_doc.specs.declared.update.OpFault.{OpFault}
+use Rattle.oak_machine.specs.History.{History, Past}
+use Rattle.oak_machine.specs.Laws.{Says, Starts}
+use Rattle.oak_machine.specs.declared.event.StepKind.{StepKind}
+use Rattle.oak_machine.specs.declared.event.StepKind.TheVariants as kind
+use Rattle.oak_node.specs.Heads.{next_draw}
+use Rattle.oak_node.specs.Memory.{NodeState}
+use Rattle.oak_port.specs.Ports.{IsWait}
+use Rattle.oak_port.specs.declared.task.StepOut.{StepOut}
+use Rattle.oak_port.specs.declared.task.StepOut.TheVariants as answers
+use Rattle.oak_port.specs.declared.task.TaskEnd.TheVariants as ends
+use Rattle.oak_read.specs.Reading.{IsTable}
+use Rattle.oak_store.specs.Tables.{Table, next_number}
+use Rattle.core_clash.specs.Core.{root_of}
+use Rattle.core_world.specs.States.{State, base_in, memory_of, nodes_in}
+use Rattle.core_world.specs.Steps.{after_mark, after_update, after_write, marked_by, with_result}
+use Rattle.oak_step.proofs.Stages.{finish_stage}
+use Rattle.oak_step.specs.Parts.{EndsSo, committed, marked, read_on}
+use Rattle.oak_step.specs.Upkeeps.{told_ids}
+use Rattle.oak_step.specs.declared.upkeep.Upkeep.{Upkeep}
+use Rattle.oak_step.specs.declared.upkeep.Upkeep.TheVariants as upkeep
+use Rattle.oak_step.specs.declared.work.Work.{Work}
+use Rattle.oak_step.specs.declared.work.Work.TheVariants as work
+use Rattle.oak_world.proofs.Counting.{told_few}
+use Rattle.oak_world.proofs.Reading.{read_lowers}
+use Rattle.oak_world.proofs.States.{actor_set}
+use Rattle.oak_world.specs.Kept.{IsWorld, May}
+use Rattle.oak_world.specs.Left.{commit_left, left_in, left_of, marks_left, reads_left, upkeep_left, writes_left}
+use Rattle.oak_world.specs.Steps.{Makes, MakesCommit, MakesUpdate, MakesUpkeep, Publishes, StepsIn}
+use Rattle.oak_world.specs.Worlds.{ActorState, WorldOf, idle, live, running_as, state_of, work_in}
+
+-- ---- basics
+
+none_some : {A : Type 0} (o : Option A) (x : A) → o ≡ None → o ≡ Some x → ⊥
+none_some o x a b = false≢true (ap is_some (sym a ∙ b))
+
+none_cons : {A : Type 0} (xs : List A) (y : A) (ys : List A) → xs ≡ [] → xs ≡ y ∷ ys → ⊥
+none_cons xs y ys a b = let k : [] ≡ y ∷ ys = sym a ∙ b in cc
+
+none_settled : {A : Type 0} (o : Option A) → o ≡ None → is_some o ≡ true → ⊥
+none_settled o a h = false≢true (sym (ap is_some a) ∙ h)
+
+one_more : (n : ℕ) → n ≤ suc n
+one_more n = omega arith
+
+appended : (ps : List Path) (p : Path) → length (ps ++ p ∷ []) ≤ suc (length ps)
+appended ps p = let l : length (ps ++ p ∷ []) ≡ length ps + 1 = length-append ps (p ∷ []) in omega (arith, l)
+
+-- ---- what a session does
+
+-- who has no seat has no task
+seatless : (actors : List ActorState) (s : ℕ) → slice_get actors s ≡ None → work_in actors s ≡ work.Rest
+seatless actors s none = ap (λ (o : Option ActorState). (unwrap_or o idle).work) none
+
+-- what a session does, where that is set
+set_work : (actors xs : List ActorState) (s : ℕ) (a : ActorState) → xs ≡ slice_set actors s a → s < length actors → work_in xs s ≡ a.work
+set_work actors xs s a is seat = ap (λ (ys : List ActorState). work_in ys s) is ∙ ap (λ (b : ActorState). b.work) (actor_set actors s a seat)
+
+-- a session without a task takes no step
+rests_on : {L : Type 0} (w : WorldOf L) (s : ℕ) (u : WorldOf L) (o : StepOut) → StepsIn w s u o → work_in w.actors s ≡ work.Rest → ⊥
+rests_on w s u o m rest = subst (λ (v : Work). Makes s (state_of w) v (state_of u) m.does o) rest m.makes
+
+-- what a session does after its step
+does_now : {L : Type 0} (w : WorldOf L) (s : ℕ) (u : WorldOf L) (o : StepOut) (m : StepsIn w s u o) → work_in u.actors s ≡ m.does
+does_now w s u o m = by (slice_get w.actors s) refl
+  where
+    by : (a : Option ActorState) → slice_get w.actors s ≡ a → work_in u.actors s ≡ m.does
+    by None none = absurd (rests_on w s u o m (seatless w.actors s none))
+    by (Some a) there = set_work w.actors u.actors s _ m.actors (slice_get_within w.actors s a there)
+
+-- ---- a commit that is settled
+
+-- it rests, its base is to move, or a document is undone
+abbrev GoesDown : Committing → Work → Type 0
+GoesDown c x = (x ≡ work.Rest) ⊎ ((x ≡ work.Move c.revision) ⊎ ((x ≡ work.Commit (with_undone c)) × (p : Path) × (rest : List Path) × (c.writer.written ≡ p ∷ rest)))
+
+ends_so : (c : Committing) (x : Work) (o : StepOut) → EndsSo c x o → GoesDown c x
+ends_so c x (answers.Went kind.Finish) m = inr (inl m.1)
+ends_so c x (answers.Ready (ends.Commit e)) m = inl m.2
+ends_so c x _ m = absurd m
+
+settled_step : (s : ℕ) (t u : State) (c : Committing) (e : CommitEnd) (x : Work) (o : StepOut) → c.outcome ≡ Some e → MakesCommit s t c u x o → GoesDown c x
+settled_step s t u c e x o is (inl m) = by m.0 m.4
+  where
+    by : (k : StepKind) → MakesUpdate s t c u m.2 k → GoesDown c x
+    by kind.Mark g = absurd (none_some c.outcome e g.2 is)
+    by kind.Write g = absurd (none_some c.outcome e g.2 is)
+    by kind.Last g = absurd (none_some c.outcome e g.0 is)
+    by kind.Undo g = inr (inr (m.3 ∙ ap work.Commit g.5, g.0, g.1, g.3))
+    by _ g = absurd g
+settled_step s t u c e x o is (inr (inl m)) = ends_so c x o m.2
+settled_step s t u c e x o is (inr (inr m)) = absurd (none_some c.outcome e m.1 is)
+
+settled_less : (s : ℕ) (t : Table) (m : NodeState) (c : Committing) (e : CommitEnd) (x : Work) → c.outcome ≡ Some e → GoesDown c x → left_of s t m x < suc (suc (length c.writer.written))
+settled_less s t m c e x is (inl k) = let n : left_of s t m x ≡ 0 = ap (left_of s t m) k in omega (arith, n)
+settled_less s t m c e x is (inr (inl k)) = let n : left_of s t m x ≡ 1 = ap (left_of s t m) k in omega (arith, n)
+settled_less s t m c e x is (inr (inr k)) =
+    let n : left_of s t m x ≡ suc (suc (length (drop 1 c.writer.written))) = ap (left_of s t m) k.0 ∙ ap (λ (o : Option CommitEnd). commit_left t (with_undone c) o) is in
+    let l : length c.writer.written ≡ suc (length k.2) = ap length k.3 in
+    let d : length (drop 1 c.writer.written) ≡ length k.2 = ap (λ (ps : List Path). length (drop 1 ps)) k.3 in
+    omega (arith, n, l, d)
+
+-- ---- a commit that is going on
+
+-- it has been settled how it ends
+abbrev Turns : Committing → Work → Type 0
+Turns c x = (d : Committing) × (e : CommitEnd) × (x ≡ work.Commit d) × (d.outcome ≡ Some e) × (length d.writer.written ≤ suc (length c.writer.written))
+
+turned_less : (s : ℕ) (t : Table) (m : NodeState) (c : Committing) (x : Work) → Turns c x → left_of s t m x < length c.writer.written + 4
+turned_less s t m c x k =
+    let n : left_of s t m x ≡ suc (suc (length k.0.writer.written)) = ap (left_of s t m) k.2 ∙ ap (λ (o : Option CommitEnd). commit_left t k.0 o) k.3 in
+    let few = k.4 in
+    omega (arith, n, few)
+
+-- what is said of the parts of a list is said of those of an equal one
+of_cons : {A : Type 0} (P : A → List A → Type 0) (x y : A) (xs ys : List A) → x ∷ xs ≡ y ∷ ys → P x xs → P y ys
+of_cons {A} P x y xs ys e h = subst (λ (z : A). P z ys) (let k : x ∷ xs ≡ y ∷ ys = e in cc) (subst (λ (zs : List A). P x zs) (let k : x ∷ xs ≡ y ∷ ys = e in cc) h)
+
+module _ (s : ℕ) (t u : State) (c : Committing) (x : Work) (going : c.outcome ≡ None) where
+  -- it turns to undoing, for want of memory or refused
+  turns_wanting : x ≡ work.Commit (wanting c) → Turns c x
+  turns_wanting is = (wanting c, end.Memory, is, refl, one_more (length c.writer.written))
+
+  turns_refused : (d : Committing) (item : Item) (o : Revision) → x ≡ work.Commit d → d ≡ refused c item o → Turns c x
+  turns_refused d item o is same = (refused c item o, end.Clash item o, is ∙ ap work.Commit same, refl, one_more (length c.writer.written))
+
+  turns_committed : (d : Committing) → x ≡ work.Commit d → d ≡ committed c → Turns c x
+  turns_committed d is same = (committed c, end.Committed c.revision, is ∙ ap work.Commit same, refl, one_more (length c.writer.written))
+
+  turns_written : (p : Path) (rest : List Path) (d : Committing) → x ≡ work.Commit d → d ≡ wanting (written_alone c p rest (nodes_in t.table p)) → Turns c x
+  turns_written p rest d is same = (wanting (written_alone c p rest (nodes_in t.table p)), end.Memory, is ∙ ap work.Commit same, refl, appended c.writer.written p)
+
+  -- it doesn't undo, and it doesn't end
+  undoes_not : undoes c.outcome ≡ true → ⊥
+  undoes_not h = false≢true (sym (ap undoes going) ∙ h)
+
+  finishes_not : stage_of c ≡ stage.Finish → ⊥
+  finishes_not h = none_settled c.outcome going (finish_stage c h).settled
+
+  -- the next mark is due
+  marks_next : (o : StepOut) (f : Met) (rest : List Met) → c.writer.due ≡ f ∷ rest → MakesCommit s t c u x o → ((u ≡ after_mark t s (running_as s c) f rest) × (x ≡ work.Commit (marked c rest))) ⊎ Turns c x
+  marks_next o f rest due (inl m) = by m.0 m.4
+    where
+      Next : Met → List Met → Type 0
+      Next f rest = ((u ≡ after_mark t s (running_as s c) f rest) × (x ≡ work.Commit (marked c rest))) ⊎ Turns c x
+
+      by : (k : StepKind) → MakesUpdate s t c u m.2 k → Next f rest
+      by kind.Mark g = of_cons Next g.0 f g.1 rest (sym g.3 ∙ due)
+          (elim g.5 [ inl k ↦ inl (g.4, m.3 ∙ ap work.Commit k.1) | inr k ↦ inr (turns_refused m.2 g.0.mine g.0.other m.3 k.1) ])
+      by kind.Write g = absurd (none_cons c.writer.due f rest g.3 due)
+      by kind.Last g = absurd (none_cons c.writer.due f rest g.1 due)
+      by kind.Undo g = absurd (undoes_not g.2)
+      by _ g = absurd g
+  marks_next o f rest due (inr (inl m)) = absurd (finishes_not m.0)
+  marks_next o f rest due (inr (inr m)) = inr (turns_wanting m.3)
+
+  -- the next document is due
+  writes_next : (o : StepOut) (p : Path) (rest : List Path) → c.writer.due ≡ [] → c.writer.left ≡ p ∷ rest → MakesCommit s t c u x o → ((u ≡ after_write t s (running_as s c) p rest) × (x ≡ work.Commit (written_alone c p rest (nodes_in t.table p)))) ⊎ Turns c x
+  writes_next o p rest due left (inl m) = by m.0 m.4
+    where
+      Next : Path → List Path → Type 0
+      Next p rest = ((u ≡ after_write t s (running_as s c) p rest) × (x ≡ work.Commit (written_alone c p rest (nodes_in t.table p)))) ⊎ Turns c x
+
+      by : (k : StepKind) → MakesUpdate s t c u m.2 k → Next p rest
+      by kind.Mark g = absurd (none_cons c.writer.due g.0 g.1 due g.3)
+      by kind.Write g = of_cons Next g.0 p g.1 rest (sym g.4 ∙ left)
+          (elim g.5 [ inl k ↦ inl (k.0, m.3 ∙ ap work.Commit k.1) | inr k ↦ inr (turns_written g.0 g.1 m.2 m.3 k.1) ])
+      by kind.Last g = absurd (none_cons c.writer.left p rest g.2 left)
+      by kind.Undo g = absurd (undoes_not g.2)
+      by _ g = absurd g
+  writes_next o p rest due left (inr (inl m)) = absurd (finishes_not m.0)
+  writes_next o p rest due left (inr (inr m)) = inr (turns_wanting m.3)
+
+  -- the last write is due
+  lasts_next : (o : StepOut) → c.writer.due ≡ [] → c.writer.left ≡ [] → MakesCommit s t c u x o → Turns c x
+  lasts_next o due left (inl m) = by m.0 m.4
+    where
+      by : (k : StepKind) → MakesUpdate s t c u m.2 k → Turns c x
+      by kind.Mark g = absurd (none_cons c.writer.due g.0 g.1 due g.3)
+      by kind.Write g = absurd (none_cons c.writer.left g.0 g.1 left g.4)
+      by kind.Last g = elim g.4 [ inl k ↦ turns_committed m.2 m.3 k.1 | inr k ↦ turns_refused m.2 k.0 k.1 m.3 k.3 ]
+      by kind.Undo g = absurd (undoes_not g.2)
+      by _ g = absurd g
+  lasts_next o due left (inr (inl m)) = absurd (finishes_not m.0)
+  lasts_next o due left (inr (inr m)) = turns_wanting m.3
+
+-- ---- the number of a commit that is going on
+
+-- the documents behind a mark
+marked_table : (s : ℕ) (w : State) (c : Committing) (f : Met) (rest : List Met) → (after_mark w s (running_as s c) f rest).table ≡ after_update w.table (mark_op (root_of w.past f.other) f.other c.revision f.theirs)
+marked_table s w c f rest = by (updated (nodes_in w.table (root_of w.past f.other)) (mark_op (root_of w.past f.other) f.other c.revision f.theirs) (next_number w.table))
+  where
+    by : (r : Result Document OpFault) → (marked_by w s (running_as s c) f rest r).table ≡ with_result w.table (id.Node (root_of w.past f.other)) r
+    by (Ok d) = refl
+    by (Err fault) = refl
+
+abbrev GoingLeft : Table → Committing → List Met → List Path → List Path → ℕ
+GoingLeft t c fs roots ps =
+    marks_left c.revision (writes_left c.revision c.base c.edit.writes c.marks ps) fs roots t
+    + length c.writer.written + length ps + 4
+
+going_left : (s : ℕ) (t : Table) (m : NodeState) (c : Committing) (fs : List Met) (ps : List Path) → c.outcome ≡ None → c.writer.due ≡ fs → c.writer.left ≡ ps → left_of s t m (work.Commit c) ≡ GoingLeft t c fs c.roots ps
+going_left s t m c fs ps going due left =
+    ap (λ (o : Option CommitEnd). commit_left t c o) going
+    ∙ (ap (λ (xs : List Met). GoingLeft t c xs c.roots c.writer.left) due
+    ∙ ap (λ (xs : List Path). GoingLeft t c fs c.roots xs) left)
+
+fewer_marks : (n a b now was : ℕ) → now ≡ n + a + b + 4 → was ≡ suc n + a + b + 4 → now < was
+fewer_marks n a b now was h k = omega (arith, h, k)
+
+fewer_writes : (n a b c d now was : ℕ) → now ≡ n + c + b + 4 → was ≡ suc n + a + d + 4 → c ≡ a + 1 → d ≡ suc b → now < was
+fewer_writes n a b c d now was h k l e = omega (arith, h, k, l, e)
+
+turns_less : (n a b now was : ℕ) → now < a + 4 → was ≡ n + a + b + 4 → now < was
+turns_less n a b now was h k = omega (arith, h, k)
+
+at_most_one : (a b : ℕ) → a ≡ b → a < suc b
+at_most_one a b h = omega (arith, h)
+
+module _ (s : ℕ) (w u : State) (c : Committing) (x : Work) (o : StepOut) (m n : NodeState) (going : c.outcome ≡ None) (makes : MakesCommit s w c u x o) where
+  -- it turns to its end
+  turned : (fs : List Met) (ps : List Path) → c.writer.due ≡ fs → c.writer.left ≡ ps → Turns c x → left_of s u.table n x < left_of s w.table m (work.Commit c)
+  turned fs ps due left k =
+      turns_less (marks_left c.revision (writes_left c.revision c.base c.edit.writes c.marks ps) fs c.roots w.table) (length c.writer.written) (length ps) _ _
+      (turned_less s u.table n c x k) (going_left s w.table m c fs ps going due left)
+
+  mark_less : (f : Met) (rest : List Met) → c.writer.due ≡ f ∷ rest → first_path c.roots ≡ root_of w.past f.other → left_of s u.table n x < left_of s w.table m (work.Commit c)
+  mark_less f rest due root = by (marks_next s w u c x going o f rest due makes)
+    where
+      by : ((u ≡ after_mark w s (running_as s c) f rest) × (x ≡ work.Commit (marked c rest))) ⊎ Turns c x → left_of s u.table n x < left_of s w.table m (work.Commit c)
+      by (inl k) =
+          let table : u.table ≡ after_update w.table (mark_op (first_path c.roots) f.other c.revision f.theirs) =
+          ap (λ (v : State). v.table) k.0 ∙ (marked_table s w c f rest ∙ ap (λ (p : Path). after_update w.table (mark_op p f.other c.revision f.theirs)) (sym root)) in
+          let now : left_of s u.table n x ≡ GoingLeft (after_update w.table (mark_op (first_path c.roots) f.other c.revision f.theirs)) c rest (drop 1 c.roots) c.writer.left =
+          ap (λ (v : Work). left_of s u.table n v) k.1
+          ∙ (going_left s u.table n (marked c rest) rest c.writer.left going refl refl
+          ∙ ap (λ (t : Table). GoingLeft t c rest (drop 1 c.roots) c.writer.left) table) in
+          fewer_marks (marks_left c.revision (writes_left c.revision c.base c.edit.writes c.marks c.writer.left) rest (drop 1 c.roots) (after_update w.table (mark_op (first_path c.roots) f.other c.revision f.theirs))) (length c.writer.written) (length c.writer.left) _ _
+          now (going_left s w.table m c (f ∷ rest) c.writer.left going due refl)
+      by (inr k) = turned (f ∷ rest) c.writer.left due refl k
+
+  write_less : (p : Path) (rest : List Path) → c.writer.due ≡ [] → c.writer.left ≡ p ∷ rest → left_of s u.table n x < left_of s w.table m (work.Commit c)
+  write_less p rest due left = by (writes_next s w u c x going o p rest due left makes)
+    where
+      by : ((u ≡ after_write w s (running_as s c) p rest) × (x ≡ work.Commit (written_alone c p rest (nodes_in w.table p)))) ⊎ Turns c x → left_of s u.table n x < left_of s w.table m (work.Commit c)
+      by (inl k) =
+          let d : Committing = written_alone c p rest (nodes_in w.table p) in
+          let now : left_of s u.table n x ≡ GoingLeft (after_write w s (running_as s c) p rest).table d d.writer.due d.roots rest =
+          ap (λ (v : Work). left_of s u.table n v) k.1
+          ∙ (going_left s u.table n d d.writer.due rest going refl refl
+          ∙ ap (λ (v : State). GoingLeft v.table d d.writer.due d.roots rest) k.0) in
+          fewer_writes (marks_left c.revision (writes_left c.revision c.base c.edit.writes c.marks rest) d.writer.due d.roots (after_write w s (running_as s c) p rest).table) (length c.writer.written) (length rest) (length (c.writer.written ++ p ∷ [])) (length (p ∷ rest)) _ _
+          now (going_left s w.table m c [] (p ∷ rest) going due left) (length-append c.writer.written (p ∷ [])) refl
+      by (inr k) = turned [] (p ∷ rest) due left k
+
+  last_less : c.writer.due ≡ [] → c.writer.left ≡ [] → left_of s u.table n x < left_of s w.table m (work.Commit c)
+  last_less due left = turned [] [] due left (lasts_next s w u c x going o due left makes)
+
+-- the marks that are due go to the commit roots that are kept
+abbrev HasRoots : Past → Committing → Type 0
+HasRoots past c = c.roots ≡ map (λ f. root_of past f.other) c.writer.due
+
+commit_less : (s : ℕ) (w u : State) (c : Committing) (x : Work) (o : StepOut) (m n : NodeState) → HasRoots w.past c → MakesCommit s w c u x o → left_of s u.table n x < left_of s w.table m (work.Commit c)
+commit_less s w u c x o m n roots makes = by c.outcome refl
+  where
+    by : (e : Option CommitEnd) → c.outcome ≡ e → left_of s u.table n x < left_of s w.table m (work.Commit c)
+    by (Some e) is =
+        subst (λ (k : ℕ). left_of s u.table n x < k) (sym (ap (λ (o : Option CommitEnd). commit_left w.table c o) is)) (settled_less s u.table n c e x is (settled_step s w u c e x o is makes))
+    by None going = on c.writer.due c.writer.left refl refl
+      where
+        on : (fs : List Met) (ps : List Path) → c.writer.due ≡ fs → c.writer.left ≡ ps → left_of s u.table n x < left_of s w.table m (work.Commit c)
+        on (f ∷ fs) ps due left = mark_less s w u c x o m n going makes f fs due (ap first_path roots ∙ ap (λ (xs : List Met). first_path (map (λ f. root_of w.past f.other) xs)) due)
+        on [] (p ∷ ps) due left = write_less s w u c x o m n going makes p ps due left
+        on [] [] due left = last_less s w u c x o m n going makes due left
+
+-- the commit roots that a session keeps are those of whom it is to mark
+abbrev Rooted : Past → Work → Type 0
+Rooted past (work.Commit c) = HasRoots past c
+Rooted past _ = Unit {0}
+
+-- what a session may do keeps its roots
+rooted : (starts : Starts) (h : History) (s : ℕ) (v : Work) → May starts h s v → Rooted h.past v
+rooted starts h s (work.Commit c) may = may.roots
+rooted starts h s work.Rest may = tt
+rooted starts h s work.Login may = tt
+rooted starts h s work.End may = tt
+rooted starts h s work.Refresh may = tt
+rooted starts h s (work.Read r) may = tt
+rooted starts h s (work.Plan edit marks) may = tt
+rooted starts h s (work.Upkeep u) may = tt
+rooted starts h s (work.Move r) may = tt
+
+-- ---- background work
+
+module _ (s : ℕ) (w u : State) (m n : NodeState) (x : Work) where
+  abbrev now : ℕ
+  now = left_of s u.table n x
+
+  rest_less : (k : ℕ) → x ≡ work.Rest → now < suc k
+  rest_less k is = let z : now ≡ 0 = ap (left_of s u.table n) is in omega (arith, z)
+
+  publish_less : (ids : List DocId) (r : Revision) (o : StepOut) → Publishes s w ids r u x o → now < suc (length ids)
+  publish_less ids r (answers.Went kind.Back) h =
+      let z : now ≡ suc (length h.0) = ap (left_of s u.table n) h.4 in
+      let l : length ids ≡ length h.0 + 1 = ap length h.2 ∙ length-append h.0 (h.1 ∷ []) in
+      omega (arith, z, l)
+  publish_less ids r (answers.Ready (ends.Published o)) h = rest_less (length ids) h.3
+  publish_less ids r answers.Memory h = rest_less (length ids) h.1
+  publish_less ids r _ h = absurd h
+
+  upkeep_less : (k : Upkeep) (o : StepOut) → MakesUpkeep s w k u x o → now < upkeep_left (memory_of w s) k
+  upkeep_less upkeep.Write (answers.Went kind.Back) h =
+      let z : now ≡ suc (length (told_ids h.0.paths)) = ap (left_of s u.table n) h.3 in
+      let few = told_few (memory_of w s) h.0 h.1 in
+      omega (arith, z, few)
+  upkeep_less upkeep.Write answers.Memory h = rest_less _ h.1
+  upkeep_less upkeep.Write _ h = absurd h
+  upkeep_less (upkeep.Noted p) o h = publish_less (told_ids p.paths) p.upto o h
+  upkeep_less (upkeep.Publish ids r) o h = publish_less ids r o h
+  upkeep_less upkeep.Read (answers.Went kind.Back) h = let z : now ≡ 1 = ap (left_of s u.table n) h.3 in omega (arith, z)
+  upkeep_less upkeep.Read answers.Memory h = rest_less 1 h.1
+  upkeep_less upkeep.Read _ h = absurd h
+  upkeep_less (upkeep.Learn last sweep) (answers.Ready (ends.Learnt v)) h = rest_less 0 h.2
+  upkeep_less (upkeep.Learn last sweep) answers.Memory h = rest_less 0 h.1
+  upkeep_less (upkeep.Learn last sweep) _ h = absurd h
+  upkeep_less (upkeep.Checkpoint i) (answers.Ready (ends.Set None)) h = rest_less 0 h.3
+  upkeep_less (upkeep.Checkpoint i) answers.Memory h = rest_less 0 h.1
+  upkeep_less (upkeep.Checkpoint i) _ h = absurd h
+  upkeep_less (upkeep.Release i) (answers.Ready (ends.Set None)) h = rest_less 0 h.2
+  upkeep_less (upkeep.Release i) (answers.Ready ends.NoCheckpoint) h = rest_less 0 h.2
+  upkeep_less (upkeep.Release i) answers.Memory h = rest_less 0 h.1
+  upkeep_less (upkeep.Release i) _ h = absurd h
+
+  -- ---- all
+
+  less : IsTable w.table.documents → (v : Work) (o : StepOut) → Rooted w.past v → Makes s w v u x o → IsWait o ⊎ (now < left_of s w.table (memory_of w s) v)
+  less table work.Login (answers.Ready (ends.Pinned pin)) roots h = inr (rest_less 0 h.1)
+  less table work.Login answers.Memory roots h = inr (rest_less 0 h.1)
+  less table work.Login _ roots h = absurd h
+  less table work.End (answers.Ready ends.Ended) roots h = inr (rest_less 0 h.1)
+  less table work.End answers.Memory roots h = inr (rest_less 0 h.1)
+  less table work.End _ roots h = absurd h
+  less table work.Refresh (answers.Ready (ends.Pinned pin)) roots h = inr (rest_less 0 h.1)
+  less table work.Refresh answers.Memory roots h = inr (rest_less 0 h.1)
+  less table work.Refresh _ roots h = absurd h
+  less table (work.Read r) (answers.Went kind.Read) roots h =
+      let lower = read_lowers w.table table r h.2 in
+      let z : now ≡ suc (reads_left w.table (read_on w.table r)) =
+      ap (λ (v : Work). left_of s u.table n v) h.1 ∙ ap (λ (y : State). suc (reads_left y.table (read_on w.table r))) h.0 in
+      inr (omega (arith, z, lower))
+  less table (work.Read r) (answers.Ready e) roots h = inr (rest_less _ h.1)
+  less table (work.Read r) answers.Memory roots h = inr (rest_less _ h.1)
+  less table (work.Read r) _ roots h = absurd h
+  less table (work.Plan edit marks) (answers.Went kind.Draw) roots h =
+      let d : Committing = begun (next_draw (memory_of w s)) (base_in w s) edit marks in
+      let z : now ≡ commit_left w.table d None = ap (λ (v : Work). left_of s u.table n v) h.1 ∙ ap (λ (y : State). commit_left y.table d None) h.0 in
+      inr (at_most_one now (commit_left w.table d None) z)
+  less table (work.Plan edit marks) answers.Memory roots h = inr (rest_less _ h.1)
+  less table (work.Plan edit marks) _ roots h = absurd h
+  less table (work.Commit c) o roots h = inr (commit_less s w u c x o (memory_of w s) n roots h)
+  less table (work.Move r) (answers.Wait o) roots h = inl tt
+  less table (work.Move r) (answers.Ready (ends.Commit (end.Committed o))) roots h = inr (rest_less 0 h.1)
+  less table (work.Move r) _ roots h = absurd h
+  less table (work.Upkeep k) o roots h = inr (upkeep_less k o h)
+  less table work.Rest o roots h = absurd h
+
+-- a step lowers the number, or it waits
+pub lowers : {L : Type 0} (starts : Starts) (says : Says) (w u : WorldOf L) (s : ℕ) (o : StepOut) → IsWorld starts says w → StepsIn w s u o → IsWait o ⊎ (left_in u s < left_in w s)
+lowers {L} starts says w u s o is m =
+    subst (λ (v : Work). IsWait o ⊎ (left_of s u.table (memory_of (state_of u) s) v < left_in w s)) (sym (does_now w s u o m))
+    (less s (state_of w) (state_of u) (memory_of (state_of w) s) (memory_of (state_of u) s) m.does is.table (work_in w.actors s) o (rooted starts (live w.history) s (work_in w.actors s) (is.may s)) m.makes)
+
+-- nothing is left only where nothing is done
+pub over : (s : ℕ) (t : Table) (m : NodeState) (v : Work) → left_of s t m v ≡ 0 → v ≡ work.Rest
+over s t m work.Rest h = refl
+over s t m work.Login h = absurd (omega (arith, h))
+over s t m work.End h = absurd (omega (arith, h))
+over s t m work.Refresh h = absurd (omega (arith, h))
+over s t m (work.Read r) h = absurd (omega (arith, h))
+over s t m (work.Plan edit marks) h = absurd (omega (arith, h))
+over s t m (work.Commit c) h = absurd (by c.outcome h)
+  where
+    by : (o : Option CommitEnd) → commit_left t c o ≡ 0 → ⊥
+    by None h = omega (arith, h)
+    by (Some e) h = omega (arith, h)
+over s t m (work.Move r) h = absurd (omega (arith, h))
+over s t m (work.Upkeep u) h = absurd (by u h)
+  where
+    by : (u : Upkeep) → upkeep_left m u ≡ 0 → ⊥
+    by upkeep.Write h = omega (arith, h)
+    by (upkeep.Noted n) h = omega (arith, h)
+    by (upkeep.Publish ids r) h = omega (arith, h)
+    by upkeep.Read h = omega (arith, h)
+    by (upkeep.Learn last sweep) h = omega (arith, h)
+    by (upkeep.Checkpoint i) h = omega (arith, h)
+    by (upkeep.Release i) h = omega (arith, h)
+
+-- in worlds with the same documents and memories a session that does one thing has as many steps left
+pub same_left : {L : Type 0} (w u : WorldOf L) (s : ℕ) → state_of u ≡ state_of w → work_in u.actors s ≡ work_in w.actors s → left_in u s ≡ left_in w s
+same_left w u s state does = ap (λ (x : State). left_of s x.table (memory_of x s) (work_in u.actors s)) state ∙ ap (λ (v : Work). left_of s w.table (memory_of (state_of w) s) v) does

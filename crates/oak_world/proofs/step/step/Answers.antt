@@ -1,9 +1,0 @@
-use Rattle.std.proofs.Common.{arith}
-use Rattle.oak_world.proofs.Freeing.{keeps_free}
-use Rattle.oak_world.proofs.step.step.Goals as goal
-
-pub returns-in-Upkeep-clause-places : goal.returns-in-Upkeep-clause-places
-returns-in-Upkeep-clause-places c =
-    let free = keeps_free _ _ _ _ _ _ _ c.keep_up.ensures.made in
-    let same = c.keep_up.ensures.places in
-    omega (arith, free, same)

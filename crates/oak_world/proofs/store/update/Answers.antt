@@ -1,5 +1,0 @@
-use Rattle.oak_world.proofs.Tables.{updates_in_order}
-use Rattle.oak_world.proofs.store.update.Goals as goal
-
-pub returns-clause-order : goal.returns-clause-order
-returns-clause-order c = updates_in_order c.args.table.now c.update.new.self c.args.op.now c.update.result c.update.ensures c.requires c.in_grammar.ensures

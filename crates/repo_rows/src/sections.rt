@@ -1,0 +1,56 @@
+// What comes of each line.
+use crate::loads::{add_loads, add_same};
+use crate::plays::add_play;
+use crate::runs::{add_meaning, add_octets, add_option, add_status, add_unread};
+use crate::{cases, scripts, workers};
+use rows::{Out, cut};
+use std::alloc::Global;
+use std::sync::Wait;
+use std::thread::Threads;
+
+// A line for each line; those behind `== laws` are of laws.
+pub(crate) fn answers<R: Threads + Wait + Sync>(rt: &R, alloc: Global, input: &[u8]) -> Out {
+    let mut out = Out::new(alloc);
+    let mut is_of_laws = false;
+    for line in str::from_utf8(input).unwrap_or("").lines() {
+        if line == "== laws" {
+            is_of_laws = true;
+        }
+        add_line(rt, line, is_of_laws, &mut out);
+        out.put("\n");
+    }
+    out
+}
+
+fn add_line<R: Threads + Wait + Sync>(rt: &R, line: &str, is_of_laws: bool, out: &mut Out) {
+    if line == "== laws" {
+        out.put(line);
+    } else if is_of_laws {
+        cases::add(line, out);
+    } else {
+        add_of(rt, line, out);
+    }
+}
+
+fn add_of<R: Threads + Wait + Sync>(rt: &R, line: &str, out: &mut Out) {
+    let (word, text) = cut(line);
+    match word {
+        "held" => workers::add_held(rt, text, out),
+        "lawful" => workers::add_lawful(rt, text, out),
+        _ => add_answer(word, text, out),
+    }
+}
+
+fn add_answer(word: &str, text: &str, out: &mut Out) {
+    match word {
+        "play" => add_play(text, out),
+        "loads" => add_loads(text, out),
+        "same" => add_same(text, out),
+        "status" => add_status(text, out),
+        "octets" => add_octets(text, out),
+        "unread" => add_unread(text, out),
+        "words" => add_meaning(text, out),
+        "option" => add_option(text, out),
+        _ => scripts::add(word, text, out),
+    }
+}

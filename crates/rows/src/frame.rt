@@ -1,0 +1,43 @@
+// The frame of a program of rows.
+use crate::out::Out;
+use jr_io::{Sink, Source, read_all, write_all};
+use std::alloc::Global;
+
+/// What a program of rows makes of each line, one behind another.
+pub trait Rows {
+    fn add(&mut self, line: &str, out: &mut Out);
+}
+
+/// Answers each line of the input by a line, and gives the status: 3 or 4 where reading or writing
+/// fails, 5 where memory is refused or a row can't be read.
+pub fn answer_all<S: Source, K: Sink, R: Rows>(
+    alloc: Global,
+    source: &mut S,
+    sink: &mut K,
+    rows: &mut R,
+) -> u8 {
+    let Ok(input) = read_all(alloc, source, 100_000_000) else {
+        return 3;
+    };
+    let out = answers(alloc, input.as_slice(), rows);
+    if out.is_broken {
+        return 5;
+    }
+    written(sink, out.text.as_bytes())
+}
+
+fn answers<R: Rows>(alloc: Global, input: &[u8], rows: &mut R) -> Out {
+    let mut out = Out::new(alloc);
+    for line in str::from_utf8(input).unwrap_or("").lines() {
+        rows.add(line, &mut out);
+        out.put("\n");
+    }
+    out
+}
+
+fn written<K: Sink>(sink: &mut K, bytes: &[u8]) -> u8 {
+    if write_all(sink, bytes).is_err() || sink.flush().is_err() {
+        return 4;
+    }
+    0
+}

@@ -1,0 +1,4 @@
+pub mod Firsts
+pub mod Leaves
+pub mod Pieces
+pub mod Reading

@@ -1,0 +1,12 @@
+use Rattle.std.proofs.Common.{◌≡◌, length}
+use Rattle.std.specs.List.{list_any}
+use Rattle.sql_parse.specs.declared.query.Operator.TheVariants as op
+use Rattle.sql_values.specs.Values.{compares}
+use Rattle.sql_values.proofs.compare.some_equal.Given as goal
+
+-- none of the values before is among the values
+abbrev pub invariant-loop-left : goal.invariant-loop-left
+invariant-loop-left l = list_any (λ y. list_any (λ x. compares op.Equal x y) l.values) l.others ≡ list_any (λ y. list_any (λ x. compares op.Equal x y) l.values) l.left
+
+abbrev pub decreases-loop-left : goal.decreases-loop-left
+decreases-loop-left l = length l.left

@@ -1,0 +1,4 @@
+pub mod Texts
+pub mod Patterns
+pub mod Matching
+pub mod Values

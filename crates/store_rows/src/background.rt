@@ -1,0 +1,168 @@
+// Background writes, background reads and sweeps.
+use crate::replies::{Row, STEPS, begin, reply_to};
+use crate::texts::{cut, path};
+use jr_path::List;
+use jr_rev::RevVec;
+use oak_node::Pending;
+use oak_store::DocTable;
+use oak_sweep::Sweeper;
+use oak_sync::{BackRead, BackWrite};
+use rows::{Out, revision, short};
+use std::alloc::AllocError;
+use std::mem;
+
+// REVISION PATH ..: the pending paths are published up to the revision.
+pub(crate) fn add_write(row: &Row<'_>, table: &mut DocTable, out: &mut Out) {
+    match BackWrite::new(out.alloc, pending(row.arguments, out)) {
+        Ok(write) => run_write(row, write, table, out),
+        Err(_) => out.is_broken = true,
+    }
+}
+
+fn pending(text: &str, out: &mut Out) -> Pending {
+    let (upto, words) = cut(text, ' ');
+    let mut paths = List::new(out.alloc);
+    for word in words.split(' ') {
+        if !word.is_empty() {
+            let put = paths.push(path(word, out));
+            out.note(put);
+        }
+    }
+    Pending {
+        paths,
+        upto: revision(upto),
+    }
+}
+
+fn run_write(row: &Row<'_>, write: BackWrite, table: &mut DocTable, out: &mut Out) {
+    let mut write = write;
+    for step in 1..STEPS {
+        if !write.is_done() {
+            let made = write_step(row, step, &mut write, table, out);
+            out.note(made);
+        }
+    }
+    end_write(write, out);
+}
+
+fn write_step(
+    row: &Row<'_>,
+    step: u64,
+    write: &mut BackWrite,
+    table: &mut DocTable,
+    out: &mut Out,
+) -> Result<(), AllocError> {
+    begin(row, step, sync_word(write.stage()), table, out);
+    let ask = write.next()?;
+    write.feed(reply_to(row, ask, table, out))
+}
+
+fn sync_word(stage: oak_sync::Stage) -> &'static str {
+    match stage {
+        oak_sync::Stage::Write => "write",
+        oak_sync::Stage::Publish => "publish",
+        oak_sync::Stage::Read => "read",
+        oak_sync::Stage::Learn => "learn",
+        oak_sync::Stage::Done => "done",
+    }
+}
+
+fn end_write(write: BackWrite, out: &mut Out) {
+    if write.is_done() {
+        out.put_revision("end ", write.end());
+    } else {
+        mem::forget(write);
+    }
+}
+
+// CLUSTER
+pub(crate) fn add_read(row: &Row<'_>, table: &mut DocTable, out: &mut Out) {
+    match BackRead::new(out.alloc, short(row.arguments)) {
+        Ok(read) => run_read(row, read, table, out),
+        Err(_) => out.is_broken = true,
+    }
+}
+
+fn run_read(row: &Row<'_>, read: BackRead, table: &mut DocTable, out: &mut Out) {
+    let mut read = read;
+    for step in 1..STEPS {
+        if !read.is_done() {
+            let made = read_step(row, step, &mut read, table, out);
+            out.note(made);
+        }
+    }
+    end_read(read, out);
+}
+
+fn read_step(
+    row: &Row<'_>,
+    step: u64,
+    read: &mut BackRead,
+    table: &mut DocTable,
+    out: &mut Out,
+) -> Result<(), AllocError> {
+    begin(row, step, sync_word(read.stage()), table, out);
+    let ask = read.next()?;
+    read.feed(reply_to(row, ask, table, out))
+}
+
+fn end_read(read: BackRead, out: &mut Out) {
+    if read.is_done() {
+        put_pair(&read.end(), out);
+    } else {
+        mem::forget(read);
+    }
+}
+
+fn put_pair(learned: &(RevVec, RevVec), out: &mut Out) {
+    out.put_pin("end ", &learned.0, &learned.1);
+}
+
+// CLUSTER
+pub(crate) fn add_sweep(row: &Row<'_>, table: &mut DocTable, out: &mut Out) {
+    match Sweeper::new(out.alloc, short(row.arguments)) {
+        Ok(sweeper) => run_sweep(row, sweeper, table, out),
+        Err(_) => out.is_broken = true,
+    }
+}
+
+fn run_sweep(row: &Row<'_>, sweeper: Sweeper, table: &mut DocTable, out: &mut Out) {
+    let mut sweeper = sweeper;
+    for step in 1..STEPS {
+        if !sweeper.is_done() {
+            let made = sweep_step(row, step, &mut sweeper, table, out);
+            out.note(made);
+        }
+    }
+    end_sweep(sweeper, out);
+}
+
+fn sweep_step(
+    row: &Row<'_>,
+    step: u64,
+    sweeper: &mut Sweeper,
+    table: &mut DocTable,
+    out: &mut Out,
+) -> Result<(), AllocError> {
+    begin(row, step, sweep_word(sweeper.stage()), table, out);
+    let ask = sweeper.next()?;
+    sweeper.feed(reply_to(row, ask, table, out))
+}
+
+fn sweep_word(stage: oak_sweep::Stage) -> &'static str {
+    match stage {
+        oak_sweep::Stage::Root => "root",
+        oak_sweep::Stage::Document => "document",
+        oak_sweep::Stage::Publish => "publish",
+        oak_sweep::Stage::Learn => "learn",
+        oak_sweep::Stage::Done => "done",
+    }
+}
+
+fn end_sweep(sweeper: Sweeper, out: &mut Out) {
+    if sweeper.is_done() {
+        out.put_revision("end ", sweeper.end());
+    } else {
+        mem::forget(sweeper);
+    }
+}

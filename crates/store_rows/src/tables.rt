@@ -1,0 +1,133 @@
+// Documents of a table: changes, undoing, removals, and what the table gives.
+ghost use Rattle.std.specs.Prelude.{◌≡◌};
+
+use crate::{letters, nodes, reading, updates};
+use jr_path::{DeepCopy, DocId, List, Path, PathFault};
+use jr_rev::Revision;
+use oak_doc::{Ask, Collected, RemoveOut, Reply};
+use oak_store::DocTable;
+use rows::{Out, cut, number};
+use std::alloc::{AllocError, Global};
+
+pub(crate) fn add(line: &str, table: &mut DocTable, out: &mut Out) {
+    let (word, rest) = cut(line);
+    match word {
+        "change" => updates::make(rest, table, out),
+        "again" => updates::refuse(rest, table, out),
+        "undo" => undo(rest, table, out),
+        "remove" => remove(rest, table, out),
+        "walk" => walk(table, out),
+        "commit" => letters::add(rest, out),
+        "moved" => letters::add_moved(rest, out),
+        "copies" => add_copies(out),
+        "memory" => nodes::add(out),
+        "node" => reading::add_node(rest, table, out),
+        "children" => reading::add_children(rest, table, out),
+        _ => out.put("no row"),
+    }
+}
+
+// The revision of cluster node 1 at a time.
+pub(crate) fn at_time(text: &str) -> Revision
+    ensures { result.cluster ≡ 1 }
+{
+    Revision {
+        time: number(text),
+        counter: 0,
+        cluster: 1,
+    }
+}
+
+// A number with a space behind it.
+pub(crate) fn put_count(number: u64, out: &mut Out) {
+    out.put_number(number);
+    out.put(" ");
+}
+
+// A path, with a number before it for a previous document; the settings for `settings`.
+pub(crate) fn id_of(alloc: Global, text: &str) -> Result<DocId, PathFault> {
+    if text == "settings" {
+        return Ok(DocId::Settings);
+    }
+    match text.split_once(':') {
+        Some((before, path)) => Ok(DocId::Prev(number(before), Path::parse(alloc, path)?)),
+        None => Ok(DocId::Node(Path::parse(alloc, text)?)),
+    }
+}
+
+// ID TIME: the entries of a revision go.
+fn undo(rest: &str, table: &mut DocTable, out: &mut Out) {
+    let (id, time) = cut(rest);
+    match id_of(out.alloc, id) {
+        Ok(id) => {
+            table.undo(&id, at_time(time));
+            updates::put_found(table.find(&id), "none", out);
+        }
+        Err(_) => out.put("no id"),
+    }
+}
+
+// ID NUMBER
+fn remove(rest: &str, table: &mut DocTable, out: &mut Out) {
+    let (id, mod_count) = cut(rest);
+    match id_of(out.alloc, id) {
+        Ok(id) => put_removed(&table.remove_if(&id, number(mod_count)), out),
+        Err(_) => out.put("no id"),
+    }
+}
+
+fn put_removed(removed: &RemoveOut, out: &mut Out) {
+    match removed {
+        RemoveOut::Removed => out.put("removed"),
+        RemoveOut::Changed(mod_count) => put_count(*mod_count, out),
+        RemoveOut::Absent => out.put("absent"),
+    }
+}
+
+// The documents in store order, each with its number; a document is found behind the one before it.
+fn walk(table: &DocTable, out: &mut Out) {
+    let mut last = None;
+    for _ in 0..table.documents().len() {
+        if let Some(document) = table.next_after(last) {
+            out.put_id("", &document.id);
+            out.put(" ");
+            put_count(document.mod_count, out);
+            last = Some(&document.id);
+        }
+    }
+}
+
+// Copies of what is asked and answered.
+fn add_copies(out: &mut Out) {
+    out.put(if is_ask_copied() == Ok(true) && is_reply_copied() == Ok(true) {
+        "copied "
+    } else {
+        "changed "
+    });
+    match skips_copied(out.alloc) {
+        Ok(skips) => put_count(skips as u64, out),
+        Err(_) => out.is_broken = true,
+    }
+}
+
+fn is_ask_copied() -> Result<bool, AllocError> {
+    Ok(matches!(
+        Ask::Find(DocId::Settings).copy()?,
+        Ask::Find(DocId::Settings)
+    ))
+}
+
+fn is_reply_copied() -> Result<bool, AllocError> {
+    Ok(matches!(Reply::Absent.copy()?, Reply::Absent))
+}
+
+fn skips_copied(alloc: Global) -> Result<usize, AllocError> {
+    let mut skipped = List::new(alloc);
+    skipped.push((DocId::Settings, 3, 4))?;
+    let collected = Collected {
+        entries: 1,
+        documents: 2,
+        skipped,
+    };
+    Ok(collected.copy()?.skipped.inner().len())
+}

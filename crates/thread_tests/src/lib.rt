@@ -1,5 +1,0 @@
-//! Tests of scripts that workers run.
-#![tactic(auto)]
-
-#[cfg(test)]
-mod tests;
