@@ -123,7 +123,7 @@ moves m r is = any_move m r.alloc r.pin r.at r.names is r.parent r.known r.step
 -- ---- the documents that are left
 
 -- how many of some ids are behind one
-abbrev behind_of : List DocId → DocId → ℕ
+abbrev pub behind_of : List DocId → DocId → ℕ
 behind_of ids x = length (filter (λ k. is_lt (id_cmp x k)) ids)
 
 still_less : (x y k : DocId) → id_cmp x y ≡ Less → is_lt (id_cmp y k) ≡ true → is_lt (id_cmp x k) ≡ true
@@ -143,17 +143,18 @@ module _ (x y : DocId) (less : id_cmp x y ≡ Less) where
       by false p true q = omega (arith, h)
       by false p false q = h
 
-  fewer : (ids : List DocId) → length (over y ids) ≤ length (over x ids)
-  fewer [] = omega arith
-  fewer (k ∷ ids) = at_most k ids (fewer ids)
+  as_few : (ids : List DocId) → length (over y ids) ≤ length (over x ids)
+  as_few [] = omega arith
+  as_few (k ∷ ids) = at_most k ids (as_few ids)
 
-  lower : (ids : List DocId) → list_any (eq_by_cmp id_cmp y) ids ≡ true → length (over y ids) < length (over x ids)
-  lower [] h = absurd (false≢true h)
-  lower (k ∷ ids) h = by (eq_by_cmp id_cmp y k) refl h (λ j. lower ids j)
+  -- behind a later document there are fewer
+  pub fewer_behind : (ids : List DocId) → list_any (eq_by_cmp id_cmp y) ids ≡ true → behind_of ids y < behind_of ids x
+  fewer_behind [] h = absurd (false≢true h)
+  fewer_behind (k ∷ ids) h = by (eq_by_cmp id_cmp y k) refl h (λ j. fewer_behind ids j)
     where
       -- the id itself is behind x and not behind y
       own : length (cond false (k ∷ over y ids) (over y ids)) < length (cond true (k ∷ over x ids) (over x ids))
-      own = let rest = fewer ids in omega (arith, rest)
+      own = let rest = as_few ids in omega (arith, rest)
 
       other : length (over y ids) < length (over x ids) → (b : Bool) → is_lt (id_cmp y k) ≡ b → (c : Bool) → is_lt (id_cmp x k) ≡ c → length (cond b (k ∷ over y ids) (over y ids)) < length (cond c (k ∷ over x ids) (over x ids))
       other h true p true q = omega (arith, h)
@@ -200,7 +201,7 @@ module _ (ids : List DocId) where
       by : Moves (f 0) r.at r.step (answered r (f 0)) → InPhase b p k → Ends (λ i. f (suc i)) (answered r (f 0))
       by (inl done) rest = (0, done)
       by (inr (inl risen)) rest =
-          let fewer_left : behind_of ids (id.Node (answered r (f 0)).at) < behind_of ids (id.Node r.at) = lower (id.Node r.at) (id.Node (answered r (f 0)).at) risen.0 ids ((are 0).among (id.Node (answered r (f 0)).at) risen.1) in
+          let fewer_left : behind_of ids (id.Node (answered r (f 0)).at) < behind_of ids (id.Node r.at) = fewer_behind (id.Node r.at) (id.Node (answered r (f 0)).at) risen.0 ids ((are 0).among (id.Node (answered r (f 0)).at) risen.1) in
           ids_below (λ i. f (suc i)) (answered r (f 0)) (λ i. are (suc i)) (omega (arith, h, fewer_left))
       by (inr (inr (same, inl lesser))) rest =
           phase_below (λ i. f (suc i)) (answered r (f 0)) (λ i. are (suc i)) (subst (λ (q : Path). behind_of ids (id.Node q) ≤ b) (sym same) h) (subst (λ (n : ℕ). phase (answered r (f 0)).step < n) in_p lesser)

@@ -16,6 +16,8 @@ use Rattle.jr_items.specs.Names.{primary_type, mixin_types, uuid, frozen_type, f
 use Rattle.jr_items.specs.Items.{first_of, is_versionable, one_text, property_of, same_name, same_path}
 use Rattle.jr_types.specs.declared.TypeDef.{TypeDef}
 use Rattle.jcr_frozen.specs.declared.attributes.Asked.TheVariants as asked
+use Rattle.jcr_frozen.specs.declared.frozen.Share.{Share}
+use Rattle.jcr_frozen.specs.declared.frozen.Share.TheVariants as share
 use Rattle.jcr_frozen.specs.Attributes.{node_has, property_has}
 
 -- a node is frozen with the node above: a version keeps it, and it is not versionable
@@ -40,9 +42,28 @@ is_frozen_name n =
 abbrev pub is_copied : List TypeDef → Node → Name → Property → Bool
 is_copied types node n x = not (is_frozen_name n) && property_has asked.Kept types node n x
 
--- one property more, if the frozen node has it
-abbrev pub with_copied : List TypeDef → Node → List (Name × Property) → Name × Property → List (Name × Property)
-with_copied types node props x = cond (is_copied types node x.0 x.1) (insert_entry name_cmp props x.0 x.1) props
+-- the name is that of a node's type or of its mixins
+abbrev pub is_type_name : Name → Bool
+is_type_name n = same_name primary_type n || same_name mixin_types n
+
+-- a version doesn't keep the property of the node, and it isn't the node's types: a restore leaves it
+abbrev pub is_unkept : List TypeDef → Node → Name → Property → Bool
+is_unkept types node n x = not (is_type_name n) && not (property_has asked.Kept types node n x)
+
+-- the property is in this share of the node's properties
+abbrev pub is_in_share : Share → List TypeDef → Node → Name → Property → Bool
+is_in_share share.Copied types node n x = is_copied types node n x
+is_in_share share.Left types node n x = is_unkept types node n x
+
+-- one property more, if it is in this share
+abbrev pub with_in_share : Share → List TypeDef → Node → List (Name × Property) → Name × Property
+    → List (Name × Property)
+with_in_share s types node props x =
+    cond (is_in_share s types node x.0 x.1) (insert_entry name_cmp props x.0 x.1) props
+
+-- this share of a node's properties
+abbrev pub share_of : Share → List TypeDef → Node → List (Name × Property)
+share_of s types node = fold (with_in_share s types node) [] node.props
 
 -- one property more, if there is one
 abbrev pub with_property : List (Name × Property) → Name → Option Property → List (Name × Property)
@@ -62,7 +83,7 @@ with_own node props =
 
 -- the properties of a node's frozen node
 abbrev pub frozen_props : List TypeDef → Node → List (Name × Property)
-frozen_props types node = with_own node (fold (with_copied types node) [] node.props)
+frozen_props types node = with_own node (share_of share.Copied types node)
 
 -- the frozen node of a node
 abbrev pub frozen_copy : List TypeDef → Node → Node

@@ -19,7 +19,7 @@ pub enum Asked {
 }
 
 /// Whether a property of a node has what is asked; one without a definition has nothing.
-pub fn property_has(
+pub(crate) fn property_has(
     asked: Asked,
     types: &Registry,
     node: &Node,

@@ -1,7 +1,6 @@
 // Frozen nodes: what a version keeps of a node, and what forbids its check-in.
-ghost use Rattle.std.specs.Prelude.{◌≡◌, ◌++◌, [], false, IfOk, OnOk, drop, length};
+ghost use Rattle.std.specs.Prelude.{◌≡◌, ◌++◌, false, IfOk, OnOk, drop, length};
 ghost use Rattle.std.specs.BTreeMap.{insert_entry};
-ghost use Rattle.std.specs.List.{fold};
 ghost use Rattle.std.specs.Option.{option_copied, option_map_or};
 ghost use Rattle.jr_path.specs.Names.{name_cmp, parent_of};
 ghost use Rattle.jr_value.specs.declared.value.Property.TheVariants.{Single};
@@ -9,7 +8,7 @@ ghost use Rattle.jr_value.specs.declared.value.Value.TheVariants as value;
 ghost use Rattle.jr_items.specs.Items.{is_versionable, property_of};
 ghost use Rattle.jr_items.specs.Own.{own_name};
 ghost use Rattle.jr_items.specs.Names.{frozen_uuid};
-ghost use Rattle.jcr_frozen.specs.Frozen.{aborting, aborting_at, aborting_property, frozen_copy, frozen_identifier, frozen_tree, is_aborting, is_copied, is_frozen_along, is_frozen_down, is_frozen_name, is_frozen_with, with_copied, with_own, with_property};
+ghost use Rattle.jcr_frozen.specs.Frozen.{aborting, aborting_at, aborting_property, frozen_copy, frozen_identifier, frozen_tree, is_aborting, is_copied, is_frozen_along, is_frozen_down, is_frozen_name, is_frozen_with, is_in_share, is_type_name, is_unkept, share_of, with_own, with_property, with_in_share};
 
 use crate::attributes::{Asked, node_has, property_has};
 use jr_items::{OwnName, has_mixin, one_text};
@@ -18,6 +17,15 @@ use jr_tree::{Node, Tree};
 use jr_types::Registry;
 use jr_value::{Property, Value};
 use std::alloc::{AllocError, Global};
+
+/// A share of a node's properties.
+#[derive(Clone, Copy, Debug, PartialEq, Eq)]
+pub enum Share {
+    /// Those that the frozen node has as the node has them.
+    Copied,
+    /// Those that a restore leaves: a version doesn't keep them, and they aren't the node's types.
+    Left,
+}
 
 /// Whether the node at a path has `mix:versionable` among its mixins.
 pub fn is_versionable(alloc: Global, tree: &Tree, path: &Path) -> Result<bool, AllocError>
@@ -125,41 +133,83 @@ pub fn push_frozen(
 fn frozen_copy(alloc: Global, types: &Registry, node: &Node) -> Result<Node, AllocError>
     ensures { IfOk result (λ copy. copy ≡ frozen_copy types.now node.now) }
 {
-    let mut props = copied_props(alloc, types, node)?;
+    let mut props = share_of(alloc, Share::Copied, types, node)?;
     put_own(&mut props, alloc, node)?;
     Ok(Node { props, born: None })
 }
 
-// The properties that the frozen node has as the node has them.
-fn copied_props(
+/// This share of a node's properties.
+pub fn share_of(
     alloc: Global,
+    share: Share,
     types: &Registry,
     node: &Node,
 ) -> Result<Keyed<Name, Property>, AllocError>
-    ensures { IfOk result (λ props. props ≡ fold (with_copied types.now node.now) [] node.now.props) }
+    ensures { IfOk result (λ props. props ≡ share_of share types.now node.now) }
 {
     let mut props = Keyed::new(alloc);
     for (name, property) in node.props.iter() {
-        put_copied(&mut props, types, node, name, property)?;
+        put_in_share(&mut props, share, types, node, name, property)?;
     }
     Ok(props)
 }
 
-fn put_copied(
+// Puts a property that is in the share.
+fn put_in_share(
     props: &mut Keyed<Name, Property>,
+    share: Share,
     types: &Registry,
     node: &Node,
     name: &Name,
     property: &Property,
 ) -> Result<(), AllocError>
-    ensures { OnOk result (props.new ≡ with_copied types.now node.now props.old (name.now, property.now)) }
+    ensures { OnOk result (props.new
+        ≡ with_in_share share types.now node.now props.old (name.now, property.now)) }
 {
-    if is_copied(types, node, name, property)? {
+    if is_in_share(share, types, node, name, property)? {
         props.put(name.copy()?, property.copy()?)?;
     }
     Ok(())
 }
 
+fn is_in_share(
+    share: Share,
+    types: &Registry,
+    node: &Node,
+    name: &Name,
+    property: &Property,
+) -> Result<bool, AllocError>
+    ensures { IfOk result (λ answer. answer
+        ≡ is_in_share share types.now node.now name.now property.now) }
+{
+    match share {
+        Share::Copied => is_copied(types, node, name, property),
+        Share::Left => is_left(types, node, name, property),
+    }
+}
+
+// Whether a restore leaves the property: a version doesn't keep it, and it isn't the node's types.
+fn is_left(
+    types: &Registry,
+    node: &Node,
+    name: &Name,
+    property: &Property,
+) -> Result<bool, AllocError>
+    ensures { IfOk result (λ answer. answer ≡ is_unkept types.now node.now name.now property.now) }
+{
+    if is_type_name(name) {
+        return Ok(false);
+    }
+    Ok(!property_has(Asked::Kept, types, node, name, property)?)
+}
+
+fn is_type_name(name: &Name) -> bool
+    ensures { result ≡ is_type_name name.now }
+{
+    OwnName::PrimaryType.is(name) || OwnName::MixinTypes.is(name)
+}
+
+// Whether the frozen node has the property as the node has it.
 fn is_copied(
     types: &Registry,
     node: &Node,

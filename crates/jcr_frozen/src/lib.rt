@@ -5,10 +5,10 @@ mod attributes;
 mod frozen;
 mod histories;
 
-pub use attributes::{Asked, property_has};
+pub use attributes::Asked;
 pub use frozen::{
-    first_aborting, is_frozen_along, is_frozen_name, is_versionable, names_below, onto,
-    push_frozen, put_property, put_told,
+    Share, first_aborting, is_frozen_along, is_frozen_name, is_versionable, names_below, onto,
+    push_frozen, put_property, put_told, share_of,
 };
 pub use histories::{
     find_history, find_version, is_named, is_numbered, number_at, one_reference, own_child,

@@ -2,5 +2,7 @@ mod Answering
 mod Dangling
 mod Dues
 mod Holding
+mod OnTheWay
 mod Referring
+pub mod Unread
 mod Unwritten

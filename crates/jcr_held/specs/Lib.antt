@@ -4,5 +4,7 @@ pub mod Begins
 pub mod Comes
 pub mod Follows
 pub mod Holds
+pub mod Looking
 pub mod References
 pub mod Sees
+pub mod Unread

@@ -18,6 +18,7 @@ ghost use Rattle.jcr_held.specs.Follows.{Follows};
 ghost use Rattle.jcr_held.specs.Holds.{Holds};
 ghost use Rattle.jcr_held.specs.declared.references.References.TheVariants as references;
 
+use crate::looking::Place;
 use crate::references::References;
 use jcr_ref::MAX_IDS;
 use jcr_trans::Command;
@@ -45,7 +46,7 @@ pub struct Held {
     pub(crate) references: References,
     pub(crate) tokens: List<Text>,
     // What is still to be looked at by loading, the next last.
-    pub(crate) left: Vec<Need>,
+    pub(crate) left: Vec<Place>,
 }
 
 impl Held {

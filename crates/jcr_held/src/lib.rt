@@ -7,6 +7,7 @@ mod committing;
 mod held;
 mod laws;
 mod loading;
+mod looking;
 mod references;
 mod seeing;
 

@@ -1,25 +1,27 @@
 // What a session has to read of the tree at its base before a command.
-ghost use Rattle.std.specs.Prelude.{◌≡◌, ◌∷◌, [], IfOk, IfSome, IsFalse, IsTrue, None, OnErr, OnOk, Some, cond};
+ghost use Rattle.std.specs.Prelude.{◌≡◌, ◌≤◌, ◌∷◌, [], IfOk, IfSome, IsFalse, IsTrue, None, OnErr, OnOk, Some, cond};
 ghost use Rattle.std.specs.List.{All};
 ghost use Rattle.jr_part.specs.Parts.{LacksNothing};
 ghost use Rattle.jr_part.specs.declared.need.Need.TheVariants as need;
 ghost use Rattle.jr_overlay.specs.Overlays.{edit_of};
+ghost use Rattle.jcr_trans.specs.declared.command.Command.{Command};
 ghost use Rattle.jcr_view.specs.Needs.{needs_of, needs_to_rebase};
 ghost use Rattle.jcr_view.specs.Outcomes.{is_viewed};
 ghost use Rattle.jcr_view.specs.Rounds.{is_of_one_node};
 ghost use Rattle.jcr_law.specs.State.{Call};
 ghost use Rattle.jcr_held.specs.Alike.{AreAlike, Readies};
 ghost use Rattle.jcr_held.specs.Holds.{HasAsked, Holds, IsReady, asks_for};
+ghost use Rattle.jcr_held.specs.Looking.{IsLackingOf};
 ghost use Rattle.jcr_held.specs.References.{are_asked};
+ghost use Rattle.jcr_held.specs.Unread.{IsWanted, unread};
 
 use crate::Held;
 use crate::committing::commits;
+use crate::looking::{leave_needs, load_left};
 use crate::references::{References, ask};
 use jcr_trans::Command;
 use jcr_view::{each_round_learns, is_viewed, rebases_count};
 use jr_part::{Need, Part};
-use jr_path::{DeepCopy, Name, Path};
-use jr_rev::Revision;
 use std::alloc::{AllocError, Global};
 
 impl Held {
@@ -34,11 +36,25 @@ impl Held {
         ensures one { IfOk result (λ load. IfSome load (λ n. IsTrue (is_of_one_node n))) }
         ensures holds { (c : Call) → Holds c self.old → Holds c self.new }
         ensures others { Readies self.old self.new }
+        ensures wanted { (c : Call) → Holds c self.old
+            → IfOk result (λ load. IfSome load (IsWanted c self.new command.now)) }
+        ensures fewer { (c : Call) → Holds c self.old
+            → unread c self.new command.now ≤ unread c self.old command.now }
     {
-        match load_left(self.alloc, &self.part, &mut self.left)? {
+        match self.load_on()? {
             Some(load) => Ok(Some(load)),
             None => self.load_anew(command),
         }
+    }
+
+    // What to read next of what is left to be looked at.
+    fn load_on(&mut self) -> Result<Option<Need>, AllocError>
+        ensures one { IfOk result (λ load. IfSome load (λ n. IsTrue (is_of_one_node n))) }
+        ensures same { AreAlike self.old self.new }
+        ensures wanted { (c : Call) (m : Command) → Holds c self.old
+            → IfOk result (λ load. IfSome load (IsWanted c self.new m)) }
+    {
+        load_left(&self.part, &self.pending, self.is_kept, &mut self.left)
     }
 
     // What to read next where nothing is left to be looked at.
@@ -48,6 +64,9 @@ impl Held {
         ensures one { IfOk result (λ load. IfSome load (λ n. IsTrue (is_of_one_node n))) }
         ensures holds { (c : Call) → Holds c self.old → Holds c self.new }
         ensures others { Readies self.old self.new }
+        ensures wanted { (c : Call) → Holds c self.old
+            → IfOk result (λ load. IfSome load (IsWanted c self.new command.now)) }
+        ensures fewer { (c : Call) (m : Command) → unread c self.new m ≤ unread c self.old m }
     {
         match self.load_kept()? {
             Some(load) => Ok(Some(load)),
@@ -61,6 +80,9 @@ impl Held {
         ensures one { IfOk result (λ load. IfSome load (λ n. IsTrue (is_of_one_node n))) }
         ensures holds { (c : Call) → Holds c self.old → Holds c self.new }
         ensures others { Readies self.old self.new }
+        ensures wanted { (c : Call) (m : Command) → Holds c self.old
+            → IfOk result (λ load. IfSome load (IsWanted c self.new m)) }
+        ensures fewer { (c : Call) (m : Command) → unread c self.new m ≤ unread c self.old m }
     {
         if !self.is_kept {
             return Ok(None);
@@ -81,6 +103,7 @@ impl Held {
         ensures settled { OnOk result (IsFalse self.new.is_kept) }
         ensures holds { (c : Call) → Holds c self.old → Holds c self.new }
         ensures others { Readies self.old self.new }
+        ensures fewer { (c : Call) (m : Command) → unread c self.new m ≤ unread c self.old m }
     {
         rebases_count();
         self.pending.rebase(&self.part)?;
@@ -96,6 +119,9 @@ impl Held {
         ensures one { IfOk result (λ load. IfSome load (λ n. IsTrue (is_of_one_node n))) }
         ensures holds { (c : Call) → Holds c self.old → Holds c self.new }
         ensures others { Readies self.old self.new }
+        ensures wanted { (c : Call) → Holds c self.old
+            → IfOk result (λ load. IfSome load (IsWanted c self.new command.now)) }
+        ensures fewer { (c : Call) (m : Command) → unread c self.new m ≤ unread c self.old m }
     {
         let needs = self.asked(command)?;
         match self.load_of(needs)? {
@@ -113,6 +139,7 @@ impl Held {
         ensures asked { OnOk result (HasAsked self.new command.now) }
         ensures holds { (c : Call) → Holds c self.old → Holds c self.new }
         ensures others { Readies self.old self.new }
+        ensures fewer { (c : Call) (m : Command) → unread c self.new m ≤ unread c self.old m }
     {
         if commits(command) {
             self.ask_once()?;
@@ -171,20 +198,32 @@ impl Held {
         }
     }
 
-    // What to read next of some needs; None where nothing of them lacks. They are left to be looked
-    // at.
+    // What to read next of some needs; None where nothing of them lacks. Where something lacks, they are
+    // left to be looked at.
     fn load_of(&mut self, needs: Vec<Need>) -> Result<Option<Need>, AllocError>
         ensures known { IfOk result (λ load. load ≡ None
             → All (LacksNothing self.new.part) needs.items) }
         ensures one { IfOk result (λ load. IfSome load (λ n. IsTrue (is_of_one_node n))) }
+        ensures lacks { IfOk result (λ load. IfSome load
+            (IsLackingOf self.new.part needs.items)) }
         ensures same { AreAlike self.old self.new }
     {
-        let load = first_lacking(&self.part, needs.as_slice())?;
-        if load.is_none() {
-            note_known(&mut self.part, needs.as_slice());
+        match first_lacking(&self.part, needs.as_slice())? {
+            Some(load) => self.leave(load, needs),
+            None => {
+                note_known(&mut self.part, needs.as_slice());
+                Ok(None)
+            }
         }
-        self.left = needs;
-        Ok(load)
+    }
+
+    // A load, behind which these needs are left to be looked at.
+    fn leave(&mut self, load: Need, needs: Vec<Need>) -> Result<Option<Need>, AllocError>
+        ensures load { IfOk result (λ found. found ≡ Some load) }
+        ensures same { AreAlike self.old self.new }
+    {
+        leave_needs(self.alloc, &mut self.left, needs)?;
+        Ok(Some(load))
     }
 }
 
@@ -222,6 +261,7 @@ fn whole_tree(alloc: Global) -> Result<Vec<Need>, AllocError>
 fn first_lacking(part: &Part, needs: &[Need]) -> Result<Option<Need>, AllocError>
     ensures known { IfOk result (λ load. load ≡ None → All (LacksNothing part.now) needs.now) }
     ensures one { IfOk result (λ load. IfSome load (λ n. IsTrue (is_of_one_node n))) }
+    ensures lacks { IfOk result (λ load. IfSome load (IsLackingOf part.now needs.now)) }
 {
     each_round_learns();
     for need in needs {
@@ -229,102 +269,6 @@ fn first_lacking(part: &Part, needs: &[Need]) -> Result<Option<Need>, AllocError
         if load.is_some() {
             return Ok(load);
         }
-    }
-    Ok(None)
-}
-
-// The next load of the needs that are left, of which it looks at the last first; None where none is
-// left. A subtree is left until its node and its children are known, and then the subtrees of these
-// are: each known node is looked at once.
-fn load_left(alloc: Global, part: &Part, left: &mut Vec<Need>) -> Result<Option<Need>, AllocError>
-    ensures { IfOk result (λ load. IfSome load (λ n. IsTrue (is_of_one_node n))) }
-{
-    for _ in 0..u64::MAX {
-        let Some(need) = left.pop() else {
-            return Ok(None);
-        };
-        let load = look_at(alloc, part, left, need)?;
-        if load.is_some() {
-            return Ok(load);
-        }
-    }
-    Ok(None)
-}
-
-// What lacks of a need, or None where that is known or is left to be looked at.
-fn look_at(
-    alloc: Global,
-    part: &Part,
-    left: &mut Vec<Need>,
-    need: Need,
-) -> Result<Option<Need>, AllocError>
-    ensures { IfOk result (λ load. IfSome load (λ n. IsTrue (is_of_one_node n))) }
-{
-    match need {
-        Need::Node(path) => Ok(lacking_node(part, path)),
-        Need::Children(path) => Ok(lacking_children(part, path)),
-        Need::Subtree(path) => look_below(part, left, path),
-        Need::All => look_below(part, left, Path::root(alloc)),
-    }
-}
-
-fn lacking_node(part: &Part, path: Path) -> Option<Need>
-    ensures { IfSome result (λ n. IsTrue (is_of_one_node n)) }
-{
-    match part.node(&path) {
-        Some(_) => None,
-        None => Some(Need::Node(path)),
-    }
-}
-
-fn lacking_children(part: &Part, path: Path) -> Option<Need>
-    ensures { IfSome result (λ n. IsTrue (is_of_one_node n)) }
-{
-    match part.children(&path) {
-        Some(_) => None,
-        None => Some(Need::Children(path)),
-    }
-}
-
-// The node at a path lacks, or its children, or none of both: then what is below is left to be
-// looked at.
-fn look_below(part: &Part, left: &mut Vec<Need>, path: Path) -> Result<Option<Need>, AllocError>
-    ensures { IfOk result (λ load. IfSome load (λ n. IsTrue (is_of_one_node n))) }
-{
-    match part.node(&path) {
-        None => leave(left, Need::Node(path.copy()?), path),
-        Some(None) => Ok(None),
-        Some(Some(_)) => look_among(part, left, path),
-    }
-}
-
-fn look_among(part: &Part, left: &mut Vec<Need>, path: Path) -> Result<Option<Need>, AllocError>
-    ensures { IfOk result (λ load. IfSome load (λ n. IsTrue (is_of_one_node n))) }
-{
-    match part.children(&path) {
-        None => leave(left, Need::Children(path.copy()?), path),
-        Some(names) => leave_children(left, &path, names),
-    }
-}
-
-// A load, behind which the subtree at a path is left to be looked at.
-fn leave(left: &mut Vec<Need>, load: Need, path: Path) -> Result<Option<Need>, AllocError>
-    ensures { IfOk result (λ found. found ≡ Some load) }
-{
-    left.push(Need::Subtree(path))?;
-    Ok(Some(load))
-}
-
-// The subtrees of children are left to be looked at.
-fn leave_children(
-    left: &mut Vec<Need>,
-    path: &Path,
-    names: &[(Name, Option<Revision>)],
-) -> Result<Option<Need>, AllocError>
-    ensures { IfOk result (λ load. load ≡ None) }
-{
-    for (name, _) in names {
-        left.push(Need::Subtree(path.child(name)?))?;
     }
     Ok(None)
 }

@@ -20,7 +20,8 @@ use Rattle.jcr_plan.specs.Marks.{mark_each, is_type_name, stays, is_covered_anew
 
 -- locks and checked-in nodes go by these properties alone: the owner and the depth of a lock, the mixins, and whether a node is checked out
 abbrev pub is_cover_name : Name → Bool
-is_cover_name n = same_name lock_owner n || same_name lock_is_deep n || same_name mixin_types n || same_name is_checked_out n
+is_cover_name n = same_name lock_owner n || same_name lock_is_deep n || same_name mixin_types n
+    || same_name is_checked_out n
 
 -- the node whose covers a write may change, and those of what is below it
 abbrev pub covers_by : Write → List Path
@@ -39,7 +40,10 @@ moved_marks t u p = marks_of_node p ++ mark_each Guard (covered_below t u p)
 
 -- a node that stays and whose types are written: Guard of it, and Touch of its parent
 abbrev pub retyped_marks : Nodes → Nodes → Path → List MarkAt
-retyped_marks t u p = cond (stays t u p) (record { path = p; mark = Guard } ∷ option_map_or (λ q. record { path = q; mark = Touch } ∷ []) (parent_of p) []) []
+retyped_marks t u p =
+    cond (stays t u p)
+    (record { path = p; mark = Guard }
+    ∷ option_map_or (λ q. record { path = q; mark = Touch } ∷ []) (parent_of p) []) []
 
 -- a property that is written: Prop of it, what its node's types cause, and Guard of what its node covers anew
 abbrev pub written_marks : Nodes → Nodes → Path → Name → List MarkAt
@@ -60,4 +64,6 @@ references_in o = option_map_or (λ x. filter_map reference_in (values_in x)) o 
 
 -- those references of the values that the property did not have
 abbrev pub references_added : Option Property → List Value → List ℕ
-references_added before xs = filter (λ id. not (list_any (λ old. old == id) (references_in before))) (filter_map reference_in xs)
+references_added before xs =
+    filter (λ id. not (list_any (λ old. old == id) (references_in before)))
+    (filter_map reference_in xs)

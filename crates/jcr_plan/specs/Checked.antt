@@ -115,7 +115,8 @@ abbrev pub dangling_by : Assured → (old new : Nodes) → List Write → Option
 dangling_by assured old new ws = cond (are_passed_over assured old new ws) None (dangling new)
 
 -- the first refusal of an edit that leads from one tree to another, by what is checked
-abbrev pub refusal_between : Assured → List TypeDef → (old new : Nodes) → List (List ℕ) → List Write → Option Refusal
+abbrev pub refusal_between : Assured → List TypeDef → (old new : Nodes) → List (List ℕ) → List Write
+    → Option Refusal
 refusal_between assured types t u tokens ws = first_some
     (option_map checked_in (first_of (frozen_over types t ws))
     ∷ option_map locked (first_of (locked_over t tokens ws))

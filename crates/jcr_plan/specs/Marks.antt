@@ -66,7 +66,8 @@ are_same o (Some y) = option_map_or (λ x. same_property x y) o false
 
 -- the lock at q covers p after the edit, and before it did not, or had another owner
 abbrev pub locks_anew : Nodes → Nodes → Path → Path → Bool
-locks_anew t u p q = lock_covers u q p && not (lock_covers t q p && are_same (property_at t q lock_owner) (property_at u q lock_owner))
+locks_anew t u p q = lock_covers u q p
+    && not (lock_covers t q p && are_same (property_at t q lock_owner) (property_at u q lock_owner))
 
 -- the path is there, and this one
 abbrev pub is_path : Option Path → Path → Bool
@@ -82,7 +83,8 @@ is_deepened t u p = is_deep_lock u p && not (is_deep_lock t p)
 
 -- the node at a path gains a lock or a checked-in node over it, or another owner of a lock over it, or its own lock becomes deep
 abbrev pub is_covered_anew : Nodes → Nodes → Path → Bool
-is_covered_anew t u p = list_any (locks_anew t u p) (upward p) || is_frozen_anew t u p || is_deepened t u p
+is_covered_anew t u p =
+    list_any (locks_anew t u p) (upward p) || is_frozen_anew t u p || is_deepened t u p
 
 -- the nodes that stay and are covered anew
 abbrev pub newly_covered : Nodes → Nodes → List Path
@@ -92,7 +94,9 @@ newly_covered t u = filter (λ p. stays t u p && is_covered_anew t u p) (keys_of
 abbrev pub new_references : Nodes → Write → List ℕ
 new_references t (Here p) = []
 new_references t (Gone p) = []
-new_references t (Put p n x) = filter (λ id. not (list_any (λ old. old == id) (references_at t p n))) (filter_map reference_in (values_in x))
+new_references t (Put p n x) =
+    filter (λ id. not (list_any (λ old. old == id) (references_at t p n)))
+    (filter_map reference_in (values_in x))
 new_references t (Unset p n) = []
 
 -- marks in path order, and at one path in their own order, each once
@@ -110,7 +114,8 @@ marks_between t u ws =
     in_mark_order
     (mark_each Exists moved
     ++ mark_each Guard (types ++ newly_covered t u)
-    ++ mark_each Touch (filter_map parent_of (moved ++ types) ++ filter_map (target_of u) (flat_map (new_references t) ws))
+    ++ mark_each Touch (filter_map parent_of (moved ++ types) ++ filter_map (target_of u)
+    (flat_map (new_references t) ws))
     ++ flat_map prop_marks ws)
 
 -- the marks of an edit on a tree

@@ -32,21 +32,27 @@ is_changed ws p = list_any (λ w. list_any (same_path p) (changed_by w)) ws
 
 -- the definition of a child has IGNORE
 abbrev pub is_ignored_child : List TypeDef → Nodes → Path → Bool
-is_ignored_child types t p = option_map_or (λ q. option_map_or (λ n. child_passes (is_opv opv.Ignore) types (node_types t q) n (child_at t q n)) (last_name p) false) (parent_of p) false
+is_ignored_child types t p =
+    option_map_or (λ q. option_map_or
+    (λ n. child_passes (is_opv opv.Ignore) types (node_types t q) n (child_at t q n))
+    (last_name p) false) (parent_of p) false
 
 -- the definition of the written item has IGNORE: by the types after the edit for what comes, by those before for what goes
 abbrev pub is_ignored : List TypeDef → Nodes → Nodes → Write → Bool
 is_ignored types t u (Here p) = is_ignored_child types u p
 is_ignored types t u (Gone p) = is_ignored_child types t p
-is_ignored types t u (Put p n x) = property_passes (is_opv opv.Ignore) types (node_types u p) n (property_at u p n)
-is_ignored types t u (Unset p n) = property_passes (is_opv opv.Ignore) types (node_types t p) n (property_at t p n)
+is_ignored types t u (Put p n x) =
+    property_passes (is_opv opv.Ignore) types (node_types u p) n (property_at u p n)
+is_ignored types t u (Unset p n) =
+    property_passes (is_opv opv.Ignore) types (node_types t p) n (property_at t p n)
 
 -- the writes that a checked-in node refuses
 abbrev pub heeded : List TypeDef → Nodes → List Write → List Write
 heeded types t ws = filter (λ w. not (is_ignored types t (applied None t ws) w)) ws
 
 -- no node that the writes change is locked against the tokens, and none is covered by a checked-in node
-pub record IsFree (types : List TypeDef) (t : Nodes) (tokens : List (List ℕ)) (ws : List Write) : Type 0 where
+pub record IsFree (types : List TypeDef) (t : Nodes) (tokens : List (List ℕ))
+    (ws : List Write) : Type 0 where
   pub unlocked : (p : Path) → IsTrue (is_changed ws p) → locked_by t p tokens ≡ None
   pub checked_out : (p : Path) → IsTrue (is_changed (heeded types t ws) p) → frozen_by t p ≡ None
 
@@ -55,7 +61,8 @@ abbrev pub has_few_nodes : Nodes → Bool
 has_few_nodes t = nat_le (length t) 100000
 
 -- the edit, with its marks, may be committed on the tree by one who holds the tokens
-pub record PlanOk (types : List TypeDef) (t : Nodes) (tokens : List (List ℕ)) (ws : List Write) (marks : List MarkAt) : Type 0 where
+pub record PlanOk (types : List TypeDef) (t : Nodes) (tokens : List (List ℕ)) (ws : List Write)
+    (marks : List MarkAt) : Type 0 where
   pub proper : IsProper t ws
   pub free : IsFree types t tokens ws
   pub typed : TypesOk types (applied None t ws)

@@ -17,11 +17,13 @@ use Rattle.jcr_plan.specs.Plans.{changed_by, heeded, has_few_nodes}
 
 -- the checked-in nodes that cover a changed node, in path order
 abbrev pub frozen_over : List TypeDef → Nodes → List Write → List Path
-frozen_over types t ws = in_path_order (filter_map (frozen_by t) (flat_map changed_by (heeded types t ws)))
+frozen_over types t ws =
+    in_path_order (filter_map (frozen_by t) (flat_map changed_by (heeded types t ws)))
 
 -- the locks without a token that cover a changed node, in path order
 abbrev pub locked_over : Nodes → List (List ℕ) → List Write → List Path
-locked_over t tokens ws = in_path_order (filter_map (λ p. locked_by t p tokens) (flat_map changed_by ws))
+locked_over t tokens ws =
+    in_path_order (filter_map (λ p. locked_by t p tokens) (flat_map changed_by ws))
 
 -- a constraint violation, with the rule, the node and the item
 abbrev pub type_refusal : Violation → Refusal
@@ -34,5 +36,6 @@ plan_refusal types t tokens ws = first_some
     ∷ option_map (refusal_at 7) (first_of (locked_over t tokens ws))
     ∷ option_map type_refusal (first_violation types (applied None t ws))
     ∷ option_map (λ item. refusal 9 (datum.Item item ∷ [])) (dangling (applied None t ws))
-    ∷ when (not (has_few_nodes (applied None t ws))) (refusal 15 (datum.Text (codes "nodes") ∷ datum.Number 100000 ∷ []))
+    ∷ when (not (has_few_nodes (applied None t ws)))
+    (refusal 15 (datum.Text (codes "nodes") ∷ datum.Number 100000 ∷ []))
     ∷ [])

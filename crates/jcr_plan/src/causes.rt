@@ -43,8 +43,10 @@ pub(crate) fn check_plan(
     assured: Assured,
 ) -> Result<(), Refusal>
     requires { new.now ≡ applied None old.now writes.now }
-    ensures ok { OnOk result (refusal_by assured types.now old.now (map string_bytes tokens.now) writes.now ≡ None) }
-    ensures err { IfErr result (IsTheRefusal (refusal_by assured types.now old.now (map string_bytes tokens.now) writes.now)) }
+    ensures ok { OnOk result
+        (refusal_by assured types.now old.now (map string_bytes tokens.now) writes.now ≡ None) }
+    ensures err { IfErr result (IsTheRefusal
+        (refusal_by assured types.now old.now (map string_bytes tokens.now) writes.now)) }
 {
     check_checked_out(alloc, types, old, new, writes)?;
     check_unlocked(alloc, old, writes, tokens)?;
@@ -63,8 +65,10 @@ fn check_checked_out(
     writes: &[Write],
 ) -> Result<(), Refusal>
     requires { new.now ≡ applied None old.now writes.now }
-    ensures ok { OnOk result (option_map checked_in (first_of (frozen_over types.now old.now writes.now)) ≡ None) }
-    ensures err { IfErr result (IsTheRefusal (option_map checked_in (first_of (frozen_over types.now old.now writes.now)))) }
+    ensures ok { OnOk result
+        (option_map checked_in (first_of (frozen_over types.now old.now writes.now)) ≡ None) }
+    ensures err { IfErr result (IsTheRefusal
+        (option_map checked_in (first_of (frozen_over types.now old.now writes.now)))) }
 {
     match first_frozen(alloc, types, old, new, writes) {
         Ok(Some(path)) => Err(checked_in(alloc, &path)),
@@ -80,8 +84,10 @@ fn check_unlocked(
     writes: &[Write],
     tokens: &[String],
 ) -> Result<(), Refusal>
-    ensures ok { OnOk result (option_map locked (first_of (locked_over old.now (map string_bytes tokens.now) writes.now)) ≡ None) }
-    ensures err { IfErr result (IsTheRefusal (option_map locked (first_of (locked_over old.now (map string_bytes tokens.now) writes.now)))) }
+    ensures ok { OnOk result (option_map locked
+        (first_of (locked_over old.now (map string_bytes tokens.now) writes.now)) ≡ None) }
+    ensures err { IfErr result (IsTheRefusal (option_map locked
+        (first_of (locked_over old.now (map string_bytes tokens.now) writes.now)))) }
 {
     match first_locked(alloc, old, writes, tokens) {
         Ok(Some(path)) => Err(locked(alloc, &path)),
@@ -98,8 +104,10 @@ fn check_references(
     writes: &[Write],
     assured: Assured,
 ) -> Result<(), Refusal>
-    ensures ok { OnOk result (option_map dangling_refusal (dangling_by assured old.now new.now writes.now) ≡ None) }
-    ensures err { IfErr result (IsTheRefusal (option_map dangling_refusal (dangling_by assured old.now new.now writes.now))) }
+    ensures ok { OnOk result
+        (option_map dangling_refusal (dangling_by assured old.now new.now writes.now) ≡ None) }
+    ensures err { IfErr result (IsTheRefusal
+        (option_map dangling_refusal (dangling_by assured old.now new.now writes.now))) }
 {
     match first_dangling(alloc, old, new, writes, assured) {
         Ok(Some(item)) => Err(jr_items::dangling(alloc, &item)),
@@ -142,8 +150,10 @@ fn are_passed_over(
 
 // 15: there are too many nodes.
 fn check_size(alloc: Global, tree: &Edited<'_>) -> Result<(), Refusal>
-    ensures ok { OnOk result (when (not (has_few_nodes tree.now)) (over_limit (codes "nodes") 100000) ≡ None) }
-    ensures err { IfErr result (IsTheRefusal (when (not (has_few_nodes tree.now)) (over_limit (codes "nodes") 100000))) }
+    ensures ok { OnOk result
+        (when (not (has_few_nodes tree.now)) (over_limit (codes "nodes") 100000) ≡ None) }
+    ensures err { IfErr result
+        (IsTheRefusal (when (not (has_few_nodes tree.now)) (over_limit (codes "nodes") 100000))) }
 {
     if tree.has_more_than(MAX_NODES) {
         return Err(over_limit(alloc, "nodes", MAX_NODES as u64));

@@ -46,7 +46,8 @@ pub(crate) fn first_locked(
     writes: &[Write],
     tokens: &[String],
 ) -> Result<Option<Path>, AllocError>
-    ensures { IfOk result (λ found. found ≡ first_of (locked_over old.now (map string_bytes tokens.now) writes.now)) }
+    ensures { IfOk result
+        (λ found. found ≡ first_of (locked_over old.now (map string_bytes tokens.now) writes.now)) }
 {
     let changed = changed(alloc, writes)?;
     let covers = covers_locked(alloc, old, &changed, tokens)?;
@@ -72,7 +73,8 @@ fn changed_heeded(
     new: &Edited<'_>,
     writes: &[Write],
 ) -> Result<Vec<Path>, AllocError>
-    ensures { IfOk result (λ paths. paths.items ≡ flat_map changed_by (filter (λ w. not (is_ignored types.now old.now new.now w)) writes.now)) }
+    ensures { IfOk result (λ paths. paths.items ≡ flat_map changed_by
+        (filter (λ w. not (is_ignored types.now old.now new.now w)) writes.now)) }
 {
     let mut paths = Vec::new(alloc);
     for write in writes {
@@ -93,7 +95,8 @@ fn push_changed(paths: &mut Vec<Path>, write: &Write) -> Result<(), AllocError>
 }
 
 fn push_with_parent(paths: &mut Vec<Path>, path: &Path) -> Result<(), AllocError>
-    ensures { OnOk result (paths.new.items ≡ paths.old.items ++ path.now ∷ option_to_list (parent_of path.now)) }
+    ensures { OnOk result
+        (paths.new.items ≡ paths.old.items ++ path.now ∷ option_to_list (parent_of path.now)) }
 {
     push_path(paths, path)?;
     if let Some(parent) = path.parent()? {
@@ -129,7 +132,8 @@ fn covers_locked(
     paths: &[Path],
     tokens: &[String],
 ) -> Result<Vec<Path>, AllocError>
-    ensures { IfOk result (λ covers. covers.items ≡ filter_map (λ p. locked_by tree.now p (map string_bytes tokens.now)) paths.now) }
+    ensures { IfOk result (λ covers. covers.items
+        ≡ filter_map (λ p. locked_by tree.now p (map string_bytes tokens.now)) paths.now) }
 {
     let mut covers = Vec::new(alloc);
     for path in paths {
@@ -203,7 +207,8 @@ fn is_child_ignored(
     parent: &Path,
     name: &Name,
 ) -> Result<bool, AllocError>
-    ensures { IfOk result (λ answer. answer ≡ child_passes (is_opv opv.Ignore) types.now (node_types tree.now parent.now) name.now (child_at tree.now parent.now name.now)) }
+    ensures { IfOk result (λ answer. answer ≡ child_passes (is_opv opv.Ignore) types.now
+        (node_types tree.now parent.now) name.now (child_at tree.now parent.now name.now)) }
 {
     let child = parent.child(name)?;
     match (tree.get(parent), tree.get(&child)) {
@@ -221,7 +226,8 @@ fn is_ignored_property(
     path: &Path,
     name: &Name,
 ) -> Result<bool, AllocError>
-    ensures { IfOk result (λ answer. answer ≡ property_passes (is_opv opv.Ignore) types.now (node_types tree.now path.now) name.now (property_at tree.now path.now name.now)) }
+    ensures { IfOk result (λ answer. answer ≡ property_passes (is_opv opv.Ignore) types.now
+        (node_types tree.now path.now) name.now (property_at tree.now path.now name.now)) }
 {
     match (tree.get(path), tree.property(path, name)) {
         (Some(node), Some(property)) => match types.prop_def(node, name, property)? {

@@ -26,7 +26,8 @@ pub(crate) fn is_newly_covered(
     at: &Path,
 ) -> Result<bool, AllocError>
     requires { names.now ≡ lock_names }
-    ensures { IfOk result (λ answer. answer ≡ (stays old.now new.now at.now && is_covered_anew old.now new.now at.now)) }
+    ensures { IfOk result (λ answer. answer
+        ≡ (stays old.now new.now at.now && is_covered_anew old.now new.now at.now)) }
 {
     if !stays(old, new, at) {
         return Ok(false);
@@ -69,7 +70,8 @@ fn gains_lock(
     at: &Path,
 ) -> Result<bool, AllocError>
     requires { names.now ≡ lock_names }
-    ensures { IfOk result (λ answer. answer ≡ list_any (locks_anew old.now new.now at.now) (upward at.now)) }
+    ensures { IfOk result
+        (λ answer. answer ≡ list_any (locks_anew old.now new.now at.now) (upward at.now)) }
 {
     for above in &upward(alloc, at)? {
         if locks_anew(old, new, names, at, above) {
@@ -101,7 +103,9 @@ fn locked_alike(
     above: &Path,
 ) -> bool
     requires { names.now ≡ lock_names }
-    ensures { result ≡ (lock_covers old.now above.now at.now && are_same (property_at old.now above.now lock_owner) (property_at new.now above.now lock_owner)) }
+    ensures { result ≡ (lock_covers old.now above.now at.now
+        && are_same (property_at old.now above.now lock_owner)
+        (property_at new.now above.now lock_owner)) }
 {
     lock_covers(old, names, above, at)
         && are_same(

@@ -20,26 +20,37 @@ ghost use Rattle.jcr_plan.specs.Refusals.{plan_refusal};
 
 /// A proper edit that isn't refused is a plan, with its marks.
 pub fn what_is_not_refused_is_a_plan()
-    ensures { (types : List TypeDef) (t : Nodes) (tokens : List (List ℕ)) (ws : List Write) → IsProper t ws → plan_refusal types t tokens ws ≡ None → PlanOk types t tokens ws (marks_of t ws) }
+    ensures { (types : List TypeDef) (t : Nodes) (tokens : List (List ℕ)) (ws : List Write)
+        → IsProper t ws → plan_refusal types t tokens ws ≡ None
+        → PlanOk types t tokens ws (marks_of t ws) }
 {}
 
 /// On a tree that meets the rules of its types it is enough to check the nodes that an edit touches: both calls answer alike.
 pub fn what_is_not_touched_keeps_the_rules()
-    ensures { (types : List TypeDef) (t : Nodes) (tokens : List (List ℕ)) (ws : List Write) → IsTrue (is_sorted path_cmp t) → TypesOk types t → refusal_by (record { typed = true; referring = false }) types t tokens ws ≡ plan_refusal types t tokens ws }
+    ensures { (types : List TypeDef) (t : Nodes) (tokens : List (List ℕ)) (ws : List Write)
+        → IsTrue (is_sorted path_cmp t) → TypesOk types t
+        → refusal_by (record { typed = true; referring = false }) types t tokens ws
+        ≡ plan_refusal types t tokens ws }
 {}
 
 /// Where each REFERENCE of a tree names a node, each does after an edit that removes no node with an identifier and writes no
 /// identifier, no REFERENCE and no primary type of an `nt:frozenNode`.
 pub fn what_no_write_changes_dangles_not()
-    ensures { (t : Nodes) (ws : List Write) → IsTree t → ReferencesOk t → IsFalse (list_any (may_dangle t (applied None t ws)) ws) → dangling (applied None t ws) ≡ None }
+    ensures { (t : Nodes) (ws : List Write) → IsTree t → ReferencesOk t
+        → IsFalse (list_any (may_dangle t (applied None t ws)) ws)
+        → dangling (applied None t ws) ≡ None }
 {}
 
 /// On a tree that is as the caller is assured both calls answer alike.
 pub fn what_is_assured_is_not_checked()
-    ensures { (assured : Assured) (types : List TypeDef) (t : Nodes) (tokens : List (List ℕ)) (ws : List Write) → IsTree t → IsAsAssured assured types t → refusal_by assured types t tokens ws ≡ plan_refusal types t tokens ws }
+    ensures { (assured : Assured) (types : List TypeDef) (t : Nodes) (tokens : List (List ℕ))
+        (ws : List Write) → IsTree t → IsAsAssured assured types t
+        → refusal_by assured types t tokens ws ≡ plan_refusal types t tokens ws }
 {}
 
 /// A plan is a proper edit, and the Exists and Props among its marks are those of its writes.
 pub fn plans_are_proper()
-    ensures { (types : List TypeDef) (t : Nodes) (tokens : List (List ℕ)) (edit : Edit) (marks : List MarkAt) → PlanOk types t tokens edit.writes marks → IsProper t edit.writes × AreOfWrites t edit marks }
+    ensures { (types : List TypeDef) (t : Nodes) (tokens : List (List ℕ)) (edit : Edit)
+        (marks : List MarkAt) → PlanOk types t tokens edit.writes marks
+        → IsProper t edit.writes × AreOfWrites t edit marks }
 {}

@@ -52,7 +52,8 @@ fn note_writes(
     new: &Edited<'_>,
     writes: &[Write],
 ) -> Result<(), AllocError>
-    ensures { OnOk result (found.new ≡ fold (λ es w. with_marks es (marks_by old.now new.now w)) found.old writes.now) }
+    ensures { OnOk result (found.new
+        ≡ fold (λ es w. with_marks es (marks_by old.now new.now w)) found.old writes.now) }
 {
     let names = LockNames::new(alloc)?;
     for write in writes {
@@ -90,7 +91,8 @@ fn note_moved(
     path: &Path,
 ) -> Result<(), AllocError>
     requires { names.now ≡ lock_names }
-    ensures { OnOk result (found.new ≡ with_marks found.old (moved_marks old.now new.now path.now)) }
+    ensures { OnOk result
+        (found.new ≡ with_marks found.old (moved_marks old.now new.now path.now)) }
 {
     note_node(found, path)?;
     note_covered(found, alloc, old, new, names, path)
@@ -107,7 +109,8 @@ fn note_written(
     name: &Name,
 ) -> Result<(), AllocError>
     requires { names.now ≡ lock_names }
-    ensures { OnOk result (found.new ≡ with_marks found.old (written_marks old.now new.now path.now name.now)) }
+    ensures { OnOk result
+        (found.new ≡ with_marks found.old (written_marks old.now new.now path.now name.now)) }
 {
     note(found, path.copy()?, Mark::Prop(name.copy()?))?;
     if is_type_name(name) {
@@ -126,7 +129,8 @@ fn note_retyped(
     new: &Edited<'_>,
     path: &Path,
 ) -> Result<(), AllocError>
-    ensures { OnOk result (found.new ≡ with_marks found.old (retyped_marks old.now new.now path.now)) }
+    ensures { OnOk result
+        (found.new ≡ with_marks found.old (retyped_marks old.now new.now path.now)) }
 {
     if !stays(old, new, path) {
         return Ok(());
@@ -148,7 +152,8 @@ fn note_covered(
     path: &Path,
 ) -> Result<(), AllocError>
     requires { names.now ≡ lock_names }
-    ensures { OnOk result (found.new ≡ with_marks found.old (mark_each Guard (covered_below old.now new.now path.now))) }
+    ensures { OnOk result (found.new
+        ≡ with_marks found.old (mark_each Guard (covered_below old.now new.now path.now))) }
 {
     for (at, _) in &new.under(path)? {
         if is_newly_covered(alloc, old, new, names, at)? {
@@ -171,7 +176,8 @@ fn note_node(found: &mut Keyed<MarkAt, bool>, path: &Path) -> Result<(), AllocEr
 
 // Notes a mark.
 fn note(found: &mut Keyed<MarkAt, bool>, path: Path, mark: Mark) -> Result<(), AllocError>
-    ensures { OnOk result (found.new ≡ with_marks found.old (record { path = path; mark = mark } ∷ [])) }
+    ensures { OnOk result
+        (found.new ≡ with_marks found.old (record { path = path; mark = mark } ∷ [])) }
 {
     found.put(MarkAt { path, mark }, true)?;
     Ok(())
@@ -208,7 +214,8 @@ fn note_targets(
     new: &Edited<'_>,
     writes: &[Write],
 ) -> Result<(), AllocError>
-    ensures { OnOk result (found.new ≡ with_marks found.old (mark_each Touch (filter_map (target_of new.now) (flat_map (new_references old.now) writes.now)))) }
+    ensures { OnOk result (found.new ≡ with_marks found.old (mark_each Touch
+        (filter_map (target_of new.now) (flat_map (new_references old.now) writes.now)))) }
 {
     let ids = new_references(alloc, old, writes)?;
     for target in &targets_in(alloc, new, &ids)? {
@@ -259,7 +266,8 @@ fn push_references(
     before: Option<&Property>,
     property: &Property,
 ) -> Result<(), AllocError>
-    ensures { OnOk result (ids.new.items ≡ ids.old.items ++ references_added (option_copied before.entry) (values_in property.now)) }
+    ensures { OnOk result (ids.new.items
+        ≡ ids.old.items ++ references_added (option_copied before.entry) (values_in property.now)) }
 {
     match property {
         Property::Single(value) => push_reference(ids, before, value),
@@ -272,7 +280,8 @@ fn push_each(
     before: Option<&Property>,
     values: &[Value],
 ) -> Result<(), AllocError>
-    ensures { OnOk result (ids.new.items ≡ ids.old.items ++ references_added (option_copied before.entry) values.now) }
+    ensures { OnOk result (ids.new.items
+        ≡ ids.old.items ++ references_added (option_copied before.entry) values.now) }
 {
     for value in values {
         push_reference(ids, before, value)?;
@@ -285,7 +294,8 @@ fn push_reference(
     before: Option<&Property>,
     value: &Value,
 ) -> Result<(), AllocError>
-    ensures { OnOk result (ids.new.items ≡ ids.old.items ++ references_added (option_copied before.entry) (value.now ∷ [])) }
+    ensures { OnOk result (ids.new.items
+        ≡ ids.old.items ++ references_added (option_copied before.entry) (value.now ∷ [])) }
 {
     if let Value::Reference(id) = value
         && !refers_to(before, *id)

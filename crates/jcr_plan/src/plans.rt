@@ -40,10 +40,13 @@ pub fn plan_of(
 ) -> Result<Plan, Refusal>
     ensures edit { IfOk result (λ plan. plan.edit ≡ edit) }
     ensures marks { IfOk result (λ plan. plan.marks ≡ marks_of tree.now edit.writes) }
-    ensures accepted { IfOk result (λ plan. plan_refusal types.now tree.now (map string_bytes tokens.now) edit.writes ≡ None) }
-    ensures refused { IfErr result (IsTheRefusal (plan_refusal types.now tree.now (map string_bytes tokens.now) edit.writes)) }
+    ensures accepted { IfOk result
+        (λ plan. plan_refusal types.now tree.now (map string_bytes tokens.now) edit.writes ≡ None) }
+    ensures refused { IfErr result
+        (IsTheRefusal (plan_refusal types.now tree.now (map string_bytes tokens.now) edit.writes)) }
     // what may start is a plan
-    ensures plan { IfOk result (λ plan. IsProper tree.now edit.writes → PlanOk types.now tree.now (map string_bytes tokens.now) edit.writes plan.marks) }
+    ensures plan { IfOk result (λ plan. IsProper tree.now edit.writes
+        → PlanOk types.now tree.now (map string_bytes tokens.now) edit.writes plan.marks) }
 {
     let assured = Assured {
         typed: false,
@@ -73,10 +76,14 @@ pub fn plan_of_change(
     requires { after.now ≡ applied None tree.now edit.writes }
     ensures edit { IfOk result (λ plan. plan.edit ≡ edit) }
     ensures marks { IfOk result (λ plan. plan.marks ≡ marks_of tree.now edit.writes) }
-    ensures accepted { IfOk result (λ plan. refusal_by assured types.now tree.now (map string_bytes tokens.now) edit.writes ≡ None) }
-    ensures refused { IfErr result (IsTheRefusal (refusal_by assured types.now tree.now (map string_bytes tokens.now) edit.writes)) }
+    ensures accepted { IfOk result (λ plan.
+        refusal_by assured types.now tree.now (map string_bytes tokens.now) edit.writes ≡ None) }
+    ensures refused { IfErr result (IsTheRefusal
+        (refusal_by assured types.now tree.now (map string_bytes tokens.now) edit.writes)) }
     // what may start on a tree that is as the caller is assured is a plan
-    ensures plan { IfOk result (λ plan. IsTree tree.now → IsAsAssured assured types.now tree.now → IsProper tree.now edit.writes → PlanOk types.now tree.now (map string_bytes tokens.now) edit.writes plan.marks) }
+    ensures plan { IfOk result (λ plan. IsTree tree.now → IsAsAssured assured types.now tree.now
+        → IsProper tree.now edit.writes
+        → PlanOk types.now tree.now (map string_bytes tokens.now) edit.writes plan.marks) }
 {
     match planned_marks(alloc, types, tree, after, &edit, tokens, assured) {
         Ok(marks) => Ok(Plan { edit, marks }),
@@ -94,8 +101,10 @@ fn marks_on(
     assured: Assured,
 ) -> Result<List<MarkAt>, Refusal>
     ensures marks { IfOk result (λ marks. marks ≡ marks_of tree.now edit.now.writes) }
-    ensures ok { IfOk result (λ marks. refusal_by assured types.now tree.now (map string_bytes tokens.now) edit.now.writes ≡ None) }
-    ensures err { IfErr result (IsTheRefusal (refusal_by assured types.now tree.now (map string_bytes tokens.now) edit.now.writes)) }
+    ensures ok { IfOk result (λ marks. refusal_by assured types.now tree.now
+        (map string_bytes tokens.now) edit.now.writes ≡ None) }
+    ensures err { IfErr result (IsTheRefusal
+        (refusal_by assured types.now tree.now (map string_bytes tokens.now) edit.now.writes)) }
 {
     match Edited::of(alloc, tree, edit) {
         Ok(after) => planned_marks(alloc, types, tree, &after, edit, tokens, assured),
@@ -115,8 +124,10 @@ fn planned_marks(
 ) -> Result<List<MarkAt>, Refusal>
     requires { after.now ≡ applied None tree.now edit.now.writes }
     ensures marks { IfOk result (λ marks. marks ≡ marks_of tree.now edit.now.writes) }
-    ensures ok { IfOk result (λ marks. refusal_by assured types.now tree.now (map string_bytes tokens.now) edit.now.writes ≡ None) }
-    ensures err { IfErr result (IsTheRefusal (refusal_by assured types.now tree.now (map string_bytes tokens.now) edit.now.writes)) }
+    ensures ok { IfOk result (λ marks. refusal_by assured types.now tree.now
+        (map string_bytes tokens.now) edit.now.writes ≡ None) }
+    ensures err { IfErr result (IsTheRefusal
+        (refusal_by assured types.now tree.now (map string_bytes tokens.now) edit.now.writes)) }
 {
     checked_marks(
         alloc,
@@ -140,8 +151,10 @@ fn checked_marks(
 ) -> Result<List<MarkAt>, Refusal>
     requires { new.now ≡ applied None old.now edit.now.writes }
     ensures marks { IfOk result (λ marks. marks ≡ marks_of old.now edit.now.writes) }
-    ensures ok { IfOk result (λ marks. refusal_by assured types.now old.now (map string_bytes tokens.now) edit.now.writes ≡ None) }
-    ensures err { IfErr result (IsTheRefusal (refusal_by assured types.now old.now (map string_bytes tokens.now) edit.now.writes)) }
+    ensures ok { IfOk result (λ marks.
+        refusal_by assured types.now old.now (map string_bytes tokens.now) edit.now.writes ≡ None) }
+    ensures err { IfErr result (IsTheRefusal
+        (refusal_by assured types.now old.now (map string_bytes tokens.now) edit.now.writes)) }
 {
     let writes = edit.writes.as_slice();
     check_plan(alloc, types, old, new, writes, tokens, assured)?;

@@ -57,7 +57,8 @@ fn note_with_parent(
     path: &Path,
     above: bool,
 ) -> Result<(), AllocError>
-    ensures { OnOk result (tree.new ≡ with_room tree.old (path.now ∷ cond above (option_to_list (parent_of path.now)) [])) }
+    ensures { OnOk result (tree.new
+        ≡ with_room tree.old (path.now ∷ cond above (option_to_list (parent_of path.now)) [])) }
 {
     note(tree, alloc, path.copy()?)?;
     if !above {

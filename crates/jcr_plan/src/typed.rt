@@ -27,8 +27,10 @@ pub(crate) fn check_types(
     writes: &[Write],
     assured: Assured,
 ) -> Result<(), Refusal>
-    ensures ok { OnOk result (option_map type_refusal (first_of (violations_by assured types.now tree.now writes.now)) ≡ None) }
-    ensures err { IfErr result (IsTheRefusal (option_map type_refusal (first_of (violations_by assured types.now tree.now writes.now)))) }
+    ensures ok { OnOk result (option_map type_refusal
+        (first_of (violations_by assured types.now tree.now writes.now)) ≡ None) }
+    ensures err { IfErr result (IsTheRefusal (option_map type_refusal
+        (first_of (violations_by assured types.now tree.now writes.now)))) }
 {
     if assured.typed {
         return check_touched(alloc, types, tree, writes);
@@ -38,7 +40,8 @@ pub(crate) fn check_types(
 
 fn check_all(alloc: Global, types: &Registry, tree: &Edited<'_>) -> Result<(), Refusal>
     ensures ok { OnOk result (option_map type_refusal (first_violation types.now tree.now) ≡ None) }
-    ensures err { IfErr result (IsTheRefusal (option_map type_refusal (first_violation types.now tree.now))) }
+    ensures err { IfErr result
+        (IsTheRefusal (option_map type_refusal (first_violation types.now tree.now))) }
 {
     match tree.under(&Path::root(alloc)) {
         Ok(nodes) => check_each(alloc, types, tree, &nodes),
@@ -55,7 +58,8 @@ fn check_each(
 ) -> Result<(), Refusal>
     requires { map deref_pair nodes.now ≡ tree.now }
     ensures ok { OnOk result (option_map type_refusal (first_violation types.now tree.now) ≡ None) }
-    ensures err { IfErr result (IsTheRefusal (option_map type_refusal (first_violation types.now tree.now))) }
+    ensures err { IfErr result
+        (IsTheRefusal (option_map type_refusal (first_violation types.now tree.now))) }
 {
     for (path, _) in nodes {
         match check_node(alloc, types, tree, path) {
@@ -73,8 +77,10 @@ fn check_touched(
     tree: &Edited<'_>,
     writes: &[Write],
 ) -> Result<(), Refusal>
-    ensures ok { OnOk result (option_map type_refusal (first_of (violations_touched writes.now types.now tree.now)) ≡ None) }
-    ensures err { IfErr result (IsTheRefusal (option_map type_refusal (first_of (violations_touched writes.now types.now tree.now)))) }
+    ensures ok { OnOk result (option_map type_refusal
+        (first_of (violations_touched writes.now types.now tree.now)) ≡ None) }
+    ensures err { IfErr result (IsTheRefusal
+        (option_map type_refusal (first_of (violations_touched writes.now types.now tree.now)))) }
 {
     tree.in_order();
     match Touched::of(alloc, writes) {
@@ -90,8 +96,10 @@ fn check_those(
     tree: &Edited<'_>,
     touched: &Touched,
 ) -> Result<(), Refusal>
-    ensures ok { OnOk result (option_map type_refusal (first_of (violations_in touched.now types.now tree.now)) ≡ None) }
-    ensures err { IfErr result (IsTheRefusal (option_map type_refusal (first_of (violations_in touched.now types.now tree.now)))) }
+    ensures ok { OnOk result
+        (option_map type_refusal (first_of (violations_in touched.now types.now tree.now)) ≡ None) }
+    ensures err { IfErr result (IsTheRefusal
+        (option_map type_refusal (first_of (violations_in touched.now types.now tree.now)))) }
 {
     for (path, _) in touched.nodes.iter() {
         match check_if_there(alloc, types, tree, touched, path) {
@@ -109,8 +117,11 @@ fn check_if_there(
     touched: &Touched,
     path: &Path,
 ) -> Result<(), Refusal>
-    ensures ok { OnOk result (cond (is_some (node_at tree.now path.now)) (violations_among (is_asked_in touched.now path.now) types.now tree.now path.now) [] ≡ []) }
-    ensures err { IfErr result (IsTheRefusal (option_map type_refusal (first_of (cond (is_some (node_at tree.now path.now)) (violations_among (is_asked_in touched.now path.now) types.now tree.now path.now) [])))) }
+    ensures ok { OnOk result (cond (is_some (node_at tree.now path.now))
+        (violations_among (is_asked_in touched.now path.now) types.now tree.now path.now) [] ≡ []) }
+    ensures err { IfErr result
+        (IsTheRefusal (option_map type_refusal (first_of (cond (is_some (node_at tree.now path.now))
+        (violations_among (is_asked_in touched.now path.now) types.now tree.now path.now) [])))) }
 {
     if !tree.has(path) {
         return Ok(());
@@ -127,8 +138,11 @@ fn check_one(
     path: &Path,
 ) -> Result<(), Refusal>
     requires { IsTrue (is_some (node_at tree.now path.now)) }
-    ensures ok { OnOk result (violations_among (is_asked_in touched.now path.now) types.now tree.now path.now ≡ []) }
-    ensures err { IfErr result (IsTheRefusal (option_map type_refusal (first_of (violations_among (is_asked_in touched.now path.now) types.now tree.now path.now)))) }
+    ensures ok { OnOk result
+        (violations_among (is_asked_in touched.now path.now) types.now tree.now path.now ≡ []) }
+    ensures err { IfErr result (IsTheRefusal (option_map type_refusal
+        (first_of (violations_among (is_asked_in touched.now path.now) types.now tree.now
+        path.now)))) }
 {
     if touched.renewed.has(path) {
         return check_node(alloc, types, tree, path);
@@ -146,8 +160,11 @@ fn check_part(
 ) -> Result<(), Refusal>
     requires there { IsTrue (is_some (node_at tree.now path.now)) }
     requires part { IsFalse (is_some (node_at touched.now.renewed path.now)) }
-    ensures ok { OnOk result (violations_among (is_asked_in touched.now path.now) types.now tree.now path.now ≡ []) }
-    ensures err { IfErr result (IsTheRefusal (option_map type_refusal (first_of (violations_among (is_asked_in touched.now path.now) types.now tree.now path.now)))) }
+    ensures ok { OnOk result
+        (violations_among (is_asked_in touched.now path.now) types.now tree.now path.now ≡ []) }
+    ensures err { IfErr result (IsTheRefusal (option_map type_refusal
+        (first_of (violations_among (is_asked_in touched.now path.now) types.now tree.now
+        path.now)))) }
 {
     let names = match touched.nodes.children(path) {
         Ok(names) => names,
@@ -168,7 +185,8 @@ fn check_node(
 ) -> Result<(), Refusal>
     requires { IsTrue (is_some (node_at tree.now path.now)) }
     ensures ok { OnOk result (violations_at types.now tree.now path.now ≡ []) }
-    ensures err { IfErr result (IsTheRefusal (option_map type_refusal (first_of (violations_at types.now tree.now path.now)))) }
+    ensures err { IfErr result (IsTheRefusal
+        (option_map type_refusal (first_of (violations_at types.now tree.now path.now)))) }
 {
     match check(types, tree, path) {
         Ok(()) => Ok(()),
@@ -178,7 +196,8 @@ fn check_node(
 
 // What is told of a rule that is broken.
 fn refused(alloc: Global, out: TypesOut) -> Refusal
-    ensures { (violations : List Violation) → IsFirstOf violations out → IsTheRefusal (option_map type_refusal (first_of violations)) result }
+    ensures { (violations : List Violation) → IsFirstOf violations out
+        → IsTheRefusal (option_map type_refusal (first_of violations)) result }
 {
     match out {
         TypesOut::Violation { node, item, rule } => breaks_rule(alloc, rule, &node, Some(&item)),

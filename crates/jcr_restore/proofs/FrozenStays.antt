@@ -31,7 +31,8 @@ use Rattle.jr_items.specs.Items.{adding, property_of}
 use Rattle.jr_items.specs.Names.{frozen_mixin_types, frozen_node, frozen_primary_type, frozen_type, frozen_uuid, mixin_types, primary_type}
 use Rattle.jr_types.specs.declared.TypeDef.{TypeDef}
 use Rattle.jcr_lock.specs.Needed.{is_needed}
-use Rattle.jcr_frozen.specs.Frozen.{frozen_copy, frozen_identifier, frozen_props, frozen_tree, is_copied, is_frozen_with, with_copied, with_own, with_property}
+use Rattle.jcr_frozen.specs.declared.frozen.Share.TheVariants as share
+use Rattle.jcr_frozen.specs.Frozen.{frozen_copy, frozen_identifier, frozen_props, frozen_tree, is_copied, is_frozen_with, share_of, with_own, with_property, with_in_share}
 use Rattle.jcr_restore.specs.Edits.{frozen_of}
 use Rattle.jcr_restore.proofs.Added.{is_elsewhere, node_there, prop_there}
 use Rattle.jcr_restore.proofs.Standing.{above_there, all_below, found_passes, node_below, same_front, under_itself}
@@ -45,10 +46,10 @@ sorted_property props n (Some x) s = sorted_insert name_cmp nat_list_cmp_total n
 
 sorted_copied : (types : List TypeDef) (node : Node) (es props : List (Name × Property))
     → is_sorted name_cmp props ≡ true
-    → is_sorted name_cmp (fold (with_copied types node) props es) ≡ true
+    → is_sorted name_cmp (fold (with_in_share share.Copied types node) props es) ≡ true
 sorted_copied types node [] props s = s
 sorted_copied types node (e ∷ es) props s =
-    sorted_copied types node es (with_copied types node props e) (by (is_copied types node e.0 e.1))
+    sorted_copied types node es (with_in_share share.Copied types node props e) (by (is_copied types node e.0 e.1))
   where
     by : (b : Bool) → is_sorted name_cmp (cond b (insert_entry name_cmp props e.0 e.1) props) ≡ true
     by true = sorted_insert name_cmp nat_list_cmp_total e.0 e.1 props s
@@ -75,7 +76,7 @@ sorted_own node props s =
 sorted_frozen : (types : List TypeDef) (node : Node)
     → is_sorted name_cmp (frozen_props types node) ≡ true
 sorted_frozen types node =
-    sorted_own node (fold (with_copied types node) [] node.props)
+    sorted_own node (share_of share.Copied types node)
     (sorted_copied types node node.props [] refl)
 
 -- ---- the frozen nodes stand in order

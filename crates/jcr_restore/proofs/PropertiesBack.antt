@@ -22,11 +22,12 @@ use Rattle.jr_items.specs.Names.{frozen_mixin_types, frozen_primary_type, frozen
 use Rattle.jr_items.specs.Items.{one_text, property_of, same_name}
 use Rattle.jr_types.specs.declared.TypeDef.{TypeDef}
 use Rattle.jcr_frozen.specs.declared.attributes.Asked.TheVariants as asked
+use Rattle.jcr_frozen.specs.declared.frozen.Share.TheVariants as share
 use Rattle.jcr_frozen.specs.Attributes.{property_has}
-use Rattle.jcr_frozen.specs.Frozen.{frozen_copy, frozen_identifier, frozen_props, is_copied, is_frozen_name, with_copied, with_property}
+use Rattle.jcr_frozen.specs.Frozen.{frozen_copy, frozen_identifier, frozen_props, is_copied, is_frozen_name, is_type_name, is_unkept, share_of, with_property}
 use Rattle.basics.proofs.Orders.{equal_of}
 use Rattle.basics.proofs.Options.{where_some}
-use Rattle.jcr_restore.specs.Restored.{brought_props, is_unkept, is_type_name, left_props, with_frozen, with_identifier, with_types}
+use Rattle.jcr_restore.specs.Restored.{brought_props, left_props, with_frozen, with_identifier, with_types}
 use Rattle.jcr_restore.specs.BroughtBack.{unkept_property}
 use Rattle.jcr_restore.proofs.Folded.{found_folded, if_passed}
 
@@ -68,7 +69,7 @@ passed test n es u sorted =
 
 -- the properties that a frozen node copies
 copied : (types : List TypeDef) (node : Node) (n : Name) → is_sorted name_cmp node.props ≡ true
-    → at (fold (with_copied types node) [] node.props) n ≡ if_passed (λ e. is_copied types node e.0 e.1) (λ e. e.1) n (property_of node n)
+    → at (share_of share.Copied types node) n ≡ if_passed (λ e. is_copied types node e.0 e.1) (λ e. e.1) n (property_of node n)
 copied types node n sorted = passed (λ e. is_copied types node e.0 e.1) n node.props [] sorted ∙ or_none _
 
 names : IsEquivalence (eq_by_cmp name_cmp)

@@ -11,9 +11,8 @@ use Rattle.jr_items.specs.Items.{one_text, property_of, same_name, same_path}
 use Rattle.jr_types.specs.declared.TypeDef.{TypeDef}
 use Rattle.jcr_frozen.specs.declared.attributes.Asked.TheVariants as asked
 use Rattle.jcr_frozen.specs.Attributes.{property_has}
-use Rattle.jcr_frozen.specs.Frozen.{frozen_tree, is_frozen_down, is_frozen_name}
+use Rattle.jcr_frozen.specs.Frozen.{frozen_tree, is_frozen_down, is_frozen_name, is_unkept}
 use Rattle.jcr_restore.specs.Edits.{after_restore}
-use Rattle.jcr_restore.specs.Restored.{is_unkept}
 
 -- the node by these names below p, where a version of p leaves it out
 abbrev pub left_out : List TypeDef → Nodes → (p : Path) → List Name → Option Node

@@ -1,5 +1,5 @@
 -- The tree after a node is brought to a frozen node.
-use Rattle.std.specs.Prelude.{◌++◌, Bool, true, false, not, ◌&&◌, ◌||◌, cond, List, [], ◌∷◌, length, drop, Option, None, Some, is_some}
+use Rattle.std.specs.Prelude.{◌++◌, Bool, true, false, not, ◌&&◌, cond, List, [], ◌∷◌, length, drop, Option, None, Some, is_some}
 use Rattle.std.specs.BTreeMap.{insert_entry}
 use Rattle.std.specs.List.{fold}
 use Rattle.jr_path.specs.Names.{name_cmp, path_cmp}
@@ -9,11 +9,10 @@ use Rattle.jr_value.specs.declared.value.Property.{Property}
 use Rattle.jr_tree.specs.declared.tree.Node.{Node}
 use Rattle.jr_tree.specs.Trees.{Nodes, born_at, node_at, subtree_of}
 use Rattle.jr_items.specs.Names.{frozen_mixin_types, frozen_primary_type, frozen_uuid, mixin_types, primary_type, uuid}
-use Rattle.jr_items.specs.Items.{child_path, property_of, same_name}
+use Rattle.jr_items.specs.Items.{child_path, property_of}
 use Rattle.jr_types.specs.declared.TypeDef.{TypeDef}
-use Rattle.jcr_frozen.specs.declared.attributes.Asked.TheVariants as asked
-use Rattle.jcr_frozen.specs.Attributes.{property_has}
-use Rattle.jcr_frozen.specs.Frozen.{is_frozen_along, is_frozen_name, with_property}
+use Rattle.jcr_frozen.specs.declared.frozen.Share.TheVariants as share
+use Rattle.jcr_frozen.specs.Frozen.{is_frozen_along, is_frozen_name, share_of, with_property}
 use Rattle.jcr_restore.specs.declared.fates.Fate.{Fate}
 use Rattle.jcr_restore.specs.declared.fates.Fate.TheVariants as fate
 
@@ -43,22 +42,10 @@ abbrev pub is_brought : Fate → Bool
 is_brought fate.Brought = true
 is_brought _ = false
 
--- the name is that of a node's type or of its mixins
-abbrev pub is_type_name : Name → Bool
-is_type_name n = same_name primary_type n || same_name mixin_types n
-
--- a version doesn't keep the property of the node, and it isn't the node's types: a restore leaves it
-abbrev pub is_unkept : List TypeDef → Node → Name → Property → Bool
-is_unkept types node n x = not (is_type_name n) && not (property_has asked.Kept types node n x)
-
--- one property of the node more, if a restore leaves it
-abbrev pub with_left : List TypeDef → Node → List (Name × Property) → Name × Property → List (Name × Property)
-with_left types node props x = cond (is_unkept types node x.0 x.1) (insert_entry name_cmp props x.0 x.1) props
-
 -- the properties that a restore leaves to the node, of a node that isn't there none
 abbrev pub left_props : List TypeDef → Option Node → List (Name × Property)
 left_props types None = []
-left_props types (Some node) = fold (with_left types node) [] node.props
+left_props types (Some node) = share_of share.Left types node
 
 -- one property of the frozen node more, but for those that it has for itself
 abbrev pub with_frozen : List (Name × Property) → Name × Property → List (Name × Property)

@@ -1,10 +1,10 @@
 // The properties of a node that is brought to a frozen node.
-ghost use Rattle.std.specs.Prelude.{◌≡◌, [], IfOk, OnOk};
+ghost use Rattle.std.specs.Prelude.{◌≡◌, IfOk, OnOk};
 ghost use Rattle.std.specs.List.{fold};
 ghost use Rattle.std.specs.Option.{option_copied};
-ghost use Rattle.jcr_restore.specs.Restored.{brought_props, is_type_name, is_unkept, left_props, with_frozen, with_identifier, with_left, with_types};
+ghost use Rattle.jcr_restore.specs.Restored.{brought_props, left_props, with_frozen, with_identifier, with_types};
 
-use jcr_frozen::{Asked, is_frozen_name, property_has, put_told};
+use jcr_frozen::{Share, is_frozen_name, put_told, share_of};
 use jr_items::OwnName;
 use jr_path::{DeepCopy, Keyed, Name};
 use jr_tree::Node;
@@ -37,59 +37,9 @@ fn left_props(
     ensures { IfOk result (λ props. props ≡ left_props types.now (option_copied old.entry)) }
 {
     match old {
-        Some(node) => left_of(alloc, types, node),
+        Some(node) => share_of(alloc, Share::Left, types, node),
         None => Ok(Keyed::new(alloc)),
     }
-}
-
-fn left_of(
-    alloc: Global,
-    types: &Registry,
-    node: &Node,
-) -> Result<Keyed<Name, Property>, AllocError>
-    ensures { IfOk result (λ props. props ≡ fold (with_left types.now node.now) [] node.now.props) }
-{
-    let mut props = Keyed::new(alloc);
-    for (name, property) in node.props.iter() {
-        put_left(&mut props, types, node, name, property)?;
-    }
-    Ok(props)
-}
-
-fn put_left(
-    props: &mut Keyed<Name, Property>,
-    types: &Registry,
-    node: &Node,
-    name: &Name,
-    property: &Property,
-) -> Result<(), AllocError>
-    ensures { OnOk result (props.new ≡ with_left types.now node.now props.old (name.now, property.now)) }
-{
-    if is_left(types, node, name, property)? {
-        props.put(name.copy()?, property.copy()?)?;
-    }
-    Ok(())
-}
-
-// Whether a restore leaves the property: a version doesn't keep it, and it isn't the node's types.
-fn is_left(
-    types: &Registry,
-    node: &Node,
-    name: &Name,
-    property: &Property,
-) -> Result<bool, AllocError>
-    ensures { IfOk result (λ answer. answer ≡ is_unkept types.now node.now name.now property.now) }
-{
-    if is_type_name(name) {
-        return Ok(false);
-    }
-    Ok(!property_has(Asked::Kept, types, node, name, property)?)
-}
-
-fn is_type_name(name: &Name) -> bool
-    ensures { result ≡ is_type_name name.now }
-{
-    OwnName::PrimaryType.is(name) || OwnName::MixinTypes.is(name)
 }
 
 // The properties of the frozen node, but for those that it has for itself.

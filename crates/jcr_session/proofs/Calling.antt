@@ -26,7 +26,7 @@ use Rattle.jcr_held.specs.declared.held.Held.{Held}
 use Rattle.jcr_session.specs.declared.run.SessionRun.{SessionRun}
 use Rattle.jcr_session.specs.declared.turn.Turn.{Turn}
 use Rattle.jcr_session.specs.Asked.{ComesNext, IsQueriedAs, MayAnswer, MayDrawFor, MayForgo}
-use Rattle.jcr_session.specs.Standing.{HasTurned, IsBeside, Stands}
+use Rattle.jcr_session.specs.Standing.{HasCounted, IsBeside, Stands}
 use Rattle.jcr_session.proofs.Nexts.{same_next}
 use Rattle.jcr_session.proofs.Saying.{answer_later, forgo_waits, idle_later, said_later}
 
@@ -45,8 +45,8 @@ module _ (law later : JcrLaw) (laws : later ≡ law) where
   pub waits_law : (old new : Shown) (work : Work) (room : Option ℕ) → OthersAlone (starts_of later) (says_of later) old new work room → OthersAlone (starts_of law) (says_of law) old new work room
   waits_law old new work room waits = subst (λ (l : JcrLaw). OthersAlone (starts_of l) (says_of l) old new work room) laws waits
 
-  pub turned_law : (old new : Shown) (run now : SessionRun) (t : Turn) → HasTurned later old new run now t → HasTurned law old new run now t
-  turned_law old new run now t turned = subst (λ (l : JcrLaw). HasTurned l old new run now t) laws turned
+  pub turned_law : (old new : Shown) (run now : SessionRun) (t : Turn) → HasCounted later old new run now t → HasCounted law old new run now t
+  turned_law old new run now t turned = subst (λ (l : JcrLaw). HasCounted l old new run now t) laws turned
 
   pub may_law : (p : Shown) (run : SessionRun) (text : Text) → MayAnswer law p run text → MayAnswer later p run text
   may_law p run text may = subst (λ (l : JcrLaw). MayAnswer l p run text) (sym laws) may
@@ -65,7 +65,7 @@ module _ (law later : JcrLaw) (laws : later ≡ law) where
     pub forgo_behind : MayForgo later mid run drew
     forgo_behind = forgo_law mid run drew (forgo_waits law old mid run drew beside idle may)
 
-    pub turned_idle : (new : Shown) (now : SessionRun) (t : Turn) → HasTurned later mid new run now t → HasTurned law old new run now t
+    pub turned_idle : (new : Shown) (now : SessionRun) (t : Turn) → HasCounted later mid new run now t → HasCounted law old new run now t
     turned_idle new now t turned = idle_later law old mid new run now t may.asked.inside may.asked.idle idle beside (turned_law mid new run now t turned)
 
   -- behind a place that was kept, or wasn't
@@ -73,7 +73,7 @@ module _ (law later : JcrLaw) (laws : later ≡ law) where
     pub may_behind : MayAnswer later mid run text
     may_behind = may_law mid run text (answer_later law old run text may mid room waits)
 
-    pub turned_behind_place : (new : Shown) (now : SessionRun) (t : Turn) → HasTurned later mid new run now t → HasTurned law old new run now t
+    pub turned_behind_place : (new : Shown) (now : SessionRun) (t : Turn) → HasCounted later mid new run now t → HasCounted law old new run now t
     turned_behind_place new now t turned = said_later law old run text may mid new room now t waits (turned_law mid new run now t turned)
 
 -- ---- what a call of what is held comes to, for the next command

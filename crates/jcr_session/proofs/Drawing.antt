@@ -44,7 +44,7 @@ use Rattle.jcr_session.specs.declared.run.Phase.TheVariants as phase
 use Rattle.jcr_session.specs.declared.run.SessionRun.{SessionRun}
 use Rattle.jcr_session.specs.declared.turn.Turn.TheVariants as turn
 use Rattle.jcr_session.specs.Asked.{ComesNext, IsAsked, MayDrawFor, MayForgo}
-use Rattle.jcr_session.specs.Standing.{HasDrawnFor, HasTurned, IsBeside, IsCalled, IsCommitting, IsFresh, IsIn, IsPlace, IsPrepared, IsTurned, Stands, StandsAt, due_for, due_to, is_allowed, is_writing}
+use Rattle.jcr_session.specs.Standing.{HasDrawnFor, HasCounted, IsBeside, IsCalled, IsCommitting, IsFresh, IsIn, IsPlace, IsPrepared, IsTurned, Stands, StandsAt, due_for, due_to, is_allowed, is_writing}
 use Rattle.jcr_session.proofs.Committing.{committing_drawn, own as same_number}
 use Rattle.jcr_session.proofs.Lawful.{asked_allowed, at_between, between_asked, called_typed}
 use Rattle.jcr_session.proofs.Nexts.{allowed_due, due_at, next_due}
@@ -284,7 +284,7 @@ module _ (law : JcrLaw) (mid : Shown) (run : SessionRun) (plan : Plan) (may : Ma
     }
 
     -- it draws, and the session is in its commit
-    pub draw_turns : HasTurned law mid new run run (turn.Stepped kind.Draw)
+    pub draw_turns : HasCounted law mid new run run (turn.Stepped kind.Draw)
     draw_turns = turned_later law mid begun new run run (turn.Stepped kind.Draw) may.asked.inside.nodes (free (ap is_writing begins.work_is) (ap is_awaiting begins.work_is) (ap is_awaiting may.asked.idle)) first_beside
         (not_ended (turn.Stepped kind.Draw) refl) draws_new
 

@@ -18,4 +18,5 @@ pub mod Starting
 pub mod Staying
 pub mod Stepping
 pub mod Turning
+pub mod Undrawn
 pub mod Waiting

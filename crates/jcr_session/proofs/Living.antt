@@ -35,8 +35,9 @@ use Rattle.jcr_session.specs.declared.run.Phase.TheVariants as phase
 use Rattle.jcr_session.specs.declared.run.SessionRun.{SessionRun}
 use Rattle.jcr_session.specs.declared.turn.Turn.{Turn}
 use Rattle.jcr_session.specs.declared.turn.Turn.TheVariants as turn
-use Rattle.jcr_session.specs.Standing.{HasTurned, IsBetween, IsFresh, IsIn, IsOutside, IsReading, Stands, StandsAt, is_writing}
+use Rattle.jcr_session.specs.Standing.{HasCounted, IsBetween, IsFresh, IsIn, IsOutside, IsReading, Stands, StandsAt, is_writing}
 use Rattle.jcr_session.proofs.Committing.{own}
+use Rattle.jcr_session.proofs.Nexts.{unwanted}
 use Rattle.jcr_session.proofs.Turning.{free, is_awaiting, not_ended, plain_step, turned_later}
 use Rattle.jcr_session.proofs.Waiting.{by_waits, login_stays}
 
@@ -192,6 +193,7 @@ module _ (law : JcrLaw) (old mid new : Shown) (run : SessionRun) (stands : Stand
       fresh = moved (λ h n. IsFresh h.past n) fresh_now;
       reads = subst (λ (o : Option Need). IsReading new.work o) (sym is_out.unread) made.1;
       due = λ some. absurd (false≢true (sym (ap is_some is_out.unread) ∙ some));
+      wanted = unwanted first run_now is_out.unread;
     }
 
     stands_now : Stands law new run_now
@@ -208,10 +210,10 @@ module _ (law : JcrLaw) (old mid new : Shown) (run : SessionRun) (stands : Stand
       at = (inside_now, between_now);
     }
 
-    pub logged_in : (now : SessionRun) (t : Turn) → now ≡ record run { held = held; phase = phase.Between } → t ≡ turn.Stepped kind.Login → HasTurned law old new run now t
+    pub logged_in : (now : SessionRun) (t : Turn) → now ≡ record run { held = held; phase = phase.Between } → t ≡ turn.Stepped kind.Login → HasCounted law old new run now t
     logged_in now t is told =
-        subst (λ (x : Turn). HasTurned law old new run now x) (sym told)
-        (subst (λ (x : SessionRun). HasTurned law old new run x (turn.Stepped kind.Login)) (sym is)
+        subst (λ (x : Turn). HasCounted law old new run now x) (sym told)
+        (subst (λ (x : SessionRun). HasCounted law old new run x (turn.Stepped kind.Login)) (sym is)
         (turned_later law old mid new run run_now (turn.Stepped kind.Login) stands.nodes (free (ap is_writing waits.work_is) (ap is_awaiting waits.work_is) (ap is_awaiting is_out.idle)) (by_waits law old mid (Starting task.Login) room waits) (not_ended (turn.Stepped kind.Login) refl)
         record {
           others = steps.others;

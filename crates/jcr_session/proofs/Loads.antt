@@ -30,11 +30,11 @@ use Rattle.jcr_session.specs.declared.read.Loaded.{Loaded}
 use Rattle.jcr_session.specs.declared.read.Loaded.TheVariants as loaded
 use Rattle.jcr_session.specs.declared.run.SessionRun.{SessionRun}
 use Rattle.jcr_session.specs.Answered.{IsListAnswer, IsLoadAnswer, listed_by, loaded_by}
-use Rattle.jcr_session.specs.Standing.{HasLooked, HasRead, IsCalled, IsIn, IsReading, IsReadyNext, IsRefused, IsSame, Stands, may_read}
+use Rattle.jcr_session.specs.Standing.{HasLooked, HasRead, IsCalled, IsIn, IsReading, IsReadyNext, IsRefused, IsSame, IsWantedNext, Stands, may_read}
 use Rattle.jcr_session.proofs.Coming.{list_comes, load_comes}
 use Rattle.jcr_session.proofs.Lawful.{at_between}
 use Rattle.jcr_session.proofs.Looking.{read_looked, read_refused}
-use Rattle.jcr_session.proofs.Nexts.{reads_between}
+use Rattle.jcr_session.proofs.Nexts.{reads_between, unwanted}
 use Rattle.jcr_session.proofs.Reading.{HasStepped, beside_itself, list_found, list_refused, list_went, node_found, node_refused, node_went}
 use Rattle.jcr_session.proofs.Waiting.{by_waits}
 
@@ -134,11 +134,11 @@ module _ (law : JcrLaw) (old new : Shown) (run : SessionRun) (path : Path) (stan
   load_going h =
       let k = load_goes answer load_is h in
       let x = node_went law old new path stands.nodes k.0 load_busy (subst By k.1 steps) in
-      read_looked law old new loading stands reads x.beside loading (record { session = refl; commands = refl; index = refl; phase = refl }) (λ c holds is. holds) x.work_is
+      read_looked law old new loading stands reads x.beside loading (record { session = refl; commands = refl; index = refl; phase = refl }) (λ c holds is. holds) x.work_is (λ c is wanted. wanted)
 
   load_ended : (held : Held) → (x : HasStepped law old new path stands.nodes Idle) → ((c : Call) → Holds c run.held → IsCalled law old c → Holds c held) → HasLooked law old new loading (record run { held = held }) × IsRefused new (record run { held = held })
   load_ended held x holds = (
-    read_looked law old new loading stands reads x.beside (record run { held = held }) (record { session = refl; commands = refl; index = refl; phase = refl }) holds (subst (λ (o : Option Need). IsReading new.work o) (sym none) x.work_is),
+    read_looked law old new loading stands reads x.beside (record run { held = held }) (record { session = refl; commands = refl; index = refl; phase = refl }) holds (subst (λ (o : Option Need). IsReading new.work o) (sym none) x.work_is) (λ c is wanted. unwanted c (record run { held = held }) none),
     read_refused law old new loading stands reads x.beside (record run { held = held }) (record { session = refl; commands = refl; index = refl; phase = refl }) holds (subst (λ (o : Option Need). IsReading new.work o) (sym none) x.work_is) none,
   )
 
@@ -171,11 +171,11 @@ module _ (law : JcrLaw) (old new : Shown) (run : SessionRun) (path : Path) (stan
   list_going h =
       let k = list_goes answer list_is h in
       let x = list_went law old new path stands.nodes k.0 list_busy (subst ByList k.1 steps) in
-      read_looked law old new listing stands reads x.beside listing (record { session = refl; commands = refl; index = refl; phase = refl }) (λ c holds is. holds) x.work_is
+      read_looked law old new listing stands reads x.beside listing (record { session = refl; commands = refl; index = refl; phase = refl }) (λ c holds is. holds) x.work_is (λ c is wanted. wanted)
 
   list_ended : (held : Held) → (x : HasStepped law old new path stands.nodes Idle) → ((c : Call) → Holds c run.held → IsCalled law old c → Holds c held) → HasLooked law old new listing (record run { held = held }) × IsRefused new (record run { held = held })
   list_ended held x holds = (
-    read_looked law old new listing stands reads x.beside (record run { held = held }) (record { session = refl; commands = refl; index = refl; phase = refl }) holds (subst (λ (o : Option Need). IsReading new.work o) (sym none) x.work_is),
+    read_looked law old new listing stands reads x.beside (record run { held = held }) (record { session = refl; commands = refl; index = refl; phase = refl }) holds (subst (λ (o : Option Need). IsReading new.work o) (sym none) x.work_is) (λ c is wanted. unwanted c (record run { held = held }) none),
     read_refused law old new listing stands reads x.beside (record run { held = held }) (record { session = refl; commands = refl; index = refl; phase = refl }) holds (subst (λ (o : Option Need). IsReading new.work o) (sym none) x.work_is) none,
   )
 
@@ -208,20 +208,20 @@ module _ (law : JcrLaw) (p : Shown) (run : SessionRun) (stands : Stands law p ru
       let fetch : now.fetch ≡ None = ap (λ (r : SessionRun). r.fetch) same ∙ none in
       let is : IsSame run now = record { session = ap (λ (r : SessionRun). r.session) same; commands = ap (λ (r : SessionRun). r.commands) same; index = ap (λ (r : SessionRun). r.index) same; phase = ap (λ (r : SessionRun). r.phase) same } in
       let work : IsReading p.work now.fetch = subst (λ (o : Option Need). IsReading p.work o) (sym fetch) (idle_here none) in (
-        read_looked law p p run stands reads (beside_itself law p stands.run_is) now is (λ c has called. holds c has) work,
+        read_looked law p p run stands reads (beside_itself law p stands.run_is) now is (λ c has called. holds c has) work (λ c called wanted. unwanted c now fetch),
         read_refused law p p run stands reads (beside_itself law p stands.run_is) now is (λ c has called. holds c has) work fetch,
       )
 
   -- what is read next is begun
-  pub begun_looked : (new : Shown) (t : Task) (n : Need) → OthersAlone (starts_of law) (says_of law) p new (Starting t) p.room → IsReading (Starting t) (Some n) → HasLooked law p new run (record run { fetch = Some n })
-  begun_looked new t n waits is =
+  pub begun_looked : (new : Shown) (t : Task) (n : Need) → OthersAlone (starts_of law) (says_of law) p new (Starting t) p.room → IsReading (Starting t) (Some n) → ((c : Call) → IsCalled law p c → IsWantedNext c (record run { fetch = Some n })) → HasLooked law p new run (record run { fetch = Some n })
+  begun_looked new t n waits is wanted =
       read_looked law p new run stands reads (by_waits law p new (Starting t) p.room waits) (record run { fetch = Some n }) (record { session = refl; commands = refl; index = refl; phase = refl }) (λ c has called. has)
-      (subst (λ (w : Work). IsReading w (Some n)) (sym waits.work_is) is)
+      (subst (λ (w : Work). IsReading w (Some n)) (sym waits.work_is) is) (λ c called before. wanted c called)
 
   pub unbegun_looked : (new : Shown) → run.fetch ≡ None → OthersAlone (starts_of law) (says_of law) p new Idle p.room → HasLooked law p new run run × IsRefused new run
   unbegun_looked new none waits =
       let work : IsReading new.work run.fetch = subst (λ (o : Option Need). IsReading new.work o) (sym none) waits.work_is in (
-        read_looked law p new run stands reads (by_waits law p new Idle p.room waits) run (record { session = refl; commands = refl; index = refl; phase = refl }) (λ c has called. has) work,
+        read_looked law p new run stands reads (by_waits law p new Idle p.room waits) run (record { session = refl; commands = refl; index = refl; phase = refl }) (λ c has called. has) work (λ c called wanted. wanted),
         read_refused law p new run stands reads (by_waits law p new Idle p.room waits) run (record { session = refl; commands = refl; index = refl; phase = refl }) (λ c has called. has) work none,
       )
 

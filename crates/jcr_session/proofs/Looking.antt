@@ -18,7 +18,7 @@ use Rattle.jcr_session.specs.declared.run.SessionRun.{SessionRun}
 use Rattle.jcr_session.specs.declared.turn.Turn.{Turn}
 use Rattle.jcr_session.specs.declared.turn.Turn.TheVariants as turn
 use Rattle.jcr_session.specs.Asked.{MayForgo}
-use Rattle.jcr_session.specs.Standing.{HasLooked, HasTurned, IsBeside, IsBetween, IsIn, IsReading, IsRefused, IsSame, IsTurned, Stands, StandsAt, due_for, due_of, is_between, is_writing, may_read, reads_for}
+use Rattle.jcr_session.specs.Standing.{HasLooked, HasCounted, IsBeside, IsBetween, IsCalled, IsIn, IsReading, IsRefused, IsSame, IsTurned, IsWantedNext, Stands, StandsAt, due_for, due_of, is_between, is_writing, may_read, reads_for}
 use Rattle.jcr_session.proofs.Lawful.{at_between, between_forgoes}
 use Rattle.jcr_session.proofs.Nexts.{reads_between, reads_due, reads_next, same_reads}
 use Rattle.jcr_session.proofs.Reading.{beside_both, beside_itself, nobody}
@@ -33,9 +33,9 @@ module _ (law : JcrLaw) (old new : Shown) (run : SessionRun) (stands : Stands la
   here = at_between law old run stands (reads_between run reads)
 
   -- it stands where it stood, with what is read by now and what is being read
-  module _ (now : SessionRun) (same : IsSame run now) (holds : (c : Call) → Holds c run.held → Rattle.jcr_session.specs.Standing.IsCalled law old c → Holds c now.held) (work : IsReading new.work now.fetch) where
-    pub read_stands : Stands law new now
-    read_stands = record {
+  module _ (now : SessionRun) (same : IsSame run now) (holds : (c : Call) → Holds c run.held → IsCalled law old c → Holds c now.held) (work : IsReading new.work now.fetch) where
+    pub read_stands : ((c : Call) → IsCalled law old c → IsWantedNext c run → IsWantedNext c now) → Stands law new now
+    read_stands wanted = record {
       nodes = nodes_beside law old new beside stands.nodes;
       trees = shown_beside law old new beside (λ h n. Rattle.core_calls.specs.Seeing.SeesTrees law h.clusters h.sessions h.begin) stands.trees;
       typed = shown_beside law old new beside (λ h n. Rattle.core_calls.specs.Seeing.SeesTyped law h.clusters h.sessions h.begin) stands.typed;
@@ -54,13 +54,14 @@ module _ (law : JcrLaw) (old new : Shown) (run : SessionRun) (stands : Stands la
           fresh = fresh_beside law old new beside stands.nodes here.1.fresh;
           reads = work;
           due = λ some. reads_due now (same_reads run now same.phase same.commands same.index ∙ reads);
+          wanted = wanted here.1.call here.1.is here.1.wanted;
         },
       );
     }
 
-    pub read_looked : HasLooked law old new run now
-    read_looked = record {
-      stands = read_stands;
+    pub read_looked : ((c : Call) → IsCalled law old c → IsWantedNext c run → IsWantedNext c now) → HasLooked law old new run now
+    read_looked wanted = record {
+      stands = read_stands wanted;
       same = same;
       beside = beside;
       still = λ none. absurd (false≢true (sym none ∙ reads));
@@ -72,14 +73,6 @@ module _ (law : JcrLaw) (old new : Shown) (run : SessionRun) (stands : Stands la
       unread = none;
       reads = same_reads run now same.phase same.commands same.index ∙ reads;
     }
-
-pub looked_nothing : (law : JcrLaw) (p : Shown) (run : SessionRun) → Stands law p run → HasLooked law p p run run
-looked_nothing law p run stands = record {
-  stands = stands;
-  same = record { session = refl; commands = refl; index = refl; phase = refl };
-  beside = beside_itself law p stands.run_is;
-  still = λ read. (refl, refl);
-}
 
 pub looked_both : (law later : JcrLaw) (a b c : Shown) (r s t : SessionRun) → later ≡ law → AreNodes a.history.clusters a.history.sessions → HasLooked law a b r s → HasLooked later b c s t → HasLooked law a c r t
 looked_both law later a b c r s t laws nodes first then =
@@ -122,13 +115,13 @@ module _ (law : JcrLaw) (a b c : Shown) (run like now : SessionRun) (t : Turn) (
   ends_read : IsTurned law b c run now turn.Ended → b ≡ a
   ends_read turned = never_ends law b c run now (at_between law b like looked.stands (looked.same.phase ∙ reads_between run reads)).0 turned
 
-  pub turned_behind : b.work ≡ Idle → HasTurned law b c like now t → HasTurned law a c run now t
+  pub turned_behind : b.work ≡ Idle → HasCounted law b c like now t → HasCounted law a c run now t
   turned_behind idle turned =
       has_turned_later law a b c run now t old.nodes (link_read idle) looked.beside ends_read
       (turned_like law b c run like now t looked.same.session looked.same.commands looked.same.index turned)
 
 -- a session that has left makes no step
-pub over_ends : (law : JcrLaw) (p : Shown) (run : SessionRun) → Stands law p run → run.phase ≡ phase.Over → HasTurned law p p run run turn.Ended
+pub over_ends : (law : JcrLaw) (p : Shown) (run : SessionRun) → Stands law p run → run.phase ≡ phase.Over → HasCounted law p p run run turn.Ended
 over_ends law p run stands over = let gone = subst (λ (f : Phase). StandsAt law p run f) over stands.at in record {
   others = [];
   own = [];

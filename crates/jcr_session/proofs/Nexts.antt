@@ -1,7 +1,7 @@
 -- What is to be done for the next command of a session, case by case.
 use Rattle.std.proofs.lemmas.Bool.Decides.{nat_tests}
 use Rattle.std.proofs.Common.{◌≡◌, ℕ, zero, suc, ◌<◌, length, get_or, arith, Bool, true, false, cond, not, ◌&&◌, Some, None, Option, List, [], ◌∷◌, is_some, nat_eq, nat_lt, refl, sym, ap, ◌∙◌, subst}
-use Rattle.std.specs.Prelude.{slice_get}
+use Rattle.std.specs.Prelude.{IfSome, slice_get}
 use Rattle.std.specs.Option.{option_map_or}
 use mathlib.Core.Bool.{false≢true}
 use Rattle.jr_path.specs.declared.name.Name.{Name}
@@ -9,14 +9,17 @@ use Rattle.jr_path.specs.declared.text.Text.{Text}
 use Rattle.jr_value.specs.declared.value.Value.{Value}
 use Rattle.jcr_trans.specs.declared.command.Command.{Command}
 use Rattle.jcr_trans.specs.declared.command.Command.TheVariants as command
+use Rattle.jr_part.specs.declared.need.Need.{Need}
 use Rattle.jcr_view.specs.Outcomes.{is_viewed}
+use Rattle.jcr_law.specs.State.{Call}
 use Rattle.jcr_held.specs.Comes.{commits}
+use Rattle.jcr_held.specs.Unread.{IsWanted}
 use Rattle.jcr_session.specs.declared.next.Due.{Due}
 use Rattle.jcr_session.specs.declared.next.Due.TheVariants as due
 use Rattle.jcr_session.specs.declared.run.Phase.{Phase}
 use Rattle.jcr_session.specs.declared.run.Phase.TheVariants as phase
 use Rattle.jcr_session.specs.declared.run.SessionRun.{SessionRun}
-use Rattle.jcr_session.specs.Standing.{due_by, due_for, due_of, due_to, is_allowed, is_between, is_saving, may_read, reads_for}
+use Rattle.jcr_session.specs.Standing.{IsWantedNext, due_by, due_for, due_of, due_to, is_allowed, is_between, is_saving, may_read, reads_for}
 
 abbrev pub due_number : Due → ℕ
 due_number due.Leave = 0
@@ -285,3 +288,7 @@ some_there commands i is = by (slice_get commands i) refl is
 -- a session that reads isn't in its commit
 pub reads_unsaving : {A : Type 0} (run : SessionRun) → may_read run ≡ true → is_saving run.phase ≡ true → A
 reads_unsaving run reads saving = absurd (false≢true (sym (ap is_saving (reads_between run reads)) ∙ saving))
+
+-- nothing is being read, so nothing that isn't wanted
+pub unwanted : (c : Call) (run : SessionRun) → run.fetch ≡ None → IsWantedNext c run
+unwanted c run none m next = subst (λ (o : Option Need). IfSome o (IsWanted c run.held m)) (sym none) tt

@@ -122,7 +122,7 @@ among_more a b more s (event.Draw d ∷ list) h =
 among_more a b more s (e ∷ list) h = among_more a b more s list h
 
 -- events that draw nothing for the session leave what is in flight
-abbrev is_draw_of : ℕ → Event → Bool
+abbrev pub is_draw_of : ℕ → Event → Bool
 is_draw_of s (event.Draw d) = d.session == s
 is_draw_of s e = false
 
@@ -143,7 +143,7 @@ last_stays r added past s none h =
     more q true h = refl
     more q false h = any_later (is_end_of q) added past h
 
-no_draws : (whole added : Past) (s : ℕ) → list_any (is_event_of whole s) added ≡ false → list_any (is_draw_of s) added ≡ false
+pub no_draws : (whole added : Past) (s : ℕ) → list_any (is_event_of whole s) added ≡ false → list_any (is_draw_of s) added ≡ false
 no_draws whole [] s h = refl
 no_draws whole (event.Draw d ∷ added) s h = let n = neither (d.session == s) _ h in ap (λ b. b || list_any (is_draw_of s) added) n.0 ∙ no_draws whole added s n.1
 no_draws whole (e ∷ added) s h = no_draws whole added s (neither (is_event_of whole s e) _ h).1

@@ -30,8 +30,9 @@ use Rattle.jcr_session.specs.declared.run.SessionRun.{SessionRun}
 use Rattle.jcr_session.specs.declared.turn.Turn.{Turn}
 use Rattle.jcr_session.specs.declared.turn.Turn.TheVariants as turn
 use Rattle.jcr_session.specs.Asked.{IsAsked, MayAnswer, MayForgo, has_drawn}
-use Rattle.jcr_session.specs.Standing.{HasTurned, IsBeside, IsBetween, IsCalled, IsFresh, IsIn, IsReading, IsSeenFor, IsTurned, Stands, is_writing, reads_for, due_for}
+use Rattle.jcr_session.specs.Standing.{HasCounted, IsBeside, IsBetween, IsCalled, IsFresh, IsIn, IsReading, IsSeenFor, IsTurned, Stands, is_writing, reads_for, due_for}
 use Rattle.jcr_session.proofs.Committing.{own}
+use Rattle.jcr_session.proofs.Nexts.{unwanted}
 use Rattle.jcr_session.proofs.Turning.{free, has_turned_later, is_awaiting, kept, never_ends}
 use Rattle.jcr_session.proofs.Waiting.{all_beside, by_waits, called_beside, in_beside, next_beside, shown_beside}
 
@@ -203,6 +204,7 @@ module _ (law : JcrLaw) (old new : Shown) (run : SessionRun) (text : Text) (may 
         fresh = moved (λ h s. IsFresh h.past s) fresh_said;
         reads = subst (λ (o : Option Need). IsReading new.work o) (sym may.asked.unread) done.work;
         due = λ some. absurd (false≢true (sym (ap is_some may.asked.unread) ∙ some));
+        wanted = unwanted (call_after (is_ok_text text) (has_drawn old) may.call may.command) then_run may.asked.unread;
       }
 
 -- want of memory may still be answered, too
@@ -241,7 +243,7 @@ module _ (law : JcrLaw) (old : Shown) (run : SessionRun) (text : Text) (may : Ma
   pub answer_later : (new : Shown) (room : Option ℕ) → OthersAlone (starts_of law) (says_of law) old new old.work room → MayAnswer law new run text
   answer_later new room waits = answer_waits law old new run text may (by_waits law old new old.work room waits) (waits.work_is ∙ may.asked.idle)
 
-  pub said_later : (mid new : Shown) (room : Option ℕ) (now : SessionRun) (t : Turn) → OthersAlone (starts_of law) (says_of law) old mid old.work room → HasTurned law mid new run now t → HasTurned law old new run now t
+  pub said_later : (mid new : Shown) (room : Option ℕ) (now : SessionRun) (t : Turn) → OthersAlone (starts_of law) (says_of law) old mid old.work room → HasCounted law mid new run now t → HasCounted law old new run now t
   said_later mid new room now t waits turned =
       let beside = by_waits law old mid old.work room waits in
       has_turned_later law old mid new run now t may.asked.inside.nodes (kept waits.work_is (waits.same_due refl)) beside
@@ -250,18 +252,19 @@ module _ (law : JcrLaw) (old : Shown) (run : SessionRun) (text : Text) (may : Ma
 -- ---- behind calls that left nothing being done
 
 -- a session that was idle and is so, behind events of others
-pub idle_later : (law : JcrLaw) (old mid new : Shown) (run now : SessionRun) (t : Turn) → IsIn law old → old.work ≡ Idle → mid.work ≡ Idle → IsBeside law old mid → HasTurned law mid new run now t → HasTurned law old new run now t
+pub idle_later : (law : JcrLaw) (old mid new : Shown) (run now : SessionRun) (t : Turn) → IsIn law old → old.work ≡ Idle → mid.work ≡ Idle → IsBeside law old mid → HasCounted law mid new run now t → HasCounted law old new run now t
 idle_later law old mid new run now t inside was is beside turned =
     has_turned_later law old mid new run now t inside.nodes (free (ap is_writing is) (ap is_awaiting is) (ap is_awaiting was)) beside
     (never_ends law mid new run now (in_beside law old mid beside inside.nodes inside)) turned
 
 -- ---- a turn of a session that holds something else, or says that it stands elsewhere
 
-pub turned_like : (law : JcrLaw) (old new : Shown) (run like now : SessionRun) (t : Turn) → like.session ≡ run.session → like.commands ≡ run.commands → like.index ≡ run.index → HasTurned law old new like now t → HasTurned law old new run now t
+pub turned_like : (law : JcrLaw) (old new : Shown) (run like now : SessionRun) (t : Turn) → like.session ≡ run.session → like.commands ≡ run.commands → like.index ≡ run.index → HasCounted law old new like now t → HasCounted law old new run now t
 turned_like law old new run like now (turn.Stepped k) session commands index h = record { others = h.others; own = h.own; grows = h.grows; beside = h.beside; alone = h.alone; made = h.made; same = (h.same.0 ∙ session, h.same.1 ∙ commands); tells = h.tells; stands = h.stands }
 turned_like law old new run like now (turn.Said i) session commands index h = record { others = h.others; own = h.own; grows = h.grows; beside = h.beside; alone = h.alone; made = h.made; same = (h.same.0 ∙ session, h.same.1 ∙ commands); tells = subst (λ n. Rattle.jcr_session.specs.Standing.Tells (after h.others old.history) old.session n (turn.Said i) h.own) index h.tells; stands = h.stands }
 turned_like law old new run like now (turn.Waiting q) session commands index h = record { others = h.others; own = h.own; grows = h.grows; beside = h.beside; alone = h.alone; made = h.made; same = (h.same.0 ∙ session, h.same.1 ∙ commands); tells = h.tells; stands = h.stands }
 turned_like law old new run like now turn.Ended session commands index h = record { others = h.others; own = h.own; grows = h.grows; beside = h.beside; alone = h.alone; made = h.made; same = (h.same.0 ∙ session, h.same.1 ∙ commands); tells = h.tells; stands = h.stands }
+turned_like law old new run like now turn.Read session commands index h = absurd h.tells
 turned_like law old new run like now turn.Memory session commands index h = tt
 
 pub room_kept : (starts : _) (says : _) (old new : Shown) (work : Work) (n : ℕ) → OthersAlone starts says old new work (Some n) → HasRoom new.room n

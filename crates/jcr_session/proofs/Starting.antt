@@ -9,7 +9,7 @@ use Rattle.oak_machine.specs.History.{History, Past}
 use Rattle.oak_machine.specs.Commits.{tree_at}
 use Rattle.oak_machine.specs.Laws.{after}
 use Rattle.oak_machine.specs.Runs.{AreNodes, IsRun}
-use Rattle.oak_machine.specs.Sessions.{base_of, has_left, has_login, is_attached, next_index, refreshed_since}
+use Rattle.oak_machine.specs.Sessions.{base_of, has_left, has_login, is_attached, is_drawing, next_index, refreshed_since}
 use Rattle.oak_port.specs.Ports.{AreOfStep, Grows, Idle, Makes, MayBegin, OthersAlone, Shown, Starting, Steps, Work}
 use Rattle.oak_port.specs.declared.task.StepOut.{StepOut}
 use Rattle.oak_port.specs.declared.task.StepOut.TheVariants as out
@@ -33,7 +33,7 @@ use Rattle.jcr_session.specs.declared.run.Phase.TheVariants as phase
 use Rattle.jcr_session.specs.declared.run.SessionRun.{SessionRun}
 use Rattle.jcr_session.specs.declared.turn.Turn.{Turn}
 use Rattle.jcr_session.specs.declared.turn.Turn.TheVariants as turn
-use Rattle.jcr_session.specs.Standing.{HasTurned, IsBeside, IsBetween, IsFresh, IsIn, Stands, StandsAt, due_for, due_of, is_writing}
+use Rattle.jcr_session.specs.Standing.{HasCounted, IsBeside, IsBetween, IsFresh, IsIn, Stands, StandsAt, due_for, due_of, is_writing}
 use Rattle.jcr_session.proofs.Committing.{own}
 use Rattle.jcr_session.proofs.Lawful.{at_between, idle_by}
 use Rattle.jcr_session.proofs.Nexts.{left_due}
@@ -142,12 +142,12 @@ module _ (law : JcrLaw) (old mid new : Shown) (room : Option ℕ) (run : Session
   -- it leaves
   pub left : (now : SessionRun) (t : Turn) → due_for run ≡ due.Leave
       → OthersAlone (starts_of law) (says_of law) old mid (Starting task.End) room → Steps (starts_of law) (says_of law) mid new (out.Ready end.Ended)
-      → now ≡ record run { phase = phase.Over } → t ≡ turn.Stepped kind.End → HasTurned law old new run now t
+      → now ≡ record run { phase = phase.Over } → t ≡ turn.Stepped kind.End → HasCounted law old new run now t
   left now t next waits steps is told =
       let m = made law old mid new task.End (out.Ready end.Ended) room inside waits steps in
       let moment = inside_moment law old mid new task.End (out.Ready end.Ended) room inside waits steps in
-      subst (λ (x : Turn). HasTurned law old new run now x) (sym told)
-      (subst (λ (x : SessionRun). HasTurned law old new run x (turn.Stepped kind.End)) (sym is)
+      subst (λ (x : Turn). HasCounted law old new run now x) (sym told)
+      (subst (λ (x : SessionRun). HasCounted law old new run x (turn.Stepped kind.End)) (sym is)
       (turned_later law old mid new run (record run { phase = phase.Over }) (turn.Stepped kind.End) stands.nodes (free (ap is_writing waits.work_is) (ap is_awaiting waits.work_is) (ap is_awaiting (idle_by law old run stands between unread))) (by_waits law old mid (Starting task.End) room waits) (not_ended (turn.Stepped kind.End) refl)
       record {
         others = steps.others;
@@ -164,6 +164,8 @@ module _ (law : JcrLaw) (old mid new : Shown) (room : Option ℕ) (run : Session
               idle = m.1;
               left = added law old mid new task.End (out.Ready end.Ended) room inside waits steps (event.Went mid.session kind.End ∷ []) m.0 (λ h n. has_left h.past n ≡ true) (ap (λ b. b || has_left (steps.others ++ mid.history.past) mid.session) (own mid.session));
               all = all_answered run.commands run.index stands.within next;
+              still = added law old mid new task.End (out.Ready end.Ended) room inside waits steps (event.Went mid.session kind.End ∷ []) m.0 (λ h n. is_drawing h.past n ≡ false)
+                  (among_same (steps.others ++ mid.history.past) (event.Went mid.session kind.End) (λ r. refl) (steps.others ++ mid.history.past) mid.session ∙ (fresh_moment law old mid new task.End (out.Ready end.Ended) room inside waits steps here.fresh).idle);
             };
       }))
 
@@ -219,10 +221,10 @@ module _ (law : JcrLaw) (old mid new : Shown) (room : Option ℕ) (run : Session
       abbrev run_now : SessionRun
       run_now = record run { held = held; phase = phase.Refreshed pin.base }
 
-      pub moves_base : (now : SessionRun) (t : Turn) → now ≡ record run { held = held; phase = phase.Refreshed pin.base } → t ≡ turn.Stepped kind.Pin → HasTurned law old new run now t
+      pub moves_base : (now : SessionRun) (t : Turn) → now ≡ record run { held = held; phase = phase.Refreshed pin.base } → t ≡ turn.Stepped kind.Pin → HasCounted law old new run now t
       moves_base now t is told =
-          subst (λ (x : Turn). HasTurned law old new run now x) (sym told)
-          (subst (λ (x : SessionRun). HasTurned law old new run x (turn.Stepped kind.Pin)) (sym is)
+          subst (λ (x : Turn). HasCounted law old new run now x) (sym told)
+          (subst (λ (x : SessionRun). HasCounted law old new run x (turn.Stepped kind.Pin)) (sym is)
           (turned_later law old mid new run run_now (turn.Stepped kind.Pin) stands.nodes (free (ap is_writing waits.work_is) (ap is_awaiting waits.work_is) (ap is_awaiting (idle_by law old run stands between unread))) (by_waits law old mid (Starting task.Refresh) room waits) (not_ended (turn.Stepped kind.Pin) refl)
           record {
             others = steps.others;

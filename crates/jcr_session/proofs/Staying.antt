@@ -61,6 +61,7 @@ module _ (law : JcrLaw) (p q : Shown) (run : SessionRun) (stands : Stands law p 
       fresh = fresh_beside law p q beside stands.nodes h.1.fresh;
       reads = subst (λ (w : Work). IsReading w run.fetch) (sym work) h.1.reads;
       due = h.1.due;
+      wanted = h.1.wanted;
     },
   )
   at_now (phase.Refreshed v) h = (
@@ -100,6 +101,7 @@ module _ (law : JcrLaw) (p q : Shown) (run : SessionRun) (stands : Stands law p 
     idle = work ∙ h.idle;
     left = shown_beside law p q beside (λ h n. has_left h.past n ≡ true) (any_later (is_end_of_session p.session) added p.history.past h.left);
     all = h.all;
+    still = shown_beside law p q beside (λ h n. is_drawing h.past n ≡ false) (idle_stays (added ++ p.history.past) added p.history.past p.session beside.grows.theirs h.still);
   }
 
   pub stands_beside : Stands law q run

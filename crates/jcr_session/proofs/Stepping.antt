@@ -35,7 +35,7 @@ use Rattle.jcr_session.specs.declared.run.SessionRun.{SessionRun}
 use Rattle.jcr_session.specs.declared.turn.Turn.{Turn}
 use Rattle.jcr_session.specs.declared.turn.Turn.TheVariants as turn
 use Rattle.jcr_session.specs.Answered.{kind_of_end, phase_by, turn_by}
-use Rattle.jcr_session.specs.Standing.{HasAwaited, HasCommitted, HasDrawn, HasDrawnFor, HasTurned, IsBeside, IsCalled, IsCommitting, IsFor, IsIn, IsInCommit, IsMade, IsMadeFor, IsPlace, IsSeenFor, IsStep, IsToldEnd, IsTurned, Stands, StandsAt, Tells, is_writing}
+use Rattle.jcr_session.specs.Standing.{HasAwaited, HasCommitted, HasDrawn, HasDrawnFor, HasCounted, IsBeside, IsCalled, IsCommitting, IsFor, IsIn, IsInCommit, IsMade, IsMadeFor, IsPlace, IsSeenFor, IsStep, IsToldEnd, IsTurned, Stands, StandsAt, Tells, is_writing}
 use Rattle.jcr_session.proofs.Committing.{clash_end, committing_finish, committing_undo, committing_write, own, still_moved, unmade_end}
 use Rattle.jcr_session.proofs.Reading.{tree_called}
 use Rattle.jcr_session.proofs.Turning.{IsQuiet, Link, awaited_finish, awaited_write, due_finish, free, has_turned_later, is_awaiting, never_ends, one_finish, one_write, quiet_by, quiet_finish, quiet_write}
@@ -216,7 +216,7 @@ module _ (law : JcrLaw) (old new : Shown) (answer : StepOut) (run : SessionRun) 
       }
 
     abbrev Turned : StepOut → Type 0
-    Turned x = HasTurned law old new run (record run { phase = phase_by x (phase.Committing a) }) (turn_by x)
+    Turned x = HasCounted law old new run (record run { phase = phase_by x (phase.Committing a) }) (turn_by x)
 
     kind_undone : (past : Past) (r : Revision) (e f : CommitEnd) → f ≡ e → IsToldEnd past r e → kind.Finish ≡ kind_of_end f
     kind_undone past r e (commit.Clash item o) same told = refl
@@ -288,10 +288,10 @@ module _ (law : JcrLaw) (old new : Shown) (answer : StepOut) (run : SessionRun) 
     same_run : record run { phase = phase.Committing a } ≡ run
     same_run = ap (λ (f : Phase). record run { phase = f }) (sym commits)
 
-    pub commit_step : (now : SessionRun) (t : Turn) → now ≡ record run { phase = phase_by answer run.phase } → t ≡ turn_by answer → HasTurned law old new run now t
+    pub commit_step : (now : SessionRun) (t : Turn) → now ≡ record run { phase = phase_by answer run.phase } → t ≡ turn_by answer → HasCounted law old new run now t
     commit_step now t is told =
-        subst (λ (x : Turn). HasTurned law old new run now x) (sym told)
-        (subst (λ (x : SessionRun). HasTurned law old new run x (turn_by answer)) (sym (is ∙ ap (λ (f : Phase). record run { phase = phase_by answer f }) commits)) commit_turns)
+        subst (λ (x : Turn). HasCounted law old new run now x) (sym told)
+        (subst (λ (x : SessionRun). HasCounted law old new run x (turn_by answer)) (sym (is ∙ ap (λ (f : Phase). record run { phase = phase_by answer f }) commits)) commit_turns)
 
     -- a step for which memory was refused leaves the session in its commit
     pub record IsRefusedStep (work : Work) : Type 0 where
@@ -337,12 +337,12 @@ inside_commit law p run a stands commits = (subst (λ (f : Phase). StandsAt law 
 
 -- one step of a commit is its turn
 pub commit_once : (law : JcrLaw) (old new : Shown) (answer : StepOut) (run now : SessionRun) (t : Turn) (a : Pledge) → Stands law old run → run.phase ≡ phase.Committing a → Steps (starts_of law) (says_of law) old new answer
-    → now ≡ record run { phase = phase_by answer run.phase } → t ≡ turn_by answer → HasTurned law old new run now t
+    → now ≡ record run { phase = phase_by answer run.phase } → t ≡ turn_by answer → HasCounted law old new run now t
 commit_once law old new answer run now t a stands commits steps is told = commit_step law old new answer run stands (inside_commit law old run a stands commits) steps a commits now t is told
 
 -- a step for which memory was refused, and then one of undoing
 pub commit_twice : (law : JcrLaw) (old mid new : Shown) (answer : StepOut) (run now : SessionRun) (t : Turn) (a : Pledge) → Stands law old run → run.phase ≡ phase.Committing a → Steps (starts_of law) (says_of law) old mid out.Memory → Steps (starts_of law) (says_of law) mid new answer
-    → now ≡ record run { phase = phase_by answer run.phase } → t ≡ turn_by answer → HasTurned law old new run now t
+    → now ≡ record run { phase = phase_by answer run.phase } → t ≡ turn_by answer → HasCounted law old new run now t
 commit_twice law old mid new answer run now t a stands commits first second is told =
     let r = commit_refused law old mid out.Memory run stands (inside_commit law old run a stands commits) first a commits refl in
     has_turned_later law old mid new run now t stands.nodes r.2 r.1 (never_ends law mid new run now (inside_commit law mid run a r.0 commits)) (commit_once law mid new answer run now t a r.0 commits second is told)
@@ -365,6 +365,6 @@ pub memory_first : (law : JcrLaw) (old mid : Shown) (answer : StepOut) → answe
 memory_first law old mid answer is steps = subst (λ (a : StepOut). Steps (starts_of law) (says_of law) old mid a) is steps
 
 pub commit_again : (law later : JcrLaw) → later ≡ law → (old mid new : Shown) (first second : StepOut) (run now : SessionRun) (t : Turn) (a : Pledge) → Stands law old run → run.phase ≡ phase.Committing a → first ≡ out.Memory → Steps (starts_of law) (says_of law) old mid first
-    → Steps (starts_of later) (says_of later) mid new second → now ≡ record run { phase = phase_by second run.phase } → t ≡ turn_by second → HasTurned law old new run now t
+    → Steps (starts_of later) (says_of later) mid new second → now ≡ record run { phase = phase_by second run.phase } → t ≡ turn_by second → HasCounted law old new run now t
 commit_again law later same old mid new first second run now t a stands commits memory once twice is told =
     commit_twice law old mid new second run now t a stands commits (memory_first law old mid first memory once) (subst (λ (l : JcrLaw). Steps (starts_of l) (says_of l) mid new second) same twice) is told

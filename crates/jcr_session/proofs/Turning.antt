@@ -20,7 +20,7 @@ use Rattle.core_calls.specs.Events.{is_calling}
 use Rattle.jcr_session.specs.declared.run.SessionRun.{SessionRun}
 use Rattle.jcr_session.specs.declared.turn.Turn.{Turn}
 use Rattle.jcr_session.specs.declared.turn.Turn.TheVariants as turn
-use Rattle.jcr_session.specs.Standing.{HasAwaited, HasTurned, IsBeside, IsIn, IsMade, IsOneStep, IsSeenFor, IsStep, IsTurned, IsUnseen, Tells, is_writing}
+use Rattle.jcr_session.specs.Standing.{HasAwaited, HasCounted, IsBeside, IsIn, IsMade, IsOneStep, IsSeenFor, IsStep, IsTurned, IsUnseen, Tells, is_writing}
 use Rattle.jcr_session.proofs.Others.{others_both}
 use Rattle.jcr_session.proofs.Reading.{after_both, alone_both}
 use Rattle.jcr_session.proofs.Waiting.{left_stays}
@@ -89,6 +89,7 @@ made_later h old mid new now own (turn.Waiting q) link session made never = by l
     by : Link old mid → IsMade h old new now own (turn.Waiting q)
     by (kept work due) = (made.0, sym work ∙ made.1, made.2, subst (λ (s : ℕ). IsUnseen h s made.0) session made.3, made.4)
     by (free still unwaited awaits) = absurd (false≢true (sym unwaited ∙ ap is_awaiting made.1))
+made_later h old mid new now own turn.Read link session made never = made
 made_later h old mid new now own turn.Ended link session made never = absurd (never refl)
 made_later h old mid new now own turn.Memory link session made never = made
 
@@ -179,6 +180,7 @@ turn_number (turn.Said i) = 1
 turn_number (turn.Waiting q) = 2
 turn_number turn.Ended = 3
 turn_number turn.Memory = 4
+turn_number turn.Read = 5
 
 pub not_ended : {A : Type 0} (t : Turn) → Rattle.std.specs.Prelude.nat_eq (turn_number t) 3 ≡ false → t ≡ turn.Ended → A
 not_ended t other same = absurd (false≢true (sym other ∙ ap (λ (x : Turn). Rattle.std.specs.Prelude.nat_eq (turn_number x) 3) same))
@@ -188,9 +190,10 @@ pub never_ends : {A : Type 0} (law : JcrLaw) (b c : Shown) (run now : SessionRun
 never_ends law b c run now inside turned =
     absurd (false≢true (sym (left_stays (turned.others ++ b.history.past) turned.others b.history.past b.session turned.grows.theirs inside.stays) ∙ turned.made.1))
 
-pub has_turned_later : (law : JcrLaw) (a b c : Shown) (run now : SessionRun) (t : Turn) → AreNodes a.history.clusters a.history.sessions → Link a b → IsBeside law a b → (IsTurned law b c run now turn.Ended → b ≡ a) → HasTurned law b c run now t → HasTurned law a c run now t
+pub has_turned_later : (law : JcrLaw) (a b c : Shown) (run now : SessionRun) (t : Turn) → AreNodes a.history.clusters a.history.sessions → Link a b → IsBeside law a b → (IsTurned law b c run now turn.Ended → b ≡ a) → HasCounted law b c run now t → HasCounted law a c run now t
 has_turned_later law a b c run now (turn.Stepped k) nodes link waits ends turned = turned_later law a b c run now (turn.Stepped k) nodes link waits (not_ended (turn.Stepped k) refl) turned
 has_turned_later law a b c run now (turn.Said i) nodes link waits ends turned = turned_later law a b c run now (turn.Said i) nodes link waits (not_ended (turn.Said i) refl) turned
 has_turned_later law a b c run now (turn.Waiting q) nodes link waits ends turned = turned_later law a b c run now (turn.Waiting q) nodes link waits (not_ended (turn.Waiting q) refl) turned
+has_turned_later law a b c run now turn.Read nodes link waits ends turned = absurd turned.tells
 has_turned_later law a b c run now turn.Ended nodes link waits ends turned = subst (λ (p : Shown). IsTurned law p c run now turn.Ended) (ends turned) turned
 has_turned_later law a b c run now turn.Memory nodes link waits ends turned = tt

@@ -1,8 +1,13 @@
 -- How reading steps and turns bring a session nearer to its end.
-use Rattle.std.specs.Prelude.{◌≡◌, ◌⊎◌, ◌<◌, ◌-◌, ℕ, ⊤, length, Option, None, Some, is_some, IsTrue}
-use Rattle.jr_part.specs.declared.need.Need.{Need}
-use Rattle.jr_part.specs.Parts.{knows}
-use Rattle.oak_port.specs.Ports.{Awaiting, Deciding, Shown, Undoing, Work, Writing}
+use Rattle.std.specs.Prelude.{◌≡◌, ◌⊎◌, ◌<◌, ◌-◌, ◌+◌, ◌*◌, ◌&&◌, ℕ, Bool, true, false, ⊤, cond, length, slice_get, is_some, IsTrue}
+use Rattle.std.specs.Option.{option_map_or}
+use Rattle.oak_machine.specs.Laws.{is_revision_of}
+use Rattle.oak_port.specs.Ports.{Shown}
+use Rattle.jcr_law.specs.declared.law.JcrLaw.{JcrLaw}
+use Rattle.jcr_law.specs.State.{Call}
+use Rattle.jcr_held.specs.Unread.{unread}
+use Rattle.jr_rev.specs.declared.revision.Revision.{Revision}
+use Rattle.jcr_session.specs.Standing.{IsCalled, is_committing}
 use Rattle.jcr_session.specs.declared.run.Phase.{Phase}
 use Rattle.jcr_session.specs.declared.run.Phase.TheVariants as phase
 use Rattle.jcr_session.specs.declared.run.SessionRun.{SessionRun}
@@ -15,56 +20,67 @@ EndsSooner before now p = IsTrue (is_some p.beside.seats) → now < before
 
 -- ---- reading steps
 
--- what was to be read is known; or it is being read, and that ends sooner
-abbrev pub IsNearer : (sooner : Type 0) → Need → SessionRun → Type 0
-IsNearer sooner need run = ((run.fetch ≡ None) × IsTrue (knows run.held.part need))
-    ⊎ ((run.fetch ≡ Some need) × sooner)
+-- of what may be asked for before the next command, run with c, how much is still to be known: twice
+-- for each node and each list of children, and once more where none of them is being read
+abbrev pub unread_of : Call → SessionRun → ℕ
+unread_of c run =
+    2 * option_map_or (λ m. unread c run.held m) (slice_get run.commands run.index) 0
+    + cond (is_some run.fetch) 0 1
 
--- what a reading step made of what was being read; where that was nothing, it began to read
-abbrev pub HasNeared : (sooner : Type 0) → (fetch : Option Need) → SessionRun → Type 0
-HasNeared sooner (Some need) run = IsNearer sooner need run
-HasNeared sooner None run = (need : Need) × IsNearer ⊤ need run
+-- less is to be known; or what was being read is still being read, with as much to be known, and
+-- ends sooner
+abbrev pub LessIsUnread : (sooner : Type 0) → (still : Bool) → (before now : ℕ) → Type 0
+LessIsUnread sooner true before now = (now ≡ before) × sooner
+LessIsUnread sooner false before now = now < before
+
+-- what a reading step made of what is still to be known
+abbrev pub HasNeared : (sooner : Type 0) → JcrLaw → Shown → (old new : SessionRun) → Type 0
+HasNeared sooner law p old new = (c : Call) → IsCalled law p c
+    → LessIsUnread sooner (is_some old.fetch && is_some new.fetch)
+    (unread_of c old) (unread_of c new)
 
 -- ---- turns
 
--- where a session stands, and what is being done for it: the nearer to its next reply, and behind
--- its last one to its end, the less
-abbrev pub stages_left : Phase → Work → ℕ
-stages_left phase.Outside work = 8
-stages_left phase.Between work = 7
-stages_left (phase.Committing pledge) (Writing r) = 6
-stages_left (phase.Committing pledge) (Deciding r) = 5
-stages_left (phase.Committing pledge) (Undoing r e) = 5
-stages_left (phase.Committing pledge) (Awaiting r) = 4
-stages_left (phase.Committing pledge) work = 3
-stages_left (phase.Committed e pledge) work = 2
-stages_left (phase.Refreshed v) work = 2
-stages_left phase.Over work = 0
+-- where a session stands: the nearer to its next reply, and behind its last one to its end, the less
+abbrev pub stages_left : Phase → ℕ
+stages_left phase.Outside = 4
+stages_left phase.Between = 3
+stages_left (phase.Committing pledge) = 2
+stages_left (phase.Committed e pledge) = 1
+stages_left (phase.Refreshed v) = 1
+stages_left phase.Over = 0
 
--- how many replies a session has not said yet, and how near it is to the next one
-pub record Left : Type 0 where
-  pub replies : ℕ
-  pub stages : ℕ
+-- how many replies a session has not said yet, five times, and how near it is to the next one
+abbrev pub left_of : SessionRun → ℕ
+left_of run = 5 * (length run.commands - run.index) + stages_left run.phase
 
-abbrev pub left_of : SessionRun → Work → Left
-left_of run work = record {
-  replies = length run.commands - run.index;
-  stages = stages_left run.phase work;
-}
+-- a number is less than it was; or it is what it was, and what is being done ends sooner
+abbrev pub IsLess : (sooner : Type 0) → (before now : ℕ) → Type 0
+IsLess sooner before now = (now < before) ⊎ ((now ≡ before) × sooner)
 
--- a is less than b: fewer replies, or as many and fewer stages
-abbrev pub IsLess : Left → Left → Type 0
-IsLess a b = (a.replies < b.replies) ⊎ ((a.replies ≡ b.replies) × (a.stages < b.stages))
+-- it commits, and its commit ends sooner
+abbrev pub CommitsSooner : (before now : ℕ) → Shown → SessionRun → Type 0
+CommitsSooner before now p run = IsTrue (is_committing run.phase) × EndsSooner before now p
 
--- behind a step less is left; or as much, and what is being done ends sooner
-abbrev pub StepsOn : (sooner : Type 0) → (before now : Left) → Turn → Type 0
-StepsOn sooner before now (turn.Stepped k) = IsLess now before ⊎ ((now ≡ before) × sooner)
+-- a step leaves less; or as much, and what is being done ends sooner
+abbrev pub StepsOn : (sooner : Type 0) → (before now : ℕ) → Turn → Type 0
+StepsOn sooner before now (turn.Stepped k) = IsLess sooner before now
 StepsOn sooner before now _ = ⊤
 
--- and behind a reply less is left
-abbrev pub ComesNearer : (sooner : Type 0) → (before now : Left) → Turn → Type 0
-ComesNearer sooner before now (turn.Said i) = IsLess now before
+-- and a reply leaves less
+abbrev pub ComesNearer : (sooner : Type 0) → (before now : ℕ) → Turn → Type 0
+ComesNearer sooner before now (turn.Said i) = now < before
 ComesNearer sooner before now t = StepsOn sooner before now t
+
+-- a reading step brings nearer what the next command asks for
+abbrev pub ReadsOn : (sooner : Type 0) → JcrLaw → Shown → (old new : SessionRun) → Turn → Type 0
+ReadsOn sooner law p old new turn.Read = HasNeared sooner law p old new
+ReadsOn sooner law p old new _ = ⊤
+
+-- what session s has drawn it had drawn before
+abbrev pub DrawsNoOther : Shown → Shown → Type 0
+DrawsNoOther old new = (r : Revision) → IsTrue (is_revision_of new.history.past new.session r)
+    → IsTrue (is_revision_of old.history.past old.session r)
 
 -- a reply is said, or memory was refused for its place
 abbrev pub IsReply : Turn → Type 0

@@ -43,6 +43,7 @@ use Rattle.jcr_call.specs.declared.coming.Accepted.{Accepted}
 use Rattle.jcr_held.specs.Begins.{IsNewHeld}
 use Rattle.jcr_held.specs.Comes.{commits}
 use Rattle.jcr_held.specs.Holds.{Holds, IsReady}
+use Rattle.jcr_held.specs.Unread.{IsWanted}
 use Rattle.jcr_held.specs.declared.held.Held.{Held}
 use Rattle.core_calls.specs.Seeing.{SeesTrees, SeesTyped}
 use Rattle.jcr_session.specs.declared.limits.TheConstants.{COMMIT_REPLY_BYTES, MOST_COMMANDS}
@@ -252,6 +253,11 @@ pub record IsOutside (law : JcrLaw) (p : Shown) (run : SessionRun) : Type 0 wher
   pub holds : HoldsNone run.session law.earlier law.types run.held
   pub still : IsFalse (is_drawing p.history.past p.session)
 
+-- what is being read is among what the next command may ask for, and isn't known
+abbrev pub IsWantedNext : Call → SessionRun → Type 0
+IsWantedNext c run = (m : Command) → slice_get run.commands run.index ≡ Some m
+    → IfSome run.fetch (IsWanted c run.held m)
+
 -- it is between two commands, and what it holds is what the next one is run with; what is being
 -- read is for that one
 pub record IsBetween (law : JcrLaw) (p : Shown) (run : SessionRun) : Type 0 where
@@ -261,6 +267,7 @@ pub record IsBetween (law : JcrLaw) (p : Shown) (run : SessionRun) : Type 0 wher
   pub fresh : IsFresh p.history.past p.session
   pub reads : IsReading p.work run.fetch
   pub due : IsTrue (is_some run.fetch) → IsTrue (reads_for (due_for run))
+  pub wanted : IsWantedNext call run
 
 -- its base moved to v for a refresh
 pub record IsRefreshed (law : JcrLaw) (p : Shown) (run : SessionRun) (v : RevVec) : Type 0 where
@@ -295,6 +302,7 @@ pub record IsGone (p : Shown) (run : SessionRun) : Type 0 where
   pub idle : p.work ≡ Idle
   pub left : IsTrue (has_left p.history.past p.session)
   pub all : run.index ≡ length run.commands
+  pub still : IsFalse (is_drawing p.history.past p.session)
 
 abbrev pub StandsAt : JcrLaw → Shown → SessionRun → Phase → Type 0
 StandsAt law p run phase.Outside = IsOutside law p run
@@ -344,6 +352,7 @@ Tells h s i (turn.Stepped k) own = IsTrue (is_appended_by h s k (reverse own)) �
 Tells h s i (turn.Said j) own = (j ≡ i) × (text : Text) × (own ≡ event.Said s i text ∷ [])
 Tells h s i (turn.Waiting q) own = own ≡ []
 Tells h s i turn.Ended own = own ≡ []
+Tells h s i turn.Read own = ⊥
 Tells h s i turn.Memory own = ⊥
 
 -- what was committed is seen by the head, where the session waits for that
@@ -386,6 +395,7 @@ IsMade h old new now own (turn.Waiting q) = (r : Revision) × (old.work ≡ Awai
     × (new.work ≡ Awaiting r) × IsUnseen h old.session r × HoldsBack h.past q r
 IsMade h old new now own turn.Ended = (new ≡ old) × IsTrue (has_left h.past old.session)
     × (now.index ≡ length now.commands)
+IsMade h old new now own turn.Read = ⊥
 IsMade h old new now own turn.Memory = ⊥
 
 -- events of others were added, none where nobody else steps the world, and then those of the turn;
@@ -402,10 +412,30 @@ pub record IsTurned (law : JcrLaw) (old new : Shown) (run now : SessionRun) (ans
   pub same : (now.session ≡ run.session) × (now.commands ≡ run.commands)
   pub stands : Stands law new now
 
--- memory was refused, and the run ends; or the turn was made
+-- commands, replies and phase stay
+pub record IsSame (old new : SessionRun) : Type 0 where
+  pub session : new.session ≡ old.session
+  pub commands : new.commands ≡ old.commands
+  pub index : new.index ≡ old.index
+  pub phase : new.phase ≡ old.phase
+
+-- a reading step or none: the session stands where it stood, with what is read by now; none is made
+-- where none can be due
+pub record HasLooked (law : JcrLaw) (old new : Shown) (run now : SessionRun) : Type 0 where
+  pub stands : Stands law new now
+  pub same : IsSame run now
+  pub beside : IsBeside law old new
+  pub still : IsFalse (may_read run) → (new ≡ old) × (now ≡ run)
+
+-- memory was refused, and the run ends; or the turn was made, which is no reading step
+abbrev pub HasCounted : JcrLaw → Shown → Shown → SessionRun → SessionRun → Turn → Type 0
+HasCounted law old new run now turn.Memory = ⊤
+HasCounted law old new run now answer = IsTurned law old new run now answer
+
+-- a reading step was made; or memory was refused, or another turn was made
 abbrev pub HasTurned : JcrLaw → Shown → Shown → SessionRun → SessionRun → Turn → Type 0
-HasTurned law old new run now turn.Memory = ⊤
-HasTurned law old new run now answer = IsTurned law old new run now answer
+HasTurned law old new run now turn.Read = HasLooked law old new run now × IsTrue (may_read run)
+HasTurned law old new run now answer = HasCounted law old new run now answer
 
 -- from the draw of its commit until its reply
 abbrev pub is_saving : Phase → Bool
@@ -427,21 +457,6 @@ pub record IsNew (session earlier : ℕ) (commands : List Command) (types : List
   pub outside : run.phase ≡ phase.Outside
   pub unread : run.fetch ≡ None
   pub holds : HoldsNone session earlier types run.held
-
--- commands, replies and phase stay
-pub record IsSame (old new : SessionRun) : Type 0 where
-  pub session : new.session ≡ old.session
-  pub commands : new.commands ≡ old.commands
-  pub index : new.index ≡ old.index
-  pub phase : new.phase ≡ old.phase
-
--- reading steps: the session stands where it stood with what was read by now; none were made where
--- none can be due
-pub record HasLooked (law : JcrLaw) (old new : Shown) (run now : SessionRun) : Type 0 where
-  pub stands : Stands law new now
-  pub same : IsSame run now
-  pub beside : IsBeside law old new
-  pub still : IsFalse (may_read run) → (new ≡ old) × (now ≡ run)
 
 -- what comes of whether a reading step was made: where none was, nothing was shown anew, and the
 -- session has all that its next command asks for

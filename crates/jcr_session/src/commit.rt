@@ -3,8 +3,8 @@ ghost use Rattle.std.specs.Prelude.{◌≡◌, ◌≤◌, IfOk, IsTrue, Some, fa
 ghost use Rattle.jcr_call.specs.declared.coming.Coming.TheVariants as coming;
 ghost use Rattle.jcr_session.specs.Answered.{IsCommitAnswer, IsDrawAnswer, ended_phase, has_went, kind_of_end, phase_by, turn_by};
 ghost use Rattle.jcr_session.specs.Asked.{ComesNext, MayDrawFor};
-ghost use Rattle.jcr_session.specs.Nearing.{EndsSooner, StaysBehindStep, StepsOn, left_of};
-ghost use Rattle.jcr_session.specs.Standing.{HasTurned, IsGranted, IsPlace, IsPrepared, Stands, due_for, is_committing};
+ghost use Rattle.jcr_session.specs.Nearing.{CommitsSooner, DrawsNoOther, StaysBehindStep, StepsOn, left_of};
+ghost use Rattle.jcr_session.specs.Standing.{HasCounted, IsGranted, IsPlace, IsPrepared, Stands, due_for, is_committing};
 ghost use Rattle.jcr_session.specs.declared.limits.TheConstants.{COMMIT_REPLY_BYTES};
 ghost use Rattle.jcr_session.specs.declared.next.Due.TheVariants as due;
 ghost use Rattle.jcr_session.specs.declared.run.Phase.TheVariants as phase;
@@ -40,10 +40,9 @@ impl SessionRun {
         requires next { due_for self.old ≡ due.Commit }
         requires ready { IsPrepared self.old }
         ensures law { P.law port.new ≡ P.law port.old }
-        ensures turned { HasTurned (P.law port.old) (P.shown port.old) (P.shown port.new)
+        ensures turned { HasCounted (P.law port.old) (P.shown port.old) (P.shown port.new)
             self.old self.new result }
-        ensures steps { StepsOn ⊥ (left_of self.old (P.shown port.old).work)
-            (left_of self.new (P.shown port.new).work) result }
+        ensures steps { StepsOn ⊥ (left_of self.old) (left_of self.new) result }
     {
         replies_without_commit_keep_tokens();
         match self.come() {
@@ -73,10 +72,9 @@ impl SessionRun {
         requires ready { IsPrepared self.old }
         requires comes { ComesNext self.old (coming.Planned plan accepted) }
         ensures law { P.law port.new ≡ P.law port.old }
-        ensures turned { HasTurned (P.law port.old) (P.shown port.old) (P.shown port.new)
+        ensures turned { HasCounted (P.law port.old) (P.shown port.old) (P.shown port.new)
             self.old self.new result }
-        ensures steps { StepsOn ⊥ (left_of self.old (P.shown port.old).work)
-            (left_of self.new (P.shown port.new).work) result }
+        ensures steps { StepsOn ⊥ (left_of self.old) (left_of self.new) result }
     {
         match plan.edit.copy() {
             Ok(edit) => self.pledge(port, plan, Pledge { edit, accepted }),
@@ -93,10 +91,9 @@ impl SessionRun {
         requires comes { ComesNext self.old (coming.Planned plan pledge.accepted) }
         requires copied { pledge.edit ≡ plan.edit }
         ensures law { P.law port.new ≡ P.law port.old }
-        ensures turned { HasTurned (P.law port.old) (P.shown port.old) (P.shown port.new)
+        ensures turned { HasCounted (P.law port.old) (P.shown port.old) (P.shown port.new)
             self.old self.new result }
-        ensures steps { StepsOn ⊥ (left_of self.old (P.shown port.old).work)
-            (left_of self.new (P.shown port.new).work) result }
+        ensures steps { StepsOn ⊥ (left_of self.old) (left_of self.new) result }
     {
         let bytes = place_for(&pledge.accepted);
         self.phase = Phase::Committing(pledge);
@@ -110,7 +107,7 @@ impl SessionRun {
     fn draw<P: Port<L = JcrLaw>>(&mut self, port: &mut P, plan: Plan) -> Turn
         requires draws { MayDrawFor (P.law port.old) (P.shown port.old) self.old plan }
         ensures law { P.law port.new ≡ P.law port.old }
-        ensures turned { HasTurned (P.law port.old) (P.shown port.old) (P.shown port.new)
+        ensures turned { HasCounted (P.law port.old) (P.shown port.old) (P.shown port.new)
             self.old self.new result }
         ensures stays { StaysBehindStep self.old self.new result }
     {
@@ -132,13 +129,13 @@ impl SessionRun {
         requires stands { Stands (P.law port.old) (P.shown port.old) self.old }
         requires commits { IsTrue (is_committing self.old.phase) }
         ensures law { P.law port.new ≡ P.law port.old }
-        ensures turned { HasTurned (P.law port.old) (P.shown port.old) (P.shown port.new)
+        ensures turned { HasCounted (P.law port.old) (P.shown port.old) (P.shown port.new)
             self.old self.new result }
         ensures granted { IsGranted result }
+        ensures draws { DrawsNoOther (P.shown port.old) (P.shown port.new) }
         ensures steps { StepsOn
-            (EndsSooner (P.left port.old) (P.left port.new) (P.shown port.old))
-            (left_of self.old (P.shown port.old).work)
-            (left_of self.new (P.shown port.new).work) result }
+            (CommitsSooner (P.left port.old) (P.left port.new) (P.shown port.old) self.old)
+            (left_of self.old) (left_of self.new) result }
     {
         match port.step() {
             StepOut::Memory => {

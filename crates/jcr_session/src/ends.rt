@@ -12,7 +12,7 @@ ghost use Rattle.jcr_call.specs.Calls.{call_moved};
 ghost use Rattle.jcr_held.specs.Holds.{Holds};
 ghost use Rattle.jcr_session.specs.Asked.{HasClashed, MayAnswer, SeesCommit};
 ghost use Rattle.jcr_session.specs.Nearing.{IsReply};
-ghost use Rattle.jcr_session.specs.Standing.{HasEnded, HasTurned, IsGranted, Stands};
+ghost use Rattle.jcr_session.specs.Standing.{HasEnded, HasCounted, IsGranted, Stands};
 ghost use Rattle.jcr_session.specs.declared.limits.TheConstants.{COMMIT_REPLY_BYTES};
 ghost use Rattle.jcr_session.specs.declared.run.Phase.TheVariants as phase;
 
@@ -39,7 +39,7 @@ impl SessionRun {
         requires stands { Stands (P.law port.old) (P.shown port.old) self.old }
         requires ended { HasEnded self.old.phase }
         ensures law { P.law port.new ≡ P.law port.old }
-        ensures turned { HasTurned (P.law port.old) (P.shown port.old) (P.shown port.new)
+        ensures turned { HasCounted (P.law port.old) (P.shown port.old) (P.shown port.new)
             self.old self.new result }
         ensures granted { IsGranted result }
         ensures said { IsReply result }
@@ -60,7 +60,7 @@ impl SessionRun {
         requires stands { Stands (P.law port.old) (P.shown port.old)
             (record self.old { phase = phase.Committed end pledge }) }
         ensures law { P.law port.new ≡ P.law port.old }
-        ensures turned { HasTurned (P.law port.old) (P.shown port.old) (P.shown port.new)
+        ensures turned { HasCounted (P.law port.old) (P.shown port.old) (P.shown port.new)
             self.old self.new result }
         ensures granted { IsGranted result }
         ensures said { IsReply result }
@@ -82,7 +82,7 @@ impl SessionRun {
         requires stands { Stands (P.law port.old) (P.shown port.old)
             (record self.old { phase = phase.Committed (commit.Committed r) pledge }) }
         ensures law { P.law port.new ≡ P.law port.old }
-        ensures turned { HasTurned (P.law port.old) (P.shown port.old) (P.shown port.new)
+        ensures turned { HasCounted (P.law port.old) (P.shown port.old) (P.shown port.new)
             self.old self.new result }
         ensures granted { IsGranted result }
         ensures said { IsReply result }
@@ -122,7 +122,7 @@ impl SessionRun {
             (answer_text (ShowsRevision r)) }
         requires room { HasRoom (P.shown port.old).room COMMIT_REPLY_BYTES }
         ensures law { P.law port.new ≡ P.law port.old }
-        ensures turned { HasTurned (P.law port.old) (P.shown port.old) (P.shown port.new)
+        ensures turned { HasCounted (P.law port.old) (P.shown port.old) (P.shown port.new)
             self.old self.new result }
         ensures granted { IsGranted result }
         ensures said { IsReply result }
@@ -136,7 +136,7 @@ impl SessionRun {
     fn say_clash<P: Port<L = JcrLaw>>(&mut self, port: &mut P, item: Item, other: Revision) -> Turn
         requires clash { HasClashed (P.law port.old) (P.shown port.old) self.old item other }
         ensures law { P.law port.new ≡ P.law port.old }
-        ensures turned { HasTurned (P.law port.old) (P.shown port.old) (P.shown port.new)
+        ensures turned { HasCounted (P.law port.old) (P.shown port.old) (P.shown port.new)
             self.old self.new result }
         ensures granted { IsGranted result }
         ensures said { IsReply result }

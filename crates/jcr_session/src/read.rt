@@ -1,13 +1,13 @@
 // How a session reads what its next command asks of the tree at its base.
-ghost use Rattle.std.specs.Prelude.{◌≡◌, ⊤, IfOk, IfSome, IsTrue, None, OnErr, Some};
+ghost use Rattle.std.specs.Prelude.{◌≡◌, ◌≤◌, IfOk, IfSome, IsTrue, None, OnErr, Some};
 ghost use Rattle.oak_port.specs.Ports.{Starting};
 ghost use Rattle.jcr_view.specs.Rounds.{is_of_one_node};
 ghost use Rattle.jr_part.specs.declared.need.Need.TheVariants as need;
 ghost use Rattle.jcr_session.specs.Answered.{IsListAnswer, IsLoadAnswer, listed_by, loaded_by};
 ghost use Rattle.jcr_law.specs.State.{Call};
 ghost use Rattle.jcr_held.specs.Holds.{Holds};
-ghost use Rattle.jcr_session.specs.Nearing.{EndsSooner, HasNeared, IsNearer};
-ghost use Rattle.jcr_session.specs.Standing.{HasLooked, HasRead, IsPrepared, IsReading, IsReadyNext, IsRefused, Stands, may_read};
+ghost use Rattle.jcr_session.specs.Nearing.{EndsSooner, HasNeared, unread_of};
+ghost use Rattle.jcr_session.specs.Standing.{HasLooked, HasRead, IsCalled, IsReading, IsReadyNext, IsRefused, IsWantedNext, Stands, may_read};
 
 use crate::run::SessionRun;
 use jcr_law::JcrLaw;
@@ -53,7 +53,7 @@ impl SessionRun {
             × IsRefused (P.shown port.new) self.new) }
         ensures nears { IfOk result (λ made. IsTrue made → HasNeared
             (EndsSooner (P.left port.old) (P.left port.new) (P.shown port.old))
-            self.old.fetch self.new) }
+            (P.law port.old) (P.shown port.old) self.old self.new) }
     {
         if !self.may_read() {
             return Ok(false);
@@ -62,27 +62,6 @@ impl SessionRun {
             Some(need) => self.read_on(port, need),
             None => self.read_next(port),
         }
-    }
-
-    // Makes all reading steps that are due, and tells whether it did. What is being read comes
-    // within the steps that the port tells, where nobody else steps the world; but no clause says
-    // yet how much is asked for before nothing lacks: until one does, 2^64 - 1 steps may leave some
-    // due.
-    pub(crate) fn read_all<P: Port<L = JcrLaw>>(&mut self, port: &mut P) -> Result<bool, AllocError>
-        requires stands { Stands (P.law port.old) (P.shown port.old) self.old }
-        requires reads { IsTrue (may_read self.old) }
-        ensures law { P.law port.new ≡ P.law port.old }
-        ensures looked { HasLooked (P.law port.old) (P.shown port.old) (P.shown port.new)
-            self.old self.new }
-        ensures ok { IfOk result (λ done. IsTrue done → IsPrepared self.new) }
-        ensures err { OnErr result (IsRefused (P.shown port.new) self.new) }
-    {
-        for _ in 0..u64::MAX {
-            if !self.read(port)? {
-                return Ok(true);
-            }
-        }
-        Ok(false)
     }
 
     // Asks what is to be read next, begins that, and makes the first step of it.
@@ -96,7 +75,8 @@ impl SessionRun {
         ensures read { IfOk result (HasRead (P.shown port.old) (P.shown port.new)
             self.old self.new) }
         ensures err { OnErr result (IsRefused (P.shown port.new) self.new) }
-        ensures nears { IfOk result (λ made. IsTrue made → HasNeared ⊤ None self.new) }
+        ensures nears { IfOk result (λ made. IsTrue made → HasNeared ⊥
+            (P.law port.old) (P.shown port.old) self.old self.new) }
     {
         match self.next_load()? {
             Some(need) => self.read_first(port, need),
@@ -111,6 +91,10 @@ impl SessionRun {
         ensures ready { IfOk result (λ load. load ≡ None → IsReadyNext self.new) }
         ensures one { IfOk result (λ load. IfSome load (λ n. IsTrue (is_of_one_node n))) }
         ensures holds { (c : Call) → Holds c self.old.held → Holds c self.new.held }
+        ensures wanted { IfOk result (λ load. (c : Call) → Holds c self.old.held
+            → IsWantedNext c (record self.new { fetch = load })) }
+        ensures fewer { (c : Call) → Holds c self.old.held
+            → unread_of c self.new ≤ unread_of c self.old }
     {
         let SessionRun {
             commands,
@@ -134,12 +118,15 @@ impl SessionRun {
         requires reads { IsTrue (may_read self.old) }
         requires none { self.old.fetch ≡ None }
         requires one { IsTrue (is_of_one_node need) }
+        requires wanted { (c : Call) → IsCalled (P.law port.old) (P.shown port.old) c
+            → IsWantedNext c (record self.old { fetch = Some need }) }
         ensures law { P.law port.new ≡ P.law port.old }
         ensures looked { HasLooked (P.law port.old) (P.shown port.old) (P.shown port.new)
             self.old self.new }
         ensures made { IfOk result IsTrue }
         ensures err { OnErr result (IsRefused (P.shown port.new) self.new) }
-        ensures nears { IfOk result (λ made. IsNearer ⊤ need self.new) }
+        ensures nears { IfOk result (λ made. HasNeared ⊥
+            (P.law port.old) (P.shown port.old) self.old self.new) }
     {
         let task = task_of(&need)?;
         port.start(task)?;
@@ -157,8 +144,10 @@ impl SessionRun {
             (record self.old { fetch = Some need }) self.new }
         ensures made { IfOk result IsTrue }
         ensures err { OnErr result (IsRefused (P.shown port.new) self.new) }
-        ensures nears { IfOk result (λ made. IsNearer
-            (EndsSooner (P.left port.old) (P.left port.new) (P.shown port.old)) need self.new) }
+        ensures nears { IfOk result (λ made. HasNeared
+            (EndsSooner (P.left port.old) (P.left port.new) (P.shown port.old))
+            (P.law port.old) (P.shown port.old)
+            (record self.old { fetch = Some need }) self.new) }
     {
         match need {
             Need::Node(path) => self.read_node(port, path),
@@ -182,9 +171,10 @@ impl SessionRun {
             (record self.old { fetch = Some (need.Node path) }) self.new }
         ensures made { IfOk result IsTrue }
         ensures err { OnErr result (IsRefused (P.shown port.new) self.new) }
-        ensures nears { IfOk result (λ made. IsNearer
+        ensures nears { IfOk result (λ made. HasNeared
             (EndsSooner (P.left port.old) (P.left port.new) (P.shown port.old))
-            (need.Node path) self.new) }
+            (P.law port.old) (P.shown port.old)
+            (record self.old { fetch = Some (need.Node path) }) self.new) }
     {
         match load_came(port.step()) {
             Loaded::Going => {
@@ -214,9 +204,10 @@ impl SessionRun {
             (record self.old { fetch = Some (need.Children path) }) self.new }
         ensures made { IfOk result IsTrue }
         ensures err { OnErr result (IsRefused (P.shown port.new) self.new) }
-        ensures nears { IfOk result (λ made. IsNearer
+        ensures nears { IfOk result (λ made. HasNeared
             (EndsSooner (P.left port.old) (P.left port.new) (P.shown port.old))
-            (need.Children path) self.new) }
+            (P.law port.old) (P.shown port.old)
+            (record self.old { fetch = Some (need.Children path) }) self.new) }
     {
         match list_came(port.step()) {
             Listed::Going => {

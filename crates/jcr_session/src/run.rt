@@ -1,8 +1,8 @@
 // A session's turns: what it asks of its world, one counted step after another.
-ghost use Rattle.std.specs.Prelude.{◌≡◌, ◌≤◌, IfOk, IsTrue, IsFalse, OnOk, length};
+ghost use Rattle.std.specs.Prelude.{◌≡◌, ◌≤◌, IfOk, IsTrue, IsFalse, OnOk, is_some, length};
 ghost use Rattle.jcr_session.specs.Answered.{IsLeaveAnswer, IsPinAnswer, ended_by, pinned_by};
-ghost use Rattle.jcr_session.specs.Nearing.{ComesNearer, EndsSooner, IsReply, StepsOn, left_of};
-ghost use Rattle.jcr_session.specs.Standing.{HasTurned, IsGranted, IsNew, IsPrepared, Stands, due_for, is_saving, may_read};
+ghost use Rattle.jcr_session.specs.Nearing.{ComesNearer, CommitsSooner, DrawsNoOther, EndsSooner, IsReply, ReadsOn, StepsOn, left_of};
+ghost use Rattle.jcr_session.specs.Standing.{HasCounted, HasTurned, IsGranted, IsNew, IsPrepared, Stands, due_for, is_committing, is_saving, may_read};
 ghost use Rattle.jcr_session.specs.declared.next.Due.TheVariants as due;
 ghost use Rattle.jcr_session.specs.declared.run.Phase.TheVariants as phase;
 
@@ -80,30 +80,49 @@ impl SessionRun {
         })
     }
 
-    /// Makes the reading steps that are due and then exactly one counted step, or none where the
+    /// Makes a reading step, where one is due, and else exactly one counted step, or none where the
     /// session waits or has ended. Where memory is refused for a command, that command is answered
     /// so; where it is refused for the place of a reply, or for the login or the leave, the run
-    /// ends. From the draw of a commit until its reply it never ends so: a commit that is made is
-    /// answered. A step and a reply bring the session nearer to its end.
+    /// ends. From the draw of a commit until its reply it never ends so, and draws no other: a
+    /// commit that is made is answered. A counted step and a reply bring the session nearer to its
+    /// end, a reading step to what its next command asks for.
     pub fn turn<P: Port<L = JcrLaw>>(&mut self, port: &mut P) -> Turn
         requires stands { Stands (P.law port.old) (P.shown port.old) self.old }
         ensures law { P.law port.new ≡ P.law port.old }
         ensures turned { HasTurned (P.law port.old) (P.shown port.old) (P.shown port.new)
             self.old self.new result }
         ensures granted { IsTrue (is_saving self.old.phase) → IsGranted result }
+        ensures draws { IsTrue (is_saving self.old.phase)
+            → DrawsNoOther (P.shown port.old) (P.shown port.new) }
         ensures nears { ComesNearer
+            (CommitsSooner (P.left port.old) (P.left port.new) (P.shown port.old) self.old)
+            (left_of self.old) (left_of self.new) result }
+        ensures reads { ReadsOn
             (EndsSooner (P.left port.old) (P.left port.new) (P.shown port.old))
-            (left_of self.old (P.shown port.old).work)
-            (left_of self.new (P.shown port.new).work) result }
+            (P.law port.old) (P.shown port.old) self.old self.new result }
     {
         if !self.may_read() {
             return self.counted(port);
         }
-        match self.read_all(port) {
-            Ok(true) => self.go_on(port),
-            Ok(false) => Turn::Memory,
+        match self.read(port) {
+            Ok(true) => Turn::Read,
+            Ok(false) => self.go_on(port),
             Err(AllocError) => self.say_memory(port),
         }
+    }
+
+    /// Whether a node, or the names of the children of one, are being read.
+    pub fn is_reading(&self) -> bool
+        ensures { result ≡ is_some self.now.fetch }
+    {
+        self.fetch.is_some()
+    }
+
+    /// Whether a commit of the session is under way.
+    pub fn is_committing(&self) -> bool
+        ensures { result ≡ is_committing self.now.phase }
+    {
+        matches!(self.phase, Phase::Committing(_))
     }
 
     // Makes exactly one counted step, or none where the session waits or has ended.
@@ -111,13 +130,14 @@ impl SessionRun {
         requires stands { Stands (P.law port.old) (P.shown port.old) self.old }
         requires read { IsFalse (may_read self.old) }
         ensures law { P.law port.new ≡ P.law port.old }
-        ensures turned { HasTurned (P.law port.old) (P.shown port.old) (P.shown port.new)
+        ensures turned { HasCounted (P.law port.old) (P.shown port.old) (P.shown port.new)
             self.old self.new result }
         ensures granted { IsTrue (is_saving self.old.phase) → IsGranted result }
+        ensures draws { IsTrue (is_saving self.old.phase)
+            → DrawsNoOther (P.shown port.old) (P.shown port.new) }
         ensures steps { StepsOn
-            (EndsSooner (P.left port.old) (P.left port.new) (P.shown port.old))
-            (left_of self.old (P.shown port.old).work)
-            (left_of self.new (P.shown port.new).work) result }
+            (CommitsSooner (P.left port.old) (P.left port.new) (P.shown port.old) self.old)
+            (left_of self.old) (left_of self.new) result }
     {
         match &self.phase {
             Phase::Outside => self.log_in(port),
@@ -137,10 +157,9 @@ impl SessionRun {
         requires stands { Stands (P.law port.old) (P.shown port.old) self.old }
         requires outside { self.old.phase ≡ phase.Outside }
         ensures law { P.law port.new ≡ P.law port.old }
-        ensures turned { HasTurned (P.law port.old) (P.shown port.old) (P.shown port.new)
+        ensures turned { HasCounted (P.law port.old) (P.shown port.old) (P.shown port.new)
             self.old self.new result }
-        ensures steps { StepsOn ⊥ (left_of self.old (P.shown port.old).work)
-            (left_of self.new (P.shown port.new).work) result }
+        ensures steps { StepsOn ⊥ (left_of self.old) (left_of self.new) result }
     {
         let Ok(()) = port.start(Task::Login) else {
             return Turn::Memory;
@@ -161,10 +180,9 @@ impl SessionRun {
         requires between { self.old.phase ≡ phase.Between }
         requires read { IsFalse (may_read self.old) }
         ensures law { P.law port.new ≡ P.law port.old }
-        ensures turned { HasTurned (P.law port.old) (P.shown port.old) (P.shown port.new)
+        ensures turned { HasCounted (P.law port.old) (P.shown port.old) (P.shown port.new)
             self.old self.new result }
-        ensures steps { StepsOn ⊥ (left_of self.old (P.shown port.old).work)
-            (left_of self.new (P.shown port.new).work) result }
+        ensures steps { StepsOn ⊥ (left_of self.old) (left_of self.new) result }
     {
         match self.due() {
             Due::Leave => self.leave(port),
@@ -180,10 +198,9 @@ impl SessionRun {
         requires reads { IsTrue (may_read self.old) }
         requires ready { IsPrepared self.old }
         ensures law { P.law port.new ≡ P.law port.old }
-        ensures turned { HasTurned (P.law port.old) (P.shown port.old) (P.shown port.new)
+        ensures turned { HasCounted (P.law port.old) (P.shown port.old) (P.shown port.new)
             self.old self.new result }
-        ensures steps { StepsOn ⊥ (left_of self.old (P.shown port.old).work)
-            (left_of self.new (P.shown port.new).work) result }
+        ensures steps { StepsOn ⊥ (left_of self.old) (left_of self.new) result }
     {
         match self.due() {
             Due::Refresh => self.refresh(port),
@@ -200,10 +217,9 @@ impl SessionRun {
         requires between { self.old.phase ≡ phase.Between }
         requires next { due_for self.old ≡ due.Leave }
         ensures law { P.law port.new ≡ P.law port.old }
-        ensures turned { HasTurned (P.law port.old) (P.shown port.old) (P.shown port.new)
+        ensures turned { HasCounted (P.law port.old) (P.shown port.old) (P.shown port.new)
             self.old self.new result }
-        ensures steps { StepsOn ⊥ (left_of self.old (P.shown port.old).work)
-            (left_of self.new (P.shown port.new).work) result }
+        ensures steps { StepsOn ⊥ (left_of self.old) (left_of self.new) result }
     {
         let Ok(()) = port.start(Task::End) else {
             return Turn::Memory;
@@ -221,7 +237,7 @@ impl SessionRun {
         requires between { self.old.phase ≡ phase.Between }
         requires next { due_for self.old ≡ due.ShowBase }
         ensures law { P.law port.new ≡ P.law port.old }
-        ensures turned { HasTurned (P.law port.old) (P.shown port.old) (P.shown port.new)
+        ensures turned { HasCounted (P.law port.old) (P.shown port.old) (P.shown port.new)
             self.old self.new result }
         ensures said { IsReply result }
     {
@@ -236,10 +252,9 @@ impl SessionRun {
         requires next { due_for self.old ≡ due.Refresh }
         requires ready { IsPrepared self.old }
         ensures law { P.law port.new ≡ P.law port.old }
-        ensures turned { HasTurned (P.law port.old) (P.shown port.old) (P.shown port.new)
+        ensures turned { HasCounted (P.law port.old) (P.shown port.old) (P.shown port.new)
             self.old self.new result }
-        ensures steps { StepsOn ⊥ (left_of self.old (P.shown port.old).work)
-            (left_of self.new (P.shown port.new).work) result }
+        ensures steps { StepsOn ⊥ (left_of self.old) (left_of self.new) result }
     {
         match port.start(Task::Refresh) {
             Err(AllocError) => self.say_memory(port),
@@ -259,7 +274,7 @@ impl SessionRun {
         requires stands { Stands (P.law port.old) (P.shown port.old) self.old }
         requires refreshed { self.old.phase ≡ phase.Refreshed vector }
         ensures law { P.law port.new ≡ P.law port.old }
-        ensures turned { HasTurned (P.law port.old) (P.shown port.old) (P.shown port.new)
+        ensures turned { HasCounted (P.law port.old) (P.shown port.old) (P.shown port.new)
             self.old self.new result }
         ensures said { IsReply result }
     {

@@ -6,7 +6,7 @@ ghost use Rattle.jcr_trans.specs.Texts.{memory_text};
 ghost use Rattle.jcr_held.specs.Holds.{IsReady};
 ghost use Rattle.jcr_session.specs.Asked.{HasSeen, IsBarred, IsQueried, IsQueriedAs, IsUnviewedNext, MayAnswer, MayForgo, MaySettle, Settles};
 ghost use Rattle.jcr_session.specs.Nearing.{IsReply};
-ghost use Rattle.jcr_session.specs.Standing.{HasTurned, IsGranted, IsPrepared, Stands, due_by, due_for};
+ghost use Rattle.jcr_session.specs.Standing.{HasCounted, IsGranted, IsPrepared, Stands, due_by, due_for};
 ghost use Rattle.jcr_session.specs.declared.limits.TheConstants.{COMMIT_REPLY_BYTES};
 ghost use Rattle.jcr_session.specs.declared.next.Due.TheVariants as due;
 ghost use Rattle.jcr_session.specs.declared.run.Phase.TheVariants as phase;
@@ -31,7 +31,7 @@ impl SessionRun {
         requires between { self.old.phase ≡ phase.Between }
         requires next { due_for self.old ≡ due.Bar }
         ensures law { P.law port.new ≡ P.law port.old }
-        ensures turned { HasTurned (P.law port.old) (P.shown port.old) (P.shown port.new)
+        ensures turned { HasCounted (P.law port.old) (P.shown port.old) (P.shown port.new)
             self.old self.new result }
         ensures said { IsReply result }
     {
@@ -60,7 +60,7 @@ impl SessionRun {
         requires next { due_for self.old ≡ due.Query }
         requires ready { IsPrepared self.old }
         ensures law { P.law port.new ≡ P.law port.old }
-        ensures turned { HasTurned (P.law port.old) (P.shown port.old) (P.shown port.new)
+        ensures turned { HasCounted (P.law port.old) (P.shown port.old) (P.shown port.new)
             self.old self.new result }
         ensures said { IsReply result }
     {
@@ -99,7 +99,7 @@ impl SessionRun {
         requires next { due_for self.old ≡ due.See }
         requires ready { IsPrepared self.old }
         ensures law { P.law port.new ≡ P.law port.old }
-        ensures turned { HasTurned (P.law port.old) (P.shown port.old) (P.shown port.new)
+        ensures turned { HasCounted (P.law port.old) (P.shown port.old) (P.shown port.new)
             self.old self.new result }
         ensures said { IsReply result }
     {
@@ -139,7 +139,7 @@ impl SessionRun {
             self.old (string_bytes text)) }
         requires memory { OnErr text (MayForgo (P.law port.old) (P.shown port.old) self.old false) }
         ensures law { P.law port.new ≡ P.law port.old }
-        ensures turned { HasTurned (P.law port.old) (P.shown port.old) (P.shown port.new)
+        ensures turned { HasCounted (P.law port.old) (P.shown port.old) (P.shown port.new)
             self.old self.new result }
         ensures said { IsReply result }
     {
@@ -156,7 +156,7 @@ impl SessionRun {
     pub(crate) fn say_memory<P: Port<L = JcrLaw>>(&mut self, port: &mut P) -> Turn
         requires forgoes { MayForgo (P.law port.old) (P.shown port.old) self.old false }
         ensures law { P.law port.new ≡ P.law port.old }
-        ensures turned { HasTurned (P.law port.old) (P.shown port.old) (P.shown port.new)
+        ensures turned { HasCounted (P.law port.old) (P.shown port.old) (P.shown port.new)
             self.old self.new result }
         ensures said { IsReply result }
     {
@@ -169,7 +169,7 @@ impl SessionRun {
         requires forgoes { MayForgo (P.law port.old) (P.shown port.old) self.old drew }
         requires room { HasRoom (P.shown port.old).room COMMIT_REPLY_BYTES }
         ensures law { P.law port.new ≡ P.law port.old }
-        ensures turned { HasTurned (P.law port.old) (P.shown port.old) (P.shown port.new)
+        ensures turned { HasCounted (P.law port.old) (P.shown port.old) (P.shown port.new)
             self.old self.new result }
         ensures granted { IsGranted result }
         ensures said { IsReply result }
@@ -182,7 +182,7 @@ impl SessionRun {
     pub(crate) fn say<P: Port<L = JcrLaw>>(&mut self, port: &mut P, text: &str) -> Turn
         requires answer { MayAnswer (P.law port.old) (P.shown port.old) self.old text.now }
         ensures law { P.law port.new ≡ P.law port.old }
-        ensures turned { HasTurned (P.law port.old) (P.shown port.old) (P.shown port.new)
+        ensures turned { HasCounted (P.law port.old) (P.shown port.old) (P.shown port.new)
             self.old self.new result }
         ensures said { IsReply result }
     {
@@ -198,7 +198,7 @@ impl SessionRun {
         requires memory { MayAnswer (P.law port.old) (P.shown port.old) self.old memory_text }
         requires room { HasRoom (P.shown port.old).room COMMIT_REPLY_BYTES }
         ensures law { P.law port.new ≡ P.law port.old }
-        ensures turned { HasTurned (P.law port.old) (P.shown port.old) (P.shown port.new)
+        ensures turned { HasCounted (P.law port.old) (P.shown port.old) (P.shown port.new)
             self.old self.new result }
         ensures granted { IsGranted result }
         ensures said { IsReply result }
@@ -214,7 +214,7 @@ impl SessionRun {
         requires answer { MayAnswer (P.law port.old) (P.shown port.old) self.old text.now }
         requires room { HasRoom (P.shown port.old).room (length text.now) }
         ensures law { P.law port.new ≡ P.law port.old }
-        ensures turned { HasTurned (P.law port.old) (P.shown port.old) (P.shown port.new)
+        ensures turned { HasCounted (P.law port.old) (P.shown port.old) (P.shown port.new)
             self.old self.new result }
         ensures granted { IsGranted result }
         ensures said { IsReply result }

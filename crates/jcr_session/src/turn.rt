@@ -5,6 +5,8 @@ use oak_machine::StepKind;
 /// What a turn of a session came to.
 #[derive(Clone, Copy, Debug, PartialEq, Eq)]
 pub enum Turn {
+    /// A step of reading the tree at the base was made, which isn't counted.
+    Read,
     /// A counted step of this kind was made.
     Stepped(StepKind),
     /// The reply of this index was said.

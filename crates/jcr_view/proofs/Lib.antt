@@ -11,7 +11,8 @@ mod Known
 mod Moved
 mod Needed
 mod OnePass
-mod Rounds
-mod RoundsEnd
+pub mod Rounds
+pub mod RoundsEnd
 mod Shown
+pub mod Wanted
 mod WholeLacks

@@ -30,20 +30,16 @@ use Rattle.jcr_write.specs.Places.{above}
 use Rattle.jcr_mixin.specs.Histories.{due_history}
 use Rattle.jcr_make.specs.Subtrees.{makes_histories}
 use Rattle.jcr_view.specs.Needs.{children_needs, history_needs, listing_needs, needs_of, storage_needs, versionable_needs}
-use Rattle.jcr_view.specs.Rounds.{AreLoadsOf, answered}
+use Rattle.jcr_view.specs.Rounds.{AreLoadsOf, answered, loadable, nodes_at, one_path, paths_named, unknown}
 use Rattle.jcr_view.proofs.Rounds.{answer_keeps, answer_known, one_lacks}
 
 -- ---- one of a list
 
-abbrev In : {X : Type 0} → List X → X → Type 0
+abbrev pub In : {X : Type 0} → List X → X → Type 0
 In [] x = ⊥
 In (y ∷ ys) x = (x ≡ y) ⊎ In ys x
 
 -- ---- how many of some needs are unknown
-
-abbrev unknown : Knowledge → List Need → ℕ
-unknown k [] = 0
-unknown k (x ∷ xs) = cond (knows k x) 0 1 + unknown k xs
 
 at_most : (k : Knowledge) (xs : List Need) → unknown k xs ≤ length xs
 at_most k [] = omega arith
@@ -63,14 +59,14 @@ module _ (k now : Knowledge) (kept : (x : Need) → knows k x ≡ true → knows
   one_kept true false h = absurd (false≢true (h refl))
   one_kept false false h = omega arith
 
-  no_more : (xs : List Need) → unknown now xs ≤ unknown k xs
+  pub no_more : (xs : List Need) → unknown now xs ≤ unknown k xs
   no_more [] = omega arith
   no_more (x ∷ xs) =
       let one : cond (knows now x) 0 1 ≤ cond (knows k x) 0 1 = one_kept (knows k x) (knows now x) (kept x) in
       let rest = no_more xs in
       omega arith
 
-  fewer : (xs : List Need) (x : Need) → In xs x → knows k x ≡ false → knows now x ≡ true → unknown now xs + 1 ≤ unknown k xs
+  pub fewer : (xs : List Need) (x : Need) → In xs x → knows k x ≡ false → knows now x ≡ true → unknown now xs + 1 ≤ unknown k xs
   fewer [] x h before after = absurd h
   fewer (y ∷ xs) x (inl same) before after =
       let old : cond {A = ℕ} (knows k y) 0 1 ≡ 1 = ap (λ b. cond {A = ℕ} b 0 1) (ap (knows k) (sym same) ∙ before) in
@@ -84,14 +80,6 @@ module _ (k now : Knowledge) (kept : (x : Need) → knows k x ≡ true → knows
 
 -- ---- all that may be loaded: the nodes at these paths, and each node of the tree with its children
 
-abbrev nodes_at : List Path → List Need
-nodes_at [] = []
-nodes_at (p ∷ ps) = need.Node p ∷ nodes_at ps
-
-abbrev loadable : List Path → Nodes → List Need
-loadable ps [] = nodes_at ps
-loadable ps (e ∷ t) = need.Node e.0 ∷ need.Children e.0 ∷ loadable ps t
-
 length_nodes_at : (ps : List Path) → length (nodes_at ps) ≡ length ps
 length_nodes_at [] = refl
 length_nodes_at (p ∷ ps) = let rest = length_nodes_at ps in omega arith
@@ -100,7 +88,7 @@ length_loadable : (ps : List Path) (t : Nodes) → length (loadable ps t) ≡ 2 
 length_loadable ps [] = let e = length_nodes_at ps in omega arith
 length_loadable ps (e ∷ t) = let rest = length_loadable ps t in omega arith
 
-in_nodes_at : (ps : List Path) (p : Path) → In ps p → In (nodes_at ps) (need.Node p)
+pub in_nodes_at : (ps : List Path) (p : Path) → In ps p → In (nodes_at ps) (need.Node p)
 in_nodes_at [] p h = h
 in_nodes_at (q ∷ ps) p (inl same) = inl (ap (λ (x : Path). need.Node x) same)
 in_nodes_at (q ∷ ps) p (inr h) = inr (in_nodes_at ps p h)
@@ -110,7 +98,7 @@ named_in ps [] p h = in_nodes_at ps p h
 named_in ps (e ∷ t) p h = inr (inr (named_in ps t p h))
 
 -- a node of the tree is in the list, and its children are
-there_in : (ps : List Path) (t : Nodes) (p : Path) → is_some (node_at t p) ≡ true
+pub there_in : (ps : List Path) (t : Nodes) (p : Path) → is_some (node_at t p) ≡ true
     → In (loadable ps t) (need.Node p) × In (loadable ps t) (need.Children p)
 there_in ps [] p is = absurd (false≢true is)
 there_in ps (e ∷ t) p is = by (eq_by_cmp path_cmp p e.0) refl is (there_in ps t p)
@@ -130,11 +118,11 @@ is_born None h = h
 is_born (Some node) h = refl
 
 module _ (t : Nodes) (k : Knowledge) (agrees : AgreesWith t k) where
-  known_is : (p : Path) → There k p → is_some (node_at t p) ≡ true
+  pub known_is : (p : Path) → There k p → is_some (node_at t p) ≡ true
   known_is p there = sym (ap is_some (agrees.nodes p (node_at k.nodes p) (there_known k p there))) ∙ there
 
   -- where a name is listed the child stands
-  listed_is : (p : Path) (n : Name) → Lists k p n → is_some (node_at t (p ++ n ∷ [])) ≡ true
+  pub listed_is : (p : Path) (n : Name) → Lists k p n → is_some (node_at t (p ++ n ∷ [])) ≡ true
   listed_is p n lists = by (list_at k p) refl
     where
       by : (o : Option ChildNames) → list_at k p ≡ o → is_some (node_at t (p ++ n ∷ [])) ≡ true
@@ -167,20 +155,20 @@ module _ (t : Nodes) (k : Knowledge) (agrees : AgreesWith t k) where
     below_in p need.All named a = absurd a
 
     -- the need is of a path that is named, or of the children of a node that is known
-    abbrev IsNamed : Need → Type 0
+    abbrev pub IsNamed : Need → Type 0
     IsNamed (need.Node p) = In ps p
     IsNamed (need.Children p) = There k p
     IsNamed (need.Subtree p) = In ps p
     IsNamed need.All = In ps []
 
-    asked_in : (wanted asked : Need) → IsNamed wanted → Asks k wanted asked → In (loadable ps t) asked
+    pub asked_in : (wanted asked : Need) → IsNamed wanted → Asks k wanted asked → In (loadable ps t) asked
     asked_in (need.Node p) asked named a = subst (λ (x : Need). In (loadable ps t) x) (sym a) (named_in ps t p named)
     asked_in (need.Children p) asked named a = subst (λ (x : Need). In (loadable ps t) x) (sym a) (there_in ps t p (known_is p named)).1
     asked_in (need.Subtree p) asked named a = below_in p asked named a
     asked_in need.All asked named a = below_in [] asked named a
 
     -- what lacks of the need is in the list
-    abbrev IsHeld : Need → Type 0
+    abbrev pub IsHeld : Need → Type 0
     IsHeld wanted = (lacking : Need) → IsFirstLacking k wanted lacking → In (loadable ps t) lacking
 
     none_held : All IsHeld []
@@ -207,36 +195,12 @@ module _ (t : Nodes) (k : Knowledge) (agrees : AgreesWith t k) where
 
 -- ---- the paths that a command names
 
--- the path, where there is one
-abbrev one_path : Option Path → List Path
-one_path o = option_map_or (λ p. p ∷ []) o []
-
-abbrev paths_of : Who → Nodes → Changed → Command → List Path
-paths_of who t c (command.Add p type) = p ∷ above p ∷ []
-paths_of who t c (command.Tree p parts) = p ∷ above p ∷ version_storage ∷ []
-paths_of who t c (command.Set p n x) = p ∷ []
-paths_of who t c (command.Unset p n) = p ∷ []
-paths_of who t c (command.Remove p) = p ∷ above p ∷ []
-paths_of who t c (command.Move p q) = p ∷ q ∷ above q ∷ []
-paths_of who t c (command.Mixin p n) = p ∷ one_path (due_history who who.ids (seen t c p))
-paths_of who t c (command.Unmixin p n) = p ∷ []
-paths_of who t c (command.SetType p n) = p ∷ []
-paths_of who t c (command.OrderBefore p n) = p ∷ above p ∷ []
-paths_of who t c (command.Get p) = one_path (parent_of p)
-paths_of who t c (command.List p) = p ∷ []
-paths_of who t c (command.Props p) = p ∷ []
-paths_of who t c (command.Id p) = p ∷ []
-paths_of who t c (command.ById id) = [] ∷ []
-paths_of who t c (command.Refs p) = [] ∷ []
-paths_of who t c (command.Versions p) = [] ∷ []
-paths_of who t c _ = []
-
 one_at_most : (o : Option Path) → length (one_path o) ≤ 1
 one_at_most None = omega arith
 one_at_most (Some p) = omega arith
 
 module _ (who : Who) (t : Nodes) (c : Changed) where
-  three_at_most : (command : Command) → length (paths_of who t c command) ≤ 3
+  three_at_most : (command : Command) → length (paths_named who (seen t c) command) ≤ 3
   three_at_most (command.Add p type) = omega arith
   three_at_most (command.Tree p parts) = omega arith
   three_at_most (command.Set p n x) = omega arith
@@ -258,7 +222,7 @@ module _ (who : Who) (t : Nodes) (c : Changed) where
 
   module _ (k : Knowledge) (agrees : AgreesWith t k) (over : AreOver t c) where
     -- what lacks of each of these needs is of the tree or of these paths
-    abbrev AreHeld : List Path → List Need → Type 0
+    abbrev pub AreHeld : List Path → List Need → Type 0
     AreHeld ps wanteds = All (IsHeld t k agrees ps) wanteds
 
     none : (ps : List Path) → AreHeld ps []
@@ -301,7 +265,7 @@ module _ (who : Who) (t : Nodes) (c : Changed) where
         let ps : List Path = p ∷ above p ∷ [] in
         more ps (need.Subtree p) (need.Node (above p) ∷ []) (inl refl) (more ps (need.Node (above p)) [] (inr (inl refl)) (none ps))
 
-    all_held : (command : Command) → AreHeld (paths_of who t c command) (needs_of who k c command)
+    pub all_held : (command : Command) → AreHeld (paths_named who (seen t c) command) (needs_of who k c command)
     all_held (command.Add p type) = two_held p
     all_held (command.Tree p parts) =
         let ps : List Path = p ∷ above p ∷ version_storage ∷ [] in
@@ -341,13 +305,13 @@ answer_agrees t k need.All agrees = agrees
 
 module _ (who : Who) (t : Nodes) (c : Changed) (over : AreOver t c) (command : Command) where
   each_is_fewer : (k : Knowledge) (loads : List Need) → AgreesWith t k → AreLoadsOf (λ known. needs_of who known c command) t k loads
-      → length loads ≤ unknown k (loadable (paths_of who t c command) t)
+      → length loads ≤ unknown k (loadable (paths_named who (seen t c) command) t)
   each_is_fewer k [] agrees rounds = omega arith
   each_is_fewer k (load ∷ loads) agrees rounds =
       let lacked = one_lacks k rounds.0 load rounds.2 in
-      let held = All-contains (IsHeld t k agrees (paths_of who t c command)) (needs_of who k c command) rounds.0
+      let held = All-contains (IsHeld t k agrees (paths_named who (seen t c) command)) (needs_of who k c command) rounds.0
       (all_held who t c k agrees over command) rounds.1 load rounds.2 in
-      let less = fewer k (answered t k load) (λ x known. answer_keeps t k load x known) (loadable (paths_of who t c command) t) load held
+      let less = fewer k (answered t k load) (λ x known. answer_keeps t k load x known) (loadable (paths_named who (seen t c) command) t) load held
       lacked.1 (answer_known t k load lacked.0) in
       let rest = each_is_fewer (answered t k load) loads (answer_agrees t k load agrees) rounds.3 in
       omega arith
@@ -356,7 +320,7 @@ module _ (who : Who) (t : Nodes) (c : Changed) (over : AreOver t c) (command : C
       → length loads ≤ 2 * length t + 3
   few_loads k loads agrees rounds =
       let each = each_is_fewer k loads agrees rounds in
-      let most = at_most k (loadable (paths_of who t c command) t) in
-      let size = length_loadable (paths_of who t c command) t in
+      let most = at_most k (loadable (paths_named who (seen t c) command) t) in
+      let size = length_loadable (paths_named who (seen t c) command) t in
       let three = three_at_most who t c command in
       omega arith

@@ -1,9 +1,9 @@
 // Pending changes of a session.
-ghost use Rattle.std.specs.Prelude.{◌≡◌, [], true, IfErr, IfOk, IsTrue, OnErr, OnOk};
+ghost use Rattle.std.specs.Prelude.{◌≡◌, [], true, IfErr, IfOk, IsTrue, OnErr, OnOk, is_some};
 ghost use Rattle.std.specs.String.{string_bytes};
 ghost use Rattle.jr_items.specs.Refusals.{out_of_memory};
 ghost use Rattle.jr_overlay.specs.Drafts.{with_steps};
-ghost use Rattle.jr_overlay.specs.Overlays.{edit_of, known_view, view_of};
+ghost use Rattle.jr_overlay.specs.Overlays.{change_at, edit_of, known_view, view_of};
 ghost use Rattle.jr_part.specs.Parts.{LacksNothing};
 ghost use Rattle.jr_part.specs.declared.need.Need.TheVariants as need;
 ghost use Rattle.jcr_trans.specs.Answers.{Done};
@@ -189,6 +189,13 @@ impl Pending {
         ensures { IfOk result (λ view. view ≡ view_of part.now.nodes self.now) }
     {
         self.overlay.view(part.whole())
+    }
+
+    /// Whether the node at a path is touched.
+    pub fn touches(&self, path: &Path) -> bool
+        ensures { result ≡ is_some (change_at self.now path.now) }
+    {
+        self.overlay.at(path).is_some()
     }
 
     /// What has to be known of another tree before the pending changes are made again on it.

@@ -9,10 +9,10 @@ use Rattle.jcr_trans.specs.declared.command.Command.{Command}
 use Rattle.jcr_trans.specs.declared.command.SessionScript.{SessionScript}
 use Rattle.jr_script.specs.declared.script.Script.{Script}
 use Rattle.jr_work.specs.Hands.{AreDealt, IsInHand, hand_from}
-use Rattle.jr_work.specs.Places.{commands_of}
-use Rattle.jr_work.proofs.Coming.{set_other}
-use Rattle.jr_work.proofs.Flying.{none_is_some, some_is_some}
-use Rattle.jr_work.proofs.Turning.{set_long, set_same}
+use Rattle.jr_stage.specs.Places.{commands_of}
+use Rattle.jr_stage.proofs.Coming.{set_other}
+use Rattle.jr_stage.proofs.Flying.{none_is_some, some_is_some}
+use Rattle.jr_stage.proofs.Turning.{set_long, set_same}
 
 -- the commands in hand
 abbrev pub Hand : Type 0

@@ -19,12 +19,12 @@ use Rattle.jr_script.specs.declared.script.Script.{Script}
 use Rattle.jr_shared.specs.Holds.{Known}
 use Rattle.jr_shared.specs.Meanings.{Owned, frame_of, owned_of}
 use Rattle.seat_lock.specs.Views.{OwnsPart}
-use Rattle.jr_work.specs.Runs.{AreApart, HasRunByWorkers}
-use Rattle.jr_work.specs.Stages.{law_of}
-use Rattle.jr_work.specs.Workers.{HasAll, frame_for}
-use Rattle.jr_work.proofs.Flying.{some_is_some}
+use Rattle.jr_stage.specs.Runs.{AreApart}
+use Rattle.jr_stage.specs.Stages.{law_of}
+use Rattle.jr_work.specs.Workers.{HasAll, HasRunByWorkers, frame_for}
+use Rattle.jr_stage.proofs.Flying.{some_is_some}
 use Rattle.jr_work.proofs.Gathering.{answered_back, history_back, law_back}
-use Rattle.jr_work.proofs.Whole.{answers_all}
+use Rattle.jr_stage.proofs.Whole.{answers_all}
 
 module _ (script : Script) (within : IsWithin script) (v : Known JcrLaw) (all : HasAll script v) (w : WorldOf JcrLaw) (frame : v.frame ≡ Some (frame_of w))
     (parts : (s : ℕ) (part : Owned) → OwnsPart v s part → owned_of w s ≡ part) where

@@ -14,7 +14,7 @@ use Rattle.jr_shared.specs.Holds.{Known}
 use Rattle.jr_shared.specs.Meanings.{Owned, frame_of, owned_of}
 use Rattle.seat_lock.specs.declared.rule.Round.TheVariants as round
 use Rattle.seat_lock.specs.Views.{OwnsPart, joined}
-use Rattle.jr_work.specs.Places.{commands_of, history_at}
+use Rattle.jr_stage.specs.Places.{commands_of, history_at}
 use Rattle.jr_work.specs.Workers.{HasAll, HasAnswered, HasHandedOut, HasWorked, frame_for}
 use Rattle.jr_work.proofs.Owning.{own_next}
 

@@ -19,8 +19,8 @@ use Rattle.jr_shared.specs.Meanings.{Owned, owned_of}
 use Rattle.jr_shared.specs.Seen.{history_by}
 use Rattle.jr_shared.proofs.Handing.{first_owns, first_told}
 use Rattle.seat_lock.specs.Views.{handed, is_one_of, kept_back}
-use Rattle.jr_work.specs.Places.{history_at}
-use Rattle.jr_work.specs.Stages.{law_of}
+use Rattle.jr_stage.specs.Places.{history_at}
+use Rattle.jr_stage.specs.Stages.{law_of}
 use Rattle.jr_work.specs.Workers.{HasHandedOut, HasNotBegun, IsHandedOut, KnowsScript, frame_for}
 use Rattle.jr_work.proofs.Naming.{AreNamed}
 

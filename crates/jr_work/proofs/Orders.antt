@@ -16,8 +16,8 @@ use Rattle.seat_lock.specs.declared.pass.Pass.{Pass}
 use Rattle.jr_work.specs.declared.worker.Job.{Job}
 use Rattle.seat_lock.specs.Passes.{IsOf, view_of}
 use Rattle.jr_work.specs.Workers.{AreGivenBack, AreInOrder, HasWorked, IsGivenBack}
-use Rattle.jr_work.proofs.Beginning.{pushed}
-use Rattle.jr_work.proofs.Flying.{none_is_some}
+use Rattle.jr_stage.proofs.Beginning.{pushed}
+use Rattle.jr_stage.proofs.Flying.{none_is_some}
 
 -- ---- jobs
 

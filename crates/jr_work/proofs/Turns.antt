@@ -23,7 +23,7 @@ use Rattle.jcr_law.specs.Lasting.{says_of, starts_of}
 use Rattle.jcr_session.specs.declared.run.SessionRun.{SessionRun}
 use Rattle.jcr_session.specs.declared.turn.Turn.{Turn}
 use Rattle.jcr_session.specs.declared.turn.Turn.TheVariants as turn
-use Rattle.jcr_session.specs.Standing.{HasTurned, IsNew, IsTurned, Stands}
+use Rattle.jcr_session.specs.Standing.{HasLooked, HasTurned, IsNew, IsTurned, Stands}
 use Rattle.jcr_session.proofs.Staying.{new_stands}
 use Rattle.jcr_trans.specs.declared.command.Command.{Command}
 use Rattle.jcr_trans.specs.declared.command.SessionScript.{SessionScript}
@@ -36,23 +36,19 @@ use Rattle.jr_shared.specs.Seen.{history_by, law_by, shown_through}
 use Rattle.jr_shared.proofs.Events.{are_others}
 use Rattle.jr_shared.proofs.Got.{some_part, the_is}
 use Rattle.seat_lock.specs.declared.rule.Round.TheVariants as round
-use Rattle.jr_work.specs.Places.{commands_of, history_at}
-use Rattle.jr_work.specs.Stages.{law_of}
+use Rattle.jr_stage.specs.Places.{commands_of, history_at}
+use Rattle.jr_stage.specs.Stages.{law_of}
 use Rattle.jr_work.specs.Workers.{HasRunOut, HasGoneOn, HasNotBegun, HasRunOne, HasSaidAll, KnowsScript, frame_for}
 use Rattle.jr_work.proofs.Handing.{history_known}
 use Rattle.jr_work.proofs.Owning.{own_next}
-use Rattle.jr_work.proofs.Reaching.{seat_at}
-use Rattle.jr_work.proofs.Turning.{commands_at}
-use Rattle.jr_work.proofs.Within.{session_within, within_nodes}
+use Rattle.jr_stage.proofs.Reaching.{seat_at}
+use Rattle.jr_stage.proofs.Turning.{commands_at}
+use Rattle.jr_stage.proofs.Within.{session_within, within_nodes}
 
 -- what follows where there is no error
 pub on_ok_more : {A E : Type 0} (r : Result A E) {P Q : Type 0} → (P → Q) → OnOk r P → OnOk r Q
 on_ok_more (Ok a) f p = f p
 on_ok_more (Err e) f p = tt
-
-pub if_ok_more : {A E : Type 0} (r : Result A E) {P Q : A → Type 0} → ((a : A) → P a → Q a) → IfOk r P → IfOk r Q
-if_ok_more (Ok a) f p = f a p
-if_ok_more (Err e) f p = tt
 
 pub if_ok_both : {A E : Type 0} (r : Result A E) {P Q R : A → Type 0} → ((a : A) → P a → Q a → R a) → IfOk r P → IfOk r Q → IfOk r R
 if_ok_both (Ok a) f p q = f a p q
@@ -75,11 +71,23 @@ module _ (law : JcrLaw) (first mid new : Shown) (run was now : SessionRun) (on :
     stands = turned.stands;
   }
 
+  -- a reading step more
+  on_read : HasLooked law mid new was now → HasGoneOn law first new run now
+  on_read looked = record {
+    session = looked.same.session ∙ on.session;
+    commands = looked.same.commands ∙ on.commands;
+    clusters = ap (λ (h : History). h.clusters) looked.beside.grows.grown ∙ on.clusters;
+    sessions = ap (λ (h : History). h.sessions) looked.beside.grows.grown ∙ on.sessions;
+    beside = looked.beside.beside ∙ on.beside;
+    stands = looked.stands;
+  }
+
   pub goes_on : (answer : Turn) → (answer ≡ turn.Memory → ⊥) → HasTurned law mid new was now answer → HasGoneOn law first new run now
   goes_on (turn.Stepped k) made turned = on_more (turn.Stepped k) turned
   goes_on (turn.Said i) made turned = on_more (turn.Said i) turned
   goes_on (turn.Waiting q) made turned = on_more (turn.Waiting q) turned
   goes_on turn.Ended made turned = on_more turn.Ended turned
+  goes_on turn.Read made turned = on_read turned.0
   goes_on turn.Memory made turned = absurd (made refl)
 
   pub ends : (answer : Turn) → answer ≡ turn.Ended → HasTurned law mid new was now answer → HasRunOut law first new run now

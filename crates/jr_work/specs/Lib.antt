@@ -1,12 +1,2 @@
-pub mod Awaited
-pub mod Flights
-pub mod Growing
 pub mod Hands
-pub mod Parts
-pub mod Places
-pub mod Runs
-pub mod Schedules
-pub mod Seats
-pub mod SoFar
-pub mod Stages
 pub mod Workers

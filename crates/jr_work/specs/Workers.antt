@@ -5,7 +5,7 @@ use Rattle.oak_machine.specs.declared.event.Event.{Event}
 use Rattle.oak_machine.specs.Runs.{IsRun}
 use Rattle.oak_machine.specs.Sessions.{next_index}
 use Rattle.oak_port.specs.Ports.{Shown}
-use Rattle.oak_world.specs.Worlds.{WorldOf, idle}
+use Rattle.oak_world.specs.Worlds.{WorldOf, idle, live}
 use Rattle.jcr_law.specs.declared.law.JcrLaw.{JcrLaw}
 use Rattle.jcr_law.specs.Lasting.{says_of, starts_of}
 use Rattle.jcr_session.specs.declared.run.SessionRun.{SessionRun}
@@ -26,8 +26,9 @@ use Rattle.jr_shared.specs.Meanings.{Owned}
 use Rattle.jr_shared.specs.Seen.{history_by}
 use Rattle.jr_work.specs.declared.worker.Job.{Job}
 use Rattle.jr_work.specs.Hands.{IsInHand}
-use Rattle.jr_work.specs.Places.{commands_of}
-use Rattle.jr_work.specs.Stages.{law_of}
+use Rattle.jr_stage.specs.Places.{commands_of}
+use Rattle.jr_stage.specs.Runs.{AnswersScript}
+use Rattle.jr_stage.specs.Stages.{law_of}
 
 -- ---- a crew
 
@@ -148,3 +149,9 @@ pub record HasAll (script : Script) (v : Known JcrLaw) : Type 0 where
   pub frame : v.frame ≡ Some (frame_for script)
   pub weight : v.weight ≡ 1024
   pub said : (s : ℕ) → s < length script.sessions → HasAnswered script v s
+
+-- the script was run to its end by workers, whatever its schedule: the world is of its law, and what
+-- its journal tells answers the script
+pub record HasRunByWorkers (script : Script) (w : WorldOf JcrLaw) : Type 0 where
+  pub law : w.law ≡ law_of script
+  pub answers : AnswersScript script (live w.history)

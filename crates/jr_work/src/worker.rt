@@ -5,15 +5,14 @@ ghost use Rattle.jcr_session.specs.Standing.{Stands};
 ghost use Rattle.jr_shared.specs.Holds.{has_seat};
 ghost use Rattle.jr_shared.specs.Seen.{shown_through};
 ghost use Rattle.jr_work.specs.Hands.{IsInHand};
-ghost use Rattle.jr_work.specs.Places.{commands_of};
-ghost use Rattle.jr_work.specs.Stages.{law_of};
+ghost use Rattle.jr_stage.specs.Places.{commands_of};
+ghost use Rattle.jr_stage.specs.Stages.{law_of};
 ghost use Rattle.jr_work.specs.Workers.{HasNotBegun, HasRunOne, HasRunOut, HasWorked, IsCrewOf, IsHandedOut, IsJob, KnowsScript};
 ghost use Rattle.seat_lock.specs.Passes.{IsOf, view_of};
 
 use crate::gate::Gate;
 use crate::hands::Hand;
 use crate::port::{GatedPort, ScriptPort, TakenBy, Took};
-use crate::stage::session_of;
 use core_obeys::the_product_obeys;
 use jcr_law::JcrLaw;
 use jcr_session::{SessionRun, Turn};
@@ -21,6 +20,7 @@ use jcr_trans::Command;
 use jr_path::List;
 use jr_script::Script;
 use jr_shared::{LockedWorld, SharedWorld};
+use jr_stage::session_of;
 use jr_types::Registry;
 use oak_port::Port;
 use seat_lock::Pass;
@@ -195,6 +195,7 @@ fn to_end<R: Wait, P: Port<L = JcrLaw>>(
 {
     'turns: for _ in rt.forever() {
         match run.turn(port) {
+            Turn::Read => {}
             Turn::Stepped(_) => {}
             Turn::Said(_) => {}
             Turn::Waiting(_) => yield_now(),

@@ -2,15 +2,13 @@
 ghost use Rattle.std.specs.Prelude.{◌≡◌, ◌≤◌, ◌<◌, ◌+◌, ◌%◌, ◌==◌, ◌&&◌, ℕ, All, IfOk, OnOk, length, nat_lt, vec_len};
 ghost use Rattle.jr_script.specs.Bounds.{IsWithin};
 ghost use Rattle.jr_work.specs.Hands.{AreDealt, IsInHand};
-ghost use Rattle.jr_work.specs.Runs.{HasRunByWorkers};
-ghost use Rattle.jr_work.specs.Stages.{law_of};
-ghost use Rattle.jr_work.specs.Workers.{AreGivenBack, AreInOrder, HasAll, HasHandedOut, HasWorked, IsCrewOf, IsJob};
+ghost use Rattle.jr_stage.specs.Stages.{law_of};
+ghost use Rattle.jr_work.specs.Workers.{AreGivenBack, AreInOrder, HasAll, HasHandedOut, HasRunByWorkers, HasWorked, IsCrewOf, IsJob};
 ghost use Rattle.seat_lock.specs.Passes.{IsOf, view_of};
 ghost use Rattle.seat_lock.specs.Views.{is_one_of};
 
 use crate::gate::Gate;
 use crate::hands::{Hand, deal};
-use crate::stage::world_of;
 use crate::worker::{Crew, Job, WorldPass, work};
 use core_obeys::{the_product_answers_throughout, the_product_obeys_throughout};
 use jcr_law::JcrLaw;
@@ -18,6 +16,7 @@ use jcr_trans::SessionScript;
 use jr_path::List;
 use jr_script::Script;
 use jr_shared::SharedWorld;
+use jr_stage::world_of;
 use oak_world::World;
 use std::alloc::{AllocError, Global};
 use std::snapshot::Snapshot;

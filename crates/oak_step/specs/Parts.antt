@@ -93,7 +93,10 @@ base_at m s = option_map_or (λ pin. pin.base) (pin_of m s) m.head
 
 -- the end of r, and the head of cluster node k, where that moved
 abbrev pub end_events : ℕ → NodeState → Revision → List Event
-end_events k m r = event.End r ∷ cond (is_before (own_entry m) (own_entry (finished m r))) (event.Head k (finished m r).head ∷ []) []
+end_events k m r =
+    event.End r
+    ∷ cond (is_before (own_entry m) (own_entry (finished m r)))
+    (event.Head k (finished m r).head ∷ []) []
 
 -- ---- loads
 
@@ -109,7 +112,8 @@ read_on t r = fed_reader r (answer t.documents (due r))
 
 -- the reader is fed what the documents answer; where nothing more is due then, the task ends with what it gives
 abbrev pub ReadsOn : Table → Reader → Work → StepOut → Type 0
-ReadsOn t r v (answers.Went kind.Read) = (v ≡ work.Read (read_on t r)) × (due (read_on t r) ≢ ask.Done)
+ReadsOn t r v (answers.Went kind.Read) =
+    (v ≡ work.Read (read_on t r)) × (due (read_on t r) ≢ ask.Done)
 ReadsOn t r v (answers.Ready e) = (v ≡ work.Rest) × (end_of_reading (read_on t r).step ≡ Some e)
 ReadsOn t r v answers.Memory = v ≡ work.Rest
 ReadsOn t r v _ = ⊥
@@ -225,7 +229,8 @@ abbrev pub parts_ended : ℕ → Parts → Revision → Parts
 parts_ended k p r = parts p.table (finished p.memory r) (p.list ++ end_events k p.memory r)
 
 -- the operation of this kind that is due is made, or answered
-abbrev pub Updates : ℕ → Table → List Event → Committing → Table → List Event → Committing → StepKind → Type 0
+abbrev pub Updates : ℕ → Table → List Event → Committing → Table → List Event → Committing
+    → StepKind → Type 0
 Updates s t es c u fs d kind.Mark = (stage_of c ≡ stage.Mark) × IsMarked s t u es fs c d
 Updates s t es c u fs d kind.Write = (stage_of c ≡ stage.Write) × IsWritten s t u es fs c d
 Updates s t es c u fs d kind.Last = (stage_of c ≡ stage.Last) × IsLast t u es fs c d
@@ -253,7 +258,8 @@ pub record IsOver (c : Committing) : Type 0 where
 -- what a session does then whose commit has ended so: of an accepted one the base is to move, and a refused one is over
 abbrev pub EndsSo : Committing → Work → StepOut → Type 0
 EndsSo c v (answers.Went kind.Finish) = IsTrue (is_past c.outcome) × (v ≡ work.Move c.revision)
-EndsSo c v (answers.Ready (ends.Commit e)) = (c.outcome ≡ Some e) × (is_past c.outcome ≡ false) × (v ≡ work.Rest)
+EndsSo c v (answers.Ready (ends.Commit e)) =
+    (c.outcome ≡ Some e) × (is_past c.outcome ≡ false) × (v ≡ work.Rest)
 EndsSo c v _ = ⊥
 
 -- its revision ends
@@ -261,29 +267,37 @@ abbrev pub Ends : ℕ → Parts → Committing → Parts → Work → StepOut �
 Ends k p c q v o = (stage_of c ≡ stage.Finish) × (q ≡ parts_ended k p c.revision) × EndsSo c v o
 
 -- the operation that is due is made, or answered
-abbrev pub GoesOn : ℕ → Table → List Event → Committing → Table → List Event → Work → StepOut → Type 0
-GoesOn s t es c u fs v o = (x : StepKind) × (o ≡ answers.Went x) × (d : Committing) × (v ≡ work.Commit d) × Updates s t es c u fs d x
+abbrev pub GoesOn : ℕ → Table → List Event → Committing → Table → List Event → Work → StepOut
+    → Type 0
+GoesOn s t es c u fs v o = (x : StepKind) × (o ≡ answers.Went x) × (d : Committing)
+    × (v ≡ work.Commit d) × Updates s t es c u fs d x
 
 -- memory is refused for it: nothing changes, but that the commit turns to undoing
-pub record IsGivenUp (t : Table) (es : List Event) (c : Committing) (u : Table) (fs : List Event) (v : Work) (o : StepOut) : Type 0 where
+pub record IsGivenUp (t : Table) (es : List Event) (c : Committing) (u : Table) (fs : List Event)
+    (v : Work) (o : StepOut) : Type 0 where
   pub answer : o ≡ answers.Memory
   pub going : c.outcome ≡ None
   pub table : u ≡ t
   pub list : fs ≡ es
   pub does : v ≡ work.Commit (wanting c)
 
-abbrev pub UpdatesOn : ℕ → Table → List Event → Committing → Table → List Event → Work → StepOut → Type 0
+abbrev pub UpdatesOn : ℕ → Table → List Event → Committing → Table → List Event → Work → StepOut
+    → Type 0
 UpdatesOn s t es c u fs v o = GoesOn s t es c u fs v o ⊎ IsGivenUp t es c u fs v o
 
 -- a step of a commit: its end, or an operation on a document, which leaves the memory
 abbrev pub CommitsOn : ℕ → ℕ → Parts → Committing → Parts → Work → StepOut → Type 0
-CommitsOn s k p c q v o = Ends k p c q v o ⊎ ((q.memory ≡ p.memory) × UpdatesOn s p.table p.list c q.table q.list v o)
+CommitsOn s k p c q v o =
+    Ends k p c q v o ⊎ ((q.memory ≡ p.memory) × UpdatesOn s p.table p.list c q.table q.list v o)
 
 -- the base moves to the head once that sees r, and awaits an earlier revision until then
-abbrev pub Moves : ℕ → NodeState → List Event → Revision → NodeState → List Event → Work → StepOut → Type 0
-Moves s m es r n fs v (answers.Wait o) = (n ≡ m) × (fs ≡ es) × (v ≡ work.Move r) × AwaitsEarlier m r o
+abbrev pub Moves : ℕ → NodeState → List Event → Revision → NodeState → List Event → Work → StepOut
+    → Type 0
+Moves s m es r n fs v (answers.Wait o) =
+    (n ≡ m) × (fs ≡ es) × (v ≡ work.Move r) × AwaitsEarlier m r o
 Moves s m es r n fs v (answers.Ready (ends.Commit (end.Committed o))) =
-    (o ≡ r) × IsTrue (sees m.head r) × (n ≡ with_pin m s (pin_now m)) × (fs ≡ es ++ event.Refresh s m.head ∷ []) × (v ≡ work.Rest)
+    (o ≡ r) × IsTrue (sees m.head r) × (n ≡ with_pin m s (pin_now m))
+    × (fs ≡ es ++ event.Refresh s m.head ∷ []) × (v ≡ work.Rest)
 Moves s m es r n fs v _ = ⊥
 
 -- ---- all
@@ -295,61 +309,98 @@ Refused p q v = (q ≡ p) × (v ≡ work.Rest)
 -- the last of the documents is told that r is published; where none is left, the root is, and the task ends
 abbrev pub PublishesOn : ℕ → ℕ → Parts → List DocId → Revision → Parts → Work → StepOut → Type 0
 PublishesOn s k p ids r q v (answers.Went kind.Back) =
-    (rest : List DocId) × (i : DocId) × (ids ≡ rest ++ i ∷ []) × (q ≡ parts (after_update p.table (back_op (names_of i) r)) p.memory (p.list ++ event.Went s kind.Back ∷ [])) × (v ≡ work.Upkeep (upkeep.Publish rest r))
+    (rest : List DocId) × (i : DocId) × (ids ≡ rest ++ i ∷ [])
+    × (q ≡ parts (after_update p.table (back_op (names_of i) r)) p.memory
+    (p.list ++ event.Went s kind.Back ∷ []))
+    × (v ≡ work.Upkeep (upkeep.Publish rest r))
 PublishesOn s k p ids r q v (answers.Ready (ends.Published o)) =
-    (ids ≡ []) × (o ≡ r) × (q ≡ parts (after_update p.table (back_op [] r)) p.memory (p.list ++ event.Out k r ∷ [])) × (v ≡ work.Rest)
+    (ids ≡ []) × (o ≡ r)
+    × (q ≡ parts (after_update p.table (back_op [] r)) p.memory (p.list ++ event.Out k r ∷ []))
+    × (v ≡ work.Rest)
 PublishesOn s k p ids r q v answers.Memory = Refused p q v
 PublishesOn s k p ids r q v _ = ⊥
 
 -- a step of background work, or on the settings
 abbrev pub KeepsUp : ℕ → ℕ → Parts → Upkeep → Parts → Work → StepOut → Type 0
 KeepsUp s k p upkeep.Write q v (answers.Went kind.Back) =
-    (n : Pending) × IsPending p.memory n × (q ≡ parts p.table (without_seen p.memory) (p.list ++ event.Went s kind.Back ∷ [])) × (v ≡ work.Upkeep (upkeep.Noted n))
+    (n : Pending) × IsPending p.memory n
+    × (q ≡ parts p.table (without_seen p.memory) (p.list ++ event.Went s kind.Back ∷ []))
+    × (v ≡ work.Upkeep (upkeep.Noted n))
 KeepsUp s k p upkeep.Write q v answers.Memory = Refused p q v
 KeepsUp s k p upkeep.Write q v _ = ⊥
 KeepsUp s k p (upkeep.Noted n) q v o = PublishesOn s k p (told_ids n.paths) n.upto q v o
 KeepsUp s k p (upkeep.Publish ids r) q v o = PublishesOn s k p ids r q v o
 KeepsUp s k p upkeep.Read q v (answers.Went kind.Back) =
-    (d : Document) × (found p.table (id.Node []) ≡ Some d) × (q ≡ parts p.table p.memory (p.list ++ event.Went s kind.Back ∷ [])) × (v ≡ work.Upkeep (upkeep.Learn d.last_rev d.sweep_rev))
+    (d : Document) × (found p.table (id.Node []) ≡ Some d)
+    × (q ≡ parts p.table p.memory (p.list ++ event.Went s kind.Back ∷ []))
+    × (v ≡ work.Upkeep (upkeep.Learn d.last_rev d.sweep_rev))
 KeepsUp s k p upkeep.Read q v answers.Memory = Refused p q v
 KeepsUp s k p upkeep.Read q v _ = ⊥
 KeepsUp s k p (upkeep.Learn last sweep) q v (answers.Ready (ends.Learnt u)) =
-    (u ≡ (learned p.memory last sweep).head) × (q ≡ parts p.table (learned p.memory last sweep) (p.list ++ event.In k (learned p.memory last sweep).head ∷ [])) × (v ≡ work.Rest)
+    (u ≡ (learned p.memory last sweep).head)
+    × (q ≡ parts p.table (learned p.memory last sweep)
+    (p.list ++ event.In k (learned p.memory last sweep).head ∷ []))
+    × (v ≡ work.Rest)
 KeepsUp s k p (upkeep.Learn last sweep) q v answers.Memory = Refused p q v
 KeepsUp s k p (upkeep.Learn last sweep) q v _ = ⊥
 KeepsUp s k p (upkeep.Checkpoint i) q v (answers.Ready (ends.Set None)) =
-    (pin : Pin) × (pin_of p.memory s ≡ Some pin) × (q ≡ parts (after_update p.table (settings_op (change.Checkpoint i pin))) p.memory (p.list ++ event.Checkpoint i pin.base ∷ [])) × (v ≡ work.Rest)
+    (pin : Pin) × (pin_of p.memory s ≡ Some pin)
+    × (q ≡ parts (after_update p.table (settings_op (change.Checkpoint i pin))) p.memory
+    (p.list ++ event.Checkpoint i pin.base ∷ []))
+    × (v ≡ work.Rest)
 KeepsUp s k p (upkeep.Checkpoint i) q v answers.Memory = Refused p q v
 KeepsUp s k p (upkeep.Checkpoint i) q v _ = ⊥
 KeepsUp s k p (upkeep.Release i) q v (answers.Ready (ends.Set None)) =
-    IsTrue (is_some (set_checkpoint p.table i)) × (q ≡ parts (after_update p.table (settings_op (change.Release i))) p.memory (p.list ++ event.Release i ∷ [])) × (v ≡ work.Rest)
+    IsTrue (is_some (set_checkpoint p.table i))
+    × (q ≡ parts (after_update p.table (settings_op (change.Release i))) p.memory
+    (p.list ++ event.Release i ∷ []))
+    × (v ≡ work.Rest)
 KeepsUp s k p (upkeep.Release i) q v (answers.Ready ends.NoCheckpoint) =
-    (set_checkpoint p.table i ≡ None) × (q ≡ parts (after_update p.table (settings_op (change.Release i))) p.memory (p.list ++ event.Went s kind.Settings ∷ [])) × (v ≡ work.Rest)
+    (set_checkpoint p.table i ≡ None)
+    × (q ≡ parts (after_update p.table (settings_op (change.Release i))) p.memory
+    (p.list ++ event.Went s kind.Settings ∷ []))
+    × (v ≡ work.Rest)
 KeepsUp s k p (upkeep.Release i) q v answers.Memory = Refused p q v
 KeepsUp s k p (upkeep.Release i) q v _ = ⊥
 
 -- how a step of session s of cluster node k goes, by what it does: the parts after it, what the session does then, and the answer
 abbrev pub Steps : ℕ → ℕ → Parts → Work → Parts → Work → StepOut → Type 0
 Steps s k p work.Login q v (answers.Ready (ends.Pinned pin)) =
-    (pin ≡ pin_now p.memory) × (q ≡ parts p.table (with_pin p.memory s (pin_now p.memory)) (p.list ++ event.Login s p.memory.head ∷ [])) × (v ≡ work.Rest)
+    (pin ≡ pin_now p.memory)
+    × (q ≡ parts p.table (with_pin p.memory s (pin_now p.memory))
+    (p.list ++ event.Login s p.memory.head ∷ []))
+    × (v ≡ work.Rest)
 Steps s k p work.Login q v answers.Memory = Refused p q v
 Steps s k p work.Login q v _ = ⊥
-Steps s k p work.End q v (answers.Ready ends.Ended) = (q ≡ parts p.table (without_session p.memory s) (p.list ++ event.Went s kind.End ∷ [])) × (v ≡ work.Rest)
+Steps s k p work.End q v (answers.Ready ends.Ended) =
+    (q ≡ parts p.table (without_session p.memory s) (p.list ++ event.Went s kind.End ∷ []))
+    × (v ≡ work.Rest)
 Steps s k p work.End q v answers.Memory = Refused p q v
 Steps s k p work.End q v _ = ⊥
 Steps s k p work.Refresh q v (answers.Ready (ends.Pinned pin)) =
-    (pin ≡ pin_now p.memory) × (q ≡ parts p.table (with_pin p.memory s (pin_now p.memory)) (p.list ++ event.Refresh s p.memory.head ∷ [])) × (v ≡ work.Rest)
+    (pin ≡ pin_now p.memory)
+    × (q ≡ parts p.table (with_pin p.memory s (pin_now p.memory))
+    (p.list ++ event.Refresh s p.memory.head ∷ []))
+    × (v ≡ work.Rest)
 Steps s k p work.Refresh q v answers.Memory = Refused p q v
 Steps s k p work.Refresh q v _ = ⊥
 Steps s k p (work.Read r) q v o = (q ≡ p) × ReadsOn p.table r v o
 Steps s k p (work.Plan edit marks) q v (answers.Went kind.Draw) =
-    (q ≡ parts p.table (with_notes (next_draw p.memory) (with_draw p.memory (next_draw p.memory)) (marked_paths marks))
-    (p.list ++ event.Draw (record { revision = next_draw p.memory; session = s; base = base_at p.memory s; edit = edit; marks = marks }) ∷ []))
+    (q ≡ parts p.table (with_notes (next_draw p.memory) (with_draw p.memory (next_draw p.memory))
+    (marked_paths marks))
+    (p.list ++ event.Draw (record {
+      revision = next_draw p.memory;
+      session = s;
+      base = base_at p.memory s;
+      edit = edit;
+      marks = marks;
+    }) ∷ []))
     × (v ≡ work.Commit (begun (next_draw p.memory) (base_at p.memory s) edit marks))
 Steps s k p (work.Plan edit marks) q v answers.Memory = Refused p q v
 Steps s k p (work.Plan edit marks) q v _ = ⊥
 Steps s k p (work.Commit c) q v o = CommitsOn s k p c q v o
-Steps s k p (work.Move r) q v o = (q.table ≡ p.table) × Moves s p.memory p.list r q.memory q.list v o
+Steps s k p (work.Move r) q v o =
+    (q.table ≡ p.table) × Moves s p.memory p.list r q.memory q.list v o
 Steps s k p (work.Upkeep u) q v o = KeepsUp s k p u q v o
 Steps s k p work.Rest q v o = ⊥
 

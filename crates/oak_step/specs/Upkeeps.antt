@@ -31,7 +31,8 @@ told_ids paths = keys_of (fold told_above [] paths)
 
 -- the checkpoint of that id that the settings have
 abbrev pub set_checkpoint : Table → Text → Option Pin
-set_checkpoint t i = option_and_then (λ d. lookup (is_at (name_cmp i)) d.checkpoints) (found t id.Settings)
+set_checkpoint t i =
+    option_and_then (λ d. lookup (is_at (name_cmp i)) d.checkpoints) (found t id.Settings)
 
 -- the kind of the next step
 abbrev pub kind_kept : Upkeep → StepKind

@@ -20,8 +20,10 @@ abbrev pub Begins : Option Pin → Task → Work → Type 0
 Begins pin task.Login v = v ≡ work.Login
 Begins pin task.End v = v ≡ work.End
 Begins pin task.Refresh v = v ≡ work.Refresh
-Begins pin (task.Load p) v = (a : Global) × (at : Pin) × (pin ≡ Some at) × (v ≡ work.Read (node_reader a at p))
-Begins pin (task.List p) v = (a : Global) × (at : Pin) × (pin ≡ Some at) × (v ≡ work.Read (children_reader a at p))
+Begins pin (task.Load p) v =
+    (a : Global) × (at : Pin) × (pin ≡ Some at) × (v ≡ work.Read (node_reader a at p))
+Begins pin (task.List p) v =
+    (a : Global) × (at : Pin) × (pin ≡ Some at) × (v ≡ work.Read (children_reader a at p))
 Begins pin (task.Commit edit marks) v = v ≡ work.Plan edit marks
 Begins pin task.BackWrite v = v ≡ work.Upkeep upkeep.Write
 Begins pin task.BackRead v = v ≡ work.Upkeep upkeep.Read

@@ -35,10 +35,19 @@ pub(crate) fn begin(
     marks: List<MarkAt>,
 ) -> Result<Committer, AllocError>
     requires { known_time memory.old < 2 ^ 64 - 1 }
-    ensures committer { IfOk result (λ committer. committer ≡ begun (next_draw memory.old) (base_at memory.old s) edit marks) }
-    ensures memory { OnOk result (memory.new ≡ with_notes (next_draw memory.old) (with_draw memory.old (next_draw memory.old)) (marked_paths marks)) }
-    ensures list { OnOk result (events.new.list ≡ events.old.list ++ event.Draw (record { revision = next_draw memory.old; session = s; base = base_at memory.old s; edit = edit; marks = marks }) ∷ []) }
-    ensures places { OnOk result (events.new.places ≡ events.old.places + 2 * length (written_paths marks) + 4) }
+    ensures committer { IfOk result
+        (λ committer. committer ≡ begun (next_draw memory.old) (base_at memory.old s) edit marks) }
+    ensures memory { OnOk result (memory.new ≡ with_notes (next_draw memory.old)
+        (with_draw memory.old (next_draw memory.old)) (marked_paths marks)) }
+    ensures list { OnOk result (events.new.list ≡ events.old.list ++ event.Draw (record {
+      revision = next_draw memory.old;
+      session = s;
+      base = base_at memory.old s;
+      edit = edit;
+      marks = marks;
+    }) ∷ []) }
+    ensures places { OnOk result
+        (events.new.places ≡ events.old.places + 2 * length (written_paths marks) + 4) }
     ensures kept { OnErr result (memory.new ≡ memory.old) }
     ensures err { OnErr result (events.new.list ≡ events.old.list) }
     ensures back { OnErr result (events.new.places ≡ events.old.places) }
@@ -85,7 +94,8 @@ fn draw(
     marks: &[MarkAt],
 ) -> Result<(), AllocError>
     requires { known_time memory.old < 2 ^ 64 - 1 }
-    ensures memory { OnOk result (memory.new ≡ with_notes (next_draw memory.old) (with_draw memory.old (next_draw memory.old)) (marked_paths marks.now)) }
+    ensures memory { OnOk result (memory.new ≡ with_notes (next_draw memory.old)
+        (with_draw memory.old (next_draw memory.old)) (marked_paths marks.now)) }
     ensures places { OnOk result (events.new.places ≡ events.old.places + 2 * documents + 5) }
     ensures kept { OnErr result (memory.new ≡ memory.old) }
     ensures back { OnErr result (events.new.places ≡ events.old.places) }
@@ -126,7 +136,8 @@ pub(crate) fn mark(
 ) -> Result<(), AllocError>
     requires table { IsTable table.old.documents }
     requires stage { stage_of committer.old ≡ stage.Mark }
-    ensures made { OnOk result (IsMarked s table.old table.new events.old.list events.new.list committer.old committer.new) }
+    ensures made { OnOk result (IsMarked s table.old table.new events.old.list events.new.list
+        committer.old committer.new) }
     ensures needs { OnOk result (needed_by committer.new ≤ needed_by committer.old) }
     ensures table { OnErr result (table.new ≡ table.old) }
     ensures list { OnErr result (events.new.list ≡ events.old.list) }
@@ -156,7 +167,8 @@ fn mark_by(
     requires due { ask.Update op.now ≡ due_of committer.old }
     requires refusal { refusal_at committer.old (event.Refuse committer.old.revision item other) }
     requires place { 0 < events.old.places }
-    ensures made { OnOk result (IsMarked s table.old table.new events.old.list events.new.list committer.old committer.new) }
+    ensures made { OnOk result (IsMarked s table.old table.new events.old.list events.new.list
+        committer.old committer.new) }
     ensures needs { OnOk result (needed_by committer.new ≤ needed_by committer.old) }
     ensures table { OnErr result (table.new ≡ table.old) }
     ensures list { OnErr result (events.new.list ≡ events.old.list) }
@@ -189,7 +201,8 @@ fn mark_by(
 // Its own item and the other revision of the mark that is due.
 fn met(committer: &Committer) -> Result<(Item, Revision), AllocError>
     requires { IsSome (slice_get committer.now.writer.due 0) }
-    ensures { IfOk result (λ met. refusal_at committer.now (event.Refuse committer.now.revision met.0 met.1)) }
+    ensures { IfOk result
+        (λ met. refusal_at committer.now (event.Refuse committer.now.revision met.0 met.1)) }
 {
     match (committer.due_item(), committer.due_other()) {
         (Some(item), Some(other)) => Ok((item.copy()?, other)),
@@ -209,7 +222,8 @@ pub(crate) fn write(
     requires table { IsTable table.old.documents }
     requires stage { stage_of committer.old ≡ stage.Write }
     requires place { 0 < events.old.places }
-    ensures made { OnOk result (IsWritten s table.old table.new events.old.list events.new.list committer.old committer.new) }
+    ensures made { OnOk result (IsWritten s table.old table.new events.old.list events.new.list
+        committer.old committer.new) }
     ensures needs { OnOk result (needed_by committer.new + 1 ≤ needed_by committer.old) }
     ensures place { OnOk result (events.new.places + 1 ≡ events.old.places) }
     ensures table { OnErr result (table.new ≡ table.old) }
@@ -245,7 +259,8 @@ pub(crate) fn last(
     requires table { IsTable table.old.documents }
     requires stage { stage_of committer.old ≡ stage.Last }
     requires place { 0 < events.old.places }
-    ensures made { OnOk result (IsLast table.old table.new events.old.list events.new.list committer.old committer.new) }
+    ensures made { OnOk result
+        (IsLast table.old table.new events.old.list events.new.list committer.old committer.new) }
     ensures needs { OnOk result (needed_by committer.new + 1 ≤ needed_by committer.old) }
     ensures place { OnOk result (events.new.places + 1 ≡ events.old.places) }
     ensures table { OnErr result (table.new ≡ table.old) }
@@ -276,7 +291,8 @@ fn refused_last(
     requires place { 0 < events.old.places }
     requires stage { stage_of committer.old ≡ stage.Last }
     requires fault { IsLastFault fault }
-    ensures made { OnOk result (IsRefusedBy fault events.old.list events.new.list committer.old committer.new) }
+    ensures made { OnOk result
+        (IsRefusedBy fault events.old.list events.new.list committer.old committer.new) }
     ensures place { OnOk result (events.new.places + 1 ≡ events.old.places) }
     ensures list { OnErr result (events.new.list ≡ events.old.list) }
     ensures committer { OnErr result (committer.new ≡ committer.old) }
@@ -301,7 +317,8 @@ pub(crate) fn undo(table: &mut DocTable, events: &mut Events, committer: &mut Co
     requires table { IsTable table.old.documents }
     requires stage { stage_of committer.old ≡ stage.Undo }
     requires place { 0 < events.old.places }
-    ensures made { IsUndone s table.old table.new events.old.list events.new.list committer.old committer.new }
+    ensures made { IsUndone s table.old table.new events.old.list events.new.list
+        committer.old committer.new }
     ensures needs { needed_by committer.new + 1 ≤ needed_by committer.old }
     ensures places { events.new.places + 1 ≡ events.old.places }
     ensures order { IsTable table.new.documents }

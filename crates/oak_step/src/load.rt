@@ -30,7 +30,8 @@ pub(crate) fn read(table: &DocTable, reader: Reader) -> (Work, StepOut)
 
 // Feeds the reader what the documents answer to what is due.
 fn read_once(table: &DocTable, reader: &mut Reader) -> Result<(), AllocError>
-    ensures ok { OnOk result (reader.new ≡ fed reader.old (answer table.now.documents (due reader.old))) }
+    ensures ok { OnOk result
+        (reader.new ≡ fed reader.old (answer table.now.documents (due reader.old))) }
     ensures err { OnErr result (reader.new ≡ reader.old) }
 {
     match reader.next()? {

@@ -15,7 +15,8 @@ use std::alloc::AllocError;
 pub(crate) fn login(memory: &mut NodeMem, events: &mut Events, s: u32) -> Result<Pin, AllocError>
     ensures pin { IfOk result (λ pin. pin ≡ pin_now memory.old) }
     ensures memory { OnOk result (memory.new ≡ with_pin memory.old s (pin_now memory.old)) }
-    ensures list { OnOk result (events.new.list ≡ events.old.list ++ event.Login s memory.old.head ∷ []) }
+    ensures list { OnOk result
+        (events.new.list ≡ events.old.list ++ event.Login s memory.old.head ∷ []) }
     ensures kept { OnErr result (memory.new ≡ memory.old) }
     ensures err { OnErr result (events.new.list ≡ events.old.list) }
     ensures places { events.new.places ≡ events.old.places }
@@ -34,7 +35,8 @@ pub(crate) fn refresh(memory: &mut NodeMem, events: &mut Events, s: u32) -> Resu
     requires { IsSome (pin_of memory.old s) }
     ensures pin { IfOk result (λ pin. pin ≡ pin_now memory.old) }
     ensures memory { OnOk result (memory.new ≡ with_pin memory.old s (pin_now memory.old)) }
-    ensures list { OnOk result (events.new.list ≡ events.old.list ++ event.Refresh s memory.old.head ∷ []) }
+    ensures list { OnOk result
+        (events.new.list ≡ events.old.list ++ event.Refresh s memory.old.head ∷ []) }
     ensures kept { OnErr result (memory.new ≡ memory.old) }
     ensures err { OnErr result (events.new.list ≡ events.old.list) }
     ensures places { events.new.places ≡ events.old.places }

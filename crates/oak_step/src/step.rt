@@ -35,7 +35,8 @@ pub fn step_work(
     requires can { CanStep s memory.old events.old.places work }
     requires table { IsTable table.old.documents }
     requires root { HasRoot table.old }
-    ensures made { Steps s node (parts table.old memory.old events.old.list) work (parts table.new memory.new events.new.list) result.0 result.1 }
+    ensures made { Steps s node (parts table.old memory.old events.old.list) work
+        (parts table.new memory.new events.new.list) result.0 result.1 }
     ensures places { events.old.places + needed result.0 ≤ events.new.places + needed work }
     ensures order { IsTable table.new.documents }
 {
@@ -75,7 +76,8 @@ fn commit_on(
 ) -> (Work, StepOut)
     requires can { CanCommit memory.old events.old.places committer }
     requires table { IsTable table.old.documents }
-    ensures made { CommitsOn s node (parts table.old memory.old events.old.list) committer (parts table.new memory.new events.new.list) result.0 result.1 }
+    ensures made { CommitsOn s node (parts table.old memory.old events.old.list) committer
+        (parts table.new memory.new events.new.list) result.0 result.1 }
     ensures places { events.old.places + needed result.0 ≤ events.new.places + needed_by committer }
     ensures order { IsTable table.new.documents }
 {
@@ -100,7 +102,8 @@ fn update_on(
     requires updating { IsUpdating (stage_of committer) }
     requires places { needed_by committer ≤ events.old.places }
     requires table { IsTable table.old.documents }
-    ensures made { UpdatesOn s table.old events.old.list committer table.new events.new.list result.0 result.1 }
+    ensures made { UpdatesOn s table.old events.old.list committer table.new
+        events.new.list result.0 result.1 }
     ensures places { events.old.places + needed result.0 ≤ events.new.places + needed_by committer }
     ensures order { IsTable table.new.documents }
 {
@@ -125,12 +128,14 @@ fn update(
     requires updating { IsUpdating (stage_of committer.old) }
     requires places { needed_by committer.old ≤ events.old.places }
     requires table { IsTable table.old.documents }
-    ensures made { IfOk result (λ kind. Updates s table.old events.old.list committer.old table.new events.new.list committer.new kind) }
+    ensures made { IfOk result (λ kind. Updates s table.old events.old.list committer.old table.new
+        events.new.list committer.new kind) }
     ensures going { OnErr result (committer.old.outcome ≡ None) }
     ensures table { OnErr result (table.new ≡ table.old) }
     ensures list { OnErr result (events.new.list ≡ events.old.list) }
     ensures committer { OnErr result (committer.new ≡ committer.old) }
-    ensures places { events.old.places + needed_by committer.new ≤ events.new.places + needed_by committer.old }
+    ensures places { events.old.places + needed_by committer.new
+        ≤ events.new.places + needed_by committer.old }
     ensures order { IsTable table.new.documents }
 {
     match committer.stage() {
@@ -165,7 +170,8 @@ fn end_on(
     requires over { IsOver committer }
     ensures made { EndsSo committer result.0 result.1 }
     ensures memory { memory.new ≡ finished memory.old committer.revision }
-    ensures list { events.new.list ≡ events.old.list ++ end_events node memory.old committer.revision }
+    ensures list { events.new.list
+        ≡ events.old.list ++ end_events node memory.old committer.revision }
     ensures places { events.old.places + needed result.0 ≤ events.new.places + needed_by committer }
 {
     commit::end(memory, events, node, committer.revision());
@@ -192,7 +198,8 @@ fn ended(committer: Committer) -> (Work, StepOut)
 // An accepted commit that has ended: the base moves to the head once that sees the revision.
 fn move_on(memory: &mut NodeMem, events: &mut Events, s: u32, r: Revision) -> (Work, StepOut)
     requires { CanMove s memory.old events.old.places r }
-    ensures made { Moves s memory.old events.old.list r memory.new events.new.list result.0 result.1 }
+    ensures made { Moves s memory.old events.old.list r memory.new
+        events.new.list result.0 result.1 }
     ensures places { events.old.places + needed result.0 ≤ events.new.places + 1 }
 {
     match memory.awaits(r) {

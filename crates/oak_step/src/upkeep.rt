@@ -71,7 +71,8 @@ pub(crate) fn keep_up(
     requires can { CanKeepUp s memory.old upkeep }
     requires table { IsTable table.old.documents }
     requires root { HasRoot table.old }
-    ensures made { KeepsUp s node (parts table.old memory.old events.old.list) upkeep (parts table.new memory.new events.new.list) result.0 result.1 }
+    ensures made { KeepsUp s node (parts table.old memory.old events.old.list) upkeep
+        (parts table.new memory.new events.new.list) result.0 result.1 }
     ensures places { events.new.places ≡ events.old.places }
     ensures order { IsTable table.new.documents }
 {
@@ -88,7 +89,8 @@ pub(crate) fn keep_up(
 
 // The notes are taken whose revision the head sees.
 fn write(memory: &mut NodeMem, events: &mut Events, s: u32) -> (Work, StepOut)
-    ensures made { (k : ℕ) (t : Table) → KeepsUp s k (parts t memory.old events.old.list) upkeep.Write (parts t memory.new events.new.list) result.0 result.1 }
+    ensures made { (k : ℕ) (t : Table) → KeepsUp s k (parts t memory.old events.old.list)
+        upkeep.Write (parts t memory.new events.new.list) result.0 result.1 }
     ensures places { events.new.places ≡ events.old.places }
 {
     match take(memory, events, s) {
@@ -127,7 +129,9 @@ fn publish_all(
     pending: &Pending,
 ) -> (Work, StepOut)
     requires table { IsTable table.old.documents }
-    ensures made { (m : NodeState) → PublishesOn s node (parts table.old m events.old.list) (told_ids pending.now.paths) pending.now.upto (parts table.new m events.new.list) result.0 result.1 }
+    ensures made { (m : NodeState) → PublishesOn s node (parts table.old m events.old.list)
+        (told_ids pending.now.paths) pending.now.upto (parts table.new m events.new.list)
+        result.0 result.1 }
     ensures places { events.new.places ≡ events.old.places }
     ensures order { IsTable table.new.documents }
 {
@@ -148,7 +152,8 @@ fn publish(
     r: Revision,
 ) -> (Work, StepOut)
     requires table { IsTable table.old.documents }
-    ensures made { (m : NodeState) → PublishesOn s node (parts table.old m events.old.list) ids r (parts table.new m events.new.list) result.0 result.1 }
+    ensures made { (m : NodeState) → PublishesOn s node (parts table.old m events.old.list) ids r
+        (parts table.new m events.new.list) result.0 result.1 }
     ensures places { events.new.places ≡ events.old.places }
     ensures order { IsTable table.new.documents }
 {
@@ -215,7 +220,8 @@ fn tell(
 
 // The update of a document that is there by one change.
 fn op_of(alloc: Global, id: DocId, change: Change) -> Result<UpdateOp, AllocError>
-    ensures { IfOk result (λ op. op ≡ record { id = id; create = false; cond = None; changes = change ∷ [] }) }
+    ensures { IfOk result
+        (λ op. op ≡ record { id = id; create = false; cond = None; changes = change ∷ [] }) }
 {
     let mut changes = List::new(alloc);
     changes.push(change)?;
@@ -292,7 +298,8 @@ fn put_above(told: &mut Keyed<DocId, bool>, path: &Path) -> Result<(), AllocErro
 // What the root's document tells is read.
 fn read_root(alloc: Global, table: &DocTable, events: &mut Events, s: u32) -> (Work, StepOut)
     requires { HasRoot table.now }
-    ensures made { (k : ℕ) (m : NodeState) → KeepsUp s k (parts table.now m events.old.list) upkeep.Read (parts table.now m events.new.list) result.0 result.1 }
+    ensures made { (k : ℕ) (m : NodeState) → KeepsUp s k (parts table.now m events.old.list)
+        upkeep.Read (parts table.now m events.new.list) result.0 result.1 }
     ensures places { events.new.places ≡ events.old.places }
 {
     let Some(root) = table.find(&DocId::Node(Path::root(alloc))) else {
@@ -313,7 +320,8 @@ fn learn(
     last: &RevVec,
     sweep: &RevVec,
 ) -> (Work, StepOut)
-    ensures made { (s : ℕ) (t : Table) → KeepsUp s node (parts t memory.old events.old.list) (upkeep.Learn last.now sweep.now) (parts t memory.new events.new.list) result.0 result.1 }
+    ensures made { (s : ℕ) (t : Table) → KeepsUp s node (parts t memory.old events.old.list)
+        (upkeep.Learn last.now sweep.now) (parts t memory.new events.new.list) result.0 result.1 }
     ensures places { events.new.places ≡ events.old.places }
 {
     if events.keep(1).is_err() {
@@ -336,7 +344,9 @@ fn checkpoint_on(
 ) -> (Work, StepOut)
     requires pinned { IsSome (pin_of memory.now s) }
     requires table { IsTable table.old.documents }
-    ensures made { (k : ℕ) → KeepsUp s k (parts table.old memory.now events.old.list) (upkeep.Checkpoint name.now) (parts table.new memory.now events.new.list) result.0 result.1 }
+    ensures made { (k : ℕ) → KeepsUp s k (parts table.old memory.now events.old.list)
+        (upkeep.Checkpoint name.now) (parts table.new memory.now events.new.list)
+        result.0 result.1 }
     ensures places { events.new.places ≡ events.old.places }
     ensures order { IsTable table.new.documents }
 {
@@ -357,8 +367,10 @@ fn checkpoint(
     pin: Pin,
 ) -> Result<(), AllocError>
     requires table { IsTable table.old.documents }
-    ensures table { OnOk result (table.new ≡ after_update table.old (settings_op (change.Checkpoint name.now pin))) }
-    ensures list { OnOk result (events.new.list ≡ events.old.list ++ event.Checkpoint name.now pin.base ∷ []) }
+    ensures table { OnOk result
+        (table.new ≡ after_update table.old (settings_op (change.Checkpoint name.now pin))) }
+    ensures list { OnOk result
+        (events.new.list ≡ events.old.list ++ event.Checkpoint name.now pin.base ∷ []) }
     ensures kept { OnErr result (table.new ≡ table.old) }
     ensures err { OnErr result (events.new.list ≡ events.old.list) }
     ensures places { events.new.places ≡ events.old.places }
@@ -382,7 +394,8 @@ fn release_on(
     name: &Text,
 ) -> (Work, StepOut)
     requires table { IsTable table.old.documents }
-    ensures made { (k : ℕ) (m : NodeState) → KeepsUp s k (parts table.old m events.old.list) (upkeep.Release name.now) (parts table.new m events.new.list) result.0 result.1 }
+    ensures made { (k : ℕ) (m : NodeState) → KeepsUp s k (parts table.old m events.old.list)
+        (upkeep.Release name.now) (parts table.new m events.new.list) result.0 result.1 }
     ensures places { events.new.places ≡ events.old.places }
     ensures order { IsTable table.new.documents }
 {
@@ -413,8 +426,10 @@ fn release(
     there: bool,
 ) -> Result<(), AllocError>
     requires table { IsTable table.old.documents }
-    ensures table { OnOk result (table.new ≡ after_update table.old (settings_op (change.Release name.now))) }
-    ensures list { OnOk result (events.new.list ≡ events.old.list ++ cond there (event.Release name.now) (event.Went s kind.Settings) ∷ []) }
+    ensures table { OnOk result
+        (table.new ≡ after_update table.old (settings_op (change.Release name.now))) }
+    ensures list { OnOk result (events.new.list ≡ events.old.list
+        ++ cond there (event.Release name.now) (event.Went s kind.Settings) ∷ []) }
     ensures kept { OnErr result (table.new ≡ table.old) }
     ensures err { OnErr result (events.new.list ≡ events.old.list) }
     ensures places { events.new.places ≡ events.old.places }

@@ -1,25 +1,22 @@
 -- A step of a load or a list lowers the number of steps that are left.
-use Rattle.std.proofs.Common.{◌≡◌, ◌≢◌, ◌⊎◌, inl, inr, ℕ, zero, suc, ◌+◌, ◌<◌, ◌≤◌, Bool, true, false, cond, Option, Some, None, List, [], ◌∷◌, length, refl, sym, ap, subst, ◌∙◌, arith}
+use Rattle.std.proofs.Common.{◌≡◌, ◌≢◌, ◌⊎◌, inl, inr, ℕ, zero, suc, ◌+◌, ◌<◌, ◌≤◌, Bool, true, false, cond, Option, Some, None, List, [], ◌∷◌, length, refl, ap, ◌∙◌, arith}
 use Rattle.std.specs.Prelude.{is_none, is_some, slice_get, ◌||◌}
 use Rattle.std.specs.BTreeMap.{is_at}
 use Rattle.std.specs.BTreeMap.Range.{entries_between}
-use Rattle.std.specs.List.{filter, list_any}
+use Rattle.std.specs.List.{list_any}
 use Rattle.std.specs.Map.{keys_of, lookup}
 use Rattle.std.specs.Option.{option_map, option_map_or}
-use Rattle.std.specs.Ordering.{eq_by_cmp, is_lt}
+use Rattle.std.specs.Ordering.{eq_by_cmp}
 use Rattle.std.specs.declared.alloc.Global.{Global}
 use Rattle.std.specs.declared.cmp.Ordering.TheVariants.{Less}
 use Rattle.std.specs.declared.ops.Bound.TheVariants.{Excluded, Unbounded}
-use mathlib.Core.Bool.{false≢true}
 use Rattle.jr_path.specs.Ids.{id_cmp}
 use Rattle.jr_path.specs.declared.path.DocId.{DocId}
 use Rattle.jr_path.specs.declared.path.DocId.TheVariants as id
 use Rattle.jr_path.specs.declared.path.Path.{Path}
-use Rattle.jr_path.proofs.Orders.{id_total}
 use Rattle.jr_rev.specs.declared.vector.Pin.{Pin}
 use Rattle.oak_doc.specs.declared.asks.Ask.TheVariants as ask
 use Rattle.oak_doc.specs.declared.document.Document.{Document}
-use Rattle.oak_read.proofs.Walking.{same_id}
 use Rattle.oak_read.specs.Meaning.{documents_in}
 use Rattle.oak_read.specs.Reading.{IsTable, child_at, due, ended, fed_main, fed_next, noted, on_main, on_previous, on_roots, settled}
 use Rattle.oak_read.specs.Wanted.{Ids, Known, left_of, previous_wanted, roots_wanted}
@@ -28,56 +25,14 @@ use Rattle.oak_read.specs.declared.reader.Step.{Step}
 use Rattle.oak_read.specs.declared.reader.Step.TheVariants as step
 use Rattle.oak_read.specs.declared.wanted.Left.{Left}
 use Rattle.oak_store.specs.Tables.{Table}
-use Rattle.core_read.proofs.Entries.{is_less}
-use Rattle.core_watch.proofs.Behind.{not_below_itself}
 use Rattle.core_watch.proofs.Ending.{next_rises}
+use Rattle.core_watch.proofs.Finite.{fewer_behind}
 use Rattle.core_watch.specs.Moments.{IsDone}
 use Rattle.core_watch.specs.Standing.{Child}
 use Rattle.oak_step.specs.Parts.{read_on}
 use Rattle.oak_world.specs.Left.{documents_behind, main_left, next_left, nexts_left, previous_left, reads_left, reads_on, roots_left}
 
 -- ---- documents behind a path
-
-still_less : (x y k : DocId) → id_cmp x y ≡ Less → is_lt (id_cmp y k) ≡ true → is_lt (id_cmp x k) ≡ true
-still_less x y k h l = ap is_lt (id_total.trans x y k h (is_less (id_cmp y k) l))
-
-module _ (x y : DocId) (less : id_cmp x y ≡ Less) where
-  abbrev over : DocId → List DocId → List DocId
-  over z ids = filter (λ k. is_lt (id_cmp z k)) ids
-
-  at_most : (k : DocId) (ids : List DocId) → length (over y ids) ≤ length (over x ids) → length (over y (k ∷ ids)) ≤ length (over x (k ∷ ids))
-  at_most k ids h = by (is_lt (id_cmp y k)) refl (is_lt (id_cmp x k)) refl
-    where
-      by : (b : Bool) → is_lt (id_cmp y k) ≡ b → (c : Bool) → is_lt (id_cmp x k) ≡ c → length (cond b (k ∷ over y ids) (over y ids)) ≤ length (cond c (k ∷ over x ids) (over x ids))
-      by true p true q = omega (arith, h)
-      by true p false q = absurd (false≢true (sym q ∙ still_less x y k less p))
-      by false p true q = omega (arith, h)
-      by false p false q = h
-
-  as_few : (ids : List DocId) → length (over y ids) ≤ length (over x ids)
-  as_few [] = omega arith
-  as_few (k ∷ ids) = at_most k ids (as_few ids)
-
-  -- behind a later document there are fewer
-  fewer_behind : (ids : List DocId) → list_any (eq_by_cmp id_cmp y) ids ≡ true → length (over y ids) < length (over x ids)
-  fewer_behind [] h = absurd (false≢true h)
-  fewer_behind (k ∷ ids) h = by (eq_by_cmp id_cmp y k) refl h (λ j. fewer_behind ids j)
-    where
-      own : length (cond false (k ∷ over y ids) (over y ids)) < length (cond true (k ∷ over x ids) (over x ids))
-      own = let rest = as_few ids in omega (arith, rest)
-
-      other : length (over y ids) < length (over x ids) → (b : Bool) → is_lt (id_cmp y k) ≡ b → (c : Bool) → is_lt (id_cmp x k) ≡ c → length (cond b (k ∷ over y ids) (over y ids)) < length (cond c (k ∷ over x ids) (over x ids))
-      other h true p true q = omega (arith, h)
-      other h true p false q = absurd (false≢true (sym q ∙ still_less x y k less p))
-      other h false p true q = omega (arith, h)
-      other h false p false q = h
-
-      by : (b : Bool) → eq_by_cmp id_cmp y k ≡ b → (b || list_any (eq_by_cmp id_cmp y) ids) ≡ true → (list_any (eq_by_cmp id_cmp y) ids ≡ true → length (over y ids) < length (over x ids)) → length (over y (k ∷ ids)) < length (over x (k ∷ ids))
-      by true e j rest =
-          let same : y ≡ k = same_id y k e in
-          subst (λ (b : Bool). length (cond b (k ∷ over y ids) (over y ids)) < length (over x (k ∷ ids))) (sym (subst (λ (z : DocId). is_lt (id_cmp y z) ≡ false) same (not_below_itself y)))
-          (subst (λ (c : Bool). length (over y ids) < length (cond c (k ∷ over x ids) (over x ids))) (sym (subst (λ (z : DocId). is_lt (id_cmp x z) ≡ true) same (ap is_lt less))) own)
-      by false e j rest = other (rest j) (is_lt (id_cmp y k)) refl (is_lt (id_cmp x k)) refl
 
 -- a document that is found is under one of the ids
 ids_known : {X : Type 0} (es : List (DocId × X)) (x : DocId) → is_some (lookup (is_at (id_cmp x)) es) ≡ true → list_any (eq_by_cmp id_cmp x) (keys_of es) ≡ true

@@ -35,7 +35,8 @@ pub record IsAtWork (h : History) (s : ℕ) (c : Committing) : Type 0 where
 
 -- the revision is one of the session's cluster node, at most its local one
 abbrev pub IsOwn : History → ℕ → Revision → Type 0
-IsOwn h s r = (slice_get h.sessions s ≡ Some r.cluster) × IsTrue (is_at_most r (local h.begin h.past r.cluster))
+IsOwn h s r = (slice_get h.sessions s ≡ Some r.cluster)
+    × IsTrue (is_at_most r (local h.begin h.past r.cluster))
 
 -- the documents are below the root
 abbrev pub AreBelow : List DocId → Type 0
@@ -59,7 +60,8 @@ May starts h s (work.Read r) = HasCome h s
 May starts h s (work.Plan edit marks) = HasCome h s × starts h s edit marks
 May starts h s (work.Commit c) = IsAtWork h s c
 May starts h s (work.Upkeep u) = HasCome h s × MayKeepUp h s u
-May starts h s (work.Move r) = HasCome h s × IsTrue (is_ended h.past r) × (slice_get h.sessions s ≡ Some r.cluster)
+May starts h s (work.Move r) =
+    HasCome h s × IsTrue (is_ended h.past r) × (slice_get h.sessions s ≡ Some r.cluster)
 
 -- the state is kept by its law, the documents are in store order, there are at most 64 sessions, none is attached to a checkpoint, no document lists a previous one, and each may do what it does
 pub record IsWorld (starts : Starts) (says : Says) {L : Type 0} (w : WorldOf L) : Type 0 where

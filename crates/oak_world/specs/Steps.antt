@@ -58,7 +58,8 @@ pub record IsIdle {L : Type 0} (w : WorldOf L) (s : ℕ) : Type 0 where
   pub idle : work_in w.actors s ≡ work.Rest
 
 -- the text is the next reply of session s, which the law lets it say, and its bytes are reserved
-pub record HasPlace (says : Says) (h : History) (reply : Option ℕ) (s i : ℕ) (text : Text) : Type 0 where
+pub record HasPlace (says : Says) (h : History) (reply : Option ℕ) (s i : ℕ)
+    (text : Text) : Type 0 where
   pub next : i ≡ next_index h.past s
   pub lawful : says h s i text
   pub room : IsSomeAnd reply (λ bytes. length text ≤ bytes)
@@ -69,72 +70,105 @@ module _ (s : ℕ) (w : State) (c : Committing) (u : State) (d : Committing) whe
   -- a committer makes the next mark, or it is refused by that; it writes the next document, and turns to undoing where memory is refused for what it met there;
   -- it makes the last write, or it is refused by that; or it undoes the first document that is written and not undone
   abbrev pub MakesUpdate : StepKind → Type 0
-  MakesUpdate kind.Mark = (f : Met) × (rest : List Met) × (c.outcome ≡ None) × (c.writer.due ≡ f ∷ rest) × (u ≡ after_mark w s (running_as s c) f rest)
-      × (((u.past ≡ event.Went s kind.Mark ∷ w.past) × (d ≡ marked c rest)) ⊎ ((u.past ≡ event.Refuse c.revision f.mine f.other ∷ w.past) × (d ≡ refused c f.mine f.other)))
-  MakesUpdate kind.Write = (p : Path) × (rest : List Path) × (c.outcome ≡ None) × (c.writer.due ≡ []) × (c.writer.left ≡ p ∷ rest)
-      × (((u ≡ after_write w s (running_as s c) p rest) × (d ≡ written_alone c p rest (nodes_in w.table p)))
-      ⊎ ((u ≡ after_write_in_want w s (running_as s c) p rest) × (d ≡ wanting (written_alone c p rest (nodes_in w.table p)))))
-  MakesUpdate kind.Last = (c.outcome ≡ None) × (c.writer.due ≡ []) × (c.writer.left ≡ []) × (u ≡ after_last w s (running_as s c))
-      × (((u.past ≡ event.Commit c.revision ∷ w.past) × (d ≡ committed c)) ⊎ ((item : Item) × (o : Revision) × (u.past ≡ event.Refuse c.revision item o ∷ w.past) × (d ≡ refused c item o)))
-  MakesUpdate kind.Undo = (p : Path) × (rest : List Path) × IsTrue (undoes c.outcome) × (c.writer.written ≡ p ∷ rest) × (u ≡ after_undoing w s (running_as s c) p rest) × (d ≡ with_undone c)
+  MakesUpdate kind.Mark = (f : Met) × (rest : List Met) × (c.outcome ≡ None)
+      × (c.writer.due ≡ f ∷ rest) × (u ≡ after_mark w s (running_as s c) f rest)
+      × (((u.past ≡ event.Went s kind.Mark ∷ w.past) × (d ≡ marked c rest))
+      ⊎ ((u.past ≡ event.Refuse c.revision f.mine f.other ∷ w.past)
+      × (d ≡ refused c f.mine f.other)))
+  MakesUpdate kind.Write = (p : Path) × (rest : List Path) × (c.outcome ≡ None)
+      × (c.writer.due ≡ []) × (c.writer.left ≡ p ∷ rest)
+      × (((u ≡ after_write w s (running_as s c) p rest)
+      × (d ≡ written_alone c p rest (nodes_in w.table p)))
+      ⊎ ((u ≡ after_write_in_want w s (running_as s c) p rest)
+      × (d ≡ wanting (written_alone c p rest (nodes_in w.table p)))))
+  MakesUpdate kind.Last = (c.outcome ≡ None) × (c.writer.due ≡ []) × (c.writer.left ≡ [])
+      × (u ≡ after_last w s (running_as s c))
+      × (((u.past ≡ event.Commit c.revision ∷ w.past) × (d ≡ committed c))
+      ⊎ ((item : Item) × (o : Revision) × (u.past ≡ event.Refuse c.revision item o ∷ w.past)
+      × (d ≡ refused c item o)))
+  MakesUpdate kind.Undo =
+      (p : Path) × (rest : List Path) × IsTrue (undoes c.outcome) × (c.writer.written ≡ p ∷ rest)
+      × (u ≡ after_undoing w s (running_as s c) p rest) × (d ≡ with_undone c)
   MakesUpdate _ = ⊥
 
 -- a step of a commit: an operation on a document, the end of its revision, or its turn to undoing where memory was refused
 abbrev pub MakesCommit : ℕ → State → Committing → State → Work → StepOut → Type 0
 MakesCommit s w c u v o =
-    ((x : StepKind) × (o ≡ answers.Went x) × (d : Committing) × (v ≡ work.Commit d) × MakesUpdate s w c u d x)
+    ((x : StepKind) × (o ≡ answers.Went x) × (d : Committing) × (v ≡ work.Commit d)
+    × MakesUpdate s w c u d x)
     ⊎ ((stage_of c ≡ stage.Finish) × (u ≡ after_finish w s (running_as s c)) × EndsSo c v o)
-    ⊎ ((o ≡ answers.Memory) × (c.outcome ≡ None) × (u ≡ after_want w s (running_as s c)) × (v ≡ work.Commit (wanting c)))
+    ⊎ ((o ≡ answers.Memory) × (c.outcome ≡ None) × (u ≡ after_want w s (running_as s c))
+    × (v ≡ work.Commit (wanting c)))
 
 -- the last of the documents is told that r is published; where none is left, the root is, and the task ends
 abbrev pub Publishes : ℕ → State → List DocId → Revision → State → Work → StepOut → Type 0
-Publishes s w ids r u v (answers.Went kind.Back) = (rest : List DocId) × (i : DocId) × (ids ≡ rest ++ i ∷ []) × (u ≡ after_back w s (names_of i) r) × (v ≡ work.Upkeep (upkeep.Publish rest r))
-Publishes s w ids r u v (answers.Ready (ends.Published o)) = (ids ≡ []) × (o ≡ r) × (u ≡ after_out w s r) × (v ≡ work.Rest)
+Publishes s w ids r u v (answers.Went kind.Back) =
+    (rest : List DocId) × (i : DocId) × (ids ≡ rest ++ i ∷ []) × (u ≡ after_back w s (names_of i) r)
+    × (v ≡ work.Upkeep (upkeep.Publish rest r))
+Publishes s w ids r u v (answers.Ready (ends.Published o)) =
+    (ids ≡ []) × (o ≡ r) × (u ≡ after_out w s r) × (v ≡ work.Rest)
 Publishes s w ids r u v answers.Memory = (u ≡ w) × (v ≡ work.Rest)
 Publishes s w ids r u v _ = ⊥
 
 -- a step of background work, or on the settings
 abbrev pub MakesUpkeep : ℕ → State → Upkeep → State → Work → StepOut → Type 0
-MakesUpkeep s w upkeep.Write u v (answers.Went kind.Back) = (n : Pending) × IsPending (memory_of w s) n × (u ≡ after_pending w s) × (v ≡ work.Upkeep (upkeep.Noted n))
+MakesUpkeep s w upkeep.Write u v (answers.Went kind.Back) = (n : Pending)
+    × IsPending (memory_of w s) n × (u ≡ after_pending w s) × (v ≡ work.Upkeep (upkeep.Noted n))
 MakesUpkeep s w upkeep.Write u v answers.Memory = (u ≡ w) × (v ≡ work.Rest)
 MakesUpkeep s w upkeep.Write u v _ = ⊥
 MakesUpkeep s w (upkeep.Noted n) u v o = Publishes s w (told_ids n.paths) n.upto u v o
 MakesUpkeep s w (upkeep.Publish ids r) u v o = Publishes s w ids r u v o
-MakesUpkeep s w upkeep.Read u v (answers.Went kind.Back) = (d : Document) × (nodes_in w.table [] ≡ Some d) × (u ≡ after_went w s kind.Back) × (v ≡ work.Upkeep (upkeep.Learn d.last_rev d.sweep_rev))
+MakesUpkeep s w upkeep.Read u v (answers.Went kind.Back) =
+    (d : Document) × (nodes_in w.table [] ≡ Some d) × (u ≡ after_went w s kind.Back)
+    × (v ≡ work.Upkeep (upkeep.Learn d.last_rev d.sweep_rev))
 MakesUpkeep s w upkeep.Read u v answers.Memory = (u ≡ w) × (v ≡ work.Rest)
 MakesUpkeep s w upkeep.Read u v _ = ⊥
-MakesUpkeep s w (upkeep.Learn last sweep) u v (answers.Ready (ends.Learnt x)) = (x ≡ (learned (memory_of w s) last sweep).head) × (u ≡ after_learn w s last sweep) × (v ≡ work.Rest)
+MakesUpkeep s w (upkeep.Learn last sweep) u v (answers.Ready (ends.Learnt x)) =
+    (x ≡ (learned (memory_of w s) last sweep).head) × (u ≡ after_learn w s last sweep)
+    × (v ≡ work.Rest)
 MakesUpkeep s w (upkeep.Learn last sweep) u v answers.Memory = (u ≡ w) × (v ≡ work.Rest)
 MakesUpkeep s w (upkeep.Learn last sweep) u v _ = ⊥
-MakesUpkeep s w (upkeep.Checkpoint i) u v (answers.Ready (ends.Set None)) = (pin : Pin) × (pin_of (memory_of w s) s ≡ Some pin) × (u ≡ after_checkpoint w s i pin) × (v ≡ work.Rest)
+MakesUpkeep s w (upkeep.Checkpoint i) u v (answers.Ready (ends.Set None)) = (pin : Pin)
+    × (pin_of (memory_of w s) s ≡ Some pin) × (u ≡ after_checkpoint w s i pin) × (v ≡ work.Rest)
 MakesUpkeep s w (upkeep.Checkpoint i) u v answers.Memory = (u ≡ w) × (v ≡ work.Rest)
 MakesUpkeep s w (upkeep.Checkpoint i) u v _ = ⊥
-MakesUpkeep s w (upkeep.Release i) u v (answers.Ready (ends.Set None)) = IsTrue (is_some (set_checkpoint w.table i)) × (u ≡ after_release w i) × (v ≡ work.Rest)
-MakesUpkeep s w (upkeep.Release i) u v (answers.Ready ends.NoCheckpoint) = (set_checkpoint w.table i ≡ None) × (u ≡ after_unfound w s (change.Release i)) × (v ≡ work.Rest)
+MakesUpkeep s w (upkeep.Release i) u v (answers.Ready (ends.Set None)) =
+    IsTrue (is_some (set_checkpoint w.table i)) × (u ≡ after_release w i) × (v ≡ work.Rest)
+MakesUpkeep s w (upkeep.Release i) u v (answers.Ready ends.NoCheckpoint) =
+    (set_checkpoint w.table i ≡ None) × (u ≡ after_unfound w s (change.Release i)) × (v ≡ work.Rest)
 MakesUpkeep s w (upkeep.Release i) u v answers.Memory = (u ≡ w) × (v ≡ work.Rest)
 MakesUpkeep s w (upkeep.Release i) u v _ = ⊥
 
 -- how a step of session s goes, by what it does: the state after it, what it does then, and the answer
 abbrev pub Makes : ℕ → State → Work → State → Work → StepOut → Type 0
-Makes s w work.Login u v (answers.Ready (ends.Pinned pin)) = (u ≡ after_login w s) × (v ≡ work.Rest) × (pin ≡ pin_now (memory_of w s))
+Makes s w work.Login u v (answers.Ready (ends.Pinned pin)) =
+    (u ≡ after_login w s) × (v ≡ work.Rest) × (pin ≡ pin_now (memory_of w s))
 Makes s w work.Login u v answers.Memory = (u ≡ w) × (v ≡ work.Rest)
 Makes s w work.Login u v _ = ⊥
 Makes s w work.End u v (answers.Ready ends.Ended) = (u ≡ after_leave w s) × (v ≡ work.Rest)
 Makes s w work.End u v answers.Memory = (u ≡ w) × (v ≡ work.Rest)
 Makes s w work.End u v _ = ⊥
-Makes s w work.Refresh u v (answers.Ready (ends.Pinned pin)) = (u ≡ after_refresh w s) × (v ≡ work.Rest) × (pin ≡ pin_now (memory_of w s))
+Makes s w work.Refresh u v (answers.Ready (ends.Pinned pin)) =
+    (u ≡ after_refresh w s) × (v ≡ work.Rest) × (pin ≡ pin_now (memory_of w s))
 Makes s w work.Refresh u v answers.Memory = (u ≡ w) × (v ≡ work.Rest)
 Makes s w work.Refresh u v _ = ⊥
-Makes s w (work.Read r) u v (answers.Went kind.Read) = (u ≡ with_reader w s (Some (read_on w.table r))) × (v ≡ work.Read (read_on w.table r)) × (due (read_on w.table r) ≢ ask.Done)
-Makes s w (work.Read r) u v (answers.Ready e) = (u ≡ with_reader w s None) × (v ≡ work.Rest) × (end_of_reading (read_on w.table r).step ≡ Some e)
+Makes s w (work.Read r) u v (answers.Went kind.Read) =
+    (u ≡ with_reader w s (Some (read_on w.table r))) × (v ≡ work.Read (read_on w.table r))
+    × (due (read_on w.table r) ≢ ask.Done)
+Makes s w (work.Read r) u v (answers.Ready e) = (u ≡ with_reader w s None) × (v ≡ work.Rest)
+    × (end_of_reading (read_on w.table r).step ≡ Some e)
 Makes s w (work.Read r) u v answers.Memory = (u ≡ with_reader w s None) × (v ≡ work.Rest)
 Makes s w (work.Read r) u v _ = ⊥
-Makes s w (work.Plan edit marks) u v (answers.Went kind.Draw) = (u ≡ after_draw w s edit marks (marked_paths marks)) × (v ≡ work.Commit (begun (next_draw (memory_of w s)) (base_in w s) edit marks))
+Makes s w (work.Plan edit marks) u v (answers.Went kind.Draw) =
+    (u ≡ after_draw w s edit marks (marked_paths marks))
+    × (v ≡ work.Commit (begun (next_draw (memory_of w s)) (base_in w s) edit marks))
 Makes s w (work.Plan edit marks) u v answers.Memory = (u ≡ w) × (v ≡ work.Rest)
 Makes s w (work.Plan edit marks) u v _ = ⊥
 Makes s w (work.Commit c) u v o = MakesCommit s w c u v o
-Makes s w (work.Move r) u v (answers.Wait o) = (u ≡ w) × (v ≡ work.Move r) × AwaitsEarlier (memory_of w s) r o
-Makes s w (work.Move r) u v (answers.Ready (ends.Commit (end.Committed o))) = (u ≡ after_refresh w s) × (v ≡ work.Rest) × (o ≡ r) × IsTrue (sees (memory_of w s).head r)
+Makes s w (work.Move r) u v (answers.Wait o) =
+    (u ≡ w) × (v ≡ work.Move r) × AwaitsEarlier (memory_of w s) r o
+Makes s w (work.Move r) u v (answers.Ready (ends.Commit (end.Committed o))) =
+    (u ≡ after_refresh w s) × (v ≡ work.Rest) × (o ≡ r) × IsTrue (sees (memory_of w s).head r)
 Makes s w (work.Move r) u v _ = ⊥
 Makes s w (work.Upkeep k) u v o = MakesUpkeep s w k u v o
 Makes s w work.Rest u v _ = ⊥
@@ -152,14 +186,19 @@ reads_after _ o n = n
 pub record StepsIn {L : Type 0} (w : WorldOf L) (s : ℕ) (u : WorldOf L) (o : StepOut) : Type 0 where
   pub does : Work
   pub makes : Makes s (state_of w) (work_in w.actors s) (state_of u) does o
-  pub actors : u.actors ≡ slice_set w.actors s (record (actor_in w.actors s) { work = does; reads = reads_after (work_in w.actors s) o (actor_in w.actors s).reads })
+  pub actors : u.actors
+      ≡ slice_set w.actors s (record (actor_in w.actors s) {
+        work = does;
+        reads = reads_after (work_in w.actors s) o (actor_in w.actors s).reads;
+      })
   pub law : u.law ≡ w.law
 
 -- ---- steps of many
 
 -- one that is named in a schedule takes a step, where it is a session with a task; else nothing is changed
 abbrev pub Turns : {L : Type 0} → WorldOf L → ℕ → WorldOf L → Type 0
-Turns w s v = ((o : StepOut) × StepsIn w s v o) ⊎ ((v ≡ w) × ((slice_get w.history.sessions s ≡ None) ⊎ (kind_due (work_in w.actors s) ≡ None)))
+Turns w s v = ((o : StepOut) × StepsIn w s v o)
+    ⊎ ((v ≡ w) × ((slice_get w.history.sessions s ≡ None) ⊎ (kind_due (work_in w.actors s) ≡ None)))
 
 -- those that are named take their turns, one after another
 abbrev pub Plays : {L : Type 0} → WorldOf L → List ℕ → WorldOf L → Type 0

@@ -54,8 +54,15 @@ pub record WorldOf (L : Type 0) : Type 0 where
   pub actors : List ActorState
 
 -- what is seen of a world's fields
-abbrev pub shown_world : {L : Type 0} → L → Journal → Table → List NodeState → List Actor → WorldOf L
-shown_world law j t ms actors = record { law = law; history = story_of j; table = t; memories = ms; actors = map shown_actor actors }
+abbrev pub shown_world : {L : Type 0} → L → Journal → Table → List NodeState → List Actor
+    → WorldOf L
+shown_world law j t ms actors = record {
+  law = law;
+  history = story_of j;
+  table = t;
+  memories = ms;
+  actors = map shown_actor actors;
+}
 
 -- a session that does nothing
 abbrev pub idle : ActorState
@@ -83,7 +90,13 @@ start_world law clusters sessions = record {
 -- a committer at work, with its draw
 abbrev pub running_as : ℕ → Committing → Running
 running_as s c = record {
-  draw = record { revision = c.revision; session = s; base = c.base; edit = c.edit; marks = c.marks };
+  draw = record {
+    revision = c.revision;
+    session = s;
+    base = c.base;
+    edit = c.edit;
+    marks = c.marks;
+  };
   writer = record c.writer { undoing = undoes c.outcome; wants = wants c.outcome };
   committed = is_past c.outcome;
 }
@@ -125,7 +138,11 @@ parts_at w s = parts w.table (memory_at w.memories (node_in w.history s)) (rever
 abbrev pub with_parts : {L : Type 0} → WorldOf L → ℕ → Parts → ActorState → WorldOf L
 with_parts w s p a = record {
   law = w.law;
-  history = record { clusters = w.history.clusters; sessions = w.history.sessions; past = reverse p.list };
+  history = record {
+    clusters = w.history.clusters;
+    sessions = w.history.sessions;
+    past = reverse p.list;
+  };
   table = p.table;
   memories = with_memory w.memories (node_in w.history s) p.memory;
   actors = slice_set w.actors s a;
@@ -135,11 +152,15 @@ with_parts w s p a = record {
 
 -- the world where session s does this, since now
 abbrev pub with_work : {L : Type 0} → WorldOf L → ℕ → Work → WorldOf L
-with_work w s v = record w { actors = slice_set w.actors s (record (actor_in w.actors s) { work = v; began = length w.history.past }) }
+with_work w s v = record w {
+  actors = slice_set w.actors s
+      (record (actor_in w.actors s) { work = v; began = length w.history.past });
+}
 
 -- the world where so many bytes are reserved for the reply of session s
 abbrev pub with_reply : {L : Type 0} → WorldOf L → ℕ → Option ℕ → WorldOf L
-with_reply w s bytes = record w { actors = slice_set w.actors s (record (actor_in w.actors s) { reply = bytes }) }
+with_reply w s bytes =
+    record w { actors = slice_set w.actors s (record (actor_in w.actors s) { reply = bytes }) }
 
 -- the story with an event more
 abbrev pub with_event : Story → Event → Story
@@ -147,4 +168,5 @@ with_event h e = record h { past = e ∷ h.past }
 
 -- the world after session s has said its reply of index i
 abbrev pub said_in : {L : Type 0} → WorldOf L → ℕ → ℕ → Text → WorldOf L
-said_in w s i text = record (with_reply w s None) { history = with_event w.history (event.Said s i text) }
+said_in w s i text =
+    record (with_reply w s None) { history = with_event w.history (event.Said s i text) }

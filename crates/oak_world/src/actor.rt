@@ -36,7 +36,13 @@ pub(crate) struct Actor {
 impl Actor {
     // A session that does nothing.
     pub(crate) fn idle() -> Actor
-        ensures { result ≡ record { work = work.Rest; began = 0; reply = None; places = 0; reads = 0 } }
+        ensures { result ≡ record {
+          work = work.Rest;
+          began = 0;
+          reply = None;
+          places = 0;
+          reads = 0;
+        } }
     {
         Actor {
             work: Work::Rest,
@@ -51,7 +57,8 @@ impl Actor {
     pub(crate) fn reserve(&mut self, events: &mut Events, room: Room) -> Result<(), AllocError>
         requires placed { IsPlaced self.old }
         requires places { self.old.places ≤ events.old.places }
-        ensures ok { OnOk result (shown_actor self.new ≡ record (shown_actor self.old) { reply = Some room }) }
+        ensures ok { OnOk result
+            (shown_actor self.new ≡ record (shown_actor self.old) { reply = Some room }) }
         ensures err { OnErr result (shown_actor self.new ≡ shown_actor self.old) }
         ensures list { events.new.list ≡ events.old.list }
         ensures placed { IsPlaced self.new }
@@ -98,7 +105,8 @@ pub(crate) fn step_actor(
     requires root { HasRoot table.old }
     requires placed { IsPlaced actor.old }
     requires places { actor.old.places ≤ events.old.places }
-    ensures made { Steps s node (parts table.old memory.old events.old.list) actor.old.work (parts table.new memory.new events.new.list) actor.new.work result }
+    ensures made { Steps s node (parts table.old memory.old events.old.list) actor.old.work
+        (parts table.new memory.new events.new.list) actor.new.work result }
     ensures began { actor.new.began ≡ actor.old.began }
     ensures reply { actor.new.reply ≡ actor.old.reply }
     ensures reads { actor.new.reads ≡ reads_after actor.old.work result actor.old.reads }
@@ -120,7 +128,8 @@ pub(crate) fn step_actor(
 
 // Whether it is a load or a list.
 fn is_read(work: &Work) -> bool
-    ensures { (out : _) (reads : _) → reads_after work.now out reads ≡ cond result (reads_of_load out reads) reads }
+    ensures { (out : _) (reads : _)
+        → reads_after work.now out reads ≡ cond result (reads_of_load out reads) reads }
 {
     match work {
         Work::Read(_) => true,
@@ -186,7 +195,8 @@ impl Model for Room {
 
     ghost view = { λ r. r.bytes };
 
-    ghost invariant = { λ r. IsRoom (string_bytes r.text) (string_len r.text) (string_capacity r.text) r.bytes };
+    ghost invariant = { λ r. IsRoom (string_bytes r.text) (string_len r.text)
+        (string_capacity r.text) r.bytes };
 }
 
 impl Room {

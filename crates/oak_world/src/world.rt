@@ -65,7 +65,9 @@ impl<L: Law> Model for World<L> {
 
     ghost view = { λ w. shown_world w.law.value w.journal w.table w.memories.items w.actors.items };
 
-    ghost invariant = { λ w. (IsWorld (L.may_start w.law.value) (L.may_say w.law.value) (shown_world w.law.value w.journal w.table w.memories.items w.actors.items) × ArePlaced w.actors.items w.journal.events.places) × (w.journal.start ≡ None) };
+    ghost invariant = { λ w. (IsWorld (L.may_start w.law.value) (L.may_say w.law.value)
+        (shown_world w.law.value w.journal w.table w.memories.items w.actors.items)
+        × ArePlaced w.actors.items w.journal.events.places) × (w.journal.start ≡ None) };
 }
 
 impl<L: Law + Drop> World<L> {
@@ -113,22 +115,42 @@ impl<L: Law + Drop> World<L> {
     /// What has ended and clashes with no other draw outside its base is committed, or wanted memory before its commit point.
     pub fn journal(&self) -> &Journal
         ensures journal { history_of result.now ≡ live self.now.history }
-        ensures run { IsRun (L.may_start self.now.law) (L.may_say self.now.law) (live self.now.history) }
+        ensures run { IsRun (L.may_start self.now.law) (L.may_say self.now.law)
+            (live self.now.history) }
         ensures seats { length self.now.actors ≡ length self.now.history.sessions }
-        ensures apart { (r o : Revision) → (r ≡ o → ⊥) → IsTrue (is_committed self.now.history.past r) → IsTrue (is_committed self.now.history.past o) → IsTrue (are_clashing self.now.history.past r o) → IsTrue (is_in_base self.now.history.past r o) ⊎ IsTrue (is_in_base self.now.history.past o r) }
-        ensures causes { (r : Revision) (item : Item) (o : Revision) → refusal_of self.now.history.past r ≡ Some (item, o) → Cause self.now.history.past r item o }
-        ensures through { (r : Revision) → IsTrue (is_ended self.now.history.past r) → IsUnclashing self.now.history.past r → IsTrue (is_committed self.now.history.past r) ⊎ Wanted self.now.history.past r }
+        ensures apart { (r o : Revision) → (r ≡ o → ⊥)
+            → IsTrue (is_committed self.now.history.past r)
+            → IsTrue (is_committed self.now.history.past o)
+            → IsTrue (are_clashing self.now.history.past r o)
+            → IsTrue (is_in_base self.now.history.past r o)
+            ⊎ IsTrue (is_in_base self.now.history.past o r) }
+        ensures causes { (r : Revision) (item : Item) (o : Revision)
+            → refusal_of self.now.history.past r ≡ Some (item, o)
+            → Cause self.now.history.past r item o }
+        ensures through { (r : Revision) → IsTrue (is_ended self.now.history.past r)
+            → IsUnclashing self.now.history.past r
+            → IsTrue (is_committed self.now.history.past r) ⊎ Wanted self.now.history.past r }
     {
         &self.journal
     }
 
     /// All that `journal` tells of the world is so. It does nothing: callers learn the facts.
     pub fn is_kept(&self)
-        ensures run { IsRun (L.may_start self.now.law) (L.may_say self.now.law) (live self.now.history) }
+        ensures run { IsRun (L.may_start self.now.law) (L.may_say self.now.law)
+            (live self.now.history) }
         ensures seats { length self.now.actors ≡ length self.now.history.sessions }
-        ensures apart { (r o : Revision) → (r ≡ o → ⊥) → IsTrue (is_committed self.now.history.past r) → IsTrue (is_committed self.now.history.past o) → IsTrue (are_clashing self.now.history.past r o) → IsTrue (is_in_base self.now.history.past r o) ⊎ IsTrue (is_in_base self.now.history.past o r) }
-        ensures causes { (r : Revision) (item : Item) (o : Revision) → refusal_of self.now.history.past r ≡ Some (item, o) → Cause self.now.history.past r item o }
-        ensures through { (r : Revision) → IsTrue (is_ended self.now.history.past r) → IsUnclashing self.now.history.past r → IsTrue (is_committed self.now.history.past r) ⊎ Wanted self.now.history.past r }
+        ensures apart { (r o : Revision) → (r ≡ o → ⊥)
+            → IsTrue (is_committed self.now.history.past r)
+            → IsTrue (is_committed self.now.history.past o)
+            → IsTrue (are_clashing self.now.history.past r o)
+            → IsTrue (is_in_base self.now.history.past r o)
+            ⊎ IsTrue (is_in_base self.now.history.past o r) }
+        ensures causes { (r : Revision) (item : Item) (o : Revision)
+            → refusal_of self.now.history.past r ≡ Some (item, o)
+            → Cause self.now.history.past r item o }
+        ensures through { (r : Revision) → IsTrue (is_ended self.now.history.past r)
+            → IsUnclashing self.now.history.past r
+            → IsTrue (is_committed self.now.history.past r) ⊎ Wanted self.now.history.past r }
     {
         let _ = &self.journal;
     }
@@ -138,8 +160,12 @@ impl<L: Law + Drop> World<L> {
     /// Of what has ended without a commit no document of a node has an entry but collisions.
     pub fn documents(&self) -> &DocTable
         ensures table { result.now ≡ self.now.table }
-        ensures kept { IsKept (L.may_start self.now.law) (L.may_say self.now.law) (state_of self.now) }
-        ensures undone { (r : Revision) (p : Path) (d : Document) → IsTrue (is_ended self.now.history.past r) → IsFalse (is_committed self.now.history.past r) → nodes_in self.now.table p ≡ Some d → IsFreeOf r d }
+        ensures kept { IsKept (L.may_start self.now.law)
+            (L.may_say self.now.law) (state_of self.now) }
+        ensures undone { (r : Revision) (p : Path) (d : Document)
+            → IsTrue (is_ended self.now.history.past r)
+            → IsFalse (is_committed self.now.history.past r)
+            → nodes_in self.now.table p ≡ Some d → IsFreeOf r d }
     {
         &self.table
     }
@@ -149,11 +175,15 @@ impl<L: Law + Drop> World<L> {
     pub fn pin(&self, actor: u32) -> Option<Pin>
         requires { IsTrue (is_some (slice_get self.now.history.sessions actor)) }
         ensures pin { result ≡ pin_of (memory_of (state_of self.now) actor) actor }
-        ensures base { IsFalse (has_left self.now.history.past actor) → option_map (λ pin. pin.base) result ≡ base_of self.now.history.past actor }
+        ensures base { IsFalse (has_left self.now.history.past actor)
+            → option_map (λ pin. pin.base) result ≡ base_of self.now.history.past actor }
         ensures below { (pin : Pin) → result ≡ Some pin → IsTrue (is_below pin.sweep pin.base) }
-        ensures settled { (pin : Pin) → result ≡ Some pin → IsSettled self.now.history.past pin.base }
+        ensures settled { (pin : Pin) → result ≡ Some pin
+            → IsSettled self.now.history.past pin.base }
         ensures closed { (pin : Pin) → result ≡ Some pin → IsClosed self.now.history.past pin.base }
-        ensures shown { (pin : Pin) (p : Path) → result ≡ Some pin → found_node (documents_in self.now.table.documents) pin.sweep pin.base p ≡ node_at (tree_at None self.now.history.past pin.base) p }
+        ensures shown { (pin : Pin) (p : Path) → result ≡ Some pin
+            → found_node (documents_in self.now.table.documents) pin.sweep pin.base p
+            ≡ node_at (tree_at None self.now.history.past pin.base) p }
     {
         let node = self.node(actor);
         let memory = &self.memories[node as usize - 1];
@@ -164,7 +194,9 @@ impl<L: Law + Drop> World<L> {
     pub fn start(&mut self, actor: u32, task: Task) -> Result<(), AllocError>
         requires idle { IsIdle self.old actor }
         requires may { MayBegin (L.may_start self.old.law) (live self.old.history) actor task }
-        ensures ok { OnOk result ((v : Work) × Begins (pin_of (memory_of (state_of self.old) actor) actor) task v × (self.new ≡ with_work self.old actor v)) }
+        ensures ok { OnOk result ((v : Work)
+            × Begins (pin_of (memory_of (state_of self.old) actor) actor) task v
+            × (self.new ≡ with_work self.old actor v)) }
         ensures err { OnErr result (self.new ≡ self.old) }
     {
         let pin = self.pin(actor);
@@ -182,7 +214,8 @@ impl<L: Law + Drop> World<L> {
         requires there { IsTrue (is_some (slice_get self.old.history.sessions actor)) }
         requires busy { work_in self.old.actors actor ≢ work.Rest }
         ensures made { StepsIn self.old actor self.new result }
-        ensures seen { (name : GName) → Steps (L.may_start self.old.law) (L.may_say self.old.law) (shown_at name self.old actor) (shown_at name self.new actor) result }
+        ensures seen { (name : GName) → Steps (L.may_start self.old.law) (L.may_say self.old.law)
+            (shown_at name self.old actor) (shown_at name self.new actor) result }
         ensures lowers { IsWait result ⊎ (left_in self.new actor < left_in self.old actor) }
     {
         let node = self.node(actor);
@@ -234,7 +267,8 @@ impl<L: Law + Drop> World<L> {
     /// Says the session's next reply, which the law lets it say, and whose bytes are reserved. It can't be refused.
     pub fn say(&mut self, actor: u32, index: u32, text: &str)
         requires idle { IsIdle self.old actor }
-        requires may { HasPlace (L.may_say self.old.law) (live self.old.history) (actor_in self.old.actors actor).reply actor index text.now }
+        requires may { HasPlace (L.may_say self.old.law) (live self.old.history)
+            (actor_in self.old.actors actor).reply actor index text.now }
         ensures { self.new ≡ said_in self.old actor index text.now }
     {
         let seat = &mut self.actors[actor as usize];
@@ -285,7 +319,8 @@ fn are_few(events: &[Event])
 // The memories of so many cluster nodes before any step.
 fn start_memories(alloc: Global, clusters: u32) -> Result<Vec<NodeMem>, AllocError>
     requires { 1 ≤ clusters × clusters ≤ 8 }
-    ensures { IfOk result (λ memories. memories.items ≡ map (λ k. begun k (start clusters)) (range_with_len 1 clusters)) }
+    ensures { IfOk result (λ memories. memories.items
+        ≡ map (λ k. begun k (start clusters)) (range_with_len 1 clusters)) }
 {
     let mut memories = Vec::new(alloc);
     for node in 1..clusters + 1 {

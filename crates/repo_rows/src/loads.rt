@@ -4,7 +4,7 @@ ghost use Rattle.jr_script.specs.Bounds.{IsWithin};
 use crate::scripts::script;
 use jcr_law::JcrLaw;
 use jr_script::Script;
-use jr_work::run_steps;
+use jr_stage::run_steps;
 use oak_world::World;
 use rows::{Out, cut, number};
 use std::alloc::{AllocError, Global};

@@ -10,7 +10,7 @@ use jcr_law::JcrLaw;
 use jr_path::DeepCopy;
 use jr_print::lines;
 use jr_script::{Script, ScriptFault, read_script, scripts_are_within};
-use jr_work::run_steps;
+use jr_stage::run_steps;
 use oak_machine::{Event, Events, Journal};
 use oak_world::World;
 use rows::Out;

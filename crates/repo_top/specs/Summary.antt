@@ -9,7 +9,7 @@ use Rattle.jr_script.specs.declared.script.Script.{Script}
 use Rattle.oak_machine.specs.declared.event.Event.{Event}
 use Rattle.oak_machine.specs.declared.event.Event.TheVariants as event
 use Rattle.oak_machine.specs.History.{History}
-use Rattle.jr_work.specs.Places.{is_commit}
+use Rattle.jr_stage.specs.Places.{is_commit}
 use Rattle.repo_top.specs.declared.summary.Counts.{Counts}
 
 -- a reply says `no`

@@ -1,7 +1,7 @@
 use Rattle.std.proofs.Common.{◌≤◌, ◌∙◌, length, subst, sym}
 use Rattle.seat_lock.specs.Passes.{view_of}
 use Rattle.jr_work.proofs.Turns.{first_stands}
-use Rattle.jr_work.proofs.Within.{few_said}
+use Rattle.jr_stage.proofs.Within.{few_said}
 use Rattle.jr_work.proofs.worker.run_session.Goals as goal
 
 pub session_of-requires : goal.session_of-requires

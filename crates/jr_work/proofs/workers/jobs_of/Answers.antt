@@ -5,7 +5,7 @@ use Rattle.seat_lock.specs.Passes.{view_of}
 use Rattle.jr_work.specs.declared.worker.Job.{Job}
 use Rattle.jr_work.specs.Hands.{IsInHand}
 use Rattle.jr_work.specs.Workers.{AreInOrder, HasHandedOut, IsJob}
-use Rattle.jr_work.proofs.Beginning.{all_yielded, comes_next, goes_over}
+use Rattle.jr_stage.proofs.Beginning.{all_yielded, comes_next, goes_over}
 use Rattle.jr_work.proofs.Orders.{in_order_more}
 use Rattle.jr_work.proofs.workers.jobs_of.Goals as goal
 

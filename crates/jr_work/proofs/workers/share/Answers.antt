@@ -1,7 +1,7 @@
 use Rattle.std.proofs.Common.{refl}
 use Rattle.seat_lock.specs.Passes.{view_of}
 use Rattle.jr_work.proofs.Handing.{begins_out}
-use Rattle.jr_work.proofs.Within.{within_nodes}
+use Rattle.jr_stage.proofs.Within.{within_nodes}
 use Rattle.jr_work.proofs.workers.share.Goals as goal
 
 pub world_of-requires-clause-nodes : goal.world_of-requires-clause-nodes

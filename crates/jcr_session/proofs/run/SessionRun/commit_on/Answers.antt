@@ -3,7 +3,7 @@ use Rattle.jcr_law.specs.Lasting.{says_of, starts_of}
 use Rattle.jcr_session.proofs.Coming.{commit_comes, commits_by, memory_once}
 use Rattle.jcr_session.proofs.Stepping.{commit_again, commit_busy, commit_once, memory_first, refused_busy, refused_stands}
 use Rattle.jcr_session.proofs.Nearer.{once_nearer, twice_nearer}
-use Rattle.jcr_session.specs.Nearing.{EndsSooner}
+use Rattle.jcr_session.proofs.Undrawn.{draws_neither, step_undrawn}
 use Rattle.jcr_session.proofs.run.SessionRun.commit_on.Goals as goal
 
 pub step-requires : goal.step-requires
@@ -49,12 +49,32 @@ returns-in-Memory-clause-steps g c =
     let a = commits_by c.args.self.now.phase c.requires.commits in
     let law = g.P.Port.law c.args.port.now in
     let later = g.P.Port.law c.step.new.self in
-    twice_nearer law (g.P.Port.shown c.args.port.now) (g.P.Port.shown c.step-answer.new.self) c.args.self.now c.committed_on.new.self a.0 c.requires.stands a.1 (EndsSooner (g.P.Port.left c.args.port.now) (g.P.Port.left c.step-answer.new.self) (g.P.Port.shown c.args.port.now))
-    (starts_of law) (starts_of later) (says_of law) (says_of later) (g.P.Port.shown c.step.new.self) c.step.result c.step-answer.result c.committed_on.result c.in-Memory.is c.step.ensures.steps c.step-answer.ensures.steps c.committed_on.ensures.run c.committed_on.ensures.turn
+    twice_nearer (g.P.Port.shown c.args.port.now) (g.P.Port.shown c.step-answer.new.self) c.args.self.now c.committed_on.new.self a.0 a.1 (starts_of law) (says_of law) (starts_of later) (says_of later)
+    (g.P.Port.left c.args.port.now) (g.P.Port.left c.step.new.self) (g.P.Port.left c.step-answer.new.self) (g.P.Port.shown c.step.new.self) c.step.result c.step-answer.result c.committed_on.result c.in-Memory.is
+    c.step.ensures.steps c.step.ensures.lowers c.step-answer.ensures.steps c.step-answer.ensures.lowers c.committed_on.ensures.run c.committed_on.ensures.turn
 
 pub returns-in_default-clause-steps : goal.returns-in_default-clause-steps
 returns-in_default-clause-steps g c =
     let a = commits_by c.args.self.now.phase c.requires.commits in
     let law = g.P.Port.law c.args.port.now in
-    once_nearer law (g.P.Port.shown c.args.port.now) (g.P.Port.shown c.step.new.self) c.args.self.now c.committed_on-in_default.new.self a.0 c.requires.stands a.1 (starts_of law) (says_of law) (g.P.Port.left c.args.port.now) (g.P.Port.left c.step.new.self)
+    once_nearer (g.P.Port.shown c.args.port.now) (g.P.Port.shown c.step.new.self) c.args.self.now c.committed_on-in_default.new.self a.0 a.1 (starts_of law) (says_of law) (g.P.Port.left c.args.port.now) (g.P.Port.left c.step.new.self)
     c.step.result c.committed_on-in_default.result c.step.ensures.steps c.step.ensures.lowers c.committed_on-in_default.ensures.run c.committed_on-in_default.ensures.turn
+
+-- it draws no other
+pub returns-in-Memory-clause-draws : goal.returns-in-Memory-clause-draws
+returns-in-Memory-clause-draws g c =
+    let a = commits_by c.args.self.now.phase c.requires.commits in
+    let law = g.P.Port.law c.args.port.now in
+    let later = g.P.Port.law c.step.new.self in
+    let old = g.P.Port.shown c.args.port.now in
+    let mid = g.P.Port.shown c.step.new.self in
+    let new = g.P.Port.shown c.step-answer.new.self in
+    draws_neither old mid new
+    (step_undrawn law old mid c.args.self.now a.0 c.requires.stands a.1 (starts_of law) (says_of law) c.step.result c.step.ensures.steps)
+    (step_undrawn law mid new c.args.self.now a.0 (refused_stands law old mid c.args.self.now a.0 c.requires.stands a.1 (memory_first law old mid c.step.result c.in-Memory.is c.step.ensures.steps)) a.1 (starts_of later) (says_of later) c.step-answer.result c.step-answer.ensures.steps)
+
+pub returns-in_default-clause-draws : goal.returns-in_default-clause-draws
+returns-in_default-clause-draws g c =
+    let a = commits_by c.args.self.now.phase c.requires.commits in
+    let law = g.P.Port.law c.args.port.now in
+    step_undrawn law (g.P.Port.shown c.args.port.now) (g.P.Port.shown c.step.new.self) c.args.self.now a.0 c.requires.stands a.1 (starts_of law) (says_of law) c.step.result c.step.ensures.steps

@@ -3,6 +3,7 @@ use Rattle.jcr_session.specs.declared.run.Phase.{Phase}
 use Rattle.jcr_session.specs.Standing.{HasEnded, is_committing}
 use Rattle.jcr_session.proofs.Looking.{over_ends}
 use Rattle.jcr_session.proofs.Nearer.{reply_steps, steps_sooner}
+use Rattle.jcr_session.proofs.Undrawn.{reply_undrawn}
 use Rattle.jcr_session.proofs.run.SessionRun.counted.Goals as goal
 
 pub log_in-requires-clause-outside : goal.log_in-requires-clause-outside
@@ -32,3 +33,8 @@ returns-in-Refreshed-clause-steps g c = reply_steps _ _ _ c.say_vector.result c.
 
 pub returns-in-Committed-clause-steps : goal.returns-in-Committed-clause-steps
 returns-in-Committed-clause-steps g c = reply_steps _ _ _ c.say_end.result c.say_end.ensures.said
+
+-- behind a commit the reply draws nothing
+pub returns-in-Committed-clause-draws : goal.returns-in-Committed-clause-draws
+returns-in-Committed-clause-draws g c = λ saving.
+    reply_undrawn (g.P.Port.law c.args.port.now) (g.P.Port.shown c.args.port.now) (g.P.Port.shown c.say_end.new.port) c.args.self.now c.say_end.new.self c.say_end.result c.requires.stands c.say_end.ensures.said c.say_end.ensures.granted c.say_end.ensures.turned

@@ -44,4 +44,4 @@ has_ended-requires g c =
 
 pub returns-clause-steps : goal.returns-clause-steps
 returns-clause-steps g c =
-    further c.args.self.now (record c.args.self.now { phase = phase.Over }) (g.P.Port.shown c.args.port.now).work (g.P.Port.shown c.step.new.self).work kind.End phase.Between c.requires.between refl refl (let lt : 0 < 7 = omega arith in lt)
+    further c.args.self.now (record c.args.self.now { phase = phase.Over }) kind.End phase.Between c.requires.between refl refl (let lt : 0 < 3 = omega arith in lt)

@@ -43,4 +43,4 @@ pinned-requires g c =
 
 pub returns-in-Some-clause-steps : goal.returns-in-Some-clause-steps
 returns-in-Some-clause-steps g c =
-    further c.args.self.now (record c.args.self.now { held = c.move_to.new.self; phase = phase.Between }) (g.P.Port.shown c.args.port.now).work (g.P.Port.shown c.step.new.self).work kind.Login phase.Outside c.requires.outside refl refl (let lt : 7 < 8 = omega arith in lt)
+    further c.args.self.now (record c.args.self.now { held = c.move_to.new.self; phase = phase.Between }) kind.Login phase.Outside c.requires.outside refl refl (let lt : 3 < 4 = omega arith in lt)

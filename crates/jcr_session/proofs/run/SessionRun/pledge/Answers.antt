@@ -60,4 +60,4 @@ returns-in-Err-clause-steps g c = reply_steps _ _ _ c.say_memory.result c.say_me
 
 pub returns-in-Ok-clause-steps : goal.returns-in-Ok-clause-steps
 returns-in-Ok-clause-steps g c =
-    pledged_steps c.args.self.now (record c.args.self.now { phase = phase.Committing c.args.pledge }) c.draw.new.self (g.P.Port.shown c.args.port.now).work (g.P.Port.shown c.draw.new.port).work c.draw.result c.requires.between refl refl refl c.draw.ensures.stays
+    pledged_steps c.args.self.now (record c.args.self.now { phase = phase.Committing c.args.pledge }) c.draw.new.self c.draw.result c.requires.between refl refl refl c.draw.ensures.stays

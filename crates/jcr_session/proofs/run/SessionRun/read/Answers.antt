@@ -4,6 +4,7 @@ use Rattle.jcr_session.specs.Standing.{HasLooked, HasRead, Stands}
 use Rattle.jcr_session.proofs.Loads.{err_with, read_made}
 use Rattle.jcr_session.specs.Nearing.{EndsSooner, HasNeared}
 use Rattle.jcr_session.proofs.Calling.{made_if}
+use Rattle.jcr_session.proofs.Nearing.{nears_sooner}
 use Rattle.jcr_session.proofs.run.SessionRun.read.Goals as goal
 
 -- what is being read is known to be so
@@ -32,10 +33,13 @@ returns-in-None-clause-read g c =
 -- what was being read comes nearer, or something begins to be read
 pub returns-in-Some-clause-nears : goal.returns-in-Some-clause-nears
 returns-in-Some-clause-nears g c =
-    subst (λ (o : Option Need). IfOk c.read_on.result (λ made. made ≡ true → HasNeared (EndsSooner (g.P.Port.left c.args.port.now) (g.P.Port.left c.read_on.new.port) (g.P.Port.shown c.args.port.now)) o c.read_on.new.self)) c.in-Some.ensures.value
+    let p = g.P.Port.shown c.args.port.now in
+    subst (λ (o : Option Need). IfOk c.read_on.result (λ made. made ≡ true → HasNeared (EndsSooner (g.P.Port.left c.args.port.now) (g.P.Port.left c.read_on.new.port) p) (g.P.Port.law c.args.port.now) p (record c.args.self.now { fetch = o }) c.read_on.new.self)) c.in-Some.ensures.value
     (made_if c.read_on.result _ _ (λ made near is. near) c.read_on.ensures.nears)
 
 pub returns-in-None-clause-nears : goal.returns-in-None-clause-nears
 returns-in-None-clause-nears g c =
-    subst (λ (o : Option Need). IfOk c.read_next.result (λ made. made ≡ true → HasNeared (EndsSooner (g.P.Port.left c.args.port.now) (g.P.Port.left c.read_next.new.port) (g.P.Port.shown c.args.port.now)) o c.read_next.new.self)) c.in-None.ensures.value
-    c.read_next.ensures.nears
+    let p = g.P.Port.shown c.args.port.now in
+    let sooner = EndsSooner (g.P.Port.left c.args.port.now) (g.P.Port.left c.read_next.new.port) p in
+    subst (λ (o : Option Need). IfOk c.read_next.result (λ made. made ≡ true → HasNeared sooner (g.P.Port.law c.args.port.now) p (record c.args.self.now { fetch = o }) c.read_next.new.self)) (c.in-None.ensures.after ∙ c.in-None.ensures.value)
+    (made_if c.read_next.result _ _ (λ made near is. nears_sooner sooner (g.P.Port.law c.args.port.now) p (record c.args.self.now { fetch = c.replace.new.dest }) c.read_next.new.self (near is)) c.read_next.ensures.nears)

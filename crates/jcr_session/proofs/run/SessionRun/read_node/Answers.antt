@@ -1,11 +1,13 @@
-use Rattle.std.proofs.Common.{◌≡◌, inl, inr, true, refl, sym, subst, ◌∙◌}
+use Rattle.std.proofs.Common.{refl, sym, subst, ◌∙◌}
 use Rattle.jcr_session.proofs.Loads.{load_found, load_going, load_refused}
 use Rattle.jcr_held.specs.Holds.{Holds}
 use Rattle.jcr_held.specs.declared.held.Held.{Held}
+use Rattle.jcr_held.proofs.Unread.{node_read}
 use Rattle.jcr_law.specs.Lasting.{says_of, starts_of}
-use Rattle.jcr_session.proofs.Nearing.{load_sooner, node_put}
-use Rattle.jr_part.specs.Parts.{knows}
+use Rattle.jcr_session.proofs.Nearing.{found_nears, load_sooner}
+use Rattle.jr_part.specs.Parts.{with_node}
 use Rattle.jr_part.specs.declared.need.Need.TheVariants as need
+use Rattle.jcr_session.specs.Nearing.{EndsSooner}
 use Rattle.jcr_session.proofs.run.SessionRun.read_node.Goals as goal
 
 pub returns-in-Going-clause-looked : goal.returns-in-Going-clause-looked
@@ -26,10 +28,12 @@ returns-in_ok-put_node-in-Found-clause-looked g c =
 
 -- it comes nearer
 pub returns-in-Going-clause-nears : goal.returns-in-Going-clause-nears
-returns-in-Going-clause-nears g c =
-    let law = g.P.Port.law c.args.port.now in
-    inr (refl, load_sooner (starts_of law) (says_of law) (g.P.Port.shown c.args.port.now) (g.P.Port.shown c.step.new.self) c.step.result c.step.ensures.steps (g.P.Port.left c.args.port.now) (g.P.Port.left c.step.new.self) c.step.ensures.lowers (sym c.load_came.ensures ∙ c.in-Going.is))
+returns-in-Going-clause-nears g c = λ x called.
+    (let law = g.P.Port.law c.args.port.now in
+    (refl, load_sooner (starts_of law) (says_of law) (g.P.Port.shown c.args.port.now) (g.P.Port.shown c.step.new.self) c.step.result c.step.ensures.steps (g.P.Port.left c.args.port.now) (g.P.Port.left c.step.new.self) c.step.ensures.lowers (sym c.load_came.ensures ∙ c.in-Going.is)))
 
 pub returns-in_ok-put_node-in-Found-clause-nears : goal.returns-in_ok-put_node-in-Found-clause-nears
 returns-in_ok-put_node-in-Found-clause-nears g c =
-    inl (c.requires.none, subst (λ (h : Held). knows h.part (need.Node c.args.path) ≡ true) (sym c.in_ok-put_node-in-Found.ensures.ok) (node_put c.args.self.now.held.part c.args.path c.in-Found.node))
+    let held = c.args.self.now.held in
+    found_nears (EndsSooner (g.P.Port.left c.args.port.now) (g.P.Port.left c.step.new.self) (g.P.Port.shown c.args.port.now)) (g.P.Port.law c.args.port.now) (g.P.Port.shown c.args.port.now) c.args.self.now (need.Node c.args.path) c.put_node.new.self (record held { part = with_node held.part c.args.path c.in-Found.node })
+    c.requires.stands c.requires.reads c.requires.none c.in_ok-put_node-in-Found.ensures.ok (λ x m wanted. node_read x held m c.args.path c.in-Found.node wanted)

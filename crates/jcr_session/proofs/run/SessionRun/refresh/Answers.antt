@@ -83,7 +83,7 @@ returns-in-None-clause-turned g c =
 -- it comes nearer
 pub returns-in-Some-clause-steps : goal.returns-in-Some-clause-steps
 returns-in-Some-clause-steps g c =
-    further c.args.self.now (record c.args.self.now { held = c.move_to.new.self; phase = phase.Refreshed c.in-Some.pin.base }) (g.P.Port.shown c.args.port.now).work (g.P.Port.shown c.step.new.self).work kind.Pin phase.Between c.requires.between refl refl (let lt : 2 < 7 = omega arith in lt)
+    further c.args.self.now (record c.args.self.now { held = c.move_to.new.self; phase = phase.Refreshed c.in-Some.pin.base }) kind.Pin phase.Between c.requires.between refl refl (let lt : 1 < 3 = omega arith in lt)
 
 pub returns-in-Err-clause-steps : goal.returns-in-Err-clause-steps
 returns-in-Err-clause-steps g c = reply_steps _ _ _ c.say_memory.result c.say_memory.ensures.said

@@ -1,75 +1,141 @@
-use Rattle.std.proofs.Common.{false, sym, ◌∙◌, refl, subst}
+use Rattle.std.proofs.Common.{◌≡◌, ℕ, sym, refl, subst, false, ◌∙◌}
 use Rattle.jcr_session.proofs.Calling.{forgo_law, stands_law, turned_law}
 use Rattle.jcr_session.proofs.Lawful.{idle_by}
 use Rattle.jcr_session.proofs.Looking.{looked_reads, refused_forgoes, turned_behind}
 use Rattle.jcr_session.proofs.Nexts.{reads_between, reads_unsaving}
-use Rattle.jcr_session.proofs.Nearer.{left_looked, reply_steps, steps_sooner, turn_nearer}
-use Rattle.jcr_session.specs.Nearing.{EndsSooner, Left, StepsOn, left_of}
+use Rattle.jcr_session.proofs.Nearer.{counted_reads, counted_turns, left_looked, reply_steps, steps_sooner, turn_nearer}
+use Rattle.jcr_session.specs.Nearing.{CommitsSooner, EndsSooner, StepsOn, left_of}
 use Rattle.jcr_session.proofs.run.SessionRun.turn.Goals as goal
 
+-- no reading step can be due
+pub returns-then-not-may_read-clause-turned : goal.returns-then-not-may_read-clause-turned
+returns-then-not-may_read-clause-turned g c =
+    counted_turns (g.P.Port.law c.args.port.now) (g.P.Port.shown c.args.port.now) (g.P.Port.shown c.counted.new.port) c.args.self.now c.counted.new.self c.counted.result c.counted.ensures.turned
+
+pub returns-then-not-may_read-clause-nears : goal.returns-then-not-may_read-clause-nears
+returns-then-not-may_read-clause-nears g c =
+    turn_nearer (g.P.Port.law c.args.port.now) (g.P.Port.shown c.args.port.now) (g.P.Port.shown c.counted.new.port) c.args.self.now c.counted.new.self (CommitsSooner (g.P.Port.left c.args.port.now) (g.P.Port.left c.counted.new.port) (g.P.Port.shown c.args.port.now) c.args.self.now)
+    c.counted.result c.requires.stands c.counted.ensures.turned c.counted.ensures.steps
+
+pub returns-then-not-may_read-clause-reads : goal.returns-then-not-may_read-clause-reads
+returns-then-not-may_read-clause-reads g c =
+    counted_reads (g.P.Port.law c.args.port.now) (g.P.Port.shown c.args.port.now) (g.P.Port.shown c.counted.new.port) c.args.self.now c.counted.new.self (EndsSooner (g.P.Port.left c.args.port.now) (g.P.Port.left c.counted.new.port) (g.P.Port.shown c.args.port.now)) c.counted.result c.counted.ensures.turned
+
+-- a reading step was made
+pub returns-in-Ok-true-clause-turned : goal.returns-in-Ok-true-clause-turned
+returns-in-Ok-true-clause-turned g c = (c.read.ensures.looked, sym c.may_read.ensures ∙ c.if-not-may_read.false)
+
+pub returns-in-Ok-true-clause-reads : goal.returns-in-Ok-true-clause-reads
+returns-in-Ok-true-clause-reads g c = c.in-Ok-true.ensures.nears c.in-Ok-true.field-0-test
+
+pub returns-in-Ok-true-clause-draws : goal.returns-in-Ok-true-clause-draws
+returns-in-Ok-true-clause-draws g c = λ saving. reads_unsaving c.args.self.now (sym c.may_read.ensures ∙ c.if-not-may_read.false) saving
+
+-- none was due
 pub go_on-requires-clause-stands : goal.go_on-requires-clause-stands
 go_on-requires-clause-stands g c =
-    stands_law (g.P.Port.law c.args.port.now) (g.P.Port.law c.read_all.new.port) c.read_all.ensures.law (g.P.Port.shown c.read_all.new.port) c.read_all.new.self c.read_all.ensures.looked.stands
+    stands_law (g.P.Port.law c.args.port.now) (g.P.Port.law c.read.new.port) c.read.ensures.law (g.P.Port.shown c.read.new.port) c.read.new.self c.read.ensures.looked.stands
 
 pub go_on-requires-clause-reads : goal.go_on-requires-clause-reads
 go_on-requires-clause-reads g c =
-    looked_reads (g.P.Port.law c.args.port.now) (g.P.Port.shown c.args.port.now) (g.P.Port.shown c.read_all.new.port) c.args.self.now c.read_all.new.self c.read_all.ensures.looked ∙ (sym c.may_read.ensures ∙ c.if-not-may_read.false)
+    looked_reads (g.P.Port.law c.args.port.now) (g.P.Port.shown c.args.port.now) (g.P.Port.shown c.read.new.port) c.args.self.now c.read.new.self c.read.ensures.looked ∙ (sym c.may_read.ensures ∙ c.if-not-may_read.false)
 
 pub go_on-requires-clause-ready : goal.go_on-requires-clause-ready
-go_on-requires-clause-ready g c = c.in-Ok-true.ensures.ok c.in-Ok-true.field-0-test
+go_on-requires-clause-ready g c = c.in-Ok-false.ensures.read.prepared c.in-Ok-false.field-0-test (sym c.may_read.ensures ∙ c.if-not-may_read.false)
 
-pub returns-in-Ok-true-clause-turned : goal.returns-in-Ok-true-clause-turned
-returns-in-Ok-true-clause-turned g c =
-    let mid = g.P.Port.shown c.read_all.new.port in
+pub returns-in-Ok-false-clause-turned : goal.returns-in-Ok-false-clause-turned
+returns-in-Ok-false-clause-turned g c =
+    let law = g.P.Port.law c.args.port.now in
+    let old = g.P.Port.shown c.args.port.now in
+    let mid = g.P.Port.shown c.read.new.port in
+    let new = g.P.Port.shown c.go_on.new.port in
     let reads = sym c.may_read.ensures ∙ c.if-not-may_read.false in
-    let looked = c.read_all.ensures.looked in
-    turned_behind (g.P.Port.law c.args.port.now) (g.P.Port.shown c.args.port.now) mid (g.P.Port.shown c.go_on.new.port) c.args.self.now c.read_all.new.self c.go_on.new.self c.go_on.result c.requires.stands reads looked
-    (idle_by (g.P.Port.law c.args.port.now) mid c.read_all.new.self looked.stands (looked.same.phase ∙ reads_between c.args.self.now reads) (c.in-Ok-true.ensures.ok c.in-Ok-true.field-0-test).done)
-    (turned_law (g.P.Port.law c.args.port.now) (g.P.Port.law c.read_all.new.port) c.read_all.ensures.law mid (g.P.Port.shown c.go_on.new.port) c.read_all.new.self c.go_on.new.self c.go_on.result c.go_on.ensures.turned)
+    counted_turns law old new c.args.self.now c.go_on.new.self c.go_on.result
+    (turned_behind law old mid new c.args.self.now c.read.new.self c.go_on.new.self c.go_on.result c.requires.stands reads c.read.ensures.looked
+    (idle_by law mid c.read.new.self c.read.ensures.looked.stands (c.read.ensures.looked.same.phase ∙ reads_between c.args.self.now reads) (c.in-Ok-false.ensures.read.prepared c.in-Ok-false.field-0-test reads).done)
+    (turned_law law (g.P.Port.law c.read.new.port) c.read.ensures.law mid new c.read.new.self c.go_on.new.self c.go_on.result c.go_on.ensures.turned))
+
+pub returns-in-Ok-false-clause-nears : goal.returns-in-Ok-false-clause-nears
+returns-in-Ok-false-clause-nears g c =
+    let law = g.P.Port.law c.args.port.now in
+    let old = g.P.Port.shown c.args.port.now in
+    let mid = g.P.Port.shown c.read.new.port in
+    let new = g.P.Port.shown c.go_on.new.port in
+    let reads = sym c.may_read.ensures ∙ c.if-not-may_read.false in
+    let sooner = CommitsSooner (g.P.Port.left c.args.port.now) (g.P.Port.left c.go_on.new.port) old c.args.self.now in
+    turn_nearer law old new c.args.self.now c.go_on.new.self sooner c.go_on.result c.requires.stands
+    (turned_behind law old mid new c.args.self.now c.read.new.self c.go_on.new.self c.go_on.result c.requires.stands reads c.read.ensures.looked
+    (idle_by law mid c.read.new.self c.read.ensures.looked.stands (c.read.ensures.looked.same.phase ∙ reads_between c.args.self.now reads) (c.in-Ok-false.ensures.read.prepared c.in-Ok-false.field-0-test reads).done)
+    (turned_law law (g.P.Port.law c.read.new.port) c.read.ensures.law mid new c.read.new.self c.go_on.new.self c.go_on.result c.go_on.ensures.turned))
+    (steps_sooner sooner (left_of c.args.self.now) (left_of c.go_on.new.self) c.go_on.result
+    (subst (λ (n : ℕ). StepsOn ⊥ n (left_of c.go_on.new.self) c.go_on.result) (left_looked c.args.self.now c.read.new.self c.read.ensures.looked.same) c.go_on.ensures.steps))
+
+pub returns-in-Ok-false-clause-reads : goal.returns-in-Ok-false-clause-reads
+returns-in-Ok-false-clause-reads g c =
+    let law = g.P.Port.law c.args.port.now in
+    let old = g.P.Port.shown c.args.port.now in
+    let mid = g.P.Port.shown c.read.new.port in
+    let new = g.P.Port.shown c.go_on.new.port in
+    let reads = sym c.may_read.ensures ∙ c.if-not-may_read.false in
+    counted_reads law old new c.args.self.now c.go_on.new.self (EndsSooner (g.P.Port.left c.args.port.now) (g.P.Port.left c.go_on.new.port) old) c.go_on.result
+    (turned_behind law old mid new c.args.self.now c.read.new.self c.go_on.new.self c.go_on.result c.requires.stands reads c.read.ensures.looked
+    (idle_by law mid c.read.new.self c.read.ensures.looked.stands (c.read.ensures.looked.same.phase ∙ reads_between c.args.self.now reads) (c.in-Ok-false.ensures.read.prepared c.in-Ok-false.field-0-test reads).done)
+    (turned_law law (g.P.Port.law c.read.new.port) c.read.ensures.law mid new c.read.new.self c.go_on.new.self c.go_on.result c.go_on.ensures.turned))
+
+-- a session that reads isn't in its commit
+pub returns-in-Ok-false-clause-granted : goal.returns-in-Ok-false-clause-granted
+returns-in-Ok-false-clause-granted g c = λ saving. reads_unsaving c.args.self.now (sym c.may_read.ensures ∙ c.if-not-may_read.false) saving
+
+pub returns-in-Ok-false-clause-draws : goal.returns-in-Ok-false-clause-draws
+returns-in-Ok-false-clause-draws g c = λ saving. reads_unsaving c.args.self.now (sym c.may_read.ensures ∙ c.if-not-may_read.false) saving
 
 -- memory was refused for reading
 pub say_memory-requires : goal.say_memory-requires
 say_memory-requires g c =
-    let mid = g.P.Port.shown c.read_all.new.port in
-    record { forgoes = forgo_law (g.P.Port.law c.args.port.now) (g.P.Port.law c.read_all.new.port) c.read_all.ensures.law mid c.read_all.new.self false (refused_forgoes (g.P.Port.law c.args.port.now) mid c.read_all.new.self c.read_all.ensures.looked.stands c.in-Err.ensures.err) }
+    let mid = g.P.Port.shown c.read.new.port in
+    record { forgoes = forgo_law (g.P.Port.law c.args.port.now) (g.P.Port.law c.read.new.port) c.read.ensures.law mid c.read.new.self false (refused_forgoes (g.P.Port.law c.args.port.now) mid c.read.new.self c.read.ensures.looked.stands c.in-Err.ensures.err.1) }
 
 pub returns-in-Err-clause-turned : goal.returns-in-Err-clause-turned
 returns-in-Err-clause-turned g c =
-    let mid = g.P.Port.shown c.read_all.new.port in
-    turned_behind (g.P.Port.law c.args.port.now) (g.P.Port.shown c.args.port.now) mid (g.P.Port.shown c.say_memory.new.port) c.args.self.now c.read_all.new.self c.say_memory.new.self c.say_memory.result c.requires.stands (sym c.may_read.ensures ∙ c.if-not-may_read.false) c.read_all.ensures.looked
-    c.in-Err.ensures.err.idle
-    (turned_law (g.P.Port.law c.args.port.now) (g.P.Port.law c.read_all.new.port) c.read_all.ensures.law mid (g.P.Port.shown c.say_memory.new.port) c.read_all.new.self c.say_memory.new.self c.say_memory.result c.say_memory.ensures.turned)
-
--- a session that reads isn't in its commit
-pub returns-in-Ok-true-clause-granted : goal.returns-in-Ok-true-clause-granted
-returns-in-Ok-true-clause-granted g c = λ saving. reads_unsaving c.args.self.now (sym c.may_read.ensures ∙ c.if-not-may_read.false) saving
-
-pub returns-in-Ok-false-clause-granted : goal.returns-in-Ok-false-clause-granted
-returns-in-Ok-false-clause-granted g c = λ saving. reads_unsaving c.args.self.now (sym c.may_read.ensures ∙ c.if-not-may_read.false) saving
-
-pub returns-in-Err-clause-granted : goal.returns-in-Err-clause-granted
-returns-in-Err-clause-granted g c = λ saving. reads_unsaving c.args.self.now (sym c.may_read.ensures ∙ c.if-not-may_read.false) saving
-
--- it comes nearer
-pub returns-then-not-may_read-clause-nears : goal.returns-then-not-may_read-clause-nears
-returns-then-not-may_read-clause-nears g c =
-    turn_nearer (g.P.Port.law c.args.port.now) (g.P.Port.shown c.args.port.now) (g.P.Port.shown c.counted.new.port) c.args.self.now c.counted.new.self (EndsSooner (g.P.Port.left c.args.port.now) (g.P.Port.left c.counted.new.port) (g.P.Port.shown c.args.port.now))
-    (left_of c.args.self.now (g.P.Port.shown c.args.port.now).work) (left_of c.counted.new.self (g.P.Port.shown c.counted.new.port).work) (g.P.Port.shown c.args.port.now).work (g.P.Port.shown c.counted.new.port).work c.counted.result c.requires.stands c.counted.ensures.turned refl refl c.counted.ensures.steps
-
-pub returns-in-Ok-true-clause-nears : goal.returns-in-Ok-true-clause-nears
-returns-in-Ok-true-clause-nears g c =
-    let sooner = EndsSooner (g.P.Port.left c.args.port.now) (g.P.Port.left c.go_on.new.port) (g.P.Port.shown c.args.port.now) in
-    let before = left_of c.args.self.now (g.P.Port.shown c.args.port.now).work in
-    let later = left_of c.go_on.new.self (g.P.Port.shown c.go_on.new.port).work in
-    turn_nearer (g.P.Port.law c.args.port.now) (g.P.Port.shown c.args.port.now) (g.P.Port.shown c.go_on.new.port) c.args.self.now c.go_on.new.self sooner before later (g.P.Port.shown c.args.port.now).work (g.P.Port.shown c.go_on.new.port).work c.go_on.result c.requires.stands (returns-in-Ok-true-clause-turned g c) refl refl
-    (steps_sooner sooner before later c.go_on.result
-    (subst (λ (x : Left). StepsOn ⊥ x later c.go_on.result)
-    (left_looked c.args.self.now c.read_all.new.self (g.P.Port.shown c.args.port.now).work (g.P.Port.shown c.read_all.new.port).work c.read_all.ensures.looked.same (reads_between c.args.self.now (sym c.may_read.ensures ∙ c.if-not-may_read.false))) c.go_on.ensures.steps))
+    let law = g.P.Port.law c.args.port.now in
+    let old = g.P.Port.shown c.args.port.now in
+    let mid = g.P.Port.shown c.read.new.port in
+    let new = g.P.Port.shown c.say_memory.new.port in
+    let reads = sym c.may_read.ensures ∙ c.if-not-may_read.false in
+    counted_turns law old new c.args.self.now c.say_memory.new.self c.say_memory.result
+    (turned_behind law old mid new c.args.self.now c.read.new.self c.say_memory.new.self c.say_memory.result c.requires.stands reads c.read.ensures.looked
+    c.in-Err.ensures.err.1.idle
+    (turned_law law (g.P.Port.law c.read.new.port) c.read.ensures.law mid new c.read.new.self c.say_memory.new.self c.say_memory.result c.say_memory.ensures.turned))
 
 pub returns-in-Err-clause-nears : goal.returns-in-Err-clause-nears
 returns-in-Err-clause-nears g c =
-    let sooner = EndsSooner (g.P.Port.left c.args.port.now) (g.P.Port.left c.say_memory.new.port) (g.P.Port.shown c.args.port.now) in
-    let before = left_of c.args.self.now (g.P.Port.shown c.args.port.now).work in
-    let later = left_of c.say_memory.new.self (g.P.Port.shown c.say_memory.new.port).work in
-    turn_nearer (g.P.Port.law c.args.port.now) (g.P.Port.shown c.args.port.now) (g.P.Port.shown c.say_memory.new.port) c.args.self.now c.say_memory.new.self sooner before later (g.P.Port.shown c.args.port.now).work (g.P.Port.shown c.say_memory.new.port).work c.say_memory.result c.requires.stands (returns-in-Err-clause-turned g c) refl refl
-    (reply_steps sooner before later c.say_memory.result c.say_memory.ensures.said)
+    let law = g.P.Port.law c.args.port.now in
+    let old = g.P.Port.shown c.args.port.now in
+    let mid = g.P.Port.shown c.read.new.port in
+    let new = g.P.Port.shown c.say_memory.new.port in
+    let reads = sym c.may_read.ensures ∙ c.if-not-may_read.false in
+    let sooner = CommitsSooner (g.P.Port.left c.args.port.now) (g.P.Port.left c.say_memory.new.port) old c.args.self.now in
+    turn_nearer law old new c.args.self.now c.say_memory.new.self sooner c.say_memory.result c.requires.stands
+    (turned_behind law old mid new c.args.self.now c.read.new.self c.say_memory.new.self c.say_memory.result c.requires.stands reads c.read.ensures.looked
+    c.in-Err.ensures.err.1.idle
+    (turned_law law (g.P.Port.law c.read.new.port) c.read.ensures.law mid new c.read.new.self c.say_memory.new.self c.say_memory.result c.say_memory.ensures.turned))
+    (reply_steps sooner (left_of c.args.self.now) (left_of c.say_memory.new.self) c.say_memory.result c.say_memory.ensures.said)
+
+pub returns-in-Err-clause-reads : goal.returns-in-Err-clause-reads
+returns-in-Err-clause-reads g c =
+    let law = g.P.Port.law c.args.port.now in
+    let old = g.P.Port.shown c.args.port.now in
+    let mid = g.P.Port.shown c.read.new.port in
+    let new = g.P.Port.shown c.say_memory.new.port in
+    let reads = sym c.may_read.ensures ∙ c.if-not-may_read.false in
+    counted_reads law old new c.args.self.now c.say_memory.new.self (EndsSooner (g.P.Port.left c.args.port.now) (g.P.Port.left c.say_memory.new.port) old) c.say_memory.result
+    (turned_behind law old mid new c.args.self.now c.read.new.self c.say_memory.new.self c.say_memory.result c.requires.stands reads c.read.ensures.looked
+    c.in-Err.ensures.err.1.idle
+    (turned_law law (g.P.Port.law c.read.new.port) c.read.ensures.law mid new c.read.new.self c.say_memory.new.self c.say_memory.result c.say_memory.ensures.turned))
+
+-- a session that reads isn't in its commit
+pub returns-in-Err-clause-granted : goal.returns-in-Err-clause-granted
+returns-in-Err-clause-granted g c = λ saving. reads_unsaving c.args.self.now (sym c.may_read.ensures ∙ c.if-not-may_read.false) saving
+
+pub returns-in-Err-clause-draws : goal.returns-in-Err-clause-draws
+returns-in-Err-clause-draws g c = λ saving. reads_unsaving c.args.self.now (sym c.may_read.ensures ∙ c.if-not-may_read.false) saving

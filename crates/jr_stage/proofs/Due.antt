@@ -1,0 +1,48 @@
+-- A last write is due only to a commit under way.
+use Rattle.std.proofs.Common.{◌≡◌, Bool, true, false, Some, None, Option, refl}
+use mathlib.Core.Bool.{false≢true}
+use Rattle.jr_rev.specs.declared.revision.Revision.{Revision}
+use Rattle.oak_commit.specs.declared.outcome.CommitEnd.{CommitEnd}
+use Rattle.oak_commit.specs.declared.outcome.CommitEnd.TheVariants as end
+use Rattle.oak_port.specs.Ports.{Deciding, Undoing, Work as Shows, Writing}
+use Rattle.oak_step.specs.declared.work.Work.{Work}
+use Rattle.oak_step.specs.declared.work.Work.TheVariants as work
+use Rattle.oak_step.specs.declared.upkeep.Upkeep.{Upkeep}
+use Rattle.oak_step.specs.declared.upkeep.Upkeep.TheVariants as upkeep
+use Rattle.oak_step.specs.Upkeeps.{kind_kept}
+use Rattle.oak_world.specs.Seen.{shown_by, shown_work}
+use Rattle.oak_step.specs.Works.{kind_due}
+use Rattle.jr_stage.specs.SoFar.{is_last_due}
+
+abbrev pub at_commit : Shows → Bool
+at_commit (Writing r) = true
+at_commit (Undoing r e) = true
+at_commit (Deciding r) = true
+at_commit w = false
+
+commits : (r : Revision) (o : Option CommitEnd) → at_commit (shown_by r o) ≡ true
+commits r None = refl
+commits r (Some (end.Committed q)) = refl
+commits r (Some (end.Clash item q)) = refl
+commits r (Some end.Memory) = refl
+
+-- background work, and a change of the settings, make no last write
+upkeep_commits : (u : Upkeep) → is_last_due (Some (kind_kept u)) ≡ true → ⊥
+upkeep_commits upkeep.Write h = false≢true h
+upkeep_commits (upkeep.Noted n) h = false≢true h
+upkeep_commits (upkeep.Publish ids r) h = false≢true h
+upkeep_commits upkeep.Read h = false≢true h
+upkeep_commits (upkeep.Learn last sweep) h = false≢true h
+upkeep_commits (upkeep.Checkpoint i) h = false≢true h
+upkeep_commits (upkeep.Release i) h = false≢true h
+
+pub last_commits : (w : Work) → is_last_due (kind_due w) ≡ true → at_commit (shown_work w) ≡ true
+last_commits work.Rest h = absurd (false≢true h)
+last_commits work.Login h = absurd (false≢true h)
+last_commits work.End h = absurd (false≢true h)
+last_commits work.Refresh h = absurd (false≢true h)
+last_commits (work.Read r) h = absurd (false≢true h)
+last_commits (work.Plan edit marks) h = absurd (false≢true h)
+last_commits (work.Commit c) h = commits c.revision c.outcome
+last_commits (work.Move r) h = absurd (false≢true h)
+last_commits (work.Upkeep u) h = absurd (upkeep_commits u h)

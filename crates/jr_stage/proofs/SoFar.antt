@@ -1,0 +1,334 @@
+-- How a cut grows by steps, and how parts end.
+use Rattle.std.proofs.Common.{◌≡◌, ◌⊎◌, inl, inr, ℕ, Bool, true, false, cond, not, ◌||◌, ◌&&◌, Some, None, Option, List, [], ◌∷◌, ◌++◌, refl, sym, ap, ◌∙◌, subst, arith}
+use Rattle.std.specs.Prelude.{◌==◌, nat_le, reverse}
+use Rattle.std.specs.Option.{option_map_or}
+use Rattle.std.specs.List.{count_by}
+use Rattle.std.proofs.lemmas.Bool.Decides.{nat_tests}
+use Rattle.std.proofs.lemmas.List.{reverse-append, reverse-reverse}
+use mathlib.Core.Bool.{false≢true}
+use Rattle.jr_rev.specs.declared.revision.Revision.{Revision}
+use Rattle.oak_machine.specs.declared.event.Draw.{Draw}
+use Rattle.oak_machine.specs.declared.event.Event.{Event}
+use Rattle.oak_machine.specs.declared.event.Event.TheVariants as event
+use Rattle.oak_machine.specs.declared.event.StepKind.{StepKind}
+use Rattle.oak_machine.specs.History.{Past}
+use Rattle.oak_machine.specs.Commits.{draw_of}
+use Rattle.oak_machine.specs.Laws.{is_revision_of}
+use Rattle.oak_machine.specs.Sessions.{is_drawing, is_reply_of}
+use Rattle.jr_script.specs.declared.script.Script.{Script}
+use Rattle.jr_script.specs.declared.script.Entry.TheVariants as entry
+use Rattle.jr_stage.specs.Places.{is_at_last, is_commit, is_next, is_of_task, is_of_turn, is_on, is_own, is_over, is_resting, is_waiting, is_write_or_mark, next_of}
+use Rattle.jr_stage.specs.Parts.{Rule, by_entry, to_reply, to_end, Part, session_of, is_done, is_part, is_turn, may_end, must_end, events_of, IsCut}
+use Rattle.jr_stage.specs.Growing.{StayParts, StaysPart, is_quiet}
+use Rattle.jr_stage.specs.SoFar.{AreQuiet, IsCutSoFar, IsDouble, IsQuiet, IsQuietNext, IsSingle, IsStepAt, IsUnderWay, is_last_due}
+use Rattle.jr_stage.proofs.Flying.{idle_not_at_last, none_is_some}
+use Rattle.jr_stage.proofs.Growing.{cut_grows, next_stays, part_grows}
+
+-- ---- lists
+
+append_nil : {X : Type 0} (a : List X) → a ++ [] ≡ a
+append_nil [] = refl
+append_nil (x ∷ a) = ap (λ l. x ∷ l) (append_nil a)
+
+append_assoc : {X : Type 0} (a b c : List X) → (a ++ b) ++ c ≡ a ++ (b ++ c)
+append_assoc [] b c = refl
+append_assoc (x ∷ a) b c = ap (λ l. x ∷ l) (append_assoc a b c)
+
+-- ---- an event is of one session
+
+module _ (past : Past) (s t : ℕ) (others : (s == t) ≡ false) where
+  not_equal : (a : ℕ) → (a == t) ≡ true → (a == s) ≡ false
+  not_equal a h = grind (arith, nat_tests)
+
+  not_theirs : (r : Revision) → is_revision_of past t r ≡ true → is_revision_of past s r ≡ false
+  not_theirs r h = by (draw_of past r) refl h
+    where
+      by : (o : Option Draw) → draw_of past r ≡ o → option_map_or (λ x. x.session == t) o false ≡ true → is_revision_of past s r ≡ false
+      by None is k = absurd (false≢true k)
+      by (Some d) is k = ap (λ (o : Option Draw). option_map_or (λ x. x.session == s) o false) is ∙ not_equal d.session k
+
+  pub one_session : (e : Event) → is_own past t e ≡ true → is_own past s e ≡ false
+  one_session (event.Login a v) h = not_equal a h
+  one_session (event.Refresh a v) h = not_equal a h
+  one_session (event.Draw d) h = not_equal d.session h
+  one_session (event.Commit r) h = not_theirs r h
+  one_session (event.Refuse r item o) h = not_theirs r h
+  one_session (event.End r) h = not_theirs r h
+  one_session (event.Attach a id) h = not_equal a h
+  one_session (event.Detach a) h = not_equal a h
+  one_session (event.Split a path e) h = not_equal a h
+  one_session (event.Collected a c) h = not_equal a h
+  one_session (event.Went a k) h = not_equal a h
+  one_session (event.Said a i text) h = not_equal a h
+  one_session e h = absurd (false≢true h)
+
+-- ---- what is next
+
+behind : (e : Event) (later past : Past) → reverse (e ∷ later) ++ past ≡ reverse later ++ (e ∷ past)
+behind e later past = ap (λ l. l ++ past) (reverse-append (e ∷ []) later) ∙ append_assoc (reverse later) (e ∷ []) past
+
+next_behind : (past : Past) (s : ℕ) (later more : List Event) → next_of past s later ≡ None → next_of past s (later ++ more) ≡ next_of (reverse later ++ past) s more
+next_behind past s [] more h = refl
+next_behind past s (e ∷ later) more h = elim (is_own past s e) as (λ b. cond b (Some e) (next_of (e ∷ past) s later) ≡ None → cond b (Some e) (next_of (e ∷ past) s (later ++ more)) ≡ next_of (reverse (e ∷ later) ++ past) s more) [
+  | true ↦ λ k. none_is_some e (sym k)
+  | false ↦ λ k. next_behind (e ∷ past) s later more k ∙ ap (λ q. next_of q s more) (sym (behind e later past))
+] h
+
+-- ---- what keeps closed parts
+
+is_quiet_by : (script : Script) (due : ℕ → Option StepKind) (s : ℕ) (before part : Past) (later : List Event) → (is_done script (by_entry (entry.Last s)) before part ≡ true) ⊎ IsQuietNext (next_of (part ++ before) s later) (due s) → is_quiet script (by_entry (entry.Last s)) s before part later ≡ true
+is_quiet_by script due s before part later (inl done) = ap (λ b. b || not (is_next is_write_or_mark (part ++ before) s later)) done
+is_quiet_by script due s before part later (inr next) = by (next_of (part ++ before) s later) refl next
+  where
+    or_later : (a b : Bool) → b ≡ true → (a || b) ≡ true
+    or_later true b h = refl
+    or_later false b h = h
+
+    by : (o : Option Event) → next_of (part ++ before) s later ≡ o → IsQuietNext o (due s) → is_quiet script (by_entry (entry.Last s)) s before part later ≡ true
+    by (Some e) is quiet = or_later (is_done script (by_entry (entry.Last s)) before part) _ (ap (λ (o : Option Event). not (option_map_or is_write_or_mark o false)) is ∙ ap not quiet)
+    by None is quiet = or_later (is_done script (by_entry (entry.Last s)) before part) _ (ap (λ (o : Option Event). not (option_map_or is_write_or_mark o false)) is)
+
+stays_by : (script : Script) (due : ℕ → Option StepKind) (rule : Rule) (before part : Past) (later : List Event) → IsQuiet script due rule before part later → StaysPart script rule before part later
+stays_by script due (by_entry (entry.Last s)) before part later (knows, quiet) = (knows, is_quiet_by script due s before part later quiet)
+stays_by script due (by_entry (entry.Turn s)) before part later quiet = tt
+stays_by script due (by_entry (entry.Say s n)) before part later quiet = tt
+stays_by script due (by_entry (entry.Draw s)) before part later quiet = tt
+stays_by script due (by_entry (entry.Write s n)) before part later quiet = tt
+stays_by script due (by_entry (entry.Read s)) before part later quiet = tt
+stays_by script due (to_reply s) before part later quiet = tt
+stays_by script due (to_end s) before part later quiet = tt
+
+pub stay_of_quiet : (script : Script) (due : ℕ → Option StepKind) (parts : List Part) (later : List Event) → AreQuiet script due parts later → StayParts script parts later
+stay_of_quiet script due [] later quiet = tt
+stay_of_quiet script due (p ∷ parts) later quiet = (stays_by script due p.rule (events_of parts) p.events later quiet.0, stay_of_quiet script due parts (reverse p.events ++ later) quiet.1)
+
+-- ---- a step of session t
+
+module _ (script : Script) (due now : ℕ → Option StepKind) (t : ℕ) (past own : Past) (step : IsStepAt script past t (due t) own) (others : (s : ℕ) → (s == t) ≡ false → now s ≡ due s) where
+  equal : (a b : ℕ) → (a == b) ≡ true → a ≡ b
+  equal a b h = grind (arith, nat_tests)
+
+  -- what is next once the step is made, where nothing was
+  next_own : (e : Event) (s : ℕ) (more : List Event) → is_own past s e ≡ true → next_of past s (e ∷ more) ≡ Some e
+  next_own e s more h = ap (λ b. cond b (Some e) (next_of (e ∷ past) s more)) h
+
+  next_other : (e : Event) (s : ℕ) (more : List Event) → is_own past s e ≡ false → next_of past s (e ∷ more) ≡ next_of (e ∷ past) s more
+  next_other e s more h = ap (λ b. cond b (Some e) (next_of (e ∷ past) s more)) h
+
+  quiet_step : (s : ℕ) → is_last_due (due s) ≡ true → IsQuietNext (next_of past s (reverse own)) (now s)
+  quiet_step s last = elim (s == t) as (λ b. (s == t) ≡ b → IsQuietNext (next_of past s (reverse own)) (now s)) [
+    | true ↦ λ same. subst (λ (n : ℕ). IsQuietNext (next_of past n (reverse own)) (now n)) (sym (equal s t same)) (mine (subst (λ (n : ℕ). is_last_due (due n) ≡ true) (equal s t same) last) step.events)
+    | false ↦ λ other. theirs other step.events
+  ] refl
+    where
+      mine : is_last_due (due t) ≡ true → IsSingle past t own ⊎ IsDouble script past t own → IsQuietNext (next_of past t (reverse own)) (now t)
+      mine last (inl one) =
+          subst (λ (o : Past). IsQuietNext (next_of past t (reverse o)) (now t)) (sym one.is)
+          (subst (λ (o : Option Event). IsQuietNext o (now t)) (sym (next_own one.event t [] one.theirs)) (step.written one.event one.is last))
+      mine last (inr two) =
+          subst (λ (o : Past). IsQuietNext (next_of past t (reverse o)) (now t)) (sym two.is)
+          (subst (λ (o : Option Event). IsQuietNext o (now t)) (sym (next_own (event.End two.revision) t (event.Head two.cluster two.head ∷ []) two.theirs)) refl)
+
+      theirs : (s == t) ≡ false → IsSingle past t own ⊎ IsDouble script past t own → IsQuietNext (next_of past s (reverse own)) (now s)
+      theirs other (inl one) =
+          subst (λ (o : Past). IsQuietNext (next_of past s (reverse o)) (now s)) (sym one.is)
+          (subst (λ (o : Option Event). IsQuietNext o (now s)) (sym (next_other one.event s [] (one_session past s t other one.event one.theirs)))
+          (subst (λ (d : Option StepKind). is_last_due d ≡ true) (sym (others s other)) last))
+      theirs other (inr two) =
+          subst (λ (o : Past). IsQuietNext (next_of past s (reverse o)) (now s)) (sym two.is)
+          (subst (λ (o : Option Event). IsQuietNext o (now s)) (sym (next_other (event.End two.revision) s (event.Head two.cluster two.head ∷ []) (one_session past s t other (event.End two.revision) two.theirs)))
+          (subst (λ (d : Option StepKind). is_last_due d ≡ true) (sym (others s other)) last))
+
+  quiet_next : (q : Past) (s : ℕ) (later : List Event) → past ≡ reverse later ++ q → IsQuietNext (next_of q s later) (due s) → IsQuietNext (next_of q s (later ++ reverse own)) (now s)
+  quiet_next q s later whole quiet = by (next_of q s later) refl quiet
+    where
+      by : (o : Option Event) → next_of q s later ≡ o → IsQuietNext o (due s) → IsQuietNext (next_of q s (later ++ reverse own)) (now s)
+      by (Some e) is h = subst (λ (o : Option Event). IsQuietNext o (now s)) (sym (next_stays q s later (reverse own) e is)) h
+      by None is h = subst (λ (o : Option Event). IsQuietNext o (now s)) (sym (next_behind q s later (reverse own) is ∙ ap (λ x. next_of x s (reverse own)) (sym whole))) (quiet_step s h)
+
+  quiet_part : (rule : Rule) (before part : Past) (later : List Event) → past ≡ reverse later ++ (part ++ before) → IsQuiet script due rule before part later → IsQuiet script now rule before part (later ++ reverse own)
+  quiet_part (by_entry (entry.Last s)) before part later whole (knows, inl done) = (knows, inl done)
+  quiet_part (by_entry (entry.Last s)) before part later whole (knows, inr next) = (knows, inr (quiet_next (part ++ before) s later whole next))
+  quiet_part (by_entry (entry.Turn s)) before part later whole quiet = tt
+  quiet_part (by_entry (entry.Say s n)) before part later whole quiet = tt
+  quiet_part (by_entry (entry.Draw s)) before part later whole quiet = tt
+  quiet_part (by_entry (entry.Write s n)) before part later whole quiet = tt
+  quiet_part (by_entry (entry.Read s)) before part later whole quiet = tt
+  quiet_part (to_reply s) before part later whole quiet = tt
+  quiet_part (to_end s) before part later whole quiet = tt
+
+  quiet_grows : (parts : List Part) (later : List Event) → past ≡ reverse later ++ events_of parts → AreQuiet script due parts later → AreQuiet script now parts (later ++ reverse own)
+  quiet_grows [] later whole quiet = tt
+  quiet_grows (p ∷ parts) later whole quiet =
+      let below : past ≡ reverse (reverse p.events ++ later) ++ events_of parts =
+      whole ∙ (sym (append_assoc (reverse later) p.events (events_of parts)) ∙ ap (λ l. l ++ events_of parts) (ap (λ l. reverse later ++ l) (sym (reverse-reverse p.events)) ∙ sym (reverse-append (reverse p.events) later))) in (
+        quiet_part p.rule (events_of parts) p.events later whole quiet.0,
+        subst (λ (l : List Event). AreQuiet script now parts l) (append_assoc (reverse p.events) later (reverse own)) (quiet_grows parts (reverse p.events ++ later) below quiet.1),
+      )
+
+  -- the closed parts stay closed, and the part under way has the events of the step too
+  pub cut_steps : (parts : List Part) (part : Past) → IsCutSoFar script due parts part past → IsCutSoFar script now parts (own ++ part) (own ++ past)
+  cut_steps parts part so_far =
+      let quiet = quiet_grows parts (reverse part) (so_far.whole ∙ ap (λ l. l ++ events_of parts) (sym (reverse-reverse part))) so_far.quiet in
+      record {
+        whole = ap (λ l. own ++ l) so_far.whole ∙ sym (append_assoc own part (events_of parts));
+        cut = subst (λ (l : List Event). IsCut script parts l) (sym (reverse-append own part)) (cut_grows script parts (reverse part) (reverse part ++ reverse own) (stay_of_quiet script now parts (reverse part ++ reverse own) quiet) so_far.cut);
+        quiet = subst (λ (l : List Event). AreQuiet script now parts l) (sym (reverse-append own part)) quiet;
+      }
+
+-- what is due may change where no last write is
+module _ (script : Script) (due now : ℕ → Option StepKind) (same : (s : ℕ) → is_last_due (due s) ≡ true → is_last_due (now s) ≡ true) where
+  quiet_due : (rule : Rule) (before part : Past) (later : List Event) → IsQuiet script due rule before part later → IsQuiet script now rule before part later
+  quiet_due (by_entry (entry.Last s)) before part later (knows, inl done) = (knows, inl done)
+  quiet_due (by_entry (entry.Last s)) before part later (knows, inr next) = (knows, inr (by (next_of (part ++ before) s later) next))
+    where
+      by : (o : Option Event) → IsQuietNext o (due s) → IsQuietNext o (now s)
+      by (Some e) h = h
+      by None h = same s h
+  quiet_due (by_entry (entry.Turn s)) before part later quiet = tt
+  quiet_due (by_entry (entry.Say s n)) before part later quiet = tt
+  quiet_due (by_entry (entry.Draw s)) before part later quiet = tt
+  quiet_due (by_entry (entry.Write s n)) before part later quiet = tt
+  quiet_due (by_entry (entry.Read s)) before part later quiet = tt
+  quiet_due (to_reply s) before part later quiet = tt
+  quiet_due (to_end s) before part later quiet = tt
+
+  quiet_due_all : (parts : List Part) (later : List Event) → AreQuiet script due parts later → AreQuiet script now parts later
+  quiet_due_all [] later quiet = tt
+  quiet_due_all (p ∷ parts) later quiet = (quiet_due p.rule (events_of parts) p.events later quiet.0, quiet_due_all parts (reverse p.events ++ later) quiet.1)
+
+  pub cut_due : (parts : List Part) (part past : Past) → IsCutSoFar script due parts part past → IsCutSoFar script now parts part past
+  cut_due parts part past so_far = record { whole = so_far.whole; cut = so_far.cut; quiet = quiet_due_all parts (reverse part) so_far.quiet }
+
+-- ---- the part under way
+
+own_of_turn : (script : Script) (past : Past) (s : ℕ) (e : Event) → is_own past s e ≡ true → is_of_turn script past s e ≡ true
+own_of_turn script past s (event.Head k v) h = absurd (false≢true h)
+own_of_turn script past s (event.Out k r) h = absurd (false≢true h)
+own_of_turn script past s (event.In k v) h = absurd (false≢true h)
+own_of_turn script past s (event.Sweep k r) h = absurd (false≢true h)
+own_of_turn script past s e h = ap (λ b. b || is_of_task script past s e) h
+
+neither : (a b : Bool) → (a || b) ≡ false → (a ≡ false) × (b ≡ false)
+neither true b h = absurd (false≢true (sym h))
+neither false b h = (refl, h)
+
+and_true : (a b : Bool) → a ≡ true → b ≡ true → (a && b) ≡ true
+and_true true b h k = k
+and_true false b h k = absurd (false≢true h)
+
+module _ (script : Script) (before : Past) where
+  -- nothing ends a part between the end of a revision and the move of the head
+  mid_done : (rule : Rule) (part : Past) (r : Revision) → is_done script rule before part ≡ false → is_drawing (event.End r ∷ (part ++ before)) (session_of rule) ≡ false → is_resting script (event.End r ∷ (part ++ before)) (session_of rule) ≡ false
+      → is_done script rule before (event.End r ∷ part) ≡ false
+  mid_done (by_entry (entry.Turn s)) part r done idle awake = refl
+  mid_done (by_entry (entry.Say s n)) part r done idle awake = ap (λ b. b || is_resting script (event.End r ∷ (part ++ before)) s) (neither (nat_le n (count_by (is_reply_of s) part)) _ done).0 ∙ awake
+  mid_done (by_entry (entry.Draw s)) part r done idle awake = ap (λ b. b || false || is_resting script (event.End r ∷ (part ++ before)) s) idle ∙ awake
+  mid_done (by_entry (entry.Write s n)) part r done idle awake = ap (λ b. (b && nat_le n (count_by (Rattle.jr_stage.specs.Places.is_write_of s) (Rattle.jr_stage.specs.Places.since_draw (event.End r ∷ (part ++ before)) s))) || false || is_resting script (event.End r ∷ (part ++ before)) s) idle ∙ awake
+  mid_done (by_entry (entry.Last s)) part r done idle awake = awake
+  mid_done (by_entry (entry.Read s)) part r done idle awake = absurd (false≢true (sym done))
+  mid_done (to_reply s) part r done idle awake = refl
+  mid_done (to_end s) part r done idle awake = (neither (is_waiting script (event.End r ∷ (part ++ before)) s) _ awake).1
+
+  -- the part need not have ended before an event
+  pub not_yet : (rule : Rule) (part : Past) (e : Event) → is_done script rule before part ≡ false → ((s : ℕ) → rule ≡ by_entry (entry.Last s) → (is_at_last (part ++ before) s && is_next is_commit (part ++ before) s (e ∷ [])) ≡ false) → must_end script rule before part (e ∷ []) ≡ false
+  not_yet (by_entry (entry.Last s)) part e done late = ap (λ b. b || (is_at_last (part ++ before) s && is_next is_commit (part ++ before) s (e ∷ []))) done ∙ late s refl
+  not_yet (by_entry (entry.Turn s)) part e done late = ap (λ b. b || false) done
+  not_yet (by_entry (entry.Say s n)) part e done late = ap (λ b. b || false) done
+  not_yet (by_entry (entry.Draw s)) part e done late = ap (λ b. b || false) done
+  not_yet (by_entry (entry.Write s n)) part e done late = ap (λ b. b || false) done
+  not_yet (by_entry (entry.Read s)) part e done late = ap (λ b. b || false) done
+  not_yet (to_reply s) part e done late = ap (λ b. b || false) done
+  not_yet (to_end s) part e done late = ap (λ b. b || false) done
+
+  -- the part under way goes on by a step that it need not have ended before
+  pub way_steps : (rule : Rule) (part : Past) (due : Option StepKind) (own : Past) → IsUnderWay script rule before part → IsStepAt script (part ++ before) (session_of rule) due own → is_done script rule before part ≡ false
+      → ((s : ℕ) → rule ≡ by_entry (entry.Last s) → is_last_due due ≡ true → is_at_last (part ++ before) s ≡ false) → IsUnderWay script rule before (own ++ part)
+  way_steps rule part due own way step done late = by step.events
+    where
+      s : ℕ
+      s = session_of rule
+
+      single : (e : Event) → own ≡ e ∷ [] → is_own (part ++ before) (session_of rule) e ≡ true → IsUnderWay script rule before (e ∷ part)
+      single e is own_is = record {
+        goes = part_grows script rule before part e way.knows way.goes
+            (not_yet rule part e done (λ t same. no_last t same (is_commit e) refl))
+            (own_of_turn script (part ++ before) (session_of rule) e own_is);
+        knows = and_true (is_own (part ++ before) (session_of rule) e || not (is_at_last (part ++ before) (session_of rule))) _ (ap (λ b. b || not (is_at_last (part ++ before) (session_of rule))) own_is) way.knows;
+      }
+        where
+          own_next : (t : ℕ) → rule ≡ by_entry (entry.Last t) → is_next is_commit (part ++ before) t (e ∷ []) ≡ is_commit e
+          own_next t same = ap (λ b. option_map_or is_commit (cond b (Some e) None) false) (subst (λ (r : Rule). is_own (part ++ before) (session_of r) e ≡ true) same own_is)
+
+          and_false : (a b : Bool) → b ≡ false → (a && b) ≡ false
+          and_false true b h = h
+          and_false false b h = refl
+
+          no_last : (t : ℕ) → rule ≡ by_entry (entry.Last t) → (b : Bool) → is_commit e ≡ b → (is_at_last (part ++ before) t && is_next is_commit (part ++ before) t (e ∷ [])) ≡ false
+          no_last t same false none = and_false (is_at_last (part ++ before) t) _ (own_next t same ∙ none)
+          no_last t same true commits = ap (λ b. b && is_next is_commit (part ++ before) t (e ∷ [])) (late t same (step.committed e is commits))
+
+      by : IsSingle (part ++ before) (session_of rule) own ⊎ IsDouble script (part ++ before) (session_of rule) own → IsUnderWay script rule before (own ++ part)
+      by (inl one) = subst (λ (o : Past). IsUnderWay script rule before (o ++ part)) (sym one.is) (single one.event one.is one.theirs)
+      by (inr two) = subst (λ (o : Past). IsUnderWay script rule before (o ++ part)) (sym two.is) (record {
+        goes = part_grows script rule before (event.End two.revision ∷ part) (event.Head two.cluster two.head) first.knows first.goes
+            (not_yet rule (event.End two.revision ∷ part) (event.Head two.cluster two.head) (mid_done rule part two.revision done two.idle two.awake) (λ t same. and_none (is_at_last (event.End two.revision ∷ (part ++ before)) t)))
+            two.near;
+        knows = and_true (not (is_at_last (event.End two.revision ∷ (part ++ before)) (session_of rule))) _ (ap not (idle_not_at_last (event.End two.revision ∷ (part ++ before)) (session_of rule) two.idle)) first.knows;
+      })
+        where
+          and_none : (a : Bool) → (a && false) ≡ false
+          and_none true = refl
+          and_none false = refl
+
+          first : IsUnderWay script rule before (event.End two.revision ∷ part)
+          first = record {
+            goes = part_grows script rule before part (event.End two.revision) way.knows way.goes
+                (not_yet rule part (event.End two.revision) done (λ t same.
+                ap (λ b. is_at_last (part ++ before) t && option_map_or is_commit (cond b (Some (event.End two.revision)) None) false) (subst (λ (r : Rule). is_revision_of (part ++ before) (session_of r) two.revision ≡ true) same two.theirs)
+                ∙ and_none (is_at_last (part ++ before) t)))
+                (own_of_turn script (part ++ before) (session_of rule) (event.End two.revision) two.theirs);
+            knows = and_true (is_revision_of (part ++ before) (session_of rule) two.revision || not (is_at_last (part ++ before) (session_of rule))) _ (ap (λ b. b || not (is_at_last (part ++ before) (session_of rule))) two.theirs) way.knows;
+          }
+
+  pub way_begins : (rule : Rule) → IsUnderWay script rule before []
+  way_begins rule = record { goes = refl; knows = refl }
+
+  -- ---- how a part ends
+
+  pub part_turns : (s : ℕ) (part : Past) → IsUnderWay script (by_entry (entry.Turn s)) before part → is_turn script s before part ≡ true → is_part script (by_entry (entry.Turn s)) before part [] ≡ true
+  part_turns s part way turn = and_true (is_turn script s before part) _ turn way.goes
+
+  pub part_says : (s n : ℕ) (part : Past) → IsUnderWay script (by_entry (entry.Say s n)) before part → is_done script (by_entry (entry.Say s n)) before part ≡ true → is_part script (by_entry (entry.Say s n)) before part [] ≡ true
+  part_says s n part way done = and_true (is_done script (by_entry (entry.Say s n)) before part) _ done way.goes
+
+  pub part_draws : (s : ℕ) (part : Past) → IsUnderWay script (by_entry (entry.Draw s)) before part → is_done script (by_entry (entry.Draw s)) before part ≡ true → is_part script (by_entry (entry.Draw s)) before part [] ≡ true
+  part_draws s part way done = and_true (is_done script (by_entry (entry.Draw s)) before part) _ done way.goes
+
+  pub part_writes : (s n : ℕ) (part : Past) → IsUnderWay script (by_entry (entry.Write s n)) before part → is_done script (by_entry (entry.Write s n)) before part ≡ true → is_part script (by_entry (entry.Write s n)) before part [] ≡ true
+  part_writes s n part way done = and_true (is_done script (by_entry (entry.Write s n)) before part) _ done way.goes
+
+  pub part_rests : (s : ℕ) (part : Past) → IsUnderWay script (by_entry (entry.Last s)) before part → is_done script (by_entry (entry.Last s)) before part ≡ true → is_part script (by_entry (entry.Last s)) before part [] ≡ true
+  part_rests s part way done = and_true (may_end script (by_entry (entry.Last s)) before part []) _ (ap (λ b. b || (is_at_last (part ++ before) s && true)) done) way.goes
+
+  pub part_at_last : (s : ℕ) (part : Past) → IsUnderWay script (by_entry (entry.Last s)) before part → is_at_last (part ++ before) s ≡ true → is_part script (by_entry (entry.Last s)) before part [] ≡ true
+  part_at_last s part way last = and_true (may_end script (by_entry (entry.Last s)) before part []) _ (or_later (is_done script (by_entry (entry.Last s)) before part) _ (ap (λ b. b && true) last)) way.goes
+    where
+      or_later : (a b : Bool) → b ≡ true → (a || b) ≡ true
+      or_later true b h = refl
+      or_later false b h = h
+
+  pub part_replies : (s : ℕ) (part : Past) → IsUnderWay script (to_reply s) before part → is_done script (to_reply s) before part ≡ true → is_part script (to_reply s) before part [] ≡ true
+  part_replies s part way done = and_true (is_done script (to_reply s) before part) _ done way.goes
+
+  pub part_closes : (s : ℕ) (part : Past) → IsUnderWay script (to_end s) before part → is_done script (to_end s) before part ≡ true → is_part script (to_end s) before part [] ≡ true
+  part_closes s part way done = and_true (is_done script (to_end s) before part) _ done way.goes
+
+-- the part under way is closed
+pub cut_closes : (script : Script) (due : ℕ → Option StepKind) (rule : Rule) (parts : List Part) (part past : Past) → IsCutSoFar script due parts part past → is_part script rule (events_of parts) part [] ≡ true → IsQuiet script due rule (events_of parts) part []
+    → IsCutSoFar script due (record { rule = rule; events = part } ∷ parts) [] past
+cut_closes script due rule parts part past so_far part_is quiet = record {
+  whole = so_far.whole;
+  cut = (part_is, subst (λ (l : List Event). IsCut script parts l) (sym (append_nil (reverse part))) so_far.cut);
+  quiet = (quiet, subst (λ (l : List Event). AreQuiet script due parts l) (sym (append_nil (reverse part))) so_far.quiet);
+}

@@ -1,0 +1,11 @@
+pub mod Awaited
+pub mod Flights
+pub mod Growing
+pub mod Nearing
+pub mod Parts
+pub mod Places
+pub mod Runs
+pub mod Schedules
+pub mod Seats
+pub mod SoFar
+pub mod Stages

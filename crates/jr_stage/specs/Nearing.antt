@@ -1,0 +1,90 @@
+-- How reading steps and turns bring a session of a stage nearer to its end.
+use Rattle.std.specs.Prelude.{◌≡◌, ◌<◌, ◌≤◌, ℕ, Bool, true, false, ◌&&◌, ◌==◌, ⊤, is_some}
+use Rattle.std.specs.Prelude.{slice_get, Option, IsTrue, IsFalse}
+use Rattle.std.specs.Option.{option_map, option_map_or}
+use Rattle.oak_machine.specs.History.{Past}
+use Rattle.oak_world.specs.Left.{left_in}
+use Rattle.oak_world.specs.Worlds.{live}
+use Rattle.jcr_law.specs.State.{Call, call_of}
+use Rattle.jcr_session.specs.Nearing.{left_of, unread_of}
+use Rattle.jcr_session.specs.Standing.{is_committing, is_saving}
+use Rattle.jcr_session.specs.declared.run.Phase.{Phase}
+use Rattle.jcr_session.specs.declared.turn.Turn.{Turn}
+use Rattle.jcr_session.specs.declared.turn.Turn.TheVariants as turn
+use Rattle.jr_stage.specs.declared.stage.Stage.{Stage}
+use Rattle.jr_stage.specs.Awaited.{KeepsWaiting}
+
+-- ---- what is left
+
+-- where session s stands
+abbrev pub phase_at : Stage → ℕ → Option Phase
+phase_at stage s = option_map (λ seat. seat.run.phase) (slice_get stage.seats.items s)
+
+-- its commit is under way
+abbrev pub commits_at : Stage → ℕ → Bool
+commits_at stage s = option_map_or is_committing (phase_at stage s) false
+
+-- it has drawn, and has not replied yet
+abbrev pub saves_at : Stage → ℕ → Bool
+saves_at stage s = option_map_or is_saving (phase_at stage s) false
+
+-- a node, or the names of the children of one, are being read for it
+abbrev pub reads_at : Stage → ℕ → Bool
+reads_at stage s =
+    option_map_or (λ seat. is_some seat.run.fetch) (slice_get stage.seats.items s) false
+
+-- how many replies it has not said yet, and how near it is to the next one
+abbrev pub left_at : Stage → ℕ → ℕ
+left_at stage s = option_map_or (λ seat. left_of seat.run) (slice_get stage.seats.items s) 0
+
+-- how many steps are left of what is being done for it
+abbrev pub steps_at : Stage → ℕ → ℕ
+steps_at stage s = left_in stage.world s
+
+-- what its next command is run with
+abbrev pub call_at : Stage → ℕ → Option Call
+call_at stage s =
+    call_of stage.world.law (live stage.world.history).begin (live stage.world.history).past s
+
+-- how much is still to be known before its next command
+abbrev pub unread_at : Stage → ℕ → ℕ
+unread_at stage s =
+    option_map_or (λ seat. option_map_or (λ c. unread_of c seat.run) (call_at stage s) 0)
+    (slice_get stage.seats.items s) 0
+
+-- ---- how it gets less
+
+-- less is to be known before the next command of s; or what was being read is still being read,
+-- with as much to be known, and fewer steps of that are left
+abbrev pub ReadsNearer : (still : Bool) → (old new : Stage) → ℕ → Type 0
+ReadsNearer true old new s = (unread_at new s ≡ unread_at old s) × (steps_at new s < steps_at old s)
+ReadsNearer false old new s = unread_at new s < unread_at old s
+
+-- no more is to be known, and less where something was being read
+abbrev pub ReadsThrough : (old new : Stage) → ℕ → Type 0
+ReadsThrough old new s = (unread_at new s ≤ unread_at old s)
+    × (IsTrue (reads_at old s) → unread_at new s < unread_at old s)
+
+-- s has less left; or its commit is under way as it was, and fewer steps of that are left
+abbrev pub StepsNearer : (still : Bool) → (old new : Stage) → ℕ → Type 0
+StepsNearer true old new s = (left_at new s ≡ left_at old s) × (steps_at new s < steps_at old s)
+StepsNearer false old new s = left_at new s < left_at old s
+
+-- what a turn of s brings nearer: a step, and a reply
+abbrev pub TurnsNearer : (old new : Stage) → ℕ → Turn → Type 0
+TurnsNearer old new s (turn.Stepped k) =
+    StepsNearer (commits_at old s && commits_at new s) old new s
+TurnsNearer old new s (turn.Said i) = left_at new s < left_at old s
+TurnsNearer old new s _ = ⊤
+
+-- where s saves it does behind a step
+abbrev pub SavesOn : (old new : Stage) → ℕ → Turn → Type 0
+SavesOn old new s (turn.Stepped k) = IsTrue (saves_at old s) → IsTrue (saves_at new s)
+SavesOn old new s _ = ⊤
+
+-- ---- who is waited for
+
+-- where s waits, a commit of another session keeps it waiting
+abbrev pub IsKeptBack : Past → ℕ → Turn → Type 0
+IsKeptBack past s (turn.Waiting q) = (t : ℕ) × IsFalse (t == s) × KeepsWaiting past t s
+IsKeptBack past s _ = ⊤
