@@ -2,26 +2,41 @@
 use crate::scripts::put_fault;
 use jcr_trans::{Command, TreeNode};
 use jr_args::{Fault, command, pointer};
-use jr_path::Path;
+use jr_path::{Path, Text};
 use rows::Out;
 use serde_json::Value as Json;
+use std::alloc::AllocError;
 
 // The rule that is broken and its place, or the name of the command and the paths of its nodes.
 pub(crate) fn add(text: &str, out: &mut Out) {
-    match Json::from_slice(out.alloc, text.as_bytes()) {
-        Ok(json) => add_read(command(out.alloc, &json), out),
-        Err(_) => out.put("no JSON"),
+    let json = out.json(text);
+    match &json {
+        Some(json) => add_json(json, out),
+        None => out.put("no JSON"),
+    }
+    drop(json);
+}
+
+fn add_json(json: &Json, out: &mut Out) {
+    let read = command(out.alloc, json);
+    match &read {
+        Ok(command) => put_command(command, out),
+        Err(fault) => put_command_fault(fault, out),
+    }
+    drop(read);
+}
+
+fn put_command_fault(fault: &Fault, out: &mut Out) {
+    match fault {
+        Fault::Bad { rule, steps } => put_place(*rule, pointer(out.alloc, steps), out),
+        Fault::Memory => out.put("memory"),
     }
 }
 
-fn add_read(read: Result<Command, Fault>, out: &mut Out) {
-    match read {
-        Ok(command) => put_command(&command, out),
-        Err(Fault::Bad { rule, steps }) => match pointer(out.alloc, &steps) {
-            Ok(pointer) => put_fault(rule, pointer.as_str(), out),
-            Err(_) => out.is_broken = true,
-        },
-        Err(Fault::Memory) => out.put("memory"),
+fn put_place(rule: u8, pointer: Result<Text, AllocError>, out: &mut Out) {
+    match pointer {
+        Ok(pointer) => put_fault(rule, pointer.as_str(), out),
+        Err(_) => out.is_broken = true,
     }
 }
 

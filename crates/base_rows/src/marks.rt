@@ -1,62 +1,86 @@
 // Marks and what they clash with.
-use jr_path::{DeepCopy, Name, Path, PathFault};
+use jr_path::{DeepCopy, List, Name, Path};
 use oak_clash::{Mark, MarkAt, clashes, commit_root, marked_paths};
 use rows::{Out, cut};
-use std::alloc::Global;
+use std::alloc::AllocError;
 
 // Whether there is such a row.
 pub(crate) fn add(word: &str, rest: &str, out: &mut Out) -> bool {
     match word {
-        "clash" => out.put_answer(is_clash(out.alloc, rest) == Ok(true)),
+        "clash" => add_clash(rest, out),
         "root" => add_root(rest, out),
         _ => return false,
     }
     true
 }
 
-// exists, touch, guard, or the name of a property.
-fn mark_of(alloc: Global, text: &str) -> Result<Mark, PathFault> {
-    match text {
-        "exists" => Ok(Mark::Exists),
-        "touch" => Ok(Mark::Touch),
-        "guard" => Ok(Mark::Guard),
-        _ => Ok(Mark::Prop(Name::parse(alloc, text)?)),
-    }
-}
-
 // Two marks: whether they clash, in both orders.
-fn is_clash(alloc: Global, rest: &str) -> Result<bool, PathFault> {
+fn add_clash(rest: &str, out: &mut Out) {
     let (first, second) = cut(rest);
-    let first = mark_of(alloc, first)?.copy()?;
-    let second = mark_of(alloc, second)?;
-    Ok(clashes(&first, &second) && clashes(&second, &first))
+    let first = mark_of(first, out);
+    let second = mark_of(second, out);
+    let copy = first.copy();
+    out.put_answer(is_clash(&copy, &second));
+    drop(first);
+    drop(second);
+    drop(copy);
 }
 
-fn marks(alloc: Global, texts: &str) -> Result<Vec<MarkAt>, PathFault> {
-    let mut marks = Vec::new(alloc);
-    for text in texts.split_whitespace() {
-        let path = Path::parse(alloc, text)?;
-        marks.push(MarkAt {
-            path,
-            mark: Mark::Touch,
-        })?;
+// exists, touch, guard, or the name of a property.
+fn mark_of(text: &str, out: &mut Out) -> Mark {
+    match text {
+        "exists" => Mark::Exists,
+        "touch" => Mark::Touch,
+        "guard" => Mark::Guard,
+        _ => mark_with(out.name(text)),
     }
-    Ok(marks)
+}
+
+fn mark_with(name: Option<Name>) -> Mark {
+    match name {
+        Some(name) => Mark::Prop(name),
+        None => Mark::Exists,
+    }
+}
+
+fn is_clash(first: &Result<Mark, AllocError>, second: &Mark) -> bool {
+    match first {
+        Ok(first) => clashes(first, second) && clashes(second, first),
+        Err(_) => false,
+    }
 }
 
 // Paths with marks: their commit root, and the marked nodes in order.
 fn add_root(rest: &str, out: &mut Out) {
-    match marks(out.alloc, rest) {
-        Ok(marks) => add_marked(marks.as_slice(), out),
-        Err(_) => out.put("no paths"),
+    let marks = marks_at(rest, out);
+    put_root(marks.as_slice(), out);
+    put_marked(marks.as_slice(), out);
+}
+
+fn marks_at(texts: &str, out: &mut Out) -> List<MarkAt> {
+    let mut marks = List::new(out.alloc);
+    for text in texts.split_whitespace() {
+        let put = marks.push(touch(out.path_or_root(text)));
+        out.note(put);
+    }
+    marks
+}
+
+fn touch(path: Path) -> MarkAt {
+    MarkAt {
+        path,
+        mark: Mark::Touch,
     }
 }
 
-fn add_marked(marks: &[MarkAt], out: &mut Out) {
+fn put_root(marks: &[MarkAt], out: &mut Out) {
     match commit_root(out.alloc, marks) {
         Ok(root) => out.put_path(&root),
         Err(_) => out.is_broken = true,
     }
+}
+
+fn put_marked(marks: &[MarkAt], out: &mut Out) {
     match marked_paths(out.alloc, marks) {
         Ok(paths) => put_paths(paths.as_slice(), out),
         Err(_) => out.is_broken = true,

@@ -3,7 +3,7 @@ use crate::trees::Kept;
 use jr_part::{Need, Part};
 use jr_path::{DeepCopy, List, Name, Path};
 use jr_rev::Revision;
-use jr_tree::{Edit, Tree};
+use jr_tree::{Edit, Node, Tree};
 use rows::{Out, cut};
 use std::alloc::AllocError;
 
@@ -23,10 +23,8 @@ pub(crate) fn add(word: &str, rest: &str, kept: &mut Kept, out: &mut Out) -> boo
 
 // PATH: what the tree has there is put.
 fn add_known(rest: &str, tree: &Tree, part: &mut Part, out: &mut Out) {
-    match out.path(rest) {
-        Some(path) => out.note(put_known(&path, tree, part)),
-        None => out.put("no path"),
-    }
+    let path = out.path_or_root(rest);
+    out.note(put_known(&path, tree, part));
 }
 
 fn put_known(path: &Path, tree: &Tree, part: &mut Part) -> Result<(), AllocError> {
@@ -39,10 +37,9 @@ fn put_known(path: &Path, tree: &Tree, part: &mut Part) -> Result<(), AllocError
 // PATH NAME: the one child of that name is listed, or none without a name.
 fn add_listed(rest: &str, part: &mut Part, out: &mut Out) {
     let (path, name) = cut(rest);
-    match out.path(path) {
-        Some(path) => put_listed(&path, Name::parse(out.alloc, name).ok(), part, out),
-        None => out.put("no path"),
-    }
+    let path = out.path_or_root(path);
+    let name = out.name(name);
+    put_listed(&path, name, part, out);
 }
 
 fn put_listed(path: &Path, name: Option<Name>, part: &mut Part, out: &mut Out) {
@@ -57,9 +54,17 @@ fn put_listed(path: &Path, name: Option<Name>, part: &mut Part, out: &mut Out) {
 // KIND PATH: what lacks first.
 fn add_lacks(rest: &str, part: &Part, out: &mut Out) {
     let (kind, path) = cut(rest);
-    match out.path(path) {
-        Some(path) => put_lacking(lacking(&need_of(kind, path), part), out),
-        None => out.put("no path"),
+    let need = need_of(kind, out.path_or_root(path));
+    let copy = need.copy();
+    put_copy(&copy, part, out);
+    drop(need);
+    drop(copy);
+}
+
+fn put_copy(need: &Result<Need, AllocError>, part: &Part, out: &mut Out) {
+    match need {
+        Ok(need) => put_lacking(part.lacks(need), out),
+        Err(_) => out.is_broken = true,
     }
 }
 
@@ -72,16 +77,13 @@ fn need_of(kind: &str, path: Path) -> Need {
     }
 }
 
-fn lacking(need: &Need, part: &Part) -> Result<Option<Need>, AllocError> {
-    part.lacks(&need.copy()?)
-}
-
 fn put_lacking(lacking: Result<Option<Need>, AllocError>, out: &mut Out) {
-    match lacking {
-        Ok(Some(need)) => put_need(&need, out),
+    match &lacking {
+        Ok(Some(need)) => put_need(need, out),
         Ok(None) => out.put("nothing"),
         Err(_) => out.is_broken = true,
     }
+    drop(lacking);
 }
 
 fn put_need(need: &Need, out: &mut Out) {
@@ -100,19 +102,21 @@ fn put_path(kind: &str, path: &Path, out: &mut Out) {
 
 // PATH: how many properties the node has, and the names of its children.
 fn add_part(rest: &str, part: &Part, out: &mut Out) {
-    match out.path(rest) {
-        Some(path) => put_part(&path, part, out),
-        None => out.put("no path"),
-    }
+    let path = out.path_or_root(rest);
+    put_size(part.node(&path), out);
+    put_children(part.children(&path), out);
 }
 
-fn put_part(path: &Path, part: &Part, out: &mut Out) {
-    match part.node(path) {
+fn put_size(node: Option<Option<&Node>>, out: &mut Out) {
+    match node {
         Some(Some(node)) => out.put_number(node.props.len() as u64),
         Some(None) => out.put("absent"),
         None => out.put("unknown"),
     }
-    match part.children(path) {
+}
+
+fn put_children(names: Option<&[(Name, Option<Revision>)]>, out: &mut Out) {
+    match names {
         Some(names) => put_names(names, out),
         None => out.put(" unlisted"),
     }
@@ -127,18 +131,22 @@ fn put_names(names: &[(Name, Option<Revision>)], out: &mut Out) {
 
 // How many nodes the whole tree has, once nothing lacks.
 fn add_whole(part: &Part, out: &mut Out) {
-    match part.lacks(&Need::All) {
+    let lacking = part.lacks(&Need::All);
+    match &lacking {
         Ok(None) => out.put_number(part.whole().len() as u64),
         Ok(Some(_)) => out.put("lacking"),
         Err(_) => out.is_broken = true,
     }
+    drop(lacking);
 }
 
 // The writes that are not applied yet are made of the part, once nothing lacks.
 fn add_follow(edit: &Edit, part: &mut Part, out: &mut Out) {
-    match part.lacks(&Need::All) {
+    let lacking = part.lacks(&Need::All);
+    match &lacking {
         Ok(None) => out.note(part.apply(edit, None)),
         Ok(Some(_)) => out.put("lacking"),
         Err(_) => out.is_broken = true,
     }
+    drop(lacking);
 }

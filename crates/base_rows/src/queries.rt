@@ -1,8 +1,10 @@
 // Queries: rows that add a node or give it a property, or a text to be cut, read or evaluated.
-use jr_path::{DeepCopy, Name, Path};
+use crate::texts::{push_times, put_kinds};
+use jr_path::{DeepCopy, List, Name, Path};
 use jr_tree::{Node, Tree};
-use jr_value::{Kind, Property, Value};
+use jr_value::Value;
 use rows::{Out, cut, short};
+use serde_json::Value as Json;
 use sql_eval::{Cell, Row, rows as plain_rows, rows_text};
 use sql_lex::{LexFault, Token, TokenKind, lex};
 use sql_parse::{Condition, Operand, Query, parse};
@@ -25,14 +27,15 @@ pub(crate) fn add(line: &str, tree: &mut Tree, out: &mut Out) {
 
 // node PATH
 fn add_node(path: &str, tree: &mut Tree, out: &mut Out) {
-    match (out.path(path), out.name("nt:unstructured")) {
-        (Some(path), Some(kind)) => put_node(path, kind, tree, out),
-        _ => out.put("no path"),
+    let path = out.path_or_root(path);
+    match out.name("nt:unstructured") {
+        Some(kind) => put_node(path, Node::of_type(out.alloc, kind), tree, out),
+        None => out.is_broken = true,
     }
 }
 
-fn put_node(path: Path, kind: Name, tree: &mut Tree, out: &mut Out) {
-    match Node::of_type(out.alloc, kind) {
+fn put_node(path: Path, node: Result<Node, AllocError>, tree: &mut Tree, out: &mut Out) {
+    match node {
         Ok(node) => out.note(tree.insert(path, node)),
         Err(_) => out.is_broken = true,
     }
@@ -41,25 +44,28 @@ fn put_node(path: Path, kind: Name, tree: &mut Tree, out: &mut Out) {
 // put PATH NAME JSON
 fn add_property(text: &str, tree: &mut Tree, out: &mut Out) {
     let (path, rest) = cut(text);
-    let (name, json) = cut(rest);
-    match (out.path(path), out.name(name)) {
-        (Some(path), Some(name)) => put_property(&path, name, json, tree, out),
-        (None, _) => out.put("no path"),
-        _ => out.put("no property"),
+    let (name, text) = cut(rest);
+    let path = out.path_or_root(path);
+    let json = out.json(text);
+    put_json(&path, name, &json, tree, out);
+    drop(json);
+}
+
+fn put_json(path: &Path, name: &str, json: &Option<Json>, tree: &mut Tree, out: &mut Out) {
+    match json {
+        Some(json) => put_property(path, name, json, tree, out),
+        None => out.is_broken = true,
     }
 }
 
-fn put_property(path: &Path, name: Name, json: &str, tree: &mut Tree, out: &mut Out) {
-    match property_in(json, out) {
-        Some(property) => out.note(tree.put(path, name, property)),
-        None => out.put("no property"),
-    }
-}
-
-fn property_in(json: &str, out: &mut Out) -> Option<Property> {
-    match out.json(json) {
-        Some(json) => out.property(&json),
-        None => None,
+fn put_property(path: &Path, name: &str, json: &Json, tree: &mut Tree, out: &mut Out) {
+    let property = out.property_or_false(json);
+    match out.name(name) {
+        Some(name) => out.note(tree.put(path, name, property)),
+        None => {
+            drop(property);
+            out.is_broken = true;
+        }
     }
 }
 
@@ -93,47 +99,32 @@ fn letter(kind: TokenKind) -> &'static str {
     }
 }
 
-fn word(kind: Kind) -> &'static str {
-    match kind {
-        Kind::Str => "string",
-        Kind::Binary => "binary",
-        Kind::Long => "long",
-        Kind::Date => "date",
-        Kind::Boolean => "boolean",
-        Kind::Name => "name",
-        Kind::Path => "path",
-        Kind::Reference => "reference",
-        Kind::WeakReference => "weakreference",
-        Kind::Uri => "uri",
-    }
-}
-
 fn add_query(word: &str, text: &str, tree: &Tree, out: &mut Out) {
-    match read(out.alloc, text) {
-        Ok(query) => put_query(word, &query, tree, out),
-        Err(fault) => add_fault(&fault, out),
+    let vars = vars(out);
+    let query = parse(out.alloc, text, vars.as_slice());
+    match &query {
+        Ok(query) => put_query(word, query, tree, out),
+        Err(fault) => add_fault(fault, out),
     }
+    drop(query);
 }
 
 fn add_fault(fault: &SqlFault, out: &mut Out) {
     match fault {
         SqlFault::InvalidQuery(at) => out.put_number(*at as u64),
-        SqlFault::Cast(required, found) => {
-            out.put(word(*required));
-            out.put(" ");
-            out.put(word(*found));
-        }
+        SqlFault::Cast(required, found) => put_kinds(*required, *found, out),
         SqlFault::Memory => out.put("memory"),
     }
 }
 
-// The query with the variable v, which is 5.
-fn read(alloc: Global, text: &str) -> Result<Query, SqlFault> {
-    let mut vars = Vec::new(alloc);
-    if let Ok(name) = Name::parse(alloc, "v") {
-        vars.push((name, Value::Long(5)))?;
+// The variable v, which is 5.
+fn vars(out: &mut Out) -> List<(Name, Value)> {
+    let mut vars = List::new(out.alloc);
+    if let Some(name) = out.name("v") {
+        let put = vars.push((name, Value::Long(5)));
+        out.note(put);
     }
-    parse(alloc, text, vars.as_slice())
+    vars
 }
 
 // condition, counts, rows, text, count or fast, and a query.
@@ -141,10 +132,16 @@ fn put_query(word: &str, query: &Query, tree: &Tree, out: &mut Out) {
     match word {
         "condition" => put_filter(query, out),
         "counts" => put_counts(query, out),
-        "rows" => put_rows(found(out.alloc, query, tree), out),
-        "text" => put_texts(query, tree, out),
-        "count" => put_count(found(out.alloc, query, tree), out),
-        "fast" => put_count(found_fast(out.alloc, query, tree), out),
+        _ => put_found(word, query, sets(query, out).as_slice(), tree, out),
+    }
+}
+
+fn put_found(word: &str, query: &Query, sets: &[Vec<Name>], tree: &Tree, out: &mut Out) {
+    match word {
+        "rows" => put_rows(plain_rows(out.alloc, query, sets, tree), out),
+        "text" => put_texts(query, sets, tree, out),
+        "count" => put_count(plain_rows(out.alloc, query, sets, tree), out),
+        "fast" => put_count(rows_fast(out.alloc, query, sets, tree), out),
         _ => out.put("?"),
     }
 }
@@ -152,12 +149,9 @@ fn put_query(word: &str, query: &Query, tree: &Tree, out: &mut Out) {
 // How many selectors, joins, columns and orders it has.
 fn put_counts(query: &Query, out: &mut Out) {
     out.put_number(query.selector_types().len() as u64);
-    out.put(" ");
-    out.put_number(query.joins.len() as u64);
-    out.put(" ");
-    out.put_number(query.columns.len() as u64);
-    out.put(" ");
-    out.put_number(query.orders.len() as u64);
+    out.put_numbered(" ", query.joins.len() as u64);
+    out.put_numbered(" ", query.columns.len() as u64);
+    out.put_numbered(" ", query.orders.len() as u64);
 }
 
 // Of the condition the properties that are compared, with ! for NOT, & for AND and | for OR.
@@ -193,20 +187,26 @@ fn put_condition(condition: &Condition, out: &mut Out) {
 }
 
 // The text of the rows, and whether those by a plan have it too.
-fn put_texts(query: &Query, tree: &Tree, out: &mut Out) {
-    let plain = text_of(out.alloc, found(out.alloc, query, tree));
-    let fast = text_of(out.alloc, found_fast(out.alloc, query, tree));
-    match (plain, fast) {
-        (Ok(plain), Ok(fast)) => put_same(plain.as_str(), fast.as_str(), out),
-        _ => out.is_broken = true,
-    }
+fn put_texts(query: &Query, sets: &[Vec<Name>], tree: &Tree, out: &mut Out) {
+    let plain = text_of(out.alloc, plain_rows(out.alloc, query, sets, tree));
+    let fast = text_of(out.alloc, rows_fast(out.alloc, query, sets, tree));
+    put_same(&plain, &fast, out);
+    drop(plain);
+    drop(fast);
 }
 
 fn text_of(alloc: Global, rows: Result<Vec<Row>, AllocError>) -> Result<String, AllocError> {
     rows_text(alloc, &rows?)
 }
 
-fn put_same(plain: &str, fast: &str, out: &mut Out) {
+fn put_same(plain: &Result<String, AllocError>, fast: &Result<String, AllocError>, out: &mut Out) {
+    match (plain, fast) {
+        (Ok(plain), Ok(fast)) => put_one(plain.as_str(), fast.as_str(), out),
+        _ => out.is_broken = true,
+    }
+}
+
+fn put_one(plain: &str, fast: &str, out: &mut Out) {
     if plain != fast {
         out.put("not the rows of the plan: ");
     }
@@ -220,73 +220,47 @@ fn put_count(rows: Result<Vec<Row>, AllocError>, out: &mut Out) {
     }
 }
 
-fn found(alloc: Global, query: &Query, tree: &Tree) -> Result<Vec<Row>, AllocError> {
-    let sets = sets(alloc, query)?;
-    plain_rows(alloc, query, sets.as_slice(), tree)
-}
-
-fn found_fast(alloc: Global, query: &Query, tree: &Tree) -> Result<Vec<Row>, AllocError> {
-    let sets = sets(alloc, query)?;
-    rows_fast(alloc, query, sets.as_slice(), tree)
-}
-
 // deep COUNT|BEFORE|OPEN|INSIDE|CLOSE|AFTER: as text, of BEFORE, so many OPEN, INSIDE, so many
 // CLOSE, and AFTER.
 fn add_deep(text: &str, tree: &Tree, out: &mut Out) {
-    match deep_query(out.alloc, text) {
-        Ok(query) => add_query("text", query.as_str(), tree, out),
-        Err(_) => out.is_broken = true,
-    }
+    let query = deep_query(text, out);
+    add_query("text", query.as_str(), tree, out);
 }
 
-fn deep_query(alloc: Global, text: &str) -> Result<String, AllocError> {
+fn deep_query(text: &str, out: &mut Out) -> String {
     let (count, rest) = cut_bar(text);
     let (before, rest) = cut_bar(rest);
     let (open, rest) = cut_bar(rest);
     let (inside, rest) = cut_bar(rest);
     let (close, after) = cut_bar(rest);
-    let mut query = String::from_str(alloc, before)?;
-    wrap(&mut query, short(count), open, inside, close)?;
-    query.push_str(after)?;
-    Ok(query)
+    let count = short(count);
+    let mut query = String::new(out.alloc);
+    push_times(&mut query, 1, before, out);
+    push_times(&mut query, count, open, out);
+    push_times(&mut query, 1, inside, out);
+    push_times(&mut query, count, close, out);
+    push_times(&mut query, 1, after, out);
+    query
 }
 
 fn cut_bar(text: &str) -> (&str, &str) {
     text.split_once('|').unwrap_or((text, ""))
 }
 
-fn wrap(
-    query: &mut String,
-    count: u32,
-    open: &str,
-    inside: &str,
-    close: &str,
-) -> Result<(), AllocError> {
-    repeat(query, count, open)?;
-    query.push_str(inside)?;
-    repeat(query, count, close)
-}
-
-fn repeat(query: &mut String, count: u32, text: &str) -> Result<(), AllocError> {
-    for _ in 0..count {
-        query.push_str(text)?;
-    }
-    Ok(())
-}
-
 // Of each selector its type alone.
-fn sets(alloc: Global, query: &Query) -> Result<Vec<Vec<Name>>, AllocError> {
-    let mut sets = Vec::new(alloc);
+fn sets(query: &Query, out: &mut Out) -> List<Vec<Name>> {
+    let mut sets = List::new(out.alloc);
     for kind in query.selector_types() {
-        sets.push(set_of(alloc, kind)?)?;
+        let put = sets.push(set_of(kind, out));
+        out.note(put);
     }
-    Ok(sets)
+    sets
 }
 
-fn set_of(alloc: Global, kind: &Name) -> Result<Vec<Name>, AllocError> {
-    let mut set = Vec::new(alloc);
-    set.push(kind.copy()?)?;
-    Ok(set)
+fn set_of(kind: &Name, out: &mut Out) -> Vec<Name> {
+    let mut set = List::new(out.alloc);
+    out.push(&mut set, kind.copy());
+    set.into_inner()
 }
 
 // The cells, row by row.

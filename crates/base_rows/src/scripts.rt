@@ -5,10 +5,12 @@ use rows::Out;
 
 // The rule that is broken and its place, or the script.
 pub(crate) fn add(text: &str, out: &mut Out) {
-    match read_script(out.alloc, text.as_bytes()) {
-        Ok(script) => put_script(&script, out),
-        Err(fault) => put_script_fault(&fault, out),
+    let read = read_script(out.alloc, text.as_bytes());
+    match &read {
+        Ok(script) => put_script(script, out),
+        Err(fault) => put_script_fault(fault, out),
     }
+    drop(read);
 }
 
 fn put_script_fault(fault: &ScriptFault, out: &mut Out) {
@@ -34,16 +36,14 @@ pub(crate) fn put_fault(rule: u8, pointer: &str, out: &mut Out) {
 // The place within the text at which a rule is broken, where it is on what stands in a text.
 fn put_offset(offset: Option<usize>, out: &mut Out) {
     if let Some(offset) = offset {
-        out.put(" ");
-        out.put_number(offset as u64);
+        out.put_numbered(" ", offset as u64);
     }
 }
 
 // The number of cluster nodes; of each session its node and the names of its commands; and the
 // entries.
 fn put_script(script: &Script, out: &mut Out) {
-    out.put("ok ");
-    out.put_number(u64::from(script.clusters));
+    out.put_numbered("ok ", u64::from(script.clusters));
     for session in script.sessions.inner() {
         put_session(session, out);
     }
@@ -53,8 +53,7 @@ fn put_script(script: &Script, out: &mut Out) {
 }
 
 fn put_session(session: &SessionScript, out: &mut Out) {
-    out.put(" at ");
-    out.put_number(u64::from(session.cluster));
+    out.put_numbered(" at ", u64::from(session.cluster));
     for command in session.commands.inner() {
         out.put(" ");
         out.put(command.word());
@@ -73,11 +72,9 @@ fn put_entry(entry: &Entry, out: &mut Out) {
 }
 
 fn put_numbers(word: &str, session: u32, count: Option<u32>, out: &mut Out) {
-    out.put(word);
-    out.put_number(u64::from(session));
+    out.put_numbered(word, u64::from(session));
     if let Some(count) = count {
-        out.put(", ");
-        out.put_number(u64::from(count));
+        out.put_numbered(", ", u64::from(count));
     }
     out.put(")");
 }

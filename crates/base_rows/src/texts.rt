@@ -2,10 +2,10 @@
 use crate::values;
 use jr_path::{DeepCopy, DocId, Name, Path, PathFault};
 use jr_rev::{BadRevision, RevVec, Revision};
-use jr_value::{Property, ValueFault};
-use rows::{Out, cut, short};
+use jr_value::{Kind, Property, ValueFault};
+use rows::{Out, cut, number, short};
 use serde_json::Value as Json;
-use std::alloc::{AllocError, Global};
+use std::alloc::AllocError;
 
 // Whether there is such a row.
 pub(crate) fn add(word: &str, rest: &str, out: &mut Out) -> bool {
@@ -16,7 +16,7 @@ pub(crate) fn add(word: &str, rest: &str, out: &mut Out) -> bool {
         "id" => add_id(rest, out),
         "order" => add_order(rest, out),
         "revision" => add_revision(rest, out),
-        "vector" => put_vector(RevVec::parse(rest.as_bytes()), out),
+        "vector" => put_vector(&RevVec::parse(rest.as_bytes()), out),
         "value" => add_value(rest, out),
         "text" => values::add(rest, out),
         _ => return false,
@@ -29,19 +29,18 @@ pub(crate) fn add(word: &str, rest: &str, out: &mut Out) -> bool {
 fn add_long(rest: &str, out: &mut Out) {
     let (number, rest) = cut(rest);
     let (piece, end) = cut(rest);
-    match long_text(out.alloc, short(number), piece, end) {
-        Ok(text) => add_either(piece.contains('/'), text.as_str(), out),
-        Err(_) => out.is_broken = true,
-    }
+    let mut text = String::new(out.alloc);
+    push_times(&mut text, short(number), piece, out);
+    push_times(&mut text, 1, end, out);
+    add_either(piece.contains('/'), text.as_str(), out);
 }
 
-fn long_text(alloc: Global, number: u32, piece: &str, end: &str) -> Result<String, AllocError> {
-    let mut text = String::new(alloc);
+// Puts a piece behind a text, so many times.
+pub(crate) fn push_times(text: &mut String, number: u32, piece: &str, out: &mut Out) {
     for _ in 0..number {
-        text.push_str(piece)?;
+        let put = text.push_str(piece);
+        out.note(put);
     }
-    text.push_str(end)?;
-    Ok(text)
 }
 
 fn add_either(is_path: bool, text: &str, out: &mut Out) {
@@ -54,42 +53,48 @@ fn add_either(is_path: bool, text: &str, out: &mut Out) {
 
 // NUMBER PATH: a document of the node, or with a number a previous one; the settings without a
 // path.
-fn id_of(alloc: Global, text: &str) -> Result<DocId, PathFault> {
-    let (number, path) = cut(text);
+fn id_of(text: &str, out: &mut Out) -> DocId {
+    let (count, path) = cut(text);
     if path.is_empty() {
-        return Ok(DocId::Settings);
+        return DocId::Settings;
     }
-    let path = Path::parse(alloc, path)?;
-    match number.parse::<u64>() {
-        Ok(0) | Err(_) => Ok(DocId::Node(path)),
-        Ok(number) => Ok(DocId::Prev(number, path)),
+    id_at(number(count), out.path_or_root(path))
+}
+
+fn id_at(number: u64, path: Path) -> DocId {
+    match number {
+        0 => DocId::Node(path),
+        _ => DocId::Prev(number, path),
     }
 }
 
 fn add_id(text: &str, out: &mut Out) {
-    match id_of(out.alloc, text) {
-        Ok(id) => out.put_made(copied_text(&id, out.alloc)),
-        Err(fault) => add_fault(&fault, out),
-    }
+    let id = id_of(text, out);
+    let copy = id.copy();
+    put_id(&copy, out);
+    drop(id);
+    drop(copy);
 }
 
-fn copied_text(id: &DocId, alloc: Global) -> Result<String, AllocError> {
-    id.copy()?.text(alloc)
+fn put_id(id: &Result<DocId, AllocError>, out: &mut Out) {
+    match id {
+        Ok(id) => out.put_id("", id),
+        Err(_) => out.is_broken = true,
+    }
 }
 
 // Two ids with a comma between.
 fn add_order(rest: &str, out: &mut Out) {
     let (first, second) = rest.split_once(',').unwrap_or((rest, ""));
-    out.put(match is_before(out.alloc, first, second) {
-        Ok(true) => "before",
-        Ok(false) => "not before",
-        Err(_) => "no ids",
-    });
+    let first = id_of(first, out);
+    let second = id_of(second, out);
+    put_order(first < second, out);
+    drop(first);
+    drop(second);
 }
 
-fn is_before(alloc: Global, first: &str, second: &str) -> Result<bool, PathFault> {
-    let first = id_of(alloc, first)?;
-    Ok(first < id_of(alloc, second)?)
+fn put_order(is_before: bool, out: &mut Out) {
+    out.put(if is_before { "before" } else { "not before" });
 }
 
 fn add_fault(fault: &PathFault, out: &mut Out) {
@@ -103,8 +108,7 @@ fn add_fault(fault: &PathFault, out: &mut Out) {
 }
 
 fn put_fault(kind: &str, number: usize, out: &mut Out) {
-    out.put(kind);
-    out.put_number(number as u64);
+    out.put_numbered(kind, number as u64);
 }
 
 fn add_name(text: &str, out: &mut Out) {
@@ -130,57 +134,85 @@ fn add_revision(text: &str, out: &mut Out) {
 }
 
 fn put_revision(revision: &Revision, out: &mut Out) {
+    put_printed(revision, out);
+    out.put_numbered(" ", revision.time);
+    out.put_numbered(" ", u64::from(revision.counter));
+    out.put_numbered(" ", u64::from(revision.cluster));
+}
+
+fn put_printed(revision: &Revision, out: &mut Out) {
     let mut printed = Vec::new(out.alloc);
     let put = revision.put_text(&mut printed);
     out.note(put);
     out.put_bytes(printed.as_slice());
-    put_after(revision.time, out);
-    put_after(u64::from(revision.counter), out);
-    put_after(u64::from(revision.cluster), out);
 }
 
-fn put_after(number: u64, out: &mut Out) {
-    out.put(" ");
-    out.put_number(number);
-}
-
-fn put_vector(vector: Result<RevVec, BadRevision>, out: &mut Out) {
+fn put_vector(vector: &Result<RevVec, BadRevision>, out: &mut Out) {
     match vector {
-        Ok(vector) => out.put_vector(&vector),
+        Ok(vector) => out.put_vector(vector),
         Err(fault) => out.put_number(fault.offset as u64),
     }
 }
 
 fn add_value(text: &str, out: &mut Out) {
-    match Json::from_str(out.alloc, text) {
-        Ok(json) => add_json(&json, out),
-        Err(_) => out.put("no JSON"),
+    let json = out.json(text);
+    add_json(&json, out);
+    drop(json);
+}
+
+fn add_json(json: &Option<Json>, out: &mut Out) {
+    match json {
+        Some(json) => add_property(json, out),
+        None => out.put("no JSON"),
     }
 }
 
-fn add_json(json: &Json, out: &mut Out) {
-    match Property::from_json(out.alloc, json) {
-        Ok(property) => add_property(&property, out),
-        Err(ValueFault::ValueFormat(required, found)) => {
-            out.put("no ");
-            out.put(required.as_str());
-            out.put(" ");
-            out.put(found.as_str());
-        }
-        Err(_) => out.put("memory"),
+fn add_property(json: &Json, out: &mut Out) {
+    let property = Property::from_json(out.alloc, json);
+    put_read(&property, out);
+    drop(property);
+}
+
+fn put_read(property: &Result<Property, ValueFault>, out: &mut Out) {
+    match property {
+        Ok(property) => put_property(property, out),
+        Err(ValueFault::ValueFormat(required, found)) => put_no(*required, *found, out),
+        Err(ValueFault::Memory) => out.put("memory"),
     }
+}
+
+fn put_no(required: Kind, found: Kind, out: &mut Out) {
+    out.put("no ");
+    put_kinds(required, found, out);
+}
+
+// The kind that is required and the one that was found.
+pub(crate) fn put_kinds(required: Kind, found: Kind, out: &mut Out) {
+    out.put(required.as_str());
+    out.put(" ");
+    out.put(found.as_str());
 }
 
 // The property's kind, its text and whether its copy equals it.
-fn add_property(property: &Property, out: &mut Out) {
+fn put_property(property: &Property, out: &mut Out) {
     out.put(property.kind().as_str());
     out.put(" ");
     out.put_property(property);
-    if is_copied(property) != Ok(true) {
+    if !is_copied(property) {
         out.put(" and another copy");
     }
 }
 
-fn is_copied(property: &Property) -> Result<bool, AllocError> {
-    Ok(property.copy()? == *property)
+fn is_copied(property: &Property) -> bool {
+    let copy = property.copy();
+    let is_copied = is_same(&copy, property);
+    drop(copy);
+    is_copied
+}
+
+fn is_same(copy: &Result<Property, AllocError>, property: &Property) -> bool {
+    match copy {
+        Ok(copy) => copy == property,
+        Err(_) => false,
+    }
 }

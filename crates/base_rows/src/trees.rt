@@ -1,6 +1,6 @@
 // Trees and edits.
 use jr_part::Part;
-use jr_path::{DeepCopy, List, Name, Path, PathFault};
+use jr_path::{DeepCopy, List, Name, Path};
 use jr_tree::{Datum, Edit, Refusal, Tree, Write, changes};
 use jr_value::{Property, Value};
 use rows::{Out, cut};
@@ -36,63 +36,64 @@ pub(crate) fn add(word: &str, rest: &str, kept: &mut Kept, out: &mut Out) -> boo
     match word {
         "here" | "gone" | "put" | "unset" => add_write(word, rest, &mut kept.edit, out),
         "apply" => apply(kept, out),
-        "changes" => put_changes(changes_of(&kept.tree, false, out.alloc), out),
-        "undoing" => put_changes(changes_of(&kept.tree, true, out.alloc), out),
+        "changes" => add_changes(&kept.tree, false, out),
+        "undoing" => add_changes(&kept.tree, true, out),
         "node" => add_node(rest, &kept.tree, out),
-        "refusal" => out.put_answer(is_refusal_copied(out.alloc) == Ok(true)),
+        "refusal" => add_refusal(out),
         _ => return false,
     }
     true
 }
 
-fn add_write(word: &str, rest: &str, edit: &mut Edit, out: &mut Out) {
-    match write_of(out.alloc, word, rest) {
-        Ok(write) => out.note(edit.writes.push(write)),
-        Err(_) => out.put("no write"),
-    }
-}
-
 // PATH of the node, or PATH NUMBER of its property p.
-fn write_of(alloc: Global, word: &str, rest: &str) -> Result<Write, PathFault> {
+fn add_write(word: &str, rest: &str, edit: &mut Edit, out: &mut Out) {
     let (path, number) = cut(rest);
-    let path = Path::parse(alloc, path)?;
-    match word {
-        "here" => Ok(Write::Here(path)),
-        "gone" => Ok(Write::Gone(path)),
-        "unset" => Ok(Write::Unset(path, Name::parse(alloc, "p")?)),
-        _ => put_of(alloc, path, number.parse().unwrap_or(0)),
+    let path = out.path_or_root(path);
+    match out.name("p") {
+        Some(name) => out.note(edit.writes.push(write_of(word, path, name, number))),
+        None => out.is_broken = true,
     }
 }
 
-fn put_of(alloc: Global, path: Path, number: i64) -> Result<Write, PathFault> {
-    let name = Name::parse(alloc, "p")?;
-    Ok(Write::Put(path, name, Property::Single(Value::Long(number))))
+fn write_of(word: &str, path: Path, name: Name, number: &str) -> Write {
+    match word {
+        "here" => Write::Here(path),
+        "gone" => Write::Gone(path),
+        "unset" => Write::Unset(path, name),
+        _ => Write::Put(path, name, long(number.parse().unwrap_or(0))),
+    }
 }
 
-// The tree takes a copy of the writes.
+fn long(number: i64) -> Property {
+    Property::Single(Value::Long(number))
+}
+
+// A copy of the tree takes a copy of the writes.
 fn apply(kept: &mut Kept, out: &mut Out) {
-    match applied(&kept.tree, &kept.edit) {
-        Ok(tree) => {
-            kept.tree = tree;
-            kept.edit = no_edit(out.alloc);
-        }
+    match kept.tree.copy() {
+        Ok(tree) => kept.tree = tree,
+        Err(_) => out.is_broken = true,
+    }
+    match kept.edit.copy() {
+        Ok(edit) => out.note(kept.tree.apply(&edit, None)),
+        Err(_) => out.is_broken = true,
+    }
+    kept.edit = no_edit(out.alloc);
+}
+
+// The changes from the initial tree, or back to it.
+fn add_changes(tree: &Tree, is_back: bool, out: &mut Out) {
+    match Tree::initial(out.alloc) {
+        Ok(initial) => put_between(&initial, tree, is_back, out),
         Err(_) => out.is_broken = true,
     }
 }
 
-fn applied(tree: &Tree, edit: &Edit) -> Result<Tree, AllocError> {
-    let mut tree = tree.copy()?;
-    tree.apply(&edit.copy()?, None)?;
-    Ok(tree)
-}
-
-// The changes from the initial tree, or back to it.
-fn changes_of(tree: &Tree, is_back: bool, alloc: Global) -> Result<Edit, AllocError> {
-    let initial = Tree::initial(alloc)?;
+fn put_between(initial: &Tree, tree: &Tree, is_back: bool, out: &mut Out) {
     if is_back {
-        changes(tree, &initial)
+        put_changes(changes(tree, initial), out);
     } else {
-        changes(&initial, tree)
+        put_changes(changes(initial, tree), out);
     }
 }
 
@@ -123,22 +124,24 @@ fn letter(write: &Write) -> &'static str {
 
 // PATH: how many nodes there are at and below it, its children's names, and its property p.
 fn add_node(path: &str, tree: &Tree, out: &mut Out) {
-    match out.path(path) {
-        Some(path) => put_node(&path, tree, out),
-        None => out.put("no path"),
-    }
+    let path = out.path_or_root(path);
+    put_size(tree.subtree(&path), out);
+    put_children(tree.children(&path), out);
+    put_p(&path, tree, out);
 }
 
-fn put_node(path: &Path, tree: &Tree, out: &mut Out) {
-    match tree.subtree(path) {
+fn put_size(below: Result<Tree, AllocError>, out: &mut Out) {
+    match below {
         Ok(below) => out.put_number(below.len() as u64),
         Err(_) => out.is_broken = true,
     }
-    match tree.children(path) {
+}
+
+fn put_children(names: Result<Vec<Name>, AllocError>, out: &mut Out) {
+    match names {
         Ok(names) => put_names(names.as_slice(), out),
         Err(_) => out.is_broken = true,
     }
-    put_p(path, tree, out);
 }
 
 fn put_names(names: &[Name], out: &mut Out) {
@@ -151,7 +154,7 @@ fn put_names(names: &[Name], out: &mut Out) {
 fn put_p(path: &Path, tree: &Tree, out: &mut Out) {
     match out.name("p") {
         Some(name) => put_property(tree.property(path, &name), out),
-        None => out.put(" no name"),
+        None => out.is_broken = true,
     }
 }
 
@@ -162,9 +165,22 @@ fn put_property(property: Option<&Property>, out: &mut Out) {
     }
 }
 
-fn is_refusal_copied(alloc: Global) -> Result<bool, AllocError> {
-    let mut parts = List::new(alloc);
-    parts.push(Datum::Number(7))?;
-    let copy = Refusal { number: 5, parts }.copy()?;
-    Ok(matches!(copy.parts.inner().first(), Some(Datum::Number(7))))
+// Whether a refusal's copy names what it names.
+fn add_refusal(out: &mut Out) {
+    let mut parts = List::new(out.alloc);
+    let put = parts.push(Datum::Number(7));
+    out.note(put);
+    let refusal = Refusal { number: 5, parts };
+    out.put_answer(is_refusal(&refusal.copy()));
+}
+
+fn is_refusal(copy: &Result<Refusal, AllocError>) -> bool {
+    match copy {
+        Ok(copy) => is_seven(copy.parts.as_slice()),
+        Err(_) => false,
+    }
+}
+
+fn is_seven(parts: &[Datum]) -> bool {
+    matches!(parts.first(), Some(Datum::Number(7)))
 }

@@ -1,21 +1,22 @@
 // Type definitions as text: what a text means, and how types print.
 use cnd_print::print_cnd;
-use jr_builtin::builtin;
 use jr_cnd::{Cnd, NoCnd, read_cnd};
-use jr_path::{DeepCopy, List, Name};
+use jr_path::{DeepCopy, List};
 use jr_types::{Registry, TypeDef};
 use rows::Out;
 use serde_json::Value as Json;
-use std::alloc::{AllocError, Global};
+use std::alloc::AllocError;
 
-// `definitions`: the canonical text of the text that is given as JSON, with `again` where it reads
-// back as it prints, or the kind of fault and its offset. `printed` NAMES: the text of these
-// built-in types.
-pub(crate) fn add(word: &str, asked: &str, given: &str, out: &mut Out) {
-    if word == "printed" {
-        return put_canonical(printed(out.alloc, asked), out);
-    }
-    match out.json(given) {
+// The canonical text of the text that is given as JSON, with `again` where it reads back as it
+// prints, or the kind of fault and its offset.
+pub(crate) fn add(given: &str, out: &mut Out) {
+    let json = out.json(given);
+    add_given(&json, out);
+    drop(json);
+}
+
+fn add_given(json: &Option<Json>, out: &mut Out) {
+    match json {
         Some(Json::String(text)) => add_meaning(text.as_str(), out),
         _ => out.put("no text"),
     }
@@ -24,9 +25,15 @@ pub(crate) fn add(word: &str, asked: &str, given: &str, out: &mut Out) {
 fn add_meaning(text: &str, out: &mut Out) {
     match read_cnd(out.alloc, text) {
         Ok(cnd) => add_canonical(&cnd, out),
-        Err(NoCnd::Syntax(offset)) => out.put_numbered("syntax ", offset as u64),
-        Err(NoCnd::BadDef(offset)) => out.put_numbered("definition ", offset as u64),
-        Err(NoCnd::Memory) => out.is_broken = true,
+        Err(fault) => put_fault(fault, out),
+    }
+}
+
+fn put_fault(fault: NoCnd, out: &mut Out) {
+    match fault {
+        NoCnd::Syntax(offset) => out.put_numbered("syntax ", offset as u64),
+        NoCnd::BadDef(offset) => out.put_numbered("definition ", offset as u64),
+        NoCnd::Memory => out.is_broken = true,
     }
 }
 
@@ -38,63 +45,74 @@ fn add_canonical(cnd: &Cnd, out: &mut Out) {
 }
 
 fn put_read_again(text: &str, out: &mut Out) {
-    out.put_made(json_text(out.alloc, text));
-    if prints_as(out.alloc, text) == Ok(true) {
+    put_quoted(text, out);
+    if prints_as(text, out) {
         out.put(" again");
     }
 }
 
-fn json_text(alloc: Global, text: &str) -> Result<String, AllocError> {
-    Json::try_from_str(alloc, text)?.to_string(alloc)
-}
-
 // Whether the text is read, and prints as itself.
-fn prints_as(alloc: Global, text: &str) -> Result<bool, AllocError> {
-    match read_cnd(alloc, text) {
-        Ok(cnd) => prints_to(alloc, &cnd, text),
-        Err(NoCnd::Memory) => Err(AllocError),
-        Err(_) => Ok(false),
+fn prints_as(text: &str, out: &Out) -> bool {
+    match read_cnd(out.alloc, text) {
+        Ok(cnd) => prints_to(&cnd, text, out),
+        Err(_) => false,
     }
 }
 
-fn prints_to(alloc: Global, cnd: &Cnd, text: &str) -> Result<bool, AllocError> {
-    Ok(print_cnd(alloc, cnd)?.as_str() == text)
+fn prints_to(cnd: &Cnd, text: &str, out: &Out) -> bool {
+    match print_cnd(out.alloc, cnd) {
+        Ok(printed) => printed.as_str() == text,
+        Err(_) => false,
+    }
 }
 
-fn put_canonical(text: Result<String, AllocError>, out: &mut Out) {
-    match text {
-        Ok(text) => out.put_made(json_text(out.alloc, text.as_str())),
+// A text as it stands in JSON.
+fn put_quoted(text: &str, out: &mut Out) {
+    let json = Json::try_from_str(out.alloc, text);
+    put_json(&json, out);
+    drop(json);
+}
+
+fn put_json(json: &Result<Json, AllocError>, out: &mut Out) {
+    match json {
+        Ok(json) => out.put_made(json.to_string(out.alloc)),
         Err(_) => out.is_broken = true,
     }
 }
 
-fn printed(alloc: Global, names: &str) -> Result<String, AllocError> {
-    let definitions = registered(alloc, &builtin(alloc)?, names)?;
-    let cnd = Cnd {
-        prefixes: List::new(alloc),
-        definitions,
-    };
-    print_cnd(alloc, &cnd)
-}
-
-// Copies of the types of these names.
-fn registered(
-    alloc: Global,
-    registry: &Registry,
-    names: &str,
-) -> Result<List<TypeDef>, AllocError> {
-    let mut definitions = List::new(alloc);
-    for name in names.split(' ') {
-        if let Some(definition) = type_of(alloc, registry, name) {
-            definitions.push(definition.copy()?)?;
-        }
+// NAMES: the text of these built-in types.
+pub(crate) fn add_printed(types: &Registry, names: &str, out: &mut Out) {
+    let cnd = definitions_of(types, names, out);
+    match print_cnd(out.alloc, &cnd) {
+        Ok(text) => put_quoted(text.as_str(), out),
+        Err(_) => out.is_broken = true,
     }
-    Ok(definitions)
 }
 
-fn type_of<'a>(alloc: Global, registry: &'a Registry, name: &str) -> Option<&'a TypeDef> {
-    match Name::parse(alloc, name) {
-        Ok(name) => registry.get(&name),
-        Err(_) => None,
+fn definitions_of(types: &Registry, names: &str, out: &mut Out) -> Cnd {
+    let mut definitions = List::new(out.alloc);
+    for name in names.split_whitespace() {
+        push_copy(&mut definitions, type_named(types, name, out), out);
+    }
+    Cnd {
+        prefixes: List::new(out.alloc),
+        definitions,
+    }
+}
+
+fn push_copy(definitions: &mut List<TypeDef>, definition: Option<&TypeDef>, out: &mut Out) {
+    if let Some(definition) = definition {
+        out.push(definitions, definition.copy());
+    }
+}
+
+pub(crate) fn type_named<'a>(
+    types: &'a Registry,
+    name: &str,
+    out: &mut Out,
+) -> Option<&'a TypeDef> {
+    match out.name(name) {
+        Some(name) => types.get(&name),
+        None => None,
     }
 }

@@ -1,31 +1,37 @@
 // Events of commits. The commits are JSON: a list for each, in which a list for each change has a
 // sign, a path, and a property's name where the change is of one: `+` is for what is added, `-` for
 // what is removed, `~` for a property that is changed.
+use crate::json::items;
 use jcr_observe::{Filter, events, events_text};
-use jr_path::{Item, List, Name, Path};
+use jr_path::{Item, List};
 use jr_rev::Revision;
 use jr_tree::{CommitChanges, ItemChange};
-use rows::{Out, cut, items_of, short, text_in};
+use rows::{Out, cut, items_of, short, text_at};
 use serde_json::Value as Json;
-use std::alloc::{AllocError, Global};
 
 // PATH `deep` MASK (another word for a shallow filter)
 pub(crate) fn add(asked: &str, given: &str, out: &mut Out) {
-    match (filter_of(asked, out), commits_of(given, out)) {
-        (Some(filter), Some(commits)) => {
-            out.put_made(text_of(out.alloc, commits.as_slice(), &filter));
-        }
+    let json = out.json(given);
+    match &json {
+        Some(json) => add_asked(asked, items_of(json), out),
+        None => out.put("no commits"),
+    }
+    drop(json);
+}
+
+fn add_asked(asked: &str, commits: Option<&[Json]>, out: &mut Out) {
+    match (filter_of(asked, out), commits) {
+        (Some(filter), Some(commits)) => put_events(&filter, commits, out),
         _ => out.put("no commits"),
     }
 }
 
-fn text_of(
-    alloc: Global,
-    commits: &[CommitChanges],
-    filter: &Filter,
-) -> Result<String, AllocError> {
-    let events = events(alloc, commits, filter)?;
-    events_text(alloc, events.as_slice())
+fn put_events(filter: &Filter, commits: &[Json], out: &mut Out) {
+    let commits = commits_of(commits, out);
+    match events(out.alloc, commits.as_slice(), filter) {
+        Ok(events) => out.put_made(events_text(out.alloc, events.as_slice())),
+        Err(_) => out.is_broken = true,
+    }
 }
 
 fn filter_of(asked: &str, out: &mut Out) -> Option<Filter> {
@@ -41,33 +47,13 @@ fn filter_of(asked: &str, out: &mut Out) -> Option<Filter> {
     }
 }
 
-fn commits_of(text: &str, out: &mut Out) -> Option<List<CommitChanges>> {
-    match out.json(text) {
-        Some(json) => commits_in(items_of(&json), out),
-        None => None,
+fn commits_of(commits: &[Json], out: &mut Out) -> List<CommitChanges> {
+    let mut read = List::new(out.alloc);
+    for changes in commits {
+        let put = read.push(commit_of(changes_of(items(changes), out)));
+        out.note(put);
     }
-}
-
-fn commits_in(items: Option<&[Json]>, out: &mut Out) -> Option<List<CommitChanges>> {
-    let items = items?;
-    let mut commits = List::new(out.alloc);
-    for item in items {
-        if !push_commit(&mut commits, item, out) {
-            return None;
-        }
-    }
-    Some(commits)
-}
-
-fn push_commit(commits: &mut List<CommitChanges>, item: &Json, out: &mut Out) -> bool {
-    match changes_in(items_of(item), out) {
-        Some(changes) => {
-            let put = commits.push(commit_of(changes));
-            out.note(put);
-            true
-        }
-        None => false,
-    }
+    read
 }
 
 fn commit_of(changes: List<ItemChange>) -> CommitChanges {
@@ -81,60 +67,22 @@ fn commit_of(changes: List<ItemChange>) -> CommitChanges {
     }
 }
 
-fn changes_in(items: Option<&[Json]>, out: &mut Out) -> Option<List<ItemChange>> {
-    let items = items?;
-    let mut changes = List::new(out.alloc);
-    for item in items {
-        if !push_change(&mut changes, item, out) {
-            return None;
-        }
+fn changes_of(changes: &[Json], out: &mut Out) -> List<ItemChange> {
+    let mut read = List::new(out.alloc);
+    for change in changes {
+        let put = read.push(change_of(items(change), out));
+        out.note(put);
     }
-    Some(changes)
+    read
 }
 
-fn push_change(changes: &mut List<ItemChange>, item: &Json, out: &mut Out) -> bool {
-    match change_of(item, out) {
-        Some(change) => {
-            let put = changes.push(change);
-            out.note(put);
-            true
-        }
-        None => false,
-    }
-}
-
-fn change_of(json: &Json, out: &mut Out) -> Option<ItemChange> {
-    match items_of(json) {
-        Some([sign, path]) => node_change(text_in(sign), out.path(text_in(path))),
-        Some([sign, path, name]) => property_change(
-            text_in(sign),
-            out.path(text_in(path)),
-            out.name(text_in(name)),
-        ),
-        _ => None,
-    }
-}
-
-fn node_change(sign: &str, path: Option<Path>) -> Option<ItemChange> {
-    match path {
-        Some(path) => Some(change_with(sign, Item { path, name: None })),
-        None => None,
-    }
-}
-
-fn property_change(sign: &str, path: Option<Path>, name: Option<Name>) -> Option<ItemChange> {
-    match (path, name) {
-        (Some(path), Some(name)) => {
-            let name = Some(name);
-            Some(change_with(sign, Item { path, name }))
-        }
-        _ => None,
-    }
-}
-
-fn change_with(sign: &str, item: Item) -> ItemChange {
+// A change without a name is of the node.
+fn change_of(change: &[Json], out: &mut Out) -> ItemChange {
+    let sign = text_at(change, 0);
+    let path = out.path_or_root(text_at(change, 1));
+    let name = out.name(text_at(change, 2));
     ItemChange {
-        item,
+        item: Item { path, name },
         before: sign != "+",
         after: sign != "-",
     }

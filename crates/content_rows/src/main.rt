@@ -4,6 +4,7 @@
 
 mod definitions;
 mod events;
+mod json;
 mod locks;
 mod plans;
 mod questions;

@@ -10,24 +10,26 @@ use rows::{Out, cut, short};
 use std::alloc::AllocError;
 
 // `identifier` SESSION COUNT, `by_id` TEXT, `referrers` TEXT, `dangling`
-pub(crate) fn add(tree: &Tree, word: &str, first: &str, rest: &str, out: &mut Out) {
+pub(crate) fn add(tree: &Tree, word: &str, asked: &str, out: &mut Out) {
+    let (first, rest) = cut(asked);
     match word {
         "identifier" => out.put_made(identifier(out.alloc, short(first), short(rest))),
-        "by_id" => put_found(&by_id(out.alloc, tree, first), out),
-        "referrers" => put_items(&referrers(out.alloc, tree, first), out),
-        _ => put_dangling(&dangling(out.alloc, tree), out),
+        "by_id" => put_found(by_id(out.alloc, tree, first), out),
+        "referrers" => put_items(referrers(out.alloc, tree, first), out),
+        _ => put_dangling(dangling(out.alloc, tree), out),
     }
 }
 
-fn put_dangling(found: &Result<Option<Item>, AllocError>, out: &mut Out) {
-    match found {
+fn put_dangling(found: Result<Option<Item>, AllocError>, out: &mut Out) {
+    match &found {
         Ok(Some(item)) => put_item(item, out),
         Ok(None) => out.put("none"),
         Err(_) => out.is_broken = true,
     }
+    drop(found);
 }
 
-fn put_items(items: &Result<Vec<Item>, AllocError>, out: &mut Out) {
+fn put_items(items: Result<Vec<Item>, AllocError>, out: &mut Out) {
     match items {
         Ok(items) => put_all(items.as_slice(), out),
         Err(_) => out.is_broken = true,
@@ -36,7 +38,7 @@ fn put_items(items: &Result<Vec<Item>, AllocError>, out: &mut Out) {
 
 fn put_all(items: &[Item], out: &mut Out) {
     if items.is_empty() {
-        return out.put("nothing");
+        out.put("nothing");
     }
     let mut between = "";
     for item in items {
@@ -73,5 +75,5 @@ fn put_history(history: &HistoryWrites, out: &mut Out) {
 }
 
 pub(crate) fn add_names(tree: &Tree, path: &Path, out: &mut Out) {
-    put_names(&version_names(out.alloc, tree, path), out);
+    put_names(version_names(out.alloc, tree, path), out);
 }

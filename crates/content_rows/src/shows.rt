@@ -6,9 +6,9 @@ use rows::Out;
 use std::alloc::AllocError;
 
 // A path, or `none`.
-pub(crate) fn put_found(found: &Result<Option<Path>, AllocError>, out: &mut Out) {
+pub(crate) fn put_found(found: Result<Option<Path>, AllocError>, out: &mut Out) {
     match found {
-        Ok(Some(path)) => out.put_path(path),
+        Ok(Some(path)) => out.put_path(&path),
         Ok(None) => out.put("none"),
         Err(_) => out.is_broken = true,
     }
@@ -29,7 +29,7 @@ pub(crate) fn put_child(path: &Path, name: &Name, out: &mut Out) {
     }
 }
 
-pub(crate) fn put_names(names: &Result<Vec<Name>, AllocError>, out: &mut Out) {
+pub(crate) fn put_names(names: Result<Vec<Name>, AllocError>, out: &mut Out) {
     match names {
         Ok(names) => put_all(names.as_slice(), out),
         Err(_) => out.is_broken = true,
@@ -89,9 +89,9 @@ pub(crate) fn put_refusal(refusal: &Refusal, out: &mut Out) {
 }
 
 // The writes of an edit, or its refusal.
-pub(crate) fn put_edit(edit: &Result<Edit, Refusal>, out: &mut Out) {
+pub(crate) fn put_edit(edit: Result<Edit, Refusal>, out: &mut Out) {
     match edit {
         Ok(edit) => put_writes(edit.writes.as_slice(), out),
-        Err(refusal) => put_refusal(refusal, out),
+        Err(refusal) => put_refusal(&refusal, out),
     }
 }

@@ -8,30 +8,29 @@ ghost use Rattle.jr_part.specs.Parts.{LacksNothing};
 ghost use Rattle.jr_part.specs.declared.need.Need.TheVariants as need;
 ghost use Rattle.jr_path.specs.Names.{name_cmp};
 
+use crate::json::{is_true_at, items, items_read, number_at};
 use crate::shows::{put_refusal, put_writes};
-use crate::trees::{tree_in, tree_of};
-use crate::types::register_one;
-use crate::versions::tell_behind;
+use crate::trees::{add_object, insert, tree_of};
+use crate::types::broken;
+use crate::versions::{add_type, tell_behind};
 use jcr_trans::Command;
 use jcr_view::{Pending, is_viewed};
-use jr_args::command;
-use jr_builtin::builtin;
+use jr_args::{Fault, command};
 use jr_items::OwnName;
 use jr_part::{Need, Part};
 use jr_path::{DeepCopy, List, Name, Path};
 use jr_rev::{RevVec, Revision};
-use jr_tree::{Node, Refusal, Tree, Who};
+use jr_tree::{Edit, Node, Refusal, Tree, Who};
 use jr_types::Registry;
 use jr_value::{Property, Value};
-use rows::{Out, items_of, small};
+use rows::{Out, text_at};
 use serde_json::Value as Json;
 use std::alloc::{AllocError, Global};
 
-// What the commands work on: the types, the tree at the base and what is known of it, what is
-// pending, and who runs them; and whether a command has told its answer.
+// What the commands work on: the tree at the base and what is known of it, what is pending, and who
+// runs them; and whether a command has told its answer.
 #[derive(Drop)]
 struct Site {
-    types: Registry,
     base: Tree,
     part: Part,
     pending: Pending,
@@ -43,38 +42,29 @@ struct Site {
 // `["who",SESSION,IDS]`, `["edit"]`, which tells what is pending, `["save"]`, `["refresh",KEEP]`,
 // `["forget"]`, after which nothing is known of the tree, and `["base",TREE]`: another tree at the
 // base, on which what is pending is made again.
-pub(crate) fn add(steps: &str, given: &str, out: &mut Out) {
-    match (out.json(steps), tree_of(given, out)) {
-        (Some(steps), Some(tree)) => add_all(items_of(&steps), site_on(&tree, out.alloc), out),
-        _ => out.put("no commands"),
-    }
+pub(crate) fn add(types: &mut Registry, steps: &str, given: &str, out: &mut Out) {
+    let tree = tree_of(given, out);
+    let mut site = site_on(based(&tree, out), out.alloc);
+    let steps = out.json(steps);
+    add_steps(&mut site, types, items_read(&steps), out);
+    drop(steps);
+    drop(site);
 }
 
-fn add_all(steps: Option<&[Json]>, site: Result<Site, AllocError>, out: &mut Out) {
-    match site {
-        Ok(site) => add_steps(steps.unwrap_or(&[]), site, out),
-        Err(_) => out.is_broken = true,
-    }
-}
-
-fn add_steps(steps: &[Json], site: Site, out: &mut Out) {
-    let mut site = site;
+fn add_steps(site: &mut Site, types: &mut Registry, steps: &[Json], out: &mut Out) {
     for step in steps {
-        add_step(&mut site, step, out);
+        add_step(site, types, step, items(step), out);
     }
 }
 
-fn site_on(tree: &Tree, alloc: Global) -> Result<Site, AllocError> {
-    let types = builtin(alloc)?;
-    let base = based(tree, alloc)?;
-    Ok(Site {
-        types,
+fn site_on(base: Tree, alloc: Global) -> Site {
+    Site {
         base,
         part: Part::new(alloc),
         pending: Pending::new(alloc),
         who: first_who(),
         told: false,
-    })
+    }
 }
 
 fn first_who() -> Who {
@@ -98,47 +88,41 @@ fn at_time(time: u64) -> Revision {
 
 // The tree with the start as the birth of each node. The root is an nt:unstructured where no type
 // is given.
-fn based(tree: &Tree, alloc: Global) -> Result<Tree, AllocError> {
-    let mut base = Tree::new(alloc);
+fn based(tree: &Tree, out: &mut Out) -> Tree {
+    let mut base = Tree::new(out.alloc);
     for (path, node) in tree.iter() {
-        insert_first(&mut base, path, node)?;
+        insert(&mut base, path, born(node), out);
     }
-    type_root(tree, &mut base, alloc)?;
-    Ok(base)
+    out.note(type_root(&mut base, out.alloc));
+    base
 }
 
-fn insert_first(base: &mut Tree, path: &Path, node: &Node) -> Result<(), AllocError> {
+fn born(node: &Node) -> Result<Node, AllocError> {
     let props = node.props.copy()?;
     let born = Some(at_time(0));
-    base.insert(path.copy()?, Node { props, born })
+    Ok(Node { props, born })
 }
 
-fn type_root(tree: &Tree, base: &mut Tree, alloc: Global) -> Result<(), AllocError> {
+fn type_root(base: &mut Tree, alloc: Global) -> Result<(), AllocError> {
     let name = OwnName::PrimaryType.name(alloc)?;
-    if tree.property(&Path::root(alloc), &name).is_some() {
+    if base.property(&Path::root(alloc), &name).is_some() {
         return Ok(());
     }
     let kind = Property::Single(Value::Name(OwnName::Unstructured.name(alloc)?));
     base.put(&Path::root(alloc), name, kind)
 }
 
-fn add_step(site: &mut Site, step: &Json, out: &mut Out) {
-    match items_of(step) {
-        Some([Json::String(word), rest @ ..]) => add_of(site, word.as_str(), rest, step, out),
-        _ => out.put("no step"),
-    }
-}
-
-fn add_of(site: &mut Site, word: &str, rest: &[Json], step: &Json, out: &mut Out) {
-    match (word, rest) {
-        ("define", [definition]) => define(&mut site.types, definition, out),
-        ("save", []) => save(site, out),
-        ("edit", []) => tell_edit(site, out),
-        ("refresh", [Json::Bool(keep)]) => refresh(site, *keep, out),
-        ("forget", []) => site.part = Part::new(out.alloc),
-        ("base", [tree]) => move_base(site, tree, out),
-        ("who", [session, ids]) => set_who(&mut site.who, small(session), small(ids)),
-        _ => tell(site, step, out),
+// The step is lent as it stands, and as the list that it is.
+fn add_step(site: &mut Site, types: &mut Registry, step: &Json, parts: &[Json], out: &mut Out) {
+    match text_at(parts, 0) {
+        "define" => add_type(types, parts.get(1), out),
+        "save" => save(site, out),
+        "edit" => tell_edit(site, out),
+        "refresh" => refresh(site, is_true_at(parts, 1), out),
+        "forget" => site.part = Part::new(out.alloc),
+        "base" => move_base(site, parts.get(1), out),
+        "who" => set_who(&mut site.who, number_at(parts, 1), number_at(parts, 2)),
+        _ => tell(site, types, step, out),
     }
 }
 
@@ -147,23 +131,20 @@ fn set_who(who: &mut Who, session: u32, ids: u32) {
     who.ids = ids;
 }
 
-fn define(types: &mut Registry, definition: &Json, out: &mut Out) {
-    register_one(types, definition, out);
-}
-
 // What is pending comes to the tree by the next revision, which the base then has too.
 fn save(site: &mut Site, out: &mut Out) {
-    let saved = saved(site);
-    out.note(saved);
+    match site.pending.edit() {
+        Ok(edit) => save_edit(site, &edit, out),
+        Err(_) => out.is_broken = true,
+    }
     begin(site, out.alloc);
 }
 
-fn saved(site: &mut Site) -> Result<(), AllocError> {
-    let edit = site.pending.edit()?;
+fn save_edit(site: &mut Site, edit: &Edit, out: &mut Out) {
     let revision = next_revision(&site.who.base);
-    site.base.apply(&edit, Some(revision))?;
+    let applied = site.base.apply(edit, Some(revision));
+    out.note(applied);
     site.who.base.raise(revision);
-    Ok(())
 }
 
 fn next_revision(base: &RevVec) -> Revision {
@@ -187,38 +168,24 @@ fn refresh(site: &mut Site, keep: bool, out: &mut Out) {
     }
 }
 
-fn move_base(site: &mut Site, tree: &Json, out: &mut Out) {
-    match tree_in(tree, out) {
-        Some(tree) => set_base(site, based(&tree, out.alloc), out),
-        None => out.put("no tree"),
+fn move_base(site: &mut Site, json: Option<&Json>, out: &mut Out) {
+    let mut tree = tree_of("{}", out);
+    match json {
+        Some(json) => add_object(&mut tree, false, json, out),
+        None => out.is_broken = true,
     }
-}
-
-fn set_base(site: &mut Site, base: Result<Tree, AllocError>, out: &mut Out) {
-    match base {
-        Ok(base) => {
-            site.base = base;
-            rebase(site, out);
-        }
-        Err(_) => out.is_broken = true,
-    }
+    site.base = based(&tree, out);
+    rebase(site, out);
 }
 
 fn rebase(site: &mut Site, out: &mut Out) {
     site.part = Part::new(out.alloc);
-    let rebased = rebased(&mut site.pending, &site.base, &mut site.part, out.alloc);
+    match site.pending.needs_to_rebase() {
+        Ok(needs) => load_all(needs.as_slice(), &site.base, &mut site.part, out),
+        Err(_) => out.is_broken = true,
+    }
+    let rebased = site.pending.rebase(&site.part);
     out.note(rebased);
-}
-
-fn rebased(
-    pending: &mut Pending,
-    base: &Tree,
-    part: &mut Part,
-    alloc: Global,
-) -> Result<(), AllocError> {
-    let needs = pending.needs_to_rebase()?;
-    load_all(needs.as_slice(), base, part, alloc)?;
-    pending.rebase(part)
 }
 
 fn tell_edit(site: &mut Site, out: &mut Out) {
@@ -229,29 +196,34 @@ fn tell_edit(site: &mut Site, out: &mut Out) {
     }
 }
 
-fn tell(site: &mut Site, step: &Json, out: &mut Out) {
+fn tell(site: &mut Site, types: &Registry, step: &Json, out: &mut Out) {
     tell_behind(&mut site.told, out);
-    match command(out.alloc, step) {
-        Ok(command) => tell_command(site, &command, out),
+    let command = command(out.alloc, step);
+    tell_read(site, types, &command, out);
+    drop(command);
+}
+
+fn tell_read(site: &mut Site, types: &Registry, command: &Result<Command, Fault>, out: &mut Out) {
+    match command {
+        Ok(command) => tell_command(site, types, command, out),
         Err(_) => out.put("no command"),
     }
 }
 
-fn tell_command(site: &mut Site, command: &Command, out: &mut Out) {
-    let loaded = load(
+fn tell_command(site: &mut Site, types: &Registry, command: &Command, out: &mut Out) {
+    load(
         &site.pending,
         command,
         &site.who,
         &site.base,
         &mut site.part,
-        out.alloc,
+        out,
     );
-    out.note(loaded);
     run(
         &mut site.pending,
         command,
         &site.part,
-        &site.types,
+        types,
         &mut site.who,
         out,
     );
@@ -269,7 +241,7 @@ fn run(
         return out.put("no view command");
     }
     match lacks_tree(command, part) {
-        Ok(false) => put_reply(&pending.run(command, part, types, who), out),
+        Ok(false) => put_reply(pending.run(command, part, types, who), out),
         _ => out.put("no view command"),
     }
 }
@@ -291,10 +263,10 @@ fn lacks_some(part: &Part) -> Result<bool, AllocError>
     Ok(part.lacks(&Need::All)?.is_some())
 }
 
-fn put_reply(reply: &Result<String, Refusal>, out: &mut Out) {
+fn put_reply(reply: Result<String, Refusal>, out: &mut Out) {
     match reply {
         Ok(text) => out.put(text.as_str()),
-        Err(refusal) => put_refusal(refusal, out),
+        Err(refusal) => put_refusal(&refusal, out),
     }
 }
 
@@ -305,60 +277,72 @@ fn load(
     who: &Who,
     base: &Tree,
     part: &mut Part,
-    alloc: Global,
-) -> Result<(), AllocError> {
+    out: &mut Out,
+) {
     for _ in 0..100_000_u32 {
-        let needs = pending.needs(command, part, who)?;
-        if !take_first(needs.as_slice(), base, part, alloc)? {
-            return Ok(());
+        if !load_next(pending.needs(command, part, who), base, part, out) {
+            return;
         }
     }
-    Ok(())
 }
 
-fn load_all(needs: &[Need], base: &Tree, part: &mut Part, alloc: Global) -> Result<(), AllocError> {
+fn load_next(
+    needs: Result<Vec<Need>, AllocError>,
+    base: &Tree,
+    part: &mut Part,
+    out: &mut Out,
+) -> bool {
+    match needs {
+        Ok(needs) => take_first(needs.as_slice(), base, part, out),
+        Err(_) => broken(out),
+    }
+}
+
+fn load_all(needs: &[Need], base: &Tree, part: &mut Part, out: &mut Out) {
     for _ in 0..100_000_u32 {
-        if !take_first(needs, base, part, alloc)? {
-            return Ok(());
+        if !take_first(needs, base, part, out) {
+            return;
         }
     }
-    Ok(())
 }
 
 // Takes from the tree what lacks first, and tells whether something does.
-fn take_first(
-    needs: &[Need],
-    base: &Tree,
-    part: &mut Part,
-    alloc: Global,
-) -> Result<bool, AllocError> {
-    match lacking(needs, part)? {
-        Some(need) => taken(base, &need, part, alloc),
-        None => Ok(false),
-    }
-}
-
-fn taken(base: &Tree, need: &Need, part: &mut Part, alloc: Global) -> Result<bool, AllocError> {
-    take(base, need, part, alloc)?;
-    Ok(true)
-}
-
-fn lacking(needs: &[Need], part: &Part) -> Result<Option<Need>, AllocError> {
+fn take_first(needs: &[Need], base: &Tree, part: &mut Part, out: &mut Out) -> bool {
     for need in needs {
-        let lacking = part.lacks(need)?;
-        if lacking.is_some() {
-            return Ok(lacking);
+        if take_lacking(need, base, part, out) {
+            return true;
         }
     }
-    Ok(None)
+    false
 }
 
-fn take(base: &Tree, need: &Need, part: &mut Part, alloc: Global) -> Result<(), AllocError> {
-    match need {
-        Need::Node(path) => take_node(base, path, part),
-        Need::Children(path) => take_children(base, path, part, alloc),
-        _ => Ok(()),
+fn take_lacking(need: &Need, base: &Tree, part: &mut Part, out: &mut Out) -> bool {
+    let lacking = part.lacks(need);
+    let is_lacking = take(&lacking, base, part, out);
+    drop(lacking);
+    is_lacking
+}
+
+fn take(
+    lacking: &Result<Option<Need>, AllocError>,
+    base: &Tree,
+    part: &mut Part,
+    out: &mut Out,
+) -> bool {
+    match lacking {
+        Ok(Some(need)) => taken(need, base, part, out),
+        Ok(None) => false,
+        Err(_) => broken(out),
     }
+}
+
+fn taken(need: &Need, base: &Tree, part: &mut Part, out: &mut Out) -> bool {
+    match need {
+        Need::Node(path) => out.note(take_node(base, path, part)),
+        Need::Children(path) => take_children(base, path, part, out),
+        _ => {}
+    }
+    true
 }
 
 fn take_node(base: &Tree, path: &Path, part: &mut Part) -> Result<(), AllocError> {
@@ -368,29 +352,32 @@ fn take_node(base: &Tree, path: &Path, part: &mut Part) -> Result<(), AllocError
     }
 }
 
-fn take_children(
-    base: &Tree,
-    path: &Path,
-    part: &mut Part,
-    alloc: Global,
-) -> Result<(), AllocError> {
-    let names = dated_children(alloc, base, path)?;
+fn take_children(base: &Tree, path: &Path, part: &mut Part, out: &mut Out) {
+    let names = dated_children(base, path, out);
     if rise(names.as_slice()) {
-        return part.put_children(path, names);
+        out.note(part.put_children(path, names));
     }
-    Ok(())
 }
 
-fn dated_children(
-    alloc: Global,
+fn dated_children(base: &Tree, path: &Path, out: &mut Out) -> List<(Name, Option<Revision>)> {
+    let mut dated = List::new(out.alloc);
+    match base.children(path) {
+        Ok(names) => push_dated(&mut dated, base, path, names.as_slice(), out),
+        Err(_) => out.is_broken = true,
+    }
+    dated
+}
+
+fn push_dated(
+    dated: &mut List<(Name, Option<Revision>)>,
     base: &Tree,
     path: &Path,
-) -> Result<List<(Name, Option<Revision>)>, AllocError> {
-    let mut dated = List::new(alloc);
-    for name in &base.children(path)? {
-        dated.push(dated_child(base, path, name)?)?;
+    names: &[Name],
+    out: &mut Out,
+) {
+    for name in names {
+        out.push(dated, dated_child(base, path, name));
     }
-    Ok(dated)
 }
 
 fn dated_child(

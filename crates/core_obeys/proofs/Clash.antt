@@ -13,7 +13,7 @@ use Rattle.oak_clash.specs.declared.mark.Mark.{Mark}
 use Rattle.oak_clash.specs.declared.mark.Mark.TheVariants.{Exists, Guard, Touch, Prop}
 use Rattle.oak_clash.specs.declared.mark.MarkAt.{MarkAt}
 use Rattle.oak_clash.specs.Clashes.{clash, clashing}
-use Rattle.jcr_plan.proofs.Membership.{Has, IsIn}
+use Rattle.jcr_marks.proofs.Membership.{Has, IsIn}
 
 -- Exists or Guard of the node at p
 abbrev pub IsStrong : Path → List MarkAt → Type 0

@@ -16,8 +16,8 @@ use Rattle.jr_tree.proofs.Pointwise.{same_path as path_same}
 use Rattle.jr_items.specs.Names.{lock_owner, lock_is_deep}
 use Rattle.jr_items.specs.Items.{same_path, is_flag, is_versionable, is_checked_in, upward}
 use Rattle.jcr_lock.specs.Locks.{lock_covers, is_lock, frozen_by}
-use Rattle.jcr_plan.specs.Marks.{are_same, locks_anew, is_frozen_anew, is_path}
-use Rattle.jcr_plan.proofs.Membership.{IsIn}
+use Rattle.jcr_marks.specs.Marks.{are_same, locks_anew, is_frozen_anew, is_path}
+use Rattle.jcr_marks.proofs.Membership.{IsIn}
 use Rattle.core_obeys.proofs.Views.{view_of}
 use Rattle.core_obeys.proofs.Steps.{IsLocked, below, is_frozen}
 use Rattle.core_obeys.proofs.Locks.{true_or_false}

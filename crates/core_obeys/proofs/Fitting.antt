@@ -25,7 +25,7 @@ use Rattle.jr_tree.proofs.EditLaw.{has_applied, property_fitted, Orderly-all}
 use Rattle.jr_tree.proofs.Pointwise.{same_path}
 use Rattle.jr_tree.proofs.Proper.{same_name, proper_fits}
 use Rattle.jr_items.specs.Items.{child_path}
-use Rattle.jcr_plan.proofs.Membership.{IsIn, by_write}
+use Rattle.jcr_marks.proofs.Membership.{IsIn, by_write}
 use Rattle.core_obeys.proofs.Views.{View, view_of, after}
 use Rattle.core_obeys.proofs.Steps.{IsWhole, IsFit}
 

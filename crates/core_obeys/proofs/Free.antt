@@ -27,9 +27,9 @@ use Rattle.jr_types.specs.declared.TypeDef.{TypeDef}
 use Rattle.jr_types.specs.Types.{is_opv}
 use Rattle.jr_types.specs.Attributes.{child_passes, property_passes}
 use Rattle.jcr_lock.specs.Locks.{lock_covers, is_held, locked_by, frozen_by}
+use Rattle.jcr_marks.proofs.Membership.{IsIn}
 use Rattle.jcr_plan.specs.Plans.{IsFree, changed_by, is_changed, heeded, is_ignored, is_ignored_child}
 use Rattle.oak_machine.specs.declared.event.Draw.{Draw}
-use Rattle.jcr_plan.proofs.Membership.{IsIn}
 use Rattle.core_obeys.proofs.Views.{View, view_of, all, base, seen, after, same_has, same_prop}
 use Rattle.core_obeys.proofs.Clash.{IsMarked, IsStrong, strong_is_marked}
 use Rattle.core_obeys.proofs.Steps.{IsStep, AreSteps, IsLocked, is_frozen, below, within_itself, marked_clear, strong_unmarked, written_kept, clear_still, clear_primary, clear_mixins, unmarked_clear, unmarked_kept}

@@ -12,7 +12,7 @@ use Rattle.jr_tree.specs.Items.{here_of, put_of, written}
 use Rattle.jr_items.specs.Names.{lock_owner, lock_is_deep}
 use Rattle.jr_items.specs.Items.{is_flag}
 use Rattle.oak_machine.specs.declared.event.Draw.{Draw}
-use Rattle.jcr_plan.proofs.Membership.{IsIn}
+use Rattle.jcr_marks.proofs.Membership.{IsIn}
 use Rattle.core_obeys.proofs.Views.{View, Sight, all, base, seen, after, same_has, same_prop, same_has_after, same_prop_after, has_stays, prop_stays, prop_written, some_or_none, none_unless}
 use Rattle.core_obeys.proofs.Clash.{IsStrong, IsMarked}
 use Rattle.core_obeys.proofs.Steps.{IsStep, AreSteps, IsClear, IsWithin, IsClosed, IsLocked, below, is_deep, covering, within_itself, strong_unmarked, marked_clear, unmarked_kept, unmarked_child}

@@ -23,7 +23,7 @@ use Rattle.jr_items.specs.Items.{child_path, values_in, reference_in, upward}
 use Rattle.jcr_ref.specs.References.{target_of, is_target, references_at}
 use Rattle.oak_clash.specs.declared.mark.Mark.TheVariants.{Exists, Guard, Touch, Prop}
 use Rattle.oak_clash.specs.declared.mark.MarkAt.{MarkAt}
-use Rattle.jcr_plan.specs.Marks.{mark_each, moved_by, prop_marks, is_type_name, retyped_by, stays, retyped, locks_anew, is_frozen_anew, is_deepened, is_covered_anew, newly_covered, new_references, marks_of}
+use Rattle.jcr_marks.specs.Marks.{mark_each, moved_by, prop_marks, is_type_name, retyped_by, stays, retyped, locks_anew, is_frozen_anew, is_deepened, is_covered_anew, newly_covered, new_references, marks_of}
 use Rattle.core_obeys.proofs.Views.{View, view_of, after, has_stays, prop_stays, some_or_none}
 use Rattle.core_obeys.proofs.Clash.{IsStrong, IsMarked, any_in}
 use Rattle.core_obeys.proofs.Steps.{Covers, Guards, IsFit, IsLocked, below, is_deep}
@@ -31,7 +31,7 @@ use Rattle.core_obeys.proofs.Locks.{true_or_false}
 use Rattle.core_obeys.proofs.References.{refers, is_named, IsTarget}
 use Rattle.core_obeys.proofs.Paths.{in_upward}
 use Rattle.core_obeys.proofs.Covering.{anew, frozen_anew, found}
-use Rattle.jcr_plan.proofs.Membership.{Has, IsIn, by_write, in_filter, in_filter_map, in_first, in_flat, in_map, in_order, in_second, moves, passes, some_of}
+use Rattle.jcr_marks.proofs.Membership.{Has, IsIn, by_write, in_filter, in_filter_map, in_first, in_flat, in_map, in_order, in_second, moves, passes, some_of}
 
 pub same_number : (a b : ℕ) → (a == b) ≡ true → a ≡ b
 same_number a b h = grind (arith, nat_tests)

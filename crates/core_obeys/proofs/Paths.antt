@@ -6,7 +6,7 @@ use Rattle.jr_path.specs.declared.name.Name.{Name}
 use Rattle.jr_path.specs.declared.path.Path.{Path}
 use Rattle.jr_path.proofs.Parts.{below_is_prefix}
 use Rattle.jr_items.specs.Items.{child_path, upward}
-use Rattle.jcr_plan.proofs.Membership.{IsIn}
+use Rattle.jcr_marks.proofs.Membership.{IsIn}
 use Rattle.core_obeys.proofs.Steps.{below}
 
 pub upward_child : (q : Path) (n : Name) → upward (child_path q n) ≡ child_path q n ∷ upward q

@@ -13,7 +13,7 @@ use Rattle.jr_items.specs.Names.{primary_type, frozen_type, uuid}
 use Rattle.jr_items.specs.Items.{values_in, reference_in, one_name, one_text, same_name}
 use Rattle.jcr_ref.specs.References.{uuid_text}
 use Rattle.oak_machine.specs.declared.event.Draw.{Draw}
-use Rattle.jcr_plan.proofs.Membership.{IsIn}
+use Rattle.jcr_marks.proofs.Membership.{IsIn}
 use Rattle.core_obeys.proofs.Views.{View, Sight, all, base, seen, after, same_has, same_prop, same_has_after, same_prop_after, prop_stays, prop_written, some_or_none, none_unless}
 use Rattle.core_obeys.proofs.Clash.{IsStrong, IsMarked, strong_is_marked}
 use Rattle.core_obeys.proofs.Steps.{IsStep, AreSteps, IsUnmarked, IsWithin, IsClosed, within_itself, strong_unmarked, marked_clear, written_kept, clear_still, clear_primary, unmarked_kept}

@@ -24,7 +24,7 @@ use Rattle.jcr_ref.specs.References.{ReferencesOk, references_at, target_of, is_
 use Rattle.oak_clash.specs.declared.mark.Mark.{Mark}
 use Rattle.oak_clash.specs.declared.mark.Mark.TheVariants.{Exists, Guard, Touch, Prop}
 use Rattle.oak_clash.specs.declared.mark.MarkAt.{MarkAt}
-use Rattle.jcr_plan.proofs.Membership.{Has, IsIn}
+use Rattle.jcr_marks.proofs.Membership.{Has, IsIn}
 use Rattle.core_obeys.specs.Tidy.{HasDistinctIds, is_of_node, is_node_marked}
 use Rattle.core_obeys.proofs.Views.{view_of}
 use Rattle.core_obeys.proofs.Clash.{IsStrong}

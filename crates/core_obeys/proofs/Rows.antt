@@ -16,7 +16,7 @@ use Rattle.jr_items.specs.Names.{primary_type, lock_owner, lock_is_deep}
 use Rattle.jr_items.specs.Items.{upward}
 use Rattle.jcr_lock.specs.Locks.{locked_by}
 use Rattle.jcr_ref.specs.References.{target_of}
-use Rattle.jcr_plan.specs.Marks.{mark_each, moved_by, prop_marks, retyped, stays, locks_anew, is_frozen_anew, new_references, in_mark_order, marks_of}
+use Rattle.jcr_marks.specs.Marks.{mark_each, moved_by, prop_marks, retyped, stays, locks_anew, is_frozen_anew, new_references, in_mark_order, marks_of}
 use Rattle.oak_clash.specs.declared.mark.Mark.TheVariants.{Exists, Guard, Touch}
 use Rattle.oak_clash.specs.declared.mark.MarkAt.{MarkAt}
 use Rattle.oak_clash.specs.Clashes.{clashing}

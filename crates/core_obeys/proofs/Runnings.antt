@@ -17,7 +17,7 @@ use Rattle.jr_items.specs.Names.{primary_type, lock_owner}
 use Rattle.jr_builtin.specs.Builtin.{builtin}
 use Rattle.jr_types.specs.Rules.{TypesOk}
 use Rattle.jr_rules.proofs.Rows.{initial_meets_rules}
-use Rattle.jcr_plan.specs.Marks.{marks_of}
+use Rattle.jcr_marks.specs.Marks.{marks_of}
 use Rattle.jcr_plan.specs.Plans.{PlanOk}
 use Rattle.jcr_plan.proofs.Accepted.{accepted}
 use Rattle.oak_machine.specs.declared.event.Draw.{Draw}

@@ -44,13 +44,13 @@ use Rattle.core_merge.proofs.More.{proper_there, tells_with}
 use Rattle.core_merge.proofs.Order.{proper_in_order, tree_in_order}
 use Rattle.core_merge.proofs.Seen.{edit_seen}
 use Rattle.core_merge.proofs.Whole.{whole as whole_tree}
+use Rattle.jcr_marks.proofs.Membership.{IsIn, parents_touched}
 use Rattle.jcr_plan.specs.Plans.{PlanOk}
 use Rattle.core_obeys.specs.Plans.{base_tree, Tokens, StartsPlans, before_draw}
 use Rattle.core_obeys.proofs.Views.{View, Sight, view_of, all, base, seen, after}
 use Rattle.core_obeys.proofs.Steps.{IsStep, AreSteps, IsFit, Covers, Guards}
 use Rattle.core_obeys.proofs.Fitting.{applied_view, fit, same_view}
 use Rattle.core_obeys.proofs.MarksOf.{covers_marks, guards_marks, target_marked}
-use Rattle.jcr_plan.proofs.Membership.{IsIn, parents_touched}
 use Rattle.core_obeys.proofs.Clash.{IsMarked, any_in}
 use Rattle.core_obeys.proofs.References.{refers, IsTarget}
 use Rattle.core_obeys.proofs.Types.{AreTyped, AllTyped}

@@ -8,7 +8,7 @@ use Rattle.jr_types.specs.declared.TypeDef.{TypeDef}
 use Rattle.oak_machine.specs.Commits.{tree_at}
 use Rattle.oak_machine.specs.History.{begin_tree}
 use Rattle.oak_machine.specs.Laws.{is_of_item, Starts, StartsProper}
-use Rattle.jcr_plan.proofs.OfWrites.{items_of_marks}
+use Rattle.jcr_marks.proofs.OfWrites.{items_of_marks}
 use Rattle.core_obeys.specs.Plans.{base_tree, Tokens, StartsPlans}
 
 -- a law that lets only plans start lets only proper edits start, with the Exists and Props of their writes

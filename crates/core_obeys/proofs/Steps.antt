@@ -13,7 +13,7 @@ use Rattle.oak_clash.specs.declared.mark.Mark.TheVariants.{Prop}
 use Rattle.oak_clash.specs.declared.mark.MarkAt.{MarkAt}
 use Rattle.oak_clash.specs.Clashes.{clashing}
 use Rattle.oak_machine.specs.declared.event.Draw.{Draw}
-use Rattle.jcr_plan.proofs.Membership.{Has, IsIn}
+use Rattle.jcr_marks.proofs.Membership.{Has, IsIn}
 use Rattle.core_obeys.proofs.Views.{View, Sight, IsStill, IsKept, all, base, seen, after, none_unless}
 use Rattle.core_obeys.proofs.Clash.{IsStrong, IsMarked, strong_marked, marked_strong, same_prop_marks, strong_is_marked}
 

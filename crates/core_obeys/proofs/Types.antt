@@ -10,7 +10,7 @@ use Rattle.jr_types.specs.declared.TypeDef.{TypeDef}
 use Rattle.jr_types.specs.Types.{NodeTypes}
 use Rattle.jr_types.specs.Rules.{Child, property_faults, child_faults}
 use Rattle.oak_machine.specs.declared.event.Draw.{Draw}
-use Rattle.jcr_plan.proofs.Membership.{IsIn}
+use Rattle.jcr_marks.proofs.Membership.{IsIn}
 use Rattle.core_obeys.proofs.Views.{View, Sight, IsStill, IsKept, all, base, seen, after, same_has, same_prop, same_has_after, same_prop_after, has_stays, prop_stays, some_or_none}
 use Rattle.core_obeys.proofs.Clash.{IsStrong, IsMarked}
 use Rattle.core_obeys.proofs.Steps.{IsStep, AreSteps, within_itself, strong_unmarked, marked_clear, written_kept, clear_still, clear_primary, clear_mixins, unmarked_clear, unmarked_kept, unmarked_child, unmarked_child_primary, IsWithin, IsClosed, unseen}

@@ -10,7 +10,7 @@ use Rattle.jr_rev.specs.Vectors.{sees}
 use Rattle.jr_tree.specs.declared.edit.Write.{Write}
 use Rattle.jr_tree.specs.Trees.{Nodes, node_at, property_at, initial_tree}
 use Rattle.jr_tree.specs.Items.{here_of, put_of, written}
-use Rattle.jcr_plan.proofs.Membership.{IsIn}
+use Rattle.jcr_marks.proofs.Membership.{IsIn}
 use Rattle.oak_machine.specs.declared.event.Draw.{Draw}
 
 -- which nodes are there, and which properties they have

@@ -15,7 +15,7 @@ use Rattle.oak_machine.specs.declared.event.Draw.{Draw}
 use Rattle.oak_machine.specs.declared.event.Event.TheVariants as event
 use Rattle.oak_machine.specs.History.{Past}
 use Rattle.oak_machine.specs.Commits.{tree_at}
-use Rattle.jcr_plan.specs.Marks.{stays}
+use Rattle.jcr_marks.specs.Marks.{stays}
 use Rattle.core_merge.specs.Independent.{writes_property}
 use Rattle.core_merge.specs.Orders.{tree_by_commits}
 

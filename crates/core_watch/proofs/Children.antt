@@ -17,8 +17,7 @@ use Rattle.jr_path.specs.declared.path.Path.{Path}
 use Rattle.jr_path.specs.declared.path.DocId.TheVariants as id
 use Rattle.jr_path.proofs.Maps.{name_exact}
 use Rattle.jr_tree.specs.declared.tree.Node.{Node}
-use Rattle.jr_rev.specs.declared.revision.Revision.{Revision}
-use Rattle.jr_tree.specs.Trees.{Nodes, born_at, born_of, node_at, is_child_of, children_of, dated_children_of}
+use Rattle.jr_tree.specs.Trees.{Nodes, born_of, node_at, is_child_of, children_of, dated_children_of}
 use Rattle.jr_tree.proofs.Pointwise.{same_path}
 use Rattle.oak_read.proofs.Below.{child_path, longer, own_child, own_name, same_front, joined-child}
 use Rattle.core_read.proofs.Entries.{exactly, is_less, first, none_below, second}

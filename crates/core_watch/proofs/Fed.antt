@@ -22,7 +22,6 @@ use Rattle.jr_path.specs.declared.path.DocId.{DocId}
 use Rattle.jr_path.specs.declared.path.DocId.TheVariants as id
 use Rattle.jr_path.proofs.Orders.{id_total, id_exact}
 use Rattle.jr_path.proofs.Pieces.{AllNoSlash, all_no_slash, names_from_all}
-use Rattle.jr_value.specs.declared.value.Property.{Property}
 use Rattle.jr_rev.specs.declared.vector.Pin.{Pin}
 use Rattle.jr_rev.specs.declared.vector.RevVec.{RevVec}
 use Rattle.jr_rev.specs.declared.revision.Revision.{Revision}
@@ -49,12 +48,11 @@ use Rattle.core_read.proofs.Entries.{first as first_part, second as second_part}
 use Rattle.core_read.proofs.Falling.{tells_falling, tree_falling}
 use Rattle.std.proofs.Common.{◌⊎◌, inl, inr, ℕ, fold}
 use Rattle.std.specs.Map.{keys_of}
-use Rattle.std.specs.List.{filter, filter_map, flat_map, list_all, list_any}
-use Rattle.std.specs.FinMap.Entries.{below_all}
+use Rattle.std.specs.List.{flat_map, list_any}
 use Rattle.std.specs.BTreeMap.{insert_entry}
 use Rattle.jr_path.proofs.Maps.{lookup-insert_entry}
 use Rattle.oak_doc.specs.declared.document.PrevEntry.{PrevEntry}
-use Rattle.oak_doc.specs.Updates.{of_revision, values_of_property, Props}
+use Rattle.oak_doc.specs.Updates.{of_revision}
 use Rattle.oak_read.specs.Shown.{with_previous}
 use Rattle.oak_read.specs.Wanted.{asked_roots, property_roots, roots_of, with_unknown}
 use Rattle.core_read.specs.Told.{IsIn}
@@ -62,13 +60,13 @@ use Rattle.core_read.specs.World.{Progress}
 use Rattle.core_keep.specs.Journal.{course_of, IsKeptWorld, IsHeld}
 use Rattle.core_keep.specs.Keeps.{Course}
 use Rattle.core_keep.specs.Standing.{HasEntryOf}
-use Rattle.core_keep.specs.Readers.{gone_by, Reads as ReadsBy, Knows}
+use Rattle.core_keep.specs.Readers.{gone_by}
 use Rattle.core_keep.proofs.AtPath.{same_listed}
 use Rattle.core_keep.proofs.Collecting.{known_tree, world_copy}
 use Rattle.core_keep.proofs.Journal.{reading, shows_at}
 use Rattle.core_keep.proofs.Readers.{known_there, known_born, reads_more, root_by}
 use Rattle.core_watch.specs.Standing.{HasEntry, is_known_or_left, Child, children_to, dated, HasNames, HasBegun, IsOnWay}
-use Rattle.core_watch.specs.Reading.{Ever, IsCopy, AreCopies, AreLeft, is_left, is_asked, IsAsking, IsRooted, IsFresh, Stands, IsReading}
+use Rattle.core_watch.specs.Reading.{Ever, IsCopy, AreCopies, is_left, is_asked, IsAsking, IsRooted, IsFresh, Stands, IsReading}
 use Rattle.core_watch.proofs.Left.{all_rising, all_unknown, among_roots, any_back, any_front, either, is_root, unknown_left, noted_at, noted_rising, still_known, still_unknown, same_known, now_known}
 use Rattle.core_watch.proofs.Children.{child_order, dated_are, dated_more, one_more_child, no_children, all_children, same_children}
 use Rattle.core_watch.proofs.Behind.{Entries, behind, has, each_found, IsNext, next_is, nothing_behind}

@@ -1,6 +1,5 @@
 -- What the steps of others leave to readers: writes and undos, marks and notes, the last write with its Commit, other events, what splits move and collections drop.
 use Rattle.std.proofs.Common.{◌≡◌, ◌⊎◌, inl, inr, ℕ, Bool, true, false, cond, ◌||◌, Some, None, Option, List, [], ◌∷◌, fold, refl, sym, ap, ◌∙◌, subst, is_some}
-use Rattle.std.specs.Option.{option_map_or}
 use Rattle.std.specs.Ordering.{is_eq, eq_by_cmp}
 use Rattle.std.specs.Cmp.{tied_itself}
 use Rattle.std.specs.List.{list_all}
@@ -26,7 +25,7 @@ use Rattle.oak_machine.specs.declared.event.Draw.{Draw}
 use Rattle.oak_machine.specs.declared.event.Event.{Event}
 use Rattle.oak_machine.specs.declared.event.Event.TheVariants as event
 use Rattle.oak_machine.specs.History.{Past}
-use Rattle.oak_machine.specs.Commits.{draw_of, is_commit_of, is_in_flight, tree_at}
+use Rattle.oak_machine.specs.Commits.{draw_of, is_commit_of, is_in_flight}
 use Rattle.oak_machine.specs.Runs.{MayCommit}
 use Rattle.core_read.specs.Committing.{is_marking, IsWriteOp}
 use Rattle.core_read.specs.Writes.{is_entry_of}
@@ -43,7 +42,7 @@ use Rattle.core_read.proofs.Updates.{last_own, last_said, last_same, undo_said, 
 use Rattle.core_keep.specs.Journal.{course_of, IsHeld, IsKeptWorld}
 use Rattle.core_keep.specs.Keeps.{Course, edit_in, is_done, IsHeldPair}
 use Rattle.core_keep.specs.Readers.{GoesOn}
-use Rattle.core_keep.specs.Steps.{IsChangeAt, IsMainAt, IsMoved, IsPreviousAt, IsPruned, IsSameBesides, IsUnlisted, IsUnwanted}
+use Rattle.core_keep.specs.Steps.{IsChangeAt, IsMainAt, IsMoved, IsPreviousAt, IsPruned, IsUnlisted, IsUnwanted}
 use Rattle.core_keep.proofs.Collecting.{held_pair}
 use Rattle.core_keep.proofs.Going.{besides_goes, course_goes, last_goes, moved_goes, others_go, previous_goes, pruned_goes, removed_goes}
 use Rattle.core_keep.proofs.Journal.{edit_is}

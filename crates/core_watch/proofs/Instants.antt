@@ -1,5 +1,5 @@
 -- A reader that others let read on ends in the tree at its base.
-use Rattle.std.proofs.Common.{◌≡◌, ℕ, zero, suc, Bool, true, false, Some, None, Option, List, [], ◌∷◌, map, refl, sym, ap, ◌∙◌, subst, is_some}
+use Rattle.std.proofs.Common.{◌≡◌, ℕ, zero, suc, false, Some, None, Option, List, [], ◌∷◌, refl, sym, ap, ◌∙◌, subst, is_some}
 use Rattle.std.specs.Option.{unwrap_or}
 use Rattle.std.specs.declared.alloc.Global.{Global}
 use mathlib.Core.Bool.{false≢true}
@@ -7,7 +7,7 @@ use Rattle.jr_path.specs.declared.path.Path.{Path}
 use Rattle.jr_path.specs.declared.path.DocId.{DocId}
 use Rattle.jr_rev.specs.declared.vector.Pin.{Pin}
 use Rattle.jr_tree.specs.Trees.{Nodes}
-use Rattle.oak_read.specs.Meaning.{Documents, documents_in}
+use Rattle.oak_read.specs.Meaning.{Documents}
 use Rattle.oak_read.specs.Reading.{answer, due, node_reader, children_reader}
 use Rattle.oak_read.specs.Wanted.{Known}
 use Rattle.oak_read.specs.declared.reader.Reader.{Reader}

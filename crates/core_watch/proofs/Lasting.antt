@@ -1,7 +1,5 @@
 -- A reader that reads the tree at its base still reads it where others went on.
-use Rattle.std.proofs.Common.{◌≡◌, ℕ, Bool, true, false, Some, None, Option, List, [], ◌∷◌, refl, sym, ap, ◌∙◌, subst, is_some}
-use Rattle.std.specs.Prelude.{is_none}
-use Rattle.std.specs.Ordering.{is_le, is_lt}
+use Rattle.std.proofs.Common.{◌≡◌, ℕ, Bool, true, false, Some, None, Option, List, sym, ap, ◌∙◌, subst}
 use mathlib.Core.Bool.{false≢true}
 use Rattle.jr_path.specs.declared.path.Path.{Path}
 use Rattle.jr_path.specs.declared.path.DocId.TheVariants as id
@@ -9,21 +7,19 @@ use Rattle.jr_rev.specs.declared.vector.Pin.{Pin}
 use Rattle.jr_rev.specs.Vectors.{sees}
 use Rattle.jr_tree.specs.Trees.{Nodes}
 use Rattle.oak_doc.specs.declared.document.Document.{Document}
-use Rattle.oak_doc.specs.declared.document.PrevEntry.{PrevEntry}
-use Rattle.oak_read.specs.Meaning.{Documents, documents_in}
+use Rattle.oak_read.specs.Meaning.{Documents}
 use Rattle.oak_read.specs.Wanted.{Known, Ids}
 use Rattle.oak_read.specs.declared.reader.Reader.{Reader}
 use Rattle.oak_read.specs.declared.reader.Step.{Step}
 use Rattle.oak_read.specs.declared.reader.Step.TheVariants as step
 use Rattle.oak_machine.specs.History.{Past}
 use Rattle.oak_machine.specs.Commits.{tree_at}
-use Rattle.core_read.specs.Told.{IsIn}
 use Rattle.core_keep.specs.Journal.{course_of}
 use Rattle.core_keep.specs.Keeps.{Course}
-use Rattle.core_keep.specs.Readers.{GoesOn, look_on, Reads}
+use Rattle.core_keep.specs.Readers.{look_on}
 use Rattle.core_keep.proofs.Readers.{reads_on}
-use Rattle.core_watch.specs.Standing.{Child, IsOnWay}
-use Rattle.core_watch.specs.Reading.{Ever, IsCopy, AreCopies, is_asked, IsAsking, IsRooted, IsFresh, Stands, IsReading, ReadsOn}
+use Rattle.core_watch.specs.Standing.{Child}
+use Rattle.core_watch.specs.Reading.{Ever, IsCopy, AreCopies, is_asked, IsAsking, IsRooted, Stands, IsReading, ReadsOn}
 
 module _ (pin : Pin) (ever more : Ever) (ds now : Documents) (past later : Past) (on : ReadsOn pin ever ds now past later) (grows : (p : Path) (k : ℕ) → ever p k ≡ true → more p k ≡ true) where
   abbrev c : Course

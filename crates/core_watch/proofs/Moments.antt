@@ -3,7 +3,6 @@ use Rattle.std.proofs.Common.{◌≡◌, Some, None, Option, List, [], ◌∷◌
 use Rattle.std.specs.Prelude.{is_none}
 use Rattle.std.specs.Option.{option_map_or, unwrap_or}
 use Rattle.std.specs.declared.alloc.Global.{Global}
-use Rattle.jr_path.specs.declared.name.Name.{Name}
 use Rattle.jr_path.specs.declared.path.Path.{Path}
 use Rattle.jr_path.specs.declared.path.DocId.TheVariants as id
 use Rattle.jr_rev.specs.declared.vector.Pin.{Pin}

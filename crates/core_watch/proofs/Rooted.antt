@@ -1,6 +1,5 @@
 -- What a vector in use sees of documents that hold a past is committed by commit roots that are there; so copies mean the tree.
 use Rattle.std.proofs.Common.{◌≡◌, inl, inr, Bool, true, false, ◌||◌, Some, None, Option, List, [], refl, sym, ap, ◌∙◌, subst, is_some}
-use Rattle.std.specs.Option.{option_map}
 use Rattle.std.specs.Ordering.{eq_by_cmp}
 use mathlib.Core.Bool.{false≢true}
 use Rattle.jr_path.specs.declared.name.Name.{Name}

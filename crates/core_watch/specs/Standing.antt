@@ -1,6 +1,6 @@
 -- What holds of a reader between its steps.
 use Rattle.std.specs.Prelude.{◌≡◌, Bool, ◌||◌, ◌⊎◌, List, [], ◌∷◌, ◌++◌, map, Option, None, Some, is_some, is_none, IsTrue, IsFalse, codes}
-use Rattle.std.specs.Option.{option_map, unwrap_or}
+use Rattle.std.specs.Option.{unwrap_or}
 use Rattle.std.specs.declared.cmp.Ordering.{Ordering}
 use Rattle.std.specs.Ordering.{is_le, is_lt}
 use Rattle.std.specs.Map.{lookup}

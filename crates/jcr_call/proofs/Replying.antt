@@ -13,8 +13,8 @@ use Rattle.jr_tree.specs.Trees.{IsTree, Nodes}
 use Rattle.jr_tree.specs.declared.shared.Refusal.{Refusal}
 use Rattle.jr_items.specs.Names.{version_storage}
 use Rattle.jr_items.specs.Refusals.{IsTheRefusal, own_rule}
+use Rattle.jcr_marks.specs.Marks.{marks_of}
 use Rattle.jcr_plan.specs.Checked.{refusal_by}
-use Rattle.jcr_plan.specs.Marks.{marks_of}
 use Rattle.jcr_plan.specs.Plans.{PlanOk}
 use Rattle.jcr_plan.specs.Refusals.{plan_refusal}
 use Rattle.jcr_plan.proofs.Accepted.{accepted as plan_accepted}

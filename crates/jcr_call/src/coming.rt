@@ -4,7 +4,7 @@ ghost use Rattle.jr_tree.specs.declared.edit.Write.{Write};
 ghost use Rattle.jr_tree.specs.declared.shared.Refusal.{Refusal};
 ghost use Rattle.jr_tree.specs.Edits.{applied};
 ghost use Rattle.jr_items.specs.Refusals.{IsTheRefusal};
-ghost use Rattle.jcr_plan.specs.Marks.{marks_of};
+ghost use Rattle.jcr_marks.specs.Marks.{marks_of};
 ghost use Rattle.jcr_plan.specs.Refusals.{plan_refusal};
 ghost use Rattle.jcr_trans.specs.Answers.{ShowsText};
 ghost use Rattle.jcr_trans.specs.Texts.{answer_text};
@@ -19,7 +19,7 @@ use crate::due::Due;
 use crate::footing::Footing;
 use crate::ids::next_id;
 use crate::proper::is_proper;
-use crate::replies::{cause_text, improper_reply, unwritten_reply, version_reply};
+use crate::replies::{cause_told, improper_reply, unwritten_reply, version_reply};
 use crate::tokens::{all, strings, with_token};
 use jcr_plan::{Plan, plan_of_change};
 use jcr_trans::{Command, refusal_text, text_reply};
@@ -64,7 +64,11 @@ pub fn come(
 {
     match due {
         Due::Edited(edit) => come_edit(alloc, footing, command, edit),
-        Due::Refused(refusal) => Ok(Coming::Said(refusal_text(alloc, &refusal)?)),
+        Due::Refused(refusal) => {
+            let text = refusal_text(alloc, &refusal);
+            drop(refusal);
+            Ok(Coming::Said(text?))
+        }
     }
 }
 
@@ -82,15 +86,20 @@ fn come_edit(
         → IfOk result (IsComing c command.now (Ok edit.writes)) }
 {
     if edit.writes.is_empty() {
+        drop(edit);
         return Ok(Coming::Said(unwritten_reply(alloc, footing.base, command)?));
     }
-    come_written(
-        alloc,
-        footing,
-        command,
-        &Edited::of(alloc, footing.base, &edit)?,
-        edit,
-    )
+    match Edited::of(alloc, footing.base, &edit) {
+        Ok(after) => {
+            let coming = come_written(alloc, footing, command, &after, edit);
+            drop(after);
+            coming
+        }
+        Err(AllocError) => {
+            drop(edit);
+            Err(AllocError)
+        }
+    }
 }
 
 // What a command comes to by an edit that writes something, where the tree after it is at hand.
@@ -109,9 +118,17 @@ fn come_written(
         → edit_due c command.now ≡ Some (Ok edit.writes)
         → IfOk result (IsComing c command.now (Ok edit.writes)) }
 {
-    if is_proper(alloc, footing.is_tree, footing.base, after, &edit)? {
+    let proper = match is_proper(alloc, footing.is_tree, footing.base, after, &edit) {
+        Ok(proper) => proper,
+        Err(AllocError) => {
+            drop(edit);
+            return Err(AllocError);
+        }
+    };
+    if proper {
         come_plan(alloc, footing, command, after, edit)
     } else {
+        drop(edit);
         Ok(Coming::Said(improper_reply(alloc)?))
     }
 }
@@ -136,7 +153,7 @@ fn come_plan(
     let tokens = strings(alloc, footing.tokens)?;
     match planned(alloc, footing, after, edit, tokens.as_slice()) {
         Ok(plan) => Ok(Coming::Planned(plan, told(alloc, footing, command)?)),
-        Err(refusal) => Ok(Coming::Said(cause_text(alloc, &refusal)?)),
+        Err(refusal) => Ok(Coming::Said(cause_told(alloc, refusal)?)),
     }
 }
 

@@ -76,6 +76,7 @@ fn refused(refusal: Refusal) -> Result<Option<Due>, AllocError>
         × (option_map due_of found ≡ Some (Err refusal))) }
 {
     if refusal.number == 16 {
+        drop(refusal);
         return Err(AllocError);
     }
     Ok(Some(Due::Refused(refusal)))
@@ -118,6 +119,7 @@ fn drawing_one(alloc: Global, who: &Who, edit: Edit) -> Result<Option<Due>, Allo
         ≡ Some (or_else (too_many_ids (who.now.ids + 1)) edit.writes)) }
 {
     if who.ids >= MAX_IDS {
+        drop(edit);
         return refused(over_limit(alloc, "ids", MAX_IDS as u64));
     }
     Ok(Some(Due::Edited(edit)))

@@ -11,7 +11,7 @@ ghost use Rattle.jcr_law.specs.Queries.{QueryAnswers, unknown_selector};
 ghost use Rattle.jcr_law.specs.State.{Call};
 ghost use Rattle.jcr_call.specs.Reading.{AnswersQuery, AnswersRead, ShowsRows};
 
-use crate::replies::cause_text;
+use crate::replies::cause_told;
 use jr_items::{no_query, no_type, wrong_kind};
 use jr_path::{DeepCopy, Keyed, Name, Text};
 use jr_tree::Tree;
@@ -37,8 +37,14 @@ pub fn query_reply(
         QueryAnswers c text.now vars.now (string_bytes reply)) }
 {
     let vars = pairs_of(alloc, vars)?;
-    match parse(alloc, text.as_str(), vars.as_slice()) {
-        Ok(query) => read_reply(alloc, types, base, &query),
+    let parsed = parse(alloc, text.as_str(), vars.as_slice());
+    drop(vars);
+    match parsed {
+        Ok(query) => {
+            let reply = read_reply(alloc, types, base, &query);
+            drop(query);
+            reply
+        }
         Err(fault) => fault_reply(alloc, fault),
     }
 }
@@ -60,8 +66,8 @@ fn fault_reply(alloc: Global, fault: SqlFault) -> Result<String, AllocError>
         AnswersRead types tree (Err fault) (string_bytes reply)) }
 {
     match fault {
-        SqlFault::InvalidQuery(offset) => cause_text(alloc, &no_query(alloc, offset)),
-        SqlFault::Cast(asked, given) => cause_text(alloc, &wrong_kind(alloc, asked, given)),
+        SqlFault::InvalidQuery(offset) => cause_told(alloc, no_query(alloc, offset)),
+        SqlFault::Cast(asked, given) => cause_told(alloc, wrong_kind(alloc, asked, given)),
         SqlFault::Memory => Err(AllocError),
     }
 }
@@ -77,7 +83,7 @@ fn read_reply(
         AnswersQuery types.now base.now query.now (string_bytes reply)) }
 {
     match unknown_selector(types, query) {
-        Some(name) => cause_text(alloc, &no_type(alloc, name)),
+        Some(name) => cause_told(alloc, no_type(alloc, name)),
         None => rows_reply(alloc, types, base, query),
     }
 }
@@ -108,7 +114,9 @@ fn rows_reply(
     ensures { IfOk result (λ reply. ShowsRows types.now base.now query.now (string_bytes reply)) }
 {
     let rows = rows_of(alloc, types, base, query)?;
-    shown(alloc, rows.as_slice())
+    let text = shown(alloc, rows.as_slice());
+    drop(rows);
+    text
 }
 
 fn shown(alloc: Global, rows: &[Row]) -> Result<String, AllocError>

@@ -27,6 +27,16 @@ pub fn cause_text(alloc: Global, refusal: &Refusal) -> Result<String, AllocError
     refusal_text(alloc, refusal)
 }
 
+// The same of a refusal that nobody needs any more.
+pub(crate) fn cause_told(alloc: Global, refusal: Refusal) -> Result<String, AllocError>
+    ensures { IfOk result (λ text. ¬ (refusal ≡ out_of_memory)
+        × (string_bytes text ≡ no_text refusal)) }
+{
+    let text = cause_text(alloc, &refusal);
+    drop(refusal);
+    text
+}
+
 /// The reply that shows the version that a check-in of a node makes, or that is the node's base
 /// version where it is checked in (JSR 283, 15.2 Check-In); `null` where there is none.
 pub fn version_reply(alloc: Global, tree: &Tree, path: &Path) -> Result<String, AllocError>
@@ -59,6 +69,5 @@ pub(crate) fn improper_reply(alloc: Global) -> Result<String, AllocError>
     ensures { IfOk result (λ reply. string_bytes reply ≡ no_text (own_rule version_storage)) }
 {
     let storage = storage(alloc)?;
-    let refusal = own_rule(alloc, &storage);
-    cause_text(alloc, &refusal)
+    cause_told(alloc, own_rule(alloc, &storage))
 }

@@ -74,7 +74,9 @@ fn is_tree(alloc: Global, tree: &Edited<'_>) -> Result<bool, AllocError>
     }
     let whole = tree.tree()?;
     know_order(&whole);
-    have_parents(tree, &whole)
+    let rooted = have_parents(tree, &whole);
+    drop(whole);
+    rooted
 }
 
 // Its paths stand in order, and so do the names of each node's properties. It does nothing: callers

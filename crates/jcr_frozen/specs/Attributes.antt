@@ -1,5 +1,5 @@
 -- What a check-in asks of the items of a node.
-use Rattle.std.specs.Prelude.{Bool, false, Option, None, Some}
+use Rattle.std.specs.Prelude.{Bool, false, Option, Some}
 use Rattle.std.specs.Option.{option_and_then}
 use Rattle.jr_path.specs.Names.{last_name, parent_of}
 use Rattle.jr_path.specs.declared.name.Name.{Name}

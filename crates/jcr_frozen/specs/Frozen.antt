@@ -1,6 +1,6 @@
 -- Frozen nodes: what a version keeps of a node.
 use Rattle.std.specs.Prelude.{◌++◌, Bool, true, false, not, ◌&&◌, ◌||◌, cond, List, [], ◌∷◌, length, drop, Option, None, Some, option_map}
-use Rattle.std.specs.List.{filter, filter_map, find, fold}
+use Rattle.std.specs.List.{filter_map, find, fold}
 use Rattle.std.specs.BTreeMap.{insert_entry}
 use Rattle.std.specs.Option.{option_map_or, option_or}
 use Rattle.jr_path.specs.Names.{name_cmp, parent_of}

@@ -1,6 +1,6 @@
 -- Version histories and their versions.
-use Rattle.std.specs.Prelude.{◌≡◌, ℕ, zero, suc, ◌+◌, ◌-◌, ◌^◌, ◌++◌, ◌==◌, ◌&&◌, ℤ, pos, min, max, Bool, false, cond, not, List, [], ◌∷◌, length, map, codes, Option, None, Some, is_some, is_none, option_and_then}
-use Rattle.std.specs.List.{filter, list_any, find}
+use Rattle.std.specs.Prelude.{ℕ, ◌+◌, ◌++◌, ◌==◌, ◌&&◌, Bool, false, cond, not, List, [], ◌∷◌, map, codes, Option, None, Some, is_some, option_and_then}
+use Rattle.std.specs.List.{filter, list_any}
 use Rattle.std.specs.Option.{option_map_or}
 use Rattle.std.specs.Fmt.{decimal}
 use Rattle.jr_path.specs.declared.name.Name.{Name}
@@ -9,8 +9,8 @@ use Rattle.jr_value.specs.Reading.{identifier_named}
 use Rattle.jr_tree.specs.declared.shared.Refusal.{Refusal}
 use Rattle.jr_tree.specs.declared.shared.Who.{Who}
 use Rattle.jr_tree.specs.Trees.{Nodes, node_at, property_at}
-use Rattle.jr_items.specs.Names.{base_version, predecessors, uuid, version_labels, version_storage}
-use Rattle.jr_items.specs.Items.{child_path, first_some, is_checked_in, is_versionable, many_references, one_reference, one_text, same_name}
+use Rattle.jr_items.specs.Names.{predecessors, uuid, version_labels}
+use Rattle.jr_items.specs.Items.{child_path, first_some, is_versionable, many_references, one_text, same_name}
 use Rattle.jr_items.specs.Refusals.{no_identifier, place_refusal, unsupported, when}
 use Rattle.jcr_ref.specs.References.{uuid_text}
 use Rattle.jcr_ref.specs.Histories.{has_history, history_of, number_by, version_names}

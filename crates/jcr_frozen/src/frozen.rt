@@ -1,5 +1,5 @@
 // Frozen nodes: what a version keeps of a node, and what forbids its check-in.
-ghost use Rattle.std.specs.Prelude.{◌≡◌, ◌++◌, false, IfOk, OnOk, drop, length};
+ghost use Rattle.std.specs.Prelude.{◌≡◌, ◌++◌, ◌∷◌, [], false, IfOk, OnOk, drop, length};
 ghost use Rattle.std.specs.BTreeMap.{insert_entry};
 ghost use Rattle.std.specs.Option.{option_copied, option_map_or};
 ghost use Rattle.jr_path.specs.Names.{name_cmp, parent_of};
@@ -122,10 +122,27 @@ pub fn push_frozen(
 {
     for (at, node) in &tree.under(path)? {
         if is_frozen_with(alloc, types, tree, path, at)? {
-            let frozen_at = onto(place, names_below(path, at))?;
-            nodes.push((frozen_at, frozen_copy(alloc, types, node)?))?;
+            push_copy(nodes, alloc, types, node, place, names_below(path, at))?;
         }
     }
+    Ok(())
+}
+
+// Puts the frozen node of a node behind other nodes, at the place by these names below another.
+fn push_copy(
+    nodes: &mut Vec<(Path, Node)>,
+    alloc: Global,
+    types: &Registry,
+    node: &Node,
+    place: &Path,
+    names: &[Name],
+) -> Result<(), AllocError>
+    ensures { OnOk result (nodes.new.items
+        ≡ nodes.old.items ++ (place.now ++ names.now, frozen_copy types.now node.now) ∷ []) }
+{
+    let at = onto(place, names)?;
+    let copy = frozen_copy(alloc, types, node)?;
+    nodes.push((at, copy))?;
     Ok(())
 }
 
@@ -167,9 +184,10 @@ fn put_in_share(
         ≡ with_in_share share types.now node.now props.old (name.now, property.now)) }
 {
     if is_in_share(share, types, node, name, property)? {
-        props.put(name.copy()?, property.copy()?)?;
+        props.put(name.copy()?, property.copy()?)
+    } else {
+        Ok(())
     }
-    Ok(())
 }
 
 fn is_in_share(
@@ -239,8 +257,9 @@ pub fn is_frozen_name(name: &Name) -> bool
 fn put_own(props: &mut Keyed<Name, Property>, alloc: Global, node: &Node) -> Result<(), AllocError>
     ensures { OnOk result (props.new ≡ with_own node.now props.old) }
 {
-    let own = Property::Single(Value::Name(OwnName::FrozenType.name(alloc)?));
-    props.put(OwnName::PrimaryType.name(alloc)?, own)?;
+    let key = OwnName::PrimaryType.name(alloc)?;
+    let own = OwnName::FrozenType.name(alloc)?;
+    props.put(key, Property::Single(Value::Name(own)))?;
     put_told(
         props,
         alloc,
@@ -311,8 +330,9 @@ fn put_text(
 ) -> Result<(), AllocError>
     ensures { OnOk result (props.new ≡ insert_entry name_cmp props.old (own_name name) (Single (value.Str text.now))) }
 {
-    let text = Property::Single(Value::Str(Text::copy_of(alloc, text)?));
-    props.put(name.name(alloc)?, text)
+    let key = name.name(alloc)?;
+    let text = Text::copy_of(alloc, text)?;
+    props.put(key, Property::Single(Value::Str(text)))
 }
 
 /// The first item that forbids the check-in of a node, in path order, a node before its properties.

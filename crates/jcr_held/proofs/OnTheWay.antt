@@ -1,5 +1,5 @@
 -- What is met on the way: children that lists name, nodes that are touched and those above them, and the children of nodes that are there.
-use Rattle.std.proofs.Common.{◌≡◌, ◌∙◌, ◌++◌, inl, inr, ℕ, zero, suc, ◌<◌, Bool, true, false, cond, List, [], ◌∷◌, length, Option, None, Some, Result, Ok, Err, IfOk, IfSome, Contains, get_or, is_some, refl, sym, ap, subst, arith}
+use Rattle.std.proofs.Common.{◌≡◌, ◌∙◌, ◌++◌, inl, inr, ℕ, zero, suc, ◌<◌, Bool, true, false, cond, [], ◌∷◌, length, Option, None, Some, Result, Ok, Err, IfOk, IfSome, Contains, get_or, is_some, refl, sym, ap, subst, arith}
 use Rattle.std.specs.Map.{lookup}
 use Rattle.std.specs.BTreeMap.{is_at}
 use Rattle.std.specs.Ordering.{eq_by_cmp}
@@ -15,7 +15,7 @@ use Rattle.jr_part.specs.declared.need.Need.TheVariants as need
 use Rattle.jr_part.proofs.Ways.{lists_from, there_is}
 use Rattle.jr_overlay.specs.Overlays.{Changed, change_at}
 use Rattle.jcr_view.specs.Rounds.{one_path}
-use Rattle.jcr_held.specs.Looking.{IsMet, IsMetFirst, IsUnknownChild, IsUnknownNear, with_above}
+use Rattle.jcr_held.specs.Looking.{IsMet, IsMetFirst, IsUnknownChild, IsUnknownNear}
 
 -- ---- a load, or none
 

@@ -1,8 +1,5 @@
 -- What a session may still have to read: each load is of that, and it falls with each answer.
-use Rattle.std.proofs.Common.{◌≡◌, ◌⊎◌, inl, inr, ◌∙◌, ◌++◌, ℕ, ◌+◌, ◌≤◌, ◌<◌, Bool, true, false, cond, List, [], ◌∷◌, Option, None, Some, Result, Ok, Err, IfOk, IfSome, Contains, is_some, map, refl, sym, ap, subst, append_assoc, arith}
-use Rattle.std.specs.List.{flat_map}
-use Rattle.std.specs.Map.{lookup}
-use Rattle.std.specs.BTreeMap.{is_at}
+use Rattle.std.proofs.Common.{◌≡◌, ◌⊎◌, inl, inr, ◌∙◌, ◌++◌, ◌+◌, ◌≤◌, ◌<◌, Bool, true, false, cond, List, [], ◌∷◌, Option, Some, Result, IfOk, IfSome, Contains, is_some, map, refl, sym, ap, subst, append_assoc, arith}
 use Rattle.std.specs.Ordering.{eq_by_cmp}
 use Rattle.std.proofs.lemmas.Bool.{false≢true}
 use Rattle.std.proofs.lemmas.List.Elements.{Contains-append_left, Contains-append_right}
@@ -10,19 +7,17 @@ use Rattle.jr_path.specs.Names.{path_cmp}
 use Rattle.jr_path.specs.declared.path.Path.{Path}
 use Rattle.jr_tree.specs.declared.shared.Who.{Who}
 use Rattle.jr_tree.specs.declared.tree.Node.{Node}
-use Rattle.jr_tree.specs.Trees.{Nodes, node_at}
+use Rattle.jr_tree.specs.Trees.{node_at}
 use Rattle.jr_tree.proofs.Pointwise.{same_path}
 use Rattle.jr_part.specs.Parts.{AgreesWith, ChildNames, IsFirstLacking, Knowledge, knows, need_path, with_children, with_node}
 use Rattle.jr_part.specs.declared.need.Need.{Need}
 use Rattle.jr_part.specs.declared.need.Need.TheVariants as need
-use Rattle.jr_overlay.specs.Overlays.{Changed, change_at, edit_of, view_of}
-use Rattle.jr_overlay.specs.declared.overlay.Change.{Change}
+use Rattle.jr_overlay.specs.Overlays.{Changed, change_at, edit_of}
 use Rattle.jcr_trans.specs.declared.command.Command.{Command}
 use Rattle.jcr_trans.specs.declared.command.Command.TheVariants as command
 use Rattle.jcr_view.specs.Needs.{needs_of, needs_to_rebase}
 use Rattle.jcr_view.specs.Outcomes.{is_viewed}
-use Rattle.jcr_view.specs.Parts.{IsPartOf}
-use Rattle.jcr_view.specs.Rounds.{is_of_one_node, loadable, paths_named, unknown}
+use Rattle.jcr_view.specs.Rounds.{is_of_one_node, loadable, paths_named, unknown_of}
 use Rattle.jcr_view.proofs.Rounds.{children_keep, children_known, node_keeps, node_known}
 use Rattle.jcr_view.proofs.RoundsEnd.{asked_in, fewer, known_is, listed_is}
 use Rattle.jcr_view.proofs.Wanted.{again_loadable, asked_loadable, contains, fewer_paths, is_in, there_loadable, whole_loadable}
@@ -46,7 +41,7 @@ may_load_alike c x y m a = ap (λ (ps : List Path). loadable (ps ++ asked_paths 
 
 pub unread_alike : (c : Call) (x y : Held) (m : Command) → AreAlike x y → unread c y m ≡ unread c x m
 unread_alike c x y m a =
-    ap (unknown y.part) (may_load_alike c x y m a) ∙ ap (λ (k : Knowledge). unknown k (may_load c x m)) a.part
+    ap (unknown_of y.part) (may_load_alike c x y m a) ∙ ap (λ (k : Knowledge). unknown_of k (may_load c x m)) a.part
 
 pub wanted_alike : (c : Call) (x y : Held) (m : Command) (n : Need) → AreAlike x y → IsWanted c x m n → IsWanted c y m n
 wanted_alike c x y m n a wanted = record {
@@ -60,10 +55,10 @@ no_more_alike c x y m a = let same = unread_alike c x y m a in omega arith
 -- no more is to be read where nothing is kept then
 pub no_more_settled : (c : Call) (x y : Held) (m : Command) → y.part ≡ x.part → y.is_kept ≡ false → unread c y m ≤ unread c x m
 no_more_settled c x y m part settled =
-    let here : unread c y m ≡ unknown x.part (loadable (asked_paths c m) c.base) =
-    ap (λ b. unknown y.part (loadable (cond b (map need_path (needs_to_rebase (edit_of y.pending)) ++ touched_paths y.pending) [] ++ asked_paths c m) c.base)) settled
-    ∙ ap (λ (k : Knowledge). unknown k (loadable (asked_paths c m) c.base)) part in
-    let less : unknown x.part (loadable (asked_paths c m) c.base) ≤ unread c x m =
+    let here : unread c y m ≡ unknown_of x.part (loadable (asked_paths c m) c.base) =
+    ap (λ b. unknown_of y.part (loadable (cond b (map need_path (needs_to_rebase (edit_of y.pending)) ++ touched_paths y.pending) [] ++ asked_paths c m) c.base)) settled
+    ∙ ap (λ (k : Knowledge). unknown_of k (loadable (asked_paths c m) c.base)) part in
+    let less : unknown_of x.part (loadable (asked_paths c m) c.base) ≤ unread c x m =
     fewer_paths x.part (kept_paths x) (asked_paths c m) c.base in
     omega arith
 
@@ -72,19 +67,19 @@ no_more_settled c x y m part settled =
 pub node_read : (c : Call) (x : Held) (m : Command) (p : Path) (node : Option Node) → IsWanted c x m (need.Node p)
     → unread c (record x { part = with_node x.part p node }) m < unread c x m
 node_read c x m p node wanted =
-    let less : unknown (with_node x.part p node) (may_load c x m) + 1 ≤ unknown x.part (may_load c x m) =
+    let less : unknown_of (with_node x.part p node) (may_load c x m) + 1 ≤ unknown_of x.part (may_load c x m) =
     fewer x.part (with_node x.part p node) (λ n h. node_keeps x.part p node n h) (may_load c x m) (need.Node p)
     (is_in (may_load c x m) (need.Node p) wanted.may) wanted.unknown_is (node_known x.part p node) in
-    let same : unread c (record x { part = with_node x.part p node }) m ≡ unknown (with_node x.part p node) (may_load c x m) = refl in
+    let same : unread c (record x { part = with_node x.part p node }) m ≡ unknown_of (with_node x.part p node) (may_load c x m) = refl in
     omega arith
 
 pub children_read : (c : Call) (x : Held) (m : Command) (p : Path) (names : ChildNames) → IsWanted c x m (need.Children p)
     → unread c (record x { part = with_children x.part p names }) m < unread c x m
 children_read c x m p names wanted =
-    let less : unknown (with_children x.part p names) (may_load c x m) + 1 ≤ unknown x.part (may_load c x m) =
+    let less : unknown_of (with_children x.part p names) (may_load c x m) + 1 ≤ unknown_of x.part (may_load c x m) =
     fewer x.part (with_children x.part p names) (λ n h. children_keep x.part p names n h) (may_load c x m) (need.Children p)
     (is_in (may_load c x m) (need.Children p) wanted.may) wanted.unknown_is (children_known x.part p names) in
-    let same : unread c (record x { part = with_children x.part p names }) m ≡ unknown (with_children x.part p names) (may_load c x m) = refl in
+    let same : unread c (record x { part = with_children x.part p names }) m ≡ unknown_of (with_children x.part p names) (may_load c x m) = refl in
     omega arith
 
 -- ---- what is known is of the tree at the base

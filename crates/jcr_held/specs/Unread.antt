@@ -8,7 +8,7 @@ use Rattle.jr_overlay.specs.Overlays.{edit_of}
 use Rattle.jcr_trans.specs.declared.command.Command.{Command}
 use Rattle.jcr_view.specs.Needs.{needs_to_rebase}
 use Rattle.jcr_view.specs.Outcomes.{is_viewed}
-use Rattle.jcr_view.specs.Rounds.{loadable, paths_named, unknown}
+use Rattle.jcr_view.specs.Rounds.{loadable, paths_named, unknown_of}
 use Rattle.jcr_law.specs.State.{Call}
 use Rattle.jcr_held.specs.declared.held.Held.{Held}
 use Rattle.jcr_held.specs.Looking.{touched_paths}
@@ -30,7 +30,7 @@ may_load c x m = loadable (kept_paths x ++ asked_paths c m) c.base
 
 -- how much of that isn't known
 abbrev pub unread : Call → Held → Command → ℕ
-unread c x m = unknown x.part (may_load c x m)
+unread c x m = unknown_of x.part (may_load c x m)
 
 -- the need is one that may be loaded before the command, and isn't known
 pub record IsWanted (c : Call) (x : Held) (m : Command) (n : Need) : Type 0 where

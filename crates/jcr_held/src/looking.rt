@@ -2,7 +2,6 @@
 // forgotten, and looking at less is never wrong: what a command asks for is asked anew at the end.
 ghost use Rattle.std.specs.Prelude.{◌≡◌, IfOk, IfSome, IsFalse, IsTrue, None, Some, is_some};
 ghost use Rattle.jr_path.specs.Names.{parent_of};
-ghost use Rattle.jr_overlay.specs.Overlays.{change_at};
 ghost use Rattle.jr_part.specs.Parts.{knows, list_at, lists_child};
 ghost use Rattle.jr_part.specs.declared.need.Need.TheVariants as need;
 ghost use Rattle.jcr_held.specs.Looking.{IsMetFirst, IsUnknownChild, IsUnknownNear};

@@ -54,7 +54,13 @@ pub(crate) fn call_at(
     ensures { IfOk result (λ call. called law.now.types call
         ≡ call_at law.now start.now (reverse events.now) session v state) }
 {
-    let base = tree_from(alloc, start, events, &v)?;
+    let base = match tree_from(alloc, start, events, &v) {
+        Ok(base) => base,
+        Err(AllocError) => {
+            drop(state);
+            return Err(AllocError);
+        }
+    };
     let who = Who {
         session,
         earlier: law.earlier,

@@ -67,7 +67,9 @@ pub(crate) fn is_split_end(alloc: Global, text: &str, end: &SplitEnd) -> Result<
     ensures { IfOk result (λ is. is ≡ bytes_eq text.now (ok_text (split_data end.now))) }
 {
     let json = split_json(alloc, end)?;
-    is_json(alloc, text, &json)
+    let is = is_json(alloc, text, &json);
+    drop(json);
+    is
 }
 
 // Whether a text shows what a collection did.
@@ -76,7 +78,9 @@ pub(crate) fn is_collected(alloc: Global, text: &str, done: &Collected) -> Resul
     ensures { IfOk result (λ is. is ≡ bytes_eq text.now (ok_text (collected_data done.now))) }
 {
     let json = collected_json(alloc, done)?;
-    is_json(alloc, text, &json)
+    let is = is_json(alloc, text, &json);
+    drop(json);
+    is
 }
 
 // Whether a text is `ok` with the JSON.
@@ -105,8 +109,13 @@ fn one_member(alloc: Global, name: &str, json: Json) -> Result<Json, AllocError>
     ensures { IfOk result (λ made. view made ≡ object (put name.now (view json) no_members)) }
 {
     let mut members = Map::new(alloc);
-    members.insert(String::from_str(alloc, name)?, json)?;
-    Ok(Json::Object(members))
+    match put_member(&mut members, alloc, name, json) {
+        Ok(()) => Ok(Json::Object(members)),
+        Err(AllocError) => {
+            drop(members);
+            Err(AllocError)
+        }
+    }
 }
 
 // The numbers read and found of something skipped.
@@ -148,7 +157,13 @@ fn all_skipped_json(alloc: Global, skipped: &[(DocId, u64, u64)]) -> Result<Json
 {
     let mut items = Vec::new(alloc);
     for one in skipped {
-        items.push(skipped_json(alloc, one)?)?;
+        match skipped_json(alloc, one) {
+            Ok(json) => items.push(json)?,
+            Err(AllocError) => {
+                drop(items);
+                return Err(AllocError);
+            }
+        }
     }
     Ok(Json::Array(items))
 }

@@ -82,6 +82,7 @@ fn state_next(
     match event {
         Event::Login(s, v) => {
             if *s == session {
+                drop(state);
                 return login(alloc, start, before, v);
             }
             Ok(state)
@@ -137,8 +138,16 @@ fn moved(
         (option_map_or (tree_at start.now (reverse before.now)) at (begin_tree start.now))
         state) }
 {
-    let view = moved_view(alloc, start, before, session, at, &state.view)?;
-    Ok(State { view, ..state })
+    match moved_view(alloc, start, before, session, at, &state.view) {
+        Ok(view) => {
+            drop(state.view);
+            Ok(State { view, ..state })
+        }
+        Err(AllocError) => {
+            drop(state);
+            Err(AllocError)
+        }
+    }
 }
 
 // The view of a session whose base moves to a vector, or to the beginning.
@@ -156,8 +165,17 @@ fn moved_view(
         view.now) }
 {
     let old = base_tree(alloc, start, before, session)?;
-    let new = tree_or_begin(alloc, start, before, at)?;
-    move_view(alloc, &old, &new, view)
+    let new = match tree_or_begin(alloc, start, before, at) {
+        Ok(new) => new,
+        Err(AllocError) => {
+            drop(old);
+            return Err(AllocError);
+        }
+    };
+    let moved = move_view(alloc, &old, &new, view);
+    drop(old);
+    drop(new);
+    moved
 }
 
 // The tree at the base of a session.
@@ -256,6 +274,7 @@ fn answered(
         let state = accepted(alloc, types, call, command)?;
         Ok(counted(state, command, ok, drew))
     } else {
+        drop(call.base);
         Ok(counted(call.state, command, ok, drew))
     }
 }
@@ -295,10 +314,22 @@ fn accepted(
     match command {
         Command::Save => Ok(without_pending(call)),
         Command::Refresh(false) => Ok(without_pending(call)),
-        Command::Token(token) => holding(alloc, call.state, token),
-        Command::DropToken(token) => dropping(alloc, call.state, token),
+        Command::Token(token) => {
+            drop(call.base);
+            holding(alloc, call.state, token)
+        }
+        Command::DropToken(token) => {
+            drop(call.base);
+            dropping(alloc, call.state, token)
+        }
         Command::Lock(_, _) => locked(alloc, call),
-        Command::Observe(path, deep, mask) => Ok(observing(call, path.copy()?, *deep, *mask)),
+        Command::Observe(path, deep, mask) => match path.copy() {
+            Ok(path) => Ok(observing(call, path, *deep, *mask)),
+            Err(AllocError) => {
+                drop(call);
+                Err(AllocError)
+            }
+        },
         Command::Events => Ok(observed(call)),
         _ => viewed(alloc, types, call, command),
     }
@@ -310,6 +341,7 @@ fn without_pending(call: Call) -> State
 {
     let view = call.base;
     let state = call.state;
+    drop(state.view);
     State { view, ..state }
 }
 
@@ -318,8 +350,13 @@ fn holding(alloc: Global, state: State, token: &Text) -> Result<State, AllocErro
     ensures { IfOk result (λ new. new
         ≡ record state { tokens = with_token state.tokens token.now }) }
 {
-    let tokens = with_token(alloc, state.tokens.as_slice(), token)?;
-    Ok(State { tokens, ..state })
+    match with_token(alloc, state.tokens.as_slice(), token) {
+        Ok(tokens) => Ok(State { tokens, ..state }),
+        Err(AllocError) => {
+            drop(state);
+            Err(AllocError)
+        }
+    }
 }
 
 // The session holds a token no more.
@@ -327,8 +364,13 @@ fn dropping(alloc: Global, state: State, token: &Text) -> Result<State, AllocErr
     ensures { IfOk result (λ new. new
         ≡ record state { tokens = without_token state.tokens token.now }) }
 {
-    let tokens = without_token(alloc, state.tokens.as_slice(), token)?;
-    Ok(State { tokens, ..state })
+    match without_token(alloc, state.tokens.as_slice(), token) {
+        Ok(tokens) => Ok(State { tokens, ..state }),
+        Err(AllocError) => {
+            drop(state);
+            Err(AllocError)
+        }
+    }
 }
 
 // The session holds the token of the lock that it made.
@@ -337,6 +379,7 @@ fn locked(alloc: Global, call: Call) -> Result<State, AllocError>
       tokens = with_token call.state.tokens (next_id call.who);
     }) }
 {
+    drop(call.base);
     let token = next_id(alloc, &call.who)?;
     holding(alloc, call.state, &token)
 }
@@ -352,6 +395,7 @@ fn observing(call: Call, path: Path, deep: bool, mask: u32) -> State
 {
     let at = call.who.base;
     let state = call.state;
+    drop(call.base);
     let filter = Filter { path, deep, mask };
     State {
         cursor: Some(Cursor { at, filter }),
@@ -367,6 +411,7 @@ fn observed(call: Call) -> State
 {
     let at = call.who.base;
     let mut state = call.state;
+    drop(call.base);
     if let Some(cursor) = &mut state.cursor {
         cursor.at = at;
     }
@@ -387,6 +432,7 @@ fn viewed(
     if is_viewed(command) {
         evaluated(alloc, types, call, command)
     } else {
+        drop(call.base);
         Ok(call.state)
     }
 }
@@ -411,11 +457,19 @@ fn evaluated(
         command,
     );
     match made {
-        Ok(_) => Ok(with_ids(call.state, call.who.ids)),
+        Ok(shown) => {
+            drop(shown);
+            drop(call.base);
+            Ok(with_ids(call.state, call.who.ids))
+        }
         Err(refusal) => {
-            if refusal.number == 16 {
+            let number = refusal.number;
+            drop(refusal);
+            if number == 16 {
+                drop(call);
                 return Err(AllocError);
             }
+            drop(call.base);
             Ok(with_ids(call.state, call.who.ids))
         }
     }

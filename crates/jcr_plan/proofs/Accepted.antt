@@ -7,7 +7,6 @@ use Rattle.std.specs.Ordering.{eq_by_cmp, match_ordering}
 use Rattle.std.specs.List.{cons_option, filter, filter_map, flat_map, list_any, list_all}
 use Rattle.std.specs.Map.{lookup, keys_of}
 use Rattle.std.specs.BTreeMap.{is_at, insert_entry}
-use Rattle.std.proofs.lemmas.List.Folds.{list_any-append}
 use mathlib.Core.Bool.{false≢true}
 use Rattle.jr_path.specs.Names.{name_cmp, path_cmp}
 use Rattle.jr_path.specs.declared.name.Name.{Name}
@@ -26,7 +25,8 @@ use Rattle.jr_types.specs.declared.TypeDef.{TypeDef}
 use Rattle.jr_rules.proofs.Meeting.{meets_rules}
 use Rattle.jcr_lock.specs.Locks.{locked_by, frozen_by}
 use Rattle.jcr_ref.specs.References.{ReferencesOk, dangling, items_where, is_dangling, target_of}
-use Rattle.jcr_plan.specs.Marks.{marks_of}
+use Rattle.jcr_marks.specs.Marks.{marks_of}
+use Rattle.jcr_marks.proofs.Stirred.{any_flat}
 use Rattle.jcr_plan.specs.Plans.{PlanOk, changed_by, is_changed, heeded, has_few_nodes}
 use Rattle.jcr_plan.specs.Refusals.{plan_refusal, frozen_over, locked_over, type_refusal}
 
@@ -77,10 +77,6 @@ put_some (e ∷ es) p = by (path_cmp p e.0)
 no_paths : (ps : List Path) → in_path_order ps ≡ [] → ps ≡ []
 no_paths [] h = refl
 no_paths (p ∷ ps) h = absurd (false≢true (sym (ap is_cons h) ∙ put_some (map (λ q. (q, true)) (in_path_order ps)) p))
-
-any_flat : {X Y : Type 0} (test : Y → Bool) (f : X → List Y) (xs : List X) → list_any test (flat_map f xs) ≡ list_any (λ x. list_any test (f x)) xs
-any_flat test f [] = refl
-any_flat test f (x ∷ xs) = list_any-append test (f x) (flat_map f xs) ∙ ap (λ b. list_any test (f x) || b) (any_flat test f xs)
 
 none_mapped : (f : Path → Option Path) (p : Path) (ps : List Path) → filter_map f ps ≡ [] → list_any (same_path p) ps ≡ true → f p ≡ None
 none_mapped f p [] h any = absurd (false≢true any)

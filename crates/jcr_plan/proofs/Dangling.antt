@@ -31,9 +31,9 @@ use Rattle.jr_tree.proofs.Pointwise.{same_path as path_same}
 use Rattle.jr_items.specs.Names.{frozen_type, primary_type, uuid}
 use Rattle.jr_items.specs.Items.{first_of, is_empty, is_of_type, one_name, one_text, reference_in, same_name, values_in}
 use Rattle.jcr_ref.specs.References.{ReferencesOk, dangling, is_dangling, is_target, items_at, references_at, target_of, uuid_text}
-use Rattle.jcr_plan.specs.ByWrite.{references_in}
+use Rattle.jcr_marks.specs.ByWrite.{references_in}
+use Rattle.jcr_marks.proofs.Stirred.{or_false}
 use Rattle.jcr_plan.specs.Checked.{has_reference, is_identity, may_dangle}
-use Rattle.jcr_plan.proofs.Stirred.{or_false}
 
 -- ---- lists
 

@@ -21,10 +21,10 @@ use Rattle.jr_items.specs.Items.{first_of, first_some, in_path_order}
 use Rattle.jr_items.specs.Refusals.{IsTheRefusal, checked_in, dangling as dangling_refusal, locked, over_limit, when}
 use Rattle.jr_types.specs.declared.TypeDef.{TypeDef}
 use Rattle.oak_clash.specs.declared.mark.MarkAt.{MarkAt}
+use Rattle.jcr_marks.specs.Marks.{marks_of}
 use Rattle.jcr_plan.specs.declared.causes.Assured.{Assured}
 use Rattle.jcr_plan.specs.First.{sooner}
 use Rattle.jcr_plan.specs.Checked.{dangling_by, refusal_between, refusal_by, violations_by}
-use Rattle.jcr_plan.specs.Marks.{marks_of}
 use Rattle.jcr_plan.specs.Plans.{PlanOk, has_few_nodes}
 use Rattle.jcr_plan.specs.Refusals.{frozen_over, locked_over, plan_refusal, type_refusal}
 use Rattle.jcr_plan.proofs.Accepted.{accepted}

@@ -29,7 +29,8 @@ use Rattle.jr_items.specs.Refusals.{checked_in, dangling as dangling_refusal, lo
 use Rattle.jr_tree.specs.declared.shared.Refusal.{Refusal}
 use Rattle.jcr_ref.specs.References.{dangling}
 use Rattle.oak_clash.specs.declared.mark.MarkAt.{MarkAt}
-use Rattle.jcr_plan.specs.Marks.{is_type_name, marks_of}
+use Rattle.jcr_marks.specs.Marks.{is_type_name, marks_of}
+use Rattle.jcr_marks.proofs.Stirred.{any_flat, none_last, or_false, path_self, removed_other}
 use Rattle.jcr_plan.specs.Plans.{PlanOk, has_few_nodes}
 use Rattle.jr_types.specs.declared.TypeDef.{TypeDef}
 use Rattle.jr_types.specs.Rules.{TypesOk, child_at, child_faults, node_types, property_faults}
@@ -39,7 +40,6 @@ use Rattle.jcr_plan.specs.Checked.{IsAsAssured, above_typed, dangling_by, is_ask
 use Rattle.jcr_plan.specs.Refusals.{frozen_over, locked_over, plan_refusal, type_refusal}
 use Rattle.jcr_plan.proofs.Dangling.{dangles_not}
 use Rattle.jcr_plan.proofs.Refused.{all_there, planned}
-use Rattle.jcr_plan.proofs.Stirred.{any_flat, none_last, or_false, path_self, removed_other}
 
 or_none : (b : Bool) → (b || false) ≡ b
 or_none true = refl

@@ -19,10 +19,10 @@ use Rattle.jr_types.specs.declared.TypeDef.{TypeDef}
 use Rattle.jr_types.specs.Rules.{TypesOk}
 use Rattle.jr_rules.specs.Violations.{Violation, violations, violations_among}
 use Rattle.jcr_ref.specs.References.{ReferencesOk, dangling}
+use Rattle.jcr_marks.specs.Marks.{is_type_name}
 use Rattle.jcr_plan.specs.declared.causes.Assured.{Assured}
 use Rattle.jcr_plan.specs.declared.referring.ReferenceNames.{ReferenceNames}
 use Rattle.jcr_plan.specs.declared.touched.Touched.{Touched}
-use Rattle.jcr_plan.specs.Marks.{is_type_name}
 use Rattle.jcr_plan.specs.Plans.{has_few_nodes}
 use Rattle.jcr_plan.specs.Refusals.{frozen_over, locked_over, type_refusal}
 

@@ -17,7 +17,7 @@ use Rattle.jr_types.specs.Rules.{TypesOk, node_types, child_at}
 use Rattle.jcr_lock.specs.Locks.{locked_by, frozen_by}
 use Rattle.jcr_ref.specs.References.{ReferencesOk}
 use Rattle.oak_clash.specs.declared.mark.MarkAt.{MarkAt}
-use Rattle.jcr_plan.specs.Marks.{marks_of}
+use Rattle.jcr_marks.specs.Marks.{marks_of}
 
 -- the nodes that a write changes: its own, and the parent of one that is added or removed
 abbrev pub changed_by : Write → List Path

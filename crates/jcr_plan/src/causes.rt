@@ -129,7 +129,10 @@ fn first_dangling(
     if are_passed_over(alloc, old, new, writes, assured)? {
         return Ok(None);
     }
-    dangling(alloc, &new.tree()?)
+    let tree = new.tree()?;
+    let item = dangling(alloc, &tree);
+    drop(tree);
+    item
 }
 
 // Whether the references need not be gone over.

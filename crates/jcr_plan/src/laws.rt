@@ -12,9 +12,9 @@ ghost use Rattle.jr_types.specs.Rules.{TypesOk};
 ghost use Rattle.oak_clash.specs.declared.mark.MarkAt.{MarkAt};
 ghost use Rattle.oak_machine.specs.Laws.{AreOfWrites};
 ghost use Rattle.jcr_ref.specs.References.{ReferencesOk, dangling};
+ghost use Rattle.jcr_marks.specs.Marks.{marks_of};
 ghost use Rattle.jcr_plan.specs.declared.causes.Assured.{Assured};
 ghost use Rattle.jcr_plan.specs.Checked.{IsAsAssured, may_dangle, refusal_by};
-ghost use Rattle.jcr_plan.specs.Marks.{marks_of};
 ghost use Rattle.jcr_plan.specs.Plans.{PlanOk};
 ghost use Rattle.jcr_plan.specs.Refusals.{plan_refusal};
 

@@ -1,11 +1,9 @@
-//! The plan of a commit: the marks that an edit makes, and when it may be committed on a tree.
+//! The plan of a commit: when an edit may be committed on a tree, with all its marks.
 #![tactic(auto)]
 
 mod causes;
 mod changed;
-mod covered;
 mod laws;
-mod marking;
 mod plans;
 mod referring;
 mod touched;

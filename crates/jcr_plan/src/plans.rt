@@ -4,13 +4,13 @@ ghost use Rattle.std.specs.String.{string_bytes};
 ghost use Rattle.jr_tree.specs.Edits.{IsProper, applied};
 ghost use Rattle.jr_tree.specs.Trees.{IsTree};
 ghost use Rattle.jr_items.specs.Refusals.{IsTheRefusal, out_of_memory};
+ghost use Rattle.jcr_marks.specs.Marks.{marks_of};
 ghost use Rattle.jcr_plan.specs.Checked.{IsAsAssured, refusal_by};
-ghost use Rattle.jcr_plan.specs.Marks.{marks_of};
 ghost use Rattle.jcr_plan.specs.Plans.{PlanOk};
 ghost use Rattle.jcr_plan.specs.Refusals.{plan_refusal};
 
 use crate::causes::{Assured, check_plan};
-use crate::marking::marks_between;
+use jcr_marks::marks_between;
 use jr_edited::Edited;
 use jr_path::List;
 use jr_tree::{Edit, Refusal, Tree, Write};
@@ -54,7 +54,10 @@ pub fn plan_of(
     };
     match marks_on(alloc, types, tree, &edit, tokens, assured) {
         Ok(marks) => Ok(Plan { edit, marks }),
-        Err(refusal) => Err(refusal),
+        Err(refusal) => {
+            drop(edit);
+            Err(refusal)
+        }
     }
 }
 
@@ -87,7 +90,10 @@ pub fn plan_of_change(
 {
     match planned_marks(alloc, types, tree, after, &edit, tokens, assured) {
         Ok(marks) => Ok(Plan { edit, marks }),
-        Err(refusal) => Err(refusal),
+        Err(refusal) => {
+            drop(edit);
+            Err(refusal)
+        }
     }
 }
 
@@ -107,7 +113,11 @@ fn marks_on(
         (refusal_by assured types.now tree.now (map string_bytes tokens.now) edit.now.writes)) }
 {
     match Edited::of(alloc, tree, edit) {
-        Ok(after) => planned_marks(alloc, types, tree, &after, edit, tokens, assured),
+        Ok(after) => {
+            let marks = planned_marks(alloc, types, tree, &after, edit, tokens, assured);
+            drop(after);
+            marks
+        }
         Err(AllocError) => Err(Refusal::memory(alloc)),
     }
 }

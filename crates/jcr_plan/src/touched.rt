@@ -5,7 +5,7 @@ ghost use Rattle.jr_path.specs.Names.{parent_of};
 ghost use Rattle.jr_tree.specs.Merging.{with_room};
 ghost use Rattle.jcr_plan.specs.Checked.{IsTouched, renewed_by, touched_by};
 
-use crate::marking::is_type_name;
+use jcr_marks::is_type_name;
 use jr_items::OwnName;
 use jr_path::{DeepCopy, Path};
 use jr_tree::{Node, Tree, Write};
@@ -22,10 +22,14 @@ impl Touched {
     pub(crate) fn of(alloc: Global, writes: &[Write]) -> Result<Touched, AllocError>
         ensures { IfOk result (IsTouched writes.now) }
     {
-        Ok(Touched {
-            nodes: touched_nodes(alloc, writes)?,
-            renewed: renewed_nodes(alloc, writes)?,
-        })
+        let nodes = touched_nodes(alloc, writes)?;
+        match renewed_nodes(alloc, writes) {
+            Ok(renewed) => Ok(Touched { nodes, renewed }),
+            Err(AllocError) => {
+                drop(nodes);
+                Err(AllocError)
+            }
+        }
     }
 }
 
@@ -34,7 +38,13 @@ fn touched_nodes(alloc: Global, writes: &[Write]) -> Result<Tree, AllocError>
 {
     let mut tree = Tree::new(alloc);
     for write in writes {
-        note_touched(&mut tree, alloc, write)?;
+        match note_touched(&mut tree, alloc, write) {
+            Ok(()) => {}
+            Err(AllocError) => {
+                drop(tree);
+                return Err(AllocError);
+            }
+        }
     }
     Ok(tree)
 }
@@ -76,7 +86,13 @@ fn renewed_nodes(alloc: Global, writes: &[Write]) -> Result<Tree, AllocError>
 {
     let mut tree = Tree::new(alloc);
     for write in writes {
-        note_renewed(&mut tree, alloc, write)?;
+        match note_renewed(&mut tree, alloc, write) {
+            Ok(()) => {}
+            Err(AllocError) => {
+                drop(tree);
+                return Err(AllocError);
+            }
+        }
     }
     Ok(tree)
 }

@@ -84,7 +84,11 @@ fn check_touched(
 {
     tree.in_order();
     match Touched::of(alloc, writes) {
-        Ok(touched) => check_those(alloc, types, tree, &touched),
+        Ok(touched) => {
+            let checked = check_those(alloc, types, tree, &touched);
+            drop(touched);
+            checked
+        }
         Err(AllocError) => Err(Refusal::memory(alloc)),
     }
 }

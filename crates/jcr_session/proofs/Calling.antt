@@ -1,5 +1,5 @@
 -- A session's calls of its port: the law stays, and what a call answers is of the same law.
-use Rattle.std.proofs.Common.{◌≡◌, ℕ, false, Bool, Some, None, Option, List, Result, Ok, Err, IfOk, OnErr, refl, sym, ap, ◌∙◌, subst}
+use Rattle.std.proofs.Common.{◌≡◌, ℕ, false, Bool, Some, Option, List, Result, Ok, Err, IfOk, OnErr, sym, ap, ◌∙◌, subst}
 use Rattle.std.specs.Prelude.{slice_get, string_bytes}
 use Rattle.std.specs.declared.alloc.AllocError.{AllocError}
 use Rattle.std.specs.declared.alloc.Global.{Global}

@@ -1,5 +1,5 @@
 -- A session begins to commit.
-use Rattle.std.proofs.Common.{◌≡◌, inl, ℕ, Bool, true, false, cond, Some, None, Option, List, [], ◌∷◌, ◌++◌, is_some, Ok, Result, ◌<◌, ◌≤◌, length, arith, refl, sym, ap, ◌∙◌, subst}
+use Rattle.std.proofs.Common.{◌≡◌, inl, ℕ, Bool, true, false, cond, Some, None, Option, List, [], ◌∷◌, ◌++◌, is_some, Result, ◌<◌, length, arith, refl, sym, ap, ◌∙◌, subst}
 use Rattle.std.specs.Prelude.{◌==◌, reverse, slice_get}
 use Rattle.std.specs.Option.{option_map_or}
 use mathlib.Core.Bool.{false≢true}
@@ -51,7 +51,7 @@ use Rattle.jcr_session.proofs.Nexts.{allowed_due, due_at, next_due}
 use Rattle.jcr_session.proofs.Starting.{some_is}
 use Rattle.jcr_session.proofs.Saying.{asked_like, asked_waits, drawn_waits, get_within}
 use Rattle.jcr_session.proofs.Turning.{free, is_awaiting, not_ended, plain_step, turned_later}
-use Rattle.jcr_session.proofs.Waiting.{all_beside, by_waits, called_beside, in_beside, next_beside, shown_beside}
+use Rattle.jcr_session.proofs.Waiting.{by_waits, called_beside, in_beside, next_beside}
 
 -- a command for which a commit is due may be run
 pub commit_allowed : (run : SessionRun) (m : Command) → slice_get run.commands run.index ≡ Some m → due_for run ≡ due.Commit → is_allowed m ≡ true

@@ -1,5 +1,5 @@
 -- What a session answers once its commit has ended.
-use Rattle.std.proofs.Common.{◌≡◌, ℕ, Bool, true, false, cond, not, Some, None, Option, List, is_some, refl, sym, ap, ◌∙◌, subst}
+use Rattle.std.proofs.Common.{◌≡◌, true, false, not, Some, None, Option, is_some, refl, sym, ap, ◌∙◌, subst}
 use Rattle.std.specs.Prelude.{option_map, slice_get, string_bytes}
 use Rattle.std.specs.Option.{option_map_or}
 use Rattle.std.specs.declared.alloc.Global.{Global}
@@ -17,7 +17,7 @@ use Rattle.jr_tree.specs.Edits.{IsProper, applied}
 use Rattle.jr_tree.specs.Trees.{IsTree, Nodes}
 use Rattle.jr_items.specs.Refusals.{clash}
 use Rattle.oak_machine.specs.Commits.{draw_of, is_committed, is_ended, tree_at}
-use Rattle.oak_machine.specs.Sessions.{base_of, drawn_since, is_drawing}
+use Rattle.oak_machine.specs.Sessions.{base_of, is_drawing}
 use Rattle.oak_port.specs.Ports.{HasRoom, Shown}
 use Rattle.oak_commit.specs.declared.outcome.CommitEnd.{CommitEnd}
 use Rattle.oak_commit.specs.declared.outcome.CommitEnd.TheVariants as commit

@@ -13,7 +13,7 @@ use Rattle.oak_machine.specs.History.{Begin, History, Past}
 use Rattle.oak_machine.specs.Commits.{tree_at}
 use Rattle.oak_machine.specs.Laws.{Says, Starts, after}
 use Rattle.oak_machine.specs.Runs.{AreNodes, IsRun, IsRunOf}
-use Rattle.oak_machine.specs.Sessions.{base_of, drawn_since, has_left, has_login, is_attached, is_drawing, next_index}
+use Rattle.oak_machine.specs.Sessions.{base_of, has_left, has_login, is_attached, is_drawing, next_index}
 use Rattle.oak_machine.proofs.Induction.{neither}
 use Rattle.oak_port.specs.Ports.{AreOfStep, Idle, Makes, MayBegin, Shown, Starting, Steps, OthersAlone, Work}
 use Rattle.oak_port.specs.declared.task.StepOut.TheVariants as out

@@ -18,10 +18,10 @@ use Rattle.jcr_session.specs.declared.run.SessionRun.{SessionRun}
 use Rattle.jcr_session.specs.declared.turn.Turn.{Turn}
 use Rattle.jcr_session.specs.declared.turn.Turn.TheVariants as turn
 use Rattle.jcr_session.specs.Asked.{MayForgo}
-use Rattle.jcr_session.specs.Standing.{HasLooked, HasCounted, IsBeside, IsBetween, IsCalled, IsIn, IsReading, IsRefused, IsSame, IsTurned, IsWantedNext, Stands, StandsAt, due_for, due_of, is_between, is_writing, may_read, reads_for}
+use Rattle.jcr_session.specs.Standing.{HasLooked, HasCounted, IsBeside, IsBetween, IsCalled, IsIn, IsReading, IsRefused, IsSame, IsTurned, IsWantedNext, Stands, StandsAt, is_writing, may_read}
 use Rattle.jcr_session.proofs.Lawful.{at_between, between_forgoes}
 use Rattle.jcr_session.proofs.Nexts.{reads_between, reads_due, reads_next, same_reads}
-use Rattle.jcr_session.proofs.Reading.{beside_both, beside_itself, nobody}
+use Rattle.jcr_session.proofs.Reading.{beside_both, nobody}
 use Rattle.jcr_session.proofs.Saying.{turned_like}
 use Rattle.jcr_session.proofs.Turning.{Link, free, has_turned_later, is_awaiting, never_ends}
 use Rattle.jcr_session.proofs.Waiting.{called_beside, fresh_beside, in_beside, next_beside, nodes_beside, shown_beside}

@@ -21,7 +21,7 @@ use Rattle.jcr_session.specs.declared.run.SessionRun.{SessionRun}
 use Rattle.jcr_session.specs.declared.turn.Turn.{Turn}
 use Rattle.jcr_session.specs.declared.turn.Turn.TheVariants as turn
 use Rattle.jcr_session.specs.Answered.{phase_by, turn_by}
-use Rattle.jcr_session.specs.Nearing.{ComesNearer, CommitsSooner, EndsSooner, IsReply, ReadsOn, StaysBehindStep, StepsOn, left_of, stages_left}
+use Rattle.jcr_session.specs.Nearing.{ComesNearer, CommitsSooner, EndsSooner, IsReply, ReadsOn, StaysBehindStep, StepsOn, turns_left, stages_left}
 use Rattle.jcr_session.specs.Standing.{HasCounted, HasTurned, IsSame, Stands, is_committing}
 use Rattle.jcr_session.proofs.Nearing.{memory_sooner, sooner_by}
 
@@ -47,13 +47,13 @@ same_replies : (run now : SessionRun) → now.commands ≡ run.commands → now.
 same_replies run now commands index = ap (λ (cs : List Command). length cs - now.index) commands ∙ ap (λ (i : ℕ). length run.commands - i) index
 
 -- behind reading steps as much is left as before
-pub left_looked : (run mid : SessionRun) → IsSame run mid → left_of mid ≡ left_of run
+pub left_looked : (run mid : SessionRun) → IsSame run mid → turns_left mid ≡ turns_left run
 left_looked run mid same =
     ap (λ (n : ℕ). 5 * n + stages_left mid.phase) (same_replies run mid same.commands same.index)
     ∙ ap (λ (f : Phase). 5 * (length run.commands - run.index) + stages_left f) same.phase
 
 -- a step into a later phase
-pub further : (run now : SessionRun) (k : StepKind) (f : Phase) → run.phase ≡ f → now.commands ≡ run.commands → now.index ≡ run.index → stages_left now.phase < stages_left f → StepsOn ⊥ (left_of run) (left_of now) (turn.Stepped k)
+pub further : (run now : SessionRun) (k : StepKind) (f : Phase) → run.phase ≡ f → now.commands ≡ run.commands → now.index ≡ run.index → stages_left now.phase < stages_left f → StepsOn ⊥ (turns_left run) (turns_left now) (turn.Stepped k)
 further run now k f at commands index less =
     inl (nearer_by (length now.commands - now.index) (length run.commands - run.index) (stages_left now.phase) (stages_left run.phase) (same_replies run now commands index)
     (subst (λ (g : Phase). stages_left now.phase < stages_left g) (sym at) less))
@@ -83,9 +83,9 @@ committing_less (phase.Refreshed x) h = absurd (false≢true h)
 committing_less (phase.Committed e a) h = absurd (false≢true h)
 committing_less phase.Over h = absurd (false≢true h)
 
-pub pledged_steps : (run mid now : SessionRun) (t : Turn) → run.phase ≡ phase.Between → mid.commands ≡ run.commands → mid.index ≡ run.index → is_committing mid.phase ≡ true → StaysBehindStep mid now t → StepsOn ⊥ (left_of run) (left_of now) t
+pub pledged_steps : (run mid now : SessionRun) (t : Turn) → run.phase ≡ phase.Between → mid.commands ≡ run.commands → mid.index ≡ run.index → is_committing mid.phase ≡ true → StaysBehindStep mid now t → StepsOn ⊥ (turns_left run) (turns_left now) t
 pledged_steps run mid now (turn.Stepped k) between commands index commits stays =
-    subst (λ (x : SessionRun). StepsOn ⊥ (left_of run) (left_of x) (turn.Stepped k)) (sym stays) (further run mid k phase.Between between commands index (committing_less mid.phase commits))
+    subst (λ (x : SessionRun). StepsOn ⊥ (turns_left run) (turns_left x) (turn.Stepped k)) (sym stays) (further run mid k phase.Between between commands index (committing_less mid.phase commits))
 pledged_steps run mid now (turn.Said i) between commands index commits stays = tt
 pledged_steps run mid now (turn.Waiting q) between commands index commits stays = tt
 pledged_steps run mid now turn.Read between commands index commits stays = tt
@@ -104,7 +104,7 @@ module _ (run : SessionRun) (a : Pledge) (sooner : Type 0) where
   run_at f = record run { phase = f }
 
   abbrev Goes : StepOut → Type 0
-  Goes answer = StepsOn sooner (left_of (run_at (phase.Committing a))) (left_of (run_at (phase_by answer (phase.Committing a)))) (turn_by answer)
+  Goes answer = StepsOn sooner (turns_left (run_at (phase.Committing a))) (turns_left (run_at (phase_by answer (phase.Committing a)))) (turn_by answer)
 
   -- it goes on in its phase, or ends
   goes : (answer : StepOut) → IsWait answer ⊎ sooner → Goes answer
@@ -120,11 +120,11 @@ module _ (old new : Shown) (run now : SessionRun) (a : Pledge) (commits : run.ph
   same_run = ap (λ (f : Phase). record run { phase = f }) (sym commits)
 
   -- told of what the turn tells
-  told : (sooner : Type 0) (answer : StepOut) (t : Turn) → now ≡ record run { phase = phase_by answer run.phase } → t ≡ turn_by answer → IsWait answer ⊎ sooner → StepsOn sooner (left_of run) (left_of now) t
+  told : (sooner : Type 0) (answer : StepOut) (t : Turn) → now ≡ record run { phase = phase_by answer run.phase } → t ≡ turn_by answer → IsWait answer ⊎ sooner → StepsOn sooner (turns_left run) (turns_left now) t
   told sooner answer t is turns soon =
-      subst (λ (x : Turn). StepsOn sooner (left_of run) (left_of now) x) (sym turns)
-      (subst (λ (x : SessionRun). StepsOn sooner (left_of run) (left_of x) (turn_by answer)) (sym (is ∙ ap (λ (f : Phase). record run { phase = phase_by answer f }) commits))
-      (subst (λ (x : SessionRun). StepsOn sooner (left_of x) (left_of (record run { phase = phase_by answer (phase.Committing a) })) (turn_by answer)) same_run (goes run a sooner answer soon)))
+      subst (λ (x : Turn). StepsOn sooner (turns_left run) (turns_left now) x) (sym turns)
+      (subst (λ (x : SessionRun). StepsOn sooner (turns_left run) (turns_left x) (turn_by answer)) (sym (is ∙ ap (λ (f : Phase). record run { phase = phase_by answer f }) commits))
+      (subst (λ (x : SessionRun). StepsOn sooner (turns_left x) (turns_left (record run { phase = phase_by answer (phase.Committing a) })) (turn_by answer)) same_run (goes run a sooner answer soon)))
 
   -- it commits
   by_commit : (before later : ℕ) (answer : StepOut) → IsWait answer ⊎ EndsSooner before later old → IsWait answer ⊎ CommitsSooner before later old run
@@ -133,13 +133,13 @@ module _ (old new : Shown) (run now : SessionRun) (a : Pledge) (commits : run.ph
 
   module _ (starts : Starts) (says : Says) where
     -- one step
-    pub once_nearer : (before later : ℕ) (answer : StepOut) (t : Turn) → Steps starts says old new answer → LastsLess before later old new answer → now ≡ record run { phase = phase_by answer run.phase } → t ≡ turn_by answer → StepsOn (CommitsSooner before later old run) (left_of run) (left_of now) t
+    pub once_nearer : (before later : ℕ) (answer : StepOut) (t : Turn) → Steps starts says old new answer → LastsLess before later old new answer → now ≡ record run { phase = phase_by answer run.phase } → t ≡ turn_by answer → StepsOn (CommitsSooner before later old run) (turns_left run) (turns_left now) t
     once_nearer before later answer t steps lowers is turns =
         told (CommitsSooner before later old run) answer t is turns (by_commit before later answer (sooner_by starts says old new answer steps before later lowers))
 
     -- a step for which memory was refused, and one more
     pub twice_nearer : (starts_later : Starts) (says_later : Says) (before between later : ℕ) (mid : Shown) (first answer : StepOut) (t : Turn) → first ≡ out.Memory → Steps starts says old mid first → LastsLess before between old mid first
-        → Steps starts_later says_later mid new answer → LastsLess between later mid new answer → now ≡ record run { phase = phase_by answer run.phase } → t ≡ turn_by answer → StepsOn (CommitsSooner before later old run) (left_of run) (left_of now) t
+        → Steps starts_later says_later mid new answer → LastsLess between later mid new answer → now ≡ record run { phase = phase_by answer run.phase } → t ≡ turn_by answer → StepsOn (CommitsSooner before later old run) (turns_left run) (turns_left now) t
     twice_nearer starts_later says_later before between later mid first answer t memory once lowers twice lowers_later is turns =
         told (CommitsSooner before later old run) answer t is turns (by_commit before later answer (both (sooner_by starts_later says_later mid new answer twice between later lowers_later)))
       where
@@ -155,7 +155,7 @@ module _ (old new : Shown) (run now : SessionRun) (a : Pledge) (commits : run.ph
 -- ---- a turn
 
 -- a reply that was said is one that is not left
-said_less : (law : JcrLaw) (old new : Shown) (run now : SessionRun) (j : ℕ) → Stands law old run → HasCounted law old new run now (turn.Said j) → left_of now < left_of run
+said_less : (law : JcrLaw) (old new : Shown) (run now : SessionRun) (j : ℕ) → Stands law old run → HasCounted law old new run now (turn.Said j) → turns_left now < turns_left run
 said_less law old new run now j stands turned = fewer_by (length now.commands - now.index) (length run.commands - run.index) (stages_left now.phase) (stages_left run.phase) less (few_stages now.phase)
   where
     behind : Past
@@ -181,7 +181,7 @@ said_less law old new run now j stands turned = fewer_by (length now.commands - 
         let index : now.index ≡ run.index + 1 = index_now in
         omega arith
 
-pub turn_nearer : (law : JcrLaw) (old new : Shown) (run now : SessionRun) (sooner : Type 0) (t : Turn) → Stands law old run → HasCounted law old new run now t → StepsOn sooner (left_of run) (left_of now) t → ComesNearer sooner (left_of run) (left_of now) t
+pub turn_nearer : (law : JcrLaw) (old new : Shown) (run now : SessionRun) (sooner : Type 0) (t : Turn) → Stands law old run → HasCounted law old new run now t → StepsOn sooner (turns_left run) (turns_left now) t → ComesNearer sooner (turns_left run) (turns_left now) t
 turn_nearer law old new run now sooner (turn.Said j) stands turned h = said_less law old new run now j stands turned
 turn_nearer law old new run now sooner (turn.Stepped k) stands turned h = h
 turn_nearer law old new run now sooner (turn.Waiting q) stands turned h = tt

@@ -30,7 +30,7 @@ use Rattle.jcr_session.specs.declared.run.SessionRun.{SessionRun}
 use Rattle.jcr_session.specs.declared.turn.Turn.{Turn}
 use Rattle.jcr_session.specs.declared.turn.Turn.TheVariants as turn
 use Rattle.jcr_session.specs.Asked.{IsAsked, MayAnswer, MayForgo, has_drawn}
-use Rattle.jcr_session.specs.Standing.{HasCounted, IsBeside, IsBetween, IsCalled, IsFresh, IsIn, IsReading, IsSeenFor, IsTurned, Stands, is_writing, reads_for, due_for}
+use Rattle.jcr_session.specs.Standing.{HasCounted, IsBeside, IsBetween, IsFresh, IsIn, IsReading, IsSeenFor, IsTurned, is_writing}
 use Rattle.jcr_session.proofs.Committing.{own}
 use Rattle.jcr_session.proofs.Nexts.{unwanted}
 use Rattle.jcr_session.proofs.Turning.{free, has_turned_later, is_awaiting, kept, never_ends}

@@ -35,7 +35,7 @@ use Rattle.jcr_session.specs.declared.run.SessionRun.{SessionRun}
 use Rattle.jcr_session.specs.declared.turn.Turn.{Turn}
 use Rattle.jcr_session.specs.declared.turn.Turn.TheVariants as turn
 use Rattle.jcr_session.specs.Answered.{kind_of_end, phase_by, turn_by}
-use Rattle.jcr_session.specs.Standing.{HasAwaited, HasCommitted, HasDrawn, HasDrawnFor, HasCounted, IsBeside, IsCalled, IsCommitting, IsFor, IsIn, IsInCommit, IsMade, IsMadeFor, IsPlace, IsSeenFor, IsStep, IsToldEnd, IsTurned, Stands, StandsAt, Tells, is_writing}
+use Rattle.jcr_session.specs.Standing.{HasAwaited, HasCommitted, HasDrawnFor, HasCounted, IsBeside, IsCalled, IsCommitting, IsFor, IsIn, IsInCommit, IsMade, IsMadeFor, IsPlace, IsSeenFor, IsStep, IsToldEnd, IsTurned, Stands, StandsAt, Tells, is_writing}
 use Rattle.jcr_session.proofs.Committing.{clash_end, committing_finish, committing_undo, committing_write, own, still_moved, unmade_end}
 use Rattle.jcr_session.proofs.Reading.{tree_called}
 use Rattle.jcr_session.proofs.Turning.{IsQuiet, Link, awaited_finish, awaited_write, due_finish, free, has_turned_later, is_awaiting, never_ends, one_finish, one_write, quiet_by, quiet_finish, quiet_write}

@@ -51,8 +51,8 @@ stages_left (phase.Refreshed v) = 1
 stages_left phase.Over = 0
 
 -- how many replies a session has not said yet, five times, and how near it is to the next one
-abbrev pub left_of : SessionRun → ℕ
-left_of run = 5 * (length run.commands - run.index) + stages_left run.phase
+abbrev pub turns_left : SessionRun → ℕ
+turns_left run = 5 * (length run.commands - run.index) + stages_left run.phase
 
 -- a number is less than it was; or it is what it was, and what is being done ends sooner
 abbrev pub IsLess : (sooner : Type 0) → (before now : ℕ) → Type 0

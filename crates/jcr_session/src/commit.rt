@@ -3,7 +3,7 @@ ghost use Rattle.std.specs.Prelude.{◌≡◌, ◌≤◌, IfOk, IsTrue, Some, fa
 ghost use Rattle.jcr_call.specs.declared.coming.Coming.TheVariants as coming;
 ghost use Rattle.jcr_session.specs.Answered.{IsCommitAnswer, IsDrawAnswer, ended_phase, has_went, kind_of_end, phase_by, turn_by};
 ghost use Rattle.jcr_session.specs.Asked.{ComesNext, MayDrawFor};
-ghost use Rattle.jcr_session.specs.Nearing.{CommitsSooner, DrawsNoOther, StaysBehindStep, StepsOn, left_of};
+ghost use Rattle.jcr_session.specs.Nearing.{CommitsSooner, DrawsNoOther, StaysBehindStep, StepsOn, turns_left};
 ghost use Rattle.jcr_session.specs.Standing.{HasCounted, IsGranted, IsPlace, IsPrepared, Stands, due_for, is_committing};
 ghost use Rattle.jcr_session.specs.declared.limits.TheConstants.{COMMIT_REPLY_BYTES};
 ghost use Rattle.jcr_session.specs.declared.next.Due.TheVariants as due;
@@ -42,7 +42,7 @@ impl SessionRun {
         ensures law { P.law port.new ≡ P.law port.old }
         ensures turned { HasCounted (P.law port.old) (P.shown port.old) (P.shown port.new)
             self.old self.new result }
-        ensures steps { StepsOn ⊥ (left_of self.old) (left_of self.new) result }
+        ensures steps { StepsOn ⊥ (turns_left self.old) (turns_left self.new) result }
     {
         replies_without_commit_keep_tokens();
         match self.come() {
@@ -74,7 +74,7 @@ impl SessionRun {
         ensures law { P.law port.new ≡ P.law port.old }
         ensures turned { HasCounted (P.law port.old) (P.shown port.old) (P.shown port.new)
             self.old self.new result }
-        ensures steps { StepsOn ⊥ (left_of self.old) (left_of self.new) result }
+        ensures steps { StepsOn ⊥ (turns_left self.old) (turns_left self.new) result }
     {
         match plan.edit.copy() {
             Ok(edit) => self.pledge(port, plan, Pledge { edit, accepted }),
@@ -93,7 +93,7 @@ impl SessionRun {
         ensures law { P.law port.new ≡ P.law port.old }
         ensures turned { HasCounted (P.law port.old) (P.shown port.old) (P.shown port.new)
             self.old self.new result }
-        ensures steps { StepsOn ⊥ (left_of self.old) (left_of self.new) result }
+        ensures steps { StepsOn ⊥ (turns_left self.old) (turns_left self.new) result }
     {
         let bytes = place_for(&pledge.accepted);
         self.phase = Phase::Committing(pledge);
@@ -135,7 +135,7 @@ impl SessionRun {
         ensures draws { DrawsNoOther (P.shown port.old) (P.shown port.new) }
         ensures steps { StepsOn
             (CommitsSooner (P.left port.old) (P.left port.new) (P.shown port.old) self.old)
-            (left_of self.old) (left_of self.new) result }
+            (turns_left self.old) (turns_left self.new) result }
     {
         match port.step() {
             StepOut::Memory => {
@@ -196,11 +196,13 @@ fn has_went(answer: StepOut) -> bool
     requires { IsDrawAnswer answer }
     ensures { result ≡ has_went answer }
 {
-    match &answer {
+    let has_went = match &answer {
         StepOut::Went(_) => true,
         StepOut::Memory => false,
         _ => unreachable!(),
-    }
+    };
+    drop(answer);
+    has_went
 }
 
 // The kind of the step that ended a commit.

@@ -1,7 +1,7 @@
 // A session's turns: what it asks of its world, one counted step after another.
-ghost use Rattle.std.specs.Prelude.{◌≡◌, ◌≤◌, IfOk, IsTrue, IsFalse, OnOk, is_some, length};
+ghost use Rattle.std.specs.Prelude.{◌≡◌, ◌≤◌, IfOk, IsTrue, IsFalse, is_some, length};
 ghost use Rattle.jcr_session.specs.Answered.{IsLeaveAnswer, IsPinAnswer, ended_by, pinned_by};
-ghost use Rattle.jcr_session.specs.Nearing.{ComesNearer, CommitsSooner, DrawsNoOther, EndsSooner, IsReply, ReadsOn, StepsOn, left_of};
+ghost use Rattle.jcr_session.specs.Nearing.{ComesNearer, CommitsSooner, DrawsNoOther, EndsSooner, IsReply, ReadsOn, StepsOn, turns_left};
 ghost use Rattle.jcr_session.specs.Standing.{HasCounted, HasTurned, IsGranted, IsNew, IsPrepared, Stands, due_for, is_committing, is_saving, may_read};
 ghost use Rattle.jcr_session.specs.declared.next.Due.TheVariants as due;
 ghost use Rattle.jcr_session.specs.declared.run.Phase.TheVariants as phase;
@@ -96,7 +96,7 @@ impl SessionRun {
             → DrawsNoOther (P.shown port.old) (P.shown port.new) }
         ensures nears { ComesNearer
             (CommitsSooner (P.left port.old) (P.left port.new) (P.shown port.old) self.old)
-            (left_of self.old) (left_of self.new) result }
+            (turns_left self.old) (turns_left self.new) result }
         ensures reads { ReadsOn
             (EndsSooner (P.left port.old) (P.left port.new) (P.shown port.old))
             (P.law port.old) (P.shown port.old) self.old self.new result }
@@ -137,7 +137,7 @@ impl SessionRun {
             → DrawsNoOther (P.shown port.old) (P.shown port.new) }
         ensures steps { StepsOn
             (CommitsSooner (P.left port.old) (P.left port.new) (P.shown port.old) self.old)
-            (left_of self.old) (left_of self.new) result }
+            (turns_left self.old) (turns_left self.new) result }
     {
         match &self.phase {
             Phase::Outside => self.log_in(port),
@@ -159,7 +159,7 @@ impl SessionRun {
         ensures law { P.law port.new ≡ P.law port.old }
         ensures turned { HasCounted (P.law port.old) (P.shown port.old) (P.shown port.new)
             self.old self.new result }
-        ensures steps { StepsOn ⊥ (left_of self.old) (left_of self.new) result }
+        ensures steps { StepsOn ⊥ (turns_left self.old) (turns_left self.new) result }
     {
         let Ok(()) = port.start(Task::Login) else {
             return Turn::Memory;
@@ -182,7 +182,7 @@ impl SessionRun {
         ensures law { P.law port.new ≡ P.law port.old }
         ensures turned { HasCounted (P.law port.old) (P.shown port.old) (P.shown port.new)
             self.old self.new result }
-        ensures steps { StepsOn ⊥ (left_of self.old) (left_of self.new) result }
+        ensures steps { StepsOn ⊥ (turns_left self.old) (turns_left self.new) result }
     {
         match self.due() {
             Due::Leave => self.leave(port),
@@ -200,7 +200,7 @@ impl SessionRun {
         ensures law { P.law port.new ≡ P.law port.old }
         ensures turned { HasCounted (P.law port.old) (P.shown port.old) (P.shown port.new)
             self.old self.new result }
-        ensures steps { StepsOn ⊥ (left_of self.old) (left_of self.new) result }
+        ensures steps { StepsOn ⊥ (turns_left self.old) (turns_left self.new) result }
     {
         match self.due() {
             Due::Refresh => self.refresh(port),
@@ -219,7 +219,7 @@ impl SessionRun {
         ensures law { P.law port.new ≡ P.law port.old }
         ensures turned { HasCounted (P.law port.old) (P.shown port.old) (P.shown port.new)
             self.old self.new result }
-        ensures steps { StepsOn ⊥ (left_of self.old) (left_of self.new) result }
+        ensures steps { StepsOn ⊥ (turns_left self.old) (turns_left self.new) result }
     {
         let Ok(()) = port.start(Task::End) else {
             return Turn::Memory;
@@ -254,7 +254,7 @@ impl SessionRun {
         ensures law { P.law port.new ≡ P.law port.old }
         ensures turned { HasCounted (P.law port.old) (P.shown port.old) (P.shown port.new)
             self.old self.new result }
-        ensures steps { StepsOn ⊥ (left_of self.old) (left_of self.new) result }
+        ensures steps { StepsOn ⊥ (turns_left self.old) (turns_left self.new) result }
     {
         match port.start(Task::Refresh) {
             Err(AllocError) => self.say_memory(port),
@@ -288,11 +288,13 @@ fn pinned(answer: StepOut) -> Option<Pin>
     requires { IsPinAnswer answer }
     ensures { result ≡ pinned_by answer }
 {
-    match &answer {
+    let pin = match &answer {
         StepOut::Ready(TaskEnd::Pinned(pin)) => Some(*pin),
         StepOut::Memory => None,
         _ => unreachable!(),
-    }
+    };
+    drop(answer);
+    pin
 }
 
 // Whether a leave has ended; else memory was refused.
@@ -300,9 +302,11 @@ fn has_ended(answer: StepOut) -> bool
     requires { IsLeaveAnswer answer }
     ensures { result ≡ ended_by answer }
 {
-    match &answer {
+    let has_ended = match &answer {
         StepOut::Ready(TaskEnd::Ended) => true,
         StepOut::Memory => false,
         _ => unreachable!(),
-    }
+    };
+    drop(answer);
+    has_ended
 }

@@ -211,7 +211,7 @@ fn checkin_writes(
 {
     let mut writes = List::new(alloc);
     push_checkin(&mut writes, alloc, types, tree, path, history, who)?;
-    needed(alloc, tree, writes)
+    Ok(needed(tree, writes))
 }
 
 fn push_checkin(
@@ -283,10 +283,28 @@ fn version_nodes(
     ensures { IfOk result (λ nodes. nodes.items ≡ version_nodes types.now tree.now path.now version.now id date) }
 {
     let mut nodes = Vec::new(alloc);
-    nodes.push((version.copy()?, new_version(alloc, tree, path, id, date)?))?;
+    push_new_version(&mut nodes, alloc, tree, path, version, id, date)?;
     let place = own_child(alloc, version, OwnName::FrozenNode)?;
     push_frozen(&mut nodes, alloc, types, tree, path, &place)?;
     Ok(nodes)
+}
+
+// Puts a new version behind other nodes.
+fn push_new_version(
+    nodes: &mut Vec<(Path, Node)>,
+    alloc: Global,
+    tree: &Tree,
+    path: &Path,
+    version: &Path,
+    id: Text,
+    date: i64,
+) -> Result<(), AllocError>
+    ensures { OnOk result (nodes.new.items ≡ nodes.old.items ++ (version.now, new_version tree.now path.now id date) ∷ []) }
+{
+    let node = new_version(alloc, tree, path, id, date)?;
+    let version = version.copy()?;
+    nodes.push((version, node))?;
+    Ok(())
 }
 
 // The node of a new version, which takes the node's predecessors.
@@ -498,8 +516,23 @@ fn name_of(
     ensures { IfOk result (λ name. name ≡ find (λ n. is_numbered number tree.now (child_path history.now n)) (version_names tree.now history.now)) }
 {
     let uuid = OwnName::Uuid.name(alloc)?;
-    for name in &version_names(alloc, tree, history)? {
-        if is_child_numbered(tree, &uuid, history, name, number)? {
+    let names = version_names(alloc, tree, history)?;
+    first_numbered(tree, &uuid, history, &names, number)
+}
+
+// The first of the names whose child has the identifier of that number.
+fn first_numbered(
+    tree: &Tree,
+    key: &Name,
+    path: &Path,
+    names: &[Name],
+    number: u128,
+) -> Result<Option<Name>, AllocError>
+    requires { key.now ≡ uuid }
+    ensures { IfOk result (λ name. name ≡ find (λ n. is_numbered number tree.now (child_path path.now n)) names.now) }
+{
+    for name in names {
+        if is_child_numbered(tree, key, path, name, number)? {
             return Ok(Some(name.copy()?));
         }
     }

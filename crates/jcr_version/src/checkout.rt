@@ -53,7 +53,7 @@ fn checkout_writes(alloc: Global, tree: &Tree, path: &Path) -> Result<Edit, Allo
     let mut writes = List::new(alloc);
     if is_checked_in(alloc, tree, path)? {
         push_checked_out(&mut writes, alloc, tree, path)?;
-        return needed(alloc, tree, writes);
+        return Ok(needed(tree, writes));
     }
     Ok(Edit { writes })
 }

@@ -161,8 +161,9 @@ fn label_writes(
 {
     let labels = own_child(alloc, history, OwnName::VersionLabels)?;
     let number = number_at(alloc, tree, version)?;
+    let label = label.copy()?;
     let named = Property::Single(Value::Reference(number));
-    one_needed(alloc, tree, Write::Put(labels, label.copy()?, named))
+    one_needed(alloc, tree, Write::Put(labels, label, named))
 }
 
 // The write, where it changes something.
@@ -171,7 +172,7 @@ fn one_needed(alloc: Global, tree: &Tree, write: Write) -> Result<Edit, AllocErr
 {
     let mut writes = List::new(alloc);
     writes.push(write)?;
-    needed(alloc, tree, writes)
+    Ok(needed(tree, writes))
 }
 
 /// The edit that takes a label away (JSR 283, 15.4 Version Labels). Refused, in this order: the path, as every version

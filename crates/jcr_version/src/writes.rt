@@ -11,17 +11,12 @@ use jr_tree::{Edit, Node, Tree, Write};
 use jr_value::Property;
 use std::alloc::{AllocError, Global};
 
-/// Those of the writes that change something, each judged by the tree before them.
-pub(crate) fn needed(alloc: Global, tree: &Tree, writes: List<Write>) -> Result<Edit, AllocError>
-    ensures { IfOk result (λ edit. edit.writes ≡ filter (is_needed tree.now) writes) }
+/// Those of the writes that change something, each judged by the tree before them. It takes no memory.
+pub(crate) fn needed(tree: &Tree, mut writes: List<Write>) -> Edit
+    ensures { result.writes ≡ filter (is_needed tree.now) writes }
 {
-    let mut needed = List::new(alloc);
-    for write in writes.into_inner() {
-        if is_needed(tree, &write) {
-            needed.push(write)?;
-        }
-    }
-    Ok(Edit { writes: needed })
+    writes.inner_mut().retain(|write| is_needed(tree, write));
+    Edit { writes }
 }
 
 // Whether the write changes something.
@@ -79,6 +74,14 @@ pub(crate) fn push_property(
 ) -> Result<(), AllocError>
     ensures { OnOk result (writes.new ≡ writes.old ++ Put path.now (own_name name) property ∷ []) }
 {
-    writes.push(Write::Put(path.copy()?, name.name(alloc)?, property))?;
-    Ok(())
+    let (path, name) = place_of(alloc, path, name)?;
+    writes.push(Write::Put(path, name, property))
+}
+
+// Where a property with a name of the repository's own stands.
+fn place_of(alloc: Global, path: &Path, name: OwnName) -> Result<(Path, Name), AllocError>
+    ensures { IfOk result (λ place. place ≡ (path.now, own_name name)) }
+{
+    let path = path.copy()?;
+    Ok((path, name.name(alloc)?))
 }

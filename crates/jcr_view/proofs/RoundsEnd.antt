@@ -30,7 +30,7 @@ use Rattle.jcr_write.specs.Places.{above}
 use Rattle.jcr_mixin.specs.Histories.{due_history}
 use Rattle.jcr_make.specs.Subtrees.{makes_histories}
 use Rattle.jcr_view.specs.Needs.{children_needs, history_needs, listing_needs, needs_of, storage_needs, versionable_needs}
-use Rattle.jcr_view.specs.Rounds.{AreLoadsOf, answered, loadable, nodes_at, one_path, paths_named, unknown}
+use Rattle.jcr_view.specs.Rounds.{AreLoadsOf, answered, loadable, nodes_at, one_path, paths_named, unknown_of}
 use Rattle.jcr_view.proofs.Rounds.{answer_keeps, answer_known, one_lacks}
 
 -- ---- one of a list
@@ -41,11 +41,11 @@ In (y ∷ ys) x = (x ≡ y) ⊎ In ys x
 
 -- ---- how many of some needs are unknown
 
-at_most : (k : Knowledge) (xs : List Need) → unknown k xs ≤ length xs
+at_most : (k : Knowledge) (xs : List Need) → unknown_of k xs ≤ length xs
 at_most k [] = omega arith
 at_most k (x ∷ xs) = by (knows k x) (at_most k xs)
   where
-    by : (b : Bool) → unknown k xs ≤ length xs → cond b 0 1 + unknown k xs ≤ length (x ∷ xs)
+    by : (b : Bool) → unknown_of k xs ≤ length xs → cond b 0 1 + unknown_of k xs ≤ length (x ∷ xs)
     by true rest = omega arith
     by false rest = omega arith
 
@@ -59,14 +59,14 @@ module _ (k now : Knowledge) (kept : (x : Need) → knows k x ≡ true → knows
   one_kept true false h = absurd (false≢true (h refl))
   one_kept false false h = omega arith
 
-  pub no_more : (xs : List Need) → unknown now xs ≤ unknown k xs
+  pub no_more : (xs : List Need) → unknown_of now xs ≤ unknown_of k xs
   no_more [] = omega arith
   no_more (x ∷ xs) =
       let one : cond (knows now x) 0 1 ≤ cond (knows k x) 0 1 = one_kept (knows k x) (knows now x) (kept x) in
       let rest = no_more xs in
       omega arith
 
-  pub fewer : (xs : List Need) (x : Need) → In xs x → knows k x ≡ false → knows now x ≡ true → unknown now xs + 1 ≤ unknown k xs
+  pub fewer : (xs : List Need) (x : Need) → In xs x → knows k x ≡ false → knows now x ≡ true → unknown_of now xs + 1 ≤ unknown_of k xs
   fewer [] x h before after = absurd h
   fewer (y ∷ xs) x (inl same) before after =
       let old : cond {A = ℕ} (knows k y) 0 1 ≡ 1 = ap (λ b. cond {A = ℕ} b 0 1) (ap (knows k) (sym same) ∙ before) in
@@ -305,7 +305,7 @@ answer_agrees t k need.All agrees = agrees
 
 module _ (who : Who) (t : Nodes) (c : Changed) (over : AreOver t c) (command : Command) where
   each_is_fewer : (k : Knowledge) (loads : List Need) → AgreesWith t k → AreLoadsOf (λ known. needs_of who known c command) t k loads
-      → length loads ≤ unknown k (loadable (paths_named who (seen t c) command) t)
+      → length loads ≤ unknown_of k (loadable (paths_named who (seen t c) command) t)
   each_is_fewer k [] agrees rounds = omega arith
   each_is_fewer k (load ∷ loads) agrees rounds =
       let lacked = one_lacks k rounds.0 load rounds.2 in

@@ -19,7 +19,7 @@ use Rattle.jcr_write.specs.Places.{above}
 use Rattle.jcr_mixin.specs.Histories.{due_history}
 use Rattle.jcr_view.specs.Needs.{and_again, and_node, ends_at, needs_of, needs_to_rebase}
 use Rattle.jcr_view.specs.Parts.{IsPartOf}
-use Rattle.jcr_view.specs.Rounds.{loadable, nodes_at, one_path, paths_named, unknown}
+use Rattle.jcr_view.specs.Rounds.{loadable, nodes_at, one_path, paths_named, unknown_of}
 use Rattle.jcr_view.proofs.RoundsEnd.{In, IsNamed, all_held, asked_in, in_nodes_at, there_in}
 
 -- ---- one of a list, by its place
@@ -68,12 +68,12 @@ more_loadable ps qs among (e ∷ t) n (inl same) = inl same
 more_loadable ps qs among (e ∷ t) n (inr (inl same)) = inr (inl same)
 more_loadable ps qs among (e ∷ t) n (inr (inr h)) = inr (inr (more_loadable ps qs among t n h))
 
-fewer_nodes : (k : Knowledge) (ps qs : List Path) → unknown k (nodes_at qs) ≤ unknown k (nodes_at (ps ++ qs))
+fewer_nodes : (k : Knowledge) (ps qs : List Path) → unknown_of k (nodes_at qs) ≤ unknown_of k (nodes_at (ps ++ qs))
 fewer_nodes k [] qs = omega arith
 fewer_nodes k (p ∷ ps) qs = let rest = fewer_nodes k ps qs in omega arith
 
 -- no more is unknown where fewer paths are named
-pub fewer_paths : (k : Knowledge) (ps qs : List Path) (t : Nodes) → unknown k (loadable qs t) ≤ unknown k (loadable (ps ++ qs) t)
+pub fewer_paths : (k : Knowledge) (ps qs : List Path) (t : Nodes) → unknown_of k (loadable qs t) ≤ unknown_of k (loadable (ps ++ qs) t)
 fewer_paths k ps qs [] = fewer_nodes k ps qs
 fewer_paths k ps qs (e ∷ t) = let rest = fewer_paths k ps qs t in omega arith
 

@@ -51,9 +51,9 @@ IsOfNone t (need.Subtree p) = ⊥
 IsOfNone t need.All = ⊥
 
 -- how many of some needs are unknown
-abbrev pub unknown : Knowledge → List Need → ℕ
-unknown k [] = 0
-unknown k (n ∷ ns) = cond (knows k n) 0 1 + unknown k ns
+abbrev pub unknown_of : Knowledge → List Need → ℕ
+unknown_of k [] = 0
+unknown_of k (n ∷ ns) = cond (knows k n) 0 1 + unknown_of k ns
 
 -- the nodes at these paths
 abbrev pub nodes_at : List Path → List Need

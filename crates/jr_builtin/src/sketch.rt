@@ -77,8 +77,16 @@ impl Sketch {
         requires { IsName item.now }
         ensures { IfOk result (λ d. d.definition ≡ record self.definition { primary_item = Some item.now }) }
     {
-        self.definition.primary_item = Some(Name::of(alloc, item)?);
-        Ok(self)
+        match Name::of(alloc, item) {
+            Ok(item) => {
+                self.definition.primary_item = Some(item);
+                Ok(self)
+            }
+            Err(fault) => {
+                drop(self);
+                Err(fault)
+            }
+        }
     }
 
     pub(crate) fn above(mut self, alloc: Global, name: &str) -> Made
@@ -86,8 +94,13 @@ impl Sketch {
         ensures { IfOk result (λ d. d.definition
             ≡ record self.definition { supertypes = self.definition.supertypes ++ name.now ∷ [] }) }
     {
-        self.definition.supertypes.push(Name::of(alloc, name)?)?;
-        Ok(self)
+        match add_name(alloc, &mut self.definition.supertypes, name) {
+            Ok(()) => Ok(self),
+            Err(fault) => {
+                drop(self);
+                Err(fault)
+            }
+        }
     }
 
     pub(crate) fn prop(mut self, alloc: Global, name: &str, kind: Kind, flags: Flags) -> Made
@@ -96,15 +109,20 @@ impl Sketch {
           props = self.definition.props ++ prop_of (Some name.now) (Some kind) None flags ∷ [];
         }) }
     {
-        add_prop(
+        match add_prop(
             alloc,
             &mut self.definition.props,
             Some(name),
             Some(kind),
             None,
             flags,
-        )?;
-        Ok(self)
+        ) {
+            Ok(()) => Ok(self),
+            Err(fault) => {
+                drop(self);
+                Err(fault)
+            }
+        }
     }
 
     // A truth value, true by default.
@@ -116,15 +134,20 @@ impl Sketch {
         }) }
     {
         let kind = Some(Kind::Boolean);
-        add_prop(
+        match add_prop(
             alloc,
             &mut self.definition.props,
             Some(name),
             kind,
             Some(true),
             flags,
-        )?;
-        Ok(self)
+        ) {
+            Ok(()) => Ok(self),
+            Err(fault) => {
+                drop(self);
+                Err(fault)
+            }
+        }
     }
 
     pub(crate) fn any_prop(mut self, alloc: Global, kind: Option<Kind>, flags: Flags) -> Made
@@ -132,8 +155,13 @@ impl Sketch {
           props = self.definition.props ++ prop_of None kind None flags ∷ [];
         }) }
     {
-        add_prop(alloc, &mut self.definition.props, None, kind, None, flags)?;
-        Ok(self)
+        match add_prop(alloc, &mut self.definition.props, None, kind, None, flags) {
+            Ok(()) => Ok(self),
+            Err(fault) => {
+                drop(self);
+                Err(fault)
+            }
+        }
     }
 
     pub(crate) fn child(mut self, alloc: Global, name: &str, required: &str, flags: Flags) -> Made
@@ -143,15 +171,20 @@ impl Sketch {
           children = self.definition.children ++ child_of (Some name.now) required.now None flags ∷ [];
         }) }
     {
-        add_child(
+        match add_child(
             alloc,
             &mut self.definition.children,
             Some(name),
             required,
             None,
             flags,
-        )?;
-        Ok(self)
+        ) {
+            Ok(()) => Ok(self),
+            Err(fault) => {
+                drop(self);
+                Err(fault)
+            }
+        }
     }
 
     pub(crate) fn any_child(
@@ -168,16 +201,29 @@ impl Sketch {
               ++ child_of None of.now (option_copied default.entry) flags ∷ [];
         }) }
     {
-        add_child(
+        match add_child(
             alloc,
             &mut self.definition.children,
             None,
             of,
             default,
             flags,
-        )?;
-        Ok(self)
+        ) {
+            Ok(()) => Ok(self),
+            Err(fault) => {
+                drop(self);
+                Err(fault)
+            }
+        }
     }
+}
+
+// Puts a name behind others.
+fn add_name(alloc: Global, names: &mut List<Name>, name: &str) -> Result<(), AllocError>
+    requires { IsName name.now }
+    ensures { OnOk result (names.new ≡ names.old ++ name.now ∷ []) }
+{
+    names.push(Name::of(alloc, name)?)
 }
 
 // Puts the definition of a property behind others; with no name it is of any other, with no kind of
@@ -194,8 +240,8 @@ fn add_prop(
     ensures { OnOk result (props.new
         ≡ props.old ++ prop_of (option_copied name.entry) kind default flags ∷ []) }
 {
-    let defaults = defaults_of(alloc, default)?;
     let name = optional_name(alloc, name)?;
+    let defaults = defaults_of(alloc, default)?;
     props.push(PropDef {
         name,
         kind,
@@ -236,7 +282,7 @@ fn add_child(
         ∷ []) }
 {
     let mut types = List::new(alloc);
-    types.push(Name::of(alloc, required)?)?;
+    add_name(alloc, &mut types, required)?;
     let default_type = optional_name(alloc, default_type)?;
     let name = optional_name(alloc, name)?;
     children.push(ChildDef {

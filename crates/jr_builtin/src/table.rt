@@ -100,10 +100,24 @@ pub fn builtin(alloc: Global) -> Result<Registry, AllocError>
     ensures { IfOk result (λ registry. registry ≡ builtin) }
 {
     let mut registry = Registry::new(alloc)?;
-    for place in 0..20 {
-        add_next(&mut registry, at(alloc, place)?)?;
+    match add_all(alloc, &mut registry) {
+        Ok(()) => Ok(registry),
+        Err(fault) => {
+            drop(registry);
+            Err(fault)
+        }
     }
-    Ok(registry)
+}
+
+// Registers the built-in types in a registry without a type.
+fn add_all(alloc: Global, registry: &mut Registry) -> Result<(), AllocError>
+    requires { registry.old ≡ [] }
+    ensures { OnOk result (registry.new ≡ builtin) }
+{
+    for place in 0..20 {
+        add_next(registry, at(alloc, place)?)?;
+    }
+    Ok(())
 }
 
 // Registers a type that may be added.

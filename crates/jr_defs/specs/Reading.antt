@@ -2,7 +2,7 @@
 use Rattle.std.specs.Prelude.{◌≡◌, ℕ, Bool, true, false, ◌&&◌, Result, Ok, Err, List, [], ◌∷◌, Option, None, Some, codes}
 use Rattle.std.specs.List.{list_any}
 use Rattle.std.specs.Str.{bytes_eq}
-use Rattle.serde_json.specs.Data.{Data, Items, no_items, item, Members, no_members, member, null, boolean, number, string, array, object}
+use Rattle.serde_json.specs.Data.{Data, Items, no_items, item, Members, no_members, member, boolean, string, array, object}
 use Rattle.serde_json.specs.Find.{get}
 use Rattle.jr_path.specs.Grammar.{IsName}
 use Rattle.jr_path.specs.declared.fault.PathFault.{PathFault}

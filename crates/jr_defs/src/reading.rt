@@ -3,6 +3,7 @@ ghost use Rattle.std.specs.Prelude.{◌≡◌, ◌∷◌, [], None, codes, false
 ghost use Rattle.std.specs.List.{list_any};
 ghost use Rattle.std.specs.Str.{bytes_eq};
 ghost use Rattle.std.specs.Option.{option_map_or};
+ghost use Rattle.serde_json.specs.Data.{string};
 ghost use Rattle.serde_json.specs.Find.{as_str, get};
 ghost use Rattle.serde_json.specs.View.{items_view, members_view, view};
 ghost use Rattle.jr_path.specs.Grammar.{IsName};
@@ -499,18 +500,20 @@ fn kind_in(json: &Json) -> Result<Option<Kind>, NoType>
     ensures { Reads (IsKindJson (view json.now)) result }
 {
     match json.as_str() {
-        Some("undefined") => Ok(None),
-        Some("string") => Ok(Some(Kind::Str)),
-        Some("binary") => Ok(Some(Kind::Binary)),
-        Some("long") => Ok(Some(Kind::Long)),
-        Some("date") => Ok(Some(Kind::Date)),
-        Some("boolean") => Ok(Some(Kind::Boolean)),
-        Some("name") => Ok(Some(Kind::Name)),
-        Some("path") => Ok(Some(Kind::Path)),
-        Some("reference") => Ok(Some(Kind::Reference)),
-        Some("weakreference") => Ok(Some(Kind::WeakReference)),
-        Some("uri") => Ok(Some(Kind::Uri)),
-        _ => Err(NoType::NoDefinition),
+        Some(word) => kind_of(word),
+        None => Err(NoType::NoDefinition),
+    }
+}
+
+fn kind_of(word: &str) -> Result<Option<Kind>, NoType>
+    ensures { Reads (IsKindJson (string word.now)) result }
+{
+    if word == "undefined" {
+        return Ok(None);
+    }
+    match Kind::from_word(word) {
+        Some(kind) => Ok(Some(kind)),
+        None => Err(NoType::NoDefinition),
     }
 }
 

@@ -23,7 +23,9 @@ pub fn generate(alloc: Global, seed: u64, sessions: u32) -> Result<String, Alloc
     ensures { IfOk result (λ text. string_bytes text ≡ script_text seed sessions) }
 {
     let script = script_json(alloc, seed, sessions)?;
-    let mut text = script.to_string(alloc)?;
+    let text = script.to_string(alloc);
+    drop(script);
+    let mut text = text?;
     text.push_str("\n")?;
     Ok(text)
 }
@@ -34,7 +36,10 @@ fn script_json(alloc: Global, seed: u64, sessions: u32) -> Result<Json, AllocErr
 {
     let mut draws = Draws::from(seed);
     let listed = sessions_json(alloc, &mut draws, sessions)?;
-    let schedule = schedule_json(alloc, &mut draws, sessions)?;
+    let Ok(schedule) = schedule_json(alloc, &mut draws, sessions) else {
+        drop(listed);
+        return Err(AllocError);
+    };
     json!(in alloc; {"clusters": sessions.min(2), "schedule": schedule, "sessions": listed})
 }
 

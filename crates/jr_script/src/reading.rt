@@ -70,7 +70,9 @@ pub fn read_script(alloc: Global, bytes: &[u8]) -> Result<Script, ScriptFault>
     let json = match Json::from_slice(alloc, bytes) {
         Ok(json) => json,
         Err(error) => {
-            return Err(if error.is_memory() {
+            let is_memory = error.is_memory();
+            drop(error);
+            return Err(if is_memory {
                 ScriptFault::Memory
             } else {
                 ScriptFault::Bad {
@@ -81,7 +83,9 @@ pub fn read_script(alloc: Global, bytes: &[u8]) -> Result<Script, ScriptFault>
             });
         }
     };
-    match script(alloc, &json) {
+    let read = script(alloc, &json);
+    drop(json);
+    match read {
         Ok(Ok(script)) => Ok(script),
         Ok(Err(fault)) => Err(bad_text(alloc, fault)?),
         Err(Fault::Bad { rule, steps }) => Err(ScriptFault::Bad {
@@ -143,7 +147,10 @@ fn script_over(alloc: Global, json: &Json, clusters: u32, types: Registry) -> Re
             sessions,
             schedule,
         })),
-        Err(fault) => Err(fault),
+        Err(fault) => {
+            drop(types);
+            Err(fault)
+        }
     }
 }
 

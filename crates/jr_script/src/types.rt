@@ -44,7 +44,10 @@ fn listed(alloc: Global, items: &[Json]) -> Result<Types, Fault>
     let mut registry = builtin(alloc)?;
     match add_listed(alloc, &mut registry, items) {
         Ok(()) => Ok(Ok(registry)),
-        Err(fault) => Err(fault),
+        Err(fault) => {
+            drop(registry);
+            Err(fault)
+        }
     }
 }
 
@@ -104,7 +107,10 @@ fn defined(alloc: Global, cnd: &Cnd) -> Result<Types, Fault>
     let mut registry = builtin(alloc)?;
     match add_kept(&mut registry, cnd.definitions.as_slice()) {
         Ok(()) => Ok(Ok(registry)),
-        Err(_) => Err(Fault::Memory),
+        Err(_) => {
+            drop(registry);
+            Err(Fault::Memory)
+        }
     }
 }
 

@@ -17,7 +17,7 @@ use Rattle.oak_machine.specs.Runs.{AreNodes, IsRunOf}
 use Rattle.oak_machine.specs.Sessions.{is_drawing, is_drawing_among}
 use Rattle.oak_port.specs.Ports.{HoldsBack}
 use Rattle.jr_script.specs.declared.script.Script.{Script}
-use Rattle.jr_stage.specs.Awaited.{DrawsNone, IsAlone, IsFirst, IsStill, KeepsWaiting, LeavesOthers}
+use Rattle.jr_stage.specs.Awaited.{DrawsNone, IsAlone, IsNextToReply, IsStill, KeepsWaiting, LeavesOthers}
 use Rattle.jr_stage.specs.Places.{is_own}
 use Rattle.jr_stage.specs.SoFar.{IsDouble, IsSingle}
 use Rattle.jr_stage.proofs.Flying.{flight_other, flying_by, halves, same_itself}
@@ -101,7 +101,7 @@ still_waiting old new s t u leaves apart drawn waits = record {
   };
 }
 
-pub first_stays : (old new : Past) (s : ℕ) → LeavesOthers old new s → DrawsNone old new s → IsFirst old s → IsFirst new s
+pub first_stays : (old new : Past) (s : ℕ) → LeavesOthers old new s → DrawsNone old new s → IsNextToReply old s → IsNextToReply new s
 first_stays old new s leaves none first t apart waits = first t apart (still_waiting old new s t s leaves apart none waits)
 
 -- who is kept waiting by another was before a third one's turns
@@ -111,7 +111,7 @@ waits_still old new s t u leaves apart other waits = still_waiting old new s t u
 -- ---- who waits
 
 -- where no other session has a commit in flight, none keeps s waiting
-pub alone_first : (past : Past) (s : ℕ) → IsAlone past s → IsFirst past s
+pub alone_first : (past : Past) (s : ℕ) → IsAlone past s → IsNextToReply past s
 alone_first past s alone t apart waits = false≢true (sym (alone t apart) ∙ flying_drawing past t waits.holding waits.theirs waits.holds.flying)
 
 pub still_alone : (past : Past) (s : ℕ) → IsStill past → IsAlone past s

@@ -30,7 +30,7 @@ use Rattle.core_read.proofs.Vectors.{time_before}
 use Rattle.core_heads.proofs.Orders.{before_not}
 use Rattle.core_heads.proofs.Runs.{sound_run}
 use Rattle.core_heads.proofs.Steps.{above}
-use Rattle.jr_stage.specs.Awaited.{AreInTurn, AreOrdered, IsFirst, IsStill, KeepsWaiting, LeavesOthers, is_among}
+use Rattle.jr_stage.specs.Awaited.{AreInTurn, AreOrdered, IsNextToReply, IsStill, KeepsWaiting, LeavesOthers, is_among}
 use Rattle.jr_stage.specs.Places.{draws_in, flying_sessions}
 use Rattle.jr_stage.proofs.Ascending.{AreFlown, draws_flown, draws_found, flies_as, flies_of, flown_of, found}
 use Rattle.jr_stage.proofs.First.{drawn_by, flying_drawing, has_flying, revision_by, waits_still}
@@ -230,7 +230,7 @@ module _ (past : Past) (s : ℕ) (left : List ℕ) (turns : AreInTurn past (s �
   pub first_drawing : is_drawing past s ≡ true
   first_drawing = turns.flying s ∙ ap (λ b. b || is_among s left) (itself s)
 
-  pub first_in_turn : IsFirst past s
+  pub first_in_turn : IsNextToReply past s
   first_in_turn t apart waits = by (is_among t left) refl
     where
       turned : (a b : ℕ) → (b == a) ≡ false → (a == b) ≡ false

@@ -22,7 +22,7 @@ use Rattle.oak_world.specs.Worlds.{WorldOf, actor_in, live, work_in}
 use Rattle.jcr_law.specs.declared.law.JcrLaw.{JcrLaw}
 use Rattle.jcr_law.specs.State.{Call, call_of}
 use Rattle.jcr_trans.specs.declared.command.Command.{Command}
-use Rattle.jcr_session.specs.Nearing.{EndsSooner, HasNeared, LessIsUnread, left_of, stages_left, unread_of}
+use Rattle.jcr_session.specs.Nearing.{EndsSooner, HasNeared, LessIsUnread, turns_left, stages_left, unread_of}
 use Rattle.jcr_session.specs.declared.run.Phase.{Phase}
 use Rattle.jcr_session.specs.declared.run.Phase.TheVariants as phase
 use Rattle.jcr_session.specs.declared.run.SessionRun.{SessionRun}
@@ -238,7 +238,7 @@ module _ (n : GName) (s : ℕ) (old new : Stage) (seat seat_now : Seat)
   at_now : slice_get new.seats.items s ≡ Some seat_now
   at_now = ap (λ (l : List Seat). slice_get l s) seats_now ∙ set_same old.seats.items s seat_now seat at
 
-  left_now : left_of seat_now.run ≡ left_of seat.run
+  left_now : turns_left seat_now.run ≡ turns_left seat.run
   left_now =
       ap (λ (cs : List Command). 5 * (length cs - seat_now.run.index) + stages_left seat_now.run.phase) looked.same.commands
       ∙ (ap (λ (i : ℕ). 5 * (length seat.run.commands - i) + stages_left seat_now.run.phase) looked.same.index
@@ -265,7 +265,7 @@ module _ (n : GName) (s : ℕ) (old new : Stage) (seat seat_now : Seat)
       others = λ t apart. ap (λ (x : PortSeat). x.due) (other_seat t apart);
       last = none_last_new ∙ sym none_last_old;
       phase = ap (option_map (λ (x : Seat). x.run.phase)) at_now ∙ (ap Some looked.same.phase ∙ sym (ap (option_map (λ (x : Seat). x.run.phase)) at));
-      left = ap (λ (o : Option Seat). option_map_or (λ x. left_of x.run) o 0) at_now ∙ (left_now ∙ sym (ap (λ (o : Option Seat). option_map_or (λ x. left_of x.run) o 0) at));
+      left = ap (λ (o : Option Seat). option_map_or (λ x. turns_left x.run) o 0) at_now ∙ (left_now ∙ sym (ap (λ (o : Option Seat). option_map_or (λ x. turns_left x.run) o 0) at));
       steps = λ commits. absurd (false≢true (sym uncommitting ∙ commits));
     }
 

@@ -1,5 +1,5 @@
 -- Turns until so many replies are said, to the next reply, and to the end: steps, and a turn behind them.
-use Rattle.std.proofs.Common.{◌≡◌, ℕ, ◌+◌, ◌<◌, length, true, false, Some, None, Option, ◌++◌, refl, sym, ap, ◌∙◌, arith}
+use Rattle.std.proofs.Common.{◌≡◌, ℕ, ◌+◌, ◌<◌, length, true, false, Some, None, Option, ◌++◌, refl, sym, ap, ◌∙◌}
 use Rattle.std.specs.Prelude.{◌==◌, slice_get}
 use Rattle.std.specs.Option.{option_map, option_map_or}
 use mathlib.Core.Bool.{false≢true}
@@ -15,7 +15,7 @@ use Rattle.jr_script.specs.declared.script.Script.{Script}
 use Rattle.jr_script.specs.declared.script.Entry.TheVariants as entry
 use Rattle.jr_stage.specs.declared.stage.Seat.{Seat}
 use Rattle.jr_stage.specs.declared.stage.Stage.{Stage}
-use Rattle.jr_stage.specs.Awaited.{IsAlone, IsFirst, IsStill, LeavesOthers}
+use Rattle.jr_stage.specs.Awaited.{IsAlone, IsNextToReply, IsStill, LeavesOthers}
 use Rattle.jr_stage.specs.Nearing.{saves_at}
 use Rattle.jr_stage.specs.Parts.{by_entry, to_end, to_reply}
 use Rattle.jr_stage.specs.Places.{commands_of, is_over}
@@ -78,10 +78,10 @@ has_left_over script past s over = (halves (next_index past s == length (command
 pub record IsReplying (first stage : Stage) (s : ℕ) : Type 0 where
   pub gone : HasGone first stage (to_reply s) s
   pub saves : saves_at stage s ≡ true
-  pub waits : IsFirst (past_of stage) s
+  pub waits : IsNextToReply (past_of stage) s
   pub leaves : LeavesOthers (past_of first) (past_of stage) s
 
-pub replying_begins : (stage : Stage) (s : ℕ) → IsStage stage → s < length stage.seats.items → is_drawing (past_of stage) s ≡ true → IsFirst (past_of stage) s → IsReplying stage stage s
+pub replying_begins : (stage : Stage) (s : ℕ) → IsStage stage → s < length stage.seats.items → is_drawing (past_of stage) s ≡ true → IsNextToReply (past_of stage) s → IsReplying stage stage s
 replying_begins stage s is below flies waits =
     let p = seat_at stage.seats.items s below in
     record { gone = gone_begins stage stage s (to_reply s) is; saves = flies_saves stage s is p.0 p.1 flies; waits = waits; leaves = leaves_same (past_of stage) s }

@@ -17,7 +17,7 @@ use Rattle.oak_machine.specs.Laws.{is_revision_of}
 use Rattle.oak_machine.specs.Sessions.{is_drawing, is_reply_of}
 use Rattle.jr_script.specs.declared.script.Script.{Script}
 use Rattle.jr_script.specs.declared.script.Entry.TheVariants as entry
-use Rattle.jr_stage.specs.Places.{is_at_last, is_commit, is_next, is_of_task, is_of_turn, is_on, is_own, is_over, is_resting, is_waiting, is_write_or_mark, next_of}
+use Rattle.jr_stage.specs.Places.{is_at_last, is_commit, is_next, is_of_task, is_of_turn, is_own, is_resting, is_waiting, is_write_or_mark, next_of}
 use Rattle.jr_stage.specs.Parts.{Rule, by_entry, to_reply, to_end, Part, session_of, is_done, is_part, is_turn, may_end, must_end, events_of, IsCut}
 use Rattle.jr_stage.specs.Growing.{StayParts, StaysPart, is_quiet}
 use Rattle.jr_stage.specs.SoFar.{AreQuiet, IsCutSoFar, IsDouble, IsQuiet, IsQuietNext, IsSingle, IsStepAt, IsUnderWay, is_last_due}

@@ -20,7 +20,7 @@ use Rattle.oak_world.specs.Worlds.{WorldOf, live, work_in}
 use Rattle.jcr_law.specs.State.{command_at}
 use Rattle.jcr_law.specs.declared.law.JcrLaw.{JcrLaw}
 use Rattle.jcr_law.specs.Lasting.{says_of, starts_of}
-use Rattle.jcr_session.specs.Nearing.{ComesNearer, CommitsSooner, DrawsNoOther, IsLess, left_of, stages_left}
+use Rattle.jcr_session.specs.Nearing.{ComesNearer, CommitsSooner, DrawsNoOther, IsLess, turns_left, stages_left}
 use Rattle.jcr_session.specs.declared.run.Phase.{Phase}
 use Rattle.jcr_session.specs.declared.run.Phase.TheVariants as phase
 use Rattle.jcr_session.specs.declared.run.SessionRun.{SessionRun}
@@ -272,8 +272,8 @@ module _ (n : GName) (s : ℕ) (old new : Stage) (seat seat_now : Seat) (answer 
   at_now : slice_get new.seats.items s ≡ Some seat_now
   at_now = ap (λ (l : List Seat). slice_get l s) seats_now ∙ set_same old.seats.items s seat_now seat at
 
-  left_is : (x : Stage) (y : Seat) → slice_get x.seats.items s ≡ Some y → left_at x s ≡ left_of y.run
-  left_is x y there = ap (λ (o : Option Seat). option_map_or (λ z. left_of z.run) o 0) there
+  left_is : (x : Stage) (y : Seat) → slice_get x.seats.items s ≡ Some y → left_at x s ≡ turns_left y.run
+  left_is x y there = ap (λ (o : Option Seat). option_map_or (λ z. turns_left z.run) o 0) there
 
   commits_is : (x : Stage) (y : Seat) → slice_get x.seats.items s ≡ Some y → commits_at x s ≡ is_committing y.run.phase
   commits_is x y there = ap (λ (o : Option Seat). option_map_or is_committing (option_map (λ z. z.run.phase) o) false) there
@@ -296,13 +296,13 @@ module _ (n : GName) (s : ℕ) (old new : Stage) (seat seat_now : Seat) (answer 
       came_now : Comes old.script.value old.world.history.past s (due_at old.world s) (turn.Stepped k) turned.own
       came_now = subst (λ (a : Turn). Comes old.script.value old.world.history.past s (due_at old.world s) a turned.own) is to.came
 
-  step_nearer : (k : StepKind) → answer ≡ turn.Stepped k → IsLess (CommitsSooner (left_in old.world s) (left_in new.world s) (shown_at n old.world s) seat.run) (left_of seat.run) (left_of seat_now.run)
+  step_nearer : (k : StepKind) → answer ≡ turn.Stepped k → IsLess (CommitsSooner (left_in old.world s) (left_in new.world s) (shown_at n old.world s) seat.run) (turns_left seat.run) (turns_left seat_now.run)
       → StepsNearer (commits_at old s && commits_at new s) old new s
   step_nearer k is near =
       subst (λ (b : Bool). StepsNearer b old new s) (ap (λ b. b && is_committing seat_now.run.phase) (sym (commits_is old seat at)) ∙ ap (λ b. commits_at old s && b) (sym (commits_is new seat_now at_now)))
       (by (is_committing seat.run.phase) (is_committing seat_now.run.phase) refl refl near)
     where
-      now_left : left_of seat_now.run ≡ replies_left seat.run + stages_left seat_now.run.phase
+      now_left : turns_left seat_now.run ≡ replies_left seat.run + stages_left seat_now.run.phase
       now_left =
           ap (λ (cs : List Command). 5 * (length cs - seat_now.run.index) + stages_left seat_now.run.phase) turned.same.1
           ∙ ap (λ (i : ℕ). 5 * (length seat.run.commands - i) + stages_left seat_now.run.phase) (index_stays k is)
@@ -313,8 +313,8 @@ module _ (n : GName) (s : ℕ) (old new : Stage) (seat seat_now : Seat) (answer 
           (subst (λ (m : ℕ). replies_left seat.run + stages_left seat_now.run.phase < m) (sym (left_is old seat at)) less)
 
       by : (b c : Bool) → is_committing seat.run.phase ≡ b → is_committing seat_now.run.phase ≡ c
-          → IsLess (CommitsSooner (left_in old.world s) (left_in new.world s) (shown_at n old.world s) seat.run) (left_of seat.run) (left_of seat_now.run) → StepsNearer (b && c) old new s
-      by b c before after (inl less) = at_less b c before after (subst (λ (m : ℕ). m < left_of seat.run) now_left less)
+          → IsLess (CommitsSooner (left_in old.world s) (left_in new.world s) (shown_at n old.world s) seat.run) (turns_left seat.run) (turns_left seat_now.run) → StepsNearer (b && c) old new s
+      by b c before after (inl less) = at_less b c before after (subst (λ (m : ℕ). m < turns_left seat.run) now_left less)
         where
           at_less : (b c : Bool) → is_committing seat.run.phase ≡ b → is_committing seat_now.run.phase ≡ c → replies_left seat.run + stages_left seat_now.run.phase < replies_left seat.run + stages_left seat.run.phase → StepsNearer (b && c) old new s
           at_less true true before after less = absurd (not_below (replies_left seat.run) (stages_left seat_now.run.phase) (stages_left seat.run.phase) (committing_left seat_now.run.phase after) (committing_left seat.run.phase before) less)
@@ -330,9 +330,9 @@ module _ (n : GName) (s : ℕ) (old new : Stage) (seat seat_now : Seat) (answer 
           at_same true false before after = absurd (other_left seat_now.run.phase (replies_left seat.run) (stages_left seat.run.phase) after (committing_left seat.run.phase before) equals)
           at_same false c before after = absurd (false≢true (sym before ∙ commits))
 
-  turn_nearer : (a : Turn) → answer ≡ a → ComesNearer (CommitsSooner (left_in old.world s) (left_in new.world s) (shown_at n old.world s) seat.run) (left_of seat.run) (left_of seat_now.run) a → TurnsNearer old new s a
+  turn_nearer : (a : Turn) → answer ≡ a → ComesNearer (CommitsSooner (left_in old.world s) (left_in new.world s) (shown_at n old.world s) seat.run) (turns_left seat.run) (turns_left seat_now.run) a → TurnsNearer old new s a
   turn_nearer (turn.Stepped k) is near = step_nearer k is near
-  turn_nearer (turn.Said i) is near = subst (λ (m : ℕ). left_at new s < m) (sym (left_is old seat at)) (subst (λ (m : ℕ). m < left_of seat.run) (sym (left_is new seat_now at_now)) near)
+  turn_nearer (turn.Said i) is near = subst (λ (m : ℕ). left_at new s < m) (sym (left_is old seat at)) (subst (λ (m : ℕ). m < turns_left seat.run) (sym (left_is new seat_now at_now)) near)
   turn_nearer (turn.Waiting q) is near = tt
   turn_nearer turn.Ended is near = tt
   turn_nearer turn.Read is near = tt
@@ -355,7 +355,7 @@ module _ (n : GName) (s : ℕ) (old new : Stage) (seat seat_now : Seat) (answer 
       (run_new old.script.value n s old.world new.world seat seat_now.run answer stage.law stage.history seated turned) to.shape)
 
   pub has_come : (is_saving seat.run.phase ≡ true → DrawsNoOther (shown_at n old.world s) (shown_at n new.world s))
-      → ComesNearer (CommitsSooner (left_in old.world s) (left_in new.world s) (shown_at n old.world s) seat.run) (left_of seat.run) (left_of seat_now.run) answer → HasCome old new s answer
+      → ComesNearer (CommitsSooner (left_in old.world s) (left_in new.world s) (shown_at n old.world s) seat.run) (turns_left seat.run) (turns_left seat_now.run) answer → HasCome old new s answer
   has_come draws near = record {
     script = script_same;
     stage = stage_now;

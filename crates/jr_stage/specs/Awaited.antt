@@ -27,8 +27,8 @@ pub record KeepsWaiting (past : Past) (t s : ℕ) : Type 0 where
   pub holds : HoldsBack past holding held
 
 -- no other session keeps s waiting
-abbrev pub IsFirst : Past → ℕ → Type 0
-IsFirst past s = (t : ℕ) → IsFalse (t == s) → KeepsWaiting past t s → ⊥
+abbrev pub IsNextToReply : Past → ℕ → Type 0
+IsNextToReply past s = (t : ℕ) → IsFalse (t == s) → KeepsWaiting past t s → ⊥
 
 -- no session but s has a commit in flight
 abbrev pub IsAlone : Past → ℕ → Type 0

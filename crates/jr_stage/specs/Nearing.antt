@@ -6,7 +6,7 @@ use Rattle.oak_machine.specs.History.{Past}
 use Rattle.oak_world.specs.Left.{left_in}
 use Rattle.oak_world.specs.Worlds.{live}
 use Rattle.jcr_law.specs.State.{Call, call_of}
-use Rattle.jcr_session.specs.Nearing.{left_of, unread_of}
+use Rattle.jcr_session.specs.Nearing.{turns_left, unread_of}
 use Rattle.jcr_session.specs.Standing.{is_committing, is_saving}
 use Rattle.jcr_session.specs.declared.run.Phase.{Phase}
 use Rattle.jcr_session.specs.declared.turn.Turn.{Turn}
@@ -35,7 +35,7 @@ reads_at stage s =
 
 -- how many replies it has not said yet, and how near it is to the next one
 abbrev pub left_at : Stage → ℕ → ℕ
-left_at stage s = option_map_or (λ seat. left_of seat.run) (slice_get stage.seats.items s) 0
+left_at stage s = option_map_or (λ seat. turns_left seat.run) (slice_get stage.seats.items s) 0
 
 -- how many steps are left of what is being done for it
 abbrev pub steps_at : Stage → ℕ → ℕ

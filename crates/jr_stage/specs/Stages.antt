@@ -21,7 +21,7 @@ use Rattle.jcr_session.specs.declared.run.SessionRun.{SessionRun}
 use Rattle.jcr_session.specs.declared.turn.Turn.{Turn}
 use Rattle.jcr_session.specs.declared.turn.Turn.TheVariants as turn
 use Rattle.jcr_session.specs.Nearing.{ComesNearer, CommitsSooner, DrawsNoOther, EndsSooner}
-use Rattle.jcr_session.specs.Nearing.{HasNeared, left_of}
+use Rattle.jcr_session.specs.Nearing.{HasNeared, turns_left}
 use Rattle.jcr_session.specs.Standing.{HasLooked, IsTurned, Stands, is_saving, may_read}
 use Rattle.jr_script.specs.Bounds.{IsWithin}
 use Rattle.jr_script.specs.declared.script.Entry.{Entry}
@@ -128,7 +128,7 @@ pub record IsTurnedIn (s : ℕ) (old new : WorldOf JcrLaw) (run now : SessionRun
       → DrawsNoOther (shown_at name old s) (shown_at name new s)
   pub nears : ComesNearer
       (CommitsSooner (left_in old s) (left_in new s) (shown_at name old s) run)
-      (left_of run) (left_of now) answer
+      (turns_left run) (turns_left now) answer
 
 -- a reading step of session s, where one is due
 abbrev pub HasRead : GName → ℕ → WorldOf JcrLaw → WorldOf JcrLaw → SessionRun → SessionRun → Type 0

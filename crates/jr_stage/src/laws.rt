@@ -5,7 +5,7 @@ ghost use Rattle.oak_machine.specs.History.{Past};
 ghost use Rattle.jr_script.specs.declared.script.Script.{Script};
 ghost use Rattle.jr_stage.specs.Places.{is_of_turn};
 ghost use Rattle.jr_stage.specs.Parts.{Rule, Part, session_of, must_end, goes_on, is_part, events_of, IsCut};
-ghost use Rattle.jr_stage.specs.Growing.{looks_ahead, LookBack, StayParts, knows_next};
+ghost use Rattle.jr_stage.specs.Growing.{LookBack, StayParts, knows_next};
 
 /// How the cut of a journal grows while a schedule runs. The part under way takes one event more,
 /// where it need not have ended. A part that is one comes behind those before it, where none of

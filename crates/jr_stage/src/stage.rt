@@ -6,15 +6,15 @@ ghost use Rattle.std.specs.Map.{values_of};
 ghost use Rattle.std.specs.Option.{option_map_or};
 ghost use Rattle.jr_rev.specs.Revisions.{revision_cmp};
 ghost use Rattle.jr_script.specs.Bounds.{IsWithin};
-ghost use Rattle.jr_script.specs.Schedules.{IsEntryWithin, session_named};
+ghost use Rattle.jr_script.specs.Schedules.{IsEntryWithin};
 ghost use Rattle.oak_machine.specs.Runs.{AreNodes};
 ghost use Rattle.oak_machine.specs.Sessions.{is_drawing};
 ghost use Rattle.oak_world.specs.Seen.{shown_at};
 ghost use Rattle.oak_world.specs.Worlds.{start_world};
 ghost use Rattle.jcr_session.specs.Standing.{IsNew, Stands};
-ghost use Rattle.jr_stage.specs.Awaited.{AreInTurn, IsAlone, IsFirst, IsStill, LeavesOthers};
+ghost use Rattle.jr_stage.specs.Awaited.{AreInTurn, IsAlone, IsNextToReply, IsStill, LeavesOthers};
 ghost use Rattle.jr_stage.specs.Places.{flying_sessions, is_over};
-ghost use Rattle.jr_stage.specs.Parts.{Part, Rule, by_entry, to_end, to_reply};
+ghost use Rattle.jr_stage.specs.Parts.{by_entry, to_end, to_reply};
 ghost use Rattle.jr_script.specs.declared.script.Entry.TheVariants as entry;
 ghost use Rattle.jr_stage.specs.Stages.{Closes, HasRead, IsBegun, IsOfCommit, IsStage, has_come, past_of};
 ghost use Rattle.jr_stage.specs.Seats.{AreNew, IsNewSeat};
@@ -79,6 +79,7 @@ impl Stage {
             ..
         } = law;
         let seats = seats_of(alloc, &types, sessions)?;
+        drop(types);
         Ok(Stage {
             alloc,
             script: shown,
@@ -177,7 +178,7 @@ impl Stage {
         requires stage { IsStage self.old }
         requires there { s < length self.old.seats.items }
         requires flies { IsTrue (is_drawing (past_of self.old) s) }
-        requires first { IsFirst (past_of self.old) s }
+        requires first { IsNextToReply (past_of self.old) s }
         ensures closes { OnOk result (Closes self.old self.new (to_reply s)) }
         ensures leaves { OnOk result (LeavesOthers (past_of self.old) (past_of self.new) s) }
         ensures lands { OnOk result (IsFalse (is_drawing (past_of self.new) s)) }

@@ -1,10 +1,9 @@
 -- Numbers below zero, where a greater number than 64 bits was capped.
-use Rattle.std.proofs.Common.{rules, arith, ◌≡◌, ◌≤◌, ◌<◌, ℕ, ◌^◌, Bool, true, false, cond, ◌&&◌, Option, None, Some, List, [], ◌∷◌, ◌-◌, length, take, drop, min, refl, sym, ap, ◌∙◌, subst, ℤ, pos, ◌⊎◌, inl, inr}
+use Rattle.std.proofs.Common.{arith, ◌≡◌, ℕ, ◌^◌, Bool, true, false, cond, ◌&&◌, Option, None, Some, List, [], ◌∷◌, ◌-◌, length, take, drop, min, sym, ap, ◌∙◌, ℤ, pos}
 use Rattle.std.specs.Prelude.{neg_ℤ, unwrap_or}
 use Rattle.std.specs.Str.Parse.{digits_value}
 use Rattle.std.proofs.lemmas.Option.{none-some}
 use Rattle.std.proofs.Math.Seq.{take-length}
-use Rattle.std.proofs.Math.Nat.{min-eq_left}
 use Rattle.jr_types.specs.Constraints.{are_digits, is_in_64_bits, number_in}
 
 abbrev pub read : ℤ → Option ℤ

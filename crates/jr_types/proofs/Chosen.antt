@@ -1,19 +1,18 @@
 -- The definitions that count for an item, where the types of its node are put together.
-use Rattle.std.proofs.Common.{◌≡◌, Bool, true, false, cond, not, ◌&&◌, ◌||◌, Option, None, Some, List, [], ◌∷◌, ◌++◌, map, refl, sym, ap, ◌∙◌, subst}
+use Rattle.std.proofs.Common.{◌≡◌, Bool, Option, None, Some, List, refl, sym, ap, ◌∙◌, subst}
 use Rattle.std.specs.Prelude.{is_none, is_some}
-use Rattle.std.specs.Option.{option_and_then, option_copied, option_map_or, option_or}
-use Rattle.std.specs.List.{cons_option, filter, filter_map, find, flat_map, list_any, list_all}
+use Rattle.std.specs.Option.{option_and_then, option_copied, option_or}
+use Rattle.std.specs.List.{filter, find, flat_map}
 use denote.Ref.{Bor}
 use Rattle.jr_path.specs.declared.name.Name.{Name}
-use Rattle.jr_value.specs.declared.value.Property.{Property}
-use Rattle.jr_items.specs.Items.{first_of, is_empty, same_name}
+use Rattle.jr_items.specs.Items.{first_of}
 use Rattle.jr_types.specs.declared.PropDef.{PropDef}
 use Rattle.jr_types.specs.declared.ChildDef.{ChildDef}
 use Rattle.jr_types.specs.declared.TypeDef.{TypeDef}
 use Rattle.jr_types.specs.Attributes.{default_type}
 use Rattle.jr_types.specs.Said.{counting_children, counting_props}
 use Rattle.jr_types.specs.Registered.{IsAlike}
-use Rattle.jr_types.specs.Types.{child_def, child_defs, fits, fits_child, is_named, prop_def, prop_defs, props_of}
+use Rattle.jr_types.specs.Types.{child_defs, is_named, prop_defs, props_of}
 use Rattle.jr_types.proofs.Alike.{either-alike, filter-alike, first-alike, first-filter, first-told, flat-alike}
 
 pub props-alike : (xs ys : List PropDef) (n : Name) → IsAlike xs ys → IsAlike (counting_props xs n) (counting_props ys n)
@@ -38,23 +37,14 @@ copied_or None b = refl
 copied_or (Some x) b = refl
 
 -- the first that passes a test, or else the first
-fit_or_first : {X : Type 0} (p : X → Bool) (a b : Option (Bor X)) (fit cnt all : List X) → option_copied a ≡ first_of fit → option_copied b ≡ first_of cnt → fit ≡ filter p cnt → IsAlike cnt all
+pub fit_or_first : {X : Type 0} (p : X → Bool) (a b : Option (Bor X)) (fit cnt all : List X) → option_copied a ≡ first_of fit → option_copied b ≡ first_of cnt → fit ≡ filter p cnt → IsAlike cnt all
     → option_copied (option_or a b) ≡ option_or (find p all) (first_of all)
 fit_or_first p a b fit cnt all ha hb hf h = copied_or a b
     ∙ (ap (λ o. option_or o (option_copied b)) (ha ∙ (ap first_of hf ∙ (first-filter p cnt ∙ h p)))
     ∙ ap (option_or (find p all)) (hb ∙ first-alike cnt all h))
 
-module _ (types ds : List TypeDef) (h : IsAlike types ds) (n : Name) where
-  pub prop_chosen : (x : Property) (a b : Option (Bor PropDef)) (fit cnt props : List PropDef) → option_copied a ≡ first_of fit → option_copied b ≡ first_of cnt
-      → fit ≡ filter (λ d. fits d x) cnt → cnt ≡ counting_props props n → props ≡ flat_map props_of types → option_copied (option_or a b) ≡ prop_def ds n x
-  prop_chosen x a b fit cnt props ha hb hf hc hp = fit_or_first (λ d. fits d x) a b fit cnt (prop_defs ds n) ha hb hf (props_counting types ds n props cnt h hp hc)
-
-  pub child_chosen : (all : List TypeDef) (primary : Option Property) (a b : Option (Bor ChildDef)) (fit cnt children : List ChildDef) → option_copied a ≡ first_of fit → option_copied b ≡ first_of cnt
-      → fit ≡ filter (λ d. fits_child all d primary) cnt → cnt ≡ counting_children children n → children ≡ flat_map (λ d. d.children) types → option_copied (option_or a b) ≡ child_def all ds n primary
-  child_chosen all primary a b fit cnt children ha hb hf hc hp = fit_or_first (λ d. fits_child all d primary) a b fit cnt (child_defs ds n) ha hb hf (children_counting types ds n children cnt h hp hc)
-
-  pub default_chosen : (a : Option (Bor ChildDef)) (o : Option Name) (telling cnt children : List ChildDef) → option_copied a ≡ first_of telling → telling ≡ filter (λ d. is_some d.default_type) cnt
-      → cnt ≡ counting_children children n → children ≡ flat_map (λ d. d.children) types → o ≡ option_and_then (λ d. d.default_type) (option_copied a) → o ≡ default_type ds n
-  default_chosen a o telling cnt children ha ht hc hp ho = ho
-      ∙ (ap (option_and_then (λ d. d.default_type)) (ha ∙ (ap first_of ht ∙ (first-filter (λ d. is_some d.default_type) cnt ∙ children_counting types ds n children cnt h hp hc (λ d. is_some d.default_type))))
-      ∙ sym (first-told (λ d. d.default_type) (child_defs ds n)))
+pub default_chosen : (ds : List TypeDef) (n : Name) (a : Option (Bor ChildDef)) (o : Option Name) (telling cnt : List ChildDef) → option_copied a ≡ first_of telling → telling ≡ filter (λ d. is_some d.default_type) cnt
+    → IsAlike cnt (child_defs ds n) → o ≡ option_and_then (λ d. d.default_type) (option_copied a) → o ≡ default_type ds n
+default_chosen ds n a o telling cnt ha ht h ho = ho
+    ∙ (ap (option_and_then (λ d. d.default_type)) (ha ∙ (ap first_of ht ∙ (first-filter (λ d. is_some d.default_type) cnt ∙ h (λ d. is_some d.default_type))))
+    ∙ sym (first-told (λ d. d.default_type) (child_defs ds n)))

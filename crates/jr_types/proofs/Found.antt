@@ -1,6 +1,6 @@
 -- What the registry finds under a name.
-use Rattle.std.proofs.Common.{◌≡◌, ℕ, Bool, true, false, cond, ◌||◌, Option, None, Some, List, [], ◌∷◌, ◌++◌, All, refl, sym, ap, ◌∙◌, subst, option_map, reverse, map}
-use Rattle.std.specs.Prelude.{String, string_bytes, slice_get}
+use Rattle.std.proofs.Common.{◌≡◌, ℕ, Bool, true, false, cond, ◌||◌, Option, None, Some, List, [], ◌∷◌, All, refl, sym, ap, ◌∙◌, subst, option_map, reverse, map}
+use Rattle.std.specs.Prelude.{String, string_bytes}
 use Rattle.std.specs.declared.alloc.Global.{Global}
 use Rattle.std.specs.List.{find, flat_map, list_any}
 use Rattle.std.specs.Map.{lookup}

@@ -1,8 +1,8 @@
 -- The line of a new type: places that come behind others, each once.
-use Rattle.std.proofs.Common.{rules, arith, zero, suc, take, ◌≤◌, ◌≡◌, ◌<◌, ◌==◌, ℕ, ◌+◌, Bool, true, false, cond, ◌||◌, Option, None, Some, List, [], ◌∷◌, ◌++◌, All, length, fold, refl, sym, ap, ◌∙◌, subst}
+use Rattle.std.proofs.Common.{arith, zero, suc, take, ◌≤◌, ◌≡◌, ◌<◌, ◌==◌, ℕ, ◌+◌, Bool, true, false, cond, ◌||◌, Option, None, Some, List, [], ◌∷◌, ◌++◌, length, fold, refl, sym, ap, ◌∙◌, subst}
 use Rattle.std.specs.Prelude.{slice_get, Result, Ok, Err, OnOk}
 use Rattle.std.specs.Option.{option_or}
-use Rattle.std.specs.List.{cons_option, filter_map, find, flat_map, list_any}
+use Rattle.std.specs.List.{cons_option, find, flat_map, list_any}
 use Rattle.std.proofs.lemmas.Bool.{eqb-true}
 use Rattle.std.proofs.Math.Seq.{take-suc}
 use lib.ListN.{get_or}

@@ -1,5 +1,5 @@
 // A new type comes into the registry.
-ghost use Rattle.std.specs.Prelude.{◌≡◌, ◌==◌, ◌&&◌, ◌∷◌, ◌++◌, [], IfErr, IfOk, OnErr, OnOk, None, false, fold, is_none, length, not};
+ghost use Rattle.std.specs.Prelude.{◌≡◌, ◌==◌, ◌&&◌, ◌∷◌, ◌++◌, [], IfErr, IfOk, OnErr, OnOk, None, false, fold, is_none, length, not, string_bytes};
 ghost use Rattle.std.specs.List.{list_any};
 ghost use Rattle.std.specs.Option.{option_map_or};
 ghost use Rattle.jr_items.specs.Names.{child_order};
@@ -10,7 +10,7 @@ ghost use Rattle.jr_types.specs.Rules.{defines_order, is_mixin, type_fault};
 ghost use Rattle.jr_types.specs.Types.{supertypes_of, type_named};
 ghost use Rattle.jr_types.specs.declared.adding.TypeFault.TheVariants.{Memory};
 
-use crate::registry::Registered;
+use crate::registry::{Registered, put};
 use crate::{ChildDef, PropDef, Registry, TypeDef, is_constraint};
 use jr_items::OwnName;
 use jr_path::{List, Name, Text};
@@ -56,13 +56,32 @@ impl Registry {
         ensures err { OnErr result (self.new ≡ self.old) }
         ensures fault { IfErr result (IsTypeFault (type_fault self.old definition)) }
     {
-        if let Some(rule) = self.type_fault(&definition) {
+        match self.key_of(&definition) {
+            Ok((name, line)) => {
+                put(&mut self.types, name, Registered { definition, line })?;
+                Ok(())
+            }
+            Err(fault) => {
+                drop(definition);
+                Err(fault)
+            }
+        }
+    }
+
+    // The name under which a new type is registered, and its line, where it breaks no rule.
+    fn key_of(&self, definition: &TypeDef) -> Result<(String, List<usize>), TypeFault>
+        ensures named { IfOk result (λ key. string_bytes key.0 ≡ definition.now.name) }
+        ensures line { IfOk result (λ key. (above : _) × (key.1 ≡ length self.now ∷ above)
+            × AreAbove self.now (supertypes_of definition.now) above) }
+        ensures lawful { OnOk result (type_fault self.now definition.now ≡ None) }
+        ensures fault { IfErr result (IsTypeFault (type_fault self.now definition.now)) }
+    {
+        if let Some(rule) = self.type_fault(definition) {
             return Err(TypeFault::BadType(rule));
         }
-        let line = self.line_of(&definition)?;
+        let line = self.line_of(definition)?;
         let name = String::from_str(self.alloc, definition.name.as_str())?;
-        self.types.insert(name, Registered { definition, line })?;
-        Ok(())
+        Ok((name, line))
     }
 
     // The first rule that a new definition breaks.

@@ -5,8 +5,9 @@ ghost use Rattle.std.specs.Option.{option_copied};
 ghost use Rattle.jr_items.specs.Names.{primary_type};
 ghost use Rattle.jr_items.specs.Items.{first_of, property_of};
 ghost use Rattle.jr_types.specs.Attributes.{are_ordered, default_type};
+ghost use Rattle.jr_types.specs.Registered.{IsAlike};
 ghost use Rattle.jr_types.specs.Said.{types_said};
-ghost use Rattle.jr_types.specs.Types.{child_def, fits_child, prop_def, types_of};
+ghost use Rattle.jr_types.specs.Types.{child_def, child_defs, fits_child, prop_def, prop_defs, types_of};
 
 use crate::counting::{children_of, counting_children, counting_props, fitting_props};
 use crate::{ChildDef, PropDef, Registry, TypeDef};
@@ -27,8 +28,7 @@ impl Registry {
         ensures { IfOk result (λ def. option_copied def
             ≡ prop_def (types_of self.now (types_said node.now)) name.now property.now) }
     {
-        let types = self.types_of(node)?;
-        let counting = counting_props(self.alloc, &self.props_of(&types)?, name)?;
+        let counting = self.counting_of(node, name)?;
         let fitting = fitting_props(self.alloc, &counting, property)?;
         Ok(first_def(&fitting).or(first_def(&counting)))
     }
@@ -45,8 +45,7 @@ impl Registry {
             ≡ child_def self.now (types_of self.now (types_said node.now)) name.now
             (property_of child.now primary_type)) }
     {
-        let types = self.types_of(node)?;
-        let counting = counting_children(self.alloc, &children_of(self.alloc, &types)?, name)?;
+        let counting = self.counting_below(node, name)?;
         let fitting = self.fitting_children(&counting, self.primary_of(child))?;
         Ok(first_def(&fitting).or(first_def(&counting)))
     }
@@ -57,8 +56,7 @@ impl Registry {
         ensures { IfOk result (λ type. option_copied type
             ≡ default_type (types_of self.now (types_said node.now)) name.now) }
     {
-        let types = self.types_of(node)?;
-        let counting = counting_children(self.alloc, &children_of(self.alloc, &types)?, name)?;
+        let counting = self.counting_below(node, name)?;
         let telling = telling_children(self.alloc, &counting)?;
         Ok(default_of(first_def(&telling)))
     }
@@ -74,6 +72,26 @@ impl Registry {
 }
 
 impl Registry {
+    // The definitions that count for a property of a node.
+    fn counting_of(&self, node: &Node, name: &Name) -> Result<Vec<&PropDef>, AllocError>
+        ensures { IfOk result (λ counting. IsAlike (map (λ d. d.now) counting.items)
+            (prop_defs (types_of self.now (types_said node.now)) name.now)) }
+    {
+        let types = self.types_of(node)?;
+        let props = self.props_of(&types)?;
+        counting_props(self.alloc, &props, name)
+    }
+
+    // The definitions that count for a child of a node.
+    fn counting_below(&self, node: &Node, name: &Name) -> Result<Vec<&ChildDef>, AllocError>
+        ensures { IfOk result (λ counting. IsAlike (map (λ d. d.now) counting.items)
+            (child_defs (types_of self.now (types_said node.now)) name.now)) }
+    {
+        let types = self.types_of(node)?;
+        let children = children_of(self.alloc, &types)?;
+        counting_children(self.alloc, &children, name)
+    }
+
     // Those of the definitions of whose required types a child of that primary type is each.
     fn fitting_children<'a>(
         &self,

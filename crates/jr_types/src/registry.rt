@@ -1,7 +1,9 @@
 // The registry of node types: look-ups by name, and what types inherit.
-ghost use Rattle.std.specs.Prelude.{◌≡◌, [], false, slice_get, IfOk};
+ghost use Rattle.std.specs.Prelude.{◌≡◌, [], false, slice_get, string_bytes, IfOk, OnErr, OnOk};
 ghost use Rattle.std.specs.Option.{option_copied, option_map_or};
 ghost use Rattle.std.specs.List.{list_any};
+ghost use Rattle.std.specs.String.{string_eq};
+ghost use Rattle.indexmap.specs.IndexMap.{insert_entry};
 ghost use Rattle.jr_items.specs.Names.{mixin_types, primary_type};
 ghost use Rattle.jr_items.specs.Items.{same_name};
 ghost use Rattle.jr_types.specs.Types.{is_a, order_def, subtypes, type_named, lineage};
@@ -55,14 +57,13 @@ impl Registry {
     pub fn new(alloc: Global) -> Result<Registry, AllocError>
         ensures { IfOk result (λ registry. registry ≡ []) }
     {
-        let primary_type = OwnName::PrimaryType.name(alloc)?;
-        let mixin_types = OwnName::MixinTypes.name(alloc)?;
+        let (primary_type, mixin_types, order) = asked(alloc)?;
         Ok(Registry {
             alloc,
             types: IndexMap::new(alloc),
             primary_type,
             mixin_types,
-            order: order_def(alloc)?,
+            order,
         })
     }
 
@@ -139,16 +140,23 @@ impl Registry {
     pub fn copy(&self) -> Result<Registry, AllocError>
         ensures { IfOk result (λ copy. copy ≡ self.now) }
     {
-        let types = copies_of(self.alloc, &self.types)?;
-        let primary_type = self.primary_type.copy()?;
-        let mixin_types = self.mixin_types.copy()?;
-        Ok(Registry {
-            alloc: self.alloc,
-            types,
-            primary_type,
-            mixin_types,
-            order: self.order.copy()?,
-        })
+        let asked = asked(self.alloc)?;
+        match copies_of(self.alloc, &self.types) {
+            Ok(types) => {
+                let (primary_type, mixin_types, order) = asked;
+                Ok(Registry {
+                    alloc: self.alloc,
+                    types,
+                    primary_type,
+                    mixin_types,
+                    order,
+                })
+            }
+            Err(fault) => {
+                drop(asked);
+                Err(fault)
+            }
+        }
     }
 
     // The type at a place.
@@ -193,9 +201,61 @@ fn copies_of(
 {
     let mut copies = IndexMap::new(alloc);
     for (name, registered) in types.iter() {
-        copies.insert(name.clone()?, registered.copy()?)?;
+        match put_copy(&mut copies, name, registered) {
+            Ok(()) => {}
+            Err(fault) => {
+                drop(copies);
+                return Err(fault);
+            }
+        }
     }
     Ok(copies)
+}
+
+// Puts a copy of a registered type behind others.
+fn put_copy(
+    copies: &mut IndexMap<String, Registered>,
+    name: &String,
+    registered: &Registered,
+) -> Result<(), AllocError>
+    ensures { OnOk result ((key : _) × (string_bytes key ≡ string_bytes name.now)
+        × (copies.new.entries ≡ insert_entry string_eq copies.old.entries key registered.now)) }
+{
+    let name = name.clone()?;
+    put(copies, name, registered.copy()?)
+}
+
+// Puts a type under a name.
+pub(crate) fn put(
+    types: &mut IndexMap<String, Registered>,
+    name: String,
+    registered: Registered,
+) -> Result<(), AllocError>
+    ensures ok { OnOk result
+        (types.new.entries ≡ insert_entry string_eq types.old.entries name registered) }
+    ensures err { OnErr result (types.new.entries ≡ types.old.entries) }
+{
+    match types.insert(name, registered) {
+        Ok(old) => {
+            drop(old);
+            Ok(())
+        }
+        Err(refused) => {
+            drop(refused);
+            Err(AllocError)
+        }
+    }
+}
+
+// What each check asks for: the names of the two properties that tell types, and the order of
+// children.
+fn asked(alloc: Global) -> Result<(Name, Name, PropDef), AllocError>
+    ensures { IfOk result (λ all. all ≡ (primary_type, mixin_types, order_def)) }
+{
+    let primary_type = OwnName::PrimaryType.name(alloc)?;
+    let mixin_types = OwnName::MixinTypes.name(alloc)?;
+    let order = order_def(alloc)?;
+    Ok((primary_type, mixin_types, order))
 }
 
 // The order of children, as each orderable type tells it.

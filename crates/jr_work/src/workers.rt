@@ -59,6 +59,7 @@ pub fn run_workers<R: Threads + Wait + Sync, G: Gate + Sync>(
     };
     run_all(&crew, &mut main, sessions)?;
     let world = shared.close(main);
+    drop(types);
     world.journal();
     the_product_obeys_throughout();
     the_product_answers_throughout();

@@ -186,7 +186,9 @@ impl Committer {
         requires { due_of self ≡ ask.Done }
         ensures { self.outcome ≡ Some result }
     {
-        let Committer { outcome, .. } = self;
+        let mut committer = self;
+        let outcome = committer.outcome.take();
+        drop(committer);
         match outcome {
             Some(end) => end,
             None => CommitEnd::Memory,
@@ -319,8 +321,9 @@ impl Committer {
                 );
                 self.settle(looked)
             }
-            _ => {
-                self.looking = Some(look);
+            other => {
+                drop(other);
+                drop(self.looking.replace(look));
                 Ok(())
             }
         }
@@ -336,7 +339,7 @@ impl Committer {
                 Ok(())
             }
             Ok(Looked::More(look)) => {
-                self.looking = Some(look);
+                drop(self.looking.replace(look));
                 Ok(())
             }
             Err(error) => {
@@ -364,7 +367,10 @@ impl Committer {
                 self.want();
                 Ok(())
             }
-            _ => Ok(()),
+            other => {
+                drop(other);
+                Ok(())
+            }
         }
     }
 
@@ -378,6 +384,7 @@ impl Committer {
     {
         if !self.due.is_empty() {
             self.due.remove(0);
+            drop(before);
             return Ok(());
         }
         self.go_on(before)
@@ -395,6 +402,7 @@ impl Committer {
     {
         let Some(id) = self.plan.ids().get(self.written) else {
             self.outcome = Some(CommitEnd::Committed(self.revision));
+            drop(before);
             return Ok(());
         };
         let looked = look_before(
@@ -441,8 +449,8 @@ impl Committer {
         ensures { self.new ≡ wanting self.old }
     {
         self.due.clear();
-        self.looking = None;
-        self.outcome = Some(CommitEnd::Memory);
+        drop(self.looking.take());
+        drop(self.outcome.replace(CommitEnd::Memory));
     }
 
     // A reply while it undoes.
@@ -452,7 +460,7 @@ impl Committer {
         match reply {
             Reply::Undone => self.count_undone(),
             Reply::Finished => self.end_undone(),
-            _ => {}
+            other => drop(other),
         }
     }
 
@@ -478,8 +486,9 @@ impl Committer {
     fn feed_end(&mut self, reply: Reply)
         ensures { self.new ≡ fed_end self.old reply }
     {
-        if let Reply::Finished = reply {
+        if let Reply::Finished = &reply {
             self.ended = true;
         }
+        drop(reply);
     }
 }

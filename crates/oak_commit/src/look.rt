@@ -1,5 +1,5 @@
 // A look at a document as it was before its write, and at the previous documents that it listed.
-ghost use Rattle.std.specs.Prelude.{◌≡◌, IfOk, OnOk, fold, map};
+ghost use Rattle.std.specs.Prelude.{◌≡◌, ◌++◌, [], IfOk, OnOk, Some, fold, map};
 ghost use Rattle.jr_path.specs.Ids.{names_of};
 ghost use Rattle.jr_path.specs.declared.path.DocId.TheVariants.{Prev};
 ghost use Rattle.oak_commit.specs.Looking.{entries_in, looked_at, looked_before, with_all, with_found, with_properties};
@@ -12,6 +12,7 @@ use jr_rev::{RevVec, Revision};
 use jr_value::Property;
 use oak_doc::{Document, PrevEntry, put_value};
 use std::alloc::{AllocError, Global};
+use std::mem;
 
 // The values of a property by revision.
 type Values = Keyed<Revision, Option<Property>>;
@@ -50,13 +51,16 @@ impl Look {
             ≡ looked_at base.now r plan.now.marks (names_of self.first)
             (with_found self.document previous) self.rest) }
     {
+        let mut look = self;
+        if let Err(error) = put_found(alloc, &mut look.document, previous) {
+            drop(look);
+            return Err(error);
+        }
         let Look {
             document,
             first,
             rest,
-        } = self;
-        let mut document = document;
-        put_found(alloc, &mut document, previous)?;
+        } = look;
         look_at(plan, base, r, &first, document, rest)
     }
 }
@@ -74,11 +78,29 @@ pub(crate) fn look_before(
         ≡ looked_before base.now r plan.now.marks (names_of id.now) before) }
 {
     match before {
-        Some(document) => {
-            let ids = listed(alloc, id, document.prev.as_slice())?;
-            look_at(plan, base, r, id, document, ids)
-        }
+        Some(document) => look_first(alloc, plan, base, r, id, document),
         None => Ok(Looked::Met(List::new(alloc))),
+    }
+}
+
+// Looks at the document of an id as it was before its write, where there was one.
+fn look_first(
+    alloc: Global,
+    plan: &Plan,
+    base: &RevVec,
+    r: Revision,
+    id: &DocId,
+    document: Document,
+) -> Result<Looked, AllocError>
+    ensures { IfOk result (λ looked. looked
+        ≡ looked_before base.now r plan.now.marks (names_of id.now) (Some document)) }
+{
+    match listed(alloc, id, document.prev.as_slice()) {
+        Ok(ids) => look_at(plan, base, r, id, document, ids),
+        Err(error) => {
+            drop(document);
+            Err(error)
+        }
     }
 }
 
@@ -103,10 +125,24 @@ fn look_at(
             rest: List::of(rest),
         }));
     }
-    match plan.found(base, r, id, Some(&document)) {
-        Ok(due) => Ok(Looked::Met(List::of(due))),
-        Err(error) => Err(error),
-    }
+    drop(rest);
+    let looked = meet(plan, base, r, id, &document);
+    drop(document);
+    looked
+}
+
+// What is met in a document with which all previous ones are put back.
+fn meet(
+    plan: &Plan,
+    base: &RevVec,
+    r: Revision,
+    id: &DocId,
+    document: &Document,
+) -> Result<Looked, AllocError>
+    ensures { IfOk result (λ looked. looked
+        ≡ looked_at base.now r plan.now.marks (names_of id.now) document.now []) }
+{
+    Ok(Looked::Met(List::of(plan.found(base, r, id, Some(document))?)))
 }
 
 // The previous documents of a node that its document lists, in their order.
@@ -123,10 +159,18 @@ fn listed_at(alloc: Global, path: &Path, entries: &[PrevEntry]) -> Result<List<D
     ensures { IfOk result (λ ids. ids ≡ map (λ e. Prev e.number path.now) entries.now) }
 {
     let mut ids = List::new(alloc);
+    put_listed(&mut ids, path, entries)?;
+    Ok(ids)
+}
+
+// Puts the ids of the previous documents that are listed.
+fn put_listed(ids: &mut List<DocId>, path: &Path, entries: &[PrevEntry]) -> Result<(), AllocError>
+    ensures { OnOk result (ids.new ≡ ids.old ++ map (λ e. Prev e.number path.now) entries.now) }
+{
     for entry in entries {
         ids.push(DocId::Prev(entry.number, path.copy()?))?;
     }
-    Ok(ids)
+    Ok(())
 }
 
 // Puts what moved to a previous document back, where that was found.
@@ -147,7 +191,9 @@ fn put_found(
 fn put_back(alloc: Global, document: &mut Document, previous: Document) -> Result<(), AllocError>
     ensures { OnOk result (document.new ≡ fold changed document.old (entries_in previous)) }
 {
-    let Document { props, .. } = previous;
+    let mut previous = previous;
+    let props = mem::replace(&mut previous.props, Keyed::new(alloc));
+    drop(previous);
     // The names rise, so each stands once.
     let _names = props.len();
     put_properties(alloc, &mut document.props, props)?;

@@ -5,6 +5,7 @@ ghost use Rattle.jr_path.specs.Ids.{names_of};
 ghost use Rattle.oak_clash.specs.Clashes.{marks_at};
 ghost use Rattle.oak_commit.specs.Clashing.{found};
 ghost use Rattle.oak_commit.specs.Meeting.{due_in, dues_in, met_in};
+ghost use Rattle.oak_commit.specs.Places.{IsComputed};
 ghost use Rattle.oak_commit.specs.Writing.{last_op, write_op, written_ids};
 
 use crate::met::{Due, met_in};
@@ -44,10 +45,7 @@ impl Plan {
     pub(crate) fn of(alloc: Global, edit: Edit, marks: List<MarkAt>) -> Result<Plan, AllocError>
         ensures { IfOk result (λ plan. plan ≡ record { edit = edit; marks = marks }) }
     {
-        let ids = written_ids(alloc, marks.as_slice())?;
-        let root = commit_root(alloc, marks.as_slice())?;
-        let writes = places_of_writes(alloc, edit.writes.as_slice())?;
-        let marked = places_of_marks(alloc, marks.as_slice())?;
+        let (ids, root, writes, marked) = computed(alloc, &edit, &marks)?;
         Ok(Plan {
             alloc,
             edit,
@@ -145,4 +143,20 @@ impl Plan {
     {
         marks_here(self.alloc, path, self.marks.as_slice(), &self.marked)
     }
+}
+
+// What is computed once of a commit: the ids of its documents, its commit root, and where its writes and its marks
+// stand.
+fn computed(
+    alloc: Global,
+    edit: &Edit,
+    marks: &List<MarkAt>,
+) -> Result<(List<DocId>, Path, Places, Places), AllocError>
+    ensures { IfOk result (λ c. IsComputed edit.now marks.now c.0 c.1 c.2 c.3) }
+{
+    let ids = written_ids(alloc, marks.as_slice())?;
+    let root = commit_root(alloc, marks.as_slice())?;
+    let writes = places_of_writes(alloc, edit.writes.as_slice())?;
+    let marked = places_of_marks(alloc, marks.as_slice())?;
+    Ok((ids, root, writes, marked))
 }

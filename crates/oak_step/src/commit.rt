@@ -54,22 +54,35 @@ pub(crate) fn begin(
 {
     let base = base_of(memory, s);
     let revision = memory.next_draw();
-    let committer = prepared(alloc, revision, &base, &edit, &marks)?;
-    draw(
+    let Ok(committer) = prepared(alloc, revision, &base, &edit, &marks) else {
+        drop(edit);
+        drop(marks);
+        return Err(AllocError);
+    };
+    match draw(
         alloc,
         memory,
         events,
         committer.documents(),
         marks.as_slice(),
-    )?;
-    events.push_kept(Event::Draw(Draw {
-        revision,
-        session: s,
-        base,
-        edit,
-        marks,
-    }));
-    Ok(committer)
+    ) {
+        Ok(()) => {
+            events.push_kept(Event::Draw(Draw {
+                revision,
+                session: s,
+                base,
+                edit,
+                marks,
+            }));
+            Ok(committer)
+        }
+        Err(AllocError) => {
+            drop(committer);
+            drop(edit);
+            drop(marks);
+            Err(AllocError)
+        }
+    }
 }
 
 // The committer of copies of an edit and its marks.
@@ -82,7 +95,14 @@ fn prepared(
 ) -> Result<Committer, AllocError>
     ensures { IfOk result (λ committer. committer ≡ begun revision base.now edit.now marks.now) }
 {
-    Committer::new(alloc, revision, base, edit.copy()?, marks.copy()?)
+    let edit = edit.copy()?;
+    match marks.copy() {
+        Ok(marks) => Committer::new(alloc, revision, base, edit, marks),
+        Err(AllocError) => {
+            drop(edit);
+            Err(AllocError)
+        }
+    }
 }
 
 // The draw of a commit of so many documents, with the paths of its marks and with places for all its events but its marks.
@@ -147,8 +167,13 @@ pub(crate) fn mark(
 {
     let (item, other) = met(committer)?;
     let op = next_update(committer)?;
-    events.keep(1)?;
-    mark_by(table, events, committer, s, &op, item, other)
+    if events.keep(1).is_err() {
+        drop(op);
+        return Err(AllocError);
+    }
+    let made = mark_by(table, events, committer, s, &op, item, other);
+    drop(op);
+    made
 }
 
 // The mark that is due, by its update, with its own item and the other revision, and with a place
@@ -239,12 +264,16 @@ pub(crate) fn write(
             // Where memory is refused for what is found in the document, the committer turns to
             // undoing itself, and the write is made.
             let _ = committer.feed(Reply::Updated(before));
+            drop(op);
             Ok(())
         }
-        Err(OpFault::Memory) => Err(AllocError),
+        Err(OpFault::Memory) => {
+            drop(op);
+            Err(AllocError)
+        }
         // A write makes the document where there is none, and has no condition.
         Err(OpFault::Absent) => unreachable!(),
-        Err(OpFault::Unmet(_, _)) => unreachable!(),
+        Err(OpFault::Unmet(_, _kept)) => unreachable!(),
     }
 }
 
@@ -276,9 +305,13 @@ pub(crate) fn last(
             events.push_kept(Event::Commit(r));
             // It takes memory for what is found in a document that is written, and all are.
             let _ = committer.feed(Reply::Updated(before));
+            drop(op);
             Ok(())
         }
-        Err(fault) => refused_last(events, committer, fault),
+        Err(fault) => {
+            drop(op);
+            refused_last(events, committer, fault)
+        }
     }
 }
 

@@ -20,6 +20,7 @@ pub(crate) fn read(table: &DocTable, reader: Reader) -> (Work, StepOut)
 {
     let mut reader = reader;
     if read_once(table, &mut reader).is_err() {
+        drop(reader);
         return (Work::Rest, StepOut::Memory);
     }
     if reader.is_done() {
@@ -36,14 +37,19 @@ fn read_once(table: &DocTable, reader: &mut Reader) -> Result<(), AllocError>
 {
     match reader.next()? {
         Ask::Find(id) => {
-            let found = copied(table.find(&id))?;
-            reader.feed(Reply::Found(found))
+            let found = copied(table.find(&id));
+            drop(id);
+            reader.feed(Reply::Found(found?))
         }
         Ask::NextAfter(id) => {
-            let found = copied(table.next_after(id.as_ref()))?;
-            reader.feed(Reply::Found(found))
+            let found = copied(table.next_after(id.as_ref()));
+            drop(id);
+            reader.feed(Reply::Found(found?))
         }
-        _ => reader.feed(Reply::Found(None)),
+        other => {
+            drop(other);
+            reader.feed(Reply::Found(None))
+        }
     }
 }
 

@@ -214,8 +214,17 @@ fn tell(
     ensures places { events.new.places ≡ events.old.places }
     ensures order { IsTable table.new.documents }
 {
-    let op = op_of(alloc, DocId::Node(path), Change::LastRev(r))?;
-    change(table, events, &op, told)
+    match op_of(alloc, DocId::Node(path), Change::LastRev(r)) {
+        Ok(op) => {
+            let done = change(table, events, &op, told);
+            drop(op);
+            done
+        }
+        Err(AllocError) => {
+            drop(told);
+            Err(AllocError)
+        }
+    }
 }
 
 // The update of a document that is there by one change.
@@ -248,13 +257,18 @@ fn change(
     ensures places { events.new.places ≡ events.old.places }
     ensures order { IsTable table.new.documents }
 {
-    events.keep(1)?;
+    if events.keep(1).is_err() {
+        drop(told);
+        return Err(AllocError);
+    }
     match store::update(table, op) {
         Err(OpFault::Memory) => {
+            drop(told);
             events.give_back(1);
             Err(AllocError)
         }
-        Ok(_) => {
+        Ok(before) => {
+            drop(before);
             events.push_kept(told);
             Ok(())
         }
@@ -262,7 +276,8 @@ fn change(
             events.push_kept(told);
             Ok(())
         }
-        Err(OpFault::Unmet(_, _)) => {
+        Err(OpFault::Unmet(_, kept)) => {
+            drop(kept);
             events.push_kept(told);
             Ok(())
         }
@@ -376,13 +391,15 @@ fn checkpoint(
     ensures places { events.new.places ≡ events.old.places }
     ensures order { IsTable table.new.documents }
 {
-    let told = Event::Checkpoint(name.copy()?, pin.base);
+    let told = name.copy()?;
     let op = op_of(
         alloc,
         DocId::Settings,
         Change::Checkpoint(name.copy()?, pin),
     )?;
-    change(table, events, &op, told)
+    let done = change(table, events, &op, Event::Checkpoint(told, pin.base));
+    drop(op);
+    done
 }
 
 // A checkpoint is released, where the settings have it.
@@ -435,9 +452,11 @@ fn release(
     ensures places { events.new.places ≡ events.old.places }
     ensures order { IsTable table.new.documents }
 {
-    let told = release_event(s, name.copy()?, there);
+    let told = name.copy()?;
     let op = op_of(alloc, DocId::Settings, Change::Release(name.copy()?))?;
-    change(table, events, &op, told)
+    let done = change(table, events, &op, release_event(s, told, there));
+    drop(op);
+    done
 }
 
 // The event of a release, or of a step that found nothing to release.

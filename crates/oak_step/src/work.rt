@@ -57,10 +57,10 @@ impl Work {
             Task::Checkpoint(name) => Ok(Work::Upkeep(Upkeep::Checkpoint(name))),
             Task::Release(name) => Ok(Work::Upkeep(Upkeep::Release(name))),
             // No world does these yet.
-            Task::Split(_)
-            | Task::Sweep
+            Task::Split(_path) => unreachable!(),
+            Task::Attach(_name) => unreachable!(),
+            Task::Sweep
             | Task::Collect
-            | Task::Attach(_)
             | Task::Detach
             | Task::Observe
             | Task::Changes(_)

@@ -304,7 +304,7 @@ impl<L: Law + Drop> World<L> {
             return;
         }
         if self.due(actor).is_some() {
-            self.step(actor);
+            drop(self.step(actor));
         }
     }
 }

@@ -1,17 +1,15 @@
 // A journal and texts, by the law of a script.
-use crate::events::push_all;
-use crate::scripts::law_in;
-use jcr_eval::eval;
+use crate::events::{edit_in, push_all, vector_in};
+use crate::scripts::{law_in, may_say};
 use jcr_law::JcrLaw;
 use jcr_trans::SessionScript;
 use jr_path::List;
 use jr_rev::{RevVec, Revision};
-use jr_script::read_script;
+use jr_script::{Script, read_script};
 use jr_tree::{Edit, Tree};
 use oak_machine::{Events, Journal, Start};
-use rows::{Out, edit_of, items_in, items_of, small, text_in};
+use rows::{Out, items_in, items_of, small, text_in};
 use serde_json::Value as Json;
-use std::alloc::{AllocError, Global};
 
 // NAME | SCRIPT | CASE: the name, and whether the law lets each text be said. A case has `earlier`:
 // how many sessions there were before the script's; `start`: the vector of the beginning, the
@@ -22,10 +20,12 @@ pub(crate) fn add(line: &str, out: &mut Out) {
     let (script, case) = cut(rest);
     out.put(name);
     out.put(":");
-    match out.json(case) {
-        Some(case) => add_script(script, &case, out),
+    let case = out.json(case);
+    match &case {
+        Some(case) => add_script(script, case, out),
         None => out.put(" no case"),
     }
+    drop(case);
 }
 
 fn cut(text: &str) -> (&str, &str) {
@@ -34,12 +34,20 @@ fn cut(text: &str) -> (&str, &str) {
 
 fn add_script(script: &str, case: &Json, out: &mut Out) {
     match read_script(out.alloc, script.as_bytes()) {
-        Ok(script) => {
-            let clusters = script.clusters;
-            add_law(&law_in(script, earlier_in(case)), clusters, case, out);
-        }
+        Ok(script) => add_read(script, case, out),
         Err(_) => out.put(" no script"),
     }
+}
+
+// What is large is let go by a call of its own, here and below: at the end of its scope each of its
+// parts would be proved there.
+fn add_read(script: Script, case: &Json, out: &mut Out) {
+    let clusters = script.clusters;
+    let law = law_in(script, earlier_in(case));
+    let journal = journal_of(clusters, law.sessions.as_slice(), case, out);
+    add_asks(&law, &journal, items_in(case, "asks"), out);
+    drop(journal);
+    drop(law);
 }
 
 fn earlier_in(case: &Json) -> u32 {
@@ -49,85 +57,58 @@ fn earlier_in(case: &Json) -> u32 {
     }
 }
 
-fn add_law(law: &JcrLaw, clusters: u32, case: &Json, out: &mut Out) {
-    match clusters_of(out.alloc, law.sessions.as_slice()) {
-        Ok(sessions) => add_journal(law, journal_of(out.alloc, clusters, sessions), case, out),
-        Err(_) => out.is_broken = true,
-    }
-}
-
-fn clusters_of(alloc: Global, sessions: &[SessionScript]) -> Result<List<u32>, AllocError> {
-    let mut clusters = List::new(alloc);
-    for session in sessions {
-        clusters.push(session.cluster)?;
-    }
-    Ok(clusters)
-}
-
-fn journal_of(alloc: Global, clusters: u32, sessions: List<u32>) -> Journal {
-    Journal {
+fn journal_of(clusters: u32, sessions: &[SessionScript], case: &Json, out: &mut Out) -> Journal {
+    let mut journal = Journal {
         clusters,
-        sessions,
-        events: Events::new(alloc),
-        start: None,
-    }
+        sessions: clusters_of(sessions, out),
+        events: Events::new(out.alloc),
+        start: start_in(items_in(case, "start"), out),
+    };
+    push_all(&mut journal.events, items_in(case, "events"), out);
+    journal
 }
 
-fn add_journal(law: &JcrLaw, journal: Journal, case: &Json, out: &mut Out) {
-    let mut journal = journal;
-    if set_start(&mut journal, items_in(case, "start"), out)
-        && push_all(&mut journal.events, items_in(case, "events"), out)
-    {
-        add_asks(law, &journal, items_in(case, "asks"), out);
-    } else {
-        out.put(" no events");
+fn clusters_of(sessions: &[SessionScript], out: &mut Out) -> List<u32> {
+    let mut clusters = List::new(out.alloc);
+    for session in sessions {
+        let pushed = clusters.push(session.cluster);
+        out.note(pushed);
     }
+    clusters
 }
 
-// Sets the beginning, if one is given, and tells whether it is one.
-fn set_start(journal: &mut Journal, start: &[Json], out: &mut Out) -> bool {
+// The beginning, if one is given.
+fn start_in(start: &[Json], out: &mut Out) -> Option<Start> {
     match start {
-        [] => true,
-        [at, born, edit] => {
-            journal.start = start_of(vector(at), revision(born), edit, out);
-            journal.start.is_some()
-        }
-        _ => false,
-    }
-}
-
-pub(crate) fn vector(json: &Json) -> Option<RevVec> {
-    RevVec::parse(text_in(json).as_bytes()).ok()
-}
-
-pub(crate) fn revision(json: &Json) -> Option<Revision> {
-    Revision::parse(text_in(json).as_bytes()).ok()
-}
-
-fn start_of(
-    at: Option<RevVec>,
-    born: Option<Revision>,
-    edit: &Json,
-    out: &mut Out,
-) -> Option<Start> {
-    match (at, edit_of(edit, &Tree::new(out.alloc), out)) {
-        (Some(at), Some(edit)) => start_with(at, tree_of(out.alloc, &edit, born), out),
+        [at, born, edit] => Some(start_of(vector_in(at, out), revision(born), edit, out)),
         _ => None,
     }
 }
 
-fn tree_of(alloc: Global, edit: &Edit, born: Option<Revision>) -> Result<Tree, AllocError> {
-    let mut tree = Tree::initial(alloc)?;
-    tree.apply(edit, born)?;
-    Ok(tree)
+fn revision(json: &Json) -> Option<Revision> {
+    Revision::parse(text_in(json).as_bytes()).ok()
 }
 
-fn start_with(at: RevVec, tree: Result<Tree, AllocError>, out: &mut Out) -> Option<Start> {
-    match tree {
-        Ok(tree) => Some(Start { tree, at }),
+fn start_of(at: RevVec, born: Option<Revision>, edit: &Json, out: &mut Out) -> Start {
+    let edit = edit_in(edit, out);
+    let tree = tree_of(&edit, born, out);
+    drop(edit);
+    Start { tree, at }
+}
+
+fn tree_of(edit: &Edit, born: Option<Revision>, out: &mut Out) -> Tree {
+    let mut tree = initial(out);
+    let applied = tree.apply(edit, born);
+    out.note(applied);
+    tree
+}
+
+fn initial(out: &mut Out) -> Tree {
+    match Tree::initial(out.alloc) {
+        Ok(tree) => tree,
         Err(_) => {
             out.is_broken = true;
-            None
+            Tree::new(out.alloc)
         }
     }
 }
@@ -138,27 +119,19 @@ fn add_asks(law: &JcrLaw, journal: &Journal, asks: &[Json], out: &mut Out) {
     }
 }
 
+// Whether the law lets a text be said as the reply of that index of a session.
 fn add_ask(law: &JcrLaw, journal: &Journal, ask: Option<&[Json]>, out: &mut Out) {
     match ask {
-        Some([session, index, text]) => put_may(
-            eval(
-                out.alloc,
+        Some([session, index, text]) => {
+            let may = may_say(
                 law,
                 journal,
-                small(session),
-                small(index),
+                (small(session), small(index)),
                 text_in(text),
-            ),
-            out,
-        ),
+                out,
+            );
+            out.put(if may { " yes" } else { " no" });
+        }
         _ => out.put(" no ask"),
-    }
-}
-
-// Whether the law lets a text be said as the reply of that index of a session.
-fn put_may(may: Result<bool, AllocError>, out: &mut Out) {
-    match may {
-        Ok(may) => out.put(if may { " yes" } else { " no" }),
-        Err(_) => out.is_broken = true,
     }
 }

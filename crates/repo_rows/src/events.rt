@@ -1,252 +1,209 @@
-// Events: lists that begin with the name of an event.
-use crate::cases::{revision, vector};
-use jr_path::{Item, List, Name, Path, Text};
+// Events: lists that begin with the name of an event. What is none breaks the row.
+use jr_path::{Item, List, Name, Text};
 use jr_rev::{RevVec, Revision};
 use jr_tree::{Edit, Tree};
 use oak_doc::{Collected, SplitEnd};
 use oak_machine::{Draw, Event, Events, StepKind};
-use rows::{Out, edit_of, items_of, large, small, text_in};
+use rows::{Out, edit_of, items_of, large, revision, small, text_in};
 use serde_json::Value as Json;
-use std::alloc::AllocError;
 
-// Appends the events, and tells whether they are some.
-pub(crate) fn push_all(events: &mut Events, items: &[Json], out: &mut Out) -> bool {
+// Appends the events.
+pub(crate) fn push_all(events: &mut Events, items: &[Json], out: &mut Out) {
     for item in items {
-        if !push_item(events, item, out) {
-            return false;
-        }
+        let pushed = events.push(event(item, out));
+        out.note(pushed);
     }
-    true
 }
 
-fn push_item(events: &mut Events, item: &Json, out: &mut Out) -> bool {
+fn event(item: &Json, out: &mut Out) -> Event {
     match items_of(item) {
-        Some([word, rest @ ..]) => push_some(events, event_of(text_in(word), rest, out), out),
-        _ => false,
+        Some([word, rest @ ..]) => event_of(text_in(word), rest, out),
+        _ => no_event(out),
     }
 }
 
-fn push_some(events: &mut Events, event: Option<Event>, out: &mut Out) -> bool {
-    match event {
-        Some(event) => {
-            let pushed = events.push(event);
-            out.note(pushed);
-            true
-        }
-        None => false,
-    }
+fn no_event(out: &mut Out) -> Event {
+    out.is_broken = true;
+    Event::Stop(0)
 }
 
-fn event_of(word: &str, rest: &[Json], out: &mut Out) -> Option<Event> {
-    match word {
-        "draw" => draw(rest, out),
-        "refuse" => refusal(rest, out),
-        "split" => split(rest, out),
-        "said" | "checkpoint" | "attach" | "release" => with_text(word, rest, out),
-        "collected" => collected(rest, out),
-        _ => numbered(word, rest),
-    }
-}
-
-// Events of numbers, revisions and vectors alone.
-fn numbered(word: &str, rest: &[Json]) -> Option<Event> {
+fn event_of(word: &str, rest: &[Json], out: &mut Out) -> Event {
     match rest {
-        [one] => of_one(word, one),
-        [number, other] => of_two(word, number, other),
-        _ => None,
+        [one] => of_one(word, one, out),
+        [one, two] => of_two(word, one, two, out),
+        [one, two, three] => of_three(word, one, two, three, out),
+        [one, two, three, four] => of_four(word, one, two, three, four, out),
+        _ => no_event(out),
     }
 }
 
-fn of_one(word: &str, one: &Json) -> Option<Event> {
+fn of_one(word: &str, one: &Json, out: &mut Out) -> Event {
     match word {
-        "commit" => Some(Event::Commit(revision(one)?)),
-        "end" => Some(Event::End(revision(one)?)),
-        "detach" => Some(Event::Detach(small(one))),
-        "stop" => Some(Event::Stop(small(one))),
-        "recover" => Some(Event::Recover(small(one))),
-        _ => None,
+        "commit" => Event::Commit(revision_in(one, out)),
+        "end" => Event::End(revision_in(one, out)),
+        "detach" => Event::Detach(small(one)),
+        "release" => Event::Release(copied(one, out)),
+        "stop" => Event::Stop(small(one)),
+        "recover" => Event::Recover(small(one)),
+        _ => no_event(out),
     }
 }
 
-fn of_two(word: &str, number: &Json, other: &Json) -> Option<Event> {
+fn of_two(word: &str, one: &Json, two: &Json, out: &mut Out) -> Event {
     match word {
-        "login" => Some(Event::Login(small(number), vector(other)?)),
-        "refresh" => Some(Event::Refresh(small(number), vector(other)?)),
-        "head" => Some(Event::Head(small(number), vector(other)?)),
-        "in" => Some(Event::In(small(number), vector(other)?)),
-        "out" => Some(Event::Out(small(number), revision(other)?)),
-        "sweep" => Some(Event::Sweep(small(number), revision(other)?)),
-        "bound" => Some(Event::Bound(vector(number)?, vector(other)?)),
-        "went" => Some(Event::Went(small(number), kind_of(text_in(other))?)),
-        _ => None,
+        "login" => Event::Login(small(one), vector_in(two, out)),
+        "refresh" => Event::Refresh(small(one), vector_in(two, out)),
+        "head" => Event::Head(small(one), vector_in(two, out)),
+        "in" => Event::In(small(one), vector_in(two, out)),
+        "out" => Event::Out(small(one), revision_in(two, out)),
+        "sweep" => Event::Sweep(small(one), revision_in(two, out)),
+        "bound" => Event::Bound(vector_in(one, out), vector_in(two, out)),
+        "went" => Event::Went(small(one), kind_of(text_in(two), out)),
+        "attach" => Event::Attach(small(one), copied(two, out)),
+        "checkpoint" => Event::Checkpoint(copied(one, out), vector_in(two, out)),
+        _ => no_event(out),
     }
 }
 
-fn kind_of(word: &str) -> Option<StepKind> {
+// ["said",S,INDEX,TEXT], ["refuse",R,P,O], where the item is a node, ["split",S,P,["moved",N]] or
+// ["split",S,P,["skipped",READ,FOUND]], or ["collected",S,DOCUMENTS,ENTRIES], where nothing was
+// skipped.
+fn of_three(word: &str, one: &Json, two: &Json, three: &Json, out: &mut Out) -> Event {
     match word {
-        "pin" => Some(StepKind::Pin),
-        "write" => Some(StepKind::Write),
-        "mark" => Some(StepKind::Mark),
-        "undo" => Some(StepKind::Undo),
-        "settings" => Some(StepKind::Settings),
-        "stop" => Some(StepKind::Stop),
-        "end" => Some(StepKind::End),
-        _ => None,
+        "said" => Event::Said(small(one), small(two), copied(three, out)),
+        "refuse" => refusal(one, two, None, three, out),
+        "split" => split(small(one), two, items_of(three), out),
+        "collected" => collected(small(one), large(two), large(three), out),
+        _ => no_event(out),
     }
 }
 
-fn with_text(word: &str, rest: &[Json], out: &mut Out) -> Option<Event> {
-    match (word, rest) {
-        ("said", [session, index, text]) => {
-            said(
-                small(session),
-                small(index),
-                Text::copy_of(out.alloc, text_in(text)),
+// ["draw",S,R,BASE,EDIT], or ["refuse",R,P,N,O], where the item is a property.
+fn of_four(word: &str, one: &Json, two: &Json, three: &Json, four: &Json, out: &mut Out) -> Event {
+    match word {
+        "draw" => draw(small(one), two, three, four, out),
+        "refuse" => refusal(one, two, name_in(three, out), four, out),
+        _ => no_event(out),
+    }
+}
+
+pub(crate) fn vector_in(json: &Json, out: &mut Out) -> RevVec {
+    match RevVec::parse(text_in(json).as_bytes()) {
+        Ok(vector) => vector,
+        Err(_) => {
+            out.is_broken = true;
+            RevVec::none()
+        }
+    }
+}
+
+fn revision_in(json: &Json, out: &mut Out) -> Revision {
+    match Revision::parse(text_in(json).as_bytes()) {
+        Ok(revision) => revision,
+        Err(_) => {
+            out.is_broken = true;
+            revision("")
+        }
+    }
+}
+
+fn copied(json: &Json, out: &mut Out) -> Text {
+    match Text::copy_of(out.alloc, text_in(json)) {
+        Ok(text) => text,
+        Err(_) => {
+            out.is_broken = true;
+            Text::new(out.alloc)
+        }
+    }
+}
+
+fn name_in(json: &Json, out: &mut Out) -> Option<Name> {
+    match Name::parse(out.alloc, text_in(json)) {
+        Ok(name) => Some(name),
+        Err(_) => {
+            out.is_broken = true;
+            None
+        }
+    }
+}
+
+fn kind_of(word: &str, out: &mut Out) -> StepKind {
+    match word {
+        "pin" => StepKind::Pin,
+        "write" => StepKind::Write,
+        "mark" => StepKind::Mark,
+        "undo" => StepKind::Undo,
+        "settings" => StepKind::Settings,
+        "stop" => StepKind::Stop,
+        "end" => StepKind::End,
+        _ => {
+            out.is_broken = true;
+            StepKind::End
+        }
+    }
+}
+
+// The edit that JSON is, to be made from an empty tree.
+pub(crate) fn edit_in(json: &Json, out: &mut Out) -> Edit {
+    let tree = Tree::new(out.alloc);
+    let edit = edit_of(json, &tree, out);
+    drop(tree);
+    match edit {
+        Some(edit) => edit,
+        None => no_edit(out),
+    }
+}
+
+fn no_edit(out: &mut Out) -> Edit {
+    out.is_broken = true;
+    Edit {
+        writes: List::new(out.alloc),
+    }
+}
+
+// Replies don't depend on the marks, and there are none.
+fn draw(session: u32, drawn: &Json, base: &Json, edit: &Json, out: &mut Out) -> Event {
+    Event::Draw(Draw {
+        revision: revision_in(drawn, out),
+        session,
+        base: vector_in(base, out),
+        edit: edit_in(edit, out),
+        marks: List::new(out.alloc),
+    })
+}
+
+fn refusal(own: &Json, path: &Json, name: Option<Name>, other: &Json, out: &mut Out) -> Event {
+    let item = Item {
+        path: out.path_or_root(text_in(path)),
+        name,
+    };
+    Event::Refuse(revision_in(own, out), item, revision_in(other, out))
+}
+
+fn split(session: u32, path: &Json, end: Option<&[Json]>, out: &mut Out) -> Event {
+    match end {
+        Some([_, moved]) => split_by(session, path, SplitEnd::Split(large(moved)), out),
+        Some([_, read, found]) => {
+            split_by(
+                session,
+                path,
+                SplitEnd::Skipped(large(read), large(found)),
                 out,
             )
         }
-        ("attach", [session, id]) => {
-            attached(small(session), Text::copy_of(out.alloc, text_in(id)), out)
-        }
-        ("release", [id]) => released(Text::copy_of(out.alloc, text_in(id)), out),
-        ("checkpoint", [id, at]) => {
-            checkpoint(vector(at)?, Text::copy_of(out.alloc, text_in(id)), out)
-        }
-        _ => None,
+        _ => no_event(out),
     }
 }
 
-fn said(session: u32, index: u32, text: Result<Text, AllocError>, out: &mut Out) -> Option<Event> {
-    Some(Event::Said(session, index, out.got(text)?))
+fn split_by(session: u32, path: &Json, end: SplitEnd, out: &mut Out) -> Event {
+    Event::Split(session, out.path_or_root(text_in(path)), end)
 }
 
-fn attached(session: u32, id: Result<Text, AllocError>, out: &mut Out) -> Option<Event> {
-    Some(Event::Attach(session, out.got(id)?))
-}
-
-fn released(id: Result<Text, AllocError>, out: &mut Out) -> Option<Event> {
-    Some(Event::Release(out.got(id)?))
-}
-
-fn checkpoint(at: RevVec, id: Result<Text, AllocError>, out: &mut Out) -> Option<Event> {
-    Some(Event::Checkpoint(out.got(id)?, at))
-}
-
-// ["draw",S,R,BASE,EDIT]: replies don't depend on the marks, and there are none.
-fn draw(rest: &[Json], out: &mut Out) -> Option<Event> {
-    match rest {
-        [session, drawn, base, edit] => drawn_by(
-            small(session),
-            revision(drawn)?,
-            vector(base)?,
-            edit_of(edit, &Tree::new(out.alloc), out),
-            out,
-        ),
-        _ => None,
-    }
-}
-
-fn drawn_by(
-    session: u32,
-    revision: Revision,
-    base: RevVec,
-    edit: Option<Edit>,
-    out: &Out,
-) -> Option<Event> {
-    match edit {
-        Some(edit) => Some(Event::Draw(Draw {
-            revision,
-            session,
-            base,
-            edit,
-            marks: List::new(out.alloc),
-        })),
-        None => None,
-    }
-}
-
-// ["refuse",R,P,O] or ["refuse",R,P,N,O]: the item is a node, or its property of a name.
-fn refusal(rest: &[Json], out: &mut Out) -> Option<Event> {
-    match rest {
-        [own, path, other] => refused(
-            revision(own)?,
-            node_item(out.path(text_in(path))),
-            revision(other)?,
-        ),
-        [own, path, name, other] => refused(
-            revision(own)?,
-            property_item(out.path(text_in(path)), out.name(text_in(name))),
-            revision(other)?,
-        ),
-        _ => None,
-    }
-}
-
-fn node_item(path: Option<Path>) -> Option<Item> {
-    match path {
-        Some(path) => Some(Item { path, name: None }),
-        None => None,
-    }
-}
-
-fn property_item(path: Option<Path>, name: Option<Name>) -> Option<Item> {
-    match (path, name) {
-        (Some(path), Some(name)) => Some(Item {
-            path,
-            name: Some(name),
-        }),
-        _ => None,
-    }
-}
-
-fn refused(own: Revision, item: Option<Item>, other: Revision) -> Option<Event> {
-    match item {
-        Some(item) => Some(Event::Refuse(own, item, other)),
-        None => None,
-    }
-}
-
-// ["split",S,P,["moved",N]] or ["split",S,P,["skipped",READ,FOUND]]
-fn split(rest: &[Json], out: &mut Out) -> Option<Event> {
-    match rest {
-        [session, path, end] => {
-            ended(
-                small(session),
-                out.path(text_in(path)),
-                end_of(items_of(end)),
-            )
-        }
-        _ => None,
-    }
-}
-
-fn end_of(end: Option<&[Json]>) -> Option<SplitEnd> {
-    match end {
-        Some([_, moved]) => Some(SplitEnd::Split(large(moved))),
-        Some([_, read, found]) => Some(SplitEnd::Skipped(large(read), large(found))),
-        _ => None,
-    }
-}
-
-fn ended(session: u32, path: Option<Path>, end: Option<SplitEnd>) -> Option<Event> {
-    match (path, end) {
-        (Some(path), Some(end)) => Some(Event::Split(session, path, end)),
-        _ => None,
-    }
-}
-
-// ["collected",S,DOCUMENTS,ENTRIES]: nothing was skipped.
-fn collected(rest: &[Json], out: &Out) -> Option<Event> {
-    match rest {
-        [session, documents, entries] => {
-            let skipped = List::new(out.alloc);
-            let collected = Collected {
-                entries: large(entries),
-                documents: large(documents),
-                skipped,
-            };
-            Some(Event::Collected(small(session), collected))
-        }
-        _ => None,
-    }
+fn collected(session: u32, documents: u64, entries: u64, out: &mut Out) -> Event {
+    let collected = Collected {
+        entries,
+        documents,
+        skipped: List::new(out.alloc),
+    };
+    Event::Collected(session, collected)
 }

@@ -1,21 +1,14 @@
 // How many documents the loads of session 1 read, each in a step of its own.
-ghost use Rattle.jr_script.specs.Bounds.{IsWithin};
-
-use crate::scripts::script;
+use crate::scripts::ran;
 use jcr_law::JcrLaw;
-use jr_script::Script;
-use jr_stage::run_steps;
 use oak_world::World;
 use rows::{Out, cut, number};
-use std::alloc::{AllocError, Global};
 
 // MOST SCRIPT: `y` where session 1 reads no more documents than that, else how many.
 pub(crate) fn add_loads(rest: &str, out: &mut Out) {
     let (most, text) = cut(rest);
-    match reads_in(out.alloc, text) {
-        Ok(Some(reads)) => put_within(reads, number(most), out),
-        Ok(None) => {}
-        Err(_) => out.is_broken = true,
+    if let Some(reads) = reads_in(text, out) {
+        put_within(reads, number(most), out);
     }
 }
 
@@ -30,26 +23,21 @@ fn put_within(reads: u64, most: u64, out: &mut Out) {
 // SCRIPT, a tab, SCRIPT: `y` where session 1 reads as many documents in either.
 pub(crate) fn add_same(rest: &str, out: &mut Out) {
     let (one, other) = rest.split_once('\t').unwrap_or((rest, ""));
-    match (reads_in(out.alloc, one), reads_in(out.alloc, other)) {
-        (Ok(one), Ok(other)) => out.put(if one == other { "y" } else { "n" }),
-        _ => out.is_broken = true,
-    }
+    let one = reads_in(one, out);
+    let other = reads_in(other, out);
+    out.put(if one == other { "y" } else { "n" });
 }
 
 // How many documents session 1 of a script reads; none where there is no such session, or no
 // script.
-fn reads_in(alloc: Global, text: &str) -> Result<Option<u64>, AllocError> {
-    match script(alloc, text) {
-        Ok(script) => reads_by(alloc, script),
-        Err(_) => Ok(None),
-    }
-}
-
-fn reads_by(alloc: Global, script: Script) -> Result<Option<u64>, AllocError>
-    requires { IsWithin script }
-{
-    let world = run_steps(alloc, script)?;
-    Ok(reads_of(&world))
+fn reads_in(text: &str, out: &mut Out) -> Option<u64> {
+    let world = ran(text, out);
+    let reads = match &world {
+        Some(world) => reads_of(world),
+        None => None,
+    };
+    drop(world);
+    reads
 }
 
 // How many documents session 1 has read; none where there is no such session.

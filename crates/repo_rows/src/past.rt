@@ -2,6 +2,7 @@
 use crate::scripts::{before_all, push_copy};
 use jr_path::DeepCopy;
 use jr_rev::{RevVec, Revision};
+use jr_tree::Tree;
 use oak_machine::{Event, Journal, StepKind};
 use oak_past::{follows, local_head, tree_at};
 use rows::Out;
@@ -10,10 +11,18 @@ use rows::Out;
 // there, and whether it may follow once more; and how many nodes there are at a login and at a
 // head.
 pub(crate) fn add_past(journal: &Journal, out: &mut Out) {
-    match (journal.copy(), before_all(out.alloc, journal)) {
-        (Ok(journal), Ok(before)) => add_events(&journal, before, out),
-        _ => out.is_broken = true,
+    match journal.copy() {
+        Ok(copy) => add_copied(copy, out),
+        Err(_) => out.is_broken = true,
     }
+}
+
+fn add_copied(journal: Journal, out: &mut Out) {
+    match before_all(out.alloc, &journal) {
+        Ok(before) => add_events(&journal, before, out),
+        Err(_) => out.is_broken = true,
+    }
+    drop(journal);
 }
 
 fn add_events(journal: &Journal, before: Journal, out: &mut Out) {
@@ -24,6 +33,7 @@ fn add_events(journal: &Journal, before: Journal, out: &mut Out) {
         out.note(pushed);
         add_after(&before, event, out);
     }
+    drop(before);
 }
 
 fn add_follows(before: &Journal, event: &Event, out: &mut Out) {
@@ -51,10 +61,15 @@ fn add_after(after: &Journal, event: &Event, out: &mut Out) {
 fn add_head(after: &Journal, v: &RevVec, out: &mut Out) {
     add_nodes(after, v, out);
     let start = RevVec::start(1);
-    add_may(after, &Event::Bound(*v, start), out);
-    add_may(after, &Event::Bound(later(v), start), out);
-    add_may(after, &Event::Head(1, start), out);
-    add_may(after, &Event::Head(2, *v), out);
+    add_made(after, Event::Bound(*v, start), out);
+    add_made(after, Event::Bound(later(v), start), out);
+    add_made(after, Event::Head(1, start), out);
+    add_made(after, Event::Head(2, *v), out);
+}
+
+fn add_made(after: &Journal, event: Event, out: &mut Out) {
+    add_may(after, &event, out);
+    drop(event);
 }
 
 fn later(v: &RevVec) -> RevVec {
@@ -80,9 +95,14 @@ fn is_once(event: &Event) -> bool {
 
 fn add_nodes(journal: &Journal, v: &RevVec, out: &mut Out) {
     match tree_at(journal, v) {
-        Ok(tree) => out.put_numbered("/", tree.len() as u64),
+        Ok(tree) => put_size(tree, out),
         Err(_) => out.is_broken = true,
     }
+}
+
+fn put_size(tree: Tree, out: &mut Out) {
+    out.put_numbered("/", tree.len() as u64);
+    drop(tree);
 }
 
 // The events in their order, each with its session.

@@ -1,4 +1,6 @@
 // The top call over sources and sinks that fail, and the words of command lines.
+ghost use Rattle.std.specs.Prelude.{◌≤◌};
+
 use jcr_law::JcrLaw;
 use jr_io::{MemSink, MemSource};
 use oak_world::World;
@@ -7,22 +9,29 @@ use rows::{Out, cut};
 use std::alloc::{AllocError, Global};
 
 // The words of a text, between its spaces.
-fn words_of(alloc: Global, text: &str) -> Result<Vec<String>, AllocError> {
-    let mut words = Vec::new(alloc);
+pub(crate) fn words_of(text: &str, out: &mut Out) -> Vec<String> {
+    let mut words = Vec::new(out.alloc);
     for word in text.split(' ') {
-        words.push(String::from_str(alloc, word)?)?;
+        let pushed = push_word(&mut words, word, out.alloc);
+        out.note(pushed);
     }
-    Ok(words)
+    words
+}
+
+fn push_word(words: &mut Vec<String>, word: &str, alloc: Global) -> Result<(), AllocError> {
+    words.push(String::from_str(alloc, word)?)?;
+    Ok(())
 }
 
 // The call of a number that fails; none for `-`.
-fn fails(alloc: Global, text: &str) -> Result<Vec<u64>, AllocError> {
-    let mut fails = Vec::new(alloc);
-    match text.parse() {
-        Ok(number) => fails.push(number)?,
-        Err(_) => {}
+fn fails(text: &str, out: &mut Out) -> Vec<u64> {
+    let mut fails = Vec::new(out.alloc);
+    if let Ok(number) = text.parse() {
+        if fails.push(number).is_err() {
+            out.is_broken = true;
+        }
     }
-    Ok(fails)
+    fails
 }
 
 // WORD READ WRITE INPUT: the status, whether a world is left, and what is written.
@@ -35,10 +44,8 @@ pub(crate) fn add_status(rest: &str, out: &mut Out) {
 // digits, with spaces between them.
 pub(crate) fn add_octets(rest: &str, out: &mut Out) {
     let (words, input) = cut_words(rest);
-    match bytes_of(out.alloc, input) {
-        Ok(bytes) => add_call(words, bytes.as_slice(), out),
-        Err(_) => out.is_broken = true,
-    }
+    let bytes = bytes_of(input, out);
+    add_call(words, bytes.as_slice(), out);
 }
 
 // WORDS: the same of words that read nothing; a read would fail.
@@ -54,43 +61,55 @@ fn cut_words(text: &str) -> ((&str, &str, &str), &str) {
     ((word, read, write), rest)
 }
 
-fn bytes_of(alloc: Global, text: &str) -> Result<Vec<u8>, AllocError> {
-    let mut bytes = Vec::new(alloc);
+fn bytes_of(text: &str, out: &mut Out) -> Vec<u8> {
+    let mut bytes = Vec::new(out.alloc);
     for word in text.split(' ') {
-        bytes.push(u8::from_str_radix(word, 16).unwrap_or(0))?;
+        if bytes.push(byte(word)).is_err() {
+            out.is_broken = true;
+        }
     }
-    Ok(bytes)
+    bytes
+}
+
+fn byte(word: &str) -> u8 {
+    u8::from_str_radix(word, 16).unwrap_or(0)
 }
 
 fn add_call(words: (&str, &str, &str), input: &[u8], out: &mut Out) {
     let (word, read, write) = words;
-    match (
-        words_of(out.alloc, word),
-        source(out.alloc, read, input),
-        sink(out.alloc, write),
-    ) {
-        (Ok(words), Ok(source), Ok(sink)) => run(words.as_slice(), source, sink, out),
-        _ => out.is_broken = true,
+    let fails_to_read = fails(read, out);
+    let mut source = source(input, 7, fails_to_read, out);
+    match MemSink::new(out.alloc, 1000, 64, fails(write, out)) {
+        Ok(sink) => run(word, &mut source, sink, out),
+        Err(_) => out.is_broken = true,
+    }
+    drop(source);
+}
+
+// A source of bytes, so many at a time.
+pub(crate) fn source(bytes: &[u8], piece: usize, fails: Vec<u64>, out: &mut Out) -> MemSource
+    requires { 1 ≤ piece }
+{
+    match Vec::from_slice(out.alloc, bytes) {
+        Ok(bytes) => MemSource::new(bytes, piece, fails),
+        Err(_) => {
+            out.is_broken = true;
+            MemSource::new(Vec::new(out.alloc), piece, fails)
+        }
     }
 }
 
-fn source(alloc: Global, read: &str, input: &[u8]) -> Result<MemSource, AllocError> {
-    let bytes = Vec::from_slice(alloc, input)?;
-    Ok(MemSource::new(bytes, 7, fails(alloc, read)?))
-}
-
-fn sink(alloc: Global, write: &str) -> Result<MemSink, AllocError> {
-    MemSink::new(alloc, 1000, 64, fails(alloc, write)?)
-}
-
-fn run(words: &[String], source: MemSource, sink: MemSink, out: &mut Out) {
-    let mut source = source;
+fn run(text: &str, source: &mut MemSource, sink: MemSink, out: &mut Out) {
     let mut sink = sink;
     let mut left: Option<World<JcrLaw>> = None;
-    let status = steps_main(out.alloc, words, &mut source, &mut sink, &mut left);
+    let words = words_of(text, out);
+    let status = steps_main(out.alloc, words.as_slice(), source, &mut sink, &mut left);
     out.put_number(u64::from(status.code()));
     out.put(if left.is_some() { " left " } else { " none " });
     out.put_bytes(sink.written());
+    drop(left);
+    drop(sink);
+    drop(words);
 }
 
 const TABLE: [Row; 2] = [
@@ -138,10 +157,9 @@ const TABLE: [Row; 2] = [
 
 // The command of the row of a table that words spell.
 pub(crate) fn add_meaning(text: &str, out: &mut Out) {
-    match words_of(out.alloc, text) {
-        Ok(words) => put_row(row_meant(&TABLE, words.as_slice()), out),
-        Err(_) => out.is_broken = true,
-    }
+    let words = words_of(text, out);
+    put_row(row_meant(&TABLE, words.as_slice()), out);
+    drop(words);
 }
 
 fn put_row(row: Option<&Row>, out: &mut Out) {
@@ -154,10 +172,9 @@ fn put_row(row: Option<&Row>, out: &mut Out) {
 // NAME WORDS: what the words give the option of a name in the second row.
 pub(crate) fn add_option(rest: &str, out: &mut Out) {
     let (name, text) = cut(rest);
-    match words_of(out.alloc, text) {
-        Ok(words) => put_given(option_given(TABLE[1].options, words.as_slice(), name), out),
-        Err(_) => out.is_broken = true,
-    }
+    let words = words_of(text, out);
+    put_given(option_given(TABLE[1].options, words.as_slice(), name), out);
+    drop(words);
 }
 
 fn put_given(given: Option<Given>, out: &mut Out) {

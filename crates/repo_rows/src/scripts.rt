@@ -10,17 +10,36 @@ use jcr_law::JcrLaw;
 use jr_path::DeepCopy;
 use jr_print::lines;
 use jr_script::{Script, ScriptFault, read_script, scripts_are_within};
-use jr_stage::run_steps;
 use oak_machine::{Event, Events, Journal};
 use oak_world::World;
+use repo_top::run_steps;
 use rows::Out;
 use std::alloc::{AllocError, Global};
 
 pub(crate) fn add(word: &str, text: &str, out: &mut Out) {
-    match script(out.alloc, text) {
-        Ok(script) => add_run(word, text, script, out),
-        Err(fault) => put_fault(&fault, out),
+    let world = ran(text, out);
+    if let Some(world) = &world {
+        put_world(word, text, world, out);
     }
+    drop(world);
+}
+
+// The world that the run of a script leaves; the fault of a text that is no script.
+pub(crate) fn ran(text: &str, out: &mut Out) -> Option<World<JcrLaw>> {
+    match script(out.alloc, text) {
+        Ok(script) => run(script, out),
+        Err(fault) => {
+            put_fault(fault, out);
+            None
+        }
+    }
+}
+
+fn run(script: Script, out: &mut Out) -> Option<World<JcrLaw>>
+    requires { IsWithin script }
+{
+    let world = run_steps(out.alloc, script);
+    out.got(world)
 }
 
 pub(crate) fn script(alloc: Global, text: &str) -> Result<Script, ScriptFault>
@@ -36,28 +55,16 @@ pub(crate) fn script(alloc: Global, text: &str) -> Result<Script, ScriptFault>
 }
 
 // The rule that is broken, and where.
-fn put_fault(fault: &ScriptFault, out: &mut Out) {
-    match fault {
-        ScriptFault::Bad {
-            rule,
-            pointer,
-            offset: _,
-        } => {
+pub(crate) fn put_fault(fault: ScriptFault, out: &mut Out) {
+    match &fault {
+        ScriptFault::Bad { rule, pointer, .. } => {
             out.put_number(u64::from(*rule));
             out.put(" ");
             out.put(pointer.as_str());
         }
         ScriptFault::Memory => out.put("memory"),
     }
-}
-
-fn add_run(word: &str, text: &str, script: Script, out: &mut Out)
-    requires { IsWithin script }
-{
-    match run_steps(out.alloc, script) {
-        Ok(world) => put_world(word, text, &world, out),
-        Err(_) => out.is_broken = true,
-    }
+    drop(fault);
 }
 
 fn put_world(word: &str, text: &str, world: &World<JcrLaw>, out: &mut Out) {
@@ -85,11 +92,15 @@ fn put_reads(world: &World<JcrLaw>, out: &mut Out) {
     }
 }
 
-// The law of a script. The run takes the commands, so the script is read once more for it.
-pub(crate) fn law_of(alloc: Global, text: &str) -> Result<JcrLaw, ScriptFault> {
-    match script(alloc, text) {
-        Ok(script) => Ok(law_in(script, 0)),
-        Err(fault) => Err(fault),
+// The law of a script; the fault of a text that is no script. The run takes the commands, so the
+// script is read once more for it.
+pub(crate) fn law_of(text: &str, out: &mut Out) -> Option<JcrLaw> {
+    match script(out.alloc, text) {
+        Ok(script) => Some(law_in(script, 0)),
+        Err(fault) => {
+            put_fault(fault, out);
+            None
+        }
     }
 }
 
@@ -110,10 +121,11 @@ pub(crate) fn law_in(script: Script, earlier: u32) -> JcrLaw {
 // The lines of the replies of the journal, each as the law of the script lets its session say it by
 // the journal before.
 fn put_law(text: &str, journal: &Journal, out: &mut Out) {
-    match law_of(out.alloc, text) {
-        Ok(law) => put_lawful(&law, journal, out),
-        Err(fault) => put_fault(&fault, out),
+    let law = law_of(text, out);
+    if let Some(law) = &law {
+        put_lawful(law, journal, out);
     }
+    drop(law);
 }
 
 fn put_lawful(law: &JcrLaw, journal: &Journal, out: &mut Out) {
@@ -137,35 +149,46 @@ pub(crate) fn before_all(alloc: Global, journal: &Journal) -> Result<Journal, Al
 fn put_events(law: &JcrLaw, before: Journal, journal: &Journal, out: &mut Out) {
     let mut before = before;
     for event in journal.events.as_slice() {
-        put_said(law, &before, event, out);
+        put_event(law, &before, event, out);
         let pushed = push_copy(&mut before, event);
         out.note(pushed);
     }
+    drop(before);
 }
 
 pub(crate) fn push_copy(journal: &mut Journal, event: &Event) -> Result<(), AllocError> {
     journal.events.push(event.copy()?)
 }
 
-fn put_said(law: &JcrLaw, before: &Journal, event: &Event, out: &mut Out) {
+fn put_event(law: &JcrLaw, before: &Journal, event: &Event, out: &mut Out) {
     if let Event::Said(session, index, text) = event {
         out.put_number(u64::from(*session));
         out.put_numbered(" ", u64::from(*index));
         out.put(" ");
-        put_reply(
-            eval(out.alloc, law, before, *session, *index, text.as_str()),
-            text.as_str(),
-            out,
-        );
+        put_said(law, before, (*session, *index), text.as_str(), out);
         out.put("\n");
     }
 }
 
 // The reply, where the law lets it be said.
-fn put_reply(is_lawful: Result<bool, AllocError>, text: &str, out: &mut Out) {
-    match is_lawful {
-        Ok(true) => out.put(text),
-        Ok(false) => out.put("unlawful"),
-        Err(_) => out.is_broken = true,
+fn put_said(law: &JcrLaw, before: &Journal, at: (u32, u32), text: &str, out: &mut Out) {
+    let may = may_say(law, before, at, text, out);
+    out.put(if may { text } else { "unlawful" });
+}
+
+// Whether the law lets a text be said behind a journal as the reply of a session and an index.
+pub(crate) fn may_say(
+    law: &JcrLaw,
+    before: &Journal,
+    at: (u32, u32),
+    text: &str,
+    out: &mut Out,
+) -> bool {
+    match eval(out.alloc, law, before, at.0, at.1, text) {
+        Ok(may) => may,
+        Err(_) => {
+            out.is_broken = true;
+            false
+        }
     }
 }

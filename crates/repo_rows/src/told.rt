@@ -1,5 +1,6 @@
 // Documents and events as text.
 use jcr_law::JcrLaw;
+use jr_path::Keyed;
 use jr_rev::{RevVec, Revision};
 use jr_value::Property;
 use oak_doc::Document;
@@ -52,17 +53,17 @@ fn put_document(document: &Document, out: &mut Out) {
     for (r, deleted) in document.deleted.iter() {
         put_entry(if *deleted { "gone" } else { "here" }, r, out);
     }
-    for (r, _) in document.commit_root.iter() {
-        put_entry("root", r, out);
-    }
-    for (r, _) in document.revisions.iter() {
-        put_entry("committed", r, out);
-    }
-    for (r, _) in document.touched.iter() {
-        put_entry("touched", r, out);
-    }
+    put_entries("root", &document.commit_root, out);
+    put_entries("committed", &document.revisions, out);
+    put_entries("touched", &document.touched, out);
     put_properties(document, out);
     put_others(document, out);
+}
+
+fn put_entries<T>(word: &str, entries: &Keyed<Revision, T>, out: &mut Out) {
+    for (r, _) in entries.iter() {
+        put_entry(word, r, out);
+    }
 }
 
 fn put_others(document: &Document, out: &mut Out) {

@@ -3,18 +3,15 @@
 // one that the law lets be said.
 ghost use Rattle.std.specs.Prelude.{◌≤◌};
 
-use crate::scripts::{before_all, law_of, push_copy, script};
-use jcr_eval::eval;
+use crate::runs::{source, words_of};
+use crate::scripts::{before_all, law_of, may_say, push_copy, put_fault, script};
 use jcr_law::JcrLaw;
-use jr_io::{MemSink, MemSource};
-use jr_script::ScriptFault;
-use jr_work::{Gate, NoGate, run_workers};
+use jr_io::MemSink;
 use oak_machine::{Event, Journal, StepKind};
 use oak_past::follows;
 use oak_world::World;
-use repo_top::repo_main;
+use repo_top::{Gate, NoGate, repo_main, run_workers};
 use rows::{Out, cut, short};
-use std::alloc::{AllocError, Global};
 use std::hint;
 use std::sync::Wait;
 use std::sync::atomic::{AtomicBool, Ordering};
@@ -67,8 +64,11 @@ impl Gate for HoldsLast {
 // it went on only then, and what is written, by two workers.
 pub(crate) fn add_held<R: Threads + Wait + Sync>(rt: &R, text: &str, out: &mut Out) {
     let gate = HoldsLast::new();
-    let held = add_worked(rt, text, &gate, out);
-    out.note(held);
+    let sink = MemSink::new(out.alloc, 1000, 64, Vec::new(out.alloc));
+    match sink {
+        Ok(sink) => add_worked(rt, text, &gate, sink, out),
+        Err(_) => out.is_broken = true,
+    }
     put_gate(&gate, out);
 }
 
@@ -87,11 +87,13 @@ fn add_worked<R: Threads + Wait + Sync>(
     rt: &R,
     text: &str,
     gate: &HoldsLast,
+    sink: MemSink,
     out: &mut Out,
-) -> Result<(), AllocError> {
-    let words = two_workers(out.alloc)?;
-    let mut source = source(out.alloc, text)?;
-    let mut sink = MemSink::new(out.alloc, 1000, 64, Vec::new(out.alloc))?;
+) {
+    let words = words_of("run --workers 2", out);
+    let fails = Vec::new(out.alloc);
+    let mut source = source(text.as_bytes(), 64, fails, out);
+    let mut sink = sink;
     let mut left = None;
     repo_main(
         rt,
@@ -104,28 +106,17 @@ fn add_worked<R: Threads + Wait + Sync>(
     );
     out.put_bytes(sink.written());
     put_left(left, out);
-    Ok(())
-}
-
-fn source(alloc: Global, text: &str) -> Result<MemSource, AllocError> {
-    let bytes = Vec::from_slice(alloc, text.as_bytes())?;
-    Ok(MemSource::new(bytes, 64, Vec::new(alloc)))
-}
-
-// The words that ask for two workers.
-fn two_workers(alloc: Global) -> Result<Vec<String>, AllocError> {
-    let mut words = Vec::new(alloc);
-    for word in ["run", "--workers", "2"] {
-        words.push(String::from_str(alloc, word)?)?;
-    }
-    Ok(words)
+    drop(sink);
+    drop(source);
+    drop(words);
 }
 
 fn put_left(left: Option<World<JcrLaw>>, out: &mut Out) {
-    match left {
+    match &left {
         Some(world) => out.put(order_word(world.journal())),
         None => out.put("no world "),
     }
+    drop(left);
 }
 
 fn order_word(journal: &Journal) -> &'static str {
@@ -152,78 +143,100 @@ fn is_behind(journal: &Journal) -> bool {
 // RUNS SCRIPT: whether what eight workers leave of the script is lawful in each of so many runs.
 pub(crate) fn add_lawful<R: Threads + Wait + Sync>(rt: &R, rest: &str, out: &mut Out) {
     let (runs, text) = cut(rest);
-    match are_lawful(rt, out.alloc, short(runs), text) {
-        Ok(are_lawful) => out.put_answer(are_lawful),
-        Err(_) => out.put("no script"),
+    let law = law_of(text, out);
+    if let Some(law) = &law {
+        let are_lawful = are_lawful(rt, law, short(runs), text, out);
+        out.put_answer(are_lawful);
     }
+    drop(law);
 }
 
 fn are_lawful<R: Threads + Wait + Sync>(
     rt: &R,
-    alloc: Global,
+    law: &JcrLaw,
     runs: u32,
     text: &str,
-) -> Result<bool, ScriptFault> {
-    let law = law_of(alloc, text)?;
+    out: &mut Out,
+) -> bool {
     for _ in 0..runs {
-        if !worked_lawfully(rt, alloc, &law, text)? {
-            return Ok(false);
+        if !worked_lawfully(rt, law, text, out) {
+            return false;
         }
     }
-    Ok(true)
+    true
 }
 
 // Whether what eight workers leave of a script is lawful.
 fn worked_lawfully<R: Threads + Wait + Sync>(
     rt: &R,
-    alloc: Global,
     law: &JcrLaw,
     text: &str,
-) -> Result<bool, ScriptFault> {
-    let world = worked(rt, alloc, text, 8)?;
-    Ok(is_lawful(alloc, law, world.journal())?)
+    out: &mut Out,
+) -> bool {
+    let world = worked(rt, text, 8, out);
+    let is_lawful = match &world {
+        Some(world) => is_lawful(law, world.journal(), out),
+        None => false,
+    };
+    drop(world);
+    is_lawful
 }
 
 // The world that so many workers leave of a script.
 fn worked<R: Threads + Wait + Sync>(
     rt: &R,
-    alloc: Global,
     text: &str,
     workers: u32,
-) -> Result<World<JcrLaw>, ScriptFault>
+    out: &mut Out,
+) -> Option<World<JcrLaw>>
     requires some { 1 ≤ workers }
     requires few { workers ≤ 16 }
 {
-    match script(alloc, text) {
-        Ok(script) => Ok(run_workers(rt, alloc, script, workers, &NoGate)?),
-        Err(fault) => Err(fault),
+    match script(out.alloc, text) {
+        Ok(script) => {
+            let world = run_workers(rt, out.alloc, script, workers, &NoGate);
+            out.got(world)
+        }
+        Err(fault) => {
+            put_fault(fault, out);
+            None
+        }
     }
 }
 
 // Whether each event of a journal may follow what is before it, and the law lets each reply be said
 // there.
-fn is_lawful(alloc: Global, law: &JcrLaw, journal: &Journal) -> Result<bool, AllocError> {
-    let mut before = before_all(alloc, journal)?;
-    for event in journal.events.as_slice() {
-        if !may_come(alloc, law, &before, event)? {
-            return Ok(false);
+fn is_lawful(law: &JcrLaw, journal: &Journal, out: &mut Out) -> bool {
+    match before_all(out.alloc, journal) {
+        Ok(before) => goes_on(law, before, journal, out),
+        Err(_) => {
+            out.is_broken = true;
+            false
         }
-        push_copy(&mut before, event)?;
     }
-    Ok(true)
 }
 
-fn may_come(
-    alloc: Global,
-    law: &JcrLaw,
-    before: &Journal,
-    event: &Event,
-) -> Result<bool, AllocError> {
+fn goes_on(law: &JcrLaw, before: Journal, journal: &Journal, out: &mut Out) -> bool {
+    let mut before = before;
+    let mut is_lawful = true;
+    for event in journal.events.as_slice() {
+        is_lawful = is_lawful && may_come(law, &before, event, out);
+        let pushed = push_copy(&mut before, event);
+        out.note(pushed);
+    }
+    drop(before);
+    is_lawful
+}
+
+fn may_come(law: &JcrLaw, before: &Journal, event: &Event, out: &mut Out) -> bool {
+    follows(before, event) && is_said(law, before, event, out)
+}
+
+fn is_said(law: &JcrLaw, before: &Journal, event: &Event, out: &mut Out) -> bool {
     match event {
-        _ if !follows(before, event) => Ok(false),
         Event::Said(session, index, text) => {
-            eval(alloc, law, before, *session, *index, text.as_str())
+            may_say(law, before, (*session, *index), text.as_str(), out)
         }
-        _ => Ok(true),
+        _ => true,
     }
 }

@@ -2,8 +2,7 @@
 #![tactic(auto)]
 
 use jr_io::{StdSink, StdSource};
-use jr_work::NoGate;
-use repo_top::{Status, repo_main};
+use repo_top::{NoGate, Status, repo_main};
 use std::alloc::AllocError;
 use std::env::Env;
 use std::process::ExitCode;

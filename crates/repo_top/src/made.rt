@@ -90,7 +90,8 @@ fn script_made(alloc: Global, seed: u64, sessions: u32) -> Result<Script, AllocE
     match read_script(alloc, text.as_bytes()) {
         Ok(script) => Ok(script),
         Err(ScriptFault::Memory) => Err(AllocError),
-        Err(ScriptFault::Bad { .. }) => {
+        Err(ScriptFault::Bad { pointer, .. }) => {
+            drop(pointer);
             generated_scripts_are_read();
             unreachable!()
         }

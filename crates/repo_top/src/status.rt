@@ -105,7 +105,9 @@ fn pointer_json(alloc: Global, pointer: &Text) -> Result<String, AllocError>
     ensures { IfOk result (λ text. string_bytes text ≡ compact_text (string pointer.now)) }
 {
     let json = Json::try_from_str(alloc, pointer.as_str())?;
-    Ok(json.to_string(alloc)?)
+    let text = json.to_string(alloc);
+    drop(json);
+    Ok(text?)
 }
 
 impl From<AllocError> for Unrun {

@@ -22,6 +22,7 @@ use jr_stage::run_steps;
 use jr_work::{Gate, run_workers};
 use oak_world::World;
 use std::alloc::{AllocError, Global};
+use std::mem;
 use std::sync::Wait;
 use std::thread::Threads;
 
@@ -238,14 +239,16 @@ fn replied<K: Sink>(
 fn leave_none(left: &mut Option<World<JcrLaw>>)
     ensures { IsNone left.new }
 {
-    *left = None;
+    let before = mem::replace(left, None);
+    drop(before);
 }
 
 // This world is left.
 pub(crate) fn leave(world: World<JcrLaw>, left: &mut Option<World<JcrLaw>>)
     ensures { left.new ≡ Some world }
 {
-    *left = Some(world);
+    let before = mem::replace(left, Some(world));
+    drop(before);
 }
 
 // Writes the line that says why no script is run and no text is printed; none where memory was

@@ -1,7 +1,7 @@
 // Edits: lists of writes ["here",P], ["gone",P], ["put",P,N,V], ["unset",P,N]; ["add",P] or
 // ["add",P,TYPE] is a node with its type, and ["remove",P] a node of a tree that goes with each of
 // its properties.
-use crate::json::{items_of, text_in};
+use crate::json::{items_of, text_at};
 use crate::out::Out;
 use jr_items::OwnName;
 use jr_path::{DeepCopy, List, Name, Path};
@@ -29,57 +29,34 @@ fn push_writes(
         return false;
     };
     for item in items {
-        if !push_write(writes, item, tree, out) {
+        if !push_write(writes, items_of(item).unwrap_or(&[]), tree, out) {
             return false;
         }
     }
     true
 }
 
-fn push_write(writes: &mut List<Write>, item: &Json, tree: &Tree, out: &mut Out) -> bool {
-    match items_of(item) {
-        Some([word, path, rest @ ..]) => push_at(
-            writes,
-            text_in(word),
-            text_in(path),
-            rest,
-            tree,
-            out,
-        ),
-        _ => false,
-    }
-}
-
-fn push_at(
-    writes: &mut List<Write>,
-    word: &str,
-    path: &str,
-    rest: &[Json],
-    tree: &Tree,
-    out: &mut Out,
-) -> bool {
-    match out.path(path) {
-        Some(path) => push_of(writes, word, &path, rest, tree.get(&path), out),
+fn push_write(writes: &mut List<Write>, item: &[Json], tree: &Tree, out: &mut Out) -> bool {
+    match out.path(text_at(item, 1)) {
+        Some(path) => push_of(writes, item, &path, tree.get(&path), out),
         None => false,
     }
 }
 
 fn push_of(
     writes: &mut List<Write>,
-    word: &str,
+    item: &[Json],
     path: &Path,
-    rest: &[Json],
     node: Option<&Node>,
     out: &mut Out,
 ) -> bool {
-    match (word, rest) {
-        ("here", []) => pushed(writes, here(path), out),
-        ("gone", []) => pushed(writes, gone(path), out),
-        ("add", []) => push_node(writes, path, "nt:unstructured", out),
-        ("add", [kind]) => push_node(writes, path, text_in(kind), out),
-        ("remove", []) => push_removal(writes, path, node, out),
-        ("put", [name, value]) => push_put(writes, path, text_in(name), value, out),
-        ("unset", [name]) => push_unset(writes, path, text_in(name), out),
+    match text_at(item, 0) {
+        "here" => pushed(writes, here(path), out),
+        "gone" => pushed(writes, gone(path), out),
+        "add" => push_node(writes, path, text_at(item, 2), out),
+        "remove" => push_removal(writes, path, node, out),
+        "put" => push_put(writes, path, item, out),
+        "unset" => push_unset(writes, path, text_at(item, 2), out),
         _ => false,
     }
 }
@@ -107,7 +84,13 @@ fn gone(path: &Path) -> Result<Write, AllocError> {
 }
 
 fn put(path: &Path, name: Name, property: Property) -> Result<Write, AllocError> {
-    Ok(Write::Put(path.copy()?, name, property))
+    match path.copy() {
+        Ok(path) => Ok(Write::Put(path, name, property)),
+        Err(error) => {
+            drop(property);
+            Err(error)
+        }
+    }
 }
 
 fn unset(path: &Path, name: Name) -> Result<Write, AllocError> {
@@ -119,6 +102,11 @@ fn push_node(writes: &mut List<Write>, path: &Path, kind: &str, out: &mut Out) -
 }
 
 fn push_type(writes: &mut List<Write>, path: &Path, kind: &str, out: &mut Out) -> bool {
+    let kind = if kind.is_empty() {
+        "nt:unstructured"
+    } else {
+        kind
+    };
     match out.name(kind) {
         Some(kind) => pushed(writes, typed(path, kind, out.alloc), out),
         None => false,
@@ -149,16 +137,40 @@ fn push_unsets(writes: &mut List<Write>, path: &Path, node: &Node, out: &mut Out
     true
 }
 
-fn push_put(
+fn push_put(writes: &mut List<Write>, path: &Path, item: &[Json], out: &mut Out) -> bool {
+    match item.get(3) {
+        Some(value) => push_value(writes, path, text_at(item, 2), value, out),
+        None => false,
+    }
+}
+
+fn push_value(
     writes: &mut List<Write>,
     path: &Path,
     name: &str,
     value: &Json,
     out: &mut Out,
 ) -> bool {
-    match (out.name(name), out.property(value)) {
-        (Some(name), Some(property)) => pushed(writes, put(path, name, property), out),
-        _ => false,
+    let property = out.property(value);
+    match out.name(name) {
+        Some(name) => push_some(writes, path, name, property, out),
+        None => {
+            drop(property);
+            false
+        }
+    }
+}
+
+fn push_some(
+    writes: &mut List<Write>,
+    path: &Path,
+    name: Name,
+    property: Option<Property>,
+    out: &mut Out,
+) -> bool {
+    match property {
+        Some(property) => pushed(writes, put(path, name, property), out),
+        None => false,
     }
 }
 

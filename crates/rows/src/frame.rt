@@ -16,27 +16,30 @@ pub fn answer_all<S: Source, K: Sink, R: Rows>(
     sink: &mut K,
     rows: &mut R,
 ) -> u8 {
-    let Ok(input) = read_all(alloc, source, 100_000_000) else {
-        return 3;
-    };
-    let out = answers(alloc, input.as_slice(), rows);
+    match read_all(alloc, source, 100_000_000) {
+        Ok(input) => answer(alloc, input.as_slice(), sink, rows),
+        Err(_) => 3,
+    }
+}
+
+fn answer<K: Sink, R: Rows>(alloc: Global, input: &[u8], sink: &mut K, rows: &mut R) -> u8 {
+    let mut out = Out::new(alloc);
+    add_lines(input, rows, &mut out);
+    written(sink, &out)
+}
+
+fn add_lines<R: Rows>(input: &[u8], rows: &mut R, out: &mut Out) {
+    for line in str::from_utf8(input).unwrap_or("").lines() {
+        rows.add(line, out);
+        out.put("\n");
+    }
+}
+
+fn written<K: Sink>(sink: &mut K, out: &Out) -> u8 {
     if out.is_broken {
         return 5;
     }
-    written(sink, out.text.as_bytes())
-}
-
-fn answers<R: Rows>(alloc: Global, input: &[u8], rows: &mut R) -> Out {
-    let mut out = Out::new(alloc);
-    for line in str::from_utf8(input).unwrap_or("").lines() {
-        rows.add(line, &mut out);
-        out.put("\n");
-    }
-    out
-}
-
-fn written<K: Sink>(sink: &mut K, bytes: &[u8]) -> u8 {
-    if write_all(sink, bytes).is_err() || sink.flush().is_err() {
+    if write_all(sink, out.text.as_bytes()).is_err() || sink.flush().is_err() {
         return 4;
     }
     0

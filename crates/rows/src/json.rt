@@ -23,6 +23,14 @@ pub fn text_in(json: &Json) -> &str {
     }
 }
 
+/// The text at a place of a list; the empty one where no text stands there.
+pub fn text_at(items: &[Json], at: usize) -> &str {
+    match items.get(at) {
+        Some(json) => text_in(json),
+        None => "",
+    }
+}
+
 pub fn large(json: &Json) -> u64 {
     json.as_u64().unwrap_or(0)
 }

@@ -10,6 +10,6 @@ mod texts;
 
 pub use edits::edit_of;
 pub use frame::{Rows, answer_all};
-pub use json::{items_in, items_of, large, small, text_in};
+pub use json::{items_in, items_of, large, small, text_at, text_in};
 pub use out::Out;
 pub use texts::{cut, number, revision, short, vector};

@@ -1,7 +1,7 @@
 // The text that is written.
-use jr_path::{DocId, Name, Path, PathFault};
+use jr_path::{DocId, List, Name, Path, PathFault};
 use jr_rev::{RevVec, Revision};
-use jr_value::{Property, ValueFault};
+use jr_value::{Property, Value, ValueFault};
 use serde_json::Value as Json;
 use std::alloc::{AllocError, Global};
 
@@ -109,6 +109,17 @@ impl Out {
         }
     }
 
+    /// Puts behind a list what takes memory.
+    pub fn push<T: Drop>(&mut self, list: &mut List<T>, made: Result<T, AllocError>) {
+        match made {
+            Ok(made) => {
+                let put = list.push(made);
+                self.note(put);
+            }
+            Err(_) => self.is_broken = true,
+        }
+    }
+
     /// The path that a text is; none where it is none.
     pub fn path(&mut self, text: &str) -> Option<Path> {
         match Path::parse(self.alloc, text) {
@@ -116,6 +127,17 @@ impl Out {
             Err(fault) => {
                 self.note_path(&fault);
                 None
+            }
+        }
+    }
+
+    /// The path that a text is; that of the root where it is none, and the row then can't be read.
+    pub fn path_or_root(&mut self, text: &str) -> Path {
+        match Path::parse(self.alloc, text) {
+            Ok(path) => path,
+            Err(_) => {
+                self.is_broken = true;
+                Path::root(self.alloc)
             }
         }
     }
@@ -157,6 +179,17 @@ impl Out {
             Err(fault) => {
                 self.note_value(&fault);
                 None
+            }
+        }
+    }
+
+    /// The property that JSON is; that of `false` where it is none, and the row then can't be read.
+    pub fn property_or_false(&mut self, json: &Json) -> Property {
+        match Property::from_json(self.alloc, json) {
+            Ok(property) => property,
+            Err(_) => {
+                self.is_broken = true;
+                Property::Single(Value::Boolean(false))
             }
         }
     }

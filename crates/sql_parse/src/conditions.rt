@@ -1,12 +1,12 @@
 // What is asked of a row.
 ghost use Rattle.std.specs.Prelude.{◌≡◌, ◌≤◌};
 ghost use Rattle.std.specs.Option.{option_map};
-ghost use Rattle.sql_parse.specs.Grammar.{and_with, filter_at, follows_name, grouped, negated, not_at, not_first, or_with, path_at, place_call, selector_before, test_at, tested};
+ghost use Rattle.sql_parse.specs.Grammar.{and_with, compared, filter_at, follows_name, grouped, negated, not_at, not_first, or_with, path_at, place_call, selector_before, test_at, tested};
 ghost use Rattle.sql_pieces.specs.Reading.{Reads, ReadsAs};
 ghost use Rattle.sql_parse.specs.Depths.{tested_in};
 ghost use Rattle.sql_parse.specs.Trees.{look_of, test_of};
 
-use crate::cursor::Cursor;
+use crate::cursor::{Cursor, both};
 use crate::depth::{Nested, and, not, or};
 use crate::names::only_or;
 use crate::operands::operator_first;
@@ -71,8 +71,20 @@ impl<'a> Cursor<'a> {
         self.sign(Sign::Open)?;
         let selector = self.selector_before(names)?;
         let path = self.path()?;
-        self.sign(Sign::Close)?;
+        let close = self.sign(Sign::Close);
+        let (path, ()) = both(path, close)?;
         Ok((selector, path))
+    }
+
+    // op static, behind an operand
+    fn compared(&mut self, operand: Operand) -> Result<Condition, SqlFault>
+        ensures { ReadsAs test_of result self.new (compared (look_of operand) self.old) }
+    {
+        let operator = self.operator();
+        let (operand, operator) = both(operand, operator)?;
+        let value = self.constant();
+        let (operand, value) = both(operand, value)?;
+        Ok(Condition::Compare(operand, operator, value))
     }
 
     // IS NOT NULL behind a property, or op static behind any operand
@@ -81,21 +93,15 @@ impl<'a> Cursor<'a> {
     {
         match operand {
             Operand::Property(property) => {
-                if self.is_word("IS") {
-                    self.advance();
-                    self.word("NOT")?;
-                    self.word("NULL")?;
-                    return Ok(Condition::Has(property));
+                if !self.is_word("IS") {
+                    return self.compared(Operand::Property(property));
                 }
-                let operator = self.operator()?;
-                let value = self.constant()?;
-                Ok(Condition::Compare(Operand::Property(property), operator, value))
+                self.advance();
+                self.word("NOT")?;
+                self.word("NULL")?;
+                Ok(Condition::Has(property))
             }
-            operand => {
-                let operator = self.operator()?;
-                let value = self.constant()?;
-                Ok(Condition::Compare(operand, operator, value))
-            }
+            operand => self.compared(operand),
         }
     }
 
@@ -156,7 +162,8 @@ impl<'a> Cursor<'a> {
     {
         self.advance();
         let nested = self.condition(alloc, names, room, level + 1)?;
-        self.sign(Sign::Close)?;
+        let close = self.sign(Sign::Close);
+        let (nested, ()) = both(nested, close)?;
         Ok(nested)
     }
 
@@ -212,8 +219,9 @@ impl<'a> Cursor<'a> {
             }
             turns = more;
             self.advance();
-            let right = self.negation(alloc, names, room, level)?;
-            left = and(alloc, left, right)?;
+            let right = self.negation(alloc, names, room, level);
+            let (first, right) = both(left, right)?;
+            left = and(alloc, first, right)?;
         }
         Ok(left)
     }
@@ -237,8 +245,9 @@ impl<'a> Cursor<'a> {
             }
             turns = more;
             self.advance();
-            let right = self.conjunction(alloc, names, room, level)?;
-            left = or(alloc, left, right)?;
+            let right = self.conjunction(alloc, names, room, level);
+            let (first, right) = both(left, right)?;
+            left = or(alloc, first, right)?;
         }
         Ok(left)
     }

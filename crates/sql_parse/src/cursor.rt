@@ -1,6 +1,6 @@
 // A place in the pieces of a query, and the reading of one piece.
 ghost use Rattle.std.specs.Prelude.{◌≡◌};
-ghost use Rattle.sql_pieces.specs.Reading.{Reads, after, call_first, name_at, place, sign_at, sign_first, word_at, word_first};
+ghost use Rattle.sql_pieces.specs.Reading.{Reads, after, call_first, name_at, paired, place, sign_at, sign_first, word_at, word_first};
 
 use jr_path::{DeepCopy, Name};
 use jr_value::Kind;
@@ -22,6 +22,16 @@ impl<'a> Model for Cursor<'a> {
     ghost Value = { State };
 
     ghost view = { λ c. record { pieces = c.pieces.now; stop = c.stop; refused = c.refused } };
+}
+
+// A value, and what a result has beside it.
+pub(crate) fn both<A: Drop, B>(value: A, outcome: Result<B, SqlFault>) -> Result<(A, B), SqlFault>
+    ensures { result ≡ paired value outcome }
+{
+    match outcome {
+        Ok(other) => Ok((value, other)),
+        Err(fault) => Err(fault),
+    }
 }
 
 impl<'a> Cursor<'a> {

@@ -1,5 +1,5 @@
 // How deep the parts of a condition stand inside one another.
-ghost use Rattle.std.specs.Prelude.{◌≡◌, ◌+◌, ◌≤◌, max, IfOk};
+ghost use Rattle.std.specs.Prelude.{◌≡◌, ◌+◌, ◌≤◌, max, IfOk, Ok};
 ghost use Rattle.sql_parse.specs.Depths.{tested_in};
 ghost use Rattle.sql_parse.specs.Trees as tree;
 
@@ -25,6 +25,23 @@ fn around(first: usize, second: usize) -> Result<usize, AllocError>
     Ok(deeper + 1)
 }
 
+// Two values, each in a box, and the depth around them, where it has memory.
+fn boxed<T: Drop>(
+    alloc: Global,
+    first: T,
+    second: T,
+    depth: Result<usize, AllocError>,
+) -> Result<(Box<T>, Box<T>, usize), AllocError>
+    ensures first { IfOk result (λ boxed. boxed.0.value ≡ first) }
+    ensures second { IfOk result (λ boxed. boxed.1.value ≡ second) }
+    ensures depth { IfOk result (λ boxed. depth ≡ Ok boxed.2) }
+{
+    let depth = depth?;
+    let first = Box::new(alloc, first)?;
+    let second = Box::new(alloc, second)?;
+    Ok((first, second, depth))
+}
+
 pub(crate) fn not(alloc: Global, inner: Nested) -> Result<Nested, AllocError>
     ensures { IfOk result (λ n. tested_in n ≡ tree.Not (tested_in inner)) }
 {
@@ -39,9 +56,8 @@ pub(crate) fn not(alloc: Global, inner: Nested) -> Result<Nested, AllocError>
 pub(crate) fn and(alloc: Global, left: Nested, right: Nested) -> Result<Nested, AllocError>
     ensures { IfOk result (λ n. tested_in n ≡ tree.And (tested_in left) (tested_in right)) }
 {
-    let depth = around(left.depth, right.depth)?;
-    let left = Box::new(alloc, left.condition)?;
-    let right = Box::new(alloc, right.condition)?;
+    let depth = around(left.depth, right.depth);
+    let (left, right, depth) = boxed(alloc, left.condition, right.condition, depth)?;
     Ok(Nested {
         condition: Condition::And(left, right),
         depth,
@@ -51,9 +67,8 @@ pub(crate) fn and(alloc: Global, left: Nested, right: Nested) -> Result<Nested, 
 pub(crate) fn or(alloc: Global, left: Nested, right: Nested) -> Result<Nested, AllocError>
     ensures { IfOk result (λ n. tested_in n ≡ tree.Or (tested_in left) (tested_in right)) }
 {
-    let depth = around(left.depth, right.depth)?;
-    let left = Box::new(alloc, left.condition)?;
-    let right = Box::new(alloc, right.condition)?;
+    let depth = around(left.depth, right.depth);
+    let (left, right, depth) = boxed(alloc, left.condition, right.condition, depth)?;
     Ok(Nested {
         condition: Condition::Or(left, right),
         depth,

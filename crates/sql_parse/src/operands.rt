@@ -1,10 +1,10 @@
 // Operands and values.
-ghost use Rattle.std.specs.Prelude.{◌≡◌};
-ghost use Rattle.sql_parse.specs.Grammar.{cast_at, first_kind, kind_at, literal_at, operand_at, operator_at, operator_first, operator_in, plain_operand, property_call, selector_call, static_at, text_at};
+ghost use Rattle.std.specs.Prelude.{◌≡◌, ◌≤◌};
+ghost use Rattle.sql_parse.specs.Grammar.{cast_at, cast_value, first_kind, kind_at, literal_at, operand_at, operand_call, operator_at, operator_first, operator_in, plain_operand, property_call, selector_call, static_at, text_at};
 ghost use Rattle.sql_pieces.specs.Reading.{Reads, ReadsAs};
 ghost use Rattle.sql_parse.specs.Trees.{look_of};
 
-use crate::cursor::Cursor;
+use crate::cursor::{Cursor, both};
 use crate::names::only_or;
 use crate::{DEEPEST, Operand, Operator, PropertyOf};
 use jr_path::{Name, Text};
@@ -60,7 +60,8 @@ impl<'a> Cursor<'a> {
         self.advance();
         self.sign(Sign::Open)?;
         let property = self.property(names)?;
-        self.sign(Sign::Close)?;
+        let close = self.sign(Sign::Close);
+        let (property, ()) = both(property, close)?;
         Ok(property)
     }
 
@@ -100,9 +101,30 @@ impl<'a> Cursor<'a> {
         Ok(Operand::Property(property))
     }
 
+    // ( operand ), behind a function's word
+    #[cycle(operand)]
+    fn operand_call(
+        &mut self,
+        alloc: Global,
+        names: &[Name],
+        room: &[Placed],
+        level: usize,
+    ) -> Result<Operand, SqlFault>
+        requires { level ≤ DEEPEST }
+        ensures { ReadsAs look_of result self.new (operand_call (operand_at names.now room.now) self.old) }
+    {
+        self.advance();
+        self.sign(Sign::Open)?;
+        let operand = self.operand(alloc, names, room, level + 1)?;
+        let close = self.sign(Sign::Close);
+        let (operand, ()) = both(operand, close)?;
+        Ok(operand)
+    }
+
     // operand = property | LENGTH(property) | NAME([name]) | LOCALNAME([name]) | LOWER(operand) | UPPER(operand).
     // No more operands stand inside one another than `room` has pieces; this stands inside so many as `level` says, and
     // no more than DEEPEST have memory.
+    #[cycle(operand)]
     pub(crate) fn operand(
         &mut self,
         alloc: Global,
@@ -119,18 +141,12 @@ impl<'a> Cursor<'a> {
             return Err(SqlFault::Memory);
         }
         if self.is_call("LOWER") {
-            self.advance();
-            self.sign(Sign::Open)?;
-            let operand = self.operand(alloc, names, room, level + 1)?;
-            self.sign(Sign::Close)?;
+            let operand = self.operand_call(alloc, names, room, level)?;
             let operand = Box::new(alloc, operand)?;
             return Ok(Operand::Lower(operand));
         }
         if self.is_call("UPPER") {
-            self.advance();
-            self.sign(Sign::Open)?;
-            let operand = self.operand(alloc, names, room, level + 1)?;
-            self.sign(Sign::Close)?;
+            let operand = self.operand_call(alloc, names, room, level)?;
             let operand = Box::new(alloc, operand)?;
             return Ok(Operand::Upper(operand));
         }
@@ -182,23 +198,33 @@ impl<'a> Cursor<'a> {
         Ok(kind)
     }
 
-    // CAST(text AS kind). Where the text has no value of the kind, the kind is noted, and the text stands for it.
+    // The value of a CAST. Where the text has no value of the kind, the kind is noted, and the text stands for it.
+    fn cast_value(&mut self, kind: Kind, text: Text, value: Option<Value>) -> Value
+        ensures { (result, self.new) ≡ cast_value kind (text, value) self.old }
+    {
+        match value {
+            Some(value) => value,
+            None => {
+                self.refused = first_kind(self.refused, kind);
+                Value::Str(text)
+            }
+        }
+    }
+
+    // CAST(text AS kind)
     fn cast(&mut self) -> Result<Value, SqlFault>
         ensures { Reads result self.new (cast_at self.old) }
     {
         self.advance();
         self.sign(Sign::Open)?;
-        let (text, value) = self.text()?;
-        self.word("AS")?;
-        let kind = self.kind()?;
-        self.sign(Sign::Close)?;
-        match value {
-            Some(value) => Ok(value),
-            None => {
-                self.refused = first_kind(self.refused, kind);
-                Ok(Value::Str(text))
-            }
-        }
+        let text = self.text()?;
+        let word = self.word("AS");
+        let (text, ()) = both(text, word)?;
+        let kind = self.kind();
+        let (text, kind) = both(text, kind)?;
+        let close = self.sign(Sign::Close);
+        let ((text, value), ()) = both(text, close)?;
+        Ok(self.cast_value(kind, text, value))
     }
 
     // static = text | number | TRUE | FALSE | $name | CAST(text AS kind)

@@ -1,10 +1,12 @@
 // A query from its text.
-ghost use Rattle.std.specs.Prelude.{◌≡◌, length};
+ghost use Rattle.std.specs.Prelude.{◌≡◌, Err, None, Ok, Some, length};
+ghost use Rattle.jr_value.specs.declared.value.Kind.{Kind};
+ghost use Rattle.jr_value.specs.declared.value.Kind.TheVariants.{Str};
 ghost use Rattle.sql_parse.specs.Grammar.{IsAnswer, IsParsed, end_at, froms_at, is_whole, no_pieces, query_at, rest_at, selected_at, whole_at};
-ghost use Rattle.sql_pieces.specs.Reading.{Gives, Reads, ReadsAs, paired};
+ghost use Rattle.sql_pieces.specs.Reading.{Gives, Reads, ReadsAs};
 ghost use Rattle.sql_parse.specs.Trees.{asked_of, rest_of};
 
-use crate::cursor::Cursor;
+use crate::cursor::{Cursor, both};
 use crate::sources::Sources;
 use crate::{Column, Condition, Order, Query};
 use jr_path::{List, Name};
@@ -123,13 +125,14 @@ impl<'a> Cursor<'a> {
     }
 }
 
-// A value, and what a result has beside it.
-fn both<A: Drop, B>(value: A, outcome: Result<B, SqlFault>) -> Result<(A, B), SqlFault>
-    ensures { result ≡ paired value outcome }
+// The query, unless the text of a CAST had no value of this kind.
+fn answer(query: Query, refused: Option<Kind>) -> Result<Query, SqlFault>
+    ensures none { refused ≡ None → result ≡ Ok query }
+    ensures some { (kind : Kind) → refused ≡ Some kind → result ≡ Err (SqlFault.Cast kind Str) }
 {
-    match outcome {
-        Ok(other) => Ok((value, other)),
-        Err(fault) => Err(fault),
+    match refused {
+        Some(kind) => Err(SqlFault::Cast(kind, Kind::Str)),
+        None => Ok(query),
     }
 }
 
@@ -143,10 +146,7 @@ fn query_of(alloc: Global, pieces: &[Placed], stop: usize) -> Result<Query, SqlF
         refused: None,
     };
     let query = cursor.query(alloc)?;
-    match cursor.refused() {
-        Some(kind) => Err(SqlFault::Cast(kind, Kind::Str)),
-        None => Ok(query),
-    }
+    answer(query, cursor.refused())
 }
 
 /// Reads a query of JCR-SQL2 (JSR 283, 6.7): `SELECT columns FROM selector {join} [WHERE condition] [ORDER BY orders]`,

@@ -1,7 +1,7 @@
 // The selectors of a query and their joins.
 ghost use Rattle.std.specs.Prelude.{◌≡◌, IfOk};
-ghost use Rattle.sql_parse.specs.Grammar.{join_at, join_first, join_kind_at, no_bare, on_at, pair_at, selector_at, source_at, sources_at};
-ghost use Rattle.sql_pieces.specs.Reading.{Gives, Reads};
+ghost use Rattle.sql_parse.specs.Grammar.{join_at, join_first, join_kind_at, no_bare, on_at, outer_join, pair_at, selector_at, source_at, sources_at};
+ghost use Rattle.sql_pieces.specs.Reading.{Gives, Reads, ReadsAs};
 
 use crate::cursor::Cursor;
 use crate::{Join, JoinKind, On};
@@ -59,6 +59,15 @@ impl<'a> Cursor<'a> {
         Ok((kind, name))
     }
 
+    // OUTER JOIN
+    fn outer_join(&mut self, kind: JoinKind) -> Result<JoinKind, SqlFault>
+        ensures { Reads result self.new (outer_join kind self.old) }
+    {
+        self.word("OUTER")?;
+        self.word("JOIN")?;
+        Ok(kind)
+    }
+
     // [INNER | LEFT OUTER | RIGHT OUTER] JOIN
     fn join_kind(&mut self) -> Result<JoinKind, SqlFault>
         ensures { Reads result self.new (join_kind_at self.old) }
@@ -74,14 +83,10 @@ impl<'a> Cursor<'a> {
         }
         if self.is_word("LEFT") {
             self.advance();
-            self.word("OUTER")?;
-            self.word("JOIN")?;
-            return Ok(JoinKind::LeftOuter);
+            return self.outer_join(JoinKind::LeftOuter);
         }
         self.advance();
-        self.word("OUTER")?;
-        self.word("JOIN")?;
-        Ok(JoinKind::RightOuter)
+        self.outer_join(JoinKind::RightOuter)
     }
 
     // ( name , name ), behind a function's word
@@ -120,27 +125,18 @@ impl<'a> Cursor<'a> {
     }
 
     // join = [INNER | LEFT OUTER | RIGHT OUTER] JOIN selector ON on
-    fn join(&mut self, bare: Option<usize>, sources: Sources) -> Result<Sources, SqlFault>
-        ensures { Reads result self.new (join_at bare sources self.old) }
+    fn join(&mut self, bare: Option<usize>, sources: &mut Sources) -> Result<(), SqlFault>
+        ensures { ReadsAs (λ _. sources.new) result self.new (join_at bare sources.old self.old) }
     {
         let kind = self.join_kind()?;
         let (node_type, name) = self.selector()?;
         no_bare(bare)?;
         self.word("ON")?;
-        let Sources {
-            mut types,
-            mut names,
-            mut joins,
-        } = sources;
-        types.push(node_type)?;
-        names.push(name)?;
-        let on = self.on(names.as_slice())?;
-        joins.push(Join { kind, on })?;
-        Ok(Sources {
-            types,
-            names,
-            joins,
-        })
+        sources.types.push(node_type)?;
+        sources.names.push(name)?;
+        let on = self.on(sources.names.as_slice())?;
+        sources.joins.push(Join { kind, on })?;
+        Ok(())
     }
 
     // The sources of a query with one selector.
@@ -174,7 +170,7 @@ impl<'a> Cursor<'a> {
                 break;
             }
             turns = more;
-            sources = self.join(bare, sources)?;
+            self.join(bare, &mut sources)?;
         }
         Ok(sources)
     }

@@ -99,10 +99,7 @@ fn put_hit(other: Revision, r: Revision, item: &Item, out: &mut Out) {
 // ` PATH`, or ` PATH NAME`
 pub(crate) fn put_item(item: &Item, out: &mut Out) {
     out.put(" ");
-    match item.path.text() {
-        Ok(text) => out.put(text.as_str()),
-        Err(_) => out.is_broken = true,
-    }
+    out.put_path(&item.path);
     if let Some(name) = &item.name {
         out.put(" ");
         out.put(name.as_str());

@@ -1,6 +1,6 @@
 // Background writes, background reads and sweeps.
 use crate::replies::{Row, STEPS, begin, reply_to};
-use crate::texts::{cut, path};
+use crate::texts::{cut, push};
 use jr_path::List;
 use jr_rev::RevVec;
 use oak_node::Pending;
@@ -8,7 +8,6 @@ use oak_store::DocTable;
 use oak_sweep::Sweeper;
 use oak_sync::{BackRead, BackWrite};
 use rows::{Out, revision, short};
-use std::alloc::AllocError;
 use std::mem;
 
 // REVISION PATH ..: the pending paths are published up to the revision.
@@ -22,11 +21,8 @@ pub(crate) fn add_write(row: &Row<'_>, table: &mut DocTable, out: &mut Out) {
 fn pending(text: &str, out: &mut Out) -> Pending {
     let (upto, words) = cut(text, ' ');
     let mut paths = List::new(out.alloc);
-    for word in words.split(' ') {
-        if !word.is_empty() {
-            let put = paths.push(path(word, out));
-            out.note(put);
-        }
+    for word in words.split_whitespace() {
+        push(out.path_or_root(word), &mut paths, out);
     }
     Pending {
         paths,
@@ -38,8 +34,7 @@ fn run_write(row: &Row<'_>, write: BackWrite, table: &mut DocTable, out: &mut Ou
     let mut write = write;
     for step in 1..STEPS {
         if !write.is_done() {
-            let made = write_step(row, step, &mut write, table, out);
-            out.note(made);
+            write_step(row, step, &mut write, table, out);
         }
     }
     end_write(write, out);
@@ -51,10 +46,11 @@ fn write_step(
     write: &mut BackWrite,
     table: &mut DocTable,
     out: &mut Out,
-) -> Result<(), AllocError> {
+) {
     begin(row, step, sync_word(write.stage()), table, out);
-    let ask = write.next()?;
-    write.feed(reply_to(row, ask, table, out))
+    let reply = reply_to(row, write.next(), table, out);
+    let fed = write.feed(reply);
+    out.note(fed);
 }
 
 fn sync_word(stage: oak_sync::Stage) -> &'static str {
@@ -87,23 +83,17 @@ fn run_read(row: &Row<'_>, read: BackRead, table: &mut DocTable, out: &mut Out) 
     let mut read = read;
     for step in 1..STEPS {
         if !read.is_done() {
-            let made = read_step(row, step, &mut read, table, out);
-            out.note(made);
+            read_step(row, step, &mut read, table, out);
         }
     }
     end_read(read, out);
 }
 
-fn read_step(
-    row: &Row<'_>,
-    step: u64,
-    read: &mut BackRead,
-    table: &mut DocTable,
-    out: &mut Out,
-) -> Result<(), AllocError> {
+fn read_step(row: &Row<'_>, step: u64, read: &mut BackRead, table: &mut DocTable, out: &mut Out) {
     begin(row, step, sync_word(read.stage()), table, out);
-    let ask = read.next()?;
-    read.feed(reply_to(row, ask, table, out))
+    let reply = reply_to(row, read.next(), table, out);
+    let fed = read.feed(reply);
+    out.note(fed);
 }
 
 fn end_read(read: BackRead, out: &mut Out) {
@@ -130,8 +120,7 @@ fn run_sweep(row: &Row<'_>, sweeper: Sweeper, table: &mut DocTable, out: &mut Ou
     let mut sweeper = sweeper;
     for step in 1..STEPS {
         if !sweeper.is_done() {
-            let made = sweep_step(row, step, &mut sweeper, table, out);
-            out.note(made);
+            sweep_step(row, step, &mut sweeper, table, out);
         }
     }
     end_sweep(sweeper, out);
@@ -143,10 +132,11 @@ fn sweep_step(
     sweeper: &mut Sweeper,
     table: &mut DocTable,
     out: &mut Out,
-) -> Result<(), AllocError> {
+) {
     begin(row, step, sweep_word(sweeper.stage()), table, out);
-    let ask = sweeper.next()?;
-    sweeper.feed(reply_to(row, ask, table, out))
+    let reply = reply_to(row, sweeper.next(), table, out);
+    let fed = sweeper.feed(reply);
+    out.note(fed);
 }
 
 fn sweep_word(stage: oak_sweep::Stage) -> &'static str {

@@ -1,13 +1,12 @@
 // Changes of documents, as rows have them: WORD@KEY=VALUE, of which a part may be left out.
 use crate::replies::word_of;
-use crate::texts::{cut, id, pin};
-use jr_path::{DocId, Item, List, Name, Path, Text};
+use crate::texts::{cut, id, name, pin, push, text_of};
+use jr_path::{DocId, Item, List};
 use jr_rev::Revision;
 use jr_value::{Property, Value};
 use oak_doc::{Change, Document, PrevEntry, UpdateOp};
 use oak_store::DocTable;
 use rows::{Out, number, revision, short};
-use std::alloc::AllocError;
 
 // ID CHANGE ..; ID CHANGE ..: each is made, in this order, in a document that is made where there
 // is none.
@@ -28,18 +27,18 @@ pub(crate) fn make_at(text: &str, step: u64, table: &mut DocTable, out: &mut Out
 }
 
 // ID CHANGE .., or `drop ID`, which removes the document.
-fn make(text: &str, table: &mut DocTable, out: &mut Out) {
+pub(crate) fn make(text: &str, table: &mut DocTable, out: &mut Out) {
     let (word, rest) = cut(text, ' ');
     match word {
         "" => {}
-        "drop" => remove(&id(rest, out), table),
-        _ => update(word, rest, table, out),
+        "drop" => remove(id(rest, out), table),
+        _ => update(op(id(word, out), rest, out), table, out),
     }
 }
 
-fn remove(id: &DocId, table: &mut DocTable) {
-    let number = number_of(table.find(id));
-    table.remove_if(id, number);
+fn remove(id: DocId, table: &mut DocTable) {
+    let number = number_of(table.find(&id));
+    table.remove_if(&id, number);
 }
 
 fn number_of(document: Option<&Document>) -> u64 {
@@ -49,25 +48,26 @@ fn number_of(document: Option<&Document>) -> u64 {
     }
 }
 
-fn update(document: &str, words: &str, table: &mut DocTable, out: &mut Out) {
-    let op = UpdateOp {
-        id: id(document, out),
+fn op(id: DocId, words: &str, out: &mut Out) -> UpdateOp {
+    UpdateOp {
+        id,
         create: true,
         cond: None,
         changes: changes(words, out),
-    };
+    }
+}
+
+fn update(op: UpdateOp, table: &mut DocTable, out: &mut Out) {
     if word_of(&op, table) != " made" {
         out.is_broken = true;
     }
+    drop(op);
 }
 
 fn changes(words: &str, out: &mut Out) -> List<Change> {
     let mut changes = List::new(out.alloc);
-    for word in words.split(' ') {
-        if !word.is_empty() {
-            let put = changes.push(change(word, out));
-            out.note(put);
-        }
+    for word in words.split_whitespace() {
+        push(change(word, out), &mut changes, out);
     }
     changes
 }
@@ -75,29 +75,37 @@ fn changes(words: &str, out: &mut Out) -> List<Change> {
 fn change(text: &str, out: &mut Out) -> Change {
     let (word, rest) = cut(text, '@');
     let (key, value) = cut(rest, '=');
-    let r = revision(key);
+    match word {
+        "hit" => collision(revision(key), revision(value), "/", out),
+        "list" => listed(number(key), value),
+        "checkpoint" => Change::Checkpoint(text_of(key, out), pin(value)),
+        "reader" => Change::Attach(short(key), text_of(value, out)),
+        _ => simple(word, revision(key), value, out),
+    }
+}
+
+// A change of a revision; the word is the name of a property where it is none for a change.
+pub(crate) fn simple(word: &str, r: Revision, value: &str, out: &mut Out) -> Change {
     match word {
         "here" => Change::Deleted(r, false),
         "gone" => Change::Deleted(r, true),
         "root" => Change::CommitRoot(r, short(value)),
-        "rev" => Change::Revisions(r),
-        "hit" => hit(r, value, out),
-        "touch" => Change::Touched(r),
+        "rev" | "committed" => Change::Revisions(r),
+        "touch" | "touched" => Change::Touched(r),
         "guard" => Change::Guard(r),
         "last" => Change::LastRev(r),
-        "swept" => Change::SweepRev(r),
-        "list" => listed(number(key), value),
-        _ => large_change(word, key, value, out),
+        "swept" | "sweep" => Change::SweepRev(r),
+        _ => put(word, r, value, out),
     }
 }
 
-// The collision with another revision, in the root.
-fn hit(r: Revision, other: &str, out: &Out) -> Change {
+// The collision of a revision with another one, in a node.
+pub(crate) fn collision(r: Revision, other: Revision, at: &str, out: &mut Out) -> Change {
     let item = Item {
-        path: Path::root(out.alloc),
+        path: out.path_or_root(at),
         name: None,
     };
-    Change::Collision(r, revision(other), item)
+    Change::Collision(r, other, item)
 }
 
 // HIGH,LOW
@@ -110,32 +118,11 @@ fn listed(number: u64, text: &str) -> Change {
     })
 }
 
-fn large_change(word: &str, key: &str, value: &str, out: &mut Out) -> Change {
-    match word {
-        "checkpoint" => Change::Checkpoint(text(Text::copy_of(out.alloc, key), out), pin(value)),
-        "reader" => Change::Attach(short(key), text(Text::copy_of(out.alloc, value), out)),
-        _ => put(word, revision(key), value, out),
-    }
-}
-
-fn text(copied: Result<Text, AllocError>, out: &mut Out) -> Text {
-    match copied {
-        Ok(text) => text,
-        Err(_) => {
-            out.is_broken = true;
-            Text::new(out.alloc)
-        }
-    }
-}
-
 // The value of a property.
-fn put(name: &str, r: Revision, value: &str, out: &mut Out) -> Change {
-    match Name::parse(out.alloc, name) {
-        Ok(name) => Change::Prop(name, r, property(value)),
-        Err(_) => {
-            out.is_broken = true;
-            Change::Undo(r)
-        }
+pub(crate) fn put(text: &str, r: Revision, value: &str, out: &mut Out) -> Change {
+    match name(text, out) {
+        Some(name) => Change::Prop(name, r, property(value)),
+        None => Change::Undo(r),
     }
 }
 

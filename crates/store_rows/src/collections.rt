@@ -1,12 +1,12 @@
 // Collections.
 use crate::replies::{Row, STEPS, begin, reply_to};
 use crate::texts::cut;
+use jr_path::DocId;
 use jr_rev::Pin;
 use oak_doc::Collected;
 use oak_gc::{Collector, Stage};
 use oak_store::DocTable;
 use rows::{Out, short};
-use std::alloc::AllocError;
 use std::mem;
 
 // COUNT NODE ..: the cluster nodes, from 1 on; each has HEAD/SWEEP and then `+` before each pin, or
@@ -23,8 +23,7 @@ fn run(row: &Row<'_>, collector: Collector, table: &mut DocTable, out: &mut Out)
     let mut collector = collector;
     for step in 1..STEPS {
         if !collector.is_done() {
-            let made = make_step(row, step, &mut collector, table, out);
-            out.note(made);
+            make_step(row, step, &mut collector, table, out);
         }
     }
     put_bound(&collector.bound(), out);
@@ -37,10 +36,11 @@ fn make_step(
     collector: &mut Collector,
     table: &mut DocTable,
     out: &mut Out,
-) -> Result<(), AllocError> {
+) {
     begin(row, step, word(collector.stage()), table, out);
-    let ask = collector.next()?;
-    collector.feed(reply_to(row, ask, table, out))
+    let reply = reply_to(row, collector.next(), table, out);
+    let fed = collector.feed(reply);
+    out.note(fed);
 }
 
 fn word(stage: Stage) -> &'static str {
@@ -54,7 +54,7 @@ fn word(stage: Stage) -> &'static str {
 
 fn end(collector: Collector, out: &mut Out) {
     if collector.is_done() {
-        put_end(&collector.end(), out);
+        put_end(collector.end(), out);
     } else {
         mem::forget(collector);
     }
@@ -64,12 +64,17 @@ fn put_bound(bound: &Pin, out: &mut Out) {
     out.put_pin("end bound ", &bound.base, &bound.sweep);
 }
 
-fn put_end(collected: &Collected, out: &mut Out) {
+fn put_end(collected: Collected, out: &mut Out) {
     out.put_numbered(" entries ", collected.entries);
     out.put_numbered(" documents ", collected.documents);
     for (id, read, found) in collected.skipped.inner() {
-        out.put_id(" skipped ", id);
-        out.put_numbered(" ", *read);
-        out.put_numbered(" ", *found);
+        put_skipped(id, *read, *found, out);
     }
+    drop(collected);
+}
+
+fn put_skipped(id: &DocId, read: u64, found: u64, out: &mut Out) {
+    out.put_id(" skipped ", id);
+    out.put_numbered(" ", read);
+    out.put_numbered(" ", found);
 }

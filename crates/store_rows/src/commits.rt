@@ -5,8 +5,8 @@ ghost use Rattle.oak_doc.specs.declared.asks.Ask.TheVariants as ask;
 
 use crate::asks::put_item;
 use crate::replies::{Row, STEPS, begin, reply_to};
-use crate::texts::{cut, path};
-use jr_path::{DocId, List, Name, Path};
+use crate::texts::{cut, name, push};
+use jr_path::{DocId, Item, List, Name, Path};
 use jr_rev::Revision;
 use jr_tree::{Edit, Write};
 use jr_value::{Property, Value};
@@ -21,19 +21,18 @@ use std::mem;
 // REVISION BASE WORD ..: a commit of the revision with writes and marks. A word is WORD@PATH or
 // WORD@PATH=NAME; each value that is put is 5.
 pub(crate) fn add(row: &Row<'_>, table: &mut DocTable, out: &mut Out) {
-    let (r, rest) = cut(row.arguments, ' ');
-    let (base, words) = cut(rest, ' ');
-    let edit = edit(words, out);
-    match Committer::new(
-        out.alloc,
-        revision(r),
-        &vector(base),
-        edit,
-        marks(words, out),
-    ) {
+    match begun(row.arguments, out) {
         Ok(committer) => run(row, committer, table, out),
         Err(_) => out.is_broken = true,
     }
+}
+
+pub(crate) fn begun(text: &str, out: &mut Out) -> Result<Committer, AllocError> {
+    let (r, rest) = cut(text, ' ');
+    let (base, words) = cut(rest, ' ');
+    let edit = edit(words, out);
+    let marks = marks(words, out);
+    Committer::new(out.alloc, revision(r), &vector(base), edit, marks)
 }
 
 fn edit(words: &str, out: &mut Out) -> Edit {
@@ -47,37 +46,27 @@ fn edit(words: &str, out: &mut Out) -> Edit {
 fn push_write(text: &str, writes: &mut List<Write>, out: &mut Out) {
     let (word, rest) = cut(text, '@');
     let (at, name) = cut(rest, '=');
-    let put = match word {
-        "here" => writes.push(Write::Here(path(at, out))),
-        "gone" => writes.push(Write::Gone(path(at, out))),
-        "put" => put_write(path(at, out), name, writes, out),
-        "unset" => put_unset(path(at, out), name, writes, out),
-        _ => Ok(()),
-    };
-    out.note(put);
-}
-
-fn put_write(
-    at: Path,
-    name: &str,
-    writes: &mut List<Write>,
-    out: &mut Out,
-) -> Result<(), AllocError> {
-    match Name::parse(out.alloc, name) {
-        Ok(name) => writes.push(Write::Put(at, name, Property::Single(Value::Long(5)))),
-        Err(_) => Err(AllocError),
+    match word {
+        "here" => push(Write::Here(out.path_or_root(at)), writes, out),
+        "gone" => push(Write::Gone(out.path_or_root(at)), writes, out),
+        "put" => push_named(at, name, true, writes, out),
+        "unset" => push_named(at, name, false, writes, out),
+        _ => {}
     }
 }
 
-fn put_unset(
-    at: Path,
-    name: &str,
-    writes: &mut List<Write>,
-    out: &mut Out,
-) -> Result<(), AllocError> {
-    match Name::parse(out.alloc, name) {
-        Ok(name) => writes.push(Write::Unset(at, name)),
-        Err(_) => Err(AllocError),
+// A write of a property, which is put or unset.
+fn push_named(at: &str, text: &str, is_put: bool, writes: &mut List<Write>, out: &mut Out) {
+    if let Some(name) = name(text, out) {
+        push(write(out.path_or_root(at), name, is_put), writes, out);
+    }
+}
+
+fn write(at: Path, name: Name, is_put: bool) -> Write {
+    if is_put {
+        Write::Put(at, name, Property::Single(Value::Long(5)))
+    } else {
+        Write::Unset(at, name)
     }
 }
 
@@ -93,26 +82,18 @@ fn push_mark(text: &str, marks: &mut List<MarkAt>, out: &mut Out) {
     let (word, rest) = cut(text, '@');
     let (at, name) = cut(rest, '=');
     if let Some(mark) = mark(word, name, out) {
-        let path = path(at, out);
-        let put = marks.push(MarkAt { path, mark });
-        out.note(put);
+        let path = out.path_or_root(at);
+        push(MarkAt { path, mark }, marks, out);
     }
 }
 
-fn mark(word: &str, name: &str, out: &Out) -> Option<Mark> {
+fn mark(word: &str, text: &str, out: &mut Out) -> Option<Mark> {
     match word {
         "exists" => Some(Mark::Exists),
         "guard" => Some(Mark::Guard),
         "touch" => Some(Mark::Touch),
-        "prop" => mark_of_property(name, out),
+        "prop" => name(text, out).map(Mark::Prop),
         _ => None,
-    }
-}
-
-fn mark_of_property(name: &str, out: &Out) -> Option<Mark> {
-    match Name::parse(out.alloc, name) {
-        Ok(name) => Some(Mark::Prop(name)),
-        Err(_) => None,
     }
 }
 
@@ -120,8 +101,7 @@ fn run(row: &Row<'_>, committer: Committer, table: &mut DocTable, out: &mut Out)
     let mut committer = committer;
     for step in 1..STEPS {
         if committer.stage() != Stage::Done {
-            let made = make_step(row, step, &mut committer, table, out);
-            out.note(made);
+            make_step(row, step, &mut committer, table, out);
         }
     }
     end(committer, out);
@@ -133,21 +113,17 @@ fn make_step(
     committer: &mut Committer,
     table: &mut DocTable,
     out: &mut Out,
-) -> Result<(), AllocError> {
+) {
     begin(row, step, word(committer.stage()), table, out);
-    let reply = reply(row, committer, table, out)?;
-    committer.feed(reply)
+    let reply = reply(row, committer, table, out);
+    let fed = committer.feed(reply);
+    out.note(fed);
 }
 
-fn reply(
-    row: &Row<'_>,
-    committer: &Committer,
-    table: &mut DocTable,
-    out: &mut Out,
-) -> Result<Reply, AllocError> {
-    match committer.next()? {
-        Ask::Undo(r) => Ok(undone(committer.undo_id(), r, table, out)),
-        ask => Ok(reply_to(row, ask, table, out)),
+fn reply(row: &Row<'_>, committer: &Committer, table: &mut DocTable, out: &mut Out) -> Reply {
+    match committer.next() {
+        Ok(Ask::Undo(r)) => undone(committer.undo_id(), r, table, out),
+        ask => reply_to(row, ask, table, out),
     }
 }
 
@@ -172,7 +148,7 @@ fn word(stage: Stage) -> &'static str {
 
 fn end(committer: Committer, out: &mut Out) {
     if is_done(&committer) {
-        put_end(&committer.end(), out);
+        put_end(committer.end(), out);
     } else {
         mem::forget(committer);
     }
@@ -181,17 +157,23 @@ fn end(committer: Committer, out: &mut Out) {
 pub(crate) fn is_done(committer: &Committer) -> bool
     ensures { IsTrue result → due_of committer.now ≡ ask.Done }
 {
-    matches!(committer.next(), Ok(Ask::Done))
+    let ask = committer.next();
+    let is_done = matches!(ask, Ok(Ask::Done));
+    drop(ask);
+    is_done
 }
 
-fn put_end(end: &CommitEnd, out: &mut Out) {
-    match end {
+fn put_end(end: CommitEnd, out: &mut Out) {
+    match &end {
         CommitEnd::Committed(r) => out.put_revision("end committed ", *r),
-        CommitEnd::Clash { item, other } => {
-            out.put("end refused");
-            put_item(item, out);
-            out.put_revision(" for ", *other);
-        }
+        CommitEnd::Clash { item, other } => put_clash(item, *other, out),
         CommitEnd::Memory => out.put("end no memory"),
     }
+    drop(end);
+}
+
+fn put_clash(item: &Item, other: Revision, out: &mut Out) {
+    out.put("end refused");
+    put_item(item, out);
+    out.put_revision(" for ", other);
 }

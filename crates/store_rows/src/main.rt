@@ -33,5 +33,7 @@ fn main(rt: HostRuntime) -> ExitCode {
         return ExitCode::from(5);
     };
     let mut rows = Store::new(rt.alloc());
-    ExitCode::from(answer_all(rt.alloc(), &mut source, &mut sink, &mut rows))
+    let status = answer_all(rt.alloc(), &mut source, &mut sink, &mut rows);
+    drop(rows);
+    ExitCode::from(status)
 }

@@ -4,27 +4,26 @@ ghost use Rattle.jr_rev.specs.Vectors.{start};
 ghost use Rattle.oak_node.specs.Memory.{begun};
 
 use crate::tables::{at_time, put_count};
-use jr_path::{List, Path, PathFault};
+use crate::texts::{only, push};
+use jr_path::{List, Path};
 use jr_rev::RevVec;
-use oak_node::NodeMem;
+use oak_node::{NodeMem, Pending};
 use rows::Out;
-use std::alloc::{AllocError, Global};
+use std::alloc::AllocError;
 
 // The times of two draws, the second of which notes two paths; how many pins two owners have; how
 // many paths are to be published of those that the head sees; and the time of the head's own entry
 // once the node is recovered.
 pub(crate) fn add(out: &mut Out) {
-    match two_paths(out.alloc) {
-        Ok(paths) => add_told(paths.inner().as_slice(), out),
-        Err(_) => out.put("no path"),
-    }
+    let paths = two_paths(out);
+    add_told(paths.as_slice(), out);
+    drop(paths);
 }
 
-fn two_paths(alloc: Global) -> Result<List<Path>, PathFault> {
-    let mut paths = List::new(alloc);
-    paths.push(Path::parse(alloc, "/b")?)?;
-    paths.push(Path::parse(alloc, "/a")?)?;
-    Ok(paths)
+fn two_paths(out: &mut Out) -> List<Path> {
+    let mut paths = only(out.path_or_root("/b"), out);
+    push(out.path_or_root("/a"), &mut paths, out);
+    paths
 }
 
 fn add_told(paths: &[Path], out: &mut Out) {
@@ -33,8 +32,9 @@ fn add_told(paths: &[Path], out: &mut Out) {
     let pinned = pin(&mut memory);
     out.note(pinned);
     put_count(memory.pins().len() as u64, out);
-    put_pending(pending(&mut memory, paths), out);
+    add_pending(&mut memory, paths, out);
     add_recovery(&mut memory, out);
+    drop(memory);
 }
 
 fn add_draws(memory: &mut NodeMem, paths: &[Path], out: &mut Out)
@@ -66,18 +66,20 @@ fn pin(memory: &mut NodeMem) -> Result<(), AllocError> {
 }
 
 // How many paths are pending, once the head sees revision 0.
-fn pending(memory: &mut NodeMem, paths: &[Path]) -> Result<usize, AllocError> {
+fn add_pending(memory: &mut NodeMem, paths: &[Path], out: &mut Out) {
     for path in paths {
-        memory.note(path, at_time("0"))?;
+        let noted = memory.note(path, at_time("0"));
+        out.note(noted);
     }
-    Ok(memory.take_pending()?.paths.inner().len())
-}
-
-fn put_pending(pending: Result<usize, AllocError>, out: &mut Out) {
-    match pending {
-        Ok(pending) => put_count(pending as u64, out),
+    match memory.take_pending() {
+        Ok(pending) => put_pending(pending, out),
         Err(_) => out.is_broken = true,
     }
+}
+
+fn put_pending(pending: Pending, out: &mut Out) {
+    put_count(pending.paths.len() as u64, out);
+    drop(pending);
 }
 
 fn add_recovery(memory: &mut NodeMem, out: &mut Out) {

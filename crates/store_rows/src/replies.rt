@@ -1,13 +1,13 @@
 // What a table of documents at rest, and the memories of cluster nodes, answer to asks.
 use crate::asks::put_ask;
 use crate::changes;
-use crate::texts::{cut, pin};
-use jr_path::{DeepCopy, DocId, List};
+use crate::texts::{cut, pin, push};
+use jr_path::{DeepCopy, List};
 use jr_rev::Pin;
 use oak_doc::{Ask, Document, Kept, MemoryAsk, OpFault, RemoveOut, Reply, UpdateOp};
 use oak_store::DocTable;
 use rows::Out;
-use std::alloc::{AllocError, Global};
+use std::alloc::AllocError;
 
 // What a row says beside its documents: what the automaton is begun with, and which changes others
 // make meanwhile.
@@ -28,41 +28,46 @@ pub(crate) fn begin(row: &Row<'_>, step: u64, stage: &str, table: &mut DocTable,
     changes::make_at(row.meanwhile, step, table, out);
 }
 
-// Makes what is asked; the text of the ask, and of the reply where there is something to say.
-pub(crate) fn reply_to(row: &Row<'_>, ask: Ask, table: &mut DocTable, out: &mut Out) -> Reply {
+// Makes what is asked; the text of the ask, and of the reply where there is something to say. What
+// is large is let go by a call of its own, here and below: at the end of its scope each of its
+// parts would be proved there.
+pub(crate) fn reply_to(
+    row: &Row<'_>,
+    ask: Result<Ask, AllocError>,
+    table: &mut DocTable,
+    out: &mut Out,
+) -> Reply {
+    match ask {
+        Ok(ask) => told(row, ask, table, out),
+        Err(_) => Reply::NoMemory,
+    }
+}
+
+fn told(row: &Row<'_>, ask: Ask, table: &mut DocTable, out: &mut Out) -> Reply {
     put_ask(&ask, out);
-    let reply = answer(row, &ask, table, out.alloc);
+    let reply = answer(row.arguments, &ask, table, out);
+    drop(ask);
     put_reply(&reply, out);
     out.put("; ");
     reply
 }
 
-fn answer(row: &Row<'_>, ask: &Ask, table: &mut DocTable, alloc: Global) -> Reply {
+// The words are of the memories of cluster nodes.
+pub(crate) fn answer(words: &str, ask: &Ask, table: &mut DocTable, out: &mut Out) -> Reply {
     match ask {
-        Ask::Find(id) => found(table.find(id)),
-        Ask::NextAfter(id) => behind(id, table),
+        Ask::Find(id) => Reply::Found(copied(table.find(id), out)),
+        Ask::NextAfter(id) => Reply::Found(copied(table.next_after(id.as_ref()), out)),
         Ask::Update(op) => updated(op, table),
         Ask::RemoveIf(id, number) => Reply::Removed(table.remove_if(id, *number)),
-        Ask::Memory(ask) => remembered(row, ask, alloc),
+        Ask::Memory(ask) => remembered(words, ask, out),
         Ask::Undo(_) | Ask::Done => Reply::Undone,
     }
 }
 
-fn behind(id: &Option<DocId>, table: &DocTable) -> Reply {
-    found(table.next_after(id.as_ref()))
-}
-
-fn found(document: Option<&Document>) -> Reply {
+pub(crate) fn copied(document: Option<&Document>, out: &mut Out) -> Option<Document> {
     match document {
-        Some(document) => copied(document),
-        None => Reply::Found(None),
-    }
-}
-
-fn copied(document: &Document) -> Reply {
-    match document.copy() {
-        Ok(copy) => Reply::Found(Some(copy)),
-        Err(_) => Reply::NoMemory,
+        Some(document) => out.got(document.copy()),
+        None => None,
     }
 }
 
@@ -77,7 +82,10 @@ fn updated(op: &UpdateOp, table: &mut DocTable) -> Reply {
 
 // The word for what comes of an update.
 pub(crate) fn word_of(op: &UpdateOp, table: &mut DocTable) -> &'static str {
-    word(&table.update(op))
+    let made = table.update(op);
+    let word = word(&made);
+    drop(made);
+    word
 }
 
 fn word(made: &Result<Option<Document>, OpFault>) -> &'static str {
@@ -88,11 +96,11 @@ fn word(made: &Result<Option<Document>, OpFault>) -> &'static str {
     }
 }
 
-fn remembered(row: &Row<'_>, ask: &MemoryAsk, alloc: Global) -> Reply {
+fn remembered(words: &str, ask: &MemoryAsk, out: &mut Out) -> Reply {
     match ask {
         MemoryAsk::Finish(_) => Reply::Finished,
         MemoryAsk::Learn(_, _) => Reply::Learnt,
-        MemoryAsk::Pins(cluster) => kept(node_of(row.arguments, *cluster), alloc),
+        MemoryAsk::Pins(cluster) => kept(node_of(words, *cluster), out),
         MemoryAsk::Recover(_) => Reply::Recovered,
     }
 }
@@ -110,15 +118,12 @@ fn node_of(nodes: &str, cluster: u32) -> &str {
 }
 
 // HEAD/SWEEP+PIN+PIN, or `gone`
-fn kept(node: &str, alloc: Global) -> Reply {
+fn kept(node: &str, out: &mut Out) -> Reply {
     if node == "gone" {
         return Reply::Gone;
     }
     let (own, pins) = cut(node, '+');
-    match pins_of(pins, alloc) {
-        Ok(pins) => keeping(pin(own), pins),
-        Err(_) => Reply::NoMemory,
-    }
+    keeping(pin(own), pins_of(pins, out))
 }
 
 fn keeping(own: Pin, pins: List<Pin>) -> Reply {
@@ -129,14 +134,14 @@ fn keeping(own: Pin, pins: List<Pin>) -> Reply {
     }
 }
 
-fn pins_of(texts: &str, alloc: Global) -> Result<List<Pin>, AllocError> {
-    let mut pins = List::new(alloc);
+fn pins_of(texts: &str, out: &mut Out) -> List<Pin> {
+    let mut pins = List::new(out.alloc);
     for text in texts.split('+') {
         if !text.is_empty() {
-            pins.push(pin(text))?;
+            push(pin(text), &mut pins, out);
         }
     }
-    Ok(pins)
+    pins
 }
 
 fn put_reply(reply: &Reply, out: &mut Out) {

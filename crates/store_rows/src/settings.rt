@@ -24,15 +24,16 @@ fn add_word(text: &str, table: &mut DocTable, out: &mut Out) {
         return put_found(table.find(&DocId::Settings), key, out);
     }
     match op(word, key, value, out.alloc) {
-        Ok(op) => update(&op, table, out),
+        Ok(op) => update(op, table, out),
         Err(_) => out.is_broken = true,
     }
 }
 
-fn update(op: &UpdateOp, table: &mut DocTable, out: &mut Out) {
-    put_update(op, out);
-    out.put(word_of(op, table));
+fn update(op: UpdateOp, table: &mut DocTable, out: &mut Out) {
+    put_update(&op, out);
+    out.put(word_of(&op, table));
     out.put("; ");
+    drop(op);
 }
 
 // create@ID=PIN, attach@SESSION=ID, detach@SESSION, release@ID, or drop@SESSION,SESSION

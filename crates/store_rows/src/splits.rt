@@ -1,17 +1,19 @@
 // Splits.
 use crate::replies::{Row, STEPS, begin, reply_to};
-use crate::texts::{cut, path, pin};
+use crate::texts::{cut, pin};
 use oak_doc::SplitEnd;
 use oak_prev::{Splitter, Stage};
 use oak_store::DocTable;
 use rows::Out;
-use std::alloc::AllocError;
 use std::mem;
 
 // PATH BASE/SWEEP
 pub(crate) fn add(row: &Row<'_>, table: &mut DocTable, out: &mut Out) {
     let (at, held) = cut(row.arguments, ' ');
-    match Splitter::new(out.alloc, &path(at, out), &pin(held)) {
+    let path = out.path_or_root(at);
+    let splitter = Splitter::new(out.alloc, &path, &pin(held));
+    drop(path);
+    match splitter {
         Ok(splitter) => run(row, splitter, table, out),
         Err(_) => out.is_broken = true,
     }
@@ -21,8 +23,7 @@ fn run(row: &Row<'_>, splitter: Splitter, table: &mut DocTable, out: &mut Out) {
     let mut splitter = splitter;
     for step in 1..STEPS {
         if !splitter.is_done() {
-            let made = make_step(row, step, &mut splitter, table, out);
-            out.note(made);
+            make_step(row, step, &mut splitter, table, out);
         }
     }
     end(splitter, out);
@@ -34,10 +35,11 @@ fn make_step(
     splitter: &mut Splitter,
     table: &mut DocTable,
     out: &mut Out,
-) -> Result<(), AllocError> {
+) {
     begin(row, step, word(splitter.stage()), table, out);
-    let ask = splitter.next()?;
-    splitter.feed(reply_to(row, ask, table, out))
+    let reply = reply_to(row, splitter.next(), table, out);
+    let fed = splitter.feed(reply);
+    out.note(fed);
 }
 
 fn word(stage: Stage) -> &'static str {

@@ -1,13 +1,14 @@
 // Documents of a table: changes, undoing, removals, and what the table gives.
 ghost use Rattle.std.specs.Prelude.{◌≡◌};
 
+use crate::texts::only;
+use crate::updates::put_found;
 use crate::{letters, nodes, reading, updates};
-use jr_path::{DeepCopy, DocId, List, Path, PathFault};
+use jr_path::{DeepCopy, DocId};
 use jr_rev::Revision;
 use oak_doc::{Ask, Collected, RemoveOut, Reply};
 use oak_store::DocTable;
 use rows::{Out, cut, number};
-use std::alloc::{AllocError, Global};
 
 pub(crate) fn add(line: &str, table: &mut DocTable, out: &mut Out) {
     let (word, rest) = cut(line);
@@ -45,35 +46,31 @@ pub(crate) fn put_count(number: u64, out: &mut Out) {
 }
 
 // A path, with a number before it for a previous document; the settings for `settings`.
-pub(crate) fn id_of(alloc: Global, text: &str) -> Result<DocId, PathFault> {
+pub(crate) fn id_of(text: &str, out: &mut Out) -> DocId {
     if text == "settings" {
-        return Ok(DocId::Settings);
+        return DocId::Settings;
     }
     match text.split_once(':') {
-        Some((before, path)) => Ok(DocId::Prev(number(before), Path::parse(alloc, path)?)),
-        None => Ok(DocId::Node(Path::parse(alloc, text)?)),
+        Some((before, rest)) => DocId::Prev(number(before), out.path_or_root(rest)),
+        None => DocId::Node(out.path_or_root(text)),
     }
 }
 
 // ID TIME: the entries of a revision go.
 fn undo(rest: &str, table: &mut DocTable, out: &mut Out) {
     let (id, time) = cut(rest);
-    match id_of(out.alloc, id) {
-        Ok(id) => {
-            table.undo(&id, at_time(time));
-            updates::put_found(table.find(&id), "none", out);
-        }
-        Err(_) => out.put("no id"),
-    }
+    let id = id_of(id, out);
+    table.undo(&id, at_time(time));
+    put_found(table.find(&id), "none", out);
+    drop(id);
 }
 
 // ID NUMBER
 fn remove(rest: &str, table: &mut DocTable, out: &mut Out) {
     let (id, mod_count) = cut(rest);
-    match id_of(out.alloc, id) {
-        Ok(id) => put_removed(&table.remove_if(&id, number(mod_count)), out),
-        Err(_) => out.put("no id"),
-    }
+    let id = id_of(id, out);
+    put_removed(&table.remove_if(&id, number(mod_count)), out);
+    drop(id);
 }
 
 fn put_removed(removed: &RemoveOut, out: &mut Out) {
@@ -99,35 +96,40 @@ fn walk(table: &DocTable, out: &mut Out) {
 
 // Copies of what is asked and answered.
 fn add_copies(out: &mut Out) {
-    out.put(if is_ask_copied() == Ok(true) && is_reply_copied() == Ok(true) {
+    out.put(if is_ask_copied(Ask::Find(DocId::Settings)) && is_reply_copied(Reply::Absent) {
         "copied "
     } else {
         "changed "
     });
-    match skips_copied(out.alloc) {
-        Ok(skips) => put_count(skips as u64, out),
-        Err(_) => out.is_broken = true,
-    }
-}
-
-fn is_ask_copied() -> Result<bool, AllocError> {
-    Ok(matches!(
-        Ask::Find(DocId::Settings).copy()?,
-        Ask::Find(DocId::Settings)
-    ))
-}
-
-fn is_reply_copied() -> Result<bool, AllocError> {
-    Ok(matches!(Reply::Absent.copy()?, Reply::Absent))
-}
-
-fn skips_copied(alloc: Global) -> Result<usize, AllocError> {
-    let mut skipped = List::new(alloc);
-    skipped.push((DocId::Settings, 3, 4))?;
     let collected = Collected {
         entries: 1,
         documents: 2,
-        skipped,
+        skipped: only((DocId::Settings, 3, 4), out),
     };
-    Ok(collected.copy()?.skipped.inner().len())
+    match collected.copy() {
+        Ok(copy) => put_skips(copy, out),
+        Err(_) => out.is_broken = true,
+    }
+    drop(collected);
+}
+
+fn is_ask_copied(ask: Ask) -> bool {
+    let copy = ask.copy();
+    drop(ask);
+    let is_copied = matches!(copy, Ok(Ask::Find(DocId::Settings)));
+    drop(copy);
+    is_copied
+}
+
+fn is_reply_copied(reply: Reply) -> bool {
+    let copy = reply.copy();
+    drop(reply);
+    let is_copied = matches!(copy, Ok(Reply::Absent));
+    drop(copy);
+    is_copied
+}
+
+fn put_skips(collected: Collected, out: &mut Out) {
+    put_count(collected.skipped.len() as u64, out);
+    drop(collected);
 }

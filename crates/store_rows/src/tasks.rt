@@ -32,6 +32,7 @@ fn add_row(row: &Row<'_>, word: &str, documents: &str, table: DocTable, out: &mu
     let mut table = table;
     changes::make_all(documents, &mut table, out);
     add_task(row, word, &mut table, out);
+    drop(table);
 }
 
 fn add_task(row: &Row<'_>, word: &str, table: &mut DocTable, out: &mut Out) {

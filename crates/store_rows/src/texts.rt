@@ -1,5 +1,5 @@
-// Pins, paths and ids, as rows of tasks have them.
-use jr_path::{DocId, Path};
+// Pins, names, lists and ids, as rows have them.
+use jr_path::{DocId, List, Name, Text};
 use jr_rev::Pin;
 use rows::{Out, vector};
 
@@ -17,14 +17,36 @@ pub(crate) fn pin(text: &str) -> Pin {
     }
 }
 
-pub(crate) fn path(text: &str, out: &mut Out) -> Path {
-    match Path::parse(out.alloc, text) {
-        Ok(path) => path,
+pub(crate) fn name(text: &str, out: &mut Out) -> Option<Name> {
+    match Name::parse(out.alloc, text) {
+        Ok(name) => Some(name),
         Err(_) => {
             out.is_broken = true;
-            Path::root(out.alloc)
+            None
         }
     }
+}
+
+pub(crate) fn text_of(text: &str, out: &mut Out) -> Text {
+    match Text::copy_of(out.alloc, text) {
+        Ok(text) => text,
+        Err(_) => {
+            out.is_broken = true;
+            Text::new(out.alloc)
+        }
+    }
+}
+
+pub(crate) fn push<T: Drop>(item: T, list: &mut List<T>, out: &mut Out) {
+    let pushed = list.push(item);
+    out.note(pushed);
+}
+
+// The list of one item.
+pub(crate) fn only<T: Drop>(item: T, out: &mut Out) -> List<T> {
+    let mut list = List::new(out.alloc);
+    push(item, &mut list, out);
+    list
 }
 
 // DEPTH:PATH, pNUMBER:PATH with the number in hexadecimal, or settings
@@ -34,8 +56,8 @@ pub(crate) fn id(text: &str, out: &mut Out) -> DocId {
         return DocId::Settings;
     }
     match before.strip_prefix('p') {
-        Some(digits) => DocId::Prev(hexadecimal(digits), path(rest, out)),
-        None => DocId::Node(path(rest, out)),
+        Some(digits) => DocId::Prev(hexadecimal(digits), out.path_or_root(rest)),
+        None => DocId::Node(out.path_or_root(rest)),
     }
 }
 

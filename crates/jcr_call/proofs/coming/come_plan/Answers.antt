@@ -25,4 +25,4 @@ pub returns-clause-comes : goal.returns-clause-comes
 returns-clause-comes c = λ on o alike due.
     sym (plan_reply on c.args.command.now c.args.footing.now.base.now (map string_bytes c.as_slice.result.now) c.args.edit.writes (Some c.in-Err.refusal)
     o.base (ap (map string_bytes) c.as_slice.ensures.value ∙ (c.in_ok-tokens.ensures ∙ o.tokens)) c.requires.some (c.requires.proper (tree_lent c.args.footing.now on o alike))
-    (c.in-Err.ensures.refused on o alike c.in_ok-cause_text-in-Err.ensures.0)) ∙ ap Some (sym c.in_ok-cause_text-in-Err.ensures.1)
+    (c.in-Err.ensures.refused on o alike c.in_ok-cause_told-in-Err.ensures.0)) ∙ ap Some (sym c.in_ok-cause_told-in-Err.ensures.1)

@@ -12,9 +12,9 @@ pub returns-then-not-has : goal.returns-then-not-has
 returns-then-not-has c = no_root c.args.tree.now (ap (λ p. is_some (node_at c.args.tree.now p)) (sym c.root.ensures) ∙ sym c.if-not-has.ensures)
 
 pub returns : goal.returns
-returns c = IfOk-weaker c.have_parents.result _ _
+returns c = IfOk-weaker c.have_parents-rooted.result _ _
     (λ b is. tree_by_parents c.args.tree.now b
     (subst (λ (t : Nodes). is_sorted path_cmp t ≡ true) c.in_ok-whole.ensures c.know_order.ensures.paths)
     (subst (λ (t : Nodes). has_names_in_order t ≡ true) c.in_ok-whole.ensures c.know_order.ensures.names)
     (ap (λ p. is_some (node_at c.args.tree.now p)) (sym c.root.ensures) ∙ sym c.if-not-has.ensures) is)
-    c.have_parents.ensures
+    c.have_parents-rooted.ensures

@@ -3,8 +3,8 @@ use Rattle.std.specs.Prelude.{IfErr, IfOk}
 use Rattle.std.specs.String.{string_bytes}
 use Rattle.jr_tree.specs.Trees.{Nodes}
 use Rattle.jr_items.specs.Refusals.{IsTheRefusal}
+use Rattle.jcr_marks.specs.Marks.{marks_of}
 use Rattle.jcr_plan.specs.Checked.{refusal_by}
-use Rattle.jcr_plan.specs.Marks.{marks_of}
 use Rattle.jcr_plan.proofs.plans.planned_marks.Goals as goal
 
 pub returns-clause-marks : goal.returns-clause-marks

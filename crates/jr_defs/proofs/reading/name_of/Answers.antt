@@ -1,4 +1,3 @@
-use Rattle.std.proofs.Common.{rules}
 use Rattle.jr_defs.proofs.ByParts.{no_name}
 use Rattle.jr_defs.proofs.reading.name_of.Goals as goal
 

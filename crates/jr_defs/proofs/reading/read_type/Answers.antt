@@ -1,4 +1,3 @@
-use Rattle.std.proofs.Common.{rules}
 use Rattle.serde_json.specs.View.{view}
 use Rattle.jr_defs.specs.Reading.{IsTypeJson}
 use Rattle.jr_defs.proofs.ByParts.{exits}

@@ -1,4 +1,3 @@
-use Rattle.std.proofs.Common.{rules}
 use Rattle.serde_json.specs.View.{view}
 use Rattle.jr_defs.proofs.ByParts.{values_fault}
 use Rattle.jr_defs.proofs.reading.some_values.Goals as goal

@@ -13,14 +13,14 @@ returns-in-Ok-clause-made c =
 pub returns-in-Ok-clause-needs : goal.returns-in-Ok-clause-needs
 returns-in-Ok-clause-needs c = last_needs 0 c.args.table.now c.update.new.table c.args.events.now.list c.push_kept.new.self.list c.args.committer.now c.feed.new.self c.requires.stage (returns-in-Ok-clause-made c)
 
-pub returns-clause-made : goal.returns-clause-made
-returns-clause-made c =
+pub returns-in-Err-clause-made : goal.returns-in-Err-clause-made
+returns-in-Err-clause-made c =
     on_ok_weaker c.refused_last.result
     (last_refused_by 0 c.args.table.now c.update.new.table c.args.events.now.list c.refused_last.new.events.list c.args.committer.now c.refused_last.new.committer c.in_ok-op.op c.in_ok-op.ensures c.requires.stage c.in-Err.fault c.in-Err.ensures.made)
     c.refused_last.ensures.made
 
-pub returns-clause-needs : goal.returns-clause-needs
-returns-clause-needs c = on_ok_weaker c.refused_last.result (last_needs 0 c.args.table.now c.update.new.table c.args.events.now.list c.refused_last.new.events.list c.args.committer.now c.refused_last.new.committer c.requires.stage) (returns-clause-made c)
+pub returns-in-Err-clause-needs : goal.returns-in-Err-clause-needs
+returns-in-Err-clause-needs c = on_ok_weaker c.refused_last.result (last_needs 0 c.args.table.now c.update.new.table c.args.events.now.list c.refused_last.new.events.list c.args.committer.now c.refused_last.new.committer c.requires.stage) (returns-in-Err-clause-made c)
 
 pub refused_last-requires-clause-fault : goal.refused_last-requires-clause-fault
 refused_last-requires-clause-fault c = last_fails c.args.table.now c.update.new.table c.args.committer.now c.in_ok-op.op c.in_ok-op.ensures c.requires.stage c.in-Err.fault c.in-Err.ensures.made

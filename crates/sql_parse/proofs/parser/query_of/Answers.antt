@@ -1,9 +1,5 @@
-use Rattle.std.proofs.Common.{refl, sym, ◌∙◌}
-use Rattle.sql_parse.specs.Trees.{asked_of}
+use Rattle.sql_parse.proofs.Parsed.{answered}
 use Rattle.sql_parse.proofs.parser.query_of.Goals as goal
 
-pub returns-in-None : goal.returns-in-None
-returns-in-None c = (c.query.new.self, c.in_ok-query.ensures, sym c.refused.ensures ∙ c.in-None.is)
-
-pub returns-in-Some : goal.returns-in-Some
-returns-in-Some c = (refl, asked_of c.in_ok-query.query, c.query.new.self, c.in_ok-query.ensures, sym c.refused.ensures ∙ c.in-Some.is)
+pub returns : goal.returns
+returns c = answered c.args.pieces.now c.args.stop c.in_ok-query.query c.query.new.self c.refused.result c.answer.result c.in_ok-query.ensures c.refused.ensures c.answer.ensures.none c.answer.ensures.some

@@ -1,4 +1,4 @@
-use Rattle.std.proofs.Common.{◌≡◌, ◌≤◌, arith, rules, true}
+use Rattle.std.proofs.Common.{◌≡◌, arith, rules, true}
 use Rattle.jcr_held.specs.Looking.{IsLackingOf}
 use Rattle.jcr_held.proofs.Holding.{again_known, holds_alike}
 use Rattle.jcr_held.proofs.OnTheWay.{of_some}

@@ -1,5 +1,5 @@
-use Rattle.std.proofs.Common.{◌≤◌, arith}
-use Rattle.jcr_held.specs.Unread.{IsWanted, unread}
+use Rattle.std.proofs.Common.{arith}
+use Rattle.jcr_held.specs.Unread.{IsWanted}
 use Rattle.jcr_held.proofs.Holding.{holds_alike}
 use Rattle.jcr_held.proofs.OnTheWay.{of_some}
 use Rattle.jcr_held.proofs.Unread.{no_more_alike}

@@ -1,4 +1,3 @@
-use Rattle.std.proofs.Common.{refl}
 use Rattle.jcr_held.specs.Holds.{IsReady}
 use Rattle.jcr_trans.specs.declared.command.Command.{Command}
 use Rattle.jcr_session.proofs.Calling.{made_if}

@@ -1,4 +1,4 @@
-use Rattle.std.proofs.Common.{Some, refl, subst, sym, ap, ◌∙◌}
+use Rattle.std.proofs.Common.{Some, refl, subst, sym, ◌∙◌}
 use Rattle.std.specs.Prelude.{Option, ℕ}
 use Rattle.jcr_session.specs.Standing.{IsPlace}
 use Rattle.jcr_session.specs.declared.run.Phase.TheVariants as phase

@@ -1,10 +1,10 @@
-use Rattle.std.proofs.Common.{◌≡◌, ℕ, sym, refl, subst, false, ◌∙◌}
+use Rattle.std.proofs.Common.{ℕ, sym, subst, false, ◌∙◌}
 use Rattle.jcr_session.proofs.Calling.{forgo_law, stands_law, turned_law}
 use Rattle.jcr_session.proofs.Lawful.{idle_by}
 use Rattle.jcr_session.proofs.Looking.{looked_reads, refused_forgoes, turned_behind}
 use Rattle.jcr_session.proofs.Nexts.{reads_between, reads_unsaving}
 use Rattle.jcr_session.proofs.Nearer.{counted_reads, counted_turns, left_looked, reply_steps, steps_sooner, turn_nearer}
-use Rattle.jcr_session.specs.Nearing.{CommitsSooner, EndsSooner, StepsOn, left_of}
+use Rattle.jcr_session.specs.Nearing.{CommitsSooner, EndsSooner, StepsOn, turns_left}
 use Rattle.jcr_session.proofs.run.SessionRun.turn.Goals as goal
 
 -- no reading step can be due
@@ -67,8 +67,8 @@ returns-in-Ok-false-clause-nears g c =
     (turned_behind law old mid new c.args.self.now c.read.new.self c.go_on.new.self c.go_on.result c.requires.stands reads c.read.ensures.looked
     (idle_by law mid c.read.new.self c.read.ensures.looked.stands (c.read.ensures.looked.same.phase ∙ reads_between c.args.self.now reads) (c.in-Ok-false.ensures.read.prepared c.in-Ok-false.field-0-test reads).done)
     (turned_law law (g.P.Port.law c.read.new.port) c.read.ensures.law mid new c.read.new.self c.go_on.new.self c.go_on.result c.go_on.ensures.turned))
-    (steps_sooner sooner (left_of c.args.self.now) (left_of c.go_on.new.self) c.go_on.result
-    (subst (λ (n : ℕ). StepsOn ⊥ n (left_of c.go_on.new.self) c.go_on.result) (left_looked c.args.self.now c.read.new.self c.read.ensures.looked.same) c.go_on.ensures.steps))
+    (steps_sooner sooner (turns_left c.args.self.now) (turns_left c.go_on.new.self) c.go_on.result
+    (subst (λ (n : ℕ). StepsOn ⊥ n (turns_left c.go_on.new.self) c.go_on.result) (left_looked c.args.self.now c.read.new.self c.read.ensures.looked.same) c.go_on.ensures.steps))
 
 pub returns-in-Ok-false-clause-reads : goal.returns-in-Ok-false-clause-reads
 returns-in-Ok-false-clause-reads g c =
@@ -119,7 +119,7 @@ returns-in-Err-clause-nears g c =
     (turned_behind law old mid new c.args.self.now c.read.new.self c.say_memory.new.self c.say_memory.result c.requires.stands reads c.read.ensures.looked
     c.in-Err.ensures.err.1.idle
     (turned_law law (g.P.Port.law c.read.new.port) c.read.ensures.law mid new c.read.new.self c.say_memory.new.self c.say_memory.result c.say_memory.ensures.turned))
-    (reply_steps sooner (left_of c.args.self.now) (left_of c.say_memory.new.self) c.say_memory.result c.say_memory.ensures.said)
+    (reply_steps sooner (turns_left c.args.self.now) (turns_left c.say_memory.new.self) c.say_memory.result c.say_memory.ensures.said)
 
 pub returns-in-Err-clause-reads : goal.returns-in-Err-clause-reads
 returns-in-Err-clause-reads g c =

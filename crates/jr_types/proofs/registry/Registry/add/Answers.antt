@@ -1,16 +1,16 @@
-use Rattle.std.proofs.Common.{rules, ◌∙◌}
+use Rattle.std.proofs.Common.{sym}
 use Rattle.jr_types.proofs.Kept.{added_kept, added_view}
 use Rattle.jr_types.proofs.registry.Registry.add.Goals as goal
 
-pub invariant_of-self-2 : goal.invariant_of-self-2
-invariant_of-self-2 c = record {
-  types = added_kept c.self.inside.types c.args.self.now c.args.definition c.self.view_is c.self.invariant.types c.in_default.ensures c.in_ok-name.name (c.in_ok-name.ensures.ok ∙ c.as_str.ensures)
-      c.in_ok-line.line c.in_ok-line.ensures.0 _ c.in_ok-line.ensures.1 c.in_ok-line.ensures.2 c.in_ok-insert.ensures.entries;
+pub invariant_of-self-in-Ok : goal.invariant_of-self-in-Ok
+invariant_of-self-in-Ok c = record {
+  types = added_kept c.self.inside.types c.args.self.now c.args.definition c.self.view_is c.self.invariant.types (sym c.in-Ok.ensures.lawful) c.in-Ok.name c.in-Ok.ensures.named
+      c.in-Ok.line c.in-Ok.ensures.line.0 _ c.in-Ok.ensures.line.1 c.in-Ok.ensures.line.2 c.in_ok-put-in-Ok.ensures.ok;
   primary_is = c.self.invariant.primary_is;
   mixins_is = c.self.invariant.mixins_is;
   order_is = c.self.invariant.order_is;
 }
 
-pub returns-clause-ok : goal.returns-clause-ok
-returns-clause-ok c = added_view c.self.inside.types c.args.self.now c.args.definition c.self.view_is c.self.invariant.types c.in_default.ensures c.in_ok-name.name (c.in_ok-name.ensures.ok ∙ c.as_str.ensures)
-    c.in_ok-line.line c.in_ok-line.ensures.0 _ c.in_ok-line.ensures.1 c.in_ok-line.ensures.2 c.in_ok-insert.ensures.entries
+pub returns-in_ok-put-in-Ok-clause-ok : goal.returns-in_ok-put-in-Ok-clause-ok
+returns-in_ok-put-in-Ok-clause-ok c = added_view c.self.inside.types c.args.self.now c.args.definition c.self.view_is c.self.invariant.types (sym c.in-Ok.ensures.lawful) c.in-Ok.name c.in-Ok.ensures.named
+    c.in-Ok.line c.in-Ok.ensures.line.0 _ c.in-Ok.ensures.line.1 c.in-Ok.ensures.line.2 c.in_ok-put-in-Ok.ensures.ok

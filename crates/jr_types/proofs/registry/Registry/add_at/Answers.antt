@@ -1,4 +1,4 @@
-use Rattle.std.proofs.Common.{rules, Some, ◌≡◌, ◌<◌, ◌∷◌, ◌++◌, [], length, map, ap, ◌∙◌}
+use Rattle.std.proofs.Common.{rules, Some, ◌≡◌, ◌<◌, ◌∷◌, ◌++◌, [], length, map}
 use Rattle.std.specs.Prelude.{slice_get, slice_index_or}
 use Rattle.std.specs.List.{cons_option}
 use Rattle.jr_types.proofs.Further.{at_step, pushed}

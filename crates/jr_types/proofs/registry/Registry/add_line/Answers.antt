@@ -1,4 +1,3 @@
-use Rattle.std.proofs.Common.{rules}
 use Rattle.jr_types.proofs.Lines.{on_ok}
 use Rattle.jr_types.proofs.Further.{further_line}
 use Rattle.jr_types.proofs.registry.Registry.add_line.Goals as goal

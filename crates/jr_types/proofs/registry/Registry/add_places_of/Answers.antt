@@ -1,4 +1,3 @@
-use Rattle.std.proofs.Common.{rules}
 use Rattle.jr_types.proofs.Lines.{above_more, on_ok}
 use Rattle.jr_types.proofs.registry.Registry.add_places_of.Goals as goal
 

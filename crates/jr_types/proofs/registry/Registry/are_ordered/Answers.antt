@@ -1,4 +1,4 @@
-use Rattle.std.proofs.Common.{rules, ◌≡◌, ap, ◌∙◌, map}
+use Rattle.std.proofs.Common.{rules, ◌≡◌, ap, ◌∙◌}
 use Rattle.std.specs.List.{list_any}
 use Rattle.jr_types.proofs.Alike.{any-alike, any_seen}
 use Rattle.jr_types.proofs.registry.Registry.are_ordered.Goals as goal

@@ -1,4 +1,3 @@
-use Rattle.std.proofs.Common.{rules}
 use Rattle.jr_types.proofs.Found.{get_some, get_none}
 use Rattle.jr_types.proofs.registry.Registry.get.Goals as goal
 

@@ -1,4 +1,4 @@
-use Rattle.std.proofs.Common.{rules, ◌∙◌}
+use Rattle.std.proofs.Common.{◌∙◌}
 use Rattle.jr_items.specs.Items.{same_name}
 use Rattle.jr_types.proofs.Alike.{any_line}
 use Rattle.jr_types.proofs.registry.Registry.is_a.Goals as goal

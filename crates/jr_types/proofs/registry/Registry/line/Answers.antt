@@ -1,4 +1,3 @@
-use Rattle.std.proofs.Common.{rules}
 use Rattle.jr_types.proofs.Found.{line_some, line_none, within_some}
 use Rattle.jr_types.proofs.registry.Registry.line.Goals as goal
 

@@ -1,0 +1,2 @@
+pub mod ByWrite
+pub mod Marks

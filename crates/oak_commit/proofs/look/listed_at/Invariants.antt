@@ -1,7 +1,0 @@
-use Rattle.std.proofs.Common.{◌≡◌, map, take}
-use Rattle.jr_path.specs.declared.path.DocId.TheVariants.{Prev}
-use Rattle.oak_commit.proofs.look.listed_at.Given as goal
-
--- the ids of the entries so far
-abbrev pub invariant-loop-entry : goal.invariant-loop-entry
-invariant-loop-entry l = l.ids ≡ map (λ e. Prev e.number l.path) (take l.entry-index l.entries)
