@@ -22,10 +22,18 @@ use std::alloc::{AllocError, Global};
 const ALL_LEVELS: u32 = 65;
 
 /// A child that is to be made: its path and its type.
-#[derive(Drop)]
 pub struct MissingChild {
     pub path: Path,
     pub node_type: Name,
+}
+
+// By hand, so that its parts are let go in one call.
+impl Drop for MissingChild {
+    fn drop(self) {
+        let MissingChild { path, node_type } = self;
+        drop(path);
+        drop(node_type);
+    }
 }
 
 /// Puts a node with all that belongs to it (JSR 283, 3.7.2.3 Auto-Created). Refused with 15 where an identifier or the

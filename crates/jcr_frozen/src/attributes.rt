@@ -10,7 +10,7 @@ use jr_value::Property;
 use std::alloc::AllocError;
 
 /// What is asked of the attribute of an item (JSR 283, 3.7.2.5 On-Parent-Version).
-#[derive(Clone, Copy, Debug, PartialEq, Eq)]
+#[derive(Clone, Copy, PartialEq, Eq)]
 pub enum Asked {
     /// A version of the node above keeps the item: COPY or VERSION.
     Kept,

@@ -19,7 +19,7 @@ use jr_value::{Property, Value};
 use std::alloc::{AllocError, Global};
 
 /// A share of a node's properties.
-#[derive(Clone, Copy, Debug, PartialEq, Eq)]
+#[derive(Clone, Copy, PartialEq, Eq)]
 pub enum Share {
     /// Those that the frozen node has as the node has them.
     Copied,

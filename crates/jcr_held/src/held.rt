@@ -33,7 +33,6 @@ use std::alloc::{AllocError, Global};
 /// What a session holds between its commands: the node types, who it is, what it has read of the
 /// tree at its base, what is pending over that, and its lock tokens (JSR 283, 10.11 Saving; 17.5
 /// Lock Token).
-#[derive(Drop)]
 pub struct Held {
     pub(crate) alloc: Global,
     pub(crate) types: Registry,
@@ -47,6 +46,28 @@ pub struct Held {
     pub(crate) tokens: List<Text>,
     // What is still to be looked at by loading, the next last.
     pub(crate) left: Vec<Place>,
+}
+
+// By hand, so that its parts are let go in one call.
+impl Drop for Held {
+    fn drop(self) {
+        let Held {
+            alloc: _,
+            types,
+            who: _,
+            part,
+            pending,
+            is_kept: _,
+            references: _,
+            tokens,
+            left,
+        } = self;
+        drop(types);
+        drop(part);
+        drop(pending);
+        drop(tokens);
+        drop(left);
+    }
 }
 
 impl Held {

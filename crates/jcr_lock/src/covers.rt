@@ -132,10 +132,18 @@ pub(crate) fn covering_lock(
 }
 
 /// The names of a lock's two properties, which a caller makes once for many questions.
-#[derive(Drop)]
 pub struct LockNames {
     pub owner: Name,
     pub is_deep: Name,
+}
+
+// By hand, so that its parts are let go in one call.
+impl Drop for LockNames {
+    fn drop(self) {
+        let LockNames { owner, is_deep } = self;
+        drop(owner);
+        drop(is_deep);
+    }
 }
 
 impl LockNames {

@@ -22,18 +22,36 @@ pub const PERSIST: u32 = 64;
 
 /// What a session observes (JSR 283, 12.5 Asynchronous Observation): the items whose node above is at a path, or for
 /// deep at or below it, and the sum of the codes that it asks for, 0 to 127. The path needs no node.
-#[derive(Debug, Drop)]
 pub struct Filter {
     pub path: Path,
     pub deep: bool,
     pub mask: u32,
 }
 
+// By hand, so that its parts are let go in one call.
+impl Drop for Filter {
+    fn drop(self) {
+        let Filter {
+            path,
+            deep: _,
+            mask: _,
+        } = self;
+        drop(path);
+    }
+}
+
 /// An event: its code and its item, or `PERSIST`, which has none (JSR 283, 12.3 Events).
-#[derive(Debug, Drop)]
 pub struct JcrEvent {
     pub code: u32,
     pub item: Option<Item>,
+}
+
+// By hand, so that its parts are let go in one call.
+impl Drop for JcrEvent {
+    fn drop(self) {
+        let JcrEvent { code: _, item } = self;
+        drop(item);
+    }
 }
 
 impl DeepCopy for Filter {

@@ -24,7 +24,7 @@ pub const MAX_NODES: usize = 100_000;
 
 /// What the caller is assured of, of the tree before an edit: of the tree after it only that is checked which the edit
 /// touches.
-#[derive(Clone, Copy, Debug, PartialEq, Eq)]
+#[derive(Clone, Copy, PartialEq, Eq)]
 pub struct Assured {
     /// Each node meets the rules of its types.
     pub typed: bool,

@@ -14,10 +14,18 @@ use jr_value::{Property, Value};
 use std::alloc::{AllocError, Global};
 
 // The names of the properties by which references go: the identifier of a node, and its primary type.
-#[derive(Drop)]
 struct ReferenceNames {
     uuid: Name,
     primary: Name,
+}
+
+// By hand, so that its parts are let go in one call.
+impl Drop for ReferenceNames {
+    fn drop(self) {
+        let ReferenceNames { uuid, primary } = self;
+        drop(uuid);
+        drop(primary);
+    }
 }
 
 impl ReferenceNames {

@@ -12,10 +12,18 @@ use jr_tree::{Node, Tree, Write};
 use std::alloc::{AllocError, Global};
 
 // The touched nodes, and those of which all is looked at, each as a tree of nodes without properties.
-#[derive(Drop)]
 pub struct Touched {
     pub(crate) nodes: Tree,
     pub(crate) renewed: Tree,
+}
+
+// By hand, so that its parts are let go in one call.
+impl Drop for Touched {
+    fn drop(self) {
+        let Touched { nodes, renewed } = self;
+        drop(nodes);
+        drop(renewed);
+    }
 }
 
 impl Touched {

@@ -18,7 +18,7 @@ use jr_value::{Kind, Property, Value, identifier_named};
 use std::alloc::{AllocError, Global};
 
 /// What a node that becomes versionable writes for its history, and how many identifiers that draws.
-#[derive(Debug, Drop)]
+#[derive(Drop)]
 pub struct HistoryWrites {
     pub writes: List<Write>,
     pub drawn: u32,
@@ -268,7 +268,7 @@ fn push_references(
 }
 
 // Where a version stands in the order of making: behind the root version, shorter names first.
-#[derive(Debug, Drop, PartialEq, Eq, PartialOrd, Ord)]
+#[derive(Drop, PartialEq, Eq, PartialOrd, Ord)]
 struct Place {
     later: bool,
     bytes: usize,

@@ -85,14 +85,7 @@ fn names(value: &Value, id: &str) -> bool
 pub fn dangling(alloc: Global, tree: &Tree) -> Result<Option<Item>, AllocError>
     ensures { IfOk result (λ item. item ≡ dangling tree.now) }
 {
-    let targets = Targets::of(alloc, tree)?;
-    for (at, node) in tree.iter() {
-        let found = targets.first_lacking(at, node)?;
-        if found.is_some() {
-            return Ok(found);
-        }
-    }
-    Ok(None)
+    Targets::of(alloc, tree)?.first_dangling()
 }
 
 // A tree with the identifiers of its nodes, and the name under which a node's type stands.
@@ -117,6 +110,20 @@ impl<'a> Targets<'a> {
             primary,
             index,
         })
+    }
+
+    // The first property of the tree with such a reference.
+    fn first_dangling(&self) -> Result<Option<Item>, AllocError>
+        requires { IsReady self.now }
+        ensures { IfOk result (λ item. item ≡ dangling self.now.tree.now) }
+    {
+        for (at, node) in self.tree.iter() {
+            let found = self.first_lacking(at, node)?;
+            if found.is_some() {
+                return Ok(found);
+            }
+        }
+        Ok(None)
     }
 
     // The first property of a node with a reference that names no node.

@@ -9,7 +9,7 @@ use jr_types::Registry;
 use std::alloc::{AllocError, Global};
 
 /// What becomes of a node.
-#[derive(Clone, Copy, Debug, PartialEq, Eq)]
+#[derive(Clone, Copy, PartialEq, Eq)]
 pub(crate) enum Fate {
     /// It stays as it is.
     Stays,

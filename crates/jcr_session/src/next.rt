@@ -8,7 +8,7 @@ use jcr_held::commits;
 use jcr_trans::Command;
 
 // What is to be done for the next command.
-#[derive(Clone, Copy, Debug, PartialEq, Eq)]
+#[derive(Clone, Copy, PartialEq, Eq)]
 pub(crate) enum Due {
     // There is none: the session leaves.
     Leave,

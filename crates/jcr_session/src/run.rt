@@ -24,7 +24,6 @@ use std::alloc::{AllocError, Global};
 
 /// A session of a script: its commands, of which it makes one after another, by steps of a world
 /// that others step too.
-#[derive(Drop)]
 pub struct SessionRun {
     pub(crate) alloc: Global,
     pub(crate) session: u32,
@@ -36,6 +35,25 @@ pub struct SessionRun {
     pub(crate) held: Held,
     // What is being read: a node, or the names of the children of one.
     pub(crate) fetch: Option<Need>,
+}
+
+// By hand, so that its parts are let go in one call.
+impl Drop for SessionRun {
+    fn drop(self) {
+        let SessionRun {
+            alloc: _,
+            session: _,
+            commands,
+            index: _,
+            phase,
+            held,
+            fetch,
+        } = self;
+        drop(commands);
+        drop(phase);
+        drop(held);
+        drop(fetch);
+    }
 }
 
 // Where a session stands.

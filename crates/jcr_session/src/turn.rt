@@ -3,7 +3,7 @@ use jr_rev::Revision;
 use oak_machine::StepKind;
 
 /// What a turn of a session came to.
-#[derive(Clone, Copy, Debug, PartialEq, Eq)]
+#[derive(Clone, Copy, PartialEq, Eq)]
 pub enum Turn {
     /// A step of reading the tree at the base was made, which isn't counted.
     Read,

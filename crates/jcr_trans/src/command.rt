@@ -1,14 +1,12 @@
 // The commands of a session.
-ghost use Rattle.std.specs.Prelude.{◌≡◌, IfOk};
+ghost use Rattle.std.specs.Prelude.{◌≡◌};
 ghost use Rattle.jcr_trans.specs.Commands.{word_of};
 
-use jr_path::{DeepCopy, Keyed, List, Name, Path, Text};
+use jr_path::{Keyed, List, Name, Path, Text};
 use jr_value::{Property, Value};
-use std::alloc::AllocError;
 
 /// A node that a `tree` command adds: its path from the node that the command names on, which is `/` for that node itself;
 /// its primary type where one is named; its mixins in the order written; and its properties.
-#[derive(Drop)]
 pub struct TreeNode {
     pub path: Path,
     pub node_type: Option<Name>,
@@ -16,8 +14,23 @@ pub struct TreeNode {
     pub props: Keyed<Name, Property>,
 }
 
+// By hand, so that its parts are let go in one call.
+impl Drop for TreeNode {
+    fn drop(self) {
+        let TreeNode {
+            path,
+            node_type,
+            mixins,
+            props,
+        } = self;
+        drop(path);
+        drop(node_type);
+        drop(mixins);
+        drop(props);
+    }
+}
+
 /// A command of a session, with its arguments in order; one that may be left out is an `Option`.
-#[derive(Drop)]
 pub enum Command {
     /// `add`: adds a node, of a type where one is named (JSR 283, 10.4 Adding Nodes and Setting Properties).
     Add(Path, Option<Name>),
@@ -108,6 +121,98 @@ pub enum Command {
     Recover(Option<u64>),
 }
 
+// By hand, so that its parts are let go in one call.
+impl Drop for Command {
+    fn drop(self) {
+        match self {
+            Command::Add(path, name) => {
+                drop(path);
+                drop(name);
+            }
+            Command::Tree(path, tree_nodes) => {
+                drop(path);
+                drop(tree_nodes);
+            }
+            Command::Set(path, name, property) => {
+                drop(path);
+                drop(name);
+                drop(property);
+            }
+            Command::Unset(path, name) => {
+                drop(path);
+                drop(name);
+            }
+            Command::Remove(path) => drop(path),
+            Command::Move(path, other_path) => {
+                drop(path);
+                drop(other_path);
+            }
+            Command::Mixin(path, name) => {
+                drop(path);
+                drop(name);
+            }
+            Command::Unmixin(path, name) => {
+                drop(path);
+                drop(name);
+            }
+            Command::SetType(path, name) => {
+                drop(path);
+                drop(name);
+            }
+            Command::Get(path) => drop(path),
+            Command::List(path) => drop(path),
+            Command::Props(path) => drop(path),
+            Command::Id(path) => drop(path),
+            Command::ById(text) => drop(text),
+            Command::Refs(path) => drop(path),
+            Command::Save => {}
+            Command::Refresh(_) => {}
+            Command::Head => {}
+            Command::Lock(path, _) => drop(path),
+            Command::Unlock(path) => drop(path),
+            Command::Token(text) => drop(text),
+            Command::DropToken(text) => drop(text),
+            Command::Checkin(path) => drop(path),
+            Command::Checkout(path) => drop(path),
+            Command::Label(path, text, name, _) => {
+                drop(path);
+                drop(text);
+                drop(name);
+            }
+            Command::Unlabel(path, name) => {
+                drop(path);
+                drop(name);
+            }
+            Command::Versions(path) => drop(path),
+            Command::Restore(path, text) => {
+                drop(path);
+                drop(text);
+            }
+            Command::Observe(path, _, _) => drop(path),
+            Command::Events => {}
+            Command::Query(text, map) => {
+                drop(text);
+                drop(map);
+            }
+            Command::BackWrite => {}
+            Command::BackRead => {}
+            Command::Split(path) => drop(path),
+            Command::Sweep => {}
+            Command::Collect => {}
+            Command::Checkpoint => {}
+            Command::Attach(text) => drop(text),
+            Command::Release(text) => drop(text),
+            Command::Detach => {}
+            Command::OrderBefore(path, name) => {
+                drop(path);
+                drop(name);
+            }
+            Command::Stop(_) => {}
+            Command::Recover(_) => {}
+        }
+    }
+}
+
 /// A session: the cluster node that it is at, from 1 on, and its commands in order, at most 10,000.
 #[derive(Drop)]
 pub struct SessionScript {
@@ -164,127 +269,6 @@ impl Command {
             Command::OrderBefore(_, _) => "orderBefore",
             Command::Stop(_) => "stop",
             Command::Recover(_) => "recover",
-        }
-    }
-}
-
-impl DeepCopy for TreeNode {
-    fn copy(&self) -> Result<TreeNode, AllocError> {
-        Ok(TreeNode {
-            path: self.path.copy()?,
-            node_type: self.node_type.copy()?,
-            mixins: self.mixins.copy()?,
-            props: self.props.copy()?,
-        })
-    }
-}
-
-// Copies of two values.
-fn both<A: DeepCopy + Drop, B: DeepCopy>(a: &A, b: &B) -> Result<(A, B), AllocError>
-    ensures { IfOk result (λ made. made ≡ (a.now, b.now)) }
-{
-    Ok((a.copy()?, b.copy()?))
-}
-
-// Copies of three values.
-fn all<A: DeepCopy + Drop, B: DeepCopy + Drop, C: DeepCopy>(
-    a: &A,
-    b: &B,
-    c: &C,
-) -> Result<(A, B, C), AllocError>
-    ensures { IfOk result (λ made. made ≡ (a.now, b.now, c.now)) }
-{
-    Ok((a.copy()?, b.copy()?, c.copy()?))
-}
-
-impl DeepCopy for Command {
-    fn copy(&self) -> Result<Command, AllocError> {
-        match self {
-            Command::Add(a, b) => {
-                let (a, b) = both(a, b)?;
-                Ok(Command::Add(a, b))
-            },
-            Command::Tree(a, b) => {
-                let (a, b) = both(a, b)?;
-                Ok(Command::Tree(a, b))
-            },
-            Command::Set(a, b, c) => {
-                let (a, b, c) = all(a, b, c)?;
-                Ok(Command::Set(a, b, c))
-            },
-            Command::Unset(a, b) => {
-                let (a, b) = both(a, b)?;
-                Ok(Command::Unset(a, b))
-            },
-            Command::Remove(a) => Ok(Command::Remove(a.copy()?)),
-            Command::Move(a, b) => {
-                let (a, b) = both(a, b)?;
-                Ok(Command::Move(a, b))
-            },
-            Command::Mixin(a, b) => {
-                let (a, b) = both(a, b)?;
-                Ok(Command::Mixin(a, b))
-            },
-            Command::Unmixin(a, b) => {
-                let (a, b) = both(a, b)?;
-                Ok(Command::Unmixin(a, b))
-            },
-            Command::SetType(a, b) => {
-                let (a, b) = both(a, b)?;
-                Ok(Command::SetType(a, b))
-            },
-            Command::Get(a) => Ok(Command::Get(a.copy()?)),
-            Command::List(a) => Ok(Command::List(a.copy()?)),
-            Command::Props(a) => Ok(Command::Props(a.copy()?)),
-            Command::Id(a) => Ok(Command::Id(a.copy()?)),
-            Command::ById(a) => Ok(Command::ById(a.copy()?)),
-            Command::Refs(a) => Ok(Command::Refs(a.copy()?)),
-            Command::Save => Ok(Command::Save),
-            Command::Refresh(a) => Ok(Command::Refresh(a.copy()?)),
-            Command::Head => Ok(Command::Head),
-            Command::Lock(a, b) => {
-                let (a, b) = both(a, b)?;
-                Ok(Command::Lock(a, b))
-            },
-            Command::Unlock(a) => Ok(Command::Unlock(a.copy()?)),
-            Command::Token(a) => Ok(Command::Token(a.copy()?)),
-            Command::DropToken(a) => Ok(Command::DropToken(a.copy()?)),
-            Command::Checkin(a) => Ok(Command::Checkin(a.copy()?)),
-            Command::Checkout(a) => Ok(Command::Checkout(a.copy()?)),
-            Command::Label(a, b, c, d) => {
-                let (a, b, c) = all(a, b, c)?;
-                Ok(Command::Label(a, b, c, *d))
-            },
-            Command::Unlabel(a, b) => {
-                let (a, b) = both(a, b)?;
-                Ok(Command::Unlabel(a, b))
-            },
-            Command::Versions(a) => Ok(Command::Versions(a.copy()?)),
-            Command::Restore(a, b) => {
-                let (a, b) = both(a, b)?;
-                Ok(Command::Restore(a, b))
-            },
-            Command::Observe(a, b, c) => Ok(Command::Observe(a.copy()?, *b, *c)),
-            Command::Events => Ok(Command::Events),
-            Command::Query(a, b) => {
-                let (a, b) = both(a, b)?;
-                Ok(Command::Query(a, b))
-            },
-            Command::BackWrite => Ok(Command::BackWrite),
-            Command::BackRead => Ok(Command::BackRead),
-            Command::Split(a) => Ok(Command::Split(a.copy()?)),
-            Command::Sweep => Ok(Command::Sweep),
-            Command::Collect => Ok(Command::Collect),
-            Command::Checkpoint => Ok(Command::Checkpoint),
-            Command::Attach(a) => Ok(Command::Attach(a.copy()?)),
-            Command::Release(a) => Ok(Command::Release(a.copy()?)),
-            Command::Detach => Ok(Command::Detach),
-            Command::OrderBefore(a, b) => {
-                let (a, b) = both(a, b)?;
-                Ok(Command::OrderBefore(a, b))
-            },
-            Command::Stop(a) => Ok(Command::Stop(a.copy()?)),
-            Command::Recover(a) => Ok(Command::Recover(a.copy()?)),
         }
     }
 }

@@ -58,7 +58,7 @@ pub(crate) fn push_adding(
 fn push_props(writes: &mut List<Write>, path: &Path, node: Node) -> Result<(), AllocError>
     ensures { OnOk result (writes.new ≡ writes.old ++ map (λ x. Put path.now x.0 x.1) node.props) }
 {
-    for (name, property) in node.props.into_inner() {
+    for (name, property) in node.into_props().into_inner() {
         writes.push(Write::Put(path.copy()?, name, property))?;
     }
     Ok(())

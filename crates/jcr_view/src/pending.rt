@@ -29,10 +29,17 @@ use std::marker::Model;
 
 /// The pending changes of a session, over the tree at its base (JSR 283, 10.11 Saving): the touched nodes, by their
 /// paths.
-#[derive(Drop)]
 pub struct Pending {
     alloc: Global,
     overlay: Overlay,
+}
+
+// By hand, so that its parts are let go in one call.
+impl Drop for Pending {
+    fn drop(self) {
+        let Pending { alloc: _, overlay } = self;
+        drop(overlay);
+    }
 }
 
 impl Model for Pending {

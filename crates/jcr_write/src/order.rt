@@ -29,7 +29,7 @@ use std::alloc::{AllocError, Global};
 
 /// Where a child stands among those that no list orders: by the revision that added it, what is pending last, and
 /// then by name.
-#[derive(Debug, Drop, PartialEq, Eq, PartialOrd, Ord)]
+#[derive(Drop, PartialEq, Eq, PartialOrd, Ord)]
 pub struct Birth {
     pub pending: bool,
     pub born: Option<Revision>,

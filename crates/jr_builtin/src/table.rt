@@ -152,15 +152,8 @@ fn of_nodes(alloc: Global, place: usize) -> Made
     ensures { IfOk result (λ d. Some d.definition ≡ slice_get builtin place) }
 {
     match place {
-        0 => primary(alloc, "nt:base")?
-            .as_abstract()
-            .prop(alloc, "jcr:primaryType", Kind::Name, COMPUTED)?
-            .prop(alloc, "jcr:mixinTypes", Kind::Name, COMPUTED_LIST),
-        1 => primary(alloc, "nt:unstructured")?
-            .ordered()
-            .any_prop(alloc, None, LIST)?
-            .any_prop(alloc, None, PLAIN)?
-            .any_child(alloc, "nt:base", Some("nt:unstructured"), VERSIONED),
+        0 => base(alloc),
+        1 => unstructured(alloc),
         _ => unreachable!(),
     }
 }
@@ -171,18 +164,10 @@ fn of_contents(alloc: Global, place: usize) -> Made
     ensures { IfOk result (λ d. Some d.definition ≡ slice_get builtin place) }
 {
     match place {
-        2 => mixin(alloc, "mix:created")?
-            .prop(alloc, "jcr:created", Kind::Date, RECORDED)?
-            .prop(alloc, "jcr:createdBy", Kind::Str, RECORDED),
-        3 => mixin(alloc, "mix:lastModified")?
-            .prop(alloc, "jcr:lastModified", Kind::Date, AUTOCREATED)?
-            .prop(alloc, "jcr:lastModifiedBy", Kind::Str, AUTOCREATED),
-        4 => mixin(alloc, "mix:mimeType")?
-            .prop(alloc, "jcr:mimeType", Kind::Str, PLAIN)?
-            .prop(alloc, "jcr:encoding", Kind::Str, PLAIN),
-        5 => mixin(alloc, "mix:title")?
-            .prop(alloc, "jcr:title", Kind::Str, PLAIN)?
-            .prop(alloc, "jcr:description", Kind::Str, PLAIN),
+        2 => created(alloc),
+        3 => last_modified(alloc),
+        4 => mime_type(alloc),
+        5 => title(alloc),
         _ => unreachable!(),
     }
 }
@@ -193,17 +178,10 @@ fn of_states(alloc: Global, place: usize) -> Made
     ensures { IfOk result (λ d. Some d.definition ≡ slice_get builtin place) }
 {
     match place {
-        6 => mixin(alloc, "mix:referenceable")?.prop(alloc, "jcr:uuid", Kind::Str, IDENTIFIER),
-        7 => mixin(alloc, "mix:lockable")?
-            .prop(alloc, "jcr:lockOwner", Kind::Str, STATE)?
-            .prop(alloc, "jcr:lockIsDeep", Kind::Boolean, STATE),
-        8 => mixin(alloc, "mix:simpleVersionable")?.switch(alloc, "jcr:isCheckedOut", FIRST_STATE),
-        9 => mixin(alloc, "mix:versionable")?
-            .above(alloc, "mix:simpleVersionable")?
-            .above(alloc, "mix:referenceable")?
-            .prop(alloc, "jcr:versionHistory", Kind::Reference, FIXED_STATE)?
-            .prop(alloc, "jcr:baseVersion", Kind::Reference, FIXED_STATE)?
-            .prop(alloc, "jcr:predecessors", Kind::Reference, FIXED_STATE_LIST),
+        6 => referenceable(alloc),
+        7 => lockable(alloc),
+        8 => simple_versionable(alloc),
+        9 => versionable(alloc),
         _ => unreachable!(),
     }
 }
@@ -214,21 +192,10 @@ fn of_files(alloc: Global, place: usize) -> Made
     ensures { IfOk result (λ d. Some d.definition ≡ slice_get builtin place) }
 {
     match place {
-        10 => primary(alloc, "nt:hierarchyNode")?
-            .as_abstract()
-            .above(alloc, "mix:created"),
-        11 => primary(alloc, "nt:folder")?
-            .above(alloc, "nt:hierarchyNode")?
-            .any_child(alloc, "nt:hierarchyNode", None, VERSIONED),
-        12 => primary(alloc, "nt:file")?
-            .above(alloc, "nt:hierarchyNode")?
-            .child(alloc, "jcr:content", "nt:base", MANDATORY)?
-            .main_item(alloc, "jcr:content"),
-        13 => primary(alloc, "nt:resource")?
-            .above(alloc, "mix:mimeType")?
-            .above(alloc, "mix:lastModified")?
-            .prop(alloc, "jcr:data", Kind::Binary, MANDATORY)?
-            .main_item(alloc, "jcr:data"),
+        10 => hierarchy_node(alloc),
+        11 => folder(alloc),
+        12 => file(alloc),
+        13 => resource(alloc),
         _ => unreachable!(),
     }
 }
@@ -239,20 +206,9 @@ fn of_versions(alloc: Global, place: usize) -> Made
     ensures { IfOk result (λ d. Some d.definition ≡ slice_get builtin place) }
 {
     match place {
-        14 => primary(alloc, "nt:frozenNode")?
-            .prop(alloc, "jcr:frozenPrimaryType", Kind::Name, PROTECTED)?
-            .prop(alloc, "jcr:frozenMixinTypes", Kind::Name, PROTECTED_LIST)?
-            .prop(alloc, "jcr:frozenUuid", Kind::Str, PROTECTED)?
-            .any_prop(alloc, None, PROTECTED_LIST)?
-            .any_prop(alloc, None, PROTECTED)?
-            .any_child(alloc, "nt:frozenNode", None, PROTECTED),
-        15 => primary(alloc, "nt:version")?
-            .above(alloc, "mix:referenceable")?
-            .prop(alloc, "jcr:created", Kind::Date, PROTECTED)?
-            .prop(alloc, "jcr:predecessors", Kind::Reference, PROTECTED_LIST)?
-            .prop(alloc, "jcr:successors", Kind::Reference, PROTECTED_LIST)?
-            .child(alloc, "jcr:frozenNode", "nt:frozenNode", PROTECTED),
-        16 => primary(alloc, "nt:versionLabels")?.any_prop(alloc, Some(Kind::Reference), PROTECTED),
+        14 => frozen_node(alloc),
+        15 => version(alloc),
+        16 => version_labels(alloc),
         _ => unreachable!(),
     }
 }
@@ -263,20 +219,200 @@ fn of_histories(alloc: Global, place: usize) -> Made
     ensures { IfOk result (λ d. Some d.definition ≡ slice_get builtin place) }
 {
     match place {
-        17 => primary(alloc, "nt:versionHistory")?
-            .above(alloc, "mix:referenceable")?
-            .prop(alloc, "jcr:versionableUuid", Kind::Str, PROTECTED)?
-            .child(alloc, "jcr:rootVersion", "nt:version", FIXED)?
-            .child(alloc, "jcr:versionLabels", "nt:versionLabels", FIXED)?
-            .any_child(alloc, "nt:version", None, PROTECTED),
-        18 => {
-            let storage = primary(alloc, "rep:versionStorage")?;
-            storage.any_child(alloc, "nt:versionHistory", None, PROTECTED)
-        }
-        19 => {
-            let system = primary(alloc, "rep:system")?;
-            system.child(alloc, "jcr:versionStorage", "rep:versionStorage", FIXED)
-        }
+        17 => version_history(alloc),
+        18 => version_storage(alloc),
+        19 => system(alloc),
         _ => unreachable!(),
     }
+}
+
+// `nt:base`.
+fn base(alloc: Global) -> Made
+    ensures { IfOk result (λ d. Some d.definition ≡ slice_get builtin 0) }
+{
+    primary(alloc, "nt:base")?
+        .as_abstract()
+        .prop(alloc, "jcr:primaryType", Kind::Name, COMPUTED)?
+        .prop(alloc, "jcr:mixinTypes", Kind::Name, COMPUTED_LIST)
+}
+
+// `nt:unstructured`.
+fn unstructured(alloc: Global) -> Made
+    ensures { IfOk result (λ d. Some d.definition ≡ slice_get builtin 1) }
+{
+    primary(alloc, "nt:unstructured")?
+        .ordered()
+        .any_prop(alloc, None, LIST)?
+        .any_prop(alloc, None, PLAIN)?
+        .any_child(alloc, "nt:base", Some("nt:unstructured"), VERSIONED)
+}
+
+// `mix:created`.
+fn created(alloc: Global) -> Made
+    ensures { IfOk result (λ d. Some d.definition ≡ slice_get builtin 2) }
+{
+    mixin(alloc, "mix:created")?
+        .prop(alloc, "jcr:created", Kind::Date, RECORDED)?
+        .prop(alloc, "jcr:createdBy", Kind::Str, RECORDED)
+}
+
+// `mix:lastModified`.
+fn last_modified(alloc: Global) -> Made
+    ensures { IfOk result (λ d. Some d.definition ≡ slice_get builtin 3) }
+{
+    mixin(alloc, "mix:lastModified")?
+        .prop(alloc, "jcr:lastModified", Kind::Date, AUTOCREATED)?
+        .prop(alloc, "jcr:lastModifiedBy", Kind::Str, AUTOCREATED)
+}
+
+// `mix:mimeType`.
+fn mime_type(alloc: Global) -> Made
+    ensures { IfOk result (λ d. Some d.definition ≡ slice_get builtin 4) }
+{
+    mixin(alloc, "mix:mimeType")?
+        .prop(alloc, "jcr:mimeType", Kind::Str, PLAIN)?
+        .prop(alloc, "jcr:encoding", Kind::Str, PLAIN)
+}
+
+// `mix:title`.
+fn title(alloc: Global) -> Made
+    ensures { IfOk result (λ d. Some d.definition ≡ slice_get builtin 5) }
+{
+    mixin(alloc, "mix:title")?
+        .prop(alloc, "jcr:title", Kind::Str, PLAIN)?
+        .prop(alloc, "jcr:description", Kind::Str, PLAIN)
+}
+
+// `mix:referenceable`.
+fn referenceable(alloc: Global) -> Made
+    ensures { IfOk result (λ d. Some d.definition ≡ slice_get builtin 6) }
+{
+    mixin(alloc, "mix:referenceable")?.prop(alloc, "jcr:uuid", Kind::Str, IDENTIFIER)
+}
+
+// `mix:lockable`.
+fn lockable(alloc: Global) -> Made
+    ensures { IfOk result (λ d. Some d.definition ≡ slice_get builtin 7) }
+{
+    mixin(alloc, "mix:lockable")?
+        .prop(alloc, "jcr:lockOwner", Kind::Str, STATE)?
+        .prop(alloc, "jcr:lockIsDeep", Kind::Boolean, STATE)
+}
+
+// `mix:simpleVersionable`.
+fn simple_versionable(alloc: Global) -> Made
+    ensures { IfOk result (λ d. Some d.definition ≡ slice_get builtin 8) }
+{
+    mixin(alloc, "mix:simpleVersionable")?.switch(alloc, "jcr:isCheckedOut", FIRST_STATE)
+}
+
+// `mix:versionable`.
+fn versionable(alloc: Global) -> Made
+    ensures { IfOk result (λ d. Some d.definition ≡ slice_get builtin 9) }
+{
+    mixin(alloc, "mix:versionable")?
+        .above(alloc, "mix:simpleVersionable")?
+        .above(alloc, "mix:referenceable")?
+        .prop(alloc, "jcr:versionHistory", Kind::Reference, FIXED_STATE)?
+        .prop(alloc, "jcr:baseVersion", Kind::Reference, FIXED_STATE)?
+        .prop(alloc, "jcr:predecessors", Kind::Reference, FIXED_STATE_LIST)
+}
+
+// `nt:hierarchyNode`.
+fn hierarchy_node(alloc: Global) -> Made
+    ensures { IfOk result (λ d. Some d.definition ≡ slice_get builtin 10) }
+{
+    primary(alloc, "nt:hierarchyNode")?
+        .as_abstract()
+        .above(alloc, "mix:created")
+}
+
+// `nt:folder`.
+fn folder(alloc: Global) -> Made
+    ensures { IfOk result (λ d. Some d.definition ≡ slice_get builtin 11) }
+{
+    primary(alloc, "nt:folder")?
+        .above(alloc, "nt:hierarchyNode")?
+        .any_child(alloc, "nt:hierarchyNode", None, VERSIONED)
+}
+
+// `nt:file`.
+fn file(alloc: Global) -> Made
+    ensures { IfOk result (λ d. Some d.definition ≡ slice_get builtin 12) }
+{
+    primary(alloc, "nt:file")?
+        .above(alloc, "nt:hierarchyNode")?
+        .child(alloc, "jcr:content", "nt:base", MANDATORY)?
+        .main_item(alloc, "jcr:content")
+}
+
+// `nt:resource`.
+fn resource(alloc: Global) -> Made
+    ensures { IfOk result (λ d. Some d.definition ≡ slice_get builtin 13) }
+{
+    primary(alloc, "nt:resource")?
+        .above(alloc, "mix:mimeType")?
+        .above(alloc, "mix:lastModified")?
+        .prop(alloc, "jcr:data", Kind::Binary, MANDATORY)?
+        .main_item(alloc, "jcr:data")
+}
+
+// `nt:frozenNode`.
+fn frozen_node(alloc: Global) -> Made
+    ensures { IfOk result (λ d. Some d.definition ≡ slice_get builtin 14) }
+{
+    primary(alloc, "nt:frozenNode")?
+        .prop(alloc, "jcr:frozenPrimaryType", Kind::Name, PROTECTED)?
+        .prop(alloc, "jcr:frozenMixinTypes", Kind::Name, PROTECTED_LIST)?
+        .prop(alloc, "jcr:frozenUuid", Kind::Str, PROTECTED)?
+        .any_prop(alloc, None, PROTECTED_LIST)?
+        .any_prop(alloc, None, PROTECTED)?
+        .any_child(alloc, "nt:frozenNode", None, PROTECTED)
+}
+
+// `nt:version`.
+fn version(alloc: Global) -> Made
+    ensures { IfOk result (λ d. Some d.definition ≡ slice_get builtin 15) }
+{
+    primary(alloc, "nt:version")?
+        .above(alloc, "mix:referenceable")?
+        .prop(alloc, "jcr:created", Kind::Date, PROTECTED)?
+        .prop(alloc, "jcr:predecessors", Kind::Reference, PROTECTED_LIST)?
+        .prop(alloc, "jcr:successors", Kind::Reference, PROTECTED_LIST)?
+        .child(alloc, "jcr:frozenNode", "nt:frozenNode", PROTECTED)
+}
+
+// `nt:versionLabels`.
+fn version_labels(alloc: Global) -> Made
+    ensures { IfOk result (λ d. Some d.definition ≡ slice_get builtin 16) }
+{
+    primary(alloc, "nt:versionLabels")?.any_prop(alloc, Some(Kind::Reference), PROTECTED)
+}
+
+// `nt:versionHistory`.
+fn version_history(alloc: Global) -> Made
+    ensures { IfOk result (λ d. Some d.definition ≡ slice_get builtin 17) }
+{
+    primary(alloc, "nt:versionHistory")?
+        .above(alloc, "mix:referenceable")?
+        .prop(alloc, "jcr:versionableUuid", Kind::Str, PROTECTED)?
+        .child(alloc, "jcr:rootVersion", "nt:version", FIXED)?
+        .child(alloc, "jcr:versionLabels", "nt:versionLabels", FIXED)?
+        .any_child(alloc, "nt:version", None, PROTECTED)
+}
+
+// `rep:versionStorage`.
+fn version_storage(alloc: Global) -> Made
+    ensures { IfOk result (λ d. Some d.definition ≡ slice_get builtin 18) }
+{
+    let storage = primary(alloc, "rep:versionStorage")?;
+    storage.any_child(alloc, "nt:versionHistory", None, PROTECTED)
+}
+
+// `rep:system`.
+fn system(alloc: Global) -> Made
+    ensures { IfOk result (λ d. Some d.definition ≡ slice_get builtin 19) }
+{
+    let system = primary(alloc, "rep:system")?;
+    system.child(alloc, "jcr:versionStorage", "rep:versionStorage", FIXED)
 }

@@ -23,7 +23,7 @@ use serde_json::{Map, Value as Json};
 use std::alloc::{AllocError, AllocFailed, Global};
 
 /// Why a type isn't read from JSON.
-#[derive(Clone, Copy, Debug, PartialEq, Eq, Drop)]
+#[derive(Clone, Copy, PartialEq, Eq, Drop)]
 pub enum NoType {
     /// The JSON is no type's definition.
     NoDefinition,

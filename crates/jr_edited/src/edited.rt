@@ -17,7 +17,6 @@ use std::marker::Model;
 
 /// A tree with an edit made: contracts see its nodes. The tree itself is lent, and only the nodes that
 /// the edit writes are copied; what is asked costs what it asks for.
-#[derive(Drop)]
 pub struct Edited<'a> {
     alloc: Global,
     tree: &'a Tree,
@@ -25,6 +24,20 @@ pub struct Edited<'a> {
     // How many of the written nodes stood before the edit, and how many stand after it.
     before: usize,
     after: usize,
+}
+
+// By hand, so that its parts are let go in one call.
+impl Drop for Edited<'_> {
+    fn drop(self) {
+        let Edited {
+            alloc: _,
+            tree: _,
+            changes,
+            before: _,
+            after: _,
+        } = self;
+        drop(changes);
+    }
 }
 
 impl<'a> Model for Edited<'a> {

@@ -3,9 +3,15 @@ ghost use Rattle.std.specs.Prelude.{◌≡◌, ◌<◌};
 ghost use Rattle.jr_gen.specs.Draws.{draw, next};
 
 // A linear congruential generator modulo 2^64.
-#[derive(Drop)]
 pub(crate) struct Draws {
     pub(crate) state: u64,
+}
+
+// By hand, so that its parts are let go in one call.
+impl Drop for Draws {
+    fn drop(self) {
+        let Draws { state: _ } = self;
+    }
 }
 
 impl Draws {

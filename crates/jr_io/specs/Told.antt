@@ -28,6 +28,10 @@ Grows (Some written) after piece n = after ≡ Some (written ++ take n piece)
 abbrev pub GrowsByPart : Option (List ℕ) → Option (List ℕ) → List ℕ → Type 0
 GrowsByPart before after piece = (n : ℕ) × (n < length piece) × Grows before after piece n
 
+-- some first bytes of the piece were taken, or all
+abbrev pub GrowsWithin : Option (List ℕ) → Option (List ℕ) → List ℕ → Type 0
+GrowsWithin before after piece = (n : ℕ) × (n ≤ length piece) × Grows before after piece n
+
 -- all of the bytes taken were passed on
 abbrev pub IsPassedOn : Option (List ℕ) → Option ℕ → Type 0
 IsPassedOn written passed = passed ≡ option_map length written

@@ -7,7 +7,7 @@ use jr_path::Name;
 use std::alloc::{AllocError, Global};
 
 /// A name that the repository itself gives a meaning: of a property, of a node or of a node type.
-#[derive(Clone, Copy, Debug, PartialEq, Eq)]
+#[derive(Clone, Copy, PartialEq, Eq)]
 pub enum OwnName {
     PrimaryType,
     MixinTypes,

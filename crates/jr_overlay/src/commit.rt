@@ -126,10 +126,10 @@ fn dated(node: Option<Node>, old: &Option<Node>) -> Option<Node>
     ensures { result ≡ option_map (dated_as old.now) node }
 {
     match node {
-        Some(node) => Some(Node {
-            props: node.props,
-            born: born_of(old),
-        }),
+        Some(mut node) => {
+            node.born = born_of(old);
+            Some(node)
+        }
         None => None,
     }
 }

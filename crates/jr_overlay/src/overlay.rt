@@ -17,17 +17,32 @@ use std::alloc::{AllocError, Global};
 use std::marker::Model;
 
 /// A node that was touched: what stood at its path at the base, and what stands there in the view.
-#[derive(Drop)]
 pub struct Change {
     pub old: Option<Node>,
     pub new: Option<Node>,
 }
 
+// By hand, so that its parts are let go in one call.
+impl Drop for Change {
+    fn drop(self) {
+        let Change { old, new } = self;
+        drop(old);
+        drop(new);
+    }
+}
+
 /// The touched nodes of a view, by their paths. A touched node may be as it was.
-#[derive(Drop)]
 pub struct Overlay {
     pub(crate) alloc: Global,
     pub(crate) changes: Keyed<Path, Change>,
+}
+
+// By hand, so that its parts are let go in one call.
+impl Drop for Overlay {
+    fn drop(self) {
+        let Overlay { alloc: _, changes } = self;
+        drop(changes);
+    }
 }
 
 impl Model for Overlay {

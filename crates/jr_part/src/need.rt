@@ -4,7 +4,7 @@ use std::alloc::AllocError;
 
 /// What is asked of a tree: the node at a path, or that none is there; the names of the children of
 /// a node; all that is at or below a path; or the whole tree.
-#[derive(Debug, Drop)]
+#[derive(Drop)]
 pub enum Need {
     Node(Path),
     Children(Path),

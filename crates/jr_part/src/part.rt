@@ -22,7 +22,6 @@ use std::marker::Model;
 
 /// A part of a tree, as it was read so far: the nodes that are there, the paths without a node, and
 /// the names of children, each with the revision that added the child.
-#[derive(Drop)]
 pub struct Part {
     alloc: Global,
     tree: Tree,
@@ -30,6 +29,22 @@ pub struct Part {
     lists: Lists,
     // Nothing of the whole tree lacks. It may be false though nothing does.
     is_whole: bool,
+}
+
+// By hand, so that its parts are let go in one call.
+impl Drop for Part {
+    fn drop(self) {
+        let Part {
+            alloc: _,
+            tree,
+            absent,
+            lists,
+            is_whole: _,
+        } = self;
+        drop(tree);
+        drop(absent);
+        drop(lists);
+    }
 }
 
 impl Model for Part {
@@ -186,7 +201,9 @@ impl Part {
                 Ok(())
             }
             Err(refused) => {
-                *self = Part::new(self.alloc);
+                self.tree = Tree::new(self.alloc);
+                self.absent = Keyed::new(self.alloc);
+                self.lists = Keyed::new(self.alloc);
                 Err(refused)
             }
         }

@@ -1,5 +1,5 @@
 -- The texts and the store order of document ids.
-use Rattle.std.specs.Prelude.{ℕ, false, List, [], ◌∷◌, ◌++◌, length, codes}
+use Rattle.std.specs.Prelude.{ℕ, false, Option, None, Some, List, [], ◌∷◌, ◌++◌, length, codes}
 use Rattle.std.specs.declared.cmp.Ordering.{Ordering}
 use Rattle.std.specs.Fmt.{decimal, radix_digits}
 use Rattle.std.specs.List.{flat_map}
@@ -44,6 +44,11 @@ abbrev pub names_of : DocId → Path
 names_of (Node p) = p
 names_of (Prev n p) = p
 names_of Settings = []
+
+-- the path of a node's document
+abbrev pub node_path : DocId → Option Path
+node_path (Node p) = Some p
+node_path _ = None
 
 abbrev pub number_of : DocId → ℕ
 number_of (Prev n p) = n

@@ -15,9 +15,16 @@ use std::default::Emptied;
 use std::marker::Model;
 
 /// A finite map in the order of its keys, which rise; contracts see the list of its entries.
-#[derive(Drop)]
 pub struct Keyed<K: Ord, V> {
     map: BTreeMap<K, V>,
+}
+
+// By hand, so that its parts are let go in one call.
+impl<K: Ord + Drop, V: Drop> Drop for Keyed<K, V> {
+    fn drop(self) {
+        let Keyed { map } = self;
+        drop(map);
+    }
 }
 
 impl<K: Ord, V> Model for Keyed<K, V> {
@@ -63,7 +70,8 @@ impl<K: Ord, V> Keyed<K, V> {
     pub fn into_inner(self) -> BTreeMap<K, V>
         ensures { result.entries ≡ self }
     {
-        self.map
+        let Keyed { map } = self;
+        map
     }
 
     /// How many entries it has. Their keys rise.

@@ -9,9 +9,17 @@ use std::cmp::Ordering;
 use std::marker::Model;
 
 /// A list of items, over a vector.
-#[derive(Debug, Drop)]
+#[derive(Debug)]
 pub struct List<T> {
     items: Vec<T>,
+}
+
+// By hand, so that its parts are let go in one call.
+impl<T: Drop> Drop for List<T> {
+    fn drop(self) {
+        let List { items } = self;
+        drop(items);
+    }
 }
 
 impl<T> Model for List<T> {
@@ -57,7 +65,8 @@ impl<T> List<T> {
     pub fn into_inner(self) -> Vec<T>
         ensures { result.items ≡ self }
     {
-        self.items
+        let List { items } = self;
+        items
     }
 
     pub fn as_slice(&self) -> &[T]

@@ -12,9 +12,17 @@ use std::marker::Model;
 pub const MAX_NAME_BYTES: usize = 255;
 
 /// The name of a node or a property (JSR 283, 3.2 Names), ordered by its bytes.
-#[derive(Debug, Drop)]
+#[derive(Debug)]
 pub struct Name {
     text: String,
+}
+
+// By hand, so that its parts are let go in one call.
+impl Drop for Name {
+    fn drop(self) {
+        let Name { text } = self;
+        drop(text);
+    }
 }
 
 impl Model for Name {

@@ -5,7 +5,7 @@ ghost use Rattle.std.specs.Option.{option_copied};
 ghost use Rattle.std.specs.Ordering.{nat_cmp};
 ghost use Rattle.std.specs.String.{string_bytes};
 ghost use Rattle.jr_path.specs.Names.{parent_of, last_name, is_under};
-ghost use Rattle.jr_path.specs.Ids.{path_text, id_text, node_cmp as node_order};
+ghost use Rattle.jr_path.specs.Ids.{path_text, id_text, names_of, node_path, node_cmp as node_order};
 ghost use Rattle.jr_path.specs.Grammar.{IsName};
 ghost use Rattle.jr_path.specs.Paths.{IsPath, Measures, RefusesPath, RefusesText};
 
@@ -18,9 +18,17 @@ use std::marker::Model;
 
 /// The path of a node from the root (JSR 283, 3.4 Paths), seen as the list of its names.
 /// Ordered name by name, by bytes, a prefix first.
-#[derive(Debug, Drop)]
+#[derive(Debug)]
 pub struct Path {
     names: Vec<Name>,
+}
+
+// By hand, so that its parts are let go in one call.
+impl Drop for Path {
+    fn drop(self) {
+        let Path { names } = self;
+        drop(names);
+    }
 }
 
 impl Model for Path {
@@ -238,10 +246,19 @@ impl PartialOrd for Path {
 
 /// A node, or with a name a property of it (JSR 283, 3.1 Items).
 /// Nodes in path order, each before its properties, and these by name.
-#[derive(Debug, Drop, PartialEq, Eq, PartialOrd, Ord)]
+#[derive(Debug, PartialEq, Eq, PartialOrd, Ord)]
 pub struct Item {
     pub path: Path,
     pub name: Option<Name>,
+}
+
+// By hand, so that its parts are let go in one call.
+impl Drop for Item {
+    fn drop(self) {
+        let Item { path, name } = self;
+        drop(path);
+        drop(name);
+    }
 }
 
 impl DeepCopy for Item {
@@ -256,11 +273,22 @@ impl DeepCopy for Item {
 /// The id of a document: of a node, of a previous document of a node with its number, or of the
 /// settings (Oak, DocumentNodeStore: Node Document). Store order is nodes' documents by depth, then by
 /// the bytes of the path's text; previous documents by path, then number; then the settings.
-#[derive(Debug, Drop)]
+#[derive(Debug)]
 pub enum DocId {
     Node(Path),
     Prev(u64, Path),
     Settings,
+}
+
+// By hand, so that its parts are let go in one call.
+impl Drop for DocId {
+    fn drop(self) {
+        match self {
+            DocId::Node(path) => drop(path),
+            DocId::Prev(_, path) => drop(path),
+            DocId::Settings => {}
+        }
+    }
 }
 
 impl DocId {
@@ -279,6 +307,32 @@ impl DocId {
                 Ok(format!(in alloc; "p{number:x}:{path}")?)
             }
             DocId::Settings => Ok(String::from_str(alloc, "settings")?),
+        }
+    }
+
+    /// Gives the path of the node back whose document, or previous document, it is; the root for the
+    /// settings. It takes no memory.
+    pub fn into_path(self, alloc: Global) -> Path
+        ensures { result ≡ names_of self }
+    {
+        match self {
+            DocId::Node(path) | DocId::Prev(_, path) => path,
+            DocId::Settings => Path::root(alloc),
+        }
+    }
+
+    /// Gives the path of the node back whose document it is; there is none for previous documents and the
+    /// settings. It takes no memory.
+    pub fn into_node_path(self) -> Option<Path>
+        ensures { result ≡ node_path self }
+    {
+        match self {
+            DocId::Node(path) => Some(path),
+            DocId::Prev(_, path) => {
+                drop(path);
+                None
+            }
+            DocId::Settings => None,
         }
     }
 }

@@ -10,9 +10,17 @@ use std::cmp::Ordering;
 use std::marker::Model;
 
 /// A text in UTF-8, over a string; ordered by its bytes.
-#[derive(Debug, Drop)]
+#[derive(Debug)]
 pub struct Text {
     string: String,
+}
+
+// By hand, so that its parts are let go in one call.
+impl Drop for Text {
+    fn drop(self) {
+        let Text { string } = self;
+        drop(string);
+    }
 }
 
 impl Model for Text {
@@ -74,7 +82,8 @@ impl Text {
     pub fn into_inner(self) -> String
         ensures { string_bytes result ≡ self }
     {
-        self.string
+        let Text { string } = self;
+        string
     }
 
     /// How many bytes it has.

@@ -20,7 +20,7 @@ pub struct Script {
 
 /// An entry of a schedule: turns of the session that is named first, until what the entry waits for has come. A turn makes
 /// one step that counts, where the session can make one. A count, the second number, is 1 to 1,000,000.
-#[derive(Clone, Copy, Debug, PartialEq, Eq)]
+#[derive(Clone, Copy, PartialEq, Eq)]
 pub enum Entry {
     /// One turn.
     Turn(u32),
@@ -37,7 +37,7 @@ pub enum Entry {
 }
 
 /// Why an input isn't read as a script.
-#[derive(Debug, Drop)]
+#[derive(Drop)]
 pub enum ScriptFault {
     /// The input breaks a rule, and no earlier one, at the place that a JSON Pointer (RFC 6901)
     /// names, and where a text stands there that breaks it, at the offset of that byte of the text.

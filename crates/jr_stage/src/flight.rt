@@ -12,7 +12,7 @@ use std::alloc::{AllocError, Global};
 
 // A commit in flight: its revision, how many documents it has to write, and how many of them are
 // written. While it is undecided, it is neither committed nor refused, and nothing of it is undone.
-#[derive(Clone, Copy, Debug, PartialEq, Eq)]
+#[derive(Clone, Copy, PartialEq, Eq)]
 pub(crate) struct Flight {
     pub revision: Revision,
     pub documents: usize,

@@ -35,8 +35,7 @@ pub fn run_steps(alloc: Global, script: Script) -> Result<World<JcrLaw>, AllocEr
     stage.world.journal();
     the_product_obeys_throughout();
     the_product_answers_throughout();
-    let Stage { world, .. } = stage;
-    Ok(world)
+    Ok(stage.into_world())
 }
 
 impl Stage {

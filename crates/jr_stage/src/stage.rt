@@ -35,7 +35,6 @@ use std::snapshot::Snapshot;
 
 // The world, the sessions by number, each with its commands, and the schedule. The script that all
 // these are of is there for clauses alone.
-#[derive(Drop)]
 pub(crate) struct Stage {
     pub alloc: Global,
     pub script: Snapshot<Script>,
@@ -44,14 +43,55 @@ pub(crate) struct Stage {
     pub seats: Vec<Seat>,
 }
 
+// By hand, so that its parts are let go in one call.
+impl Drop for Stage {
+    fn drop(self) {
+        let Stage {
+            alloc: _,
+            script,
+            schedule,
+            world,
+            seats,
+        } = self;
+        drop(script);
+        drop(schedule);
+        drop(world);
+        drop(seats);
+    }
+}
+
 // A session, and what it has in flight.
-#[derive(Drop)]
 pub(crate) struct Seat {
     pub run: SessionRun,
     pub flight: Option<Flight>,
 }
 
+// By hand, so that its parts are let go in one call.
+impl Drop for Seat {
+    fn drop(self) {
+        let Seat { run, flight: _ } = self;
+        drop(run);
+    }
+}
+
 impl Stage {
+    // Gives its world back.
+    pub(crate) fn into_world(self) -> World<JcrLaw>
+        ensures { result ≡ self.world }
+    {
+        let Stage {
+            alloc: _,
+            script,
+            schedule,
+            world,
+            seats,
+        } = self;
+        drop(script);
+        drop(schedule);
+        drop(seats);
+        world
+    }
+
     // The sessions of a script before any turn. By the law that the product obeys they will see
     // trees that meet the types of the script.
     pub(crate) fn new(alloc: Global, script: Script) -> Result<Stage, AllocError>

@@ -9,7 +9,7 @@ use std::alloc::AllocError;
 use std::collections::BTreeSet;
 
 /// A write of one item (JSR 283, 3.1 Items): a node comes or goes, a property of a node is put or unset.
-#[derive(Debug, Drop)]
+#[derive(Debug)]
 pub enum Write {
     Here(Path),
     Gone(Path),
@@ -17,10 +17,37 @@ pub enum Write {
     Unset(Path, Name),
 }
 
+// By hand, so that its parts are let go in one call.
+impl Drop for Write {
+    fn drop(self) {
+        match self {
+            Write::Here(path) => drop(path),
+            Write::Gone(path) => drop(path),
+            Write::Put(path, name, property) => {
+                drop(path);
+                drop(name);
+                drop(property);
+            }
+            Write::Unset(path, name) => {
+                drop(path);
+                drop(name);
+            }
+        }
+    }
+}
+
 /// Writes of items. The last write of an item counts, and those of nodes come before those of properties.
-#[derive(Debug, Drop)]
+#[derive(Debug)]
 pub struct Edit {
     pub writes: List<Write>,
+}
+
+// By hand, so that its parts are let go in one call.
+impl Drop for Edit {
+    fn drop(self) {
+        let Edit { writes } = self;
+        drop(writes);
+    }
 }
 
 impl Write {

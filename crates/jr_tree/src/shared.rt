@@ -17,14 +17,22 @@ pub struct Who {
 }
 
 /// Why a command is refused: the number of the refusal, 1 to 16, and what its reply names.
-#[derive(Debug, Drop)]
+#[derive(Debug)]
 pub struct Refusal {
     pub number: u8,
     pub parts: List<Datum>,
 }
 
+// By hand, so that its parts are let go in one call.
+impl Drop for Refusal {
+    fn drop(self) {
+        let Refusal { number: _, parts } = self;
+        drop(parts);
+    }
+}
+
 /// A thing that the reply of a refusal names. Null stands where there is none.
-#[derive(Debug, Drop)]
+#[derive(Debug)]
 pub enum Datum {
     Path(Path),
     Item(Item),
@@ -36,19 +44,58 @@ pub enum Datum {
     Null,
 }
 
+// By hand, so that its parts are let go in one call.
+impl Drop for Datum {
+    fn drop(self) {
+        match self {
+            Datum::Path(path) => drop(path),
+            Datum::Item(item) => drop(item),
+            Datum::Name(name) => drop(name),
+            Datum::Text(text) => drop(text),
+            Datum::Number(_) => {}
+            Datum::Kind(_) => {}
+            Datum::Revision(_) => {}
+            Datum::Null => {}
+        }
+    }
+}
+
 /// An item that a commit wrote: whether it was there before, and whether it is after.
-#[derive(Debug, Drop)]
+#[derive(Debug)]
 pub struct ItemChange {
     pub item: Item,
     pub before: bool,
     pub after: bool,
 }
 
+// By hand, so that its parts are let go in one call.
+impl Drop for ItemChange {
+    fn drop(self) {
+        let ItemChange {
+            item,
+            before: _,
+            after: _,
+        } = self;
+        drop(item);
+    }
+}
+
 /// The items that the commit of this revision wrote.
-#[derive(Debug, Drop)]
+#[derive(Debug)]
 pub struct CommitChanges {
     pub revision: Revision,
     pub changes: List<ItemChange>,
+}
+
+// By hand, so that its parts are let go in one call.
+impl Drop for CommitChanges {
+    fn drop(self) {
+        let CommitChanges {
+            revision: _,
+            changes,
+        } = self;
+        drop(changes);
+    }
 }
 
 impl Refusal {

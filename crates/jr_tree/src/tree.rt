@@ -16,17 +16,31 @@ use std::marker::Model;
 
 /// A node (JSR 283, 3.1 Items): a property for each of its names, and the revision that added it, or none
 /// while its adding is pending.
-#[derive(Drop)]
 pub struct Node {
     pub props: Keyed<Name, Property>,
     pub born: Option<Revision>,
 }
 
+// By hand, so that its parts are let go in one call.
+impl Drop for Node {
+    fn drop(self) {
+        let Node { props, born: _ } = self;
+        drop(props);
+    }
+}
+
 /// A node for each path, seen as the list of nodes in the order of their paths.
-#[derive(Drop)]
 pub struct Tree {
     pub(crate) alloc: Global,
     pub(crate) nodes: Keyed<Path, Node>,
+}
+
+// By hand, so that its parts are let go in one call.
+impl Drop for Tree {
+    fn drop(self) {
+        let Tree { alloc: _, nodes } = self;
+        drop(nodes);
+    }
 }
 
 impl Model for Tree {
@@ -61,6 +75,14 @@ impl Node {
         ensures { IfOk result (λ node. node ≡ node_of_type kind) }
     {
         typed_node(alloc, kind, None)
+    }
+
+    /// Gives its properties back, without memory.
+    pub fn into_props(self) -> Keyed<Name, Property>
+        ensures { result ≡ self.props }
+    {
+        let Node { props, born: _ } = self;
+        props
     }
 }
 

@@ -23,7 +23,7 @@ pub use registry::{Registered, Registry};
 pub use said::{name_in, one_name};
 
 /// What a check-in of the parent does with an item.
-#[derive(Clone, Copy, Debug, PartialEq, Eq, PartialOrd, Ord)]
+#[derive(Clone, Copy, PartialEq, Eq, PartialOrd, Ord)]
 pub enum OnParentVersion {
     Copy,
     Version,
@@ -50,7 +50,6 @@ impl OnParentVersion {
 }
 
 /// What a property of this name may be; with no name, a property of any other name.
-#[derive(Drop)]
 pub struct PropDef {
     pub name: Option<Name>,
     pub kind: Option<Kind>,
@@ -63,8 +62,27 @@ pub struct PropDef {
     pub opv: OnParentVersion,
 }
 
+// By hand, so that its parts are let go in one call.
+impl Drop for PropDef {
+    fn drop(self) {
+        let PropDef {
+            name,
+            kind: _,
+            mandatory: _,
+            autocreated: _,
+            protected: _,
+            multiple: _,
+            defaults,
+            constraints,
+            opv: _,
+        } = self;
+        drop(name);
+        drop(defaults);
+        drop(constraints);
+    }
+}
+
 /// What a child of this name may be; with no name, a child of any other name.
-#[derive(Drop)]
 pub struct ChildDef {
     pub name: Option<Name>,
     pub types: List<Name>,
@@ -75,9 +93,26 @@ pub struct ChildDef {
     pub opv: OnParentVersion,
 }
 
+// By hand, so that its parts are let go in one call.
+impl Drop for ChildDef {
+    fn drop(self) {
+        let ChildDef {
+            name,
+            types,
+            default_type,
+            mandatory: _,
+            autocreated: _,
+            protected: _,
+            opv: _,
+        } = self;
+        drop(name);
+        drop(types);
+        drop(default_type);
+    }
+}
+
 /// A node type. One that is no mixin has `nt:base` as supertype besides those that it names, and an
 /// orderable one keeps the order of its children in the property `rep:childOrder`.
-#[derive(Drop)]
 pub struct TypeDef {
     pub name: Name,
     pub supertypes: List<Name>,
@@ -87,4 +122,25 @@ pub struct TypeDef {
     pub primary_item: Option<Name>,
     pub props: List<PropDef>,
     pub children: List<ChildDef>,
+}
+
+// By hand, so that its parts are let go in one call.
+impl Drop for TypeDef {
+    fn drop(self) {
+        let TypeDef {
+            name,
+            supertypes,
+            is_abstract: _,
+            mixin: _,
+            orderable: _,
+            primary_item,
+            props,
+            children,
+        } = self;
+        drop(name);
+        drop(supertypes);
+        drop(primary_item);
+        drop(props);
+        drop(children);
+    }
 }

@@ -20,15 +20,22 @@ use std::marker::Model;
 
 /// A registered type: its definition, and the places of itself and of all its supertypes among the
 /// registered ones, each once.
-#[derive(Drop)]
 pub struct Registered {
     pub(crate) definition: TypeDef,
     pub(crate) line: List<usize>,
 }
 
+// By hand, so that its parts are let go in one call.
+impl Drop for Registered {
+    fn drop(self) {
+        let Registered { definition, line } = self;
+        drop(definition);
+        drop(line);
+    }
+}
+
 /// The registered node types (JSR 283, 3.7.7 Node Type Registry), seen as the list of their
 /// definitions in order.
-#[derive(Drop)]
 pub struct Registry {
     pub(crate) alloc: Global,
     pub(crate) types: IndexMap<String, Registered>,
@@ -36,6 +43,23 @@ pub struct Registry {
     pub(crate) primary_type: Name,
     pub(crate) mixin_types: Name,
     pub(crate) order: PropDef,
+}
+
+// By hand, so that its parts are let go in one call.
+impl Drop for Registry {
+    fn drop(self) {
+        let Registry {
+            alloc: _,
+            types,
+            primary_type,
+            mixin_types,
+            order,
+        } = self;
+        drop(types);
+        drop(primary_type);
+        drop(mixin_types);
+        drop(order);
+    }
 }
 
 impl Model for Registry {

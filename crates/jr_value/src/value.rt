@@ -36,7 +36,7 @@ pub const ALL_KINDS: [Kind; 10] = [
 
 /// A value of one of the ten kinds. A DATE is in whole milliseconds, a REFERENCE or WEAKREFERENCE the
 /// 128-bit number of an identifier.
-#[derive(Debug, Drop)]
+#[derive(Debug)]
 pub enum Value {
     Str(Text),
     Binary(List<u8>),
@@ -48,6 +48,24 @@ pub enum Value {
     Reference(u128),
     WeakReference(u128),
     Uri(Text),
+}
+
+// By hand, so that its parts are let go in one call.
+impl Drop for Value {
+    fn drop(self) {
+        match self {
+            Value::Str(text) => drop(text),
+            Value::Binary(items) => drop(items),
+            Value::Long(_) => {}
+            Value::Date(_) => {}
+            Value::Boolean(_) => {}
+            Value::Name(name) => drop(name),
+            Value::Path(path) => drop(path),
+            Value::Reference(_) => {}
+            Value::WeakReference(_) => {}
+            Value::Uri(text) => drop(text),
+        }
+    }
 }
 
 /// The value of a property: one value, or any number of values of one kind.

@@ -9,9 +9,16 @@ use std::collections::VecDeque;
 use std::marker::Model;
 
 // The commands of a worker's sessions, in the order in which it runs them.
-#[derive(Drop)]
 pub(crate) struct Hand {
     commands: VecDeque<List<Command>>,
+}
+
+// By hand, so that its parts are let go in one call.
+impl Drop for Hand {
+    fn drop(self) {
+        let Hand { commands } = self;
+        drop(commands);
+    }
 }
 
 impl Model for Hand {

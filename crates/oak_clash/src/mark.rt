@@ -8,7 +8,7 @@ use std::alloc::AllocError;
 
 /// What a commit does at a node, as far as other commits have to know it (Oak, DocumentNodeStore:
 /// conflicts). Ordered Exists, Guard, Touch, then Prop by name.
-#[derive(Debug, Drop, PartialEq, Eq, PartialOrd, Ord)]
+#[derive(PartialEq, Eq, PartialOrd, Ord)]
 pub enum Mark {
     /// The node is added or removed.
     Exists,
@@ -20,11 +20,32 @@ pub enum Mark {
     Prop(Name),
 }
 
+// By hand, so that its parts are let go in one call.
+impl Drop for Mark {
+    fn drop(self) {
+        match self {
+            Mark::Exists => {}
+            Mark::Guard => {}
+            Mark::Touch => {}
+            Mark::Prop(name) => drop(name),
+        }
+    }
+}
+
 /// A mark with the path of its node, in path order, and at one path in the order of marks.
-#[derive(Debug, Drop, PartialEq, Eq, PartialOrd, Ord)]
+#[derive(PartialEq, Eq, PartialOrd, Ord)]
 pub struct MarkAt {
     pub path: Path,
     pub mark: Mark,
+}
+
+// By hand, so that its parts are let go in one call.
+impl Drop for MarkAt {
+    fn drop(self) {
+        let MarkAt { path, mark } = self;
+        drop(path);
+        drop(mark);
+    }
 }
 
 impl DeepCopy for Mark {

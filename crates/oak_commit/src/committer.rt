@@ -28,7 +28,6 @@ use std::marker::Model;
 /// The last write, on the commit root, is the commit point. Where the other is committed, or where somebody noted a
 /// collision with this revision before its last write, it is refused; then, or where memory is refused before the commit
 /// point, it undoes what it wrote. It ends in its node's memory.
-#[derive(Drop)]
 pub struct Committer {
     alloc: Global,
     revision: Revision,
@@ -46,6 +45,28 @@ pub struct Committer {
     outcome: Option<CommitEnd>,
     // Whether the node's memory has ended it.
     ended: bool,
+}
+
+// By hand, so that its parts are let go in one call.
+impl Drop for Committer {
+    fn drop(self) {
+        let Committer {
+            alloc: _,
+            revision: _,
+            base: _,
+            plan,
+            written: _,
+            undone: _,
+            due,
+            looking,
+            outcome,
+            ended: _,
+        } = self;
+        drop(plan);
+        drop(due);
+        drop(looking);
+        drop(outcome);
+    }
 }
 
 impl Model for Committer {

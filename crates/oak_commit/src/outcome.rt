@@ -3,7 +3,7 @@ use jr_path::Item;
 use jr_rev::Revision;
 
 /// How a commit ends.
-#[derive(Debug, Drop)]
+#[derive(Drop)]
 pub enum CommitEnd {
     Committed(Revision),
     /// It was refused for another commit that it clashes with in its item.

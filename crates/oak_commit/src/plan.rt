@@ -20,7 +20,6 @@ use std::alloc::{AllocError, Global};
 use std::marker::Model;
 
 // An edit with its marks; contracts see these two.
-#[derive(Drop)]
 pub(crate) struct Plan {
     alloc: Global,
     edit: Edit,
@@ -29,6 +28,27 @@ pub(crate) struct Plan {
     root: Path,
     writes: Places,
     marked: Places,
+}
+
+// By hand, so that its parts are let go in one call.
+impl Drop for Plan {
+    fn drop(self) {
+        let Plan {
+            alloc: _,
+            edit,
+            marks,
+            ids,
+            root,
+            writes,
+            marked,
+        } = self;
+        drop(edit);
+        drop(marks);
+        drop(ids);
+        drop(root);
+        drop(writes);
+        drop(marked);
+    }
 }
 
 impl Model for Plan {

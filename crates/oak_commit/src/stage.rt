@@ -1,7 +1,7 @@
 // What kind of operation a committer has due.
 
 /// The kind of operation that is due.
-#[derive(Clone, Copy, Debug, PartialEq, Eq)]
+#[derive(Clone, Copy, PartialEq, Eq)]
 pub enum Stage {
     /// A mark of a collision, on another's commit root.
     Mark,

@@ -22,7 +22,7 @@ pub enum Ask {
 }
 
 /// What is asked of a cluster node's memory.
-#[derive(Clone, Copy, Debug, PartialEq, Eq)]
+#[derive(Clone, Copy)]
 pub enum MemoryAsk {
     /// To end a revision that was drawn.
     Finish(Revision),
@@ -68,7 +68,7 @@ pub enum Reply {
 }
 
 /// How a removal ended.
-#[derive(Clone, Copy, Debug, PartialEq, Eq)]
+#[derive(Clone, Copy)]
 pub enum RemoveOut {
     Removed,
     /// The document has another `_modCount`, or the last number.
@@ -77,7 +77,7 @@ pub enum RemoveOut {
 }
 
 /// How a split ended: the count of entries moved, or the numbers read and found.
-#[derive(Clone, Copy, Debug, PartialEq, Eq)]
+#[derive(Clone, Copy)]
 pub enum SplitEnd {
     Split(u64),
     Skipped(u64, u64),
@@ -85,15 +85,26 @@ pub enum SplitEnd {
 
 /// What a collection did: entries pruned, documents removed, and for each document skipped its id with
 /// the numbers read and found.
-#[derive(Drop)]
 pub struct Collected {
     pub entries: u64,
     pub documents: u64,
     pub skipped: List<(DocId, u64, u64)>,
 }
 
+// By hand, so that its parts are let go in one call.
+impl Drop for Collected {
+    fn drop(self) {
+        let Collected {
+            entries: _,
+            documents: _,
+            skipped,
+        } = self;
+        drop(skipped);
+    }
+}
+
 /// What the recovery of a stopped cluster node did (Oak, DocumentNodeStore: "Background operations", recovery).
-#[derive(Clone, Copy, Debug, PartialEq, Eq)]
+#[derive(Clone, Copy)]
 pub struct Recovered {
     /// The revision up to which the commits of the cluster node are published.
     pub upto: Revision,

@@ -9,7 +9,6 @@ use std::alloc::Global;
 
 /// A document: of a node, a previous document of a node, or that of the settings (Oak, DocumentNodeStore:
 /// "Node Document"). A field that a kind of document doesn't have is empty or 0.
-#[derive(Drop)]
 pub struct Document {
     pub id: DocId,
     /// `_modCount`: the store's number at the last update.
@@ -42,8 +41,42 @@ pub struct Document {
     pub readers: Keyed<u32, Pin>,
 }
 
+// By hand, so that its parts are let go in one call.
+impl Drop for Document {
+    fn drop(self) {
+        let Document {
+            id,
+            mod_count: _,
+            deleted,
+            commit_root,
+            revisions,
+            collisions,
+            touched,
+            guard,
+            last_rev: _,
+            sweep_rev: _,
+            prev,
+            props,
+            sessions: _,
+            checkpoints,
+            readers,
+        } = self;
+        drop(id);
+        drop(deleted);
+        drop(commit_root);
+        drop(revisions);
+        drop(collisions);
+        drop(touched);
+        drop(guard);
+        drop(prev);
+        drop(props);
+        drop(checkpoints);
+        drop(readers);
+    }
+}
+
 /// A previous document that a document lists: its number, and the greatest and least revision in it.
-#[derive(Clone, Copy, Debug, PartialEq, Eq)]
+#[derive(Clone, Copy)]
 pub struct PrevEntry {
     pub number: u64,
     pub high: Revision,

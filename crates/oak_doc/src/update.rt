@@ -9,7 +9,6 @@ use jr_value::Property;
 use std::alloc::{AllocError, AllocFailed};
 
 /// One update of one document: its changes are made together, where the condition holds.
-#[derive(Drop)]
 pub struct UpdateOp {
     pub id: DocId,
     /// Whether the document is made where there is none.
@@ -18,8 +17,22 @@ pub struct UpdateOp {
     pub changes: List<Change>,
 }
 
+// By hand, so that its parts are let go in one call.
+impl Drop for UpdateOp {
+    fn drop(self) {
+        let UpdateOp {
+            id,
+            create: _,
+            cond: _,
+            changes,
+        } = self;
+        drop(id);
+        drop(changes);
+    }
+}
+
 /// A condition on the document before the update.
-#[derive(Clone, Copy, Debug, PartialEq, Eq)]
+#[derive(Clone, Copy)]
 pub enum Cond {
     /// `_collisions` has no entry of the revision.
     NoCollision(Revision),
@@ -34,7 +47,6 @@ pub enum Cond {
 }
 
 /// One change of a document.
-#[derive(Drop)]
 pub enum Change {
     /// Sets `_deleted` of the revision.
     Deleted(Revision, bool),
@@ -72,15 +84,49 @@ pub enum Change {
     Detach(u32),
 }
 
+// By hand, so that its parts are let go in one call.
+impl Drop for Change {
+    fn drop(self) {
+        match self {
+            Change::Deleted(_, _) => {}
+            Change::CommitRoot(_, _) => {}
+            Change::Revisions(_) => {}
+            Change::Collision(_, _, item) => drop(item),
+            Change::Touched(_) => {}
+            Change::Guard(_) => {}
+            Change::Prop(name, _, property) => {
+                drop(name);
+                drop(property);
+            }
+            Change::Undo(_) => {}
+            Change::Prune(entry_keys) => drop(entry_keys),
+            Change::List(_) => {}
+            Change::Unlist(_) => {}
+            Change::LastRev(_) => {}
+            Change::SweepRev(_) => {}
+            Change::Checkpoint(text, _) => drop(text),
+            Change::Release(text) => drop(text),
+            Change::Attach(_, text) => drop(text),
+            Change::Detach(_) => {}
+        }
+    }
+}
+
 /// One entry of a document.
-#[derive(Debug, Drop)]
 pub struct EntryKey {
     pub field: Field,
     pub revision: Revision,
 }
 
+// By hand, so that its parts are let go in one call.
+impl Drop for EntryKey {
+    fn drop(self) {
+        let EntryKey { field, revision: _ } = self;
+        drop(field);
+    }
+}
+
 /// A field that is kept by revision.
-#[derive(Debug, Drop)]
 pub enum Field {
     Deleted,
     CommitRoot,
@@ -91,8 +137,23 @@ pub enum Field {
     Prop(Name),
 }
 
+// By hand, so that its parts are let go in one call.
+impl Drop for Field {
+    fn drop(self) {
+        match self {
+            Field::Deleted => {}
+            Field::CommitRoot => {}
+            Field::Revisions => {}
+            Field::Collisions => {}
+            Field::Touched => {}
+            Field::Guard => {}
+            Field::Prop(name) => drop(name),
+        }
+    }
+}
+
 /// What stands against a condition: for NoCollision the entry, for Unchanged the `_modCount` found.
-#[derive(Debug, Drop)]
+#[derive(Drop)]
 pub enum Kept {
     Entry(Revision, Item),
     Number(u64),
@@ -100,7 +161,7 @@ pub enum Kept {
 }
 
 /// Why an update is refused.
-#[derive(Debug, Drop)]
+#[derive(Drop)]
 pub enum OpFault {
     /// The condition is false.
     Unmet(Cond, Kept),

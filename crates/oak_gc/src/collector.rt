@@ -31,7 +31,6 @@ use std::alloc::{AllocError, Global};
 /// the document has garbage of the bound, for the update or the removal that drops just this, where its `_modCount` is the
 /// number read, and for the removal of each previous document that this dropped. It keeps one document, with those that
 /// it lists. It never asks for the status of an entry.
-#[derive(Drop)]
 pub struct Collector {
     alloc: Global,
     // How many cluster nodes there are, from 1 on.
@@ -41,6 +40,22 @@ pub struct Collector {
     reading: Reading,
     collected: Collected,
     step: Step,
+}
+
+// By hand, so that its parts are let go in one call.
+impl Drop for Collector {
+    fn drop(self) {
+        let Collector {
+            alloc: _,
+            clusters: _,
+            bound: _,
+            reading,
+            collected,
+            step: _,
+        } = self;
+        drop(reading);
+        drop(collected);
+    }
 }
 
 impl Collector {
@@ -141,7 +156,16 @@ impl Collector {
         requires { due self ≡ ask.Done }
         ensures { result ≡ self.collected }
     {
-        self.collected
+        let Collector {
+            alloc: _,
+            clusters: _,
+            bound: _,
+            reading,
+            collected,
+            step: _,
+        } = self;
+        drop(reading);
+        collected
     }
 
     // A document that was asked for, or none.

@@ -18,13 +18,30 @@ use std::alloc::{AllocError, Global};
 
 // A node's document that was read, with its path; its entries that are garbage; of the previous documents that it lists
 // the numbers of those that are still to be asked for, and by number those that were found.
-#[derive(Drop)]
 pub(crate) struct Reading {
     pub(crate) at: Path,
     pub(crate) document: Document,
     pub(crate) garbage: List<EntryKey>,
     pub(crate) listed: List<u64>,
     pub(crate) previous: Keyed<u64, Document>,
+}
+
+// By hand, so that its parts are let go in one call.
+impl Drop for Reading {
+    fn drop(self) {
+        let Reading {
+            at,
+            document,
+            garbage,
+            listed,
+            previous,
+        } = self;
+        drop(at);
+        drop(document);
+        drop(garbage);
+        drop(listed);
+        drop(previous);
+    }
 }
 
 // What is due.

@@ -1,7 +1,7 @@
 // What kind of step a collector has due.
 
 /// The kind of step that is due.
-#[derive(Clone, Copy, Debug, PartialEq, Eq)]
+#[derive(Clone, Copy, PartialEq, Eq)]
 pub enum Stage {
     /// The root, a cluster node or the settings, for the bound.
     Bound,

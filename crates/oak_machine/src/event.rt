@@ -8,7 +8,7 @@ use oak_doc::{Collected, SplitEnd};
 
 /// The kinds of atomic step: one operation on one document, or on the memory of one cluster node, or one
 /// reply said.
-#[derive(Clone, Copy, Debug, PartialEq, Eq)]
+#[derive(Clone, Copy, PartialEq, Eq)]
 pub enum StepKind {
     /// A session logs in.
     Login,
@@ -53,7 +53,6 @@ pub enum StepKind {
 }
 
 /// A commit draws its revision: its session, the base on which its edit was made, the edit and its marks.
-#[derive(Drop)]
 pub struct Draw {
     pub revision: Revision,
     pub session: u32,
@@ -62,9 +61,23 @@ pub struct Draw {
     pub marks: List<MarkAt>,
 }
 
+// By hand, so that its parts are let go in one call.
+impl Drop for Draw {
+    fn drop(self) {
+        let Draw {
+            revision: _,
+            session: _,
+            base: _,
+            edit,
+            marks,
+        } = self;
+        drop(edit);
+        drop(marks);
+    }
+}
+
 /// What a step appends to the journal. A session is named by its number from 0, a cluster node by its
 /// number from 1.
-#[derive(Drop)]
 pub enum Event {
     /// A session logs in at its node's head.
     Login(u32, RevVec),
@@ -110,20 +123,70 @@ pub enum Event {
     Recover(u32),
 }
 
+// By hand, so that its parts are let go in one call.
+impl Drop for Event {
+    fn drop(self) {
+        match self {
+            Event::Login(_, _) => {}
+            Event::Refresh(_, _) => {}
+            Event::Draw(draw) => drop(draw),
+            Event::Commit(_) => {}
+            Event::Refuse(_, item, _) => drop(item),
+            Event::End(_) => {}
+            Event::Head(_, _) => {}
+            Event::Out(_, _) => {}
+            Event::In(_, _) => {}
+            Event::Sweep(_, _) => {}
+            Event::Bound(_, _) => {}
+            Event::Checkpoint(text, _) => drop(text),
+            Event::Attach(_, text) => drop(text),
+            Event::Detach(_) => {}
+            Event::Release(text) => drop(text),
+            Event::Split(_, path, _) => drop(path),
+            Event::Collected(_, collected) => drop(collected),
+            Event::Went(_, _) => {}
+            Event::Said(_, _, text) => drop(text),
+            Event::Stop(_) => {}
+            Event::Recover(_) => {}
+        }
+    }
+}
+
 /// What a journal begins with that doesn't begin before any commit: the tree, and the vector that each
 /// head has then.
-#[derive(Drop)]
 pub struct Start {
     pub tree: Tree,
     pub at: RevVec,
 }
 
+// By hand, so that its parts are let go in one call.
+impl Drop for Start {
+    fn drop(self) {
+        let Start { tree, at: _ } = self;
+        drop(tree);
+    }
+}
+
 /// The events in their order, with the number of cluster nodes, the cluster node of each session, and the
 /// start: None means the initial tree, and that each head has the start of each cluster node.
-#[derive(Drop)]
 pub struct Journal {
     pub clusters: u32,
     pub sessions: List<u32>,
     pub events: Events,
     pub start: Option<Start>,
+}
+
+// By hand, so that its parts are let go in one call.
+impl Drop for Journal {
+    fn drop(self) {
+        let Journal {
+            clusters: _,
+            sessions,
+            events,
+            start,
+        } = self;
+        drop(sessions);
+        drop(events);
+        drop(start);
+    }
 }

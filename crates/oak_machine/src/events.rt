@@ -2,16 +2,22 @@
 ghost use Rattle.std.specs.Prelude.{◌≡◌, ◌<◌, ◌≤◌, ◌+◌, ◌∷◌, ◌++◌, [], IfOk, OnOk, OnErr, length};
 
 use crate::Event;
-use jr_path::DeepCopy;
 use std::alloc::{AllocError, Global};
 use std::marker::Model;
 
 /// Events in their order, with places that are kept for some more: an event that takes a kept place needs no memory.
-#[derive(Drop)]
 pub struct Events {
     items: Vec<Event>,
     // The vector has room for so many more.
     places: usize,
+}
+
+// By hand, so that its parts are let go in one call.
+impl Drop for Events {
+    fn drop(self) {
+        let Events { items, places: _ } = self;
+        drop(items);
+    }
 }
 
 impl Model for Events {
@@ -102,26 +108,4 @@ impl Events {
         self.push_kept(event);
         Ok(())
     }
-}
-
-impl DeepCopy for Events {
-    fn copy(&self) -> Result<Events, AllocError> {
-        let mut items = copy_all(self.allocator(), self.as_slice())?;
-        items.reserve(self.places)?;
-        Ok(Events {
-            items,
-            places: self.places,
-        })
-    }
-}
-
-// Copies of events.
-fn copy_all(alloc: Global, events: &[Event]) -> Result<Vec<Event>, AllocError>
-    ensures { IfOk result (λ copies. copies.items ≡ events.now) }
-{
-    let mut copies = Vec::new(alloc);
-    for event in events {
-        copies.push(event.copy()?)?;
-    }
-    Ok(copies)
 }

@@ -27,7 +27,7 @@ pub trait Law {
 }
 
 /// The law under which nothing starts, and anything may be said.
-#[derive(Clone, Copy, Debug, PartialEq, Eq)]
+#[derive(Clone, Copy, PartialEq, Eq)]
 pub struct IdleLaw;
 
 impl Law for IdleLaw {

@@ -1,7 +1,6 @@
 //! The journal, what it means, and which event may follow it.
 #![tactic(auto)]
 
-mod copies;
 mod event;
 mod events;
 mod law;

@@ -33,7 +33,6 @@ pub enum Awaits {
 /// Its number, 1 to 8; its head, a revision vector; the sweep vector; the time of its last draw;
 /// the revisions that it drew above its head's own entry; the pins, one for an owner; the paths
 /// that it noted to be published; whether the node was stopped, and its memory recovered.
-#[derive(Drop)]
 pub struct NodeMem {
     cluster: u32,
     head: RevVec,
@@ -44,6 +43,26 @@ pub struct NodeMem {
     notes: Vec<Note>,
     stopped: bool,
     recovered: bool,
+}
+
+// By hand, so that its parts are let go in one call.
+impl Drop for NodeMem {
+    fn drop(self) {
+        let NodeMem {
+            cluster: _,
+            head: _,
+            sweep: _,
+            last_time: _,
+            above,
+            pins,
+            notes,
+            stopped: _,
+            recovered: _,
+        } = self;
+        drop(above);
+        drop(pins);
+        drop(notes);
+    }
 }
 
 impl Model for NodeMem {

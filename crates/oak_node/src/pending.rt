@@ -10,18 +10,34 @@ use jr_rev::{RevVec, Revision};
 use std::alloc::{AllocError, Global};
 
 /// A path that a commit changed, with the commit's revision.
-#[derive(Debug, Drop)]
+#[derive(Debug)]
 pub struct Note {
     pub path: Path,
     pub revision: Revision,
 }
 
+// By hand, so that its parts are let go in one call.
+impl Drop for Note {
+    fn drop(self) {
+        let Note { path, revision: _ } = self;
+        drop(path);
+    }
+}
+
 /// What a background write is to publish (Oak, DocumentNodeStore: "Background operations"): the
 /// changed paths, each once and in path order, and the revision that becomes their `_lastRev`.
-#[derive(Debug, Drop)]
+#[derive(Debug)]
 pub struct Pending {
     pub paths: List<Path>,
     pub upto: Revision,
+}
+
+// By hand, so that its parts are let go in one call.
+impl Drop for Pending {
+    fn drop(self) {
+        let Pending { paths, upto: _ } = self;
+        drop(paths);
+    }
 }
 
 impl DeepCopy for Pending {

@@ -21,10 +21,18 @@ use std::alloc::{AllocError, Global};
 type Values = Keyed<Revision, Option<Property>>;
 
 // The document that was read, and the other commit roots that were found.
-#[derive(Drop)]
 pub(crate) struct Reading {
     pub(crate) document: Document,
     pub(crate) roots: Keyed<DocId, Document>,
+}
+
+// By hand, so that its parts are let go in one call.
+impl Drop for Reading {
+    fn drop(self) {
+        let Reading { document, roots } = self;
+        drop(document);
+        drop(roots);
+    }
 }
 
 // The commit roots of a document's properties that only tell whether their entries are committed, but for the document

@@ -26,7 +26,6 @@ use std::alloc::{AllocError, Global};
 /// moves, for the write of a previous document, where there is none of its id, and for the update of the document that
 /// drops what moved and lists the previous document, where its `_modCount` is the number read. Where that is another,
 /// or the document is gone, it removes the previous document again.
-#[derive(Drop)]
 pub struct Splitter {
     alloc: Global,
     pin: Pin,
@@ -36,6 +35,25 @@ pub struct Splitter {
     asked: DocId,
     left: Keyed<DocId, ()>,
     step: Step,
+}
+
+// By hand, so that its parts are let go in one call.
+impl Drop for Splitter {
+    fn drop(self) {
+        let Splitter {
+            alloc: _,
+            pin: _,
+            path,
+            reading,
+            asked,
+            left,
+            step: _,
+        } = self;
+        drop(path);
+        drop(reading);
+        drop(asked);
+        drop(left);
+    }
 }
 
 // What is due.

@@ -1,7 +1,7 @@
 // What kind of step a splitter has due.
 
 /// The kind of step that is due.
-#[derive(Clone, Copy, Debug, PartialEq, Eq)]
+#[derive(Clone, Copy, PartialEq, Eq)]
 pub enum Stage {
     /// The document; the previous document's write; the document's update; the previous document's removal.
     Split,

@@ -29,7 +29,6 @@ pub enum ReadOut {
 /// "Reading"). It asks for the node's document, for the previous documents that it lists, and for the
 /// commit roots that tell of entries which the sweep vector doesn't see; each once where it is there.
 /// For children it does so for each document one name below the path, one after another in store order.
-#[derive(Drop)]
 pub struct Reader {
     alloc: Global,
     pin: Pin,
@@ -42,6 +41,26 @@ pub struct Reader {
     // The children that are found so far.
     names: List<(Name, Option<Revision>)>,
     step: Step,
+}
+
+// By hand, so that its parts are let go in one call.
+impl Drop for Reader {
+    fn drop(self) {
+        let Reader {
+            alloc: _,
+            pin: _,
+            parent,
+            at,
+            known,
+            names,
+            step,
+        } = self;
+        drop(parent);
+        drop(at);
+        drop(known);
+        drop(names);
+        drop(step);
+    }
 }
 
 // What is due.
@@ -144,10 +163,10 @@ impl Reader {
         requires { due self ≡ ask.Done }
         ensures { self.step ≡ Done result }
     {
-        let Reader { step, .. } = self;
-        match step {
+        let mut reader = self;
+        match mem::replace(&mut reader.step, Step::Main) {
             Step::Done(out) => out,
-            _ => ReadOut::Node(None),
+            _ => unreachable!(),
         }
     }
 

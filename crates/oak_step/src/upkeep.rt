@@ -163,7 +163,7 @@ fn publish(
             alloc,
             table,
             events,
-            path_in(alloc, id),
+            id.into_path(alloc),
             r,
             Event::Went(s, StepKind::Back),
         ) {
@@ -184,16 +184,6 @@ fn publish(
             Ok(()) => (Work::Rest, StepOut::Ready(TaskEnd::Published(r))),
             Err(AllocError) => (Work::Rest, StepOut::Memory),
         },
-    }
-}
-
-// The path of a document's node.
-fn path_in(alloc: Global, id: DocId) -> Path
-    ensures { result ≡ names_of id }
-{
-    match id {
-        DocId::Node(path) | DocId::Prev(_, path) => path,
-        DocId::Settings => Path::root(alloc),
     }
 }
 

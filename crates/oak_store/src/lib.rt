@@ -15,11 +15,22 @@ use std::ops::Bound;
 
 /// The documents in store order, and the number that was drawn last. Each Ok update and each undo draws the next
 /// number of the whole store, up to 2^64 - 1, at which it stays.
-#[derive(Drop)]
 pub struct DocTable {
     alloc: Global,
     documents: Keyed<DocId, Document>,
     number: u64,
+}
+
+// By hand, so that its parts are let go in one call.
+impl Drop for DocTable {
+    fn drop(self) {
+        let DocTable {
+            alloc: _,
+            documents,
+            number: _,
+        } = self;
+        drop(documents);
+    }
 }
 
 impl Model for DocTable {

@@ -4,7 +4,7 @@ use Rattle.std.specs.Prelude.{fold}
 use Rattle.std.specs.declared.alloc.Global.{Global}
 use Rattle.std.specs.declared.cmp.Ordering.{Ordering}
 use Rattle.std.specs.declared.cmp.Ordering.TheVariants.{Less, Equal, Greater}
-use Rattle.jr_path.specs.Ids.{id_cmp}
+use Rattle.jr_path.specs.Ids.{id_cmp, node_path}
 use Rattle.jr_path.specs.declared.path.Path.{Path}
 use Rattle.jr_path.specs.declared.path.DocId.{DocId}
 use Rattle.jr_path.specs.declared.path.DocId.TheVariants as id
@@ -14,7 +14,7 @@ use Rattle.oak_doc.specs.declared.document.Document.{Document}
 use Rattle.oak_doc.specs.declared.asks.Ask.TheVariants as ask
 use Rattle.oak_doc.specs.declared.asks.Reply.{Reply}
 use Rattle.oak_doc.specs.declared.asks.Reply.TheVariants as reply
-use Rattle.oak_sweep.specs.Sweeping.{begun, due, fed, node_of, node_path, passed, sweep_op, target_in}
+use Rattle.oak_sweep.specs.Sweeping.{begun, due, fed, node_of, passed, sweep_op, target_in}
 use Rattle.oak_sweep.specs.Ending.{AllKnow, IsUpTo, MissesNone, WasShown}
 use Rattle.oak_sweep.specs.declared.sweeper.Sweeper.{Sweeper}
 use Rattle.oak_sweep.specs.declared.sweeper.Step.{Step}

@@ -13,7 +13,7 @@ use Rattle.std.specs.declared.ops.Bound.TheVariants.{Excluded, Unbounded}
 use Rattle.std.specs.BTreeMap.Range.{entries_between, range_contains}
 use Rattle.std.proofs.lemmas.Cmp.{tied_itself}
 use Rattle.std.proofs.lemmas.List.Elements.{recursion_from_All}
-use Rattle.jr_path.specs.Ids.{id_cmp}
+use Rattle.jr_path.specs.Ids.{id_cmp, node_path}
 use Rattle.jr_path.specs.declared.path.Path.{Path}
 use Rattle.jr_path.specs.declared.path.DocId.{DocId}
 use Rattle.jr_path.specs.declared.path.DocId.TheVariants as id
@@ -25,7 +25,7 @@ use Rattle.oak_doc.specs.declared.asks.Ask.TheVariants as ask
 use Rattle.oak_doc.specs.declared.asks.Reply.TheVariants as reply
 use Rattle.oak_read.specs.Meaning.{documents_in}
 use Rattle.oak_read.specs.Reading.{IsTable}
-use Rattle.oak_sweep.specs.Sweeping.{begun, due, fed, node_of, node_path, passed, sweep_op, target_in}
+use Rattle.oak_sweep.specs.Sweeping.{begun, due, fed, node_of, passed, sweep_op, target_in}
 use Rattle.oak_sweep.specs.Ending.{SweepsAll, after_replies, answer, asked, asks_behind, nodes_of}
 use Rattle.oak_sweep.specs.declared.sweeper.Sweeper.{Sweeper}
 use Rattle.oak_sweep.specs.declared.sweeper.Step.{Step}

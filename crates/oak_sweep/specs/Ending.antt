@@ -5,7 +5,7 @@ use Rattle.std.specs.List.{filter_map}
 use Rattle.std.specs.Map.{keys_of}
 use Rattle.std.specs.declared.alloc.Global.{Global}
 use Rattle.std.specs.declared.cmp.Ordering.TheVariants.{Greater, Less}
-use Rattle.jr_path.specs.Ids.{id_cmp}
+use Rattle.jr_path.specs.Ids.{id_cmp, node_path}
 use Rattle.jr_path.specs.declared.path.Path.{Path}
 use Rattle.jr_path.specs.declared.path.DocId.{DocId}
 use Rattle.jr_path.specs.declared.path.DocId.TheVariants as id
@@ -19,7 +19,7 @@ use Rattle.oak_doc.specs.declared.asks.Reply.{Reply}
 use Rattle.oak_doc.specs.declared.asks.Reply.TheVariants as reply
 use Rattle.oak_read.specs.Meaning.{documents_in}
 use Rattle.oak_read.specs.Reading as reading
-use Rattle.oak_sweep.specs.Sweeping.{begun, due, fed, node_path, sweep_op, target_in}
+use Rattle.oak_sweep.specs.Sweeping.{begun, due, fed, sweep_op, target_in}
 use Rattle.oak_sweep.specs.declared.sweeper.Sweeper.{Sweeper}
 
 -- ---- over documents at rest

@@ -2,6 +2,7 @@
 use Rattle.std.specs.Prelude.{ℕ, false, [], ◌∷◌, Option, None, Some}
 use Rattle.std.specs.Option.{option_and_then, option_map_or, unwrap_or}
 use Rattle.std.specs.declared.alloc.Global.{Global}
+use Rattle.jr_path.specs.Ids.{node_path}
 use Rattle.jr_path.specs.declared.path.Path.{Path}
 use Rattle.jr_path.specs.declared.path.DocId.{DocId}
 use Rattle.jr_path.specs.declared.path.DocId.TheVariants as id
@@ -28,11 +29,6 @@ begun a cluster = record { alloc = a; cluster = cluster; target = start_of clust
 -- how far the cluster node has published, by the root's document; its start where that has no entry of it
 abbrev pub target_in : ℕ → Option Document → Revision
 target_in cluster root = unwrap_or (option_and_then (λ d. entry d.last_rev cluster) root) (start_of cluster)
-
--- the path of a node's document
-abbrev pub node_path : DocId → Option Path
-node_path (id.Node p) = Some p
-node_path _ = None
 
 -- the path of the node whose document was found
 abbrev pub node_of : Option Document → Option Path

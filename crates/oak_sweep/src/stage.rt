@@ -1,7 +1,7 @@
 // What kind of operation a sweep has due.
 
 /// The kind of operation that is due.
-#[derive(Clone, Copy, Debug, PartialEq, Eq)]
+#[derive(Clone, Copy, PartialEq, Eq)]
 pub enum Stage {
     /// The read of the root's document, which has the target.
     Root,

@@ -15,13 +15,25 @@ use std::alloc::{AllocError, Global};
 /// Sweeps what a cluster node has published (Oak, DocumentNodeStore: "Sweep revision"). It reads in the root's
 /// document how far the node has published, which is the target, passes over every node's document, one at a time in
 /// store order, and then tells the root, and the node's memory, that up to the target what is found is committed.
-#[derive(Drop)]
 pub struct Sweeper {
     alloc: Global,
     cluster: u32,
     // The root's `_lastRev` entry of the cluster node; before the root is read, the node's start.
     target: Revision,
     step: Step,
+}
+
+// By hand, so that its parts are let go in one call.
+impl Drop for Sweeper {
+    fn drop(self) {
+        let Sweeper {
+            alloc: _,
+            cluster: _,
+            target: _,
+            step,
+        } = self;
+        drop(step);
+    }
 }
 
 // What is due.
@@ -200,11 +212,8 @@ impl Sweeper {
 fn node_of(found: Option<Document>) -> Option<Path>
     ensures { result ≡ node_of found }
 {
-    let Document { id, .. } = found?;
-    match id {
-        DocId::Node(path) => Some(path),
-        DocId::Prev(_, _) | DocId::Settings => None,
-    }
+    let mut document = found?;
+    std::mem::replace(&mut document.id, DocId::Settings).into_node_path()
 }
 
 // The vector with this entry alone.

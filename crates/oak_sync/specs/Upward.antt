@@ -3,7 +3,7 @@ use Rattle.std.specs.Prelude.{Bool, ◌||◌, ◌==◌, List, length, Option, No
 use Rattle.std.specs.List.{filter_map, list_any}
 use Rattle.std.specs.List.Sorted.{IsStrictlySortedBy}
 use Rattle.std.specs.declared.cmp.Ordering.{Ordering}
-use Rattle.jr_path.specs.Ids.{id_cmp}
+use Rattle.jr_path.specs.Ids.{id_cmp, node_path}
 use Rattle.jr_path.specs.Names.{is_under}
 use Rattle.jr_path.specs.declared.path.Path.{Path}
 use Rattle.jr_path.specs.declared.path.DocId.{DocId}
@@ -21,11 +21,6 @@ backward_cmp p q = id_cmp (id.Node q) (id.Node p)
 pub record AreUpward (paths up : List Path) : Type 0 where
   pub which : (p : Path) → Contains up p ↔ IsTrue (is_upward paths p)
   pub ordered : IsStrictlySortedBy backward_cmp up
-
--- the path of a node's document
-abbrev pub node_path : DocId → Option Path
-node_path (id.Node p) = Some p
-node_path _ = None
 
 -- of ids, the paths of those that are of nodes' documents
 abbrev pub node_paths : List DocId → List Path

@@ -14,7 +14,6 @@ use std::alloc::{AllocError, Global};
 /// Learns what the cluster nodes have published (Oak, DocumentNodeStore: "Background operations", read). It
 /// asks for the root's document, once, and hands its `_lastRev` and its `_sweepRev`, as they stand there, to the node's
 /// memory.
-#[derive(Drop)]
 pub struct BackRead {
     alloc: Global,
     cluster: u32,
@@ -22,6 +21,19 @@ pub struct BackRead {
     // The `_lastRev` and the `_sweepRev` that were read; no entries before.
     last: RevVec,
     sweep: RevVec,
+}
+
+// By hand, so that its parts are let go in one call.
+impl Drop for BackRead {
+    fn drop(self) {
+        let BackRead {
+            alloc: _,
+            cluster: _,
+            step: _,
+            last: _,
+            sweep: _,
+        } = self;
+    }
 }
 
 // What is due.

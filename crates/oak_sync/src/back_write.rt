@@ -15,7 +15,6 @@ use std::alloc::{AllocError, Global};
 /// "Background operations", write). It sets the node's entry of `_lastRev` in the document of each changed
 /// node and of all that is above it, the deepest first; the root's document is the last, and with it the other cluster
 /// nodes can learn of the changes. A document that is gone is passed over, and none is made.
-#[derive(Drop)]
 pub struct BackWrite {
     alloc: Global,
     upto: Revision,
@@ -23,6 +22,19 @@ pub struct BackWrite {
     paths: List<Path>,
     // How many of them are done.
     written: usize,
+}
+
+// By hand, so that its parts are let go in one call.
+impl Drop for BackWrite {
+    fn drop(self) {
+        let BackWrite {
+            alloc: _,
+            upto: _,
+            paths,
+            written: _,
+        } = self;
+        drop(paths);
+    }
 }
 
 impl BackWrite {

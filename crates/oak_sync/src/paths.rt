@@ -50,7 +50,7 @@ fn paths_of(alloc: Global, ids: Keyed<DocId, ()>) -> Result<Vec<Path>, AllocErro
 {
     let mut paths = Vec::with_capacity(alloc, ids.len())?;
     for (id, _) in ids.into_inner() {
-        if let DocId::Node(path) = id {
+        if let Some(path) = id.into_node_path() {
             paths.push(path)?;
         }
     }

@@ -1,7 +1,7 @@
 // What kind of operation a background write or read has due.
 
 /// The kind of operation that is due.
-#[derive(Clone, Copy, Debug, PartialEq, Eq)]
+#[derive(Clone, Copy, PartialEq, Eq)]
 pub enum Stage {
     /// The write of a document below the root.
     Write,

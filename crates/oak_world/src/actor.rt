@@ -20,7 +20,6 @@ use std::marker::Model;
 use std::mem;
 
 // A session, with what is kept for it.
-#[derive(Drop)]
 pub(crate) struct Actor {
     pub(crate) work: Work,
     // How many events the journal had when it was told what to do.
@@ -31,6 +30,21 @@ pub(crate) struct Actor {
     pub(crate) places: usize,
     // How many documents its loads and lists have read.
     pub(crate) reads: u64,
+}
+
+// By hand, so that its parts are let go in one call.
+impl Drop for Actor {
+    fn drop(self) {
+        let Actor {
+            work,
+            began: _,
+            reply,
+            places: _,
+            reads: _,
+        } = self;
+        drop(work);
+        drop(reply);
+    }
 }
 
 impl Actor {

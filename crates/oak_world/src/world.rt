@@ -46,7 +46,6 @@ use std::snapshot::Snapshot;
 /// The law, which clauses alone read and which takes no memory; the journal, the documents, the memories of one to eight cluster nodes,
 /// and what each session does. Its steps are those of Oak's DocumentNodeStore (Oak, DocumentNodeStore): one operation on one document or
 /// on one node's memory, in any order of the sessions.
-#[derive(Drop)]
 pub struct World<L: Law> {
     alloc: Global,
     law: Snapshot<L>,
@@ -54,6 +53,25 @@ pub struct World<L: Law> {
     table: DocTable,
     memories: Vec<NodeMem>,
     actors: Vec<Actor>,
+}
+
+// By hand, so that its parts are let go in one call.
+impl<L: Law + Drop> Drop for World<L> {
+    fn drop(self) {
+        let World {
+            alloc: _,
+            law,
+            journal,
+            table,
+            memories,
+            actors,
+        } = self;
+        drop(law);
+        drop(journal);
+        drop(table);
+        drop(memories);
+        drop(actors);
+    }
 }
 
 impl<L: Law> Model for World<L> {

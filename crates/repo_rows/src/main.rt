@@ -7,6 +7,7 @@
 #![tactic(auto)]
 
 mod cases;
+mod copies;
 mod events;
 mod loads;
 mod past;
@@ -17,7 +18,7 @@ mod sections;
 mod told;
 mod workers;
 
-use jr_io::{Sink, StdSink, StdSource, read_all, write_all};
+use jr_io::{StdSink, StdSource, deliver, read_all};
 use sections::answers;
 use std::io;
 use std::process::ExitCode;
@@ -34,7 +35,7 @@ fn main(rt: HostRuntime) -> ExitCode {
     if out.is_broken {
         return ExitCode::from(5);
     }
-    if write_all(&mut sink, out.text.as_bytes()).is_err() || sink.flush().is_err() {
+    if deliver(&mut sink, out.text.as_bytes()).is_err() {
         return ExitCode::from(4);
     }
     ExitCode::from(0)

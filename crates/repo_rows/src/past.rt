@@ -1,28 +1,19 @@
 // Journals by the plain calls of the machine.
 use crate::scripts::{before_all, push_copy};
-use jr_path::DeepCopy;
 use jr_rev::{RevVec, Revision};
 use jr_tree::Tree;
 use oak_machine::{Event, Journal, StepKind};
 use oak_past::{follows, local_head, tree_at};
 use rows::Out;
 
-// Of each event of a copy of the journal, whether it may follow what is before it, with the head
+// Of each event of the journal, whether it may follow what is before it, with the head
 // there, and whether it may follow once more; and how many nodes there are at a login and at a
 // head.
 pub(crate) fn add_past(journal: &Journal, out: &mut Out) {
-    match journal.copy() {
-        Ok(copy) => add_copied(copy, out),
+    match before_all(out.alloc, journal) {
+        Ok(before) => add_events(journal, before, out),
         Err(_) => out.is_broken = true,
     }
-}
-
-fn add_copied(journal: Journal, out: &mut Out) {
-    match before_all(out.alloc, &journal) {
-        Ok(before) => add_events(&journal, before, out),
-        Err(_) => out.is_broken = true,
-    }
-    drop(journal);
 }
 
 fn add_events(journal: &Journal, before: Journal, out: &mut Out) {

@@ -2,6 +2,7 @@
 ghost use Rattle.std.specs.Prelude.{IfOk};
 ghost use Rattle.jr_script.specs.Bounds.{IsWithin};
 
+use crate::copies::event_of;
 use crate::loads::reads_of;
 use crate::past::{add_order, add_past};
 use crate::told::told;
@@ -157,7 +158,7 @@ fn put_events(law: &JcrLaw, before: Journal, journal: &Journal, out: &mut Out) {
 }
 
 pub(crate) fn push_copy(journal: &mut Journal, event: &Event) -> Result<(), AllocError> {
-    journal.events.push(event.copy()?)
+    journal.events.push(event_of(event)?)
 }
 
 fn put_event(law: &JcrLaw, before: &Journal, event: &Event, out: &mut Out) {

@@ -12,7 +12,7 @@ use serde_json::Value as Json;
 use std::alloc::{AllocError, Global};
 
 /// How a run ends; the number is the program's exit status.
-#[derive(Clone, Copy, Debug, PartialEq, Eq)]
+#[derive(Clone, Copy, PartialEq, Eq)]
 pub enum Status {
     /// All sessions ran to their end, or the node types are printed, and all that was written is
     /// passed on.
@@ -49,7 +49,7 @@ impl Status {
 }
 
 /// Why no script is run, and no node types are printed.
-#[derive(Debug, Drop)]
+#[derive(Drop)]
 pub enum Unrun {
     /// The words have no meaning.
     Words,

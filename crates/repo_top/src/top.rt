@@ -14,7 +14,7 @@ use crate::status::{Status, Unrun, script_line, types_line};
 use crate::types::types_of;
 use crate::words::{Words, words_meant};
 use jcr_law::JcrLaw;
-use jr_io::{Failed, Sink, Source, read_all, write_all};
+use jr_io::{Failed, Sink, Source, deliver, read_all};
 use jr_path::Text;
 use jr_print::lines;
 use jr_script::{Script, read_script, scripts_are_within};
@@ -303,11 +303,8 @@ pub(crate) fn written<K: Sink>(sink: &mut K, bytes: &[u8], status: Status) -> St
     ensures { Tells (output_of K.Sink sink.old) (output_of K.Sink sink.new) bytes.now status
         result }
 {
-    match write_all(sink, bytes) {
+    match deliver(sink, bytes) {
+        Ok(()) => status,
         Err(Failed) => Status::WriteFault,
-        Ok(()) => match sink.flush() {
-            Err(Failed) => Status::WriteFault,
-            Ok(()) => status,
-        },
     }
 }

@@ -7,7 +7,7 @@ ghost use Rattle.repo_top.specs.declared.words.Given.{Given};
 ghost use Rattle.repo_top.specs.declared.words.Words.TheVariants.{Gen, Run, Steps, Types};
 
 /// What a list of words means.
-#[derive(Clone, Copy, Debug, PartialEq, Eq)]
+#[derive(Clone, Copy, PartialEq, Eq)]
 pub enum Words {
     /// `steps`: reads a script from the source, runs it on one thread, prints the replies.
     Steps,
@@ -28,7 +28,7 @@ pub enum Words {
 }
 
 /// The command of a row.
-#[derive(Clone, Copy, Debug, PartialEq, Eq)]
+#[derive(Clone, Copy, PartialEq, Eq)]
 pub enum Verb {
     Steps,
     Types,

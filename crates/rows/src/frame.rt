@@ -1,6 +1,6 @@
 // The frame of a program of rows.
 use crate::out::Out;
-use jr_io::{Sink, Source, read_all, write_all};
+use jr_io::{Sink, Source, deliver, read_all};
 use std::alloc::Global;
 
 /// What a program of rows makes of each line, one behind another.
@@ -39,7 +39,7 @@ fn written<K: Sink>(sink: &mut K, out: &Out) -> u8 {
     if out.is_broken {
         return 5;
     }
-    if write_all(sink, out.text.as_bytes()).is_err() || sink.flush().is_err() {
+    if deliver(sink, out.text.as_bytes()).is_err() {
         return 4;
     }
     0

@@ -7,11 +7,22 @@ use std::alloc::{AllocError, Global};
 
 /// The text so far; and whether memory was refused, or a row can't be read: then the program ends
 /// with a status of its own.
-#[derive(Drop)]
 pub struct Out {
     pub alloc: Global,
     pub text: String,
     pub is_broken: bool,
+}
+
+// By hand, so that its parts are let go in one call.
+impl Drop for Out {
+    fn drop(self) {
+        let Out {
+            alloc: _,
+            text,
+            is_broken: _,
+        } = self;
+        drop(text);
+    }
 }
 
 impl Out {

@@ -8,7 +8,6 @@ use jr_value::Value;
 pub const DEEPEST: usize = 1_000;
 
 /// A query of JCR-SQL2 (JSR 283, 6.7 Abstract Query Model). Selectors are named by their place in the query, from 0.
-#[derive(Drop)]
 pub struct Query {
     /// The node type of each selector, in order; at least one.
     pub types: List<Name>,
@@ -22,14 +21,39 @@ pub struct Query {
     pub orders: List<Order>,
 }
 
+// By hand, so that its parts are let go in one call.
+impl Drop for Query {
+    fn drop(self) {
+        let Query {
+            types,
+            joins,
+            columns,
+            filter,
+            orders,
+        } = self;
+        drop(types);
+        drop(joins);
+        drop(columns);
+        drop(filter);
+        drop(orders);
+    }
+}
+
 /// How a selector is joined to those before it.
-#[derive(Drop)]
 pub struct Join {
     pub kind: JoinKind,
     pub on: On,
 }
 
-#[derive(Clone, Copy, Debug, PartialEq, Eq)]
+// By hand, so that its parts are let go in one call.
+impl Drop for Join {
+    fn drop(self) {
+        let Join { kind: _, on } = self;
+        drop(on);
+    }
+}
+
+#[derive(Clone, Copy, PartialEq, Eq)]
 pub enum JoinKind {
     Inner,
     LeftOuter,
@@ -37,7 +61,6 @@ pub enum JoinKind {
 }
 
 /// When two nodes are joined. Of two selectors the first is the same node as, the child of or a descendant of the second.
-#[derive(Drop)]
 pub enum On {
     Equal(PropertyOf, PropertyOf),
     Same(u32, u32),
@@ -45,23 +68,53 @@ pub enum On {
     Descendant(u32, u32),
 }
 
+// By hand, so that its parts are let go in one call.
+impl Drop for On {
+    fn drop(self) {
+        match self {
+            On::Equal(property_of, other_property_of) => {
+                drop(property_of);
+                drop(other_property_of);
+            }
+            On::Same(_, _) => {}
+            On::Child(_, _) => {}
+            On::Descendant(_, _) => {}
+        }
+    }
+}
+
 /// A property of the node of a selector.
-#[derive(Drop)]
 pub struct PropertyOf {
     pub selector: u32,
     pub name: Name,
 }
 
+// By hand, so that its parts are let go in one call.
+impl Drop for PropertyOf {
+    fn drop(self) {
+        let PropertyOf { selector: _, name } = self;
+        drop(name);
+    }
+}
+
 /// A column of the result.
-#[derive(Drop)]
 pub enum Column {
     /// The path of the node of a selector.
     Node(u32),
     Property(PropertyOf),
 }
 
+// By hand, so that its parts are let go in one call.
+impl Drop for Column {
+    fn drop(self) {
+        match self {
+            Column::Node(_) => {}
+            Column::Property(property_of) => drop(property_of),
+        }
+    }
+}
+
 /// What is asked of a row.
-#[derive(Drop)]
 pub enum Condition {
     Not(Box<Condition>),
     And(Box<Condition>, Box<Condition>),
@@ -75,7 +128,32 @@ pub enum Condition {
     Descendant(u32, Path),
 }
 
-#[derive(Clone, Copy, Debug, PartialEq, Eq)]
+// By hand, so that its parts are let go in one call.
+impl Drop for Condition {
+    fn drop(self) {
+        match self {
+            Condition::Not(condition) => drop(condition),
+            Condition::And(condition, other_condition) => {
+                drop(condition);
+                drop(other_condition);
+            }
+            Condition::Or(condition, other_condition) => {
+                drop(condition);
+                drop(other_condition);
+            }
+            Condition::Has(property_of) => drop(property_of),
+            Condition::Compare(operand, _, value) => {
+                drop(operand);
+                drop(value);
+            }
+            Condition::Same(_, path) => drop(path),
+            Condition::Child(_, path) => drop(path),
+            Condition::Descendant(_, path) => drop(path),
+        }
+    }
+}
+
+#[derive(Clone, Copy, PartialEq, Eq)]
 pub enum Operator {
     Equal,
     Unequal,
@@ -98,13 +176,23 @@ pub enum Operand {
 }
 
 /// An order of rows by an operand.
-#[derive(Drop)]
 pub struct Order {
     pub operand: Operand,
     pub direction: Direction,
 }
 
-#[derive(Clone, Copy, Debug, PartialEq, Eq)]
+// By hand, so that its parts are let go in one call.
+impl Drop for Order {
+    fn drop(self) {
+        let Order {
+            operand,
+            direction: _,
+        } = self;
+        drop(operand);
+    }
+}
+
+#[derive(Clone, Copy, PartialEq, Eq)]
 pub enum Direction {
     Ascending,
     Descending,

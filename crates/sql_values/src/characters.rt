@@ -92,7 +92,7 @@ fn sizes_of(alloc: Global, values: &[Value]) -> Result<Vec<Value>, AllocError>
 }
 
 /// The case of letters.
-#[derive(Clone, Copy, Debug)]
+#[derive(Clone, Copy)]
 pub enum Case {
     Lower,
     Upper,

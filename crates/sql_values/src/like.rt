@@ -9,7 +9,7 @@ use crate::characters::characters;
 use std::alloc::{AllocError, Global};
 
 /// A part of a pattern.
-#[derive(Clone, Copy, Debug)]
+#[derive(Clone, Copy)]
 pub(crate) enum Part {
     AnyText,
     AnyCharacter,

@@ -6,7 +6,7 @@ use crate::updates::put_found;
 use crate::{letters, nodes, reading, updates};
 use jr_path::{DeepCopy, DocId};
 use jr_rev::Revision;
-use oak_doc::{Ask, Collected, RemoveOut, Reply};
+use oak_doc::{Collected, RemoveOut};
 use oak_store::DocTable;
 use rows::{Out, cut, number};
 
@@ -94,9 +94,9 @@ fn walk(table: &DocTable, out: &mut Out) {
     }
 }
 
-// Copies of what is asked and answered.
+// Copies of an id, and of what a collection did.
 fn add_copies(out: &mut Out) {
-    out.put(if is_ask_copied(Ask::Find(DocId::Settings)) && is_reply_copied(Reply::Absent) {
+    out.put(if is_copied(DocId::Settings) {
         "copied "
     } else {
         "changed "
@@ -113,18 +113,11 @@ fn add_copies(out: &mut Out) {
     drop(collected);
 }
 
-fn is_ask_copied(ask: Ask) -> bool {
-    let copy = ask.copy();
-    drop(ask);
-    let is_copied = matches!(copy, Ok(Ask::Find(DocId::Settings)));
-    drop(copy);
-    is_copied
-}
-
-fn is_reply_copied(reply: Reply) -> bool {
-    let copy = reply.copy();
-    drop(reply);
-    let is_copied = matches!(copy, Ok(Reply::Absent));
+// Whether the copy of the settings' id is that id.
+fn is_copied(id: DocId) -> bool {
+    let copy = id.copy();
+    drop(id);
+    let is_copied = matches!(&copy, Ok(DocId::Settings));
     drop(copy);
     is_copied
 }

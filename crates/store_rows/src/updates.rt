@@ -2,7 +2,6 @@
 use crate::changes::{collision, put, simple};
 use crate::tables::{at_time, id_of, put_count};
 use crate::texts::{name, only, text_of};
-use jr_path::DeepCopy;
 use jr_rev::{Pin, RevVec, Revision};
 use oak_doc::{Change, Cond, Document, EntryKey, Field, Kept, OpFault, PrevEntry, UpdateOp};
 use oak_store::DocTable;
@@ -21,14 +20,6 @@ pub(crate) fn refuse(rest: &str, table: &mut DocTable, out: &mut Out) {
 
 fn add(rest: &str, cond: Option<Cond>, table: &mut DocTable, out: &mut Out) {
     let op = op_of(rest, cond, out);
-    match op.copy() {
-        Ok(copy) => update(copy, table, out),
-        Err(_) => out.is_broken = true,
-    }
-    drop(op);
-}
-
-fn update(op: UpdateOp, table: &mut DocTable, out: &mut Out) {
     let made = table.update(&op);
     if is_made(&made, out) {
         put_found(table.find(&op.id), "lost", out);

@@ -8,14 +8,14 @@ use Rattle.jcr_write.specs.Places.{IsDueRefusal}
 
 pub returns-in-Ok-clause-ok : goal.returns-in-Ok-clause-ok
 returns-in-Ok-clause-ok c =
-    subst (λ (v : View). IfOk c.make-in-Ok.result (λ made. written c.args.types.now c.args.who.now v
+    subst (λ (v : View). IfOk c.make.result (λ made. written c.args.types.now c.args.who.now v
     c.args.command.now (making [] c.args.who.now.ids) ≡ Ok (making made.steps made.ids)))
     (ap (known_view c.in-Ok.part) c.new.ensures ∙ c.in-Ok.ensures.seen)
-    c.make-in-Ok.ensures.ok
+    c.make.ensures.ok
 
 pub returns-in-Ok-clause-err : goal.returns-in-Ok-clause-err
 returns-in-Ok-clause-err c =
-    subst (λ (v : View). IfErr c.make-in-Ok.result (IsDueRefusal (written c.args.types.now c.args.who.now v
+    subst (λ (v : View). IfErr c.make.result (IsDueRefusal (written c.args.types.now c.args.who.now v
     c.args.command.now (making [] c.args.who.now.ids))))
     (ap (known_view c.in-Ok.part) c.new.ensures ∙ c.in-Ok.ensures.seen)
-    c.make-in-Ok.ensures.err
+    c.make.ensures.err

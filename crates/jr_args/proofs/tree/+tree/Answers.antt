@@ -20,7 +20,7 @@ pub child-returns-in_err-name : goal.child-returns-in_err-name
 child-returns-in_err-name t c = onto_exits (name_of c.args.key.now) _ _ _ _ _ c.from_residual.ensures.1 c.in_err-name.ensures
 
 pub child-returns : goal.child-returns
-child-returns t c = child_tree c.args.path.now _ c.in_ok-name.name c.args.key.now (view c.args.json.now) _ _ _ c.in_ok-name.ensures c.in_ok-child.ensures c.tree-2.ensures
+child-returns t c = child_tree c.args.path.now _ c.in_ok-name.name c.args.key.now (view c.args.json.now) _ _ _ c.in_ok-name.ensures c.in_ok-child.ensures c.tree.ensures
 
 pub children-loop-key-preserved : goal.children-loop-key-preserved
 children-loop-key-preserved t c = (

@@ -10,11 +10,11 @@ use Rattle.oak_commit.proofs.plan.Plan.found.Goals as goal
 
 pub returns-in-Settings : goal.returns-in-Settings
 returns-in-Settings c =
-    IfOk-weaker c.found_at-in-Settings.result
+    IfOk-weaker c.found_at.result
     (λ dues. dues.items ≡ map (due_in c.in-Some.document.now) (met_in c.args.base.now c.args.r c.root.result (marks_at c.root.result c.args.self.now.marks) c.in-Some.document.now))
     (λ dues. dues.items ≡ dues_in (option_copied c.args.before) (found c.args.base.now c.args.r (names_of c.args.id.now) c.args.self.now.marks (option_copied c.args.before)))
     (λ dues is. is ∙ found_is c.args.base.now c.args.r c.args.self.now.marks c.args.id.now c.root.result c.args.before c.in-Some.document c.in-Some.is (ap names_of c.in-Settings.is ∙ sym c.root.ensures))
-    c.found_at-in-Settings.ensures
+    c.found_at.ensures
 
 pub returns-in-Node : goal.returns-in-Node
 returns-in-Node c =

@@ -1,0 +1,10 @@
+use Rattle.std.proofs.Common.{refl}
+use Rattle.std.specs.Prelude.{codes}
+use Rattle.jr_path.proofs.OwnNames.{prefixed_name}
+use Rattle.jr_builtin.proofs.table.referenceable.Goals as goal
+
+pub mixin-requires : goal.mixin-requires
+mixin-requires c = prefixed_name (codes "mix") (codes "referenceable") refl
+
+pub prop-requires : goal.prop-requires
+prop-requires c = prefixed_name (codes "jcr") (codes "uuid") refl

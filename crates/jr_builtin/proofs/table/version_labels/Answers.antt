@@ -1,0 +1,7 @@
+use Rattle.std.proofs.Common.{refl}
+use Rattle.std.specs.Prelude.{codes}
+use Rattle.jr_path.proofs.OwnNames.{prefixed_name}
+use Rattle.jr_builtin.proofs.table.version_labels.Goals as goal
+
+pub primary-requires : goal.primary-requires
+primary-requires c = prefixed_name (codes "nt") (codes "versionLabels") refl

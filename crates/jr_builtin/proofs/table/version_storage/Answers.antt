@@ -1,0 +1,10 @@
+use Rattle.std.proofs.Common.{refl}
+use Rattle.std.specs.Prelude.{codes}
+use Rattle.jr_path.proofs.OwnNames.{prefixed_name}
+use Rattle.jr_builtin.proofs.table.version_storage.Goals as goal
+
+pub primary-requires : goal.primary-requires
+primary-requires c = prefixed_name (codes "rep") (codes "versionStorage") refl
+
+pub any_child-requires-clause-required : goal.any_child-requires-clause-required
+any_child-requires-clause-required c = prefixed_name (codes "nt") (codes "versionHistory") refl

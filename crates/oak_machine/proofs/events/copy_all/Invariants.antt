@@ -1,6 +1,0 @@
-use Rattle.std.proofs.Common.{◌≡◌, take}
-use Rattle.oak_machine.proofs.events.copy_all.Given as goal
-
--- the events so far are copied
-abbrev pub invariant-loop-event : goal.invariant-loop-event
-invariant-loop-event l = l.copies.items ≡ take l.event-index l.events
