@@ -1,5 +1,6 @@
 // Queries: rows that add a node or give it a property, or a text to be cut, read or evaluated.
 use crate::texts::{push_times, put_kinds};
+use jr_json::property_text;
 use jr_path::{DeepCopy, List, Name, Path};
 use jr_tree::{Node, Tree};
 use jr_value::Value;
@@ -7,9 +8,10 @@ use rows::{Out, cut, short};
 use serde_json::Value as Json;
 use sql_eval::{Cell, Row, rows as plain_rows, rows_text};
 use sql_lex::{LexFault, Token, TokenKind, lex};
-use sql_parse::{Condition, Operand, Query, parse};
+use sql_parse::parse;
 use sql_pieces::SqlFault;
 use sql_plan::rows_fast;
+use sql_query::{Condition, Operand, Query};
 use std::alloc::{AllocError, Global};
 
 pub(crate) fn add(line: &str, tree: &mut Tree, out: &mut Out) {
@@ -287,7 +289,7 @@ fn put_cells(cells: &[Cell], out: &mut Out) {
 fn put_cell(cell: &Cell, out: &mut Out) {
     match cell {
         Cell::Node(path) => out.put_path(path),
-        Cell::Value(value) => out.put_made(value.json_text(out.alloc)),
+        Cell::Value(value) => out.put_made(property_text(out.alloc, value)),
         Cell::Null => out.put("null"),
     }
 }

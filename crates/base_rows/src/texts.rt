@@ -1,8 +1,9 @@
 // Texts of names, paths, ids, revisions and vectors, and JSON of properties.
 use crate::values;
+use jr_json::{ValueFault, read_property};
 use jr_path::{DeepCopy, DocId, Name, Path, PathFault};
 use jr_rev::{BadRevision, RevVec, Revision};
-use jr_value::{Kind, Property, ValueFault};
+use jr_value::{Kind, Property};
 use rows::{Out, cut, number, short};
 use serde_json::Value as Json;
 use std::alloc::AllocError;
@@ -168,7 +169,7 @@ fn add_json(json: &Option<Json>, out: &mut Out) {
 }
 
 fn add_property(json: &Json, out: &mut Out) {
-    let property = Property::from_json(out.alloc, json);
+    let property = read_property(out.alloc, json);
     put_read(&property, out);
     drop(property);
 }

@@ -1,4 +1,5 @@
 // Values from texts.
+use jr_json::value_json;
 use jr_value::{Kind, Value};
 use rows::{Out, cut};
 use serde_json::Value as Json;
@@ -28,7 +29,7 @@ fn put_value(value: &Result<Option<Value>, AllocError>, out: &mut Out) {
 }
 
 fn put_found(value: &Value, out: &mut Out) {
-    let json = value.to_json(out.alloc);
+    let json = value_json(out.alloc, value);
     put_json(&json, out);
     drop(json);
 }

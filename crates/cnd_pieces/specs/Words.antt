@@ -3,8 +3,7 @@ use Rattle.std.specs.Prelude.{ℕ, Bool, List, Option, None, Some, option_map, i
 use Rattle.std.specs.List.{list_all}
 use Rattle.std.specs.Str.{str_eq_ignore_ascii_case}
 use Rattle.jr_path.specs.Grammar.{is_prefix_character}
-use Rattle.jr_value.specs.Json.{kind_text}
-use Rattle.jr_value.specs.Reading.{all_kinds}
+use Rattle.jr_value.specs.Words.{all_kinds, kind_text}
 use Rattle.jr_value.specs.declared.value.Kind.{Kind}
 
 -- two words that differ at most in the case of their letters

@@ -1,8 +1,7 @@
 // What words mean by themselves, in any case of their letters.
 ghost use Rattle.std.specs.Prelude.{◌≡◌, find};
 ghost use Rattle.jr_path.specs.Grammar.{is_prefix_character};
-ghost use Rattle.jr_value.specs.Json.{kind_text};
-ghost use Rattle.jr_value.specs.Reading.{all_kinds};
+ghost use Rattle.jr_value.specs.Words.{all_kinds, kind_text};
 ghost use Rattle.cnd_pieces.specs.Words.{is_a, is_prefix, kind_named};
 
 use jr_value::{ALL_KINDS, Kind};

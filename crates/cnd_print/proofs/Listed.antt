@@ -3,8 +3,7 @@ use Rattle.std.proofs.Common.{◌≡◌, ◌∙◌, ℕ, false, List, ◌∷◌,
 use Rattle.std.specs.Prelude.{IsUtf8}
 use Rattle.jr_path.specs.Grammar.{IsName}
 use Rattle.jr_path.specs.declared.name.Name.{Name}
-use Rattle.jr_value.specs.Reading.{IsFound}
-use Rattle.jr_value.specs.Texts.{IsText}
+use Rattle.jr_value.specs.Texts.{IsFound, IsText}
 use Rattle.jr_value.specs.declared.value.Kind.{Kind}
 use Rattle.jr_value.specs.declared.value.Value.{Value}
 use Rattle.jr_cnd.specs.Grammar.{value_at, value_in}
@@ -17,7 +16,7 @@ use Rattle.cnd_pieces.specs.declared.context.Context.{Context}
 use Rattle.cnd_pieces.specs.declared.context.Context.TheVariants as context
 use Rattle.cnd_pieces.specs.declared.piece.Placed.{Placed}
 use Rattle.cnd_pieces.specs.declared.piece.Sign.TheVariants as sign
-use Rattle.jr_cnd.proofs.OneMeaning.{text_one}
+use Rattle.jr_value.proofs.Texts.{text_one}
 use Rattle.cnd_print.proofs.ReadLists.{CommaRead, IsRead, Listing, name_got, text_got}
 use Rattle.cnd_print.proofs.Steps.{Behind, Ready, calm_text, left_of, name_starts, name_step, sign_step, text_step}
 use Rattle.cnd_print.proofs.Values.{value_back}

@@ -13,9 +13,8 @@ use Rattle.uuid.proofs.TextLemmas.{by_index_at, hyphenated_ascii}
 use Rattle.uuid.specs.Text.{by_index, byte_of_digits, digits_of, has_hyphens, is_hex_digit, lower, parsed_hyphenated, parsed_simple, value_of}
 use Rattle.basics.proofs.Bools.{first_of_both, second_of_both}
 use Rattle.jr_path.proofs.OwnNames.{plain_name}
-use Rattle.jr_value.specs.Json.{identifier_text}
-use Rattle.jr_value.specs.Reading.{IsPathWithin, identifier_named}
-use Rattle.jr_value.specs.Texts.{IsText, IsWholeNumber, boolean_named}
+use Rattle.jr_value.specs.Words.{identifier_named, identifier_text}
+use Rattle.jr_value.specs.Texts.{boolean_named, IsPathWithin, IsText, IsWholeNumber}
 use Rattle.jr_value.specs.declared.value.Kind.{Kind}
 use Rattle.jr_value.specs.declared.value.Kind.TheVariants as kind
 use Rattle.jr_value.specs.declared.value.Value.{Value}

@@ -1,6 +1,6 @@
 -- The text that is printed of a value is that value again.
 use Rattle.std.proofs.Common.{◌≡◌, ◌∙◌, ℕ, suc, ◌<◌, ◌≤◌, ◌^◌, ◌==◌, Bool, true, false, List, [], ◌∷◌, ap, arith, eq-eqb, eqb-true, pos, negsuc, ℤ, refl, subst, sym}
-use Rattle.std.specs.Prelude.{FitsSigned, neg_ℤ, slice_index}
+use Rattle.std.specs.Prelude.{FitsSigned, neg_ℤ, option_map, slice_index}
 use Rattle.std.specs.Char.{digit_value}
 use Rattle.std.specs.Fmt.{decimal, signed_decimal}
 use Rattle.std.specs.Int.{w64}
@@ -10,11 +10,10 @@ use Rattle.std.proofs.lemmas.Fmt.{decimal_is_IsNumeral}
 use Rattle.std.proofs.lemmas.Int.{ints}
 use Rattle.jr_value.specs.declared.value.Value.{Value}
 use Rattle.jr_value.specs.declared.value.Value.TheVariants as value
-use Rattle.jr_value.specs.declared.value.Property.TheVariants.{Single}
-use Rattle.jr_value.specs.Reading.{IsReadable}
+use Rattle.jr_value.specs.Ranges.{IsReadable}
 use Rattle.jr_value.specs.Texts.{IsText, IsWholeNumber}
 use Rattle.jr_value.specs.Values.{kind_of}
-use Rattle.jr_value.proofs.ReadBack.{property_back}
+use Rattle.jr_value.proofs.Named.{identifier_back}
 use Rattle.cnd_print.specs.Printing.{value_text}
 
 not_sign : (c s : ℕ) (x : Bool) → (c == s) ≡ x → digit_value c < 10 → 10 ≤ digit_value s → (c == s) ≡ false
@@ -67,6 +66,6 @@ value_back (value.Boolean true) h = refl
 value_back (value.Boolean false) h = refl
 value_back (value.Name n) h = (h, refl)
 value_back (value.Path p) h = (p, h, refl)
-value_back (value.Reference id) h = property_back (Single (value.Reference id)) h
-value_back (value.WeakReference id) h = property_back (Single (value.WeakReference id)) h
+value_back (value.Reference id) h = sym (ap (option_map value.Reference) (identifier_back id h))
+value_back (value.WeakReference id) h = sym (ap (option_map value.WeakReference) (identifier_back id h))
 value_back (value.Uri t) h = refl

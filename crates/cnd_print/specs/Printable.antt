@@ -2,7 +2,7 @@
 use Rattle.std.specs.Prelude.{◌≡◌, ◌≢◌, false, List, [], ◌∷◌, ◌++◌, None, IfSome, IsUtf8}
 use Rattle.std.specs.List.{AllByRecursion}
 use Rattle.jr_path.specs.Grammar.{IsName, OneOrMore, is_prefix_character}
-use Rattle.jr_value.specs.Reading.{IsReadable}
+use Rattle.jr_value.specs.Ranges.{IsReadable}
 use Rattle.jr_value.specs.Values.{kind_of}
 use Rattle.jr_value.specs.declared.value.Kind.{Kind}
 use Rattle.jr_value.specs.declared.value.Value.{Value}

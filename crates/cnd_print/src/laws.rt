@@ -1,6 +1,6 @@
 // What holds of printed texts of type definitions and their meanings.
 ghost use Rattle.std.specs.Prelude.{◌≡◌, ◌++◌, ◌⊎◌, ℕ, Bool, Err, List, Ok, Result, Some, false, length, true};
-ghost use Rattle.jr_value.specs.Reading.{IsReadable};
+ghost use Rattle.jr_value.specs.Ranges.{IsReadable};
 ghost use Rattle.jr_value.specs.Texts.{IsText};
 ghost use Rattle.jr_value.specs.Values.{kind_of};
 ghost use Rattle.jr_value.specs.declared.value.Value.{Value};

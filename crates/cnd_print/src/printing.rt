@@ -2,7 +2,7 @@
 ghost use Rattle.std.specs.Prelude.{◌≡◌, ◌++◌, IfOk, OnOk, codes, map, string_bytes};
 ghost use Rattle.std.specs.Fmt.{signed_decimal};
 ghost use Rattle.std.specs.List.{flat_map, list_all};
-ghost use Rattle.jr_value.specs.Json.{identifier_text};
+ghost use Rattle.jr_value.specs.Words.{identifier_text};
 ghost use Rattle.cnd_print.specs.Printing.{child_attributes, child_head, child_text, cnd_text, continued, default_texts, escaped, escaped_character, is_bare_name, item_name_text, kind_word, list_behind, listed, name_behind, name_text, opv_part, prefix_text, prop_attributes, prop_head, prop_text, quoted, type_attributes, type_head, type_line, type_text, value_text, word_if};
 ghost use Rattle.cnd_pieces.specs.Tokens.{is_bare};
 
@@ -11,9 +11,8 @@ use cnd_pieces::is_bare;
 use jr_cnd::{Cnd, Prefix};
 use jr_path::{List, Name, Text};
 use jr_types::{ChildDef, OnParentVersion, PropDef, TypeDef};
-use jr_value::{Kind, Value};
+use jr_value::{Kind, Value, identifier_text};
 use std::alloc::{AllocError, Global};
-use uuid::Uuid;
 
 // ---- names and texts
 
@@ -212,17 +211,8 @@ fn put_number(alloc: Global, out: &mut Text, number: i64) -> Result<(), AllocErr
 fn put_identifier(alloc: Global, out: &mut Text, id: u128) -> Result<(), AllocError>
     ensures { OnOk result (out.new ≡ out.old ++ quoted (identifier_text id)) }
 {
-    let text = identifier_of(alloc, id)?;
+    let text = identifier_text(alloc, id)?;
     put_quoted(out, text.as_str())
-}
-
-// The hyphenated text of an identifier, in lower case.
-fn identifier_of(alloc: Global, id: u128) -> Result<String, AllocError>
-    ensures { IfOk result (λ text. string_bytes text ≡ identifier_text id) }
-{
-    let mut buffer = Uuid::encode_buffer();
-    let text = Uuid::from_u128(id).hyphenated().encode_lower(&mut buffer);
-    String::from_str(alloc, text)
 }
 
 // Values in quotes with commas between.

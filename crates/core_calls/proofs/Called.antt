@@ -5,7 +5,7 @@ use Rattle.std.specs.List.{list_any}
 use Rattle.std.specs.Option.{option_map_or}
 use Rattle.std.proofs.lemmas.Bool.{false≢true}
 use Rattle.basics.proofs.Bools.{number_itself}
-use Rattle.jr_path.specs.declared.text.Text.{Text}
+use Rattle.jr_path.specs.Lists.{Text}
 use Rattle.jr_rev.specs.declared.vector.RevVec.{RevVec}
 use Rattle.jr_tree.specs.Trees.{Nodes}
 use Rattle.oak_machine.specs.declared.event.Event.{Event}
@@ -26,7 +26,7 @@ use Rattle.jcr_law.specs.declared.state.State.{State}
 use Rattle.jcr_law.specs.State.{Call, answered, base_tree, call_at, call_of, command_at, is_ok_text, moved, new_state, replied, state_of}
 use Rattle.jcr_law.specs.Passing.{state_stays}
 use Rattle.jcr_law.specs.Starting.{call_based, call_has_base}
-use Rattle.jcr_call.specs.Calls.{call_after, call_moved}
+use Rattle.jcr_law.specs.Calls.{call_after, call_moved}
 use Rattle.core_calls.specs.Events.{is_attach_of, is_calling, state_at_login}
 
 -- of s itself

@@ -15,7 +15,7 @@ ghost use Rattle.jcr_law.specs.declared.law.JcrLaw.{JcrLaw};
 ghost use Rattle.jcr_law.specs.Growing.{HasAllOf};
 ghost use Rattle.jcr_law.specs.Lasting.{says_of, starts_of};
 ghost use Rattle.jcr_law.specs.State.{Call, call_at, call_of, command_at, is_ok_text, new_state, state_of};
-ghost use Rattle.jcr_call.specs.Calls.{call_after, call_moved};
+ghost use Rattle.jcr_law.specs.Calls.{call_after, call_moved};
 ghost use Rattle.core_calls.specs.Events.{is_attach_of, is_calling, state_at_login};
 ghost use Rattle.core_calls.specs.Seeing.{SeesTrees};
 

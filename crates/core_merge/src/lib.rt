@@ -2,7 +2,7 @@
 #![tactic(auto)]
 
 ghost use Rattle.std.specs.Prelude.{◌≡◌, ◌⊎◌, ℕ, Some, IsTrue, IsFalse, None};
-ghost use Rattle.jr_path.specs.declared.text.Text.{Text};
+ghost use Rattle.jr_path.specs.Lists.{Text};
 ghost use Rattle.jr_rev.specs.declared.revision.Revision.{Revision};
 ghost use Rattle.jr_rev.specs.declared.vector.RevVec.{RevVec};
 ghost use Rattle.jr_rev.specs.Vectors.{sees};

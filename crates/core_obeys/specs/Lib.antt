@@ -4,3 +4,4 @@ pub mod Obeying
 pub mod Plans
 pub mod Product
 pub mod Tidy
+pub use Rattle.core_calls.specs.Seeing

@@ -11,7 +11,7 @@ use Rattle.std.proofs.lemmas.Bool.Decides.{nat_tests}
 use mathlib.Core.Bool.{false≢true}
 use Rattle.jr_path.specs.declared.path.DocId.TheVariants as id
 use Rattle.jr_path.specs.declared.path.Path.{Path}
-use Rattle.jr_path.specs.declared.text.Text.{Text}
+use Rattle.jr_path.specs.Lists.{Text}
 use Rattle.jr_path.specs.Names.{name_cmp}
 use Rattle.jr_rev.specs.declared.revision.Revision.{Revision}
 use Rattle.jr_rev.specs.declared.vector.Pin.{Pin}

@@ -10,7 +10,7 @@ use mathlib.Core.Bool.{false≢true}
 use Rattle.jr_path.specs.Names.{name_cmp}
 use Rattle.jr_path.specs.declared.path.DocId.TheVariants as id
 use Rattle.jr_path.specs.declared.path.Path.{Path}
-use Rattle.jr_path.specs.declared.text.Text.{Text}
+use Rattle.jr_path.specs.Lists.{Text}
 use Rattle.jr_rev.specs.declared.vector.Pin.{Pin}
 use Rattle.oak_clash.specs.Clashes.{commit_root}
 use Rattle.oak_doc.specs.declared.document.Document.{Document}

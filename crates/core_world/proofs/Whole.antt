@@ -11,7 +11,7 @@ use Rattle.core_world.specs.Steps.{IsThrough, after_attach, after_back, after_ch
 use Rattle.jr_path.specs.Names.{name_cmp, path_cmp}
 use Rattle.jr_path.specs.declared.path.DocId.{DocId}
 use Rattle.jr_path.specs.declared.path.Path.{Path}
-use Rattle.jr_path.specs.declared.text.Text.{Text}
+use Rattle.jr_path.specs.Lists.{Text}
 use Rattle.jr_rev.specs.Revisions.{is_at_most}
 use Rattle.jr_rev.specs.Vectors.{greatest, sees}
 use Rattle.jr_rev.specs.declared.revision.Revision.{Revision}

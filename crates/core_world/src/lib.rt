@@ -16,7 +16,7 @@ ghost use Rattle.jr_path.specs.declared.path.DocId.{DocId};
 ghost use Rattle.jr_path.specs.declared.path.DocId.TheVariants as id;
 ghost use Rattle.jr_path.specs.declared.path.Item.{Item};
 ghost use Rattle.jr_path.specs.declared.path.Path.{Path};
-ghost use Rattle.jr_path.specs.declared.text.Text.{Text};
+ghost use Rattle.jr_path.specs.Lists.{Text};
 ghost use Rattle.jr_rev.specs.declared.revision.Revision.{Revision};
 ghost use Rattle.jr_rev.specs.declared.vector.Pin.{Pin};
 ghost use Rattle.std.specs.Ordering.{eq_by_cmp};

@@ -1,6 +1,6 @@
 -- The text of an identifier by the last bits of its numbers.
 use Rattle.std.proofs.Common.{◌≡◌, ℕ, ◌+◌, ◌*◌, ◌%◌, ◌^◌, sym, ap, ◌∙◌}
-use Rattle.jr_value.specs.Json.{identifier_text}
+use Rattle.jr_value.specs.Words.{identifier_text}
 use Rattle.jcr_ref.specs.References.{identifier, identifier_number}
 
 -- an identifier has the last 24 bits of its session's number and of its count

@@ -10,7 +10,7 @@ use Rattle.jr_types.specs.declared.TypeDef.{TypeDef}
 use Rattle.sql_parse.specs.Grammar.{IsParsed}
 use Rattle.sql_pieces.specs.declared.fault.SqlFault.{SqlFault}
 use Rattle.sql_pieces.specs.declared.fault.SqlFault.TheVariants as fault
-use Rattle.sql_parse.specs.declared.query.Query.{Query}
+use Rattle.sql_query.specs.declared.query.Query.{Query}
 use Rattle.jcr_law.specs.Queries.{QueryAnswers, cast, rows, unknown_selector, untyped, wrong}
 use Rattle.jcr_law.specs.State.{Call}
 use Rattle.jcr_call.specs.Reading.{AnswersFor, AnswersQuery, AnswersRead}

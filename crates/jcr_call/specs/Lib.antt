@@ -1,4 +1,3 @@
-pub mod Calls
 pub mod Comings
 pub mod Dues
 pub mod Footings

@@ -7,7 +7,7 @@ use Rattle.jr_types.specs.declared.TypeDef.{TypeDef}
 use Rattle.jr_types.specs.Types.{subtypes}
 use Rattle.sql_pieces.specs.declared.fault.SqlFault.{SqlFault}
 use Rattle.sql_pieces.specs.declared.fault.SqlFault.TheVariants as fault
-use Rattle.sql_parse.specs.declared.query.Query.{Query}
+use Rattle.sql_query.specs.declared.query.Query.{Query}
 use Rattle.sql_eval.specs.declared.row.Row.{Row}
 use Rattle.sql_eval.specs.RowTexts.{rows_data}
 use Rattle.sql_eval.specs.Rows.{AreRows}

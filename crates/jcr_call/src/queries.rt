@@ -18,9 +18,10 @@ use jr_tree::Tree;
 use jr_types::Registry;
 use jr_value::Value;
 use sql_eval::{Row, rows_text};
-use sql_parse::{Query, parse};
+use sql_parse::parse;
 use sql_pieces::SqlFault;
 use sql_plan::rows_fast;
+use sql_query::Query;
 use std::alloc::{AllocError, Global};
 
 /// The reply to a query over a tree (JSR 283, 6 Query): 11 with the offset where the text is none;

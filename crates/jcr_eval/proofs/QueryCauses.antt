@@ -5,7 +5,7 @@ use Rattle.std.specs.List.{find}
 use Rattle.std.proofs.lemmas.Result.{IfOk-weaker}
 use Rattle.std.proofs.lemmas.Slice.Eq.{bytes_eq-Decides}
 use Rattle.jr_path.specs.declared.name.Name.{Name}
-use Rattle.jr_path.specs.declared.text.Text.{Text}
+use Rattle.jr_path.specs.Lists.{Text}
 use Rattle.jr_tree.specs.Trees.{Nodes}
 use Rattle.jr_types.specs.declared.TypeDef.{TypeDef}
 use Rattle.jr_types.specs.Types.{subtypes, type_named}
@@ -15,10 +15,10 @@ use Rattle.jr_items.specs.Refusals.{no_query, no_type, wrong_kind}
 use Rattle.oak_machine.specs.History.{History}
 use Rattle.sql_parse.specs.Answers.{AreSame}
 use Rattle.sql_parse.specs.Grammar.{IsParsed}
-use Rattle.sql_parse.specs.Trees.{Asked, asked_of}
+use Rattle.sql_query.specs.Trees.{Asked, asked_of}
 use Rattle.sql_pieces.specs.declared.fault.SqlFault.{SqlFault}
 use Rattle.sql_pieces.specs.declared.fault.SqlFault.TheVariants as fault
-use Rattle.sql_parse.specs.declared.query.Query.{Query}
+use Rattle.sql_query.specs.declared.query.Query.{Query}
 use Rattle.sql_parse.proofs.OneQuery.{one_answer}
 use Rattle.sql_eval.specs.declared.row.Row.{Row}
 use Rattle.sql_eval.specs.RowTexts.{rows_data}

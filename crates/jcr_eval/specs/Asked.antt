@@ -8,7 +8,7 @@ use Rattle.jr_value.specs.declared.value.Value.{Value}
 use Rattle.sql_parse.specs.Grammar.{IsParsed}
 use Rattle.sql_pieces.specs.declared.fault.SqlFault.{SqlFault}
 use Rattle.sql_pieces.specs.declared.fault.SqlFault.TheVariants as fault
-use Rattle.sql_parse.specs.declared.query.Query.{Query}
+use Rattle.sql_query.specs.declared.query.Query.{Query}
 use Rattle.jcr_call.specs.Reading.{AnswersRead}
 use Rattle.jcr_past.specs.Shown.{is_refusal}
 

@@ -22,8 +22,9 @@ use jr_types::Registry;
 use jr_value::{Kind, Value};
 use oak_machine::Journal;
 use sql_eval::{Row, rows, rows_are_one, rows_text};
-use sql_parse::{Query, parse};
+use sql_parse::parse;
 use sql_pieces::SqlFault;
+use sql_query::Query;
 use std::alloc::{AllocError, Global};
 
 pub(crate) fn query_says(

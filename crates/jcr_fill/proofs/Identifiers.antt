@@ -1,6 +1,6 @@
 -- The text of an identifier by the number of its session and its count.
 use Rattle.std.proofs.Common.{◌≡◌, ℕ, ◌+◌, ◌*◌, ◌%◌, ◌^◌, sym, ap, ◌∙◌}
-use Rattle.jr_value.specs.Json.{identifier_text}
+use Rattle.jr_value.specs.Words.{identifier_text}
 use Rattle.jcr_ref.specs.References.{identifier, identifier_number}
 
 -- sessions and counts whose last 24 bits are the same have the same identifiers

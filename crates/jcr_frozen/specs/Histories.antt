@@ -5,7 +5,7 @@ use Rattle.std.specs.Option.{option_map_or}
 use Rattle.std.specs.Fmt.{decimal}
 use Rattle.jr_path.specs.declared.name.Name.{Name}
 use Rattle.jr_path.specs.declared.path.Path.{Path}
-use Rattle.jr_value.specs.Reading.{identifier_named}
+use Rattle.jr_value.specs.Words.{identifier_named}
 use Rattle.jr_tree.specs.declared.shared.Refusal.{Refusal}
 use Rattle.jr_tree.specs.declared.shared.Who.{Who}
 use Rattle.jr_tree.specs.Trees.{Nodes, node_at, property_at}

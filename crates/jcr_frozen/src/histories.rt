@@ -23,7 +23,6 @@ use std::alloc::{AllocError, Global};
 
 /// The history of a versionable node (JSR 283, 3.13.2 Version History), for a command. Refused, in this order: the path, as
 /// every version command; 12 with the command where the node isn't versionable or has no history.
-#[tactic(auto, using(crate::proofs::Refused::first_of_two, crate::proofs::Refused::second_of_two, crate::proofs::Refused::none_of_two))]
 pub fn find_history(alloc: Global, command: &str, tree: &Tree, path: &Path) -> Result<Path, Refusal>
     ensures history { IfOk result (λ history. history ≡ history_of tree.now path.now) }
     ensures ok { OnOk result (no_versions command.now tree.now path.now ≡ None) }

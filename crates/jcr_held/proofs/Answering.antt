@@ -26,7 +26,7 @@ use Rattle.jcr_read.specs.Reading.{refused, shown}
 use Rattle.jcr_view.specs.Parts.{IsPartOf}
 use Rattle.jcr_law.specs.declared.state.State.{State}
 use Rattle.jcr_law.specs.State.{Call, accepted, counted, is_ok_text, used, viewed}
-use Rattle.jcr_call.specs.Calls.{call_after, with_state}
+use Rattle.jcr_law.specs.Calls.{call_after, with_state}
 use Rattle.jcr_held.specs.declared.held.Held.{Held}
 use Rattle.jcr_held.specs.Alike.{AreAlike, with_drawn}
 use Rattle.jcr_held.specs.Holds.{Holds, HoldsView}

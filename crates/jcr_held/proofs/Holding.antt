@@ -31,7 +31,7 @@ use Rattle.jcr_view.specs.Parts.{IsPartOf}
 use Rattle.jcr_view.specs.Rebases.{rebased, tree_again}
 use Rattle.jcr_law.specs.State.{Call}
 use Rattle.jcr_plan.proofs.Touching.{as_assured}
-use Rattle.jcr_call.specs.Calls.{call_moved}
+use Rattle.jcr_law.specs.Calls.{call_moved}
 use Rattle.jcr_call.specs.Footings.{RefusesAlike}
 use Rattle.jcr_held.specs.declared.held.Held.{Held}
 use Rattle.jcr_held.specs.Alike.{AreAlike, moved_to}

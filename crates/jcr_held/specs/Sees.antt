@@ -10,7 +10,7 @@ use Rattle.jcr_trans.specs.Texts.{answer_text}
 use Rattle.jcr_trans.specs.declared.command.Command.{Command}
 use Rattle.jcr_view.specs.Outcomes.{Outcome, eval, outcome}
 use Rattle.jcr_law.specs.State.{Call, is_ok_text}
-use Rattle.jcr_call.specs.Calls.{call_after}
+use Rattle.jcr_law.specs.Calls.{call_after}
 use Rattle.jcr_held.specs.declared.held.Held.{Held}
 use Rattle.jcr_held.specs.Holds.{Holds}
 

@@ -10,7 +10,7 @@ ghost use Rattle.jr_part.specs.declared.need.Need.TheVariants as need;
 ghost use Rattle.jcr_ref.specs.References.{ReferencesOk};
 ghost use Rattle.jcr_view.specs.Outcomes.{is_viewed};
 ghost use Rattle.jcr_law.specs.State.{Call, used};
-ghost use Rattle.jcr_call.specs.Calls.{call_after, call_moved};
+ghost use Rattle.jcr_law.specs.Calls.{call_after, call_moved};
 ghost use Rattle.jcr_held.specs.Alike.{AreAlike, moved_to, with_drawn};
 ghost use Rattle.jcr_held.specs.Accepts.{TokensFit, drops_pending, without_pending};
 ghost use Rattle.jcr_held.specs.Begins.{IsFirstCall, IsNewHeld};

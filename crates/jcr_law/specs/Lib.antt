@@ -1,5 +1,6 @@
 pub mod AfterDraw
 pub mod Built
+pub mod Calls
 pub mod Commits
 pub mod Growing
 pub mod Lasting

@@ -2,7 +2,7 @@
 use Rattle.std.specs.Prelude.{ℕ, ◌+◌, min, Bool, false, true, cond, not, ◌==◌, nat_eq, List, [], ◌∷◌, slice_get, codes, Option, None, Some, is_some, option_and_then, option_map}
 use Rattle.std.specs.List.{filter, list_any, starts_with}
 use Rattle.std.specs.Option.{option_map_or}
-use Rattle.jr_path.specs.declared.text.Text.{Text}
+use Rattle.jr_path.specs.Lists.{Text}
 use Rattle.jr_rev.specs.declared.vector.RevVec.{RevVec}
 use Rattle.jr_value.specs.Values.{same_bytes}
 use Rattle.jr_tree.specs.declared.edit.Write.{Write}

@@ -46,7 +46,6 @@ pub fn set_type(
 }
 
 // The node at a place with another primary type.
-#[tactic(auto, using(jcr_write::proofs::Due::at_place_is, jcr_write::proofs::Due::place_err))]
 fn node_retyped(
     alloc: Global,
     types: &Registry,

@@ -9,8 +9,7 @@ use Rattle.std.specs.Int.{byte_at, bytes_high_first, from_be_bytes, to_be_bytes,
 use Rattle.uuid.specs.Text.{by_index, hex_digit, lower}
 use Rattle.uuid.proofs.RoundTrips.{parses_hyphenated_text}
 use Rattle.uuid.proofs.OrderLemmas.{from_be_bytes-to_be_bytes_16}
-use Rattle.jr_value.specs.Json.{identifier_text}
-use Rattle.jr_value.specs.Reading.{identifier_named}
+use Rattle.jr_value.specs.Words.{identifier_named, identifier_text}
 use Rattle.jcr_ref.specs.References.{last_digits, identifier, identifier_number, uuid_text}
 
 abbrev after_hyphen : Bool → List ℕ → List ℕ

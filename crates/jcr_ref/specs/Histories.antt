@@ -13,7 +13,7 @@ use Rattle.jr_value.specs.declared.value.Kind.TheVariants as kind
 use Rattle.jr_value.specs.declared.value.Property.{Property}
 use Rattle.jr_value.specs.declared.value.Property.TheVariants.{Single, Many}
 use Rattle.jr_value.specs.declared.value.Value.TheVariants as value
-use Rattle.jr_value.specs.Reading.{identifier_named}
+use Rattle.jr_value.specs.Words.{identifier_named}
 use Rattle.jr_tree.specs.declared.edit.Write.{Write}
 use Rattle.jr_tree.specs.declared.edit.Write.TheVariants.{Here, Put}
 use Rattle.jr_tree.specs.declared.shared.Who.{Who}

@@ -1,7 +1,6 @@
 // Laws of the texts of identifiers.
 ghost use Rattle.std.specs.Prelude.{◌≡◌, ℕ, Some};
-ghost use Rattle.jr_value.specs.Json.{identifier_text};
-ghost use Rattle.jr_value.specs.Reading.{identifier_named};
+ghost use Rattle.jr_value.specs.Words.{identifier_named, identifier_text};
 ghost use Rattle.jcr_ref.specs.References.{identifier, identifier_number, uuid_text};
 
 /// The text of a session's identifier is the one that `uuid` prints for its number and reads as this number again;

@@ -6,7 +6,7 @@ use Rattle.std.specs.declared.alloc.Global.{Global}
 use Rattle.std.specs.declared.string.String.{String}
 use mathlib.Core.Bool.{false≢true}
 use Rattle.jr_path.specs.declared.name.Name.{Name}
-use Rattle.jr_path.specs.declared.text.Text.{Text}
+use Rattle.jr_path.specs.Lists.{Text}
 use Rattle.jr_value.specs.declared.value.Value.{Value}
 use Rattle.oak_port.specs.Ports.{Idle, OthersAlone, Shown, Starting, Steps, Work}
 use Rattle.oak_port.specs.declared.task.StepOut.{StepOut}

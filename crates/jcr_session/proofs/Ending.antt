@@ -7,7 +7,7 @@ use Rattle.std.specs.declared.string.String.{String}
 use mathlib.Core.Bool.{false≢true}
 use Rattle.jr_path.specs.declared.name.Name.{Name}
 use Rattle.jr_path.specs.declared.path.Item.{Item}
-use Rattle.jr_path.specs.declared.text.Text.{Text}
+use Rattle.jr_path.specs.Lists.{Text}
 use Rattle.jr_rev.specs.declared.revision.Revision.{Revision}
 use Rattle.jr_rev.specs.declared.vector.Pin.{Pin}
 use Rattle.jr_rev.specs.declared.vector.RevVec.{RevVec}
@@ -33,7 +33,7 @@ use Rattle.jcr_law.specs.Law.{MaySay, clashed, committed, no_text}
 use Rattle.jcr_law.specs.Lasting.{says_of, starts_of}
 use Rattle.jcr_law.specs.Starting.{call_based, call_has_base}
 use Rattle.jcr_law.specs.State.{Call, accepted, is_ok_text}
-use Rattle.jcr_call.specs.Calls.{call_moved}
+use Rattle.jcr_law.specs.Calls.{call_moved}
 use Rattle.jcr_call.specs.Comings.{accepted_text}
 use Rattle.jcr_held.specs.Holds.{Holds}
 use Rattle.jcr_held.specs.declared.held.Held.{Held}

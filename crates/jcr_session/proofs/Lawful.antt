@@ -5,7 +5,7 @@ use Rattle.std.specs.Option.{option_map_or}
 use Rattle.std.specs.declared.alloc.Global.{Global}
 use Rattle.std.specs.declared.string.String.{String}
 use mathlib.Core.Bool.{false≢true}
-use Rattle.jr_path.specs.declared.text.Text.{Text}
+use Rattle.jr_path.specs.Lists.{Text}
 use Rattle.jr_rev.specs.declared.revision.Revision.{Revision}
 use Rattle.jr_rev.specs.declared.vector.RevVec.{RevVec}
 use Rattle.jr_part.specs.declared.need.Need.{Need}
@@ -32,7 +32,7 @@ use Rattle.jcr_law.specs.Since.{before_turn}
 use Rattle.jr_types.specs.Rules.{TypesOk}
 use Rattle.jcr_law.specs.Starting.{call_based, call_has_base}
 use Rattle.jcr_law.specs.State.{Call, accepted, command_at, is_ok_text}
-use Rattle.jcr_call.specs.Calls.{call_after}
+use Rattle.jcr_law.specs.Calls.{call_after}
 use Rattle.jcr_call.specs.Comings.{reply_to_due}
 use Rattle.jcr_call.specs.declared.coming.Coming.TheVariants as coming
 use Rattle.jcr_held.specs.Accepts.{TokensFit}

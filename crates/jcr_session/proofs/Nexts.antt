@@ -5,7 +5,7 @@ use Rattle.std.specs.Prelude.{IfSome, slice_get}
 use Rattle.std.specs.Option.{option_map_or}
 use mathlib.Core.Bool.{false≢true}
 use Rattle.jr_path.specs.declared.name.Name.{Name}
-use Rattle.jr_path.specs.declared.text.Text.{Text}
+use Rattle.jr_path.specs.Lists.{Text}
 use Rattle.jr_value.specs.declared.value.Value.{Value}
 use Rattle.jcr_trans.specs.declared.command.Command.{Command}
 use Rattle.jcr_trans.specs.declared.command.Command.TheVariants as command

@@ -2,7 +2,7 @@
 use Rattle.std.proofs.Common.{◌≡◌, ℕ, zero, suc, ◌+◌, ◌<◌, ◌≤◌, length, Bool, false, cond, ◌||◌, Some, None, Option, List, [], ◌∷◌, ◌++◌, is_some, refl, sym, ap, ◌∙◌, subst, arith}
 use Rattle.std.specs.Prelude.{◌==◌, slice_get}
 use mathlib.Core.Bool.{false≢true}
-use Rattle.jr_path.specs.declared.text.Text.{Text}
+use Rattle.jr_path.specs.Lists.{Text}
 use Rattle.jr_rev.specs.declared.revision.Revision.{Revision}
 use Rattle.jr_part.specs.declared.need.Need.{Need}
 use Rattle.oak_machine.specs.declared.event.Event.TheVariants as event
@@ -20,7 +20,7 @@ use Rattle.jcr_law.specs.Lasting.{says_last, says_of, starts_of}
 use Rattle.jcr_law.specs.Law.{SaysBy}
 use Rattle.jcr_law.specs.Since.{before_turn}
 use Rattle.jcr_law.specs.State.{Call, call_of, command_at, is_ok_text}
-use Rattle.jcr_call.specs.Calls.{call_after}
+use Rattle.jcr_law.specs.Calls.{call_after}
 use Rattle.jcr_held.specs.Holds.{Holds}
 use Rattle.core_calls.specs.Seeing.{SeesTrees, SeesTyped}
 use Rattle.core_calls.proofs.Called.{said_call}

@@ -22,7 +22,7 @@ use Rattle.jcr_law.specs.declared.law.JcrLaw.{JcrLaw}
 use Rattle.jcr_law.specs.Lasting.{says_of, starts_of}
 use Rattle.jcr_law.specs.Since.{before_turn}
 use Rattle.jcr_law.specs.State.{Call, call_of, command_at}
-use Rattle.jcr_call.specs.Calls.{call_moved}
+use Rattle.jcr_law.specs.Calls.{call_moved}
 use Rattle.jcr_held.specs.Holds.{Holds}
 use Rattle.jcr_held.specs.declared.held.Held.{Held}
 use Rattle.core_calls.specs.Seeing.{SeesTrees, SeesTyped}

@@ -8,7 +8,7 @@ use Rattle.std.specs.declared.alloc.Global.{Global}
 use Rattle.std.specs.declared.string.String.{String}
 use Rattle.jr_path.specs.declared.name.Name.{Name}
 use Rattle.jr_path.specs.declared.path.Item.{Item}
-use Rattle.jr_path.specs.declared.text.Text.{Text}
+use Rattle.jr_path.specs.Lists.{Text}
 use Rattle.jr_rev.specs.declared.revision.Revision.{Revision}
 use Rattle.jr_rev.specs.declared.vector.RevVec.{RevVec}
 use Rattle.jr_tree.specs.declared.edit.Edit.{Edit}
@@ -31,7 +31,7 @@ use Rattle.jcr_law.specs.Commits.{edit_due}
 use Rattle.jcr_law.specs.Law.{SaysBy, no_support}
 use Rattle.jcr_law.specs.Queries.{QueryAnswers}
 use Rattle.jcr_law.specs.State.{Call, command_at, is_ok_text}
-use Rattle.jcr_call.specs.Calls.{call_after}
+use Rattle.jcr_law.specs.Calls.{call_after}
 use Rattle.jcr_call.specs.Comings.{IsAcceptedOf}
 use Rattle.jcr_call.specs.declared.coming.Coming.{Coming}
 use Rattle.jcr_held.specs.Accepts.{TokensFit}

@@ -3,7 +3,7 @@ use Rattle.std.specs.Prelude.{◌≡◌, ◌⊎◌, ◌≤◌, ℕ, Bool, true, 
 use Rattle.std.specs.Prelude.{[], ◌∷◌, length, slice_get, reverse, Option, None, Some, is_some}
 use Rattle.std.specs.Prelude.{IfSome, IsTrue, IsFalse, string_bytes}
 use Rattle.std.specs.Option.{option_map_or}
-use Rattle.jr_path.specs.declared.text.Text.{Text}
+use Rattle.jr_path.specs.Lists.{Text}
 use Rattle.jr_rev.specs.declared.revision.Revision.{Revision}
 use Rattle.jr_rev.specs.declared.vector.RevVec.{RevVec}
 use Rattle.jr_rev.specs.Vectors.{sees}
@@ -37,7 +37,7 @@ use Rattle.jcr_law.specs.Built.{is_built, is_forbidden}
 use Rattle.jcr_law.specs.Lasting.{says_of, starts_of}
 use Rattle.jcr_law.specs.Since.{before_turn, draw_since}
 use Rattle.jcr_law.specs.State.{Call, call_of, command_at}
-use Rattle.jcr_call.specs.Calls.{call_moved}
+use Rattle.jcr_law.specs.Calls.{call_moved}
 use Rattle.jcr_call.specs.Comings.{IsAcceptedOf}
 use Rattle.jcr_call.specs.declared.coming.Accepted.{Accepted}
 use Rattle.jcr_held.specs.Begins.{IsNewHeld}

@@ -8,7 +8,7 @@ ghost use Rattle.jcr_trans.specs.Answers.{ShowsRevision};
 ghost use Rattle.jcr_trans.specs.Texts.{answer_text};
 ghost use Rattle.jcr_law.specs.Law.{no_text};
 ghost use Rattle.jcr_law.specs.State.{Call};
-ghost use Rattle.jcr_call.specs.Calls.{call_moved};
+ghost use Rattle.jcr_law.specs.Calls.{call_moved};
 ghost use Rattle.jcr_held.specs.Holds.{Holds};
 ghost use Rattle.jcr_session.specs.Asked.{HasClashed, MayAnswer, SeesCommit};
 ghost use Rattle.jcr_session.specs.Nearing.{IsReply};

@@ -16,7 +16,7 @@ use Rattle.serde_json.specs.declared.value.Value.{Value}
 use Rattle.serde_json.proofs.Views.{Entry, members_view-insert_entry}
 use Rattle.jr_path.specs.Names.{name_cmp}
 use Rattle.jr_path.specs.declared.name.Name.{Name}
-use Rattle.jr_value.specs.Json.{property_data}
+use Rattle.jr_json.specs.Json.{property_data}
 use Rattle.jr_value.specs.declared.value.Property.{Property}
 use Rattle.jcr_trans.specs.Texts.{property_members}
 

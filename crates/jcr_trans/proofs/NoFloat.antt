@@ -5,7 +5,7 @@ use Rattle.serde_json.specs.Written.{has_float}
 use Rattle.jr_path.specs.declared.name.Name.{Name}
 use Rattle.jr_path.specs.declared.path.Item.{Item}
 use Rattle.jr_value.specs.declared.value.Property.{Property}
-use Rattle.jr_value.proofs.NoFloat.{property_plain}
+use Rattle.jr_json.proofs.NoFloat.{property_plain}
 use Rattle.jr_tree.specs.declared.shared.Datum.{Datum}
 use Rattle.jr_tree.specs.declared.shared.Datum.TheVariants as datum
 use Rattle.jcr_trans.specs.Texts.{datum_data, datum_items, item_texts, name_items, property_members}

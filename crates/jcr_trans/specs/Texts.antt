@@ -8,7 +8,8 @@ use Rattle.jr_path.specs.Ids.{path_text}
 use Rattle.jr_path.specs.Names.{item_path}
 use Rattle.jr_path.specs.declared.name.Name.{Name}
 use Rattle.jr_path.specs.declared.path.Item.{Item}
-use Rattle.jr_value.specs.Json.{kind_text, property_data}
+use Rattle.jr_json.specs.Json.{property_data}
+use Rattle.jr_value.specs.Words.{kind_text}
 use Rattle.jr_value.specs.declared.value.Property.{Property}
 use Rattle.jr_rev.specs.Texts.{revision_text, vector_text}
 use Rattle.jr_tree.specs.declared.shared.Datum.{Datum}

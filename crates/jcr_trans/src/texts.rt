@@ -13,11 +13,12 @@ ghost use Rattle.jr_path.specs.Names.{item_path};
 ghost use Rattle.jr_rev.specs.Digits.{IsHexDigit};
 ghost use Rattle.jr_rev.specs.Grammar.{FitsFields};
 ghost use Rattle.jr_rev.specs.Texts.{hexadecimal, revision_text, vector_text};
-ghost use Rattle.jr_value.specs.Json.{property_data};
+ghost use Rattle.jr_json.specs.Json.{property_data};
 
 use arrayvec::ArrayString;
+use jr_json::{property_json, property_text};
 use jr_path::{Item, Keyed, List, Name, Text};
-use jr_rev::{RevVec, Revision};
+use jr_rev::{RevVec, Revision, revision_text};
 use jr_tree::{Datum, Refusal};
 use jr_value::Property;
 use serde_json::{Map, Value as Json};
@@ -34,7 +35,7 @@ pub fn done_reply(alloc: Global) -> Result<String, AllocError>
 pub fn property_reply(alloc: Global, property: &Property) -> Result<String, AllocError>
     ensures { IfOk result (λ text. string_bytes text ≡ answer_text (ShowsProperty property.now)) }
 {
-    let shown = property.json_text(alloc)?;
+    let shown = property_text(alloc, property)?;
     Ok(format!(in alloc; "ok {shown}")?)
 }
 
@@ -98,7 +99,7 @@ fn put_property(
 ) -> Result<(), AllocError>
     ensures { OnOk result (members_view members.new.entries ≡ put name.now (property_data property.now) (members_view members.old.entries)) }
 {
-    let json = property.to_json(alloc)?;
+    let json = property_json(alloc, property)?;
     members.insert(String::from_str(alloc, name.as_str())?, json)?;
     Ok(())
 }
@@ -138,7 +139,7 @@ pub fn revision_reply(revision: &Revision) -> ArrayString<40>
 {
     let mut text = ArrayString::new();
     text.push_str("ok \"");
-    let shown = revision.text();
+    let shown = revision_text(revision);
     text.push_str(shown.as_str());
     text.push_str("\"");
     text
@@ -147,7 +148,7 @@ pub fn revision_reply(revision: &Revision) -> ArrayString<40>
 fn text_of_revision(alloc: Global, revision: &Revision) -> Result<String, AllocError>
     ensures { IfOk result (λ text. string_bytes text ≡ revision_text revision.now) }
 {
-    let text = revision.text();
+    let text = revision_text(revision);
     Ok(String::from_str(alloc, text.as_str())?)
 }
 

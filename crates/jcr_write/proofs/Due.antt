@@ -1,5 +1,6 @@
 -- Which answer or refusal is due, from what was asked before.
-use Rattle.std.proofs.Common.{◌≡◌, Bool, Option, None, Some, List, [], ◌∷◌, true, false, refl, sym, ap, subst, ◌∙◌}
+use Rattle.std.proofs.Common.{◌≡◌, Bool, Option, None, Some, List, [], ◌∷◌, ◌++◌, true, false, refl, sym, ap, subst, ◌∙◌}
+use Rattle.std.specs.Option.{option_or}
 use Rattle.std.specs.Result.{is_ok}
 use Rattle.std.proofs.lemmas.Bool.{false≢true}
 use Rattle.jr_overlay.specs.Overlays.{View}
@@ -8,6 +9,7 @@ use Rattle.std.proofs.lemmas.Option.{none-some}
 use Rattle.jr_tree.specs.declared.shared.Refusal.{Refusal}
 use Rattle.jr_tree.specs.declared.tree.Node.{Node}
 use Rattle.jr_path.specs.declared.path.Path.{Path}
+use Rattle.jr_items.proofs.FirstRefusal.{first_some-append}
 use Rattle.jr_items.specs.Items.{first_some}
 use Rattle.jr_items.specs.Refusals.{IsOrMemory, IsTheRefusal, out_of_memory, when}
 use Rattle.jr_overlay.specs.Drafts.{Steps, drafted, with_step}
@@ -54,6 +56,27 @@ pub rest_none : {T : Type 0} (result : Result T Refusal) (a : Option Refusal)
     → OnOk result (first_some (a ∷ rest) ≡ None)
 rest_none (Ok x) a rest h is = first_none a rest h is
 rest_none (Err r) a rest h is = is
+
+-- the first ones come, whatever is asked behind them
+pub ahead_result : (xs ys : List (Option Refusal)) (r : Refusal) → IsTheRefusal (first_some xs) r
+    → IsTheRefusal (first_some (xs ++ ys)) r
+ahead_result xs ys r due =
+    λ m. first_some-append xs ys ∙ ap (λ o. option_or o (first_some ys)) (due m)
+
+-- those behind first ones that pass
+behind : (xs ys : List (Option Refusal)) → first_some xs ≡ None
+    → first_some ys ≡ first_some (xs ++ ys)
+behind xs ys h = sym (first_some-append xs ys ∙ ap (λ o. option_or o (first_some ys)) h)
+
+pub behind_none : {T : Type 0} (result : Result T Refusal) (xs ys : List (Option Refusal))
+    → first_some xs ≡ None → OnOk result (first_some ys ≡ None)
+    → OnOk result (first_some (xs ++ ys) ≡ None)
+behind_none result xs ys h is = subst (λ o. OnOk result (o ≡ None)) (behind xs ys h) is
+
+pub behind_result : {T : Type 0} (result : Result T Refusal) (xs ys : List (Option Refusal))
+    → first_some xs ≡ None → IfErr result (IsTheRefusal (first_some ys))
+    → IfErr result (IsTheRefusal (first_some (xs ++ ys)))
+behind_result result xs ys h is = subst (λ o. IfErr result (IsTheRefusal o)) (behind xs ys h) is
 
 -- where a test holds, a cause is refused
 pub when_due : (b : Bool) (cause r : Refusal) → b ≡ true → IsOrMemory cause r

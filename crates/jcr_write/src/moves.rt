@@ -1,11 +1,11 @@
 // Removing and moving nodes.
-ghost use Rattle.std.specs.Prelude.{◌≡◌, [], IfErr, IfOk, None, Ok, OnOk, drop, false, is_some, map};
+ghost use Rattle.std.specs.Prelude.{◌≡◌, ◌∷◌, [], IfErr, IfOk, None, Ok, OnOk, drop, false, is_some, map};
 ghost use Rattle.std.specs.Map.Iter.{deref_pair};
 ghost use Rattle.std.specs.Option.{option_copied, option_map_or};
 ghost use Rattle.jr_path.specs.Names.{is_under};
-ghost use Rattle.jr_items.specs.Items.{property_of};
+ghost use Rattle.jr_items.specs.Items.{first_some, property_of};
 ghost use Rattle.jr_items.specs.Names.{primary_type};
-ghost use Rattle.jr_items.specs.Refusals.{IsTheRefusal, limit_refusal, own_item_rule, own_rule, taken, when};
+ghost use Rattle.jr_items.specs.Refusals.{IsTheRefusal, in_system, limit_refusal, own_item_rule, own_rule, taken, when};
 ghost use Rattle.jr_types.specs.Types.{child_def};
 ghost use Rattle.jr_overlay.specs.Drafts.{in_draft};
 ghost use Rattle.jr_overlay.specs.Overlays.{sighted};
@@ -260,10 +260,35 @@ fn check_ends(alloc: Global, from: &Path, to: &Path) -> Result<(), Refusal>
     ensures ok { OnOk result (ends_refusal from.now to.now ≡ None) }
     ensures err { IfErr result (IsTheRefusal (ends_refusal from.now to.now)) }
 {
-    check_limits(alloc, from)?;
-    check_limits(alloc, to)?;
-    check_not_system(alloc, from)?;
-    check_not_system(alloc, to)
+    match check_both_limits(alloc, from, to) {
+        Ok(()) => check_both_own(alloc, from, to),
+        Err(refusal) => Err(refusal),
+    }
+}
+
+// The paths of a move are within the limits.
+fn check_both_limits(alloc: Global, from: &Path, to: &Path) -> Result<(), Refusal>
+    ensures ok { OnOk result
+        (first_some (limit_refusal from.now ∷ limit_refusal to.now ∷ []) ≡ None) }
+    ensures err { IfErr result
+        (IsTheRefusal (first_some (limit_refusal from.now ∷ limit_refusal to.now ∷ []))) }
+{
+    match check_limits(alloc, from) {
+        Ok(()) => check_limits(alloc, to),
+        Err(refusal) => Err(refusal),
+    }
+}
+
+// The paths of a move are not the repository's own.
+fn check_both_own(alloc: Global, from: &Path, to: &Path) -> Result<(), Refusal>
+    ensures ok { OnOk result (first_some (in_system from.now ∷ in_system to.now ∷ []) ≡ None) }
+    ensures err { IfErr result
+        (IsTheRefusal (first_some (in_system from.now ∷ in_system to.now ∷ []))) }
+{
+    match check_not_system(alloc, from) {
+        Ok(()) => check_not_system(alloc, to),
+        Err(refusal) => Err(refusal),
+    }
 }
 
 // There is a node, and it may stand at the other path.
@@ -273,10 +298,38 @@ fn check_stand(alloc: Global, draft: &Draft<'_>, from: &Path, to: &Path) -> Resu
     ensures err { IfErr result (IsTheRefusal
         (stand_refusal (sighted draft.now.sight) draft.now.steps from.now to.now)) }
 {
-    check_there(alloc, draft, from)?;
-    check_above(alloc, draft, to)?;
-    check_free(alloc, draft, to)?;
-    check_not_below(alloc, from, to)
+    match check_both_there(alloc, draft, from, to) {
+        Ok(()) => check_target(alloc, draft, from, to),
+        Err(refusal) => Err(refusal),
+    }
+}
+
+// There is a node, and one above the other path.
+fn check_both_there(alloc: Global, draft: &Draft<'_>, from: &Path, to: &Path) -> Result<(), Refusal>
+    ensures ok { OnOk result (first_some (absent (sighted draft.now.sight) draft.now.steps from.now
+        ∷ absent (sighted draft.now.sight) draft.now.steps (above to.now) ∷ []) ≡ None) }
+    ensures err { IfErr result (IsTheRefusal
+        (first_some (absent (sighted draft.now.sight) draft.now.steps from.now
+        ∷ absent (sighted draft.now.sight) draft.now.steps (above to.now) ∷ []))) }
+{
+    match check_there(alloc, draft, from) {
+        Ok(()) => check_above(alloc, draft, to),
+        Err(refusal) => Err(refusal),
+    }
+}
+
+// There is no node at the other path, which isn't at or below the first.
+fn check_target(alloc: Global, draft: &Draft<'_>, from: &Path, to: &Path) -> Result<(), Refusal>
+    ensures ok { OnOk result (first_some (when (is_some (in_draft draft.now to.now)) (taken to.now)
+        ∷ when (is_under to.now from.now) (own_rule to.now) ∷ []) ≡ None) }
+    ensures err { IfErr result (IsTheRefusal
+        (first_some (when (is_some (in_draft draft.now to.now)) (taken to.now)
+        ∷ when (is_under to.now from.now) (own_rule to.now) ∷ []))) }
+{
+    match check_free(alloc, draft, to) {
+        Ok(()) => check_not_below(alloc, from, to),
+        Err(refusal) => Err(refusal),
+    }
 }
 
 // There is a node above the path.

@@ -17,8 +17,8 @@ use Rattle.jr_args.specs.declared.fault.Step.{Step}
 use Rattle.jr_args.specs.declared.fault.Step.TheVariants.{Key, Index}
 use Rattle.jr_args.specs.declared.word.Word.{Word}
 use Rattle.jr_args.specs.declared.word.Word.TheVariants as word
-use Rattle.jr_value.proofs.Unique.{property_one}
-use Rattle.jr_value.specs.Reading.{IsValueJson}
+use Rattle.jr_json.proofs.Unique.{property_one}
+use Rattle.jr_json.specs.Reading.{IsValueJson}
 use Rattle.jr_value.specs.declared.value.Property.{Property}
 use Rattle.jr_value.specs.declared.value.Property.TheVariants.{Single, Many}
 use Rattle.jr_value.specs.declared.value.Value.{Value}

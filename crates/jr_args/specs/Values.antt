@@ -7,7 +7,7 @@ use Rattle.jr_path.specs.declared.fault.PathFault.{PathFault}
 use Rattle.jr_path.specs.declared.fault.PathFault.TheVariants as path_fault
 use Rattle.jr_path.specs.declared.name.Name.{Name}
 use Rattle.jr_path.specs.declared.path.Path.{Path}
-use Rattle.jr_value.specs.Reading.{IsPropertyJson, IsValueJson}
+use Rattle.jr_json.specs.Reading.{IsPropertyJson, IsValueJson}
 use Rattle.jr_value.specs.declared.value.Property.{Property}
 use Rattle.jr_value.specs.declared.value.Value.{Value}
 use Rattle.jr_args.specs.declared.fault.Fault.{Fault}

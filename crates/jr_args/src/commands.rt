@@ -25,7 +25,7 @@ const FORM: u8 = 5;
 ///
 /// 5. It is a list of the name of a command and its arguments, each of its JSON kind.
 /// 6. Paths and names are in the grammar (JSR 283, 3.2 Names and 3.4 Paths). A path may be too deep or too long.
-/// 7. Values are those that `Property::from_json` reads; a query's variable has one value.
+/// 7. Values are those that `read_property` of `jr_json` reads; a query's variable has one value.
 pub fn command(alloc: Global, json: &Json) -> Result<Command, Fault>
     ensures { Answers (command_of (view json.now)) result }
 {

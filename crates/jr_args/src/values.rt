@@ -5,8 +5,9 @@ ghost use Rattle.jr_args.specs.Outcomes.{Answers};
 ghost use Rattle.jr_args.specs.Values.{name_of, path_of, property_of, refused, value_of};
 
 use crate::fault::Fault;
+use jr_json::{ValueFault, read_property};
 use jr_path::{Name, Path, PathFault};
-use jr_value::{Property, Value, ValueFault};
+use jr_value::{Property, Value};
 use serde_json::Value as Json;
 use std::alloc::Global;
 
@@ -50,7 +51,7 @@ fn refused(alloc: Global, fault: PathFault) -> Fault
 pub fn property(alloc: Global, json: &Json) -> Result<Property, Fault>
     ensures { Answers (property_of (view json.now)) result }
 {
-    match Property::from_json(alloc, json) {
+    match read_property(alloc, json) {
         Ok(property) => Ok(property),
         Err(ValueFault::Memory) => Err(Fault::Memory),
         Err(_) => Err(Fault::here(alloc, VALUE)),

@@ -6,14 +6,9 @@ use Rattle.std.proofs.lemmas.Bool.{true≢false}
 use Rattle.std.proofs.lemmas.Str.{IsUtf8-from_is_utf8, is_utf8-from_IsUtf8}
 use Rattle.jr_path.specs.declared.name.Name.{Name}
 use Rattle.jr_value.specs.declared.value.Kind.{Kind}
-use Rattle.jr_value.specs.declared.value.Kind.TheVariants as kind
 use Rattle.jr_value.specs.declared.value.Value.{Value}
-use Rattle.jr_value.specs.declared.value.Value.TheVariants as value
-use Rattle.jr_value.specs.declared.value.Property.TheVariants.{Single}
-use Rattle.jr_value.specs.Json.{kind_text, tagged, value_data}
-use Rattle.jr_value.specs.Reading.{IsFound}
 use Rattle.jr_value.specs.Texts.{IsText}
-use Rattle.jr_value.proofs.Unique.{property_one}
+use Rattle.jr_value.proofs.Texts.{found_one, text_one}
 use Rattle.jr_cnd.specs.Meaning.{IsMeaning, meaning}
 use Rattle.cnd_pieces.specs.Pieces.{ArePieces, IsDefault, IsNameOrNone, IsSaid, Means, content, context_after, is_behind_less, left_behind, place_behind}
 use Rattle.cnd_pieces.specs.Tokens.{first_token, gap_size}
@@ -27,30 +22,8 @@ use Rattle.cnd_pieces.specs.declared.piece.Says.TheVariants as says
 use Rattle.cnd_pieces.specs.declared.piece.TokenKind.{TokenKind}
 use Rattle.cnd_pieces.specs.declared.piece.TokenKind.TheVariants as token
 
-single : (x y : Value) → Single x ≡ Single y → x ≡ y
-single x y e = cc
-
--- a text is at most one value of a kind
-pub text_one : (k : Kind) (t : List ℕ) (x y : Value) → IsText k t x → IsText k t y → x ≡ y
-text_one kind.Str t x y h g = h ∙ sym g
-text_one kind.Long t x y h g = h.2 ∙ ap value.Long (h.1.is ∙ sym g.1.is) ∙ sym g.2
-text_one kind.Date t x y h g = h.2 ∙ ap value.Date (h.1.is ∙ sym g.1.is) ∙ sym g.2
-text_one kind.Boolean t x y h g = let e : Some x ≡ Some y = h ∙ sym g in cc
-text_one kind.Binary t x y h g = single x y (property_one (tagged (kind_text kind.Binary) (value_data (value.Str t))) (Single x) (Single y) h g)
-text_one kind.Name t x y h g = single x y (property_one (tagged (kind_text kind.Name) (value_data (value.Str t))) (Single x) (Single y) h g)
-text_one kind.Path t x y h g = single x y (property_one (tagged (kind_text kind.Path) (value_data (value.Str t))) (Single x) (Single y) h g)
-text_one kind.Reference t x y h g = single x y (property_one (tagged (kind_text kind.Reference) (value_data (value.Str t))) (Single x) (Single y) h g)
-text_one kind.WeakReference t x y h g = single x y (property_one (tagged (kind_text kind.WeakReference) (value_data (value.Str t))) (Single x) (Single y) h g)
-text_one kind.Uri t x y h g = single x y (property_one (tagged (kind_text kind.Uri) (value_data (value.Str t))) (Single x) (Single y) h g)
-
-found_one : (k : Kind) (t : List ℕ) (a b : Option Value) → IsFound (IsText k t) a → IsFound (IsText k t) b → a ≡ b
-found_one k t None None h g = refl
-found_one k t None (Some y) h g = absurd (h y g)
-found_one k t (Some x) None h g = absurd (g x h)
-found_one k t (Some x) (Some y) h g = ap Some (text_one k t x y h g)
-
 default_one : (c : Context) (t : List ℕ) (a b : Option Value) → IsDefault c t a → IsDefault c t b → a ≡ b
-default_one (context.Default k) t a b h g = found_one k t a b h g
+default_one (context.Default k) t a b h g = found_one (IsText k t) (text_one k t) a b h g
 default_one context.Elsewhere t a b h g = h ∙ sym g
 default_one context.BehindLess t a b h g = h ∙ sym g
 default_one context.Opened t a b h g = h ∙ sym g

@@ -6,10 +6,10 @@ use Rattle.std.specs.Option.{option_map_or}
 use Rattle.std.specs.Str.{bytes_eq}
 use Rattle.std.proofs.lemmas.Bool.{false≢true}
 use Rattle.std.proofs.lemmas.Slice.Eq.{bytes_eq-Decides}
-use Rattle.jr_value.specs.Reading.{IsPropertyJson, IsValueFault}
-use Rattle.jr_value.specs.declared.fault.ValueFault.{ValueFault}
-use Rattle.jr_value.specs.declared.fault.ValueFault.TheVariants as values
-use Rattle.jr_value.specs.declared.fault.ValueFault.TheVariants.{ValueFormat}
+use Rattle.jr_json.specs.Reading.{IsPropertyJson, IsValueFault}
+use Rattle.jr_json.specs.declared.fault.ValueFault.{ValueFault}
+use Rattle.jr_json.specs.declared.fault.ValueFault.TheVariants as values
+use Rattle.jr_json.specs.declared.fault.ValueFault.TheVariants.{ValueFormat}
 use Rattle.jr_value.specs.declared.value.Kind.{Kind}
 use Rattle.jr_value.specs.declared.value.Property.TheVariants.{Many}
 use Rattle.jr_value.specs.declared.value.Value.{Value as Val}

@@ -1,16 +1,14 @@
 -- What words say of kinds.
-use Rattle.std.proofs.Common.{ℕ, Bool, true, false, cond, Result, Option, Some, None, List, [], ◌∷◌, ◌≡◌, refl, sym, ap, ◌∙◌, subst}
+use Rattle.std.proofs.Common.{ℕ, Result, Option, Some, None, List, ◌≡◌, false, sym, ap, ◌∙◌, subst}
 use Rattle.std.specs.Prelude.{codes}
 use Rattle.std.specs.Str.{bytes_eq}
 use Rattle.std.proofs.lemmas.Bool.{false≢true}
 use Rattle.std.proofs.lemmas.Option.{none-some}
-use Rattle.std.proofs.lemmas.Slice.Eq.{bytes_eq-Decides}
 use Rattle.serde_json.specs.Data.{Data, null, boolean, number, string, array, object}
 use Rattle.serde_json.specs.Find.{as_str}
-use Rattle.jr_value.specs.Json.{kind_text}
-use Rattle.jr_value.specs.Reading.{all_kinds, kind_named}
+use Rattle.jr_value.specs.Words.{all_kinds, kind_named, kind_text}
 use Rattle.jr_value.specs.declared.value.Kind.{Kind}
-use Rattle.jr_value.proofs.Empties.{named_own}
+use Rattle.jr_value.proofs.Named.{named_has, named_own}
 use Rattle.jr_defs.specs.declared.reading.NoType.{NoType}
 use Rattle.jr_defs.specs.Reading.{IsKindJson, Reads}
 
@@ -20,18 +18,6 @@ text_of (string s) left = s
 text_of _ left = left
 
 -- a kind that a word names has it
-named_has : (ks : List Kind) (word : List ℕ) (k : Kind) → Some k ≡ kind_named ks word → kind_text k ≡ word
-named_has [] word k h = absurd (none-some k (sym h))
-named_has (l ∷ ks) word k h = by (bytes_eq (kind_text l) word) refl h (named_has ks word k)
-  where
-    value : Option Kind → Kind
-    value None = k
-    value (Some m) = m
-
-    by : (b : Bool) → bytes_eq (kind_text l) word ≡ b → Some k ≡ cond b (Some l) (kind_named ks word) → (Some k ≡ kind_named ks word → kind_text k ≡ word) → kind_text k ≡ word
-    by true is g later = ap (λ o. kind_text (value o)) g ∙ (bytes_eq-Decides (kind_text l) word).0 is
-    by false is g later = later g
-
 pub kind_read : (word : List ℕ) (k : Kind) → Some k ≡ kind_named all_kinds word → string word ≡ string (kind_text k)
 kind_read word k h = ap string (sym (named_has all_kinds word k h))
 

@@ -8,10 +8,10 @@ use Rattle.jr_path.specs.Grammar.{IsName}
 use Rattle.jr_path.specs.declared.fault.PathFault.{PathFault}
 use Rattle.jr_path.specs.declared.fault.PathFault.TheVariants as fault
 use Rattle.jr_path.specs.declared.name.Name.{Name}
-use Rattle.jr_value.specs.Json.{kind_text}
-use Rattle.jr_value.specs.Reading.{IsPropertyJson}
-use Rattle.jr_value.specs.declared.fault.ValueFault.{ValueFault}
-use Rattle.jr_value.specs.declared.fault.ValueFault.TheVariants as values
+use Rattle.jr_value.specs.Words.{kind_text}
+use Rattle.jr_json.specs.Reading.{IsPropertyJson}
+use Rattle.jr_json.specs.declared.fault.ValueFault.{ValueFault}
+use Rattle.jr_json.specs.declared.fault.ValueFault.TheVariants as values
 use Rattle.jr_value.specs.declared.value.Kind.{Kind}
 use Rattle.jr_value.specs.declared.value.Value.{Value}
 use Rattle.jr_value.specs.declared.value.Property.TheVariants.{Many}

@@ -7,7 +7,7 @@ ghost use Rattle.serde_json.specs.Data.{string};
 ghost use Rattle.serde_json.specs.Find.{as_str, get};
 ghost use Rattle.serde_json.specs.View.{items_view, members_view, view};
 ghost use Rattle.jr_path.specs.Grammar.{IsName};
-ghost use Rattle.jr_value.specs.Reading.{IsPropertyJson};
+ghost use Rattle.jr_json.specs.Reading.{IsPropertyJson};
 ghost use Rattle.jr_value.specs.declared.value.Kind.{Kind};
 ghost use Rattle.jr_value.specs.declared.value.Property.TheVariants.{Many};
 ghost use Rattle.jr_items.specs.Names.{base_type};
@@ -16,9 +16,10 @@ ghost use Rattle.jr_types.specs.declared.OnParentVersion.TheVariants.{Copy};
 ghost use Rattle.jr_defs.specs.declared.reading.NoType.TheVariants.{Memory};
 
 use jr_items::OwnName;
+use jr_json::{ValueFault, read_property};
 use jr_path::{List, Name, PathFault, Text};
 use jr_types::{ChildDef, OnParentVersion, PropDef, TypeDef};
-use jr_value::{Kind, Property, Value, ValueFault};
+use jr_value::{Kind, Property, Value};
 use serde_json::{Map, Value as Json};
 use std::alloc::{AllocError, AllocFailed, Global};
 
@@ -372,7 +373,7 @@ fn defaults_in(alloc: Global, json: &Json) -> Result<List<Value>, NoType>
 fn some_values(alloc: Global, json: &Json) -> Result<List<Value>, NoType>
     ensures { Reads (λ xs. (k : Kind) × IsPropertyJson (view json.now) (Many k xs)) result }
 {
-    match Property::from_json(alloc, json) {
+    match read_property(alloc, json) {
         Ok(Property::Many(_, values)) => Ok(values),
         Ok(Property::Single(_)) => Err(NoType::NoDefinition),
         Err(fault) => Err(no_values(fault)),

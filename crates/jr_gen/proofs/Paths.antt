@@ -9,7 +9,7 @@ use Rattle.serde_json.specs.Data.{number, unsigned}
 use Rattle.jr_path.specs.Grammar.{IsName}
 use Rattle.jr_path.specs.Paths.{IsPath}
 use Rattle.jr_path.proofs.OwnNames.{is_plain_name, plain_name}
-use Rattle.jr_value.specs.Reading.{IsPropertyJson}
+use Rattle.jr_json.specs.Reading.{IsPropertyJson}
 use Rattle.jr_value.specs.declared.value.Property.TheVariants.{Single}
 use Rattle.jr_value.specs.declared.value.Value.TheVariants as value
 use Rattle.jr_gen.specs.Scripts.{node_path, property_name, property_path}

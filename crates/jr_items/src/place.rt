@@ -1,9 +1,9 @@
 // What commands ask of the path that they name.
-ghost use Rattle.std.specs.Prelude.{◌≡◌, ◌+◌, IfErr, None, OnOk, length, nat_lt, sum_by};
+ghost use Rattle.std.specs.Prelude.{◌≡◌, ◌+◌, ◌∷◌, [], IfErr, None, OnOk, length, nat_lt, sum_by};
 ghost use Rattle.jr_path.specs.Names.{is_under};
 ghost use Rattle.jr_items.specs.Names.{system};
 ghost use Rattle.jr_items.specs.Items.{first_some};
-ghost use Rattle.jr_items.specs.Refusals.{IsTheRefusal, in_system, limit_refusal, no_node, place_refusal};
+ghost use Rattle.jr_items.specs.Refusals.{IsTheRefusal, in_system, limit_refusal, no_node, place_refusal, too_deep, too_long};
 
 use crate::OwnName;
 use crate::refusals::{no_item, over_limit, own_rule};
@@ -75,12 +75,23 @@ pub fn check_node(alloc: Global, tree: &Tree, path: &Path) -> Result<(), Refusal
 }
 
 /// What a lock or version command asks of its path: within the limits, not the repository's own, with a node.
-#[tactic(auto, using(crate::proofs::FirstRefusal::is_first, crate::proofs::FirstRefusal::is_third, crate::proofs::FirstRefusal::is_fourth))]
 pub fn check_place(alloc: Global, tree: &Tree, path: &Path) -> Result<(), Refusal>
     ensures ok { OnOk result (place_refusal tree.now path.now ≡ None) }
     ensures err { IfErr result (IsTheRefusal (place_refusal tree.now path.now)) }
 {
-    check_limits(alloc, path)?;
-    check_not_system(alloc, path)?;
-    check_node(alloc, tree, path)
+    match check_open(alloc, path) {
+        Ok(()) => check_node(alloc, tree, path),
+        Err(refusal) => Err(refusal),
+    }
+}
+
+// The path is within the limits, and not the repository's own.
+fn check_open(alloc: Global, path: &Path) -> Result<(), Refusal>
+    ensures ok { OnOk result (first_some (too_deep path.now ∷ too_long path.now ∷ in_system path.now ∷ []) ≡ None) }
+    ensures err { IfErr result (IsTheRefusal (first_some (too_deep path.now ∷ too_long path.now ∷ in_system path.now ∷ []))) }
+{
+    match check_limits(alloc, path) {
+        Ok(()) => check_not_system(alloc, path),
+        Err(refusal) => Err(refusal),
+    }
 }

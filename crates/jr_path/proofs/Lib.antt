@@ -1,5 +1,5 @@
+pub use Rattle.jr_list.proofs.Entries
 pub mod Cases
-pub mod Entries
 pub mod Follows
 pub mod Maps
 pub mod Named

@@ -1,6 +1,6 @@
 pub mod Grammar
 pub mod Ids
-pub mod Lending
+pub mod Lists
 pub mod Named
 pub mod Names
 pub mod Paths

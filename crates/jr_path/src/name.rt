@@ -12,7 +12,6 @@ use std::marker::Model;
 pub const MAX_NAME_BYTES: usize = 255;
 
 /// The name of a node or a property (JSR 283, 3.2 Names), ordered by its bytes.
-#[derive(Debug)]
 pub struct Name {
     text: String,
 }

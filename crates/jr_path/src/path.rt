@@ -18,7 +18,6 @@ use std::marker::Model;
 
 /// The path of a node from the root (JSR 283, 3.4 Paths), seen as the list of its names.
 /// Ordered name by name, by bytes, a prefix first.
-#[derive(Debug)]
 pub struct Path {
     names: Vec<Name>,
 }
@@ -246,7 +245,7 @@ impl PartialOrd for Path {
 
 /// A node, or with a name a property of it (JSR 283, 3.1 Items).
 /// Nodes in path order, each before its properties, and these by name.
-#[derive(Debug, PartialEq, Eq, PartialOrd, Ord)]
+#[derive(PartialEq, Eq, PartialOrd, Ord)]
 pub struct Item {
     pub path: Path,
     pub name: Option<Name>,
@@ -273,7 +272,6 @@ impl DeepCopy for Item {
 /// The id of a document: of a node, of a previous document of a node with its number, or of the
 /// settings (Oak, DocumentNodeStore: Node Document). Store order is nodes' documents by depth, then by
 /// the bytes of the path's text; previous documents by path, then number; then the settings.
-#[derive(Debug)]
 pub enum DocId {
     Node(Path),
     Prev(u64, Path),

@@ -14,7 +14,7 @@ pub const MAX_PATH_NAMES: usize = 64;
 pub const MAX_PATH_BYTES: usize = 1024;
 
 /// What a text in the grammar of paths is: a path within the limits, or the first limit that it passes.
-#[derive(Debug, Drop, PartialEq, Eq)]
+#[derive(Drop, PartialEq, Eq)]
 pub enum PathText {
     /// A path of at most 64 names, whose text has at most 1,024 bytes.
     Within(Path),

@@ -17,10 +17,9 @@ use Rattle.jr_types.specs.declared.ChildDef.{ChildDef}
 use Rattle.jr_types.specs.declared.TypeDef.{TypeDef}
 use Rattle.jr_rules.specs.Checking.{child_rule, definition_rule, property_rule}
 use Rattle.jr_types.specs.Said.{counting_children, counting_props, types_said}
-use Rattle.jr_types.specs.Constraints.{admits}
 use Rattle.jr_types.specs.Registered.{IsAlike}
 use Rattle.jr_types.specs.Rules.{Child, are_distinct, are_mixins, child_at, child_faults, failing, is_misfit, is_missing, is_of_no_type, is_outside, is_primary_type, is_stray, is_undefined, mandatory_children, mandatory_props, node_types}
-use Rattle.jr_types.specs.Types.{child_defs, fits, fits_child, is_named, prop_defs, props_of, types_of}
+use Rattle.jr_types.specs.Types.{admits, child_defs, fits, fits_child, is_named, prop_defs, props_of, types_of}
 use Rattle.jr_types.proofs.Alike.{any-alike, any_seen, empty-alike, filter-alike}
 use Rattle.jr_types.proofs.Chosen.{children-alike, props-alike}
 

@@ -15,9 +15,8 @@ use Rattle.jr_types.specs.declared.TypeDef.{TypeDef}
 use Rattle.jr_rules.specs.declared.broken.Break.{Break}
 use Rattle.jr_rules.specs.declared.checking.TypesOut.{TypesOut}
 use Rattle.jr_rules.specs.declared.checking.TypesOut.TheVariants as out
-use Rattle.jr_types.specs.Constraints.{admits}
 use Rattle.jr_types.specs.Said.{types_said}
-use Rattle.jr_types.specs.Types.{fits}
+use Rattle.jr_types.specs.Types.{admits, fits}
 use Rattle.jr_types.specs.Rules.{node_types, child_at, property_faults, child_faults}
 use Rattle.jr_rules.specs.Violations.{Violation, faults_among}
 

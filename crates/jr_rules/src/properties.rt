@@ -4,10 +4,9 @@ ghost use Rattle.std.specs.List.{filter_map, flat_map, list_any};
 ghost use Rattle.std.specs.Map.{keys_of};
 ghost use Rattle.jr_items.specs.Names.{mixin_types, primary_type};
 ghost use Rattle.jr_items.specs.Items.{is_empty};
-ghost use Rattle.jr_types.specs.Constraints.{admits};
 ghost use Rattle.jr_types.specs.Registered.{IsAlike};
 ghost use Rattle.jr_types.specs.Said.{types_said};
-ghost use Rattle.jr_types.specs.Types.{is_named, props_of, types_of};
+ghost use Rattle.jr_types.specs.Types.{admits, is_named, props_of, types_of};
 ghost use Rattle.jr_rules.specs.Checking.{IsFirstBreak, definition_rule, first_break, property_rule};
 
 use crate::broken::{Break, earlier, wanted};

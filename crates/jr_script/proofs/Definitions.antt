@@ -9,13 +9,13 @@ use Rattle.jr_path.specs.Grammar.{IsName}
 use Rattle.jr_path.specs.Named.{is_formed, is_name}
 use Rattle.jr_path.specs.declared.name.Name.{Name}
 use Rattle.jr_path.proofs.Named.{name_passes}
-use Rattle.jr_value.specs.Reading.{all_kinds, kind_named}
+use Rattle.jr_value.specs.Words.{all_kinds, kind_named}
 use Rattle.jr_value.specs.declared.value.Kind.{Kind}
 use Rattle.jr_value.specs.declared.value.Kind.TheVariants as kind
 use Rattle.jr_value.specs.declared.value.Property.{Property}
 use Rattle.jr_value.specs.declared.value.Property.TheVariants.{Single, Many}
 use Rattle.jr_value.specs.declared.value.Value.{Value}
-use Rattle.jr_value.proofs.Unique.{property_one}
+use Rattle.jr_json.proofs.Unique.{property_one}
 use Rattle.jr_defs.specs.Reading.{AreDefaultsJson, AreRead, IsChildJson, IsFlagJson, IsItemNameJson, IsKindJson, IsListJson, IsNameJson, IsOpvJson, IsOr, IsPropJson, IsSomeNameJson, IsTextJson, IsThere, IsTypeJson}
 use Rattle.jr_types.specs.Attributes.{opv_text}
 use Rattle.jr_types.specs.declared.OnParentVersion.{OnParentVersion}
@@ -79,7 +79,7 @@ kind_back : (d : Data) (k : Option Kind) → IsKindJson d k → kind_named all_k
 kind_back d None h = ap (λ d. kind_named all_kinds (text_in d)) h
 kind_back d (Some k) h = ap (λ d. kind_named all_kinds (text_in d)) h ∙ named k
   where
-    named : (k : Kind) → kind_named all_kinds (text_in (string (Rattle.jr_value.specs.Json.kind_text k))) ≡ Some k
+    named : (k : Kind) → kind_named all_kinds (text_in (string (Rattle.jr_value.specs.Words.kind_text k))) ≡ Some k
     named kind.Str = refl
     named kind.Binary = refl
     named kind.Long = refl

@@ -56,7 +56,7 @@ const TEXT: u8 = 10;
 ///    `cluster`, the number of one of the cluster nodes; 1 where it is left out.
 /// 5. A command is a list of the name of one and its arguments, each of its JSON kind.
 /// 6. Paths and names are in the grammar (JSR 283, 3.2 Names and 3.4 Paths). A path may be too deep or too long.
-/// 7. Values are those that `Property::from_json` reads; a query's variable has one value.
+/// 7. Values are those that `read_property` of `jr_json` reads; a query's variable has one value.
 /// 8. `schedule` is a list of at most 1,000,000 entries: `s`, `[s,"say",n]`, `[s,"draw"]`, `[s,"write",n]`, `[s,"last"]` or
 ///    `[s,"read"]`, where s is the number of a session and n a whole number from 1 to 1,000,000; empty where it is left out.
 /// 9. `types` is a list of definitions of node types, or a text; empty where it is left out. `read_type` reads each, and

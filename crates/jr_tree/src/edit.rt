@@ -9,7 +9,6 @@ use std::alloc::AllocError;
 use std::collections::BTreeSet;
 
 /// A write of one item (JSR 283, 3.1 Items): a node comes or goes, a property of a node is put or unset.
-#[derive(Debug)]
 pub enum Write {
     Here(Path),
     Gone(Path),
@@ -37,7 +36,6 @@ impl Drop for Write {
 }
 
 /// Writes of items. The last write of an item counts, and those of nodes come before those of properties.
-#[derive(Debug)]
 pub struct Edit {
     pub writes: List<Write>,
 }

@@ -8,7 +8,7 @@ use std::alloc::{AllocError, Global};
 
 /// Who runs a command: the number of the session, how many sessions there were before this run, how many
 /// identifiers the session has made, and the vector that its tree is read at.
-#[derive(Clone, Copy, Debug, PartialEq, Eq)]
+#[derive(Clone, Copy, PartialEq, Eq)]
 pub struct Who {
     pub session: u32,
     pub earlier: u32,
@@ -17,7 +17,6 @@ pub struct Who {
 }
 
 /// Why a command is refused: the number of the refusal, 1 to 16, and what its reply names.
-#[derive(Debug)]
 pub struct Refusal {
     pub number: u8,
     pub parts: List<Datum>,
@@ -32,7 +31,6 @@ impl Drop for Refusal {
 }
 
 /// A thing that the reply of a refusal names. Null stands where there is none.
-#[derive(Debug)]
 pub enum Datum {
     Path(Path),
     Item(Item),
@@ -61,7 +59,6 @@ impl Drop for Datum {
 }
 
 /// An item that a commit wrote: whether it was there before, and whether it is after.
-#[derive(Debug)]
 pub struct ItemChange {
     pub item: Item,
     pub before: bool,
@@ -81,7 +78,6 @@ impl Drop for ItemChange {
 }
 
 /// The items that the commit of this revision wrote.
-#[derive(Debug)]
 pub struct CommitChanges {
     pub revision: Revision,
     pub changes: List<ItemChange>,

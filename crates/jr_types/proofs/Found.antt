@@ -1,86 +1,55 @@
 -- What the registry finds under a name.
-use Rattle.std.proofs.Common.{◌≡◌, ℕ, Bool, true, false, cond, ◌||◌, Option, None, Some, List, [], ◌∷◌, All, refl, sym, ap, ◌∙◌, subst, option_map, reverse, map}
-use Rattle.std.specs.Prelude.{String, string_bytes}
-use Rattle.std.specs.declared.alloc.Global.{Global}
+use Rattle.std.proofs.Common.{◌≡◌, ℕ, zero, suc, ◌<◌, ◌≤◌, length, get_or, Bool, true, false, cond, ◌||◌, Option, None, Some, List, [], ◌∷◌, All, refl, sym, ap, ◌∙◌, subst, option_map, reverse}
+use Rattle.std.specs.Prelude.{IfSome, MatchOption, option_and_then, slice_get, unwrap_or}
+use Rattle.std.specs.BTreeMap.{is_at}
 use Rattle.std.specs.List.{find, flat_map, list_any}
 use Rattle.std.specs.Map.{lookup}
-use Rattle.std.specs.Str.{bytes_eq}
-use Rattle.std.proofs.lemmas.Map.Text.{is_eq-slice_cmp}
-use Rattle.std.proofs.lemmas.Slice.Eq.{bytes_eq-Decides}
 use Rattle.std.proofs.lemmas.List.{reverse-append}
 use Rattle.std.proofs.lemmas.List.Elements.{All-head, All-tail}
 use Rattle.std.proofs.lemmas.List.Folds.{list_any-append}
-use Rattle.std.proofs.lemmas.Option.{none-some}
+use Rattle.std.proofs.lemmas.Option.{none-some, slice_get-get_or, slice_get-map, slice_get_past}
 use mathlib.Core.Bool.{false≢true}
+use Rattle.jr_path.specs.Names.{name_cmp}
 use Rattle.jr_path.specs.declared.name.Name.{Name}
 use Rattle.jr_items.specs.Items.{same_name}
 use Rattle.jr_types.specs.declared.TypeDef.{TypeDef}
 use Rattle.jr_types.specs.declared.registry.Registered.{Registered}
-use Rattle.jr_types.specs.Registered.{AreWithin, IsAlike, IsRegistered, definitions, types_at}
+use Rattle.jr_types.specs.Registered.{ArePlaces, IsAlike, IsRegistered, IsUnder, definitions, place_named, types_at}
 use Rattle.jr_types.specs.Types.{type_named, lineage, lineage_among, supertypes_of}
-use Rattle.jr_types.proofs.Same.{itself, same}
+use Rattle.jr_types.proofs.Same.{same}
 
-abbrev pub Entries : Type 0
-Entries = List (String Global × Registered)
-
--- the entry under a text
-abbrev pub entry_of : Name → Entries → Option Registered
-entry_of n es = lookup (λ k. bytes_eq n (string_bytes k)) es
-
--- names are the same both ways, by their bytes
-pub agree : (n m : Name) → bytes_eq n m ≡ same_name m n
-agree n m = by (bytes_eq n m) (same_name m n) refl refl
+-- the type of a name stands at its place
+at_place : (types : List TypeDef) (n : Name) → option_and_then (slice_get types) (place_named types n) ≡ type_named types n
+at_place [] n = refl
+at_place (d ∷ ds) n = by (same_name d.name n) (at_place ds n)
   where
-    by : (b c : Bool) → bytes_eq n m ≡ b → same_name m n ≡ c → bytes_eq n m ≡ same_name m n
-    by true c h k = h ∙ (sym (subst (λ x. same_name x n ≡ true) ((bytes_eq-Decides n m).0 h) (itself n)))
-    by false true h k = sym (is_eq-slice_cmp n m) ∙ (subst (λ x. same_name n x ≡ true) (sym (same m n k)) (itself n) ∙ sym k)
-    by false false h k = h ∙ sym k
+    behind : (o : Option ℕ) → option_and_then (slice_get (d ∷ ds)) (option_map suc o) ≡ option_and_then (slice_get ds) o
+    behind None = refl
+    behind (Some k) = refl
 
-chosen : (b c : Bool) → b ≡ c → (e : Registered) (o : Option Registered) (p : Option TypeDef) → option_map (λ r. r.definition) o ≡ p
-    → option_map (λ r. r.definition) (cond b (Some e) o) ≡ cond c (Some e.definition) p
-chosen true true h e o p k = refl
-chosen false false h e o p k = k
-chosen true false h e o p k = absurd (false≢true (sym h))
-chosen false true h e o p k = absurd (false≢true h)
+    by : (b : Bool) → option_and_then (slice_get ds) (place_named ds n) ≡ type_named ds n → option_and_then (slice_get (d ∷ ds)) (cond b (Some 0) (option_map suc (place_named ds n))) ≡ cond b (Some d) (type_named ds n)
+    by true h = refl
+    by false h = behind (place_named ds n) ∙ h
 
-module _ (types : List TypeDef) where
-  -- the definition under a name is that of the type of that name
-  pub found : (n : Name) (es : Entries) → All (IsRegistered types) es → option_map (λ r. r.definition) (entry_of n es) ≡ type_named (definitions es) n
-  found n [] h = refl
-  found n (e ∷ es) h = chosen (bytes_eq n (string_bytes e.0)) (same_name e.1.definition.name n)
-      (agree n (string_bytes e.0) ∙ ap (λ m. same_name m n) (All-head (IsRegistered types) e es h).named)
-      e.1 (entry_of n es) (type_named (definitions es) n) (found n es (All-tail (IsRegistered types) e es h))
+-- a type has the name under which it is found
+named : (types : List TypeDef) (n : Name) (d : TypeDef) → type_named types n ≡ Some d → d.name ≡ n
+named [] n d h = absurd (none-some d h)
+named (t ∷ ts) n d h = by (same_name t.name n) refl h (named ts n d)
+  where
+    name_of : Option TypeDef → Name
+    name_of None = n
+    name_of (Some x) = x.name
 
-  -- what stands under a name leads to the type's lineage
-  pub lined : (n : Name) (es : Entries) → All (IsRegistered types) es → (r : Registered) → entry_of n es ≡ Some r → IsAlike (types_at types r.line) (lineage types n)
-  lined n [] h r e = absurd (none-some r e)
-  lined n (x ∷ es) h r e = by (bytes_eq n (string_bytes x.0)) refl e (lined n es (All-tail (IsRegistered types) x es h) r)
-    where
-      line_of : Option Registered → List ℕ
-      line_of None = []
-      line_of (Some r) = r.line
+    by : (b : Bool) → same_name t.name n ≡ b → cond b (Some t) (type_named ts n) ≡ Some d → (type_named ts n ≡ Some d → d.name ≡ n) → d.name ≡ n
+    by true k e rest = sym (ap name_of e) ∙ same t.name n k
+    by false k e rest = rest e
 
-      this : IsRegistered types x
-      this = All-head (IsRegistered types) x es h
-
-      by : (b : Bool) → bytes_eq n (string_bytes x.0) ≡ b → cond b (Some x.1) (entry_of n es) ≡ Some r
-          → (entry_of n es ≡ Some r → IsAlike (types_at types r.line) (lineage types n)) → IsAlike (types_at types r.line) (lineage types n)
-      by true k f rest = subst (λ o. IsAlike (types_at types (line_of o)) (lineage types n)) f
-          (subst (λ m. IsAlike (types_at types x.1.line) (lineage types m)) (sym ((bytes_eq-Decides n (string_bytes x.0)).0 k ∙ this.named)) this.line)
-      by false k f rest = rest f
-
-  -- its places are among the types
-  pub placed : (n : Name) (es : Entries) → All (IsRegistered types) es → (r : Registered) → entry_of n es ≡ Some r → AreWithin types r.line
-  placed n [] h r e = absurd (none-some r e)
-  placed n (x ∷ es) h r e = by (bytes_eq n (string_bytes x.0)) e (placed n es (All-tail (IsRegistered types) x es h) r)
-    where
-      places_of : Option Registered → List ℕ
-      places_of None = []
-      places_of (Some r) = r.line
-
-      by : (b : Bool) → cond b (Some x.1) (entry_of n es) ≡ Some r → (entry_of n es ≡ Some r → AreWithin types r.line) → AreWithin types r.line
-      by true f rest = subst (λ o. AreWithin types (places_of o)) f (All-head (IsRegistered types) x es h).within
-      by false f rest = rest f
+-- what holds of each holds of the one at a place
+each : (P : Registered → Type 0) (rs : List Registered) → All P rs → (k : ℕ) (r : Registered) → slice_get rs k ≡ Some r → P r
+each P [] h zero r e = absurd (none-some r e)
+each P [] h (suc k) r e = absurd (none-some r e)
+each P (x ∷ rs) h zero r e = subst P (ap (λ (o : Option Registered). unwrap_or o x) e) (All-head P x rs h)
+each P (x ∷ rs) h (suc k) r e = each P rs (All-tail P x rs h) k r e
 
 -- ---- a type that nobody registered has no lineage
 
@@ -116,26 +85,47 @@ unregistered types n h = no_type n (reverse types) (any-reverse _ types ∙ none
 
 -- ---- as the calls need it
 
-module _ (es : Entries) (types : List TypeDef) (n : Name) (view : definitions es ≡ types) (h : All (IsRegistered (definitions es)) es) where
-  as_found : (o : Option Registered) → o ≡ entry_of n es → option_map (λ r. r.definition) o ≡ type_named types n
-  as_found o e = ap (option_map (λ (r : Registered). r.definition)) e ∙ (found (definitions es) n es h ∙ ap (λ ts. type_named ts n) view)
+abbrev definition : Registered → TypeDef
+definition r = r.definition
 
-  pub get_some : (r : Registered) → Some r ≡ entry_of n es → Some r.definition ≡ type_named types n
-  get_some r e = as_found (Some r) e
+-- what stands at a place, and that nothing does
+pub got : (rs : List Registered) (k : ℕ) (r : Registered) → r ≡ get_or rs k r → k < length rs → Some r ≡ slice_get rs k
+got rs k r e l = ap Some e ∙ sym (slice_get-get_or rs k r l)
 
-  pub get_none : None ≡ entry_of n es → None ≡ type_named types n
-  get_none e = as_found None e
+pub missed : (rs : List Registered) (k : ℕ) → length rs ≤ k → None ≡ slice_get rs k
+missed rs k l = sym (slice_get_past rs k l)
 
-  pub line_some : (r : Registered) → Some r ≡ entry_of n es → IsAlike (types_at types r.line) (lineage types n)
-  line_some r e = subst (λ ts. IsAlike (types_at ts r.line) (lineage ts n)) view (lined (definitions es) n es h r (sym e))
+-- what a list gives at a place is what stands there
+pub stands : {B : Type 0} (H : B → Type 0) (now : B → Registered) (rs : List Registered) (k : ℕ) (o : Option B) → IfSome o (λ x. now x ≡ get_or rs k (now x))
+    → MatchOption o (length rs ≤ k) (λ x. (k < length rs) × H x) → option_map now o ≡ slice_get rs k
+stands H now rs k None e l = missed rs k l
+stands H now rs k (Some x) e l = got rs k (now x) e l.0
 
-  pub within_some : (r : Registered) → Some r ≡ entry_of n es → AreWithin types r.line
-  within_some r e = subst (λ ts. AreWithin ts r.line) view (placed (definitions es) n es h r (sym e))
+-- the definition at a place
+pub defined_at : (rs : List Registered) (types : List TypeDef) (k : ℕ) (o : Option Registered) → definitions rs ≡ types → o ≡ slice_get rs k → option_map definition o ≡ slice_get types k
+defined_at rs types k o view e = ap (option_map definition) e ∙ (sym (slice_get-map definition rs k) ∙ ap (λ ts. slice_get ts k) view)
 
-  pub line_none : None ≡ entry_of n es → IsAlike [] (lineage types n)
-  line_none e test = ap (find test) (sym (unregistered types n (sym (get_none e))))
+module _ (rs : List Registered) (places : List (Name × ℕ)) (types : List TypeDef) (n : Name) (view : definitions rs ≡ types) (h : All (IsRegistered (definitions rs)) rs) (p : ArePlaces (definitions rs) places) where
+  told : option_and_then (slice_get (definitions rs)) (lookup (is_at (name_cmp n)) places) ≡ type_named types n
+  told = ap (option_and_then (slice_get (definitions rs))) (p n) ∙ (at_place (definitions rs) n ∙ ap (λ ts. type_named ts n) view)
 
--- the definitions of the entries, each taken by its value
-pub defined : (es : Entries) → map (λ (r : Registered). r.definition) (map (λ (e : String Global × Registered). e.1) es) ≡ definitions es
-defined [] = refl
-defined (e ∷ es) = ap (λ ds. e.1.definition ∷ ds) (defined es)
+  at : (k : ℕ) → Some k ≡ lookup (is_at (name_cmp n)) places → option_map definition (slice_get rs k) ≡ type_named types n
+  at k e = sym (slice_get-map definition rs k) ∙ (ap (option_and_then (slice_get (definitions rs))) e ∙ told)
+
+  pub under : (k : ℕ) (o : Option Registered) → Some k ≡ lookup (is_at (name_cmp n)) places → o ≡ slice_get rs k → MatchOption o (type_named types n ≡ None) (IsUnder types n)
+  under k None e g = sym (ap (option_map definition) g ∙ at k e)
+  under k (Some r) e g =
+      let is : Some r.definition ≡ type_named types n = ap (option_map definition) g ∙ at k e in
+      let kept : IsRegistered types r = subst (λ ts. IsRegistered ts r) view (each (IsRegistered (definitions rs)) rs h k r (sym g)) in
+      record {
+        definition = is;
+        within = kept.within;
+        line = subst (λ m. IsAlike (types_at types r.line) (lineage types m)) (named types n r.definition (sym is)) kept.line;
+      }
+
+  pub nothing : None ≡ lookup (is_at (name_cmp n)) places → type_named types n ≡ None
+  nothing e = sym (ap (option_and_then (slice_get (definitions rs))) e ∙ told)
+
+-- a name without a type has no lineage
+pub line_none : (types : List TypeDef) (n : Name) → type_named types n ≡ None → IsAlike [] (lineage types n)
+line_none types n e test = ap (find test) (sym (unregistered types n e))

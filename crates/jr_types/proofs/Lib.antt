@@ -2,11 +2,7 @@ pub mod Same
 pub mod Added
 pub mod Found
 pub mod Alike
-pub mod Digits
 pub mod Lines
 pub mod Kept
-pub mod Below
-pub mod NamesText
-pub mod Copied
 pub mod Further
 pub mod Chosen

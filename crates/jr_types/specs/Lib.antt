@@ -1,5 +1,4 @@
 pub mod Attributes
-pub mod Constraints
 pub mod Registered
 pub mod Rules
 pub mod Said

@@ -1,9 +1,11 @@
 -- How the registry keeps what types inherit.
-use Rattle.std.specs.Prelude.{◌≡◌, ℕ, ◌<◌, Bool, true, All, cond, ◌==◌, List, [], ◌∷◌, ◌++◌, Option, Some, is_some, length, map, slice_get}
+use Rattle.std.specs.Prelude.{◌≡◌, ℕ, suc, ◌<◌, Bool, true, All, cond, ◌==◌, List, [], ◌∷◌, ◌++◌, Option, None, Some, is_some, length, map, option_map, slice_get}
+use Rattle.std.specs.BTreeMap.{is_at}
 use Rattle.std.specs.List.{find, filter_map, flat_map, list_any}
-use Rattle.std.specs.Prelude.{String, string_bytes}
-use Rattle.std.specs.declared.alloc.Global.{Global}
+use Rattle.std.specs.Map.{lookup}
+use Rattle.jr_path.specs.Names.{name_cmp}
 use Rattle.jr_path.specs.declared.name.Name.{Name}
+use Rattle.jr_items.specs.Items.{same_name}
 use Rattle.jr_items.specs.Names.{mixin_types, primary_type}
 use Rattle.jr_types.specs.declared.PropDef.{PropDef}
 use Rattle.jr_types.specs.declared.TypeDef.{TypeDef}
@@ -21,23 +23,33 @@ abbrev pub types_at : List TypeDef → List ℕ → List TypeDef
 types_at types places = filter_map (slice_get types) places
 
 -- the definitions of registered types
-abbrev pub definitions : List (String Global × Registered) → List TypeDef
-definitions entries = map (λ e. e.1.definition) entries
+abbrev pub definitions : List Registered → List TypeDef
+definitions registered = map (λ r. r.definition) registered
 
--- each entry's name, and what is registered under it
-abbrev pub named_types : List (String Global × Registered) → List (List ℕ × Registered)
-named_types entries = map (λ e. (string_bytes e.0, e.1)) entries
+-- the place of the type of that name
+abbrev pub place_named : List TypeDef → Name → Option ℕ
+place_named [] n = None
+place_named (d ∷ ds) n = cond (same_name d.name n) (Some 0) (option_map suc (place_named ds n))
+
+-- under each name stands the place of the type of that name, and under no other a place
+abbrev pub ArePlaces : List TypeDef → List (Name × ℕ) → Type 0
+ArePlaces types places = (n : Name) → lookup (is_at (name_cmp n)) places ≡ place_named types n
 
 -- each of the places is one of the types'
 abbrev pub AreWithin : List TypeDef → List ℕ → Type 0
 AreWithin types places = All (λ k. k < length types) places
 
--- a registered type stands under its name, with the places of itself and all its supertypes
-pub record IsRegistered (types : List TypeDef) (entry : String Global × Registered) : Type 0 where
-  pub named : string_bytes entry.0 ≡ entry.1.definition.name
-  pub known : is_some (type_named types entry.1.definition.name) ≡ true
-  pub within : AreWithin types entry.1.line
-  pub line : IsAlike (types_at types entry.1.line) (lineage types entry.1.definition.name)
+-- a registered type has the places of itself and all its supertypes
+pub record IsRegistered (types : List TypeDef) (registered : Registered) : Type 0 where
+  pub known : is_some (type_named types registered.definition.name) ≡ true
+  pub within : AreWithin types registered.line
+  pub line : IsAlike (types_at types registered.line) (lineage types registered.definition.name)
+
+-- this is registered under the name
+pub record IsUnder (types : List TypeDef) (n : Name) (registered : Registered) : Type 0 where
+  pub definition : Some registered.definition ≡ type_named types n
+  pub within : AreWithin types registered.line
+  pub line : IsAlike (types_at types registered.line) (lineage types n)
 
 -- the places are those of all supertypes of a new type
 pub record AreAbove (types : List TypeDef) (names : List Name) (places : List ℕ) : Type 0 where
@@ -58,10 +70,12 @@ abbrev pub IsTypeFault : Option ℕ → TypeFault → Type 0
 IsTypeFault broken (BadType rule) = broken ≡ Some rule
 IsTypeFault broken Memory = Unit {0}
 
--- what the registry keeps: each type under its name with its line, and what each check asks for
-pub record IsKept (entries : List (String Global × Registered)) (primary mixins : Name)
+-- what the registry keeps: each type with its line, its place under its name, and what each check
+-- asks for
+pub record IsKept (registered : List Registered) (places : List (Name × ℕ)) (primary mixins : Name)
     (order : PropDef) : Type 0 where
-  pub types : All (IsRegistered (definitions entries)) entries
+  pub types : All (IsRegistered (definitions registered)) registered
+  pub places_are : ArePlaces (definitions registered) places
   pub primary_is : primary ≡ primary_type
   pub mixins_is : mixins ≡ mixin_types
   pub order_is : order ≡ order_def

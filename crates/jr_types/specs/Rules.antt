@@ -10,11 +10,11 @@ use Rattle.jr_value.specs.declared.value.Property.{Property}
 use Rattle.jr_value.specs.declared.value.Property.TheVariants.{Single, Many}
 use Rattle.jr_value.specs.Values.{kind_number}
 use Rattle.jr_tree.specs.Trees.{Nodes, node_at, property_at}
+use Rattle.jr_constraint.specs.Constraints.{is_constraint}
 use Rattle.jr_items.specs.Names.{primary_type, mixin_types, child_order}
 use Rattle.jr_items.specs.Items.{same_name, is_empty, name_in, one_name, child_path}
 use Rattle.jr_types.specs.declared.TypeDef.{TypeDef}
-use Rattle.jr_types.specs.Types.{NodeTypes, type_named, types_of, props_of, prop_defs, child_defs, fits, fits_child}
-use Rattle.jr_types.specs.Constraints.{admits, is_constraint}
+use Rattle.jr_types.specs.Types.{NodeTypes, type_named, types_of, props_of, prop_defs, child_defs, fits, admits, fits_child}
 
 -- a child that is there: its `jcr:primaryType`, if it has one
 abbrev pub Child : Type 0

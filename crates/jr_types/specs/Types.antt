@@ -8,7 +8,8 @@ use Rattle.jr_value.specs.declared.value.Property.{Property}
 use Rattle.jr_value.specs.declared.value.Property.TheVariants.{Single, Many}
 use Rattle.jr_value.specs.Values.{kind_number, kind_of}
 use Rattle.jr_items.specs.Names.{base_type, child_order}
-use Rattle.jr_items.specs.Items.{same_name, first_of, one_name, many_names}
+use Rattle.jr_constraint.specs.Constraints.{meets}
+use Rattle.jr_items.specs.Items.{same_name, first_of, is_empty, one_name, many_names, values_in}
 use Rattle.jr_types.specs.declared.OnParentVersion.{OnParentVersion}
 use Rattle.jr_types.specs.declared.OnParentVersion.TheVariants as opv
 use Rattle.jr_types.specs.declared.PropDef.{PropDef}
@@ -104,6 +105,11 @@ abbrev pub fits : PropDef → Property → Bool
 fits d (Single x) = not d.multiple
     && option_map_or (λ k. kind_number k == kind_number (kind_of x)) d.kind true
 fits d (Many k xs) = d.multiple && option_map_or (λ l. kind_number l == kind_number k) d.kind true
+
+-- the definition has no constraints, or each value meets one of them
+abbrev pub admits : PropDef → Property → Bool
+admits d x = is_empty d.constraints
+    || list_all (λ v. list_any (meets v) d.constraints) (values_in x)
 
 -- a child of that primary type is of each of the definition's required types
 abbrev pub fits_child : List TypeDef → ChildDef → Option Property → Bool

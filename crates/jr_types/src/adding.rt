@@ -1,19 +1,20 @@
 // A new type comes into the registry.
-ghost use Rattle.std.specs.Prelude.{◌≡◌, ◌==◌, ◌&&◌, ◌∷◌, ◌++◌, [], IfErr, IfOk, OnErr, OnOk, None, false, fold, is_none, length, not, string_bytes};
+ghost use Rattle.std.specs.Prelude.{◌≡◌, ◌==◌, ◌&&◌, ◌∷◌, ◌++◌, [], IfErr, IfOk, OnErr, OnOk, None, false, fold, is_none, length, not};
 ghost use Rattle.std.specs.List.{list_any};
 ghost use Rattle.std.specs.Option.{option_map_or};
+ghost use Rattle.jr_constraint.specs.Constraints.{is_constraint};
 ghost use Rattle.jr_items.specs.Names.{child_order};
 ghost use Rattle.jr_items.specs.Items.{same_name};
-ghost use Rattle.jr_types.specs.Constraints.{is_constraint};
 ghost use Rattle.jr_types.specs.Registered.{AreAbove, IsTypeFault, with_place};
 ghost use Rattle.jr_types.specs.Rules.{defines_order, is_mixin, type_fault};
 ghost use Rattle.jr_types.specs.Types.{supertypes_of, type_named};
 ghost use Rattle.jr_types.specs.declared.adding.TypeFault.TheVariants.{Memory};
 
 use crate::registry::{Registered, put};
-use crate::{ChildDef, PropDef, Registry, TypeDef, is_constraint};
+use crate::{ChildDef, PropDef, Registry, TypeDef};
+use jr_constraint::is_constraint;
 use jr_items::OwnName;
-use jr_path::{List, Name, Text};
+use jr_path::{DeepCopy, List, Name, Text};
 use jr_value::Kind;
 use std::alloc::{AllocError, AllocFailed};
 use thiserror::Error;
@@ -58,7 +59,8 @@ impl Registry {
     {
         match self.key_of(&definition) {
             Ok((name, line)) => {
-                put(&mut self.types, name, Registered { definition, line })?;
+                let registered = Registered { definition, line };
+                put(&mut self.types, &mut self.places, name, registered)?;
                 Ok(())
             }
             Err(fault) => {
@@ -69,8 +71,8 @@ impl Registry {
     }
 
     // The name under which a new type is registered, and its line, where it breaks no rule.
-    fn key_of(&self, definition: &TypeDef) -> Result<(String, List<usize>), TypeFault>
-        ensures named { IfOk result (λ key. string_bytes key.0 ≡ definition.now.name) }
+    fn key_of(&self, definition: &TypeDef) -> Result<(Name, List<usize>), TypeFault>
+        ensures named { IfOk result (λ key. key.0 ≡ definition.now.name) }
         ensures line { IfOk result (λ key. (above : _) × (key.1 ≡ length self.now ∷ above)
             × AreAbove self.now (supertypes_of definition.now) above) }
         ensures lawful { OnOk result (type_fault self.now definition.now ≡ None) }
@@ -80,7 +82,7 @@ impl Registry {
             return Err(TypeFault::BadType(rule));
         }
         let line = self.line_of(definition)?;
-        let name = String::from_str(self.alloc, definition.name.as_str())?;
+        let name = definition.name.copy()?;
         Ok((name, line))
     }
 
@@ -151,17 +153,18 @@ impl Registry {
     {
         let mut above = List::new(self.alloc);
         for name in definition.supertypes.as_slice() {
-            self.add_places_of(&mut above, name.as_str())?;
+            self.add_places_of(&mut above, name)?;
         }
         if definition.mixin {
             return Ok(above);
         }
-        self.add_places_of(&mut above, OwnName::BaseType.as_str())?;
+        let base = OwnName::BaseType.name(self.alloc)?;
+        self.add_places_of(&mut above, &base)?;
         Ok(above)
     }
 
     // Puts the places of a type and its supertypes behind those that are there.
-    fn add_places_of(&self, above: &mut List<usize>, name: &str) -> Result<(), AllocError>
+    fn add_places_of(&self, above: &mut List<usize>, name: &Name) -> Result<(), AllocError>
         ensures { OnOk result ((names : _) → AreAbove self.now names above.old
             → AreAbove self.now (names ++ name.now ∷ []) above.new) }
     {

@@ -5,7 +5,6 @@ ghost use Rattle.std.specs.Prelude.{◌≡◌};
 ghost use Rattle.jr_types.specs.Attributes.{opv_text};
 
 mod adding;
-mod constraints;
 mod copies;
 mod counting;
 mod items;
@@ -14,7 +13,6 @@ mod registry;
 mod said;
 
 pub use adding::TypeFault;
-pub use constraints::{Range, is_constraint};
 pub use counting::{children_of, counting_children, counting_props, fitting_props, is_of};
 use jr_path::{List, Name, Text};
 use jr_value::{Kind, Value};

@@ -1,19 +1,19 @@
 // The registry of node types: look-ups by name, and what types inherit.
-ghost use Rattle.std.specs.Prelude.{◌≡◌, [], false, slice_get, string_bytes, IfOk, OnErr, OnOk};
+ghost use Rattle.std.specs.Prelude.{◌≡◌, ◌∷◌, ◌++◌, [], false, length, slice_get, IfOk, MatchOption, OnErr, OnOk};
+ghost use Rattle.std.specs.BTreeMap.{insert_entry};
 ghost use Rattle.std.specs.Option.{option_copied, option_map_or};
 ghost use Rattle.std.specs.List.{list_any};
-ghost use Rattle.std.specs.String.{string_eq};
-ghost use Rattle.indexmap.specs.IndexMap.{insert_entry};
+ghost use Rattle.jr_path.specs.Names.{name_cmp};
 ghost use Rattle.jr_items.specs.Names.{mixin_types, primary_type};
 ghost use Rattle.jr_items.specs.Items.{same_name};
 ghost use Rattle.jr_types.specs.Types.{is_a, order_def, subtypes, type_named, lineage};
+ghost use Rattle.std.specs.Prelude.{None};
 ghost use Rattle.jr_types.specs.Rules.{is_mixin};
-ghost use Rattle.jr_types.specs.Registered.{AreWithin, IsAlike, named_types, types_at};
+ghost use Rattle.jr_types.specs.Registered.{AreWithin, IsAlike, IsUnder, types_at};
 
 use crate::{OnParentVersion, PropDef, TypeDef};
-use indexmap::IndexMap;
 use jr_items::OwnName;
-use jr_path::{DeepCopy, List, Name};
+use jr_path::{DeepCopy, Keyed, List, Name};
 use jr_value::Kind;
 use std::alloc::{AllocError, Global};
 use std::marker::Model;
@@ -38,7 +38,9 @@ impl Drop for Registered {
 /// definitions in order.
 pub struct Registry {
     pub(crate) alloc: Global,
-    pub(crate) types: IndexMap<String, Registered>,
+    // In the order in which they were added, and the place of each by its name.
+    pub(crate) types: List<Registered>,
+    pub(crate) places: Keyed<Name, u64>,
     // The names and the definition that each check asks for, made once.
     pub(crate) primary_type: Name,
     pub(crate) mixin_types: Name,
@@ -51,11 +53,13 @@ impl Drop for Registry {
         let Registry {
             alloc: _,
             types,
+            places,
             primary_type,
             mixin_types,
             order,
         } = self;
         drop(types);
+        drop(places);
         drop(primary_type);
         drop(mixin_types);
         drop(order);
@@ -69,11 +73,11 @@ impl Model for Registry {
 
     ghost Value = { List TypeDef };
 
-    ghost view = { λ a. definitions a.types.entries };
+    ghost view = { λ a. definitions a.types };
 
     ghost use Rattle.jr_types.specs.Registered.{IsKept};
 
-    ghost invariant = { λ a. IsKept a.types.entries a.primary_type a.mixin_types a.order };
+    ghost invariant = { λ a. IsKept a.types a.places a.primary_type a.mixin_types a.order };
 }
 
 impl Registry {
@@ -84,7 +88,8 @@ impl Registry {
         let (primary_type, mixin_types, order) = asked(alloc)?;
         Ok(Registry {
             alloc,
-            types: IndexMap::new(alloc),
+            types: List::new(alloc),
+            places: Keyed::new(alloc),
             primary_type,
             mixin_types,
             order,
@@ -114,8 +119,19 @@ impl Registry {
     pub fn get(&self, name: &Name) -> Option<&TypeDef>
         ensures { option_copied result ≡ type_named self.now name.now }
     {
-        match self.types.get(name.as_str()) {
+        match self.registered(name) {
             Some(found) => Some(&found.definition),
+            None => None,
+        }
+    }
+
+    // What is registered under that name.
+    fn registered(&self, name: &Name) -> Option<&Registered>
+        ensures { MatchOption (option_copied result) (type_named self.now name.now ≡ None)
+            (IsUnder self.now name.now) }
+    {
+        match self.places.get(name) {
+            Some(place) => self.types.as_slice().get(*place as usize),
             None => None,
         }
     }
@@ -135,7 +151,7 @@ impl Registry {
     pub fn is_a(&self, name: &Name, of: &Name) -> bool
         ensures { result ≡ is_a self.now name.now of.now }
     {
-        self.has_named(self.line(name.as_str()), of)
+        self.has_named(self.line(name), of)
     }
 
     // Whether a type at one of the places has the name.
@@ -152,7 +168,7 @@ impl Registry {
         ensures { IfOk result (λ names. names.items ≡ subtypes self.now name.now) }
     {
         let mut names = Vec::new(self.alloc);
-        for registered in self.types.values() {
+        for registered in self.types.as_slice() {
             if self.is_a(&registered.definition.name, name) {
                 names.push(registered.definition.name.copy()?)?;
             }
@@ -164,31 +180,25 @@ impl Registry {
     pub fn copy(&self) -> Result<Registry, AllocError>
         ensures { IfOk result (λ copy. copy ≡ self.now) }
     {
-        let asked = asked(self.alloc)?;
-        match copies_of(self.alloc, &self.types) {
-            Ok(types) => {
-                let (primary_type, mixin_types, order) = asked;
-                Ok(Registry {
-                    alloc: self.alloc,
-                    types,
-                    primary_type,
-                    mixin_types,
-                    order,
-                })
-            }
-            Err(fault) => {
-                drop(asked);
-                Err(fault)
-            }
-        }
+        let (primary_type, mixin_types, order) = asked(self.alloc)?;
+        let types = self.types.copy()?;
+        let places = self.places.copy()?;
+        Ok(Registry {
+            alloc: self.alloc,
+            types,
+            places,
+            primary_type,
+            mixin_types,
+            order,
+        })
     }
 
     // The type at a place.
     pub(crate) fn at(&self, place: usize) -> Option<&TypeDef>
         ensures { option_copied result ≡ slice_get self.now place }
     {
-        match self.types.get_index(place) {
-            Some((_, registered)) => Some(&registered.definition),
+        match self.types.as_slice().get(place) {
+            Some(registered) => Some(&registered.definition),
             None => None,
         }
     }
@@ -205,67 +215,35 @@ impl Registry {
     }
 
     // The places of the type of that name and of all its supertypes; of an unregistered name none.
-    pub(crate) fn line(&self, name: &str) -> &[usize]
+    pub(crate) fn line(&self, name: &Name) -> &[usize]
         ensures within { AreWithin self.now result.now }
         ensures line { IsAlike (types_at self.now result.now) (lineage self.now name.now) }
     {
-        match self.types.get(name) {
+        match self.registered(name) {
             Some(found) => found.line.as_slice(),
             None => &[],
         }
     }
 }
 
-// Copies of registered types, each under its name.
-fn copies_of(
-    alloc: Global,
-    types: &IndexMap<String, Registered>,
-) -> Result<IndexMap<String, Registered>, AllocError>
-    ensures { IfOk result (λ copies. named_types copies.entries ≡ named_types types.now.entries) }
-{
-    let mut copies = IndexMap::new(alloc);
-    for (name, registered) in types.iter() {
-        match put_copy(&mut copies, name, registered) {
-            Ok(()) => {}
-            Err(fault) => {
-                drop(copies);
-                return Err(fault);
-            }
-        }
-    }
-    Ok(copies)
-}
-
-// Puts a copy of a registered type behind others.
-fn put_copy(
-    copies: &mut IndexMap<String, Registered>,
-    name: &String,
-    registered: &Registered,
-) -> Result<(), AllocError>
-    ensures { OnOk result ((key : _) × (string_bytes key ≡ string_bytes name.now)
-        × (copies.new.entries ≡ insert_entry string_eq copies.old.entries key registered.now)) }
-{
-    let name = name.clone()?;
-    put(copies, name, registered.copy()?)
-}
-
-// Puts a type under a name.
+// Puts a type behind the others, and its place under its name.
 pub(crate) fn put(
-    types: &mut IndexMap<String, Registered>,
-    name: String,
+    types: &mut List<Registered>,
+    places: &mut Keyed<Name, u64>,
+    name: Name,
     registered: Registered,
 ) -> Result<(), AllocError>
-    ensures ok { OnOk result
-        (types.new.entries ≡ insert_entry string_eq types.old.entries name registered) }
-    ensures err { OnErr result (types.new.entries ≡ types.old.entries) }
+    ensures types { OnOk result (types.new ≡ types.old ++ registered ∷ []) }
+    ensures places { OnOk result
+        (places.new ≡ insert_entry name_cmp places.old name (length types.old)) }
+    ensures err { OnErr result ((types.new ≡ types.old) × (places.new ≡ places.old)) }
 {
-    match types.insert(name, registered) {
-        Ok(old) => {
-            drop(old);
-            Ok(())
-        }
-        Err(refused) => {
-            drop(refused);
+    let place = types.len() as u64;
+    types.push(registered)?;
+    match places.put(name, place) {
+        Ok(()) => Ok(()),
+        Err(AllocError) => {
+            types.inner_mut().pop();
             Err(AllocError)
         }
     }

@@ -1,16 +1,18 @@
 // What the types say of a node: which types it has, and what they say of properties.
 ghost use Rattle.std.specs.Prelude.{◌≡◌, ◌++◌, ◌∷◌, [], IfOk, OnOk, map};
-ghost use Rattle.std.specs.List.{filter_map, flat_map, list_all};
+ghost use Rattle.std.specs.List.{filter_map, flat_map, list_all, list_any};
 ghost use Rattle.std.specs.Option.{option_copied};
+ghost use Rattle.jr_constraint.specs.Constraints.{meets};
 ghost use Rattle.jr_items.specs.Names.{mixin_types, primary_type};
 ghost use Rattle.jr_items.specs.Items.{many_names, name_in, one_name, property_of};
 ghost use Rattle.jr_types.specs.Registered.{IsAlike, IsFurther, types_at};
 ghost use Rattle.jr_types.specs.Said.{types_said};
-ghost use Rattle.jr_types.specs.Types.{fits, fits_child, is_a, props_of, types_of};
+ghost use Rattle.jr_types.specs.Types.{admits, fits, fits_child, is_a, props_of, types_of};
 
 use crate::counting::add_props;
 use crate::{ChildDef, PropDef, Registry, TypeDef};
-use jr_path::Name;
+use jr_constraint::meets_one;
+use jr_path::{Name, Text};
 use jr_tree::Node;
 use jr_value::{Property, Value};
 use std::alloc::AllocError;
@@ -52,7 +54,7 @@ impl Registry {
         ensures { OnOk result (IsFurther self.now (map (λ d. d.now) types.old.items) (name.now ∷ [])
             (map (λ d. d.now) types.new.items)) }
     {
-        self.add_at(types, self.line(name.as_str()))
+        self.add_at(types, self.line(name))
     }
 
     // Puts the types at these places behind others.
@@ -144,6 +146,30 @@ impl PropDef {
         };
         self.multiple == multiple && self.kind.is_none_or(|required| required == kind)
     }
+
+    /// Whether the definition has no constraints, or each value of the property meets one of them
+    /// (JSR 283, 3.7.3.6 Value Constraints).
+    pub fn admits(&self, property: &Property) -> bool
+        ensures { result ≡ admits self.now property.now }
+    {
+        if self.constraints.is_empty() {
+            return true;
+        }
+        match property {
+            Property::Single(value) => meets_one(value, self.constraints.as_slice()),
+            Property::Many(_, values) => each_meets_one(
+                values.as_slice(),
+                self.constraints.as_slice(),
+            ),
+        }
+    }
+}
+
+// Whether each value meets one of the constraints.
+fn each_meets_one(values: &[Value], constraints: &[Text]) -> bool
+    ensures { result ≡ list_all (λ v. list_any (meets v) constraints.now) values.now }
+{
+    values.iter().all(|value| meets_one(value, constraints))
 }
 
 /// The name, where the property is one NAME.

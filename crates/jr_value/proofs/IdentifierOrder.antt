@@ -11,7 +11,7 @@ use Rattle.std.specs.Cmp.Lexicographic.{slice_cmp}
 use Rattle.std.specs.Int.{byte_at}
 use Rattle.uuid.specs.Text.{by_index, hex_digit, lower}
 use Rattle.jr_path.specs.Names.{name_cmp}
-use Rattle.jr_value.specs.Json.{identifier_text}
+use Rattle.jr_value.specs.Words.{identifier_text}
 
 abbrev hex : ℕ → ℕ
 hex = hex_digit lower

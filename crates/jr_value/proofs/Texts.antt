@@ -1,8 +1,11 @@
--- A text that is refused as a name or as a path is no value of that kind.
-use Rattle.std.proofs.Common.{◌≡◌, ◌≢◌, ◌+◌, ℕ, List, length, drop, inl, inr, Option, None, refl, sym, ap, ◌∙◌, arith, subst}
+-- A text is one value of a kind, and one that is refused as a name or as a path is none.
+use Rattle.std.proofs.Common.{◌≡◌, ◌≢◌, ◌+◌, ℕ, List, length, drop, inl, inr, Ok, Option, None, Some, refl, sym, ap, ◌∙◌, arith, subst}
+use Rattle.std.specs.Prelude.{unwrap_or}
 use Rattle.std.proofs.lemmas.Bool.{cases_lt}
 use Rattle.std.proofs.lemmas.List.{take-append-drop}
-use Rattle.serde_json.specs.Data.{string}
+use Rattle.base64.specs.Engines.{standard}
+use Rattle.base64.specs.GeneralPurpose.{encode_of, decode_of, IsBytes}
+use Rattle.base64.proofs.EngineFacts.{decode_of-encode_of}
 use Rattle.jr_path.specs.declared.fault.PathFault.{PathFault}
 use Rattle.jr_path.specs.declared.fault.PathFault.TheVariants.{BadName, BadPath, TooDeep, TooLong, Memory}
 use Rattle.jr_path.specs.Grammar.{IsFirstFault, IsName, RefusesName}
@@ -11,8 +14,8 @@ use Rattle.jr_path.proofs.Pieces.{one_path, names_from_all}
 use Rattle.jr_value.specs.declared.value.Kind.{Kind}
 use Rattle.jr_value.specs.declared.value.Kind.TheVariants as kind
 use Rattle.jr_value.specs.declared.value.Value.{Value}
-use Rattle.jr_value.specs.Reading.{IsFound, IsTagged, IsPathWithin}
-use Rattle.jr_value.specs.Texts.{IsText}
+use Rattle.jr_value.specs.declared.value.Value.TheVariants as value
+use Rattle.jr_value.specs.Texts.{IsFound, IsPathWithin, IsText}
 
 -- a text with a first fault is not in the grammar
 pub fault_refuses : (Grammar : List ℕ → Type 0) (text : List ℕ) (offset : ℕ) → IsFirstFault Grammar text offset → Grammar text → ⊥
@@ -27,7 +30,7 @@ no_name text (BadName offset) h other is = fault_refuses IsName text offset h is
 no_name text Memory h other is = other refl
 no_name text e h other is = h
 
-pub name_refused : (text : List ℕ) (e : PathFault) (o : Option Value) → RefusesName text e → (o ≡ None) × (e ≢ Memory) → IsFound (IsTagged kind.Name (string text)) o
+pub name_refused : (text : List ℕ) (e : PathFault) (o : Option Value) → RefusesName text e → (o ≡ None) × (e ≢ Memory) → IsFound (IsText kind.Name text) o
 name_refused text e o refused h = rw h.0 (λ x g. no_name text e refused h.1 g.0)
 
 -- a text is that of one path
@@ -50,18 +53,33 @@ no_path text (TooLong bytes) path h other is =
 no_path text Memory path h other is = other refl
 no_path text (BadName offset) path h other is = h
 
-pub path_refused : (text : List ℕ) (e : PathFault) (o : Option Value) → RefusesPath text e → (o ≡ None) × (e ≢ Memory) → IsFound (IsTagged kind.Path (string text)) o
+pub path_refused : (text : List ℕ) (e : PathFault) (o : Option Value) → RefusesPath text e → (o ≡ None) × (e ≢ Memory) → IsFound (IsText kind.Path text) o
 path_refused text e o refused h = rw h.0 (λ x g. no_path text e g.0 refused h.1 g.1)
 
--- a text behind the word of a kind is read as the text by itself is
-pub tagged_found : (k : Kind) (text : List ℕ) (o : Option Value) → k ≢ kind.Str → k ≢ kind.Long → k ≢ kind.Date → k ≢ kind.Boolean → IsFound (IsText k text) o → IsFound (IsTagged k (string text)) o
-tagged_found kind.Str text o a b c d h = absurd (a refl)
-tagged_found kind.Long text o a b c d h = absurd (b refl)
-tagged_found kind.Date text o a b c d h = absurd (c refl)
-tagged_found kind.Boolean text o a b c d h = absurd (d refl)
-tagged_found kind.Binary text o a b c d h = h
-tagged_found kind.Name text o a b c d h = h
-tagged_found kind.Path text o a b c d h = h
-tagged_found kind.Reference text o a b c d h = h
-tagged_found kind.WeakReference text o a b c d h = h
-tagged_found kind.Uri text o a b c d h = h
+pub both_some : {X : Type 0} (x y : X) (o : Option X) → Some x ≡ o → Some y ≡ o → x ≡ y
+both_some x y o h g = ap (λ (p : Option _). unwrap_or p x) (h ∙ sym g)
+
+-- bytes are known by their text
+bytes_one : (a b : List ℕ) → IsBytes a → IsBytes b → encode_of standard a ≡ encode_of standard b → a ≡ b
+bytes_one a b ha hb same =
+    let read : Ok a ≡ Ok b = sym (decode_of-encode_of standard a refl ha) ∙ ap (decode_of standard) same ∙ decode_of-encode_of standard b refl hb in cc
+
+-- a text is at most one value of a kind
+pub text_one : (k : Kind) (t : List ℕ) (x y : Value) → IsText k t x → IsText k t y → x ≡ y
+text_one kind.Str t x y h g = h ∙ sym g
+text_one kind.Long t x y h g = h.2 ∙ ap value.Long (h.1.is ∙ sym g.1.is) ∙ sym g.2
+text_one kind.Date t x y h g = h.2 ∙ ap value.Date (h.1.is ∙ sym g.1.is) ∙ sym g.2
+text_one kind.Boolean t x y h g = both_some x y _ h g
+text_one kind.Binary t x y h g = h.3 ∙ ap value.Binary (bytes_one h.0 g.0 h.1 g.1 (sym h.2 ∙ g.2)) ∙ sym g.3
+text_one kind.Name t x y h g = h.1 ∙ sym g.1
+text_one kind.Path t x y h g = h.2 ∙ ap value.Path (path_one t h.0 g.0 h.1.0 g.1.0) ∙ sym g.2
+text_one kind.Reference t x y h g = both_some x y _ h g
+text_one kind.WeakReference t x y h g = both_some x y _ h g
+text_one kind.Uri t x y h g = h ∙ sym g
+
+-- where at most one value is such, the one that is found is the same
+pub found_one : (P : Value → Type 0) → ((x y : Value) → P x → P y → x ≡ y) → (o p : Option Value) → IsFound P o → IsFound P p → o ≡ p
+found_one P one None None h g = refl
+found_one P one None (Some y) h g = absurd (h y g)
+found_one P one (Some x) None h g = absurd (g x h)
+found_one P one (Some x) (Some y) h g = ap Some (one x y h g)

@@ -1,8 +1,8 @@
 // What a text is: a value of a kind, a whole number, a name, a path, an identifier.
 ghost use Rattle.std.specs.Prelude.{◌≡◌, ◌≢◌, IfOk, OnOk, List as Seq, ℕ, ℤ, MatchOption};
 ghost use Rattle.jr_path.specs.Grammar.{IsName};
-ghost use Rattle.jr_value.specs.Reading.{identifier_named, IsFound, IsPathWithin};
-ghost use Rattle.jr_value.specs.Texts.{boolean_named, IsText, IsWholeNumber};
+ghost use Rattle.jr_value.specs.Texts.{boolean_named, IsFound, IsPathWithin, IsText, IsWholeNumber};
+ghost use Rattle.jr_value.specs.Words.{identifier_named};
 
 use crate::value::{Kind, Value};
 use base64::DecodeAllocError;

@@ -36,7 +36,6 @@ pub const ALL_KINDS: [Kind; 10] = [
 
 /// A value of one of the ten kinds. A DATE is in whole milliseconds, a REFERENCE or WEAKREFERENCE the
 /// 128-bit number of an identifier.
-#[derive(Debug)]
 pub enum Value {
     Str(Text),
     Binary(List<u8>),
@@ -69,7 +68,7 @@ impl Drop for Value {
 }
 
 /// The value of a property: one value, or any number of values of one kind.
-#[derive(Debug, Drop)]
+#[derive(Drop)]
 pub enum Property {
     Single(Value),
     Many(Kind, List<Value>),

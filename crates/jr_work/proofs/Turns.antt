@@ -14,7 +14,7 @@ use Rattle.oak_machine.specs.Sessions.{next_index}
 use Rattle.oak_port.specs.Ports.{Idle, Shown}
 use Rattle.oak_world.specs.Seen.{shown_work}
 use Rattle.oak_world.specs.Worlds.{idle}
-use Rattle.core_calls.specs.Seeing.{SeesTrees, SeesTyped}
+use Rattle.core_obeys.specs.Seeing.{SeesTrees, SeesTyped}
 use Rattle.jr_tree.specs.Trees.{initial_tree}
 use Rattle.jr_types.specs.Rules.{TypesOk}
 use Rattle.jr_types.specs.declared.TypeDef.{TypeDef}

@@ -8,4 +8,5 @@ mod worker;
 mod workers;
 
 pub use gate::{Gate, NoGate};
+pub use jr_stage::run_steps;
 pub use workers::run_workers;

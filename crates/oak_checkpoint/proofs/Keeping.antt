@@ -21,7 +21,7 @@ use Rattle.std.specs.Cmp.{unsigned_Decides}
 use lib.Pointwise.{pointwise}
 use Rattle.std.proofs.lemmas.Map.Keys.{IsDistinct-from_sorted}
 use Rattle.jr_path.specs.Names.{name_cmp}
-use Rattle.jr_path.specs.declared.text.Text.{Text}
+use Rattle.jr_path.specs.Lists.{Text}
 use Rattle.jr_path.proofs.Maps.{lookup-insert_entry, name_exact}
 use Rattle.jr_path.proofs.Orders.{tested}
 use Rattle.jr_rev.specs.declared.vector.Pin.{Pin}

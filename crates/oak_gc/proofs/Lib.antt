@@ -1,4 +1,5 @@
 pub mod Keys
+pub mod Newest
 pub mod Going
 pub mod Bounding
 pub mod Asking

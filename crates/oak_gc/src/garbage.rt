@@ -138,9 +138,18 @@ fn newest_of<V>(
 {
     let mut newest = newest;
     for (q, _) in entries.iter() {
-        if bound.base.sees(*q) && bound.sweep.sees(*q) {
-            newest = Some(later(newest, *q));
-        }
+        newest = newest_with(bound, newest, q);
+    }
+    newest
+}
+
+// The greatest of a revision and of one more, where both vectors see that one.
+fn newest_with(bound: &Pin, newest: Option<Revision>, q: &Revision) -> Option<Revision>
+    ensures { (r : Revision) → is_older r result ≡ (is_older r newest
+        || (is_before r q.now && sees bound.now.base q.now && sees bound.now.sweep q.now)) }
+{
+    if bound.base.sees(*q) && bound.sweep.sees(*q) {
+        return Some(later(newest, *q));
     }
     newest
 }
@@ -166,7 +175,6 @@ fn is_superseded(bound: &Pin, newest: Option<Revision>, r: Revision) -> bool
 }
 
 // Whether the entries of a previous document would all be garbage if they stood in the document that lists it.
-#[tactic(auto, using(crate::proofs::Keys::by_revision))]
 pub(crate) fn is_garbage_previous(bound: &Pin, document: &Document, previous: &Document) -> bool
     ensures { result ≡ gc.is_garbage_previous bound.now.base bound.now.sweep document.now previous.now }
 {

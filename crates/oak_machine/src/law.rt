@@ -1,6 +1,6 @@
 // Which edits may start, and which texts may be said.
 ghost use Rattle.std.specs.Prelude.{◌↔◌, ℕ, List};
-ghost use Rattle.jr_path.specs.declared.text.Text.{Text};
+ghost use Rattle.jr_path.specs.Lists.{Text};
 ghost use Rattle.jr_tree.specs.declared.edit.Edit.{Edit};
 ghost use Rattle.oak_clash.specs.declared.mark.MarkAt.{MarkAt};
 ghost use Rattle.oak_machine.specs.History.{History};

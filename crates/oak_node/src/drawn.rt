@@ -8,7 +8,7 @@ ghost use Rattle.oak_node.specs.Heads.{with_end, local_from, last_drawn};
 use jr_rev::Revision;
 
 /// A revision that a cluster node drew, and whether it has ended.
-#[derive(Clone, Copy, Debug, PartialEq, Eq)]
+#[derive(Clone, Copy, PartialEq, Eq)]
 pub struct Drawn {
     pub revision: Revision,
     pub ended: bool,

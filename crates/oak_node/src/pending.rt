@@ -10,7 +10,6 @@ use jr_rev::{RevVec, Revision};
 use std::alloc::{AllocError, Global};
 
 /// A path that a commit changed, with the commit's revision.
-#[derive(Debug)]
 pub struct Note {
     pub path: Path,
     pub revision: Revision,
@@ -26,7 +25,6 @@ impl Drop for Note {
 
 /// What a background write is to publish (Oak, DocumentNodeStore: "Background operations"): the
 /// changed paths, each once and in path order, and the revision that becomes their `_lastRev`.
-#[derive(Debug)]
 pub struct Pending {
     pub paths: List<Path>,
     pub upto: Revision,

@@ -5,7 +5,7 @@ use Rattle.std.specs.Prelude.{OnErr, OnOk, slice_get, slice_set}
 use Rattle.std.specs.Borrow.{GName}
 use Rattle.std.specs.Option.{IsSomeAnd}
 use Rattle.std.specs.declared.alloc.AllocError.{AllocError}
-use Rattle.jr_path.specs.declared.text.Text.{Text}
+use Rattle.jr_path.specs.Lists.{Text}
 use Rattle.jr_rev.specs.declared.vector.Pin.{Pin}
 use Rattle.oak_machine.specs.declared.event.Event.TheVariants as event
 use Rattle.oak_machine.specs.declared.event.Journal.{Journal}

@@ -6,7 +6,7 @@ use Rattle.std.specs.Borrow.{GName}
 use Rattle.std.specs.Option.{IsSomeAnd}
 use Rattle.std.specs.declared.alloc.AllocError.{AllocError}
 use Rattle.std.proofs.lemmas.Option.{slice_get_within}
-use Rattle.jr_path.specs.declared.text.Text.{Text}
+use Rattle.jr_path.specs.Lists.{Text}
 use Rattle.jr_rev.specs.declared.vector.Pin.{Pin}
 use Rattle.oak_machine.specs.Laws.{Says, Starts}
 use Rattle.oak_machine.specs.Runs.{IsRun}

@@ -3,7 +3,7 @@ use Rattle.std.proofs.Common.{◌≡◌, ℕ, true, Option, Result, Ok, Err, Lis
 use Rattle.std.specs.Prelude.{OnErr, OnOk, slice_get}
 use Rattle.std.specs.Borrow.{GName}
 use Rattle.std.specs.declared.alloc.AllocError.{AllocError}
-use Rattle.jr_path.specs.declared.text.Text.{Text}
+use Rattle.jr_path.specs.Lists.{Text}
 use Rattle.jr_rev.specs.declared.vector.Pin.{Pin}
 use Rattle.oak_machine.specs.History.{History}
 use Rattle.oak_machine.specs.Laws.{Says, Starts}

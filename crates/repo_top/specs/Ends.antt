@@ -14,7 +14,7 @@ use Rattle.repo_top.specs.declared.status.Status.TheVariants as status
 use Rattle.jcr_law.specs.declared.law.JcrLaw.{JcrLaw}
 use Rattle.oak_world.specs.Worlds.{WorldOf, live}
 use Rattle.jr_gen.specs.Scripts.{script_text}
-use Rattle.jr_stage.specs.Runs.{HasRun}
+use Rattle.jr_work.specs.Runs.{HasRun}
 use Rattle.jr_work.specs.Workers.{HasRunByWorkers}
 use Rattle.repo_top.specs.Headline.{replies_of}
 use Rattle.repo_top.specs.Statuses.{fault_line, script_line, status_of, types_line}

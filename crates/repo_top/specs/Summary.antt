@@ -4,12 +4,12 @@ use Rattle.std.specs.Fmt.{decimal}
 use Rattle.std.specs.List.{count_by, starts_with}
 use Rattle.jcr_law.specs.State.{is_ok_text}
 use Rattle.jr_gen.specs.Sizes.{commands_in}
-use Rattle.jr_path.specs.declared.text.Text.{Text}
+use Rattle.jr_path.specs.Lists.{Text}
 use Rattle.jr_script.specs.declared.script.Script.{Script}
 use Rattle.oak_machine.specs.declared.event.Event.{Event}
 use Rattle.oak_machine.specs.declared.event.Event.TheVariants as event
 use Rattle.oak_machine.specs.History.{History}
-use Rattle.jr_stage.specs.Places.{is_commit}
+use Rattle.jr_work.specs.Places.{is_commit}
 use Rattle.repo_top.specs.declared.summary.Counts.{Counts}
 
 -- a reply says `no`

@@ -12,8 +12,7 @@ mod words;
 
 // What a program calls that embeds the repository: a run by the schedule, a run by workers, and
 // what holds these.
-pub use jr_stage::run_steps;
-pub use jr_work::{Gate, NoGate, run_workers};
+pub use jr_work::{Gate, NoGate, run_steps, run_workers};
 pub use status::Status;
 pub use top::{LONGEST_INPUT, repo_main, steps_main};
 pub use words::{

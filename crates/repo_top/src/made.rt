@@ -3,7 +3,7 @@ ghost use Rattle.std.specs.Prelude.{◌≡◌, ◌≤◌, IfOk, IfSome, IsNone, 
 ghost use Rattle.jr_gen.specs.Scripts.{script_text};
 ghost use Rattle.jr_gen.specs.Sizes.{commands_in};
 ghost use Rattle.jr_script.specs.Bounds.{IsWithin};
-ghost use Rattle.jr_stage.specs.Runs.{HasRun};
+ghost use Rattle.jr_work.specs.Runs.{HasRun};
 ghost use Rattle.oak_world.specs.Worlds.{live};
 ghost use Rattle.repo_top.specs.Ends.{Does, Input, Prints, Spells, WritesText, effect, output_of};
 ghost use Rattle.repo_top.specs.Summary.{counts_of, summary_line, summary_text};
@@ -16,7 +16,7 @@ use jcr_law::JcrLaw;
 use jr_gen::{generate, generated_scripts_are_read};
 use jr_io::Sink;
 use jr_script::{Script, ScriptFault, read_script, scripts_are_within};
-use jr_stage::run_steps;
+use jr_work::run_steps;
 use oak_world::World;
 use std::alloc::{AllocError, Global};
 

@@ -3,7 +3,7 @@ ghost use Rattle.std.specs.Prelude.{◌≡◌, IfOk, string_bytes};
 ghost use Rattle.std.specs.List.{count_by};
 ghost use Rattle.jcr_law.specs.State.{is_ok_text};
 ghost use Rattle.jr_gen.specs.Sizes.{commands_in};
-ghost use Rattle.jr_stage.specs.Places.{is_commit};
+ghost use Rattle.jr_work.specs.Places.{is_commit};
 ghost use Rattle.jr_script.specs.Bounds.{IsWithin};
 ghost use Rattle.repo_top.specs.Summary.{counts_of, is_ok_reply, is_no_text, is_no_reply, summary_line};
 

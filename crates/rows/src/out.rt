@@ -1,7 +1,8 @@
 // The text that is written.
+use jr_json::{ValueFault, property_text, read_property};
 use jr_path::{DocId, List, Name, Path, PathFault};
-use jr_rev::{RevVec, Revision};
-use jr_value::{Property, Value, ValueFault};
+use jr_rev::{RevVec, Revision, revision_text};
+use jr_value::{Property, Value};
 use serde_json::Value as Json;
 use std::alloc::{AllocError, Global};
 
@@ -66,7 +67,7 @@ impl Out {
 
     pub fn put_revision(&mut self, word: &str, r: Revision) {
         self.put(word);
-        self.put(r.text().as_str());
+        self.put(revision_text(&r).as_str());
     }
 
     pub fn put_id(&mut self, word: &str, id: &DocId) {
@@ -98,7 +99,7 @@ impl Out {
     }
 
     pub fn put_property(&mut self, property: &Property) {
-        let text = property.json_text(self.alloc);
+        let text = property_text(self.alloc, property);
         self.put_made(text);
     }
 
@@ -185,7 +186,7 @@ impl Out {
 
     /// The property that JSON is; none where it is none.
     pub fn property(&mut self, json: &Json) -> Option<Property> {
-        match Property::from_json(self.alloc, json) {
+        match read_property(self.alloc, json) {
             Ok(property) => Some(property),
             Err(fault) => {
                 self.note_value(&fault);
@@ -196,7 +197,7 @@ impl Out {
 
     /// The property that JSON is; that of `false` where it is none, and the row then can't be read.
     pub fn property_or_false(&mut self, json: &Json) -> Property {
-        match Property::from_json(self.alloc, json) {
+        match read_property(self.alloc, json) {
             Ok(property) => property,
             Err(_) => {
                 self.is_broken = true;

@@ -5,10 +5,10 @@ use Rattle.std.specs.declared.cmp.Ordering.{Ordering}
 use Rattle.std.specs.declared.cmp.Ordering.TheVariants.{Equal}
 use Rattle.jr_path.specs.declared.name.Name.{Name}
 use Rattle.jr_tree.specs.Trees.{Nodes}
-use Rattle.sql_parse.specs.declared.query.Direction.{Direction}
-use Rattle.sql_parse.specs.declared.query.Direction.TheVariants.{Ascending, Descending}
-use Rattle.sql_parse.specs.declared.query.Order.{Order}
-use Rattle.sql_parse.specs.declared.query.Query.{Query}
+use Rattle.sql_query.specs.declared.query.Direction.{Direction}
+use Rattle.sql_query.specs.declared.query.Direction.TheVariants.{Ascending, Descending}
+use Rattle.sql_query.specs.declared.query.Order.{Order}
+use Rattle.sql_query.specs.declared.query.Query.{Query}
 use Rattle.sql_eval.specs.declared.row.Row.{Row}
 use Rattle.sql_eval.specs.Conditions.{Tuple, operand_of}
 use Rattle.sql_eval.specs.Keys.{by_paths_total, missing_first_total}

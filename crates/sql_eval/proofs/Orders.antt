@@ -10,9 +10,9 @@ use Rattle.std.proofs.lemmas.List.{get_or-map, length-map}
 use Rattle.std.proofs.lemmas.List.Elements.{All-head, All-map, All-tail}
 use Rattle.std.proofs.lemmas.List.Sorted.{All-permutation, IsPermutation-map}
 use Rattle.jr_value.specs.declared.value.Property.{Property}
-use Rattle.sql_parse.specs.declared.query.Direction.{Direction}
-use Rattle.sql_parse.specs.declared.query.Direction.TheVariants.{Ascending, Descending}
-use Rattle.sql_parse.specs.declared.query.Order.{Order}
+use Rattle.sql_query.specs.declared.query.Direction.{Direction}
+use Rattle.sql_query.specs.declared.query.Direction.TheVariants.{Ascending, Descending}
+use Rattle.sql_query.specs.declared.query.Order.{Order}
 use Rattle.sql_eval.specs.declared.key.Ranked.{Ranked}
 use Rattle.sql_eval.specs.Conditions.{Tuple, operand_of}
 use Rattle.sql_eval.specs.Keys.{key_cmp, key_in, key_of, ranked_cmp, ranked_of}

@@ -4,7 +4,7 @@ use Rattle.std.specs.List.{zip}
 use Rattle.std.proofs.lemmas.List.{take_all}
 use Rattle.jr_path.specs.declared.name.Name.{Name}
 use Rattle.jr_tree.specs.Trees.{Nodes}
-use Rattle.sql_parse.specs.declared.query.Join.{Join}
+use Rattle.sql_query.specs.declared.query.Join.{Join}
 use Rattle.sql_eval.specs.Conditions.{Tuple}
 use Rattle.sql_eval.specs.Joins.{joined, joined_all, nodes_of_type}
 

@@ -3,7 +3,7 @@ use Rattle.std.proofs.Common.{◌≡◌, Bool, false, ◌||◌, List, [], ◌∷
 use Rattle.serde_json.specs.Data.{Data, Items}
 use Rattle.serde_json.specs.View.{items_of}
 use Rattle.serde_json.specs.Written.{has_float, items_have_float}
-use Rattle.jr_value.proofs.NoFloat.{property_plain}
+use Rattle.jr_json.proofs.NoFloat.{property_plain}
 use Rattle.sql_eval.specs.declared.row.Cell.{Cell}
 use Rattle.sql_eval.specs.declared.row.Cell.TheVariants as cell
 use Rattle.sql_eval.specs.declared.row.Row.{Row}

@@ -10,16 +10,16 @@ use Rattle.jr_tree.specs.Trees.{Nodes}
 use Rattle.jr_value.specs.declared.value.Property.{Property}
 use Rattle.jr_value.specs.declared.value.Property.TheVariants.{Single}
 use Rattle.jr_value.specs.declared.value.Value.TheVariants as value
-use Rattle.sql_parse.specs.Trees.{Asked, By, Look, Test, asked_of, by_of, look_of, test_of}
-use Rattle.sql_parse.specs.Trees as tree
-use Rattle.sql_parse.specs.declared.query.Column.{Column}
-use Rattle.sql_parse.specs.declared.query.Condition.{Condition}
-use Rattle.sql_parse.specs.declared.query.Condition.TheVariants as condition
-use Rattle.sql_parse.specs.declared.query.Join.{Join}
-use Rattle.sql_parse.specs.declared.query.Operand.{Operand}
-use Rattle.sql_parse.specs.declared.query.Operand.TheVariants as operand
-use Rattle.sql_parse.specs.declared.query.Order.{Order}
-use Rattle.sql_parse.specs.declared.query.Query.{Query}
+use Rattle.sql_query.specs.Trees.{Asked, By, Look, Test, asked_of, by_of, look_of, test_of}
+use Rattle.sql_query.specs.Trees as tree
+use Rattle.sql_query.specs.declared.query.Column.{Column}
+use Rattle.sql_query.specs.declared.query.Condition.{Condition}
+use Rattle.sql_query.specs.declared.query.Condition.TheVariants as condition
+use Rattle.sql_query.specs.declared.query.Join.{Join}
+use Rattle.sql_query.specs.declared.query.Operand.{Operand}
+use Rattle.sql_query.specs.declared.query.Operand.TheVariants as operand
+use Rattle.sql_query.specs.declared.query.Order.{Order}
+use Rattle.sql_query.specs.declared.query.Query.{Query}
 use Rattle.sql_values.specs.declared.characters.Case.TheVariants.{Lower, Upper}
 use Rattle.sql_eval.specs.declared.row.Row.{Row}
 use Rattle.sql_eval.specs.Conditions.{Tuple, holds, is_child, is_descendant, is_same, name_of, operand_of, path_passes, property_of, spot_of}

@@ -12,11 +12,11 @@ use Rattle.jr_value.specs.declared.value.Property.{Property}
 use Rattle.jr_value.specs.declared.value.Property.TheVariants.{Single}
 use Rattle.jr_tree.specs.declared.tree.Node.{Node}
 use Rattle.jr_tree.specs.Trees.{is_child_of}
-use Rattle.sql_parse.specs.declared.query.PropertyOf.{PropertyOf}
-use Rattle.sql_parse.specs.declared.query.Operand.{Operand}
-use Rattle.sql_parse.specs.declared.query.Operand.TheVariants as operand
-use Rattle.sql_parse.specs.declared.query.Condition.{Condition}
-use Rattle.sql_parse.specs.declared.query.Condition.TheVariants as condition
+use Rattle.sql_query.specs.declared.query.PropertyOf.{PropertyOf}
+use Rattle.sql_query.specs.declared.query.Operand.{Operand}
+use Rattle.sql_query.specs.declared.query.Operand.TheVariants as operand
+use Rattle.sql_query.specs.declared.query.Condition.{Condition}
+use Rattle.sql_query.specs.declared.query.Condition.TheVariants as condition
 use Rattle.sql_values.specs.declared.characters.Case.TheVariants.{Lower, Upper}
 use Rattle.sql_values.specs.Texts.{lengths_of, in_case, cased, local_part}
 use Rattle.sql_values.specs.Values.{some_compares}

@@ -11,11 +11,11 @@ use Rattle.jr_value.specs.declared.value.Value.{Value}
 use Rattle.jr_value.specs.declared.value.Value.TheVariants as value
 use Rattle.jr_tree.specs.declared.tree.Node.{Node}
 use Rattle.jr_tree.specs.Trees.{Nodes}
-use Rattle.sql_parse.specs.declared.query.Join.{Join}
-use Rattle.sql_parse.specs.declared.query.JoinKind.{JoinKind}
-use Rattle.sql_parse.specs.declared.query.JoinKind.TheVariants.{Inner, LeftOuter, RightOuter}
-use Rattle.sql_parse.specs.declared.query.On.{On}
-use Rattle.sql_parse.specs.declared.query.On.TheVariants as join_on
+use Rattle.sql_query.specs.declared.query.Join.{Join}
+use Rattle.sql_query.specs.declared.query.JoinKind.{JoinKind}
+use Rattle.sql_query.specs.declared.query.JoinKind.TheVariants.{Inner, LeftOuter, RightOuter}
+use Rattle.sql_query.specs.declared.query.On.{On}
+use Rattle.sql_query.specs.declared.query.On.TheVariants as join_on
 use Rattle.sql_values.specs.Values.{some_equal, values_in}
 use Rattle.sql_eval.specs.Conditions.{Spot, Tuple, spot_of, property_of, path_passes, is_same, is_child, is_descendant}
 

@@ -13,9 +13,9 @@ use Rattle.jr_value.specs.Values.{kind_of, kind_number}
 use Rattle.jr_value.specs.declared.value.Value.{Value}
 use Rattle.jr_value.specs.declared.value.Value.TheVariants as value
 use Rattle.jr_value.specs.declared.value.Property.{Property}
-use Rattle.sql_parse.specs.declared.query.Direction.{Direction}
-use Rattle.sql_parse.specs.declared.query.Direction.TheVariants.{Ascending, Descending}
-use Rattle.sql_parse.specs.declared.query.Order.{Order}
+use Rattle.sql_query.specs.declared.query.Direction.{Direction}
+use Rattle.sql_query.specs.declared.query.Direction.TheVariants.{Ascending, Descending}
+use Rattle.sql_query.specs.declared.query.Order.{Order}
 use Rattle.sql_eval.specs.declared.key.Key.{Key}
 use Rattle.sql_eval.specs.declared.key.Key.TheVariants.{Rising, Falling}
 use Rattle.sql_eval.specs.declared.key.Ranked.{Ranked}

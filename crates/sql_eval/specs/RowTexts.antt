@@ -3,7 +3,7 @@ use Rattle.std.specs.Prelude.{List, map}
 use Rattle.serde_json.specs.Data.{Data, array, null, string}
 use Rattle.serde_json.specs.View.{items_of}
 use Rattle.jr_path.specs.Ids.{path_text}
-use Rattle.jr_value.specs.Json.{property_data}
+use Rattle.jr_json.specs.Json.{property_data}
 use Rattle.sql_eval.specs.declared.row.Cell.{Cell}
 use Rattle.sql_eval.specs.declared.row.Cell.TheVariants as cell
 use Rattle.sql_eval.specs.declared.row.Row.{Row}

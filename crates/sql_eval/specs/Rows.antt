@@ -11,11 +11,11 @@ use Rattle.std.specs.declared.cmp.Ordering.TheVariants.{Equal}
 use Rattle.jr_path.specs.Names.{path_cmp}
 use Rattle.jr_path.specs.declared.name.Name.{Name}
 use Rattle.jr_tree.specs.Trees.{Nodes}
-use Rattle.sql_parse.specs.declared.query.Column.{Column}
-use Rattle.sql_parse.specs.declared.query.Column.TheVariants as column
-use Rattle.sql_parse.specs.declared.query.Condition.{Condition}
-use Rattle.sql_parse.specs.declared.query.Order.{Order}
-use Rattle.sql_parse.specs.declared.query.Query.{Query}
+use Rattle.sql_query.specs.declared.query.Column.{Column}
+use Rattle.sql_query.specs.declared.query.Column.TheVariants as column
+use Rattle.sql_query.specs.declared.query.Condition.{Condition}
+use Rattle.sql_query.specs.declared.query.Order.{Order}
+use Rattle.sql_query.specs.declared.query.Query.{Query}
 use Rattle.sql_eval.specs.declared.row.Cell.{Cell}
 use Rattle.sql_eval.specs.declared.row.Cell.TheVariants as cell
 use Rattle.sql_eval.specs.declared.row.Row.{Row}

@@ -10,7 +10,7 @@ use crate::tuple::{Spot, Tuple};
 use jr_path::Path;
 use jr_tree::is_child;
 use jr_value::Value;
-use sql_parse::{Condition, Operand, Operator};
+use sql_query::{Condition, Operand, Operator};
 use sql_values::some_compares;
 use std::alloc::{AllocError, Global};
 

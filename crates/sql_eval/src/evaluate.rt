@@ -12,7 +12,7 @@ use crate::sorting::{sort_by_paths, sorted_by_orders};
 use crate::tuple::Tuple;
 use jr_path::{DeepCopy, List, Name};
 use jr_tree::Tree;
-use sql_parse::{Column, Condition, Query};
+use sql_query::{Column, Condition, Query};
 use std::alloc::{AllocError, Global};
 
 /// The rows of a query over a tree (JSR 283, 6.7 Abstract Query Model): all tuples of nodes of the selectors, joined

@@ -13,7 +13,7 @@ use crate::tuple::{Spot, Tuple, property_in};
 use jr_path::Name;
 use jr_tree::{Node, Tree};
 use jr_value::{Property, Value};
-use sql_parse::{Join, JoinKind, On, PropertyOf};
+use sql_query::{Join, JoinKind, On, PropertyOf};
 use sql_values::{some_equal, values_in, values_of};
 use std::alloc::{AllocError, Global};
 

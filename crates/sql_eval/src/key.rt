@@ -6,7 +6,7 @@ use crate::operand::{Operated, operand_of};
 use crate::order::{Ordered, lists_cmp};
 use crate::tuple::Tuple;
 use jr_path::List;
-use sql_parse::{Direction, Order};
+use sql_query::{Direction, Order};
 use std::alloc::{AllocError, Global};
 use std::cmp::Ordering;
 

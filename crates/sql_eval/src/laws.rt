@@ -2,8 +2,8 @@
 ghost use Rattle.std.specs.Prelude.{◌≡◌, List as Seq};
 ghost use Rattle.jr_path.specs.declared.name.Name.{Name};
 ghost use Rattle.jr_tree.specs.Trees.{Nodes};
-ghost use Rattle.sql_parse.specs.Trees.{asked_of};
-ghost use Rattle.sql_parse.specs.declared.query.Query.{Query};
+ghost use Rattle.sql_query.specs.Trees.{asked_of};
+ghost use Rattle.sql_query.specs.declared.query.Query.{Query};
 ghost use Rattle.sql_eval.specs.declared.row.Row.{Row};
 ghost use Rattle.sql_eval.specs.Rows.{AreRows};
 

@@ -12,7 +12,7 @@ use crate::order::{Ordered, lists_cmp};
 use crate::tuple::{Spot, Tuple};
 use jr_path::{Path, Text};
 use jr_value::{Property, Value};
-use sql_parse::Operand;
+use sql_query::Operand;
 use sql_values::{Case, in_case, lengths_of, local_part, values_in, values_of};
 use std::alloc::{AllocError, Global};
 use std::cmp::Ordering;

@@ -5,7 +5,7 @@ ghost use Rattle.sql_eval.specs.Rows.{IsStablySorted, by_orders, by_paths};
 
 use crate::key::{Ranked, keys_cmp, ranked_of};
 use crate::tuple::{Tuple, paths_cmp};
-use sql_parse::Order;
+use sql_query::Order;
 use std::alloc::{AllocError, Global};
 
 /// Puts tuples in the order of the paths of their nodes.

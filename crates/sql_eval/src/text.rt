@@ -5,6 +5,7 @@ ghost use Rattle.serde_json.specs.Written.{compact_text};
 ghost use Rattle.sql_eval.specs.RowTexts.{cell_data, row_data, rows_data};
 
 use crate::row::{Cell, Row};
+use jr_json::property_json;
 use serde_json::Value as Json;
 use std::alloc::{AllocError, Global};
 
@@ -43,7 +44,7 @@ fn cell_json(alloc: Global, cell: &Cell) -> Result<Json, AllocError>
 {
     match cell {
         Cell::Node(path) => Ok(Json::String(path.text()?)),
-        Cell::Value(property) => property.to_json(alloc),
+        Cell::Value(property) => property_json(alloc, property),
         Cell::Null => Ok(Json::Null),
     }
 }

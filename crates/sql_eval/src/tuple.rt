@@ -10,7 +10,7 @@ use crate::order::{Ordered, lists_cmp};
 use jr_path::{Name, Path};
 use jr_tree::Node;
 use jr_value::Property;
-use sql_parse::PropertyOf;
+use sql_query::PropertyOf;
 use std::alloc::{AllocError, Global};
 use std::cmp::Ordering;
 use std::marker::Model;

@@ -7,7 +7,7 @@ use crate::{LexFault, Token};
 use std::alloc::{AllocError, Global};
 
 /// The tokens at the front of a text, and where they stop.
-#[derive(Debug, Drop)]
+#[derive(Drop)]
 pub struct Front {
     pub tokens: Vec<Token>,
     /// The offset of the first byte of the first piece that is no token, or the text's length.

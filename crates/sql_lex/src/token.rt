@@ -5,7 +5,7 @@ ghost use Rattle.sql_lex.specs.declared.token.LexFault.TheVariants.{Memory};
 use std::alloc::{AllocError, AllocFailed};
 
 /// What a token is.
-#[derive(Clone, Copy, Debug, PartialEq, Eq)]
+#[derive(Clone, Copy, PartialEq, Eq)]
 pub enum TokenKind {
     /// An ASCII letter and the ASCII letters, digits and `_` behind it. Keywords are words too.
     Word,
@@ -22,7 +22,7 @@ pub enum TokenKind {
 }
 
 /// A token: the bytes of the text from `start` up to `end`.
-#[derive(Clone, Copy, Debug, PartialEq, Eq)]
+#[derive(Clone, Copy, PartialEq, Eq)]
 pub struct Token {
     pub kind: TokenKind,
     pub start: usize,
@@ -30,7 +30,7 @@ pub struct Token {
 }
 
 /// Why a text isn't cut into tokens.
-#[derive(Clone, Copy, Debug, PartialEq, Eq)]
+#[derive(Clone, Copy, PartialEq, Eq)]
 pub enum LexFault {
     /// The offset of the first byte of the first piece that is no token. A text or a bracket that isn't closed is
     /// no token, and its first byte is the one that opens it.

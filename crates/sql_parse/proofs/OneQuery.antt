@@ -7,11 +7,11 @@ use Rattle.sql_parse.specs.Answers.{AreSame}
 use Rattle.sql_parse.specs.Grammar.{IsAnswer, IsParsed, query_at, start}
 use Rattle.sql_pieces.specs.Pieces.{IsReadAs}
 use Rattle.sql_pieces.specs.Reading.{Read, State}
-use Rattle.sql_parse.specs.Trees.{Asked, asked_of}
+use Rattle.sql_query.specs.Trees.{Asked, asked_of}
 use Rattle.sql_pieces.specs.declared.fault.SqlFault.{SqlFault}
 use Rattle.sql_pieces.specs.declared.fault.SqlFault.TheVariants as fault
 use Rattle.sql_pieces.specs.declared.piece.Placed.{Placed}
-use Rattle.sql_parse.specs.declared.query.Query.{Query}
+use Rattle.sql_query.specs.declared.query.Query.{Query}
 use Rattle.sql_pieces.proofs.OneSaid.{read_one}
 
 -- what is read is one

@@ -1,9 +1,9 @@
 -- When two answers to a text are the same.
 use Rattle.std.specs.Prelude.{◌≡◌, Result, Ok, Err}
-use Rattle.sql_parse.specs.Trees.{asked_of}
+use Rattle.sql_query.specs.Trees.{asked_of}
 use Rattle.sql_pieces.specs.declared.fault.SqlFault.{SqlFault}
 use Rattle.sql_pieces.specs.declared.fault.SqlFault.TheVariants as fault
-use Rattle.sql_parse.specs.declared.query.Query.{Query}
+use Rattle.sql_query.specs.declared.query.Query.{Query}
 
 -- two answers are the same, but for where the parts of a query lie in memory, or memory was refused
 abbrev pub AreSame : Result Query SqlFault → Result Query SqlFault → Type 0

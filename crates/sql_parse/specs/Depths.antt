@@ -1,6 +1,6 @@
 -- Conditions with their depth.
 use Rattle.sql_parse.specs.declared.depth.Nested.{Nested}
-use Rattle.sql_parse.specs.Trees.{Test, test_of}
+use Rattle.sql_query.specs.Trees.{Test, test_of}
 
 -- what a condition with its depth asks
 abbrev pub tested_in : Nested → Test

@@ -16,21 +16,21 @@ use Rattle.sql_pieces.specs.declared.piece.Says.{Says}
 use Rattle.sql_pieces.specs.declared.piece.Says.TheVariants as says
 use Rattle.sql_pieces.specs.declared.piece.Sign.TheVariants as sign
 use Rattle.sql_parse.specs.declared.sources.Sources.{Sources}
-use Rattle.sql_parse.specs.declared.query.Query.{Query}
-use Rattle.sql_parse.specs.declared.query.Join.{Join}
-use Rattle.sql_parse.specs.declared.query.JoinKind.{JoinKind}
-use Rattle.sql_parse.specs.declared.query.JoinKind.TheVariants as join
-use Rattle.sql_parse.specs.declared.query.On.{On}
-use Rattle.sql_parse.specs.declared.query.On.TheVariants as on
-use Rattle.sql_parse.specs.declared.query.PropertyOf.{PropertyOf}
-use Rattle.sql_parse.specs.declared.query.Column.{Column}
-use Rattle.sql_parse.specs.declared.query.Column.TheVariants as column
-use Rattle.sql_parse.specs.declared.query.Operator.{Operator}
-use Rattle.sql_parse.specs.declared.query.Operator.TheVariants as operator
-use Rattle.sql_parse.specs.Trees.{Asked, By, Look, Test, asked_of}
-use Rattle.sql_parse.specs.Trees as tree
-use Rattle.sql_parse.specs.declared.query.Direction.{Direction}
-use Rattle.sql_parse.specs.declared.query.Direction.TheVariants as direction
+use Rattle.sql_query.specs.declared.query.Query.{Query}
+use Rattle.sql_query.specs.declared.query.Join.{Join}
+use Rattle.sql_query.specs.declared.query.JoinKind.{JoinKind}
+use Rattle.sql_query.specs.declared.query.JoinKind.TheVariants as join
+use Rattle.sql_query.specs.declared.query.On.{On}
+use Rattle.sql_query.specs.declared.query.On.TheVariants as on
+use Rattle.sql_query.specs.declared.query.PropertyOf.{PropertyOf}
+use Rattle.sql_query.specs.declared.query.Column.{Column}
+use Rattle.sql_query.specs.declared.query.Column.TheVariants as column
+use Rattle.sql_query.specs.declared.query.Operator.{Operator}
+use Rattle.sql_query.specs.declared.query.Operator.TheVariants as operator
+use Rattle.sql_query.specs.Trees.{Asked, By, Look, Test, asked_of}
+use Rattle.sql_query.specs.Trees as tree
+use Rattle.sql_query.specs.declared.query.Direction.{Direction}
+use Rattle.sql_query.specs.declared.query.Direction.TheVariants as direction
 
 abbrev pub Names : Type 0
 Names = List (List ℕ)

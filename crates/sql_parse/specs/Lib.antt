@@ -1,4 +1,3 @@
 pub mod Depths
 pub mod Grammar
-pub mod Trees
 pub mod Answers

@@ -3,10 +3,10 @@ ghost use Rattle.std.specs.Prelude.{◌≡◌, IfOk};
 ghost use Rattle.sql_parse.specs.Grammar.{alias_at, column_at, column_more, columns_at, first_column, first_of, node_columns, nodes_first, skim_column, skim_columns, skim_more};
 ghost use Rattle.sql_pieces.specs.Reading.{any_name_at, Reads};
 
-use crate::Column;
 use crate::cursor::Cursor;
 use jr_path::{List, Name};
 use sql_pieces::{Placed, Sign, SqlFault, behind, name_first, sign_first};
+use sql_query::Column;
 use std::alloc::{AllocError, Global};
 
 // Whether the first pieces are a name, `.` and `*`, if they begin with a name.

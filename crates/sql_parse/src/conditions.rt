@@ -4,17 +4,17 @@ ghost use Rattle.std.specs.Option.{option_map};
 ghost use Rattle.sql_parse.specs.Grammar.{and_with, compared, filter_at, follows_name, grouped, negated, not_at, not_first, or_with, path_at, place_call, selector_before, test_at, tested};
 ghost use Rattle.sql_pieces.specs.Reading.{Reads, ReadsAs};
 ghost use Rattle.sql_parse.specs.Depths.{tested_in};
-ghost use Rattle.sql_parse.specs.Trees.{look_of, test_of};
+ghost use Rattle.sql_query.specs.Trees.{look_of, test_of};
 
 use crate::cursor::{Cursor, both};
 use crate::depth::{Nested, and, not, or};
 use crate::names::only_or;
 use crate::operands::operator_first;
-use crate::{Condition, DEEPEST, Operand};
 use jr_path::{Name, Path};
 use sql_pieces::{
     Placed, Sign, SqlFault, behind, path_first, selector_first, sign_first, word_first,
 };
+use sql_query::{Condition, DEEPEST, Operand};
 use std::alloc::Global;
 
 // Whether the first piece can follow a property's first name.
@@ -91,8 +91,8 @@ impl<'a> Cursor<'a> {
     fn tested(&mut self, operand: Operand) -> Result<Condition, SqlFault>
         ensures { ReadsAs test_of result self.new (tested (look_of operand) self.old) }
     {
-        match operand {
-            Operand::Property(property) => {
+        match operand.into_property() {
+            Ok(property) => {
                 if !self.is_word("IS") {
                     return self.compared(Operand::Property(property));
                 }
@@ -101,7 +101,7 @@ impl<'a> Cursor<'a> {
                 self.word("NULL")?;
                 Ok(Condition::Has(property))
             }
-            operand => self.compared(operand),
+            Err(other) => self.compared(other),
         }
     }
 

@@ -1,9 +1,9 @@
 // How deep the parts of a condition stand inside one another.
 ghost use Rattle.std.specs.Prelude.{◌≡◌, ◌+◌, ◌≤◌, max, IfOk, Ok};
 ghost use Rattle.sql_parse.specs.Depths.{tested_in};
-ghost use Rattle.sql_parse.specs.Trees as tree;
+ghost use Rattle.sql_query.specs.Trees as tree;
 
-use crate::{Condition, DEEPEST};
+use sql_query::{Condition, DEEPEST};
 use std::alloc::{AllocError, Global};
 
 // A condition, with how many NOT, AND and OR stand inside one another in it.

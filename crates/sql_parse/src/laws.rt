@@ -4,7 +4,7 @@ ghost use Rattle.jr_value.specs.declared.value.Value.{Value};
 ghost use Rattle.sql_parse.specs.Answers.{AreSame};
 ghost use Rattle.sql_parse.specs.Grammar.{IsParsed};
 ghost use Rattle.sql_pieces.specs.declared.fault.SqlFault.{SqlFault};
-ghost use Rattle.sql_parse.specs.declared.query.Query.{Query};
+ghost use Rattle.sql_query.specs.declared.query.Query.{Query};
 
 /// A text is answered in one way: `parse` can answer no other, but for where the parts of the query lie in memory.
 pub fn answers_are_one()

@@ -10,12 +10,7 @@ mod names;
 mod operands;
 mod orders;
 mod parser;
-mod query;
 mod sources;
 
 pub use laws::answers_are_one;
 pub use parser::parse;
-pub use query::{
-    Column, Condition, DEEPEST, Direction, Join, JoinKind, On, Operand, Operator, Order,
-    PropertyOf, Query,
-};

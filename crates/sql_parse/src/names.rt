@@ -4,10 +4,10 @@ ghost use Rattle.sql_parse.specs.Grammar.{declared_at, is_one, only_at, property
 ghost use Rattle.sql_pieces.specs.Leaves.{place_named};
 ghost use Rattle.sql_pieces.specs.Reading.{Gives, Reads, required};
 
-use crate::PropertyOf;
 use crate::cursor::Cursor;
 use jr_path::{DeepCopy, Name};
 use sql_pieces::{Sign, SqlFault, name_first, place_named};
+use sql_query::PropertyOf;
 
 // Whether there is one selector alone.
 fn is_one(names: &[Name]) -> bool

@@ -2,14 +2,14 @@
 ghost use Rattle.std.specs.Prelude.{◌≡◌, ◌≤◌};
 ghost use Rattle.sql_parse.specs.Grammar.{cast_at, cast_value, first_kind, kind_at, literal_at, operand_at, operand_call, operator_at, operator_first, operator_in, plain_operand, property_call, selector_call, static_at, text_at};
 ghost use Rattle.sql_pieces.specs.Reading.{Reads, ReadsAs};
-ghost use Rattle.sql_parse.specs.Trees.{look_of};
+ghost use Rattle.sql_query.specs.Trees.{look_of};
 
 use crate::cursor::{Cursor, both};
 use crate::names::only_or;
-use crate::{DEEPEST, Operand, Operator, PropertyOf};
 use jr_path::{Name, Text};
 use jr_value::{Kind, Value};
 use sql_pieces::{Placed, Says, Sign, SqlFault, is_a, kind_first, literal_first, text_first};
+use sql_query::{DEEPEST, Operand, Operator, PropertyOf};
 use std::alloc::Global;
 
 fn operator_in(says: &Says) -> Option<Operator>

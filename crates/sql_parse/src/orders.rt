@@ -2,12 +2,12 @@
 ghost use Rattle.std.specs.Prelude.{◌≡◌, ◌++◌, ◌∷◌, [], IfOk, map};
 ghost use Rattle.sql_parse.specs.Grammar.{direction_at, first_order, order_at, order_more, orders_at};
 ghost use Rattle.sql_pieces.specs.Reading.{Reads, ReadsAs};
-ghost use Rattle.sql_parse.specs.Trees.{by_of};
+ghost use Rattle.sql_query.specs.Trees.{by_of};
 
 use crate::cursor::Cursor;
-use crate::{Direction, Order};
 use jr_path::{List, Name};
 use sql_pieces::{Sign, SqlFault};
+use sql_query::{Direction, Order};
 use std::alloc::Global;
 
 impl<'a> Cursor<'a> {

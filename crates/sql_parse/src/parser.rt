@@ -4,14 +4,14 @@ ghost use Rattle.jr_value.specs.declared.value.Kind.{Kind};
 ghost use Rattle.jr_value.specs.declared.value.Kind.TheVariants.{Str};
 ghost use Rattle.sql_parse.specs.Grammar.{IsAnswer, IsParsed, end_at, froms_at, is_whole, no_pieces, query_at, rest_at, selected_at, whole_at};
 ghost use Rattle.sql_pieces.specs.Reading.{Gives, Reads, ReadsAs};
-ghost use Rattle.sql_parse.specs.Trees.{asked_of, rest_of};
+ghost use Rattle.sql_query.specs.Trees.{asked_of, rest_of};
 
 use crate::cursor::{Cursor, both};
 use crate::sources::Sources;
-use crate::{Column, Condition, Order, Query};
 use jr_path::{List, Name};
 use jr_value::{Kind, Value};
 use sql_pieces::{Placed, SqlFault, pieces_of};
+use sql_query::{Column, Condition, Order, Query};
 use std::alloc::Global;
 
 impl<'a> Cursor<'a> {
@@ -163,13 +163,4 @@ pub fn parse(alloc: Global, text: &str, vars: &[(Name, Value)]) -> Result<Query,
 {
     let pieces = pieces_of(alloc, text, vars)?;
     query_of(alloc, pieces.as_slice(), text.len())
-}
-
-impl Query {
-    /// The node types of the selectors, in order.
-    pub fn selector_types(&self) -> &[Name]
-        ensures { result.now ≡ self.now.types }
-    {
-        self.types.as_slice()
-    }
 }

@@ -4,9 +4,9 @@ ghost use Rattle.sql_parse.specs.Grammar.{join_at, join_first, join_kind_at, no_
 ghost use Rattle.sql_pieces.specs.Reading.{Gives, Reads, ReadsAs};
 
 use crate::cursor::Cursor;
-use crate::{Join, JoinKind, On};
 use jr_path::{DeepCopy, List, Name};
 use sql_pieces::{Placed, Sign, SqlFault, word_first};
+use sql_query::{Join, JoinKind, On};
 use std::alloc::Global;
 
 // The types and the names of the selectors in order, and the join of each but the first.

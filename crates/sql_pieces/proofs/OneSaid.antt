@@ -1,21 +1,13 @@
 -- What a text says is one: each token says one thing.
 use Rattle.std.proofs.Common.{◌≡◌, ℕ, Bool, true, false, List, [], ◌∷◌, ◌++◌, Option, None, Some, refl, sym, ap, subst, ◌∙◌}
-use Rattle.std.specs.Prelude.{IsUtf8, unwrap_or}
+use Rattle.std.specs.Prelude.{IsUtf8}
 use Rattle.std.specs.Str.{is_utf8}
 use Rattle.std.proofs.lemmas.Bool.{false≢true}
 use Rattle.std.proofs.lemmas.Str.{IsUtf8-from_is_utf8, is_utf8-from_IsUtf8}
-use Rattle.serde_json.specs.Data.{Data, member, no_members, object, string}
 use Rattle.jr_value.specs.declared.value.Kind.{Kind}
-use Rattle.jr_value.specs.declared.value.Kind.TheVariants as kind
-use Rattle.jr_value.specs.declared.value.Property.{Property}
-use Rattle.jr_value.specs.declared.value.Property.TheVariants.{Single, Many}
 use Rattle.jr_value.specs.declared.value.Value.{Value}
-use Rattle.jr_value.specs.declared.value.Value.TheVariants as value
-use Rattle.jr_value.specs.Json.{kind_text}
-use Rattle.jr_value.specs.Reading.{IsFound, IsPathWithin}
-use Rattle.jr_value.specs.Texts.{IsText}
-use Rattle.jr_value.proofs.Texts.{path_one}
-use Rattle.jr_value.proofs.Unique.{property_one}
+use Rattle.jr_value.specs.Texts.{IsPathWithin, IsText}
+use Rattle.jr_value.proofs.Texts.{both_some, found_one, path_one, text_one}
 use Rattle.sql_lex.specs.declared.token.Token.{Token}
 use Rattle.sql_lex.specs.declared.token.TokenKind.{TokenKind}
 use Rattle.sql_lex.specs.declared.token.TokenKind.TheVariants as token
@@ -26,44 +18,15 @@ use Rattle.sql_pieces.specs.declared.piece.Placed.{Placed}
 use Rattle.sql_pieces.specs.declared.piece.Says.{Says}
 use Rattle.sql_pieces.specs.declared.piece.Says.TheVariants as says
 
-both_some : {X : Type 0} (x y : X) (o : Option X) → Some x ≡ o → Some y ≡ o → x ≡ y
-both_some x y o h g = ap (λ (p : Option _). unwrap_or p x) (h ∙ sym g)
-
 some_both : {X : Type 0} (x y : X) (o : Option X) → o ≡ Some x → o ≡ Some y → x ≡ y
 some_both x y o h g = both_some x y o (sym h) (sym g)
 
 some_none : {X : Type 0} {A : Type 0} (x : X) (o : Option X) → o ≡ Some x → o ≡ None → A
 some_none x o h g = let e : Some x ≡ None = sym h ∙ g in cc
 
-single_one : (x y : Value) → Single x ≡ Single y → x ≡ y
-single_one x y h = ap (λ (p : Property). elim p [ Single z ↦ z | Many k zs ↦ x ]) h
-
--- what stands behind a kind's word, as a property
-abbrev tagged : Kind → List ℕ → Data
-tagged k t = object (member (kind_text k) (string t) no_members)
-
--- a text is one value of a kind
-value_one : (k : Kind) (t : List ℕ) (x y : Value) → IsText k t x → IsText k t y → x ≡ y
-value_one kind.Str t x y h g = h ∙ sym g
-value_one kind.Long t x y h g = h.2 ∙ (ap value.Long (h.1.is ∙ sym g.1.is) ∙ sym g.2)
-value_one kind.Date t x y h g = h.2 ∙ (ap value.Date (h.1.is ∙ sym g.1.is) ∙ sym g.2)
-value_one kind.Boolean t x y h g = both_some x y _ h g
-value_one kind.Binary t x y h g = single_one x y (property_one (tagged kind.Binary t) (Single x) (Single y) h g)
-value_one kind.Name t x y h g = single_one x y (property_one (tagged kind.Name t) (Single x) (Single y) h g)
-value_one kind.Path t x y h g = single_one x y (property_one (tagged kind.Path t) (Single x) (Single y) h g)
-value_one kind.Reference t x y h g = single_one x y (property_one (tagged kind.Reference t) (Single x) (Single y) h g)
-value_one kind.WeakReference t x y h g = single_one x y (property_one (tagged kind.WeakReference t) (Single x) (Single y) h g)
-value_one kind.Uri t x y h g = single_one x y (property_one (tagged kind.Uri t) (Single x) (Single y) h g)
-
-found_one : (P : Value → Type 0) → ((x y : Value) → P x → P y → x ≡ y) → (o p : Option Value) → IsFound P o → IsFound P p → o ≡ p
-found_one P one None None h g = refl
-found_one P one None (Some y) h g = absurd (h y g)
-found_one P one (Some x) None h g = absurd (g x h)
-found_one P one (Some x) (Some y) h g = ap Some (one x y h g)
-
 cast_one : (k : Option Kind) (t : List ℕ) (o p : Option Value) → IsCast k t o → IsCast k t p → o ≡ p
 cast_one None t o p h g = h ∙ sym g
-cast_one (Some k) t o p h g = found_one (IsText k t) (value_one k t) o p h g
+cast_one (Some k) t o p h g = found_one (IsText k t) (text_one k t) o p h g
 
 path_within_one : (t : List ℕ) (p q : List (List ℕ)) → IsPathWithin t p → IsPathWithin t q → p ≡ q
 path_within_one t p q h g = path_one t p q h.0 g.0

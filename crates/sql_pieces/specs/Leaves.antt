@@ -2,8 +2,7 @@
 use Rattle.std.specs.Prelude.{ℕ, ◌+◌, nat_lt, Bool, false, ◌&&◌, ◌==◌, List, [], ◌∷◌, Option}
 use Rattle.std.specs.Prelude.{None, Some, if◌then◌else◌, find, bytes_eq}
 use Rattle.std.specs.Str.{str_eq_ignore_ascii_case}
-use Rattle.jr_value.specs.Json.{kind_text}
-use Rattle.jr_value.specs.Reading.{all_kinds}
+use Rattle.jr_value.specs.Words.{all_kinds, kind_text}
 use Rattle.jr_value.specs.declared.value.Kind.{Kind}
 use Rattle.jr_value.specs.declared.value.Value.{Value}
 use Rattle.sql_pieces.specs.declared.piece.Sign.{Sign}

@@ -1,8 +1,7 @@
 -- What each token of a text says.
 use Rattle.std.specs.Prelude.{◌≡◌, ℕ, ℤ, ◌-◌, ◌<◌, nat_le, nat_lt, ◌==◌, false, List, [], ◌∷◌, ◌++◌, Option, None, Some, if◌then◌else◌, MatchOption, IsUtf8, length, slice_range, codes}
 use Rattle.jr_path.specs.Grammar.{IsName}
-use Rattle.jr_value.specs.Reading.{IsFound, IsPathWithin}
-use Rattle.jr_value.specs.Texts.{IsText, IsWholeNumber}
+use Rattle.jr_value.specs.Texts.{IsFound, IsPathWithin, IsText, IsWholeNumber}
 use Rattle.jr_value.specs.declared.value.Kind.{Kind}
 use Rattle.jr_value.specs.declared.value.Value.{Value}
 use Rattle.sql_lex.specs.Tokens.{AreTokens, IsStuck}

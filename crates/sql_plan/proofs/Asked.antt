@@ -15,10 +15,10 @@ use Rattle.jr_path.specs.declared.name.Name.{Name}
 use Rattle.jr_path.specs.declared.path.Path.{Path}
 use Rattle.jr_path.proofs.Maps.{path_exact}
 use Rattle.jr_tree.specs.Trees.{Nodes}
-use Rattle.sql_parse.specs.declared.query.Condition.{Condition}
-use Rattle.sql_parse.specs.declared.query.Condition.TheVariants as condition
-use Rattle.sql_parse.specs.declared.query.Join.{Join}
-use Rattle.sql_parse.specs.declared.query.JoinKind.TheVariants.{LeftOuter}
+use Rattle.sql_query.specs.declared.query.Condition.{Condition}
+use Rattle.sql_query.specs.declared.query.Condition.TheVariants as condition
+use Rattle.sql_query.specs.declared.query.Join.{Join}
+use Rattle.sql_query.specs.declared.query.JoinKind.TheVariants.{LeftOuter}
 use Rattle.sql_eval.specs.Conditions.{Spot, Tuple, holds, is_child, is_descendant, is_same, path_passes, spot_of}
 use Rattle.sql_eval.specs.Joins.{is_of_type, joined, nodes_of_type, tuples_of}
 use Rattle.sql_eval.specs.Rows.{that_pass}

@@ -16,10 +16,10 @@ use Rattle.jr_path.specs.declared.path.Path.{Path as PathOf}
 use Rattle.jr_path.proofs.Maps.{name_exact, path_exact, path_total}
 use Rattle.jr_value.specs.declared.value.Value.{Value as ValueOf}
 use Rattle.jr_value.specs.declared.value.Value.TheVariants as value
-use Rattle.sql_parse.specs.declared.query.On.{On}
-use Rattle.sql_parse.specs.declared.query.On.TheVariants as join_on
-use Rattle.sql_parse.specs.declared.query.PropertyOf.{PropertyOf}
-use Rattle.sql_parse.specs.declared.query.Operator.TheVariants as op
+use Rattle.sql_query.specs.declared.query.On.{On}
+use Rattle.sql_query.specs.declared.query.On.TheVariants as join_on
+use Rattle.sql_query.specs.declared.query.PropertyOf.{PropertyOf}
+use Rattle.sql_query.specs.declared.query.Operator.TheVariants as op
 use Rattle.sql_eval.specs.Conditions.{Spot, Tuple, is_child, is_descendant, is_same, property_in, property_of, spot_of}
 use Rattle.sql_eval.specs.Joins.{joins, paths_pass, with_spot}
 use Rattle.sql_eval.specs.Keys.{kinds_first_total}

@@ -8,7 +8,7 @@ use Rattle.std.specs.List.{AllByRecursion, Contains, cons_option, filter, list_a
 use Rattle.std.proofs.lemmas.List.{take_more}
 use Rattle.std.proofs.lemmas.List.Elements.{Contains-append_left, Contains-append_right, filter-append, filter_map-append}
 use Rattle.std.proofs.lemmas.List.Folds.{list_any-from_Any}
-use Rattle.sql_parse.specs.declared.query.On.{On}
+use Rattle.sql_query.specs.declared.query.On.{On}
 use Rattle.sql_eval.specs.Conditions.{Spot, Tuple}
 use Rattle.sql_eval.specs.Joins.{joins, pairs, with_spot}
 use Rattle.sql_plan.specs.Index.{Sought, is_same_key}

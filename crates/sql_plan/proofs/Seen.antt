@@ -8,15 +8,15 @@ use Rattle.std.proofs.lemmas.List.{length-append}
 use Rattle.std.proofs.lemmas.List.Elements.{filter-append}
 use Rattle.jr_path.specs.declared.name.Name.{Name}
 use Rattle.jr_tree.specs.Trees.{Nodes}
-use Rattle.sql_parse.specs.declared.query.Condition.{Condition}
-use Rattle.sql_parse.specs.declared.query.Condition.TheVariants as condition
-use Rattle.sql_parse.specs.declared.query.Join.{Join}
-use Rattle.sql_parse.specs.declared.query.JoinKind.{JoinKind}
-use Rattle.sql_parse.specs.declared.query.JoinKind.TheVariants.{Inner, LeftOuter, RightOuter}
-use Rattle.sql_parse.specs.declared.query.On.{On}
-use Rattle.sql_parse.specs.declared.query.Operand.{Operand}
-use Rattle.sql_parse.specs.declared.query.Operand.TheVariants as operand
-use Rattle.sql_parse.specs.declared.query.PropertyOf.{PropertyOf}
+use Rattle.sql_query.specs.declared.query.Condition.{Condition}
+use Rattle.sql_query.specs.declared.query.Condition.TheVariants as condition
+use Rattle.sql_query.specs.declared.query.Join.{Join}
+use Rattle.sql_query.specs.declared.query.JoinKind.{JoinKind}
+use Rattle.sql_query.specs.declared.query.JoinKind.TheVariants.{Inner, LeftOuter, RightOuter}
+use Rattle.sql_query.specs.declared.query.On.{On}
+use Rattle.sql_query.specs.declared.query.Operand.{Operand}
+use Rattle.sql_query.specs.declared.query.Operand.TheVariants as operand
+use Rattle.sql_query.specs.declared.query.PropertyOf.{PropertyOf}
 use Rattle.sql_eval.specs.Conditions.{Spot, Tuple, holds, operand_of, property_in, property_of, spot_of}
 use Rattle.sql_eval.specs.Joins.{is_lonely_spot, is_lonely_tuple, joined, joined_all, joins, lonely, lonely_spots, lonely_tuples, nodes_of_type, pairs, tuples_of, with_spot}
 use Rattle.sql_eval.specs.Conditions.{is_child, is_descendant, is_same, name_of, path_passes}

@@ -4,13 +4,13 @@ use Rattle.std.specs.List.{filter, list_all, list_any, repeat}
 use Rattle.std.specs.Option.{option_map_or}
 use Rattle.jr_path.specs.Names.{is_under}
 use Rattle.jr_path.specs.declared.path.Path.{Path}
-use Rattle.sql_parse.specs.declared.query.Condition.{Condition}
-use Rattle.sql_parse.specs.declared.query.Condition.TheVariants as condition
-use Rattle.sql_parse.specs.declared.query.Operand.{Operand}
-use Rattle.sql_parse.specs.declared.query.Operand.TheVariants as operand
-use Rattle.sql_parse.specs.declared.query.Join.{Join}
-use Rattle.sql_parse.specs.declared.query.JoinKind.{JoinKind}
-use Rattle.sql_parse.specs.declared.query.JoinKind.TheVariants.{Inner, LeftOuter, RightOuter}
+use Rattle.sql_query.specs.declared.query.Condition.{Condition}
+use Rattle.sql_query.specs.declared.query.Condition.TheVariants as condition
+use Rattle.sql_query.specs.declared.query.Operand.{Operand}
+use Rattle.sql_query.specs.declared.query.Operand.TheVariants as operand
+use Rattle.sql_query.specs.declared.query.Join.{Join}
+use Rattle.sql_query.specs.declared.query.JoinKind.{JoinKind}
+use Rattle.sql_query.specs.declared.query.JoinKind.TheVariants.{Inner, LeftOuter, RightOuter}
 use Rattle.jr_path.specs.declared.name.Name.{Name}
 use Rattle.jr_tree.specs.Trees.{Nodes}
 use Rattle.sql_eval.specs.Conditions.{Spot, Tuple, holds}

@@ -6,9 +6,9 @@ use Rattle.jr_path.specs.Names.{parent_of}
 use Rattle.jr_path.specs.declared.name.Name.{Name}
 use Rattle.jr_path.specs.declared.path.Path.{Path as PathOf}
 use Rattle.jr_value.specs.declared.value.Value.{Value as ValueOf}
-use Rattle.sql_parse.specs.declared.query.On.{On}
-use Rattle.sql_parse.specs.declared.query.On.TheVariants as join_on
-use Rattle.sql_parse.specs.declared.query.PropertyOf.{PropertyOf}
+use Rattle.sql_query.specs.declared.query.On.{On}
+use Rattle.sql_query.specs.declared.query.On.TheVariants as join_on
+use Rattle.sql_query.specs.declared.query.PropertyOf.{PropertyOf}
 use Rattle.sql_eval.specs.Conditions.{Spot, Tuple, property_in, property_of, spot_of}
 use Rattle.sql_values.specs.Values.{values_in}
 use Rattle.sql_plan.specs.Index.{Sought, Any, Value, Path}

@@ -5,7 +5,7 @@ ghost use Rattle.std.specs.List.{AllByRecursion, list_all, list_any};
 ghost use Rattle.std.specs.Map.Iter.{deref, deref_pair};
 ghost use Rattle.std.specs.Option.{option_copied};
 ghost use Rattle.jr_path.specs.Names.{path_cmp};
-ghost use Rattle.sql_parse.specs.declared.query.JoinKind.TheVariants.{LeftOuter};
+ghost use Rattle.sql_query.specs.declared.query.JoinKind.TheVariants.{LeftOuter};
 ghost use Rattle.sql_eval.specs.Conditions.{holds};
 ghost use Rattle.sql_eval.specs.Joins.{type_properties};
 ghost use Rattle.sql_plan.specs.Early.{asked, asked_in, asks_only, early_nodes, is_right_outer, kind_is, looks_only, only_asked, passes};
@@ -13,7 +13,7 @@ ghost use Rattle.sql_plan.specs.Early.{asked, asked_in, asks_only, early_nodes, 
 use crate::range::range_of;
 use jr_path::Name;
 use sql_eval::{Spot, Tuple, has_type, holds};
-use sql_parse::{Condition, Join, JoinKind, Operand};
+use sql_query::{Condition, Join, JoinKind, Operand};
 use std::alloc::{AllocError, Global};
 
 /// The parts that a condition joins by AND and that ask of this selector alone. There are none where an outer join

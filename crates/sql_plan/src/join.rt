@@ -9,7 +9,7 @@ ghost use Rattle.sql_plan.specs.Links.{at_places, keys_of_node, keys_of_tuple, l
 use crate::index::{Entry, Index, Key};
 use crate::link::{Link, keys_of_node, keys_of_tuple, link_of};
 use sql_eval::{Spot, Tuple, joins};
-use sql_parse::{Join, JoinKind, On};
+use sql_query::{Join, JoinKind, On};
 use std::alloc::{AllocError, Global};
 
 /// Tuples of so many selectors joined with the nodes of one more (JSR 283, 6.7.5 Join), each found by an index.

@@ -9,7 +9,7 @@ use crate::index::Key;
 use jr_path::{Name, Path};
 use jr_value::Value;
 use sql_eval::{Spot, Tuple, property_in};
-use sql_parse::{On, PropertyOf};
+use sql_query::{On, PropertyOf};
 use sql_values::values_in;
 use std::alloc::{AllocError, Global};
 

@@ -4,7 +4,7 @@ ghost use Rattle.std.specs.FinMap.{is_sorted};
 ghost use Rattle.std.specs.Map.Iter.{deref_pair};
 ghost use Rattle.std.specs.Option.{option_copied};
 ghost use Rattle.jr_path.specs.Names.{path_cmp};
-ghost use Rattle.sql_parse.specs.declared.query.JoinKind.TheVariants.{LeftOuter};
+ghost use Rattle.sql_query.specs.declared.query.JoinKind.TheVariants.{LeftOuter};
 ghost use Rattle.sql_eval.specs.Joins.{type_properties};
 ghost use Rattle.sql_eval.specs.Rows.{AreRows, filtered};
 ghost use Rattle.sql_plan.specs.Early.{asked, early_nodes, kind_is, tuples_early};
@@ -14,7 +14,7 @@ use crate::join::joined;
 use jr_path::Name;
 use jr_tree::Tree;
 use sql_eval::{Row, Spot, Tuple, rows_in_order, singles, that_pass, type_properties};
-use sql_parse::{Condition, Join, Query};
+use sql_query::{Condition, Join, Query};
 use std::alloc::{AllocError, Global};
 
 /// The rows of a query over a tree (JSR 283, 6.7 Abstract Query Model), as `sql_eval` defines them: all tuples of nodes

@@ -10,7 +10,7 @@ ghost use Rattle.sql_plan.specs.Early.{is_within, path_in};
 
 use jr_path::Path;
 use sql_eval::Spot;
-use sql_parse::Condition;
+use sql_query::Condition;
 
 /// Nodes in path order without those that a part refuses by their path alone: where a part asks for the node at a path,
 /// a child of it or a node below it, only the range of nodes at or below it is left.

@@ -13,10 +13,10 @@ use Rattle.jr_value.specs.declared.value.Value.{Value}
 use Rattle.jr_value.specs.declared.value.Value.TheVariants as value
 use Rattle.jr_value.specs.declared.value.Property.{Property}
 use Rattle.jr_value.specs.declared.value.Property.TheVariants.{Single, Many}
-use Rattle.sql_parse.specs.declared.query.Operator.{Operator}
-use Rattle.sql_parse.specs.declared.query.Operator.TheVariants as op
-use Rattle.sql_parse.specs.declared.query.Direction.{Direction}
-use Rattle.sql_parse.specs.declared.query.Direction.TheVariants.{Ascending, Descending}
+use Rattle.sql_query.specs.declared.query.Operator.{Operator}
+use Rattle.sql_query.specs.declared.query.Operator.TheVariants as op
+use Rattle.sql_query.specs.declared.query.Direction.{Direction}
+use Rattle.sql_query.specs.declared.query.Direction.TheVariants.{Ascending, Descending}
 use Rattle.sql_values.specs.Patterns.{is_like}
 
 -- LIKE compares two values of one kind that have a text of their own: STRING, NAME, PATH and URI

@@ -2,14 +2,12 @@
 ghost use Rattle.std.specs.Prelude.{◌≡◌, ◌≤◌, pos, IfOk, length, map, string_bytes};
 ghost use Rattle.std.specs.Char.{to_ascii_lowercase, to_ascii_uppercase};
 ghost use Rattle.std.specs.Str.{chars};
-ghost use Rattle.jr_value.specs.Json.{identifier_text};
 ghost use Rattle.jr_value.specs.declared.value.Value.TheVariants as value;
 ghost use Rattle.sql_values.specs.Texts.{size_of, long_of, lengths_of, cased, in_case, local_part, with_characters};
 
 use jr_path::{DeepCopy, List, Name, Path, Text};
-use jr_value::{Kind, Property, Value};
+use jr_value::{Kind, Property, Value, identifier_text};
 use std::alloc::{AllocError, Global};
-use uuid::Uuid;
 
 /// The characters of a text.
 pub(crate) fn characters(alloc: Global, text: &str) -> Result<Vec<char>, AllocError>
@@ -33,15 +31,6 @@ fn characters_in(text: &str) -> usize
     text.chars().count()
 }
 
-// The hyphenated text of an identifier, in lower case.
-fn identifier_of(alloc: Global, id: u128) -> Result<String, AllocError>
-    ensures { IfOk result (λ text. string_bytes text ≡ identifier_text id) }
-{
-    let mut buffer = Uuid::encode_buffer();
-    let text = Uuid::from_u128(id).hyphenated().encode_lower(&mut buffer);
-    String::from_str(alloc, text)
-}
-
 // The bytes of a BINARY, and the characters of every other value's text.
 fn size_of(alloc: Global, value: &Value) -> Result<i64, AllocError>
     ensures { IfOk result (λ size. size ≡ pos (size_of value.now)) }
@@ -54,8 +43,8 @@ fn size_of(alloc: Global, value: &Value) -> Result<i64, AllocError>
         Value::Boolean(truth) => Ok(count(if *truth { "true" } else { "false" })),
         Value::Name(name) => Ok(count(name.as_str())),
         Value::Path(path) => Ok(count(path.text()?.as_str())),
-        Value::Reference(id) => Ok(count(identifier_of(alloc, *id)?.as_str())),
-        Value::WeakReference(id) => Ok(count(identifier_of(alloc, *id)?.as_str())),
+        Value::Reference(id) => Ok(count(identifier_text(alloc, *id)?.as_str())),
+        Value::WeakReference(id) => Ok(count(identifier_text(alloc, *id)?.as_str())),
         Value::Uri(text) => Ok(count(text.as_str())),
     }
 }

@@ -3,12 +3,12 @@ ghost use Rattle.std.specs.Prelude.{◌≡◌, IfOk, List as Seq};
 ghost use Rattle.std.specs.List.{list_any};
 ghost use Rattle.std.specs.Option.{option_copied, option_map_or};
 ghost use Rattle.jr_value.specs.Values.{kind_number};
-ghost use Rattle.sql_parse.specs.declared.query.Operator.TheVariants as op;
+ghost use Rattle.sql_query.specs.declared.query.Operator.TheVariants as op;
 ghost use Rattle.sql_values.specs.Values.{compares, is_ordered, kinds_first, order_is, value_like, values_in, values_of};
 
 use crate::like::is_like;
 use jr_value::{Kind, Property, Value};
-use sql_parse::Operator;
+use sql_query::Operator;
 use std::alloc::{AllocError, Global};
 use std::cmp::Ordering;
 

@@ -1,6 +1,6 @@
 use Rattle.std.proofs.Common.{◌≡◌, reverse, subst}
 use Rattle.std.specs.Prelude.{IfOk}
-use Rattle.jr_path.specs.declared.text.Text.{Text}
+use Rattle.jr_path.specs.Lists.{Text}
 use Rattle.jcr_eval.specs.Said.{shows_kept}
 use Rattle.jcr_eval.proofs.tasks.shows_checkpoint.Goals as goal
 

@@ -1,5 +1,5 @@
 use Rattle.std.proofs.Common.{◌≡◌, ap, ◌∙◌}
-use Rattle.jr_value.specs.Json.{identifier_text}
+use Rattle.jr_value.specs.Words.{identifier_text}
 use Rattle.jr_value.specs.Values.{same_bytes}
 use Rattle.jcr_ref.proofs.UuidText.{texts_agree}
 use Rattle.jcr_ref.proofs.identifiers.is_uuid_text.Goals as goal

@@ -1,7 +1,7 @@
 use Rattle.std.proofs.Common.{◌≡◌, ◌∙◌}
 use Rattle.std.proofs.lemmas.Result.{IfOk-weaker}
 use Rattle.std.specs.String.{string_bytes}
-use Rattle.jr_value.specs.Json.{identifier_text}
+use Rattle.jr_value.specs.Words.{identifier_text}
 use Rattle.jcr_ref.proofs.UuidText.{texts_agree}
 use Rattle.jcr_ref.proofs.identifiers.uuid_text.Goals as goal
 

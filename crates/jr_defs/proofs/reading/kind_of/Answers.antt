@@ -1,7 +1,7 @@
 use Rattle.std.proofs.Common.{rules, false, None, Some, ◌≡◌}
 use Rattle.std.specs.Prelude.{codes}
 use Rattle.std.specs.Str.{bytes_eq}
-use Rattle.jr_value.specs.Reading.{all_kinds, kind_named}
+use Rattle.jr_value.specs.Words.{all_kinds, kind_named}
 use Rattle.jr_defs.proofs.KindWords.{kind_read, no_kind}
 use Rattle.jr_defs.proofs.reading.kind_of.Goals as goal
 

@@ -1,9 +1,20 @@
-use Rattle.std.proofs.lemmas.Result.{err_from_is_err_and}
-use Rattle.jr_items.proofs.FirstRefusal.{is_third}
+use Rattle.std.proofs.Common.{[], ◌∷◌}
+use Rattle.jr_items.specs.Refusals.{in_system, no_node, too_deep, too_long}
+use Rattle.jr_items.proofs.FirstRefusal.{ahead_due, behind_due, behind_none}
 use Rattle.jr_items.proofs.place.check_place.Goals as goal
 
--- src/place.rt:84:5
-pub returns-in_err-check_not_system-clause-err : goal.returns-in_err-check_not_system-clause-err
-returns-in_err-check_not_system-clause-err c =
-    let p = err_from_is_err_and c.from_residual-in_err-check_not_system.result c.from_residual-in_err-check_not_system.ensures.1 in
-    rw (p.1, p.2) (is_third _ _ _ _ _ c.in_ok-check_limits.ensures.ok c.in_err-check_not_system.ensures.err)
+pub returns-in-Ok : goal.returns-in-Ok
+returns-in-Ok c =
+    let p = c.args.path.now in
+    let before = too_deep p ∷ too_long p ∷ in_system p ∷ [] in
+    let o = no_node c.args.tree.now p in
+    record {
+      ok = behind_none c.check_node.result before o c.in-Ok.ensures.ok c.check_node.ensures.ok;
+      err = behind_due c.check_node.result before o c.in-Ok.ensures.ok c.check_node.ensures.err;
+    }
+
+pub returns-in-Err-clause-err : goal.returns-in-Err-clause-err
+returns-in-Err-clause-err c =
+    let p = c.args.path.now in
+    ahead_due (too_deep p ∷ too_long p ∷ in_system p ∷ []) (no_node c.args.tree.now p ∷ [])
+    c.in-Err.refusal c.in-Err.ensures.err

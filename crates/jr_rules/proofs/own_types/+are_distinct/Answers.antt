@@ -1,9 +1,9 @@
 use Rattle.std.proofs.Common.{rules, ◌≡◌, ◌∷◌, ◌-◌, ◌∙◌, ◌&&◌, ap, sym, not, true, false, drop, take, length}
 use Rattle.std.specs.List.{filter_map}
+use Rattle.jr_constraint.proofs.NamesText.{behind}
 use Rattle.jr_items.specs.Items.{name_in}
 use Rattle.jr_types.specs.Rules.{are_distinct}
 use Rattle.jr_rules.proofs.Faults.{distinct_step}
-use Rattle.jr_types.proofs.NamesText.{behind}
 use Rattle.jr_rules.proofs.own_types.+are_distinct.Goals as goal
 
 pub returns-then-not-is_among : goal.returns-then-not-is_among

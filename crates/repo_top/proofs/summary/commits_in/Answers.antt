@@ -2,7 +2,7 @@ use Rattle.std.proofs.Common.{◌∙◌, rules, tests}
 use Rattle.std.proofs.lemmas.Iterator.{YieldsList-from_slice}
 use Rattle.std.proofs.lemmas.Iterator.Consumers.{YieldsList-from_filter, count_from_yields_List}
 use Rattle.std.proofs.lemmas.List.Sums.{length-filter}
-use Rattle.jr_stage.specs.Places.{is_commit}
+use Rattle.jr_work.specs.Places.{is_commit}
 use Rattle.repo_top.proofs.summary.commits_in.Goals as goal
 
 pub returns : goal.returns

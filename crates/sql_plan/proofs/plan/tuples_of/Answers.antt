@@ -1,7 +1,7 @@
 use Rattle.std.proofs.Common.{◌≡◌, ◌-◌, length, take, drop, ap, map, sym, subst, ◌∙◌, arith}
 use Rattle.std.specs.Map.Iter.{deref_pair}
 use Rattle.std.specs.Option.{option_copied}
-use Rattle.sql_parse.specs.declared.query.JoinKind.TheVariants.{LeftOuter}
+use Rattle.sql_query.specs.declared.query.JoinKind.TheVariants.{LeftOuter}
 use Rattle.sql_eval.specs.Joins.{joined}
 use Rattle.sql_plan.specs.Early.{asked, early_nodes, kind_is}
 use Rattle.sql_plan.proofs.Asked.{begins, begins_sized, goes_on}

@@ -1,6 +1,6 @@
 use Rattle.std.proofs.Common.{◌≡◌, length}
 use Rattle.std.specs.List.{list_any}
-use Rattle.sql_parse.specs.declared.query.Operator.TheVariants as op
+use Rattle.sql_query.specs.declared.query.Operator.TheVariants as op
 use Rattle.sql_values.specs.Values.{compares}
 use Rattle.sql_values.proofs.compare.some_equal.Given as goal
 

@@ -1,7 +1,7 @@
 use Rattle.std.proofs.Common.{Some, refl}
 use Rattle.jr_tree.specs.Edits.{applied}
 use Rattle.jr_tree.proofs.Undated.{proper_tree}
-use Rattle.jcr_call.specs.Calls.{call_moved}
+use Rattle.jcr_law.specs.Calls.{call_moved}
 use Rattle.jcr_held.specs.Alike.{moved_to}
 use Rattle.jcr_held.proofs.Holding.{holds_alike, holds_moved_knowing, view_settled}
 use Rattle.jcr_held.proofs.Referring.{references_dated}

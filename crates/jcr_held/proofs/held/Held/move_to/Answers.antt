@@ -1,5 +1,5 @@
 use Rattle.std.proofs.Common.{refl}
-use Rattle.jcr_call.specs.Calls.{call_moved}
+use Rattle.jcr_law.specs.Calls.{call_moved}
 use Rattle.jcr_held.specs.Alike.{moved_to}
 use Rattle.jcr_held.proofs.Holding.{holds_alike, holds_moved}
 use Rattle.jcr_held.proofs.held.Held.move_to.Goals as goal

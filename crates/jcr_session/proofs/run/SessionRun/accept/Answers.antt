@@ -1,7 +1,7 @@
 use Rattle.std.proofs.Common.{subst, sym, refl, true, false, ◌≡◌}
 use Rattle.jcr_trans.specs.declared.command.Command.{Command}
 use Rattle.jcr_view.specs.Outcomes.{is_viewed}
-use Rattle.jcr_call.specs.Calls.{call_after}
+use Rattle.jcr_law.specs.Calls.{call_after}
 use Rattle.jcr_held.specs.Accepts.{TokensFit}
 use Rattle.jcr_held.specs.Holds.{Holds}
 use Rattle.jcr_session.proofs.Nexts.{next_there, none_there, same_next}

@@ -1,5 +1,5 @@
 use Rattle.std.proofs.Common.{subst, length}
-use Rattle.jr_path.specs.declared.text.Text.{Text}
+use Rattle.jr_path.specs.Lists.{Text}
 use Rattle.oak_port.specs.Ports.{HasRoom}
 use Rattle.jcr_session.specs.Asked.{MayAnswer}
 use Rattle.jcr_session.proofs.Lawful.{forgo_answers}

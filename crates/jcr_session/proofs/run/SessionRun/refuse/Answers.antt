@@ -1,6 +1,6 @@
 use Rattle.std.proofs.Common.{subst, refl, false}
 use Rattle.jcr_trans.specs.declared.command.Command.{Command}
-use Rattle.jcr_call.specs.Calls.{call_after}
+use Rattle.jcr_law.specs.Calls.{call_after}
 use Rattle.jcr_held.specs.Holds.{Holds}
 use Rattle.jcr_session.proofs.Nexts.{next_there, same_next, some_there, none_there}
 use Rattle.jcr_session.proofs.run.SessionRun.refuse.Goals as goal

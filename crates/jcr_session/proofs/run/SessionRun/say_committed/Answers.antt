@@ -2,7 +2,7 @@ use Rattle.std.proofs.Common.{Option, Some, â„•, length, true, sym, ap, subst, â
 use Rattle.std.specs.Prelude.{IfSome, string_bytes}
 use Rattle.std.specs.declared.alloc.Global.{Global}
 use Rattle.std.specs.declared.string.String.{String}
-use Rattle.jr_path.specs.declared.text.Text.{Text}
+use Rattle.jr_path.specs.Lists.{Text}
 use Rattle.oak_port.specs.Ports.{HasRoom}
 use Rattle.jcr_session.specs.declared.run.SessionRun.{SessionRun}
 use Rattle.jcr_session.specs.Asked.{IsUnviewedNext, MayAnswer, Settles}

@@ -1,5 +1,5 @@
 use Rattle.std.proofs.Common.{subst, false}
-use Rattle.jr_path.specs.declared.text.Text.{Text}
+use Rattle.jr_path.specs.Lists.{Text}
 use Rattle.jcr_session.specs.Asked.{MayAnswer}
 use Rattle.jcr_session.proofs.Lawful.{forgo_answers}
 use Rattle.jcr_session.proofs.Lengths.{memory_reply_is}

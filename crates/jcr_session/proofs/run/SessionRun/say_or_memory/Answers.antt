@@ -1,5 +1,5 @@
 use Rattle.std.proofs.Common.{Some, length, subst}
-use Rattle.jr_path.specs.declared.text.Text.{Text}
+use Rattle.jr_path.specs.Lists.{Text}
 use Rattle.oak_port.specs.Ports.{HasRoom}
 use Rattle.jcr_trans.specs.Texts.{memory_text}
 use Rattle.jcr_law.specs.Lasting.{says_of, starts_of}

@@ -1,5 +1,5 @@
 use Rattle.std.proofs.Common.{refl, subst, sym, Result}
-use Rattle.jr_path.specs.declared.text.Text.{Text}
+use Rattle.jr_path.specs.Lists.{Text}
 use Rattle.jcr_session.specs.Asked.{MayAnswer}
 use Rattle.std.specs.declared.alloc.AllocError.{AllocError}
 use Rattle.std.specs.declared.alloc.Global.{Global}

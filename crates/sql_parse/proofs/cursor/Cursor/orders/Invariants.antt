@@ -1,7 +1,7 @@
 use Rattle.std.proofs.Common.{◌≡◌, length, map}
 use Rattle.sql_parse.specs.Grammar.{order_more}
 use Rattle.sql_pieces.specs.Reading.{many, sign_first}
-use Rattle.sql_parse.specs.Trees.{by_of}
+use Rattle.sql_query.specs.Trees.{by_of}
 use Rattle.sql_pieces.specs.declared.piece.Sign.TheVariants.{Comma}
 use Rattle.sql_parse.proofs.cursor.Cursor.orders.Given as goal
 

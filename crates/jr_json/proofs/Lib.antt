@@ -1,0 +1,6 @@
+pub mod Empties
+pub mod Lists
+pub mod NoFloat
+pub mod ReadBack
+mod Rows
+pub mod Unique

@@ -1,5 +1,0 @@
-use Rattle.jr_value.proofs.Unique.{property_one}
-use Rattle.jr_value.proofs.laws.json_is_at_most_one_property.Goals as goal
-
-pub returns : goal.returns
-returns c = property_one

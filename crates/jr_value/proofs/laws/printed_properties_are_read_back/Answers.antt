@@ -1,5 +1,0 @@
-use Rattle.jr_value.proofs.ReadBack.{property_back}
-use Rattle.jr_value.proofs.laws.printed_properties_are_read_back.Goals as goal
-
-pub returns : goal.returns
-returns c = property_back
