@@ -1,4 +1,4 @@
-"""Prints a row for content_rows: an edit on a tree of NODES nodes, planned: plans.py NODES WHAT CALL [REFERRING].
+"""Prints a row for all_rows: an edit on a tree of NODES nodes, planned: plans.py NODES WHAT CALL [REFERRING].
 
 The tree has a hundred nodes of nt:unstructured with three properties below each node of the root. WHAT is `save` (one property of
 one node is put, as a save of one command), `lock` (a node of the root with its hundred children is locked deep), `uuid` (the save
@@ -7,8 +7,8 @@ difference to it is the time of the plan. CALL is `whole_plan` (`plan_of`), `cha
 of the references) or `plan` (both, behind a look for references that dangle). With REFERRING each tenth of these nodes has an
 identifier, and the others a REFERENCE to it. As:
 
-    python3 bench/plans.py 100000 save change_plan > rows && time crates/content_rows/out/content_rows < rows
-    python3 bench/plans.py 100000 none change_plan > rows && time crates/content_rows/out/content_rows < rows
+    python3 bench/plans.py 100000 save change_plan > rows && time crates/all_rows/out/all_rows < rows
+    python3 bench/plans.py 100000 none change_plan > rows && time crates/all_rows/out/all_rows < rows
 """
 import json
 import sys
@@ -39,4 +39,5 @@ for number in range(nodes - nodes // 100 - 4):
     elif referring:
         node["refers"] = {"reference": uuid(number - number % 10)}
     tree["%s/n%d" % (folder, number)] = node
+print("=== content")
 print("%s [] %s | %s" % (call, json.dumps(edits[what], separators=(",", ":")), json.dumps(tree, separators=(",", ":"))))

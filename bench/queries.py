@@ -1,10 +1,10 @@
-"""Prints rows for base_rows over a tree of NODES nodes in folders of 100, and one join of two selectors: queries.py NODES JOIN WAY.
+"""Prints rows for all_rows over a tree of NODES nodes in folders of 100, and one join of two selectors: queries.py NODES JOIN WAY.
 
 JOIN is `equal` (a property of one node is that of another, for each node one), `child` or `descendant`, or `none`, whose
 selector finds nothing: the difference to it is the time of the join alone. WAY is `count` (the definition's program, `rows`) or
 `fast` (`rows_fast`). As:
 
-    python3 bench/queries.py 10000 equal fast > rows && time crates/base_rows/out/base_rows < rows
+    python3 bench/queries.py 10000 equal fast > rows && time crates/all_rows/out/all_rows < rows
 """
 import sys
 
@@ -17,7 +17,7 @@ conditions = {
     "descendant": "ISDESCENDANTNODE(m, n)",
 }
 
-lines = ["== queries", "node /"]
+lines = ["=== base", "== queries", "node /"]
 for number in range(nodes):
     if number % 100 == 0:
         lines.append("node /f%d" % (number // 100))

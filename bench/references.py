@@ -1,9 +1,9 @@
-"""Prints rows for content_rows over a tree of NODES nodes, of which every tenth refers to the node before it: references.py NODES QUESTION.
+"""Prints rows for all_rows over a tree of NODES nodes, of which every tenth refers to the node before it: references.py NODES QUESTION.
 
 QUESTION is `dangling` (the identifiers are all there, so the whole tree is looked at), `referrers` (of one identifier), or
 `identifier 0 1`, which looks at no node: the difference to it is the time of the question alone. As:
 
-    python3 bench/references.py 100000 dangling > rows && time crates/content_rows/out/content_rows < rows
+    python3 bench/references.py 100000 dangling > rows && time crates/all_rows/out/all_rows < rows
 """
 import json
 import sys
@@ -28,4 +28,5 @@ for number in range(nodes):
     tree["/f%d/n%d" % (number // 100, number)] = properties
 if question == "referrers":
     question += " " + identifier(0)
+print("=== content")
 print(question + " | " + json.dumps(tree, separators=(",", ":")))

@@ -1,11 +1,11 @@
-"""Prints a row for content_rows over a tree that is checked node by node: types.py NODES WHAT [QUESTION].
+"""Prints a row for all_rows over a tree that is checked node by node: types.py NODES WHAT [QUESTION].
 
 WHAT is `plain` (NODES nodes of nt:unstructured with three properties, a hundred below each node of the root) or `files` (NODES
 nodes of nt:file, each with its content, a hundred in a folder). No node breaks a rule, so each is looked at and the answer is `ok`.
 QUESTION is `locked_by /`, which looks at the root alone: the difference to it is the time of the check. As:
 
-    python3 bench/types.py 100000 plain > rows && time crates/content_rows/out/content_rows < rows
-    python3 bench/types.py 100000 plain locked_by / > rows && time crates/content_rows/out/content_rows < rows
+    python3 bench/types.py 100000 plain > rows && time crates/all_rows/out/all_rows < rows
+    python3 bench/types.py 100000 plain locked_by / > rows && time crates/all_rows/out/all_rows < rows
 """
 import json
 import sys
@@ -30,4 +30,5 @@ for number in range(nodes):
     else:
         tree[path] = node("nt:file")
         tree[path + "/jcr:content"] = node("nt:resource", **{"jcr:data": {"binary": "aGk="}, "jcr:mimeType": "text/plain"})
+print("=== content")
 print(question + " | " + json.dumps(tree, separators=(",", ":")))

@@ -1,10 +1,10 @@
-"""Prints a row for content_rows over a text of type definitions of so many MiB: types_text.py MIB WHAT.
+"""Prints a row for all_rows over a text of type definitions of so many MiB: types_text.py MIB WHAT.
 
 WHAT is `definitions` (types with a supertype, a comment, two properties with a default and a constraint, and a child, each read,
 registered, printed and read again) or `comment` (one comment from `/*` to `*/`). As:
 
-    python3 bench/types_text.py 4 definitions > rows && time crates/content_rows/out/content_rows < rows > /dev/null
-    python3 bench/types_text.py 16 comment > rows && time crates/content_rows/out/content_rows < rows > /dev/null
+    python3 bench/types_text.py 4 definitions > rows && time crates/all_rows/out/all_rows < rows > /dev/null
+    python3 bench/types_text.py 16 comment > rows && time crates/all_rows/out/all_rows < rows > /dev/null
 """
 import json
 import sys
@@ -28,4 +28,5 @@ else:
         length += len(part)
         number += 1
     text = "".join(parts)
+print("=== content")
 print("definitions | " + json.dumps(text))

@@ -1,9 +1,9 @@
-"""Prints rows for content_rows over the commands of one session that saves nothing: view.py NODES WHAT.
+"""Prints rows for all_rows over the commands of one session that saves nothing: view.py NODES WHAT.
 
 WHAT is `add`, NODES times an `add` and a `set` of the new node; `get`, after these NODES times a `get`; or `none`, no command: the
 difference to it is the time of the commands alone. As:
 
-    python3 bench/view.py 10000 get > rows && time crates/content_rows/out/content_rows < rows
+    python3 bench/view.py 10000 get > rows && time crates/all_rows/out/all_rows < rows
 """
 import json
 import sys
@@ -18,4 +18,5 @@ if what != "none":
 if what == "get":
     for number in range(nodes):
         commands.append(["get", "/n%d/p" % number])
+print("=== content")
 print("view " + json.dumps(commands, separators=(",", ":")) + " | {}")

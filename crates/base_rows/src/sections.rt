@@ -4,7 +4,7 @@ use crate::{
     commands, ends, marks, parts, queries, replies, scripts, texts, trees, types, vectors,
 };
 use jr_tree::Tree;
-use rows::{Out, Rows, cut};
+use rows::{Out, cut};
 use std::alloc::{AllocError, Global};
 
 // What the lines are of.
@@ -15,17 +15,18 @@ enum Section {
     Scripts,
 }
 
-// The section, and what lines before have left: what those of texts keep, and the tree that is
-// asked.
+/// The section, and what lines before have left: what those of texts keep, and the tree that is
+/// asked.
 #[derive(Drop)]
-pub(crate) struct Base {
+pub struct Base {
     section: Section,
     kept: Kept,
     tree: Tree,
 }
 
 impl Base {
-    pub(crate) fn new(alloc: Global) -> Result<Base, AllocError> {
+    /// Before any line.
+    pub fn new(alloc: Global) -> Result<Base, AllocError> {
         let kept = Kept::new(alloc)?;
         Ok(Base {
             section: Section::Texts,
@@ -33,10 +34,9 @@ impl Base {
             tree: Tree::new(alloc),
         })
     }
-}
 
-impl Rows for Base {
-    fn add(&mut self, line: &str, out: &mut Out) {
+    /// Puts out what comes of a line.
+    pub fn add(&mut self, line: &str, out: &mut Out) {
         if let Some(section) = section_of(line) {
             self.section = section;
             return out.put(line);

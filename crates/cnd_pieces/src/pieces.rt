@@ -99,9 +99,17 @@ fn bytes_say(
     ensures { IfOk result (Means context kind bytes.now) }
 {
     match str::from_utf8(bytes) {
-        Ok(text) => Ok(text_says(alloc, context, kind, text)?),
+        Ok(text) => text_says(alloc, context, kind, text),
         Err(_) => Ok(Says::Nothing),
     }
+}
+
+// What a text of these bytes in quotes says.
+fn quote_says(alloc: Global, context: Context, bytes: &[u8]) -> Result<Says, AllocError>
+    ensures { IfOk result (Means context TokenKind.Quoted (unescaped false (inner bytes.now))) }
+{
+    let text = unescaped(alloc, inner(bytes))?;
+    bytes_say(alloc, context, TokenKind::Quoted, text.as_slice())
 }
 
 // What a token of these bytes says.
@@ -114,12 +122,9 @@ fn token_says(
     ensures { IfOk result (Means context kind (content kind bytes.now)) }
 {
     match kind {
-        TokenKind::Quoted => {
-            let text = unescaped(alloc, inner(bytes))?;
-            Ok(bytes_say(alloc, context, kind, text.as_slice())?)
-        }
-        TokenKind::Bare => Ok(bytes_say(alloc, context, kind, bytes)?),
-        TokenKind::Sign(_) => Ok(bytes_say(alloc, context, kind, bytes)?),
+        TokenKind::Quoted => quote_says(alloc, context, bytes),
+        TokenKind::Bare => bytes_say(alloc, context, kind, bytes),
+        TokenKind::Sign(_) => bytes_say(alloc, context, kind, bytes),
     }
 }
 

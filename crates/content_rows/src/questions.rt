@@ -4,19 +4,14 @@ use jr_builtin::builtin;
 use jr_path::Path;
 use jr_tree::Tree;
 use jr_types::Registry;
-use rows::{Out, Rows, cut};
+use rows::{Out, cut};
 use std::alloc::AllocError;
 
-// Lines leave nothing to those behind them.
-#[derive(Drop)]
-pub(crate) struct Content;
-
-impl Rows for Content {
-    fn add(&mut self, line: &str, out: &mut Out) {
-        let (question, given) = line.split_once(" | ").unwrap_or((line, "{}"));
-        let (word, asked) = cut(question);
-        add_line(word, asked, given, out);
-    }
+/// Puts out what comes of a line. Lines leave nothing to those behind them.
+pub fn add(line: &str, out: &mut Out) {
+    let (question, given) = line.split_once(" | ").unwrap_or((line, "{}"));
+    let (word, asked) = cut(question);
+    add_line(word, asked, given, out);
 }
 
 fn add_line(word: &str, asked: &str, given: &str, out: &mut Out) {

@@ -40,7 +40,7 @@ use Rattle.core_heads.proofs.Locals.{some_of}
 use Rattle.core_heads.proofs.Orders.{before_not, not_both, same_number, test}
 use Rattle.core_heads.proofs.Runs.{fresh_run, sound_run}
 use Rattle.basics.proofs.Bools.{number_itself, or_never}
-use Rattle.core_calls.specs.Alone.{IsNextAlone}
+use Rattle.jr_rev.specs.Alone.{IsNextAlone}
 
 -- edits by their revisions
 abbrev Edits : Type 0

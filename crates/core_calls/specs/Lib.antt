@@ -1,4 +1,3 @@
-pub mod Alone
 pub mod Events
 pub mod Replies
 pub mod Seeing

@@ -13,7 +13,7 @@ ghost use Rattle.core_heads.specs.Sound.{IsNodesRun};
 ghost use Rattle.jcr_law.specs.declared.law.JcrLaw.{JcrLaw};
 ghost use Rattle.jcr_law.specs.Lasting.{says_of, starts_of};
 ghost use Rattle.jcr_law.specs.Since.{draw_since};
-ghost use Rattle.core_calls.specs.Alone.{IsNextAlone};
+ghost use Rattle.jr_rev.specs.Alone.{IsNextAlone};
 
 /// What a session drew for the command that it has not answered yet is a draw of that session, the
 /// one of its revision; and the tree at its base stays as it is.

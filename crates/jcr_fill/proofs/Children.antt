@@ -25,7 +25,7 @@ use Rattle.jr_types.specs.declared.TypeDef.{TypeDef}
 use Rattle.jr_types.proofs.Alike.{flat-alike}
 use Rattle.jr_overlay.specs.Drafts.{Steps, drafted, with_step}
 use Rattle.jr_overlay.specs.Overlays.{View}
-use Rattle.jcr_write.specs.Places.{node_types, unless_refused}
+use Rattle.jcr_write.specs.Places.{types_of_node, unless_refused}
 use Rattle.jcr_fill.specs.declared.completing.MissingChild.{MissingChild}
 use Rattle.jcr_fill.specs.declared.fill.Filling.{Filling}
 use Rattle.jcr_fill.specs.Filled.{filled}
@@ -156,12 +156,12 @@ whole_at (suc levels) types who view = by (whole_at levels types who view)
       where
         filled_first : (p : Path) (node : Node) (m n : Making) → completed (suc levels) types who view p node m ≡ Ok n → (q : Path)
             → ((f : Filling) → is_some (drafted view (with_step m.steps p (Some f.node)) q) ≡ true) → is_some (drafted view n.steps q) ≡ true
-        filled_first p node m n h q put = at (filled who (flat_map props_of (node_types types node)) (record { node = node; ids = m.ids })) h
+        filled_first p node m n h q put = at (filled who (flat_map props_of (types_of_node types node)) (record { node = node; ids = m.ids })) h
           where
             at : (r : Result Filling Refusal)
-                → and_then (and_then r (λ f. Ok (with_node m.steps p f))) (with_children (completed levels types who view) types view p (node_types types node)) ≡ Ok n
+                → and_then (and_then r (λ f. Ok (with_node m.steps p f))) (with_children (completed levels types who view) types view p (types_of_node types node)) ≡ Ok n
                 → is_some (drafted view n.steps q) ≡ true
-            at (Ok f) e = keeps_each types view p (completed levels types who view) whole (flat_map (λ d. d.children) (node_types types node)) (with_node m.steps p f) n e q (put f)
+            at (Ok f) e = keeps_each types view p (completed levels types who view) whole (flat_map (λ d. d.children) (types_of_node types node)) (with_node m.steps p f) n e q (put f)
             at (Err r) e = absurd (err-ok e)
 
 -- lists of types in which each test finds the same make the same children

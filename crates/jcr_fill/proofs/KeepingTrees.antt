@@ -20,7 +20,7 @@ use Rattle.jr_overlay.specs.Drafts.{drafted}
 use Rattle.jr_overlay.specs.Overlays.{View, whole_view}
 use Rattle.jr_overlay.specs.Views.{KeepTree}
 use Rattle.jr_overlay.proofs.KeepingSteps.{one_more_keeps}
-use Rattle.jcr_write.specs.Places.{node_types, unless_refused}
+use Rattle.jcr_write.specs.Places.{types_of_node, unless_refused}
 use Rattle.jcr_fill.specs.declared.completing.MissingChild.{MissingChild}
 use Rattle.jcr_fill.specs.declared.fill.Filling.{Filling}
 use Rattle.jcr_fill.specs.Filled.{filled, with_own}
@@ -89,22 +89,22 @@ completed_keeps zero types who v = λ p node m n keep sorted above h.
     subst (λ (k : Making). KeepTree (whole_view v) k.steps) (sym (ok_same h)) (one_more_keeps v m.steps p node keep sorted above)
 completed_keeps (suc levels) types who v = λ p node m n keep sorted above h.
     by (completed_keeps levels types who v) p node m n keep sorted above
-    (filled who (flat_map props_of (node_types types node)) (record { node = node; ids = m.ids })) refl h
+    (filled who (flat_map props_of (types_of_node types node)) (record { node = node; ids = m.ids })) refl h
   where
     by : PutsKeep v (completed levels types who (whole_view v)) → (p : Path) (node : Node) (m n : Making) → KeepTree (whole_view v) m.steps
         → is_sorted name_cmp node.props ≡ true
         → ((q : Path) → parent_of p ≡ Some q → is_some (drafted (whole_view v) m.steps q) ≡ true)
-        → (r : Result Filling Refusal) → filled who (flat_map props_of (node_types types node)) (record { node = node; ids = m.ids }) ≡ r
-        → and_then (and_then r (λ f. Ok (with_node m.steps p f))) (with_children (completed levels types who (whole_view v)) types (whole_view v) p (node_types types node)) ≡ Ok n
+        → (r : Result Filling Refusal) → filled who (flat_map props_of (types_of_node types node)) (record { node = node; ids = m.ids }) ≡ r
+        → and_then (and_then r (λ f. Ok (with_node m.steps p f))) (with_children (completed levels types who (whole_view v)) types (whole_view v) p (types_of_node types node)) ≡ Ok n
         → KeepTree (whole_view v) n.steps
     by rest p node m n keep sorted above (Err r) e f = absurd (err-ok f)
     by rest p node m n keep sorted above (Ok g) e f =
-        let ordered : is_sorted name_cmp g.node.props ≡ true = filled_ordered who (flat_map props_of (node_types types node)) (record { node = node; ids = m.ids }) g e sorted in
+        let ordered : is_sorted name_cmp g.node.props ≡ true = filled_ordered who (flat_map props_of (types_of_node types node)) (record { node = node; ids = m.ids }) g e sorted in
         let put : KeepWith v p (with_node m.steps p g) = (
           one_more_keeps v m.steps p g.node keep ordered above,
           ap is_some (now_put (whole_view v) m.steps p g.node),
         ) in
-        (children_keep types v (completed levels types who (whole_view v)) (whole_at levels types who (whole_view v)) rest p (node_types types node) (with_node m.steps p g) n f put).0
+        (children_keep types v (completed levels types who (whole_view v)) (whole_at levels types who (whole_view v)) rest p (types_of_node types node) (with_node m.steps p g) n f put).0
 
 pub complete_keeps : (types : List TypeDef) (who : Who) (v : Nodes) → PutsKeep v (complete types who (whole_view v))
 complete_keeps types who v = completed_keeps 65 types who v

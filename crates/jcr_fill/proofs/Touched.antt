@@ -32,7 +32,7 @@ use Rattle.jr_overlay.specs.Overlays.{View}
 use Rattle.jr_overlay.specs.Views.{step_at}
 use Rattle.jr_overlay.proofs.KeepingSteps.{at_step}
 use Rattle.jcr_ref.specs.Drawn.{too_many_ids}
-use Rattle.jcr_write.specs.Places.{node_types, unless_refused, with_property}
+use Rattle.jcr_write.specs.Places.{types_of_node, unless_refused, with_property}
 use Rattle.jcr_fill.specs.declared.completing.MissingChild.{MissingChild}
 use Rattle.jcr_fill.specs.declared.fill.Filling.{Filling}
 use Rattle.jcr_fill.specs.Filled.{filled, given, identified, lacking, next_identifier, with_given, with_own}
@@ -144,9 +144,9 @@ module _ (types : List TypeDef) (who : Who) (view : View) (r : Path) (start : Op
   unfolding completed
   completed_apart zero p node m apart stays = put_apart m.steps p r (Some node) apart ∙ stays
   completed_apart (suc k) p node m apart stays =
-      then_holds Stays (put_filled types who p node m) (with_children (completed k types who view) types view p (node_types types node))
-      (λ l e. children_stay (completed k types who view) (λ q n j. completed_apart k q n j) p (λ n. below_apart r p (n ∷ []) apart) (node_types types node) l
-      (IfOk-at_ok Stays e (filled_stays m.steps p apart stays (filled who (flat_map props_of (node_types types node)) (record { node = node; ids = m.ids })))))
+      then_holds Stays (put_filled types who p node m) (with_children (completed k types who view) types view p (types_of_node types node))
+      (λ l e. children_stay (completed k types who view) (λ q n j. completed_apart k q n j) p (λ n. below_apart r p (n ∷ []) apart) (types_of_node types node) l
+      (IfOk-at_ok Stays e (filled_stays m.steps p apart stays (filled who (flat_map props_of (types_of_node types node)) (record { node = node; ids = m.ids })))))
 
 -- so what was made at other places is as it was
 pub completed_elsewhere : (levels : ℕ) (types : List TypeDef) (who : Who) (view : View) (p : Path) (node : Node) (m : Making) (r : Path)
@@ -227,11 +227,11 @@ pub completed_here : (levels : ℕ) (types : List TypeDef) (who : Who) (view : V
 unfolding completed
 completed_here zero types who view p node m = (node, put_here m.steps p (Some node), still_own who m.ids (property_of node uuid))
 completed_here (suc k) types who view p node m =
-    then_holds (IsPutWith who m.ids (property_of node uuid) p) (put_filled types who p node m) (with_children (completed k types who view) types view p (node_types types node))
+    then_holds (IsPutWith who m.ids (property_of node uuid) p) (put_filled types who p node m) (with_children (completed k types who view) types view p (types_of_node types node))
     (λ l e. children l (IfOk-at_ok (IsPutWith who m.ids (property_of node uuid) p) e properties))
   where
     defs : List PropDef
-    defs = flat_map props_of (node_types types node)
+    defs = flat_map props_of (types_of_node types node)
 
     begun : Filling
     begun = record { node = node; ids = m.ids }
@@ -248,7 +248,7 @@ completed_here (suc k) types who view p node m =
               begun (begins_filled who m.ids node (property_of node uuid) refl))),
         ))
 
-    children : (l : Making) → IsPutWith who m.ids (property_of node uuid) p l → IfOk (with_children (completed k types who view) types view p (node_types types node) l) (IsPutWith who m.ids (property_of node uuid) p)
-    children l h = IfOk-weaker (with_children (completed k types who view) types view p (node_types types node) l) (λ j. step_at j.steps p ≡ Some (Some h.0)) (IsPutWith who m.ids (property_of node uuid) p)
+    children : (l : Making) → IsPutWith who m.ids (property_of node uuid) p l → IfOk (with_children (completed k types who view) types view p (types_of_node types node) l) (IsPutWith who m.ids (property_of node uuid) p)
+    children l h = IfOk-weaker (with_children (completed k types who view) types view p (types_of_node types node) l) (λ j. step_at j.steps p ≡ Some (Some h.0)) (IsPutWith who m.ids (property_of node uuid) p)
         (λ j at. (h.0, at, h.2))
-        (children_stay types who view p (Some (Some h.0)) (completed k types who view) (λ q n j. completed_apart types who view p (Some (Some h.0)) k q n j) p (λ n. child_apart p n) (node_types types node) l h.1)
+        (children_stay types who view p (Some (Some h.0)) (completed k types who view) (λ q n j. completed_apart types who view p (Some (Some h.0)) k q n j) p (λ n. child_apart p n) (types_of_node types node) l h.1)

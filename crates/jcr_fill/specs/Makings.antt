@@ -16,7 +16,7 @@ use Rattle.jr_types.specs.declared.TypeDef.{TypeDef}
 use Rattle.jr_types.specs.Types.{props_of, type_named}
 use Rattle.jr_overlay.specs.Drafts.{Steps, drafted, with_step}
 use Rattle.jr_overlay.specs.Overlays.{View}
-use Rattle.jcr_write.specs.Places.{node_types, unless_refused}
+use Rattle.jcr_write.specs.Places.{types_of_node, unless_refused}
 use Rattle.jcr_fill.specs.Steps.{and_then, each}
 use Rattle.jcr_fill.specs.declared.fill.Filling.{Filling}
 use Rattle.jcr_fill.specs.declared.completing.MissingChild.{MissingChild}
@@ -79,7 +79,7 @@ put_filled_by who defs p node m = and_then (filled who defs (record { node = nod
 -- a node is put with the properties that its types make of themselves
 abbrev pub put_filled : List TypeDef → Who → Path → Node → Making → Result Making Refusal
 put_filled types who p node m =
-    put_filled_by who (flat_map props_of (node_types types node)) p node m
+    put_filled_by who (flat_map props_of (types_of_node types node)) p node m
 
 -- a node is put with what belongs to it, so many levels down: its properties, then its children
 unfoldable pub completed : (levels : ℕ) → List TypeDef → Who → View → Path → Node → Making
@@ -87,7 +87,7 @@ unfoldable pub completed : (levels : ℕ) → List TypeDef → Who → View → 
 completed zero types who view p node m =
     Ok (with_node m.steps p (record { node = node; ids = m.ids }))
 completed (suc levels) types who view p node m = and_then (put_filled types who p node m)
-    (with_children (completed levels types who view) types view p (node_types types node))
+    (with_children (completed levels types who view) types view p (types_of_node types node))
 
 -- a node is put with all that belongs to it; a path has at most 64 names, so 65 levels are all
 abbrev pub complete : List TypeDef → Who → View → Path → Node → Making → Result Making Refusal

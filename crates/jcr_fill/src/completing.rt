@@ -5,7 +5,7 @@ ghost use Rattle.jr_types.specs.Registered.{IsAlike};
 ghost use Rattle.jr_items.specs.Refusals.{IsTheRefusal, out_of_memory};
 ghost use Rattle.jr_tree.specs.Trees.{node_of_type};
 ghost use Rattle.jr_overlay.specs.Overlays.{sighted};
-ghost use Rattle.jcr_write.specs.Places.{IsDueRefusal, node_types};
+ghost use Rattle.jcr_write.specs.Places.{IsDueRefusal, types_of_node};
 ghost use Rattle.jcr_fill.specs.Makings.{absent_child, child_refusal, complete, completed, making, missing_child, put_filled, put_filled_by, unknown_type, with_child, with_children, with_node, with_own_child};
 ghost use Rattle.jcr_fill.specs.Steps.{and_then, each};
 
@@ -131,17 +131,17 @@ fn complete_by(
     of: &[&TypeDef],
     levels: u32,
 ) -> Result<(), Refusal>
-    requires of { IsAlike (map (λ d. d.now) of.now) (node_types types.now node) }
+    requires of { IsAlike (map (λ d. d.now) of.now) (types_of_node types.now node) }
     requires levels { levels ≤ 64 }
     ensures sight { draft.new.sight ≡ draft.old.sight }
     ensures ok { OnOk result (and_then (put_filled types.now who.now path.now node
         (making draft.old.steps ids.old)) (with_children (completed levels types.now who.now
         (sighted draft.old.sight)) types.now (sighted draft.old.sight) path.now
-        (node_types types.now node)) ≡ Ok (making draft.new.steps ids.new)) }
+        (types_of_node types.now node)) ≡ Ok (making draft.new.steps ids.new)) }
     ensures err { IfErr result (IsDueRefusal (and_then (put_filled types.now who.now path.now node
         (making draft.old.steps ids.old)) (with_children (completed levels types.now who.now
         (sighted draft.old.sight)) types.now (sighted draft.old.sight) path.now
-        (node_types types.now node)))) }
+        (types_of_node types.now node)))) }
 {
     match put_filled(alloc, types, who, draft, ids, path, node, of) {
         Ok(()) => make_children(alloc, types, who, draft, ids, path, of, levels),
@@ -311,7 +311,7 @@ fn put_filled(
     node: Node,
     of: &[&TypeDef],
 ) -> Result<(), Refusal>
-    requires { IsAlike (map (λ d. d.now) of.now) (node_types types.now node) }
+    requires { IsAlike (map (λ d. d.now) of.now) (types_of_node types.now node) }
     ensures sight { draft.new.sight ≡ draft.old.sight }
     ensures ok { OnOk result (put_filled types.now who.now path.now node
         (making draft.old.steps ids.old) ≡ Ok (making draft.new.steps ids.new)) }

@@ -30,10 +30,17 @@ pub fn locked_by(
     let names = LockNames::new(alloc)?;
     for at in &upward(alloc, path)? {
         if bars(tree, &names, tokens, at, path) {
-            return Ok(Some(at.copy()?));
+            return found_at(at);
         }
     }
     Ok(None)
+}
+
+// A copy of the path that was found.
+pub(crate) fn found_at(at: &Path) -> Result<Option<Path>, AllocError>
+    ensures { IfOk result (λ found. found ≡ Some at.now) }
+{
+    Ok(Some(at.copy()?))
 }
 
 /// The nearest versionable node at or above a path, where it is checked in (JSR 283, 15.2 Check-In): what is below it
@@ -74,7 +81,7 @@ fn nearest_with(
 {
     for at in &upward(alloc, path)? {
         if has_mixin(tree, types, mixin, at) {
-            return Ok(Some(at.copy()?));
+            return found_at(at);
         }
     }
     Ok(None)
@@ -125,7 +132,7 @@ pub(crate) fn covering_lock(
 {
     for at in &upward(alloc, path)? {
         if lock_covers(tree, names, at, path) {
-            return Ok(Some(at.copy()?));
+            return found_at(at);
         }
     }
     Ok(None)

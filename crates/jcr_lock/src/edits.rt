@@ -3,14 +3,18 @@ ghost use Rattle.std.specs.Prelude.{◌≡◌, ◌++◌, ◌∷◌, [], IfErr, I
 ghost use Rattle.std.specs.String.{string_bytes};
 ghost use Rattle.std.specs.FinMap.{is_sorted};
 ghost use Rattle.jr_path.specs.Names.{path_cmp};
+ghost use Rattle.jr_value.specs.declared.value.Property.TheVariants.{Single};
+ghost use Rattle.jr_value.specs.declared.value.Value.TheVariants as value;
+ghost use Rattle.jr_tree.specs.declared.edit.Write.TheVariants.{Put, Unset};
 ghost use Rattle.jr_items.specs.Items.{has_mixin};
-ghost use Rattle.jr_items.specs.Names.{lock_owner, lockable};
+ghost use Rattle.jr_items.specs.Names.{lock_is_deep, lock_owner, lockable};
+ghost use Rattle.jr_items.specs.Own.{own_name};
 ghost use Rattle.jr_items.specs.Refusals.{IsOrMemory, IsTheRefusal, locked, no_item};
 ghost use Rattle.jcr_lock.specs.Locks.{IsDue, IsDueRefusal, first_lock, lock_edit, lock_in_way, lock_refusal, lock_writes, owner_refusal, unlock_edit, unlock_refusal, unlock_writes, unlockable};
 ghost use Rattle.jcr_lock.specs.Names.{lock_names};
 ghost use Rattle.jcr_lock.specs.Needed.{has_names_in_order, has_property, is_needed};
 
-use crate::covers::{LockNames, covering_lock, is_held, is_lock};
+use crate::covers::{LockNames, covering_lock, found_at, is_held, is_lock};
 use jr_edited::Edited;
 use jr_items::{OwnName, check_place, has_mixin, locked, no_item, unsupported};
 use jr_path::{DeepCopy, List, Name, Path, Text};
@@ -142,7 +146,7 @@ fn first_lock(tree: &Edited<'_>, names: &LockNames, path: &Path) -> Result<Optio
 {
     for (at, _) in &tree.under(path)? {
         if is_lock(tree, names, at) {
-            return Ok(Some(at.copy()?));
+            return found_at(at);
         }
     }
     Ok(None)
@@ -158,20 +162,50 @@ fn lock_writes(
 ) -> Result<Edit, AllocError>
     ensures { IfOk result (λ edit. edit.writes ≡ filter (is_needed tree.now) (lock_writes path.now deep token.now)) }
 {
-    let flag = Property::Single(Value::Boolean(deep));
-    let flag = Write::Put(path.copy()?, OwnName::LockIsDeep.name(alloc)?, flag);
-    let owner = Property::Single(Value::Str(Text::copy_of(alloc, token)?));
-    let owner = Write::Put(path.copy()?, OwnName::LockOwner.name(alloc)?, owner);
+    let flag = flag_write(alloc, path, deep)?;
+    let owner = owner_write(alloc, path, token)?;
     needed(alloc, tree, flag, owner)
+}
+
+// The write of whether a lock is deep.
+fn flag_write(alloc: Global, path: &Path, deep: bool) -> Result<Write, AllocError>
+    ensures { IfOk result (λ write. write ≡ Put path.now lock_is_deep (Single (value.Boolean deep))) }
+{
+    let (path, name) = place_of(alloc, path, OwnName::LockIsDeep)?;
+    Ok(Write::Put(path, name, Property::Single(Value::Boolean(deep))))
+}
+
+// The write of a lock's owner.
+fn owner_write(alloc: Global, path: &Path, token: &str) -> Result<Write, AllocError>
+    ensures { IfOk result (λ write. write ≡ Put path.now lock_owner (Single (value.Str token.now))) }
+{
+    let owner = Text::copy_of(alloc, token)?;
+    let (path, name) = place_of(alloc, path, OwnName::LockOwner)?;
+    Ok(Write::Put(path, name, Property::Single(Value::Str(owner))))
+}
+
+// A copy of a path, and a name of the repository's own.
+fn place_of(alloc: Global, path: &Path, name: OwnName) -> Result<(Path, Name), AllocError>
+    ensures { IfOk result (λ place. place ≡ (path.now, own_name name)) }
+{
+    Ok((path.copy()?, name.name(alloc)?))
 }
 
 // The writes of an unlocking that change something.
 fn unlock_writes(alloc: Global, tree: &Tree, path: &Path) -> Result<Edit, AllocError>
     ensures { IfOk result (λ edit. edit.writes ≡ filter (is_needed tree.now) (unlock_writes path.now)) }
 {
-    let flag = Write::Unset(path.copy()?, OwnName::LockIsDeep.name(alloc)?);
-    let owner = Write::Unset(path.copy()?, OwnName::LockOwner.name(alloc)?);
+    let flag = unset(alloc, path, OwnName::LockIsDeep)?;
+    let owner = unset(alloc, path, OwnName::LockOwner)?;
     needed(alloc, tree, flag, owner)
+}
+
+// The write that takes a property away.
+fn unset(alloc: Global, path: &Path, name: OwnName) -> Result<Write, AllocError>
+    ensures { IfOk result (λ write. write ≡ Unset path.now (own_name name)) }
+{
+    let (path, name) = place_of(alloc, path, name)?;
+    Ok(Write::Unset(path, name))
 }
 
 // Those of two writes that are needed.

@@ -29,7 +29,7 @@ use Rattle.jr_overlay.specs.Overlays.{View, whole_view}
 use Rattle.jr_overlay.specs.Views.{KeepTree}
 use Rattle.jr_overlay.proofs.KeptTrees.{names_after, parent_after}
 use Rattle.jcr_trans.specs.declared.command.TreeNode.{TreeNode}
-use Rattle.jcr_write.specs.Places.{above, at_place, node_types, of_node, path_refusal, putting, unless_refused, with_property, without_property}
+use Rattle.jcr_write.specs.Places.{above, at_place, types_of_node, of_node, path_refusal, putting, unless_refused, with_property, without_property}
 use Rattle.jcr_write.specs.Writes.{node_set}
 use Rattle.jcr_write.proofs.Keeping.{came_of, in_place, passed, put_of, set_keeps}
 use Rattle.jcr_fill.specs.Makings.{Making, complete, making, unknown_type}
@@ -62,7 +62,7 @@ without_ordered : (node : Node) (n : Name) → IsOrdered node → IsOrdered (wit
 without_ordered node n h = sorted_remove name_cmp (is_at (name_cmp n)) node.props h
 
 retyped_ordered : (types : List TypeDef) (node : Node) (n : Name) → IsOrdered node → IsOrdered (retyped types node n)
-retyped_ordered types node n h = by (are_ordered (node_types types typed))
+retyped_ordered types node n h = by (are_ordered (types_of_node types typed))
   where
     typed : Node
     typed = with_property node primary_type (Single (value.Name n))

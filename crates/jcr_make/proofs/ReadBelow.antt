@@ -23,7 +23,7 @@ use Rattle.jr_types.specs.declared.TypeDef.{TypeDef}
 use Rattle.jr_overlay.specs.Drafts.{Steps, drafted, with_step}
 use Rattle.jr_overlay.specs.Overlays.{View}
 use Rattle.jcr_ref.specs.Histories.{root_of}
-use Rattle.jcr_write.specs.Places.{above, at_place, node_types, of_node, path_refusal, unless_refused}
+use Rattle.jcr_write.specs.Places.{above, at_place, types_of_node, of_node, path_refusal, unless_refused}
 use Rattle.jcr_fill.specs.declared.completing.MissingChild.{MissingChild}
 use Rattle.jcr_mixin.specs.declared.mixins.Mixing.{Mixing}
 use Rattle.jcr_make.specs.Commands.{add_made, added_type, chosen_type, completed_new}
@@ -87,10 +87,10 @@ completed_same zero types who u v p node m alike = refl
 completed_same (suc k) types who u v p node m alike = by (λ q. completed_same k types who u v q)
   where
     by : ((q : Path) (n : Node) (l : Making) → AreAlikeFrom u v q → completed k types who u q n l ≡ completed k types who v q n l)
-        → and_then (put_filled types who p node m) (with_children (completed k types who u) types u p (node_types types node))
-        ≡ and_then (put_filled types who p node m) (with_children (completed k types who v) types v p (node_types types node))
-    by rest = then_same (put_filled types who p node m) _ _ (λ l e. each_same (with_own_child (completed k types who u) types u p) (with_own_child (completed k types who v) types v p) (flat_map (λ d. d.children) (node_types types node))
-        (all_have (λ d. (j : Making) → with_own_child (completed k types who u) types u p d j ≡ with_own_child (completed k types who v) types v p d j) child (flat_map (λ d. d.children) (node_types types node))) l)
+        → and_then (put_filled types who p node m) (with_children (completed k types who u) types u p (types_of_node types node))
+        ≡ and_then (put_filled types who p node m) (with_children (completed k types who v) types v p (types_of_node types node))
+    by rest = then_same (put_filled types who p node m) _ _ (λ l e. each_same (with_own_child (completed k types who u) types u p) (with_own_child (completed k types who v) types v p) (flat_map (λ d. d.children) (types_of_node types node))
+        (all_have (λ d. (j : Making) → with_own_child (completed k types who u) types u p d j ≡ with_own_child (completed k types who v) types v p d j) child (flat_map (λ d. d.children) (types_of_node types node))) l)
       where
         made : (c : MissingChild) (l : Making) → AreAlikeFrom u v c.path → with_child (completed k types who u) types c.path c.node_type l ≡ with_child (completed k types who v) types c.path c.node_type l
         made c l from = ap (unless_refused (child_refusal types c.path c.node_type)) (rest c.path (node_of_type c.node_type) l from)

@@ -13,7 +13,7 @@ use Rattle.jr_types.specs.declared.TypeDef.{TypeDef}
 use Rattle.jr_types.specs.Attributes.{default_type}
 use Rattle.jr_overlay.specs.Drafts.{Steps, drafted}
 use Rattle.jr_overlay.specs.Overlays.{View}
-use Rattle.jcr_write.specs.Places.{above, node_types, of_node, path_refusal, unless_refused}
+use Rattle.jcr_write.specs.Places.{above, types_of_node, of_node, path_refusal, unless_refused}
 use Rattle.jcr_fill.specs.Steps.{and_then}
 use Rattle.jcr_fill.specs.Makings.{Making, complete, unknown_type}
 
@@ -24,7 +24,7 @@ registered types n = unless_refused (unknown_type types n) (Ok n)
 -- the default type of a child at the path, by the types of the node above
 abbrev pub type_below : List TypeDef → (parent : Node) → Path → Option Name
 type_below types parent p =
-    option_and_then (default_type (node_types types parent)) (last_name p)
+    option_and_then (default_type (types_of_node types parent)) (last_name p)
 
 -- the default type, where there is one
 abbrev pub type_by_default : List TypeDef → Path → Option Name → Result Name Refusal

@@ -22,7 +22,7 @@ use Rattle.jr_types.specs.Attributes.{are_ordered}
 use Rattle.jr_types.specs.Types.{prop_def}
 use Rattle.jr_overlay.specs.Drafts.{Steps, with_step}
 use Rattle.jr_overlay.specs.Overlays.{View}
-use Rattle.jcr_write.specs.Places.{at_place, node_types, unless_refused, with_property, without_property}
+use Rattle.jcr_write.specs.Places.{at_place, types_of_node, unless_refused, with_property, without_property}
 use Rattle.jcr_fill.specs.Steps.{and_then}
 use Rattle.jcr_fill.specs.Makings.{Making, complete, unknown_type}
 
@@ -37,7 +37,7 @@ lists_mixin node n = list_any (same_name n) (mixins_of node)
 -- a node of this primary type; it keeps no order of its children where its types have none
 abbrev pub retyped : List TypeDef → Node → Name → Node
 retyped types node n = let typed = with_property node primary_type (Single (value.Name n)) in
-    cond (are_ordered (node_types types typed)) typed (without_property typed child_order)
+    cond (are_ordered (types_of_node types typed)) typed (without_property typed child_order)
 
 -- the node at a place with another primary type, which somebody registered
 abbrev pub node_retyped : List TypeDef → View → Steps → Path → Name → Result Node Refusal
@@ -69,12 +69,12 @@ unlisted node n = with_mixins node (others n (property_of node mixin_types))
 -- the definition that a property goes by is protected
 abbrev pub is_protected : List TypeDef → Node → Name → Property → Bool
 is_protected types node n x =
-    option_map_or (λ d. d.protected) (prop_def (node_types types node) n x) false
+    option_map_or (λ d. d.protected) (prop_def (types_of_node types node) n x) false
 
 -- a property was protected by the old types, and has no definition by the new ones
 abbrev pub is_lost : List TypeDef → (old new : Node) → Name → Property → Bool
 is_lost types old new n x =
-    is_protected types old n x && is_none (prop_def (node_types types new) n x)
+    is_protected types old n x && is_none (prop_def (types_of_node types new) n x)
 
 -- properties with one more, unless it is lost
 abbrev pub with_kept : List TypeDef → (old new : Node) → List (Name × Property)

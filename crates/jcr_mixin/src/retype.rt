@@ -6,7 +6,7 @@ ghost use Rattle.jr_items.specs.Names.{child_order, primary_type};
 ghost use Rattle.jr_items.specs.Refusals.{out_of_memory};
 ghost use Rattle.jr_types.specs.Attributes.{are_ordered};
 ghost use Rattle.jr_overlay.specs.Overlays.{sighted};
-ghost use Rattle.jcr_write.specs.Places.{IsDueRefusal, node_types, unless_refused, with_property, without_property};
+ghost use Rattle.jcr_write.specs.Places.{IsDueRefusal, types_of_node, unless_refused, with_property, without_property};
 ghost use Rattle.jcr_mixin.specs.Commands.{node_retyped, retyped, type_made};
 ghost use Rattle.jcr_fill.specs.Makings.{making, unknown_type};
 
@@ -118,7 +118,7 @@ fn typed(alloc: Global, node: &Node, node_type: &Name) -> Result<Node, AllocErro
 
 // The node without the order of its children, where its types have none.
 fn without_lost_order(alloc: Global, types: &Registry, mut node: Node) -> Result<Node, AllocError>
-    ensures { IfOk result (λ made. made ≡ cond (are_ordered (node_types types.now node)) node
+    ensures { IfOk result (λ made. made ≡ cond (are_ordered (types_of_node types.now node)) node
         (without_property node child_order)) }
 {
     if types.are_ordered(&node)? {

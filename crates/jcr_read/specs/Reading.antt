@@ -23,7 +23,7 @@ use Rattle.jcr_trans.specs.Texts.{answer_text}
 use Rattle.jcr_trans.specs.declared.command.Command.{Command}
 use Rattle.jcr_trans.specs.declared.command.Command.TheVariants as command
 use Rattle.jr_overlay.specs.Overlays.{View}
-use Rattle.jcr_write.specs.Order.{ordered}
+use Rattle.jr_order.specs.Order.{ordered}
 
 -- a refusal as an answer
 abbrev pub refused : Refusal → Answer

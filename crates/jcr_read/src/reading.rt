@@ -14,15 +14,15 @@ ghost use Rattle.jcr_ref.specs.Histories.{history_of, version_names};
 ghost use Rattle.jcr_trans.specs.Answers.{Answer, ShowsItems, ShowsNames, ShowsProperties, ShowsProperty, ShowsText};
 ghost use Rattle.jcr_trans.specs.Texts.{answer_text};
 ghost use Rattle.jcr_read.specs.Reading.{Replies, answer_at, by_id_answer, get_answer, id_answer, list_answer, node_identifier, property_named, props_answer, reads_all, refs_answer, refused, shown, shown_at, versions_answer};
-ghost use Rattle.jcr_write.specs.Order.{ordered};
+ghost use Rattle.jr_order.specs.Order.{ordered};
 
 use jcr_frozen::find_history;
 use jcr_ref::{by_id, referrers, version_names};
 use jcr_trans::{
     Command, done_reply, items_reply, names_reply, properties_reply, property_reply, text_reply,
 };
-use jcr_write::ordered;
 use jr_items::{OwnName, check_limits, no_identifier, no_item, one_text};
+use jr_order::ordered;
 use jr_overlay::{Overlay, Sight};
 use jr_part::Part;
 use jr_path::{Item, Path};

@@ -1,7 +1,9 @@
 // The histories of versions, which stand in the version storage by the identifier of their node.
-ghost use Rattle.std.specs.Prelude.{◌≡◌, ◌++◌, ◌+◌, [], ◌∷◌, Some, IfOk, OnOk, MatchOption};
+ghost use Rattle.std.specs.Prelude.{◌≡◌, ◌++◌, ◌+◌, [], ◌∷◌, Some, IfOk, OnOk, MatchOption, map};
+ghost use Rattle.std.specs.List.{fold};
 ghost use Rattle.std.specs.String.{string_bytes};
-ghost use Rattle.jr_tree.specs.declared.edit.Write.TheVariants.{Put};
+ghost use Rattle.jr_tree.specs.declared.edit.Write.TheVariants.{Here, Put};
+ghost use Rattle.jr_tree.specs.Trees.{children_of};
 ghost use Rattle.jr_value.specs.declared.value.Property.TheVariants.{Single};
 ghost use Rattle.jr_value.specs.declared.value.Value.TheVariants as value;
 ghost use Rattle.jr_path.specs.Grammar.{IsName};
@@ -221,16 +223,24 @@ fn push_typed(
 ) -> Result<(), AllocError>
     ensures { OnOk result (writes.new ≡ writes.old ++ typed_writes path.now (own_name node_type)) }
 {
-    writes.push(Write::Here(path.copy()?))?;
-    let name = Value::Name(node_type.name(alloc)?);
-    push_property(
-        writes,
-        alloc,
-        path,
-        OwnName::PrimaryType,
-        Property::Single(name),
-    )?;
+    push_here(writes, path)?;
+    let name = name_property(alloc, node_type)?;
+    push_property(writes, alloc, path, OwnName::PrimaryType, name)?;
     Ok(())
+}
+
+fn push_here(writes: &mut List<Write>, path: &Path) -> Result<(), AllocError>
+    ensures { OnOk result (writes.new ≡ writes.old ++ Here path.now ∷ []) }
+{
+    writes.push(Write::Here(path.copy()?))
+}
+
+// A name of the repository's own as a property.
+fn name_property(alloc: Global, name: OwnName) -> Result<Property, AllocError>
+    ensures { IfOk result (λ property. property ≡ Single (value.Name (own_name name))) }
+{
+    let name = name.name(alloc)?;
+    Ok(Property::Single(Value::Name(name)))
 }
 
 fn push_property(
@@ -242,8 +252,15 @@ fn push_property(
 ) -> Result<(), AllocError>
     ensures { OnOk result (writes.new ≡ writes.old ++ Put path.now (own_name name) property ∷ []) }
 {
-    writes.push(Write::Put(path.copy()?, name.name(alloc)?, property))?;
-    Ok(())
+    let (path, name) = place_of(alloc, path, name)?;
+    writes.push(Write::Put(path, name, property))
+}
+
+// A copy of a path, and a name of the repository's own.
+fn place_of(alloc: Global, path: &Path, name: OwnName) -> Result<(Path, Name), AllocError>
+    ensures { IfOk result (λ place. place ≡ (path.now, own_name name)) }
+{
+    Ok((path.copy()?, name.name(alloc)?))
 }
 
 // A node's references to its history and to the root version.
@@ -279,15 +296,44 @@ struct Place {
 pub fn version_names(alloc: Global, tree: &Tree, history: &Path) -> Result<Vec<Name>, AllocError>
     ensures { IfOk result (λ names. names.items ≡ version_names tree.now history.now) }
 {
+    let places = places_of(alloc, tree, history)?;
+    names_in(alloc, places)
+}
+
+// The versions of a history in their places.
+fn places_of(alloc: Global, tree: &Tree, history: &Path) -> Result<Keyed<Place, bool>, AllocError>
+    ensures { IfOk result (λ places. places ≡ fold with_version [] (children_of tree.now history.now)) }
+{
     let mut places = Keyed::new(alloc);
-    for name in &tree.children(history)? {
-        note_version(&mut places, name)?;
+    note_versions(&mut places, &tree.children(history)?)?;
+    Ok(places)
+}
+
+fn note_versions(places: &mut Keyed<Place, bool>, names: &[Name]) -> Result<(), AllocError>
+    ensures { OnOk result (places.new ≡ fold with_version places.old names.now) }
+{
+    for name in names {
+        note_version(places, name)?;
     }
+    Ok(())
+}
+
+// The names of versions in their places.
+fn names_in(alloc: Global, places: Keyed<Place, bool>) -> Result<Vec<Name>, AllocError>
+    ensures { IfOk result (λ names. names.items ≡ map (λ e. e.0.name) places) }
+{
     let mut names = Vec::new(alloc);
     for (place, _) in places.into_inner() {
-        names.push(place.name)?;
+        push_name(&mut names, place)?;
     }
     Ok(names)
+}
+
+fn push_name(names: &mut Vec<Name>, place: Place) -> Result<(), AllocError>
+    ensures { OnOk result (names.new.items ≡ names.old.items ++ place.name ∷ []) }
+{
+    names.push(place.name)?;
+    Ok(())
 }
 
 // Puts a version in its place; the node of the labels is none.

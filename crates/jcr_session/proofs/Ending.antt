@@ -37,7 +37,7 @@ use Rattle.jcr_law.specs.Calls.{call_moved}
 use Rattle.jcr_call.specs.Comings.{accepted_text}
 use Rattle.jcr_held.specs.Holds.{Holds}
 use Rattle.jcr_held.specs.declared.held.Held.{Held}
-use Rattle.core_calls.specs.Alone.{IsNextAlone}
+use Rattle.jr_rev.specs.Alone.{IsNextAlone}
 use Rattle.core_calls.specs.Replies.{is_refusal}
 use Rattle.core_calls.proofs.Accepting.{answer_accepts}
 use Rattle.core_calls.proofs.Alone.{tree_next}

@@ -39,7 +39,7 @@ use Rattle.jcr_held.specs.Comes.{ComesTo}
 use Rattle.jcr_held.specs.Holds.{Holds}
 use Rattle.jcr_held.specs.Sees.{Sees}
 use Rattle.jcr_held.specs.declared.held.Held.{Held}
-use Rattle.core_calls.specs.Alone.{IsNextAlone}
+use Rattle.jr_rev.specs.Alone.{IsNextAlone}
 use Rattle.jcr_session.specs.declared.commit.Pledge.{Pledge}
 use Rattle.jcr_session.specs.declared.limits.TheConstants.{COMMIT_REPLY_BYTES, MOST_COMMANDS}
 use Rattle.jcr_session.specs.declared.next.Due.TheVariants as due

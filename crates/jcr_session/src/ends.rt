@@ -16,7 +16,6 @@ ghost use Rattle.jcr_session.specs.Standing.{HasEnded, HasCounted, IsGranted, St
 ghost use Rattle.jcr_session.specs.declared.limits.TheConstants.{COMMIT_REPLY_BYTES};
 ghost use Rattle.jcr_session.specs.declared.run.Phase.TheVariants as phase;
 
-use crate::alone::is_next_alone;
 use crate::commit::Pledge;
 use crate::run::{Phase, SessionRun};
 use crate::say::MEMORY_REPLY;
@@ -26,7 +25,7 @@ use jcr_law::JcrLaw;
 use jcr_trans::revision_reply;
 use jr_items::clash;
 use jr_path::Item;
-use jr_rev::{RevVec, Revision};
+use jr_rev::{RevVec, Revision, is_next_alone};
 use jr_tree::Edit;
 use oak_commit::CommitEnd;
 use oak_port::Port;

@@ -4,7 +4,6 @@
 //! session waits or has ended, and leaves the session where the history says that it stands.
 #![tactic(auto)]
 
-mod alone;
 mod commit;
 mod ends;
 mod limits;

@@ -3,3 +3,4 @@ pub mod Members
 pub mod NoFloat
 pub mod Plain
 mod Rows
+pub mod Listed

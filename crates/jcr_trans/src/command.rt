@@ -125,7 +125,7 @@ pub enum Command {
 impl Drop for Command {
     fn drop(self) {
         match self {
-            Command::Add(path, name) => {
+            Command::Add(path, name) | Command::OrderBefore(path, name) => {
                 drop(path);
                 drop(name);
             }
@@ -138,77 +138,61 @@ impl Drop for Command {
                 drop(name);
                 drop(property);
             }
-            Command::Unset(path, name) => {
+            Command::Unset(path, name)
+            | Command::Mixin(path, name)
+            | Command::Unmixin(path, name)
+            | Command::SetType(path, name)
+            | Command::Unlabel(path, name) => {
                 drop(path);
                 drop(name);
             }
-            Command::Remove(path) => drop(path),
             Command::Move(path, other_path) => {
                 drop(path);
                 drop(other_path);
             }
-            Command::Mixin(path, name) => {
-                drop(path);
-                drop(name);
-            }
-            Command::Unmixin(path, name) => {
-                drop(path);
-                drop(name);
-            }
-            Command::SetType(path, name) => {
-                drop(path);
-                drop(name);
-            }
-            Command::Get(path) => drop(path),
-            Command::List(path) => drop(path),
-            Command::Props(path) => drop(path),
-            Command::Id(path) => drop(path),
-            Command::ById(text) => drop(text),
-            Command::Refs(path) => drop(path),
-            Command::Save => {}
-            Command::Refresh(_) => {}
-            Command::Head => {}
-            Command::Lock(path, _) => drop(path),
-            Command::Unlock(path) => drop(path),
-            Command::Token(text) => drop(text),
-            Command::DropToken(text) => drop(text),
-            Command::Checkin(path) => drop(path),
-            Command::Checkout(path) => drop(path),
+            Command::Remove(path)
+            | Command::Get(path)
+            | Command::List(path)
+            | Command::Props(path)
+            | Command::Id(path)
+            | Command::Refs(path)
+            | Command::Lock(path, _)
+            | Command::Unlock(path)
+            | Command::Checkin(path)
+            | Command::Checkout(path)
+            | Command::Versions(path)
+            | Command::Observe(path, _, _)
+            | Command::Split(path) => drop(path),
+            Command::ById(text)
+            | Command::Token(text)
+            | Command::DropToken(text)
+            | Command::Attach(text)
+            | Command::Release(text) => drop(text),
             Command::Label(path, text, name, _) => {
                 drop(path);
                 drop(text);
                 drop(name);
             }
-            Command::Unlabel(path, name) => {
-                drop(path);
-                drop(name);
-            }
-            Command::Versions(path) => drop(path),
             Command::Restore(path, text) => {
                 drop(path);
                 drop(text);
             }
-            Command::Observe(path, _, _) => drop(path),
-            Command::Events => {}
             Command::Query(text, map) => {
                 drop(text);
                 drop(map);
             }
-            Command::BackWrite => {}
-            Command::BackRead => {}
-            Command::Split(path) => drop(path),
-            Command::Sweep => {}
-            Command::Collect => {}
-            Command::Checkpoint => {}
-            Command::Attach(text) => drop(text),
-            Command::Release(text) => drop(text),
-            Command::Detach => {}
-            Command::OrderBefore(path, name) => {
-                drop(path);
-                drop(name);
-            }
-            Command::Stop(_) => {}
-            Command::Recover(_) => {}
+            Command::Save
+            | Command::Refresh(_)
+            | Command::Head
+            | Command::Events
+            | Command::BackWrite
+            | Command::BackRead
+            | Command::Sweep
+            | Command::Collect
+            | Command::Checkpoint
+            | Command::Detach
+            | Command::Stop(_)
+            | Command::Recover(_) => {}
         }
     }
 }

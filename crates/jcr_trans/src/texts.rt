@@ -1,8 +1,8 @@
 // The texts of replies.
-ghost use Rattle.std.specs.Prelude.{◌≡◌, ◌+◌, ◌^◌, ◌<◌, ◌≤◌, ◌++◌, false, IfOk, OnOk, string_bytes};
+ghost use Rattle.std.specs.Prelude.{◌≡◌, ◌∷◌, ◌+◌, ◌^◌, ◌<◌, ◌≤◌, ◌++◌, [], false, IfOk, OnOk, map, string_bytes};
 ghost use Rattle.std.specs.Char.{digit_value};
 ghost use Rattle.arrayvec.specs.ArrayString.{array_string_len};
-ghost use Rattle.serde_json.specs.Data.{array, object, put};
+ghost use Rattle.serde_json.specs.Data.{array, object, put, string};
 ghost use Rattle.serde_json.specs.View.{members_view, view};
 ghost use Rattle.serde_json.specs.Written.{compact_text, has_float};
 ghost use Rattle.jcr_trans.specs.Answers.{Done, ShowsProperty, ShowsNames, ShowsRevision, ShowsVector, ShowsNothing, ShowsProperties, ShowsText, ShowsItems, Refused};
@@ -17,7 +17,7 @@ ghost use Rattle.jr_json.specs.Json.{property_data};
 
 use arrayvec::ArrayString;
 use jr_json::{property_json, property_text};
-use jr_path::{Item, Keyed, List, Name, Text};
+use jr_path::{Item, Keyed, List, Name, Path, Text};
 use jr_rev::{RevVec, Revision, revision_text};
 use jr_tree::{Datum, Refusal};
 use jr_value::Property;
@@ -62,9 +62,31 @@ fn names_json(alloc: Global, names: &[Name]) -> Result<Json, AllocError>
 {
     let mut items = Vec::new(alloc);
     for name in names {
-        items.push(Json::try_from_str(alloc, name.as_str())?)?;
+        add_name(&mut items, alloc, name)?;
     }
     Ok(Json::Array(items))
+}
+
+// Puts the JSON of a name behind others.
+fn add_name(list: &mut Vec<Json>, alloc: Global, name: &Name) -> Result<(), AllocError>
+    ensures { OnOk result (map view list.new.items ≡ map view list.old.items ++ string name.now ∷ []) }
+{
+    add_json(list, text_json(alloc, name.as_str())?)
+}
+
+// Puts JSON behind other.
+fn add_json(list: &mut Vec<Json>, json: Json) -> Result<(), AllocError>
+    ensures { OnOk result (map view list.new.items ≡ map view list.old.items ++ view json ∷ []) }
+{
+    list.push(json)?;
+    Ok(())
+}
+
+// The JSON of a text.
+fn text_json(alloc: Global, text: &str) -> Result<Json, AllocError>
+    ensures { IfOk result (λ json. view json ≡ string text.now) }
+{
+    Ok(Json::try_from_str(alloc, text)?)
 }
 
 /// The reply that shows a node's properties: `ok` and an object that has the JSON of each at its name, in the
@@ -127,9 +149,22 @@ fn items_json(alloc: Global, items: &[Item]) -> Result<Json, AllocError>
 {
     let mut texts = Vec::new(alloc);
     for item in items {
-        texts.push(Json::String(text_of_item(item)?))?;
+        add_item(&mut texts, item)?;
     }
     Ok(Json::Array(texts))
+}
+
+// Puts the text of an item's path behind others.
+fn add_item(list: &mut Vec<Json>, item: &Item) -> Result<(), AllocError>
+    ensures { OnOk result (map view list.new.items ≡ map view list.old.items ++ string (path_text (item_path item.now)) ∷ []) }
+{
+    add_json(list, item_json(item)?)
+}
+
+fn item_json(item: &Item) -> Result<Json, AllocError>
+    ensures { IfOk result (λ json. view json ≡ string (path_text (item_path item.now))) }
+{
+    Ok(Json::String(text_of_item(item)?))
 }
 
 /// The reply of a save that committed: `ok` and the text of the commit's revision, as `ok "r1-0-1"`. It takes no memory, so that
@@ -222,24 +257,43 @@ fn parts_json(alloc: Global, parts: &[Datum]) -> Result<Json, AllocError>
 {
     let mut items = Vec::new(alloc);
     for part in parts {
-        items.push(part_json(alloc, part)?)?;
+        add_part(&mut items, alloc, part)?;
     }
     Ok(Json::Array(items))
+}
+
+// Puts the JSON of what a refusal names behind others.
+fn add_part(list: &mut Vec<Json>, alloc: Global, part: &Datum) -> Result<(), AllocError>
+    ensures { OnOk result (map view list.new.items ≡ map view list.old.items ++ datum_data part.now ∷ []) }
+{
+    add_json(list, part_json(alloc, part)?)
 }
 
 fn part_json(alloc: Global, part: &Datum) -> Result<Json, AllocError>
     ensures { IfOk result (λ json. view json ≡ datum_data part.now) }
 {
     match part {
-        Datum::Path(path) => Ok(Json::String(path.text()?)),
-        Datum::Item(item) => Ok(Json::String(text_of_item(item)?)),
-        Datum::Name(name) => Ok(Json::try_from_str(alloc, name.as_str())?),
-        Datum::Text(text) => Ok(Json::try_from_str(alloc, text.as_str())?),
+        Datum::Path(path) => path_json(path),
+        Datum::Item(item) => item_json(item),
+        Datum::Name(name) => text_json(alloc, name.as_str()),
+        Datum::Text(text) => text_json(alloc, text.as_str()),
         Datum::Number(number) => Ok(Json::from(*number)),
-        Datum::Kind(kind) => Ok(Json::try_from_str(alloc, kind.as_str())?),
-        Datum::Revision(revision) => Ok(Json::String(text_of_revision(alloc, revision)?)),
+        Datum::Kind(kind) => text_json(alloc, kind.as_str()),
+        Datum::Revision(revision) => revision_json(alloc, revision),
         Datum::Null => Ok(Json::Null),
     }
+}
+
+fn path_json(path: &Path) -> Result<Json, AllocError>
+    ensures { IfOk result (λ json. view json ≡ string (path_text path.now)) }
+{
+    Ok(Json::String(path.text()?))
+}
+
+fn revision_json(alloc: Global, revision: &Revision) -> Result<Json, AllocError>
+    ensures { IfOk result (λ json. view json ≡ string (revision_text revision.now)) }
+{
+    Ok(Json::String(text_of_revision(alloc, revision)?))
 }
 
 // The text of an item's path, which has the property's name last.
@@ -247,10 +301,15 @@ fn text_of_item(item: &Item) -> Result<String, AllocError>
     ensures { IfOk result (λ text. string_bytes text ≡ path_text (item_path item.now)) }
 {
     match &item.name {
-        Some(name) => {
-            let path = item.path.child(name)?;
-            Ok(path.text()?)
-        }
-        None => Ok(item.path.text()?),
+        Some(name) => text_of_child(&item.path, name),
+        None => item.path.text(),
     }
+}
+
+// The text of a path with a name behind it.
+fn text_of_child(path: &Path, name: &Name) -> Result<String, AllocError>
+    ensures { IfOk result (λ text. string_bytes text ≡ path_text (path.now ++ name.now ∷ [])) }
+{
+    let path = path.child(name)?;
+    path.text()
 }

@@ -33,7 +33,7 @@ use Rattle.jcr_trans.specs.Answers.{Answer, ShowsItems, ShowsNames, ShowsPropert
 use Rattle.jcr_trans.specs.declared.command.Command.{Command}
 use Rattle.jcr_trans.specs.declared.command.Command.TheVariants as command
 use Rattle.jcr_trans.specs.declared.command.TreeNode.{TreeNode}
-use Rattle.jcr_write.specs.Order.{ordered}
+use Rattle.jr_order.specs.Order.{ordered}
 use Rattle.jcr_write.specs.Places.{above}
 use Rattle.jcr_write.proofs.Reading.{move_reads, order_reads, remove_reads, set_reads, unset_reads}
 use Rattle.jr_overlay.specs.Drafts.{Steps}

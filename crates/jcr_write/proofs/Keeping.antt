@@ -25,7 +25,7 @@ use Rattle.jr_overlay.proofs.Moves.{moved_keeps}
 use Rattle.jr_overlay.specs.Drafts.{Steps, drafted, with_step}
 use Rattle.jr_overlay.specs.Overlays.{View, whole_view}
 use Rattle.jr_overlay.specs.Views.{KeepTree, all_gone, all_moved}
-use Rattle.jcr_write.specs.Order.{listing, moved_before, ordered}
+use Rattle.jr_order.specs.Order.{listing, moved_before, ordered}
 use Rattle.jcr_write.specs.Places.{above, of_node, path_refusal, putting, unless_refused, with_property, without_property}
 use Rattle.jcr_write.specs.Writes.{above_ordered, absent, ends_refusal, is_root, kept_refusal, move_made, move_refusal, moved_limit, order_made, order_place, parent_ordered, remove_made, remove_refusal, set_made, set_refusal, stand_refusal, unset_made, unset_refusal}
 

@@ -2,5 +2,4 @@ pub mod Defs
 pub mod Due
 pub mod Keeping
 pub mod Moving
-pub mod Ordering
 pub mod Reading

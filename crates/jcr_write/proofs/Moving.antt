@@ -1,12 +1,12 @@
 -- Nodes that go or move, one after the other.
-use Rattle.std.proofs.Common.{◌≡◌, ℕ, ◌+◌, ◌<◌, ◌≤◌, suc, get_or, map, List, [], ◌∷◌, ◌++◌, length, take, drop, Option, None, refl, sym, ap, ◌∙◌, subst, arith}
+use Rattle.std.proofs.Common.{◌≡◌, ℕ, ◌+◌, ◌<◌, ◌≤◌, get_or, map, List, [], ◌∷◌, ◌++◌, length, take, drop, Option, None, refl, sym, ap, ◌∙◌, subst}
 use Rattle.std.specs.Prelude.{IfErr, IfOk, OnOk, Result, Ok, Err}
 use Rattle.std.specs.Result.{is_ok}
 use Rattle.std.specs.List.{fold}
 use Rattle.std.proofs.lemmas.Bool.{false≢true}
 use Rattle.std.proofs.lemmas.List.{drop_all, map-append, take_all, take_more}
 use Rattle.std.proofs.lemmas.List.Sums.{fold-append}
-use Rattle.std.proofs.Math.Seq.{drop-cons}
+use Rattle.jr_order.proofs.Ordering.{drop_next}
 use Rattle.jr_tree.specs.declared.shared.Refusal.{Refusal}
 use Rattle.jr_tree.specs.Trees.{Nodes}
 use Rattle.jr_items.specs.Items.{first_some}
@@ -33,26 +33,19 @@ pub fold_all : {X A B : Type 0} (g : B → A → B) (f : X → A) (start now : B
 fold_all {X = X} g f start now xs i end so_far =
     so_far ∙ ap (λ (ys : List X). fold g start (map f ys)) (take_all i xs end)
 
--- what is left from the i-th on
-pub left : {X : Type 0} (xs : List X) (i : ℕ) (x : X) → i < length xs → x ≡ get_or xs i x
-    → drop i xs ≡ x ∷ drop (i + 1) xs
-left xs i x below at =
-    let on : suc i ≡ i + 1 = omega arith in
-    drop-cons xs i x below ∙ (ap (λ y. y ∷ drop (suc i) xs) (sym at) ∙ ap (λ n. x ∷ drop n xs) on)
-
 -- the first that passes no test, among those that are left
 pub limit_more : {X : Type 0} (lim : X → Option Refusal) (all : Option Refusal) (xs : List X) (i : ℕ)
     (x : X) → i < length xs → x ≡ get_or xs i x → all ≡ first_some (map lim (drop i xs))
     → lim x ≡ None → all ≡ first_some (map lim (drop (i + 1) xs))
 limit_more {X = X} lim all xs i x below at so_far none =
-    so_far ∙ (ap (λ (ys : List X). first_some (map lim ys)) (left xs i x below at)
+    so_far ∙ (ap (λ (ys : List X). first_some (map lim ys)) (drop_next xs i x below at)
     ∙ ap (λ (o : Option Refusal). first_some (o ∷ map lim (drop (i + 1) xs))) none)
 
 pub limit_here : {X : Type 0} (lim : X → Option Refusal) (all : Option Refusal) (xs : List X) (i : ℕ)
     (x : X) (r : Refusal) → i < length xs → x ≡ get_or xs i x
     → all ≡ first_some (map lim (drop i xs)) → IsTheRefusal (lim x) r → IsTheRefusal all r
 limit_here {X = X} lim all xs i x r below at so_far is m =
-    so_far ∙ (ap (λ (ys : List X). first_some (map lim ys)) (left xs i x below at)
+    so_far ∙ (ap (λ (ys : List X). first_some (map lim ys)) (drop_next xs i x below at)
     ∙ first_here (lim x) (map lim (drop (i + 1) xs)) r is m)
 
 pub limit_none : {X : Type 0} (lim : X → Option Refusal) (all : Option Refusal) (xs : List X) (i : ℕ)

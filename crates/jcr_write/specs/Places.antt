@@ -18,8 +18,8 @@ use Rattle.jr_overlay.specs.Drafts.{Steps, drafted, with_step}
 use Rattle.jr_overlay.specs.Overlays.{View}
 
 -- the types that count for a node
-abbrev pub node_types : List TypeDef → Node → List TypeDef
-node_types types node = types_of types (types_said node)
+abbrev pub types_of_node : List TypeDef → Node → List TypeDef
+types_of_node types node = types_of types (types_said node)
 
 -- the node with a property, in the place of one of that name
 abbrev pub with_property : Node → Name → Property → Node

@@ -22,8 +22,8 @@ use Rattle.jr_part.specs.Parts.{ChildNames}
 use Rattle.jr_overlay.specs.Drafts.{Steps, drafted}
 use Rattle.jr_overlay.specs.Overlays.{View}
 pub use Rattle.jr_overlay.specs.Views.{all_gone, all_moved, moved_path, with_moved}
-use Rattle.jcr_write.specs.Order.{listing, moved_before, ordered}
-use Rattle.jcr_write.specs.Places.{above, at_place, node_types, path_refusal, putting, unless_refused, with_property, without_property}
+use Rattle.jr_order.specs.Order.{listing, moved_before, ordered}
+use Rattle.jcr_write.specs.Places.{above, at_place, types_of_node, path_refusal, putting, unless_refused, with_property, without_property}
 
 -- the definitions of that very name
 abbrev pub named_defs : List TypeDef → Name → List PropDef
@@ -45,7 +45,7 @@ defs_refusal defs p n x = first_some (when (list_any (λ d. d.protected) defs) (
 
 -- why a property of a node may not be set
 abbrev pub set_refusal : List TypeDef → Path → Name → Property → Node → Option Refusal
-set_refusal types p n x node = defs_refusal (named_defs (node_types types node) n) p n x
+set_refusal types p n x node = defs_refusal (named_defs (types_of_node types node) n) p n x
 
 -- the node with a property set
 abbrev pub node_set : List TypeDef → View → Steps → Path → Name → Property → Result Node Refusal
@@ -60,7 +60,7 @@ set_made types view steps p n x = putting steps p (node_set types view steps p n
 abbrev pub unset_refusal : List TypeDef → Path → Name → Node → Option Property → Option Refusal
 unset_refusal types p n node None = Some (no_item (p ++ n ∷ []))
 unset_refusal types p n node (Some x) =
-    when (option_map_or (λ d. d.protected) (prop_def (node_types types node) n x) false)
+    when (option_map_or (λ d. d.protected) (prop_def (types_of_node types node) n x) false)
     (own_item_rule p n)
 
 -- the node with a property unset
@@ -76,7 +76,7 @@ unset_made types view steps p n = putting steps p (node_unset types view steps p
 -- the definition that a child of that name goes by below a node is protected
 abbrev pub is_kept_below : List TypeDef → Option Node → Name → Option Node → Bool
 is_kept_below types (Some node) n (Some child) = option_map_or (λ d. d.protected)
-    (child_def types (node_types types node) n (property_of child primary_type)) false
+    (child_def types (types_of_node types node) n (property_of child primary_type)) false
 is_kept_below types _ n _ = false
 
 -- a node is kept below the one above it
@@ -146,7 +146,7 @@ no_child_before p children (Some b) = when (not (is_child_named children b)) (no
 -- is no child to go before
 abbrev pub order_refusal : List TypeDef → Path → ChildNames → Option Name → Node → Option Refusal
 order_refusal types p children before node = first_some (
-    when (not (are_ordered (node_types types node))) (unsupported (codes "orderBefore"))
+    when (not (are_ordered (types_of_node types node))) (unsupported (codes "orderBefore"))
     ∷ no_child_before p children before ∷ [])
 
 -- the node with its children in their order, where the child n goes before another

@@ -13,6 +13,6 @@ pub use laws::{
     removals_read_subtrees, writes_keep_trees,
 };
 pub use moves::{move_to, remove};
-pub use order::{Birth, order_before, ordered};
+pub use order::order_before;
 pub use places::{above, check_path, check_place, put_node, with_property, without_property};
 pub use properties::{set, unset};

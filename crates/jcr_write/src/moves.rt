@@ -9,7 +9,7 @@ ghost use Rattle.jr_items.specs.Refusals.{IsTheRefusal, in_system, limit_refusal
 ghost use Rattle.jr_types.specs.Types.{child_def};
 ghost use Rattle.jr_overlay.specs.Drafts.{in_draft};
 ghost use Rattle.jr_overlay.specs.Overlays.{sighted};
-ghost use Rattle.jcr_write.specs.Places.{IsDueRefusal, above, node_types};
+ghost use Rattle.jcr_write.specs.Places.{IsDueRefusal, above, types_of_node};
 ghost use Rattle.jcr_write.specs.Writes.{absent, ends_refusal, is_kept_below, is_root, kept_refusal, move_made, move_refusal, moved_limit, remove_made, remove_refusal, stand_refusal};
 ghost use Rattle.jr_overlay.specs.Views.{all_gone, all_moved, moved_path, with_moved};
 
@@ -215,7 +215,7 @@ fn is_protected(
     child: &Node,
 ) -> Result<bool, AllocError>
     ensures { IfOk result (λ protected. protected ≡ option_map_or (λ d. d.protected)
-        (child_def types.now (node_types types.now node.now) name.now
+        (child_def types.now (types_of_node types.now node.now) name.now
         (property_of child.now primary_type)) false) }
 {
     match types.child_def(node, name, child)? {

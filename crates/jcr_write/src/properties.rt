@@ -8,7 +8,7 @@ ghost use Rattle.jr_items.specs.Refusals.{IsTheRefusal, wrong_kind};
 ghost use Rattle.jr_types.specs.Registered.{IsAlike};
 ghost use Rattle.jr_types.specs.Types.{is_named, prop_def};
 ghost use Rattle.jr_overlay.specs.Overlays.{sighted};
-ghost use Rattle.jcr_write.specs.Places.{IsDueRefusal, node_types, unless_refused, with_property, without_property};
+ghost use Rattle.jcr_write.specs.Places.{IsDueRefusal, types_of_node, unless_refused, with_property, without_property};
 ghost use Rattle.jcr_write.specs.Writes.{defs_refusal, lets_kind, named_defs, node_set, node_unset, other_kind, set_made, set_refusal, unset_made, unset_refusal};
 
 use crate::places::{
@@ -142,7 +142,7 @@ fn named_defs<'a>(
     name: &Name,
 ) -> Result<Vec<&'a PropDef>, AllocError>
     ensures { IfOk result (λ defs. IsAlike (map (λ d. d.now) defs.items)
-        (named_defs (node_types types.now node.now) name.now)) }
+        (named_defs (types_of_node types.now node.now) name.now)) }
 {
     let among = types.types_of(node)?;
     let defs = types.props_of(&among)?;
@@ -342,7 +342,7 @@ fn is_protected(
     property: &Property,
 ) -> Result<bool, AllocError>
     ensures { IfOk result (λ protected. protected ≡ option_map_or (λ d. d.protected)
-        (prop_def (node_types types.now node.now) name.now property.now) false) }
+        (prop_def (types_of_node types.now node.now) name.now property.now) false) }
 {
     match types.prop_def(node, name, property)? {
         Some(def) => Ok(def.protected),

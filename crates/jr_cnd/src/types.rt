@@ -1,5 +1,5 @@
 // Definitions of types.
-ghost use Rattle.std.specs.Prelude.{◌≡◌, IfOk, not};
+ghost use Rattle.std.specs.Prelude.{◌≡◌, ◌∷◌, ◌++◌, [], IfOk, OnOk, not};
 ghost use Rattle.std.specs.List.{filter};
 ghost use Rattle.jr_items.specs.Items.{same_name};
 ghost use Rattle.jr_items.specs.Names.{base_type};
@@ -94,11 +94,20 @@ fn without_base(alloc: Global, names: &[Name]) -> Result<List<Name>, AllocError>
 {
     let mut kept = List::new(alloc);
     for name in names {
-        if !OwnName::BaseType.is(name) {
-            kept.push(name.copy()?)?;
-        }
+        add_unless_base(&mut kept, name)?;
     }
     Ok(kept)
+}
+
+// Puts a name behind others, unless it is `nt:base`.
+fn add_unless_base(list: &mut List<Name>, name: &Name) -> Result<(), AllocError>
+    ensures { OnOk result (list.new ≡ list.old
+        ++ filter (λ n. not (same_name n base_type)) (name.now ∷ [])) }
+{
+    if OwnName::BaseType.is(name) {
+        return Ok(());
+    }
+    list.push(name.copy()?)
 }
 
 impl<'a> Cursor<'a> {

@@ -1,5 +1,5 @@
 // Which values meet a constraint, and which constraints a definition may have.
-ghost use Rattle.std.specs.Prelude.{◌≡◌, ◌==◌, codes, length, pos};
+ghost use Rattle.std.specs.Prelude.{◌≡◌, ◌==◌, ◌∷◌, ◌++◌, ℕ, List as Seq, MatchOption, codes, false, length, pos};
 ghost use Rattle.std.specs.List.{list_any};
 ghost use Rattle.jr_path.specs.Ids.{joined, path_text};
 ghost use Rattle.jr_value.specs.Values.{same_bytes};
@@ -63,15 +63,26 @@ fn is_path_text(names: &[Name], text: &[u8]) -> bool
 fn is_names_text(names: &[Name], text: &[u8]) -> bool
     ensures { result ≡ same_bytes (joined names.now) text.now }
 {
-    match (names, text) {
-        ([], []) => true,
-        ([first, more @ ..], [b'/', rest @ ..]) => match rest.strip_prefix(
-            first.as_str().as_bytes(),
-        ) {
-            Some(rest) => is_names_text(more, rest),
-            None => false,
-        },
-        _ => false,
+    let mut rest = text;
+    for name in names {
+        match behind(name.as_str(), rest) {
+            Some(more) => rest = more,
+            None => return false,
+        }
+    }
+    rest.is_empty()
+}
+
+// What stands in a text behind a `/` and a name, where it begins with them: with any text behind them it is
+// the same exactly where that is this one.
+fn behind<'a>(name: &str, text: &'a [u8]) -> Option<&'a [u8]>
+    ensures { MatchOption result
+        ((more : Seq ℕ) → same_bytes (47 ∷ (name.now ++ more)) text.now ≡ false)
+        (λ rest. (more : Seq ℕ) → same_bytes (47 ∷ (name.now ++ more)) text.now ≡ same_bytes more rest.now) }
+{
+    match text {
+        [b'/', rest @ ..] => rest.strip_prefix(name.as_bytes()),
+        _ => None,
     }
 }
 

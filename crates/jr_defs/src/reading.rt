@@ -331,8 +331,9 @@ fn types_at(alloc: Global, json: &Json) -> Result<List<Name>, NoType>
 fn base_alone(alloc: Global) -> Result<List<Name>, AllocError>
     ensures { IfOk result (λ types. types ≡ base_type ∷ []) }
 {
+    let name = OwnName::BaseType.name(alloc)?;
     let mut types = List::new(alloc);
-    types.push(OwnName::BaseType.name(alloc)?)?;
+    types.push(name)?;
     Ok(types)
 }
 
@@ -532,12 +533,21 @@ fn attribute_in(json: &Json) -> Result<OnParentVersion, NoType>
     ensures { Reads (IsOpvJson (view json.now)) result }
 {
     match json.as_str() {
-        Some("COPY") => Ok(OnParentVersion::Copy),
-        Some("VERSION") => Ok(OnParentVersion::Version),
-        Some("INITIALIZE") => Ok(OnParentVersion::Initialize),
-        Some("COMPUTE") => Ok(OnParentVersion::Compute),
-        Some("IGNORE") => Ok(OnParentVersion::Ignore),
-        Some("ABORT") => Ok(OnParentVersion::Abort),
+        Some(word) => attribute_of(word),
+        None => Err(NoType::NoDefinition),
+    }
+}
+
+fn attribute_of(word: &str) -> Result<OnParentVersion, NoType>
+    ensures { Reads (IsOpvJson (string word.now)) result }
+{
+    match word {
+        "COPY" => Ok(OnParentVersion::Copy),
+        "VERSION" => Ok(OnParentVersion::Version),
+        "INITIALIZE" => Ok(OnParentVersion::Initialize),
+        "COMPUTE" => Ok(OnParentVersion::Compute),
+        "IGNORE" => Ok(OnParentVersion::Ignore),
+        "ABORT" => Ok(OnParentVersion::Abort),
         _ => Err(NoType::NoDefinition),
     }
 }

@@ -1,8 +1,8 @@
 -- Which JSON says that a property of a kind has no values.
-use Rattle.std.proofs.Common.{◌≡◌, ℕ, List, Option, None, Some, sym, ap, ◌∙◌, rules, String, string_bytes}
+use Rattle.std.proofs.Common.{◌≡◌, ℕ, List, [], ◌∷◌, Option, None, Some, length, refl, sym, ap, ◌∙◌, rules, String, string_bytes}
 use Rattle.std.specs.Prelude.{codes, unwrap_or, MatchOption}
 use Rattle.serde_json.specs.Data.{Data, Members, string, object, no_members, member}
-use Rattle.serde_json.specs.View.{view}
+use Rattle.serde_json.specs.View.{members_view, view}
 use Rattle.serde_json.specs.declared.value.Value.{the_lemmas}
 use Rattle.serde_json.specs.declared.value.Value as json
 use Rattle.std.specs.declared.alloc.Global.{Global}
@@ -14,6 +14,12 @@ use Rattle.jr_json.specs.Reading.{only_member}
 
 pub view-String : (s : String Global) → view (json.String s) ≡ string (string_bytes s)
 view-String s = search (rules, the_lemmas)
+
+-- an object of no or of more members has no one member
+pub not_one : (ms : List (String Global × json.Value)) → (length ms ≡ 1 → ⊥) → None ≡ only_member (members_view ms)
+not_one [] h = refl
+not_one (m ∷ []) h = absurd (h refl)
+not_one (m ∷ n ∷ ms) h = refl
 
 -- an object is its one member
 only_is : (ms : Members) (m : List ℕ × Data) → Some m ≡ only_member ms → ms ≡ member m.0 m.1 no_members

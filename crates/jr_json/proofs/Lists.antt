@@ -1,7 +1,7 @@
 -- The kinds of values and of their JSON, and lists of values.
-use Rattle.std.proofs.Common.{◌≡◌, ◌≢◌, Option, None, Some, List, [], ◌∷◌, refl, sym, ap, ◌∙◌, subst, ◌++◌, append_assoc, append-nil, true, false, true≢false, eq-eqb, ◌+◌, ◌<◌, ◌≤◌, length, get_or, drop, drop-cons, add-one, arith}
-use Rattle.std.proofs.lemmas.List.{drop_all}
-use Rattle.std.specs.Prelude.{ℕ, ◌==◌, MatchOption, unwrap_or, option_map}
+use Rattle.std.proofs.Common.{◌≡◌, ◌≢◌, Option, None, Some, List, [], ◌∷◌, refl, sym, ap, ◌∙◌, subst, ◌++◌, append_assoc, append-nil, Bool, true, false, true≢false, eq-eqb, ◌+◌, ◌<◌, ◌≤◌, length, get_or, drop, drop-cons, take, add-one, arith}
+use Rattle.std.proofs.lemmas.List.{drop_all, map_push, take_more}
+use Rattle.std.specs.Prelude.{ℕ, ◌==◌, map, MatchBool, MatchOption, unwrap_or, option_map}
 use Rattle.serde_json.specs.Data.{Data, Items, null, boolean, number, string, array, object, no_items, item}
 use Rattle.serde_json.specs.Find.{as_i64}
 use Rattle.serde_json.specs.View.{view, items_view}
@@ -17,6 +17,7 @@ use Rattle.jr_value.specs.Equality.{kind_exact}
 use Rattle.jr_value.specs.Values.{kind_of, kind_number}
 use Rattle.jr_value.specs.Texts.{IsFound, IsText}
 use Rattle.jr_value.specs.Words.{identifier_named, kind_named}
+use Rattle.jr_json.specs.Json.{value_data}
 use Rattle.jr_json.specs.Reading.{tagged_kinds, only_member, kind_of_member, form_begun, first_other, IsTagged, IsMember, IsValueJson, AreValuesJson, IsPropertyJson, IsValueFault, kinds_named}
 
 -- what is made of something has one kind
@@ -96,6 +97,15 @@ read_stop all rest left k front d read is bad xs h = let rest_has = read.has xs 
     no_head [] g = g
     no_head (y ∷ ys) g = bad y (g.0, g.1)
 
+-- so it is by what is said of whether the next item is a value of the kind
+pub item_read : (all rest left : Items) (k : Kind) (front more : List Value) (d : Data) (found : Bool) → IsReadTo all rest k front → rest ≡ item d left → MatchBool found ((x : Value) × (more ≡ front ++ x ∷ []) × IsValueJson d x × (kind_of x ≡ k)) ((x : Value) → (IsValueJson d x × (kind_of x ≡ k)) → ⊥) → found ≡ true → IsReadTo all left k more
+item_read all rest left k front more d true read is h same = read_more all rest left k front more d h.0 read is h.1 h.2 h.3
+item_read all rest left k front more d false read is h same = absurd (true≢false (sym same))
+
+pub item_missed : (all rest left : Items) (k : Kind) (front more : List Value) (d : Data) (found : Bool) → IsReadTo all rest k front → rest ≡ item d left → MatchBool found ((x : Value) × (more ≡ front ++ x ∷ []) × IsValueJson d x × (kind_of x ≡ k)) ((x : Value) → (IsValueJson d x × (kind_of x ≡ k)) → ⊥) → found ≡ false → (xs : List Value) → AreValuesJson all k xs → ⊥
+item_missed all rest left k front more d true read is h same = absurd (true≢false same)
+item_missed all rest left k front more d false read is h same = read_stop all rest left k front d read is h
+
 pub read_all : (all rest : Items) (k : Kind) (front : List Value) → IsReadTo all rest k front → rest ≡ no_items → AreValuesJson all k front
 read_all all rest k front read is = rw append-nil at (read.next [] (rw is tt))
 
@@ -143,3 +153,9 @@ tagged_found kind.Path text o a b c d h = h
 tagged_found kind.Reference text o a b c d h = h
 tagged_found kind.WeakReference text o a b c d h = h
 tagged_found kind.Uri text o a b c d h = h
+
+-- the JSON of one value more
+pub data_more : (vs : List Value) (i : ℕ) (v : Value) (ds more : List Data) → i < length vs → v ≡ get_or vs i v → ds ≡ map value_data (take i vs) → more ≡ ds ++ value_data v ∷ [] → more ≡ map value_data (take (i + 1) vs)
+data_more vs i v ds more within is before put =
+    let taken : take (i + 1) vs ≡ take i vs ++ v ∷ [] = take_more vs i v within ∙ ap (λ (x : Value). take i vs ++ x ∷ []) (sym is) in
+    put ∙ (ap (λ (es : List Data). es ++ value_data v ∷ []) before ∙ sym (ap (map value_data) taken ∙ map_push value_data (take i vs) v))

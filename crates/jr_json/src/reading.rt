@@ -1,5 +1,5 @@
 // Values and properties from their JSON.
-ghost use Rattle.std.specs.Prelude.{◌≡◌, ◌==◌, IfOk, IfErr, IsSome, List as Seq, None, MatchOption, option_map, string_bytes};
+ghost use Rattle.std.specs.Prelude.{◌≡◌, ◌==◌, ◌∷◌, ◌++◌, [], true, IfOk, IfErr, IsSome, List as Seq, None, Some, MatchBool, MatchOption, option_map, string_bytes};
 ghost use Rattle.serde_json.specs.Data.{array, object, string};
 ghost use Rattle.serde_json.specs.Find.{as_array, as_number};
 ghost use Rattle.serde_json.specs.View.{view, members_view, items_view};
@@ -63,11 +63,10 @@ fn kind_of_tag(tag: &str) -> Option<Kind>
 fn only_member(members: &Map<String, Json>) -> Option<(&String, &Json)>
     ensures { option_map (λ m. (string_bytes m.0.now, view m.1.now)) result ≡ only_member (members_view members.now.entries) }
 {
-    let mut entries = members.iter();
-    match (entries.next(), entries.next()) {
-        (Some(member), None) => Some(member),
-        _ => None,
+    if members.len() != 1 {
+        return None;
     }
+    members.iter().next()
 }
 
 // The kind whose form the JSON begins, or STRING.
@@ -91,7 +90,7 @@ fn tagged(alloc: Global, kind: Kind, content: &Json) -> Result<Option<Value>, Al
 {
     match content {
         Json::Number(_) => Ok(tagged_number(kind, content)),
-        Json::String(text) => Ok(tagged_text(alloc, kind, text.as_str())?),
+        Json::String(text) => tagged_text(alloc, kind, text.as_str()),
         _ => Ok(None),
     }
 }
@@ -123,25 +122,35 @@ fn value(alloc: Global, json: &Json) -> Result<Option<Value>, AllocError>
         Json::Null => Ok(None),
         Json::Bool(truth) => Ok(Some(Value::Boolean(*truth))),
         Json::Number(_) => Ok(json.as_i64().map(Value::Long)),
-        Json::String(text) => Ok(Some(Value::Str(Text::of(String::from_str(
-            alloc,
-            text.as_str(),
-        )?)))),
+        Json::String(text) => string_value(alloc, text.as_str()),
         Json::Array(_) => Ok(None),
-        Json::Object(members) => Ok(member(alloc, members)?),
+        Json::Object(members) => member(alloc, members),
     }
 }
 
 fn member(alloc: Global, members: &Map<String, Json>) -> Result<Option<Value>, AllocError>
     ensures { IfOk result (IsFound (IsMember (only_member (members_view members.now.entries)))) }
 {
-    let Some((tag, content)) = only_member(members) else {
-        return Ok(None);
-    };
-    match kind_of_tag(tag.as_str()) {
-        Some(kind) => Ok(tagged(alloc, kind, content)?),
+    match only_member(members) {
+        Some((tag, content)) => named(alloc, tag.as_str(), content),
         None => Ok(None),
     }
+}
+
+// The value that a member of this name holds, if it is one.
+fn named(alloc: Global, tag: &str, content: &Json) -> Result<Option<Value>, AllocError>
+    ensures { IfOk result (IsFound (IsMember (Some (tag.now, view content.now)))) }
+{
+    match kind_of_tag(tag) {
+        Some(kind) => tagged(alloc, kind, content),
+        None => Ok(None),
+    }
+}
+
+fn string_value(alloc: Global, text: &str) -> Result<Option<Value>, AllocError>
+    ensures { IfOk result (IsFound (IsValueJson (string text.now))) }
+{
+    Ok(Some(Value::Str(Text::copy_of(alloc, text)?)))
 }
 
 // The list's values, if each item is one of this kind.
@@ -150,14 +159,39 @@ fn values(alloc: Global, items: &[Json], kind: Kind) -> Result<Option<List<Value
         ((xs : Seq Value) → ¬ AreValuesJson (items_view items.now) kind xs)
         (AreValuesJson (items_view items.now) kind)) }
 {
-    let mut values = Vec::new(alloc);
+    let mut values = List::new(alloc);
     for item in items {
-        match value_of_kind(alloc, item, kind)? {
-            Some(value) => values.push(value)?,
-            None => return Ok(None),
+        let found = put_value(alloc, &mut values, item, kind)?;
+        if !found {
+            return Ok(None);
         }
     }
-    Ok(Some(List::of(values)))
+    Ok(Some(values))
+}
+
+// Puts the value that the JSON is at the end, and says whether it is one of this kind.
+fn put_value(
+    alloc: Global,
+    values: &mut List<Value>,
+    json: &Json,
+    kind: Kind,
+) -> Result<bool, AllocError>
+    ensures { IfOk result (λ found. MatchBool found
+        ((x : Value) × (values.new ≡ values.old ++ x ∷ []) × IsValueJson (view json.now) x × (kind_of x ≡ kind))
+        ((x : Value) → ¬ (IsValueJson (view json.now) x × (kind_of x ≡ kind)))) }
+{
+    match value_of_kind(alloc, json, kind)? {
+        Some(value) => put(values, value),
+        None => Ok(false),
+    }
+}
+
+// Puts a value at the end, and says that it did.
+fn put(values: &mut List<Value>, value: Value) -> Result<bool, AllocError>
+    ensures { IfOk result (λ found. (found ≡ true) × (values.new ≡ values.old ++ value ∷ [])) }
+{
+    values.push(value)?;
+    Ok(true)
 }
 
 fn value_of_kind(alloc: Global, json: &Json, kind: Kind) -> Result<Option<Value>, AllocError>

@@ -1,5 +1,5 @@
 // The JSON of values and properties, as it is printed.
-ghost use Rattle.std.specs.Prelude.{◌≡◌, IfOk, string_bytes};
+ghost use Rattle.std.specs.Prelude.{◌≡◌, ◌∷◌, ◌++◌, [], IfOk, OnOk, map, string_bytes};
 ghost use Rattle.serde_json.specs.Data.{array, string};
 ghost use Rattle.serde_json.specs.View.{view};
 ghost use Rattle.serde_json.specs.Written.{compact_text};
@@ -49,28 +49,43 @@ pub fn property_json(alloc: Global, property: &Property) -> Result<Json, AllocEr
 }
 
 /// The text of the property's JSON, with no spaces.
-#[tactic(auto, using(crate::proofs::NoFloat::property_plain))]
 pub fn property_text(alloc: Global, property: &Property) -> Result<String, AllocError>
     ensures { IfOk result (λ text. string_bytes text ≡ compact_text (property_data property.now)) }
 {
     let json = property_json(alloc, property)?;
-    Ok(json.to_string(alloc)?)
+    json.to_string(alloc)
 }
 
 fn list_json(alloc: Global, values: &[Value]) -> Result<Json, AllocError>
     ensures { IfOk result (λ json. view json ≡ array (value_items values.now)) }
 {
+    Ok(Json::Array(items_json(alloc, values)?))
+}
+
+// The JSON of each value.
+fn items_json(alloc: Global, values: &[Value]) -> Result<Vec<Json>, AllocError>
+    ensures { IfOk result (λ items. map view items.items ≡ map value_data values.now) }
+{
     let mut items = Vec::new(alloc);
     for value in values {
-        items.push(value_json(alloc, value)?)?;
+        put_item(alloc, &mut items, value)?;
     }
-    Ok(Json::Array(items))
+    Ok(items)
+}
+
+// Puts the JSON of a value at the end.
+fn put_item(alloc: Global, items: &mut Vec<Json>, value: &Value) -> Result<(), AllocError>
+    ensures { OnOk result (map view items.new.items ≡ map view items.old.items ++ value_data value.now ∷ []) }
+{
+    let json = value_json(alloc, value)?;
+    items.push(json)?;
+    Ok(())
 }
 
 fn string_json(alloc: Global, text: &str) -> Result<Json, AllocError>
     ensures { IfOk result (λ json. view json ≡ string text.now) }
 {
-    Ok(Json::try_from_str(alloc, text)?)
+    Json::try_from_str(alloc, text)
 }
 
 fn binary_json(alloc: Global, bytes: &[u8]) -> Result<Json, AllocError>

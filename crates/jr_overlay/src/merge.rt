@@ -79,8 +79,5 @@ fn lend_all<'a>(found: &mut Vec<Found<'a>>, known: &[Found<'a>]) -> Result<(), A
     ensures { OnOk result (map deref_pair found.new.items
         ≡ map deref_pair found.old.items ++ map deref_pair known.now) }
 {
-    for entry in known {
-        found.push(*entry)?;
-    }
-    Ok(())
+    found.extend_from_slice(known)
 }

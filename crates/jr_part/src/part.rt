@@ -1,11 +1,12 @@
 // A part of a tree, which grows by what is read.
-ghost use Rattle.std.specs.Prelude.{◌≡◌, IfOk, IsTrue, OnErr, OnOk, None, Some, is_some, map};
+ghost use Rattle.std.specs.Prelude.{◌≡◌, ◌∷◌, ◌++◌, [], IfOk, IsTrue, OnErr, OnOk, None, Some, is_some, map};
 ghost use Rattle.std.specs.Option.{option_copied, option_map};
 ghost use Rattle.std.specs.FinMap.{is_sorted};
 ghost use Rattle.std.specs.Map.{remove_entry};
 ghost use Rattle.std.specs.Map.Iter.{deref_pair};
 ghost use Rattle.std.specs.BTreeMap.{is_at};
 ghost use Rattle.jr_path.specs.Names.{name_cmp, path_cmp};
+ghost use Rattle.jr_tree.specs.declared.edit.Write.TheVariants.{Gone};
 ghost use Rattle.jr_tree.specs.Edits.{IsProper, applied};
 ghost use Rattle.jr_tree.specs.Trees.{IsTree, Nodes, node_at, subtree_of};
 ghost use Rattle.jr_part.specs.declared.need.Need.TheVariants as need;
@@ -149,13 +150,8 @@ impl Part {
     fn tree_without(&self, path: &Path) -> Result<Tree, AllocError>
         ensures { IfOk result (λ t. t ≡ remove_entry (is_at (path_cmp path.now)) self.now.nodes) }
     {
-        let mut writes = Vec::new(self.alloc);
-        writes.push(Write::Gone(path.copy()?))?;
-        let edit = Edit {
-            writes: List::of(writes),
-        };
-        let mut tree = self.tree.copy()?;
-        tree.apply(&edit, None)?;
+        let edit = going(self.alloc, path)?;
+        let tree = tree_after(&self.tree, &edit)?;
         Ok(tree)
     }
 
@@ -321,6 +317,30 @@ impl Part {
     {
         let _ = self.tree.len();
     }
+}
+
+// The edit by which the node at a path goes.
+fn going(alloc: Global, path: &Path) -> Result<Edit, AllocError>
+    ensures { IfOk result (λ edit. edit.writes ≡ Gone path.now ∷ []) }
+{
+    let mut writes = List::new(alloc);
+    push_going(&mut writes, path)?;
+    Ok(Edit { writes })
+}
+
+fn push_going(writes: &mut List<Write>, path: &Path) -> Result<(), AllocError>
+    ensures { OnOk result (writes.new ≡ writes.old ++ Gone path.now ∷ []) }
+{
+    writes.push(Write::Gone(path.copy()?))
+}
+
+// A copy of a tree, after an edit.
+fn tree_after(tree: &Tree, edit: &Edit) -> Result<Tree, AllocError>
+    ensures { IfOk result (λ after. after ≡ applied None tree.now edit.now.writes) }
+{
+    let mut after = tree.copy()?;
+    after.apply(edit, None)?;
+    Ok(after)
 }
 
 // The tree, the paths without a node and the lists of children follow an edit. A refusal leaves them

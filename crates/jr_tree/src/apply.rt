@@ -26,8 +26,7 @@ impl Tree {
         ensures err { OnErr result (self.new ≡ self.old) }
     {
         let last = edit.last_writes()?;
-        let part = changed_part(&self.nodes, self.alloc, &last, born)?;
-        merge(&mut self.nodes, self.alloc, part, &last)?;
+        make(&mut self.nodes, self.alloc, &last, born)?;
         Ok(())
     }
 
@@ -64,6 +63,21 @@ fn put_property(
         node.props.put(name, property)?;
     }
     Ok(())
+}
+
+// Makes the writes. A refusal leaves all as it was.
+fn make(
+    nodes: &mut Keyed<Path, Node>,
+    alloc: Global,
+    writes: &[&Write],
+    born: Option<Revision>,
+) -> Result<(), AllocError>
+    requires { IsTrue (is_sorted path_cmp nodes.old) }
+    ensures ok { OnOk result (nodes.new ≡ merged nodes.old (changed_part born nodes.old (map deref writes.now)) (map deref writes.now)) }
+    ensures err { OnErr result (nodes.new ≡ nodes.old) }
+{
+    let part = changed_part(nodes, alloc, writes, born)?;
+    merge(nodes, alloc, part, writes)
 }
 
 // Copies of the nodes that are written, with the writes made.

@@ -8,11 +8,11 @@ ghost use Rattle.jr_value.specs.Values.{same_property};
 ghost use Rattle.jr_tree.specs.Edits.{changes, item_of, item_cmp, taking, properties_at};
 ghost use Rattle.jr_tree.specs.Changes.{with_writes, unset_missing, put_changed, nodes_taken, nodes_changed, node_changes};
 
-use crate::edit::{Edit, Write};
+use crate::edit::{Edit, Write, put, unset};
 use crate::tree::{Node, Tree};
 use jr_path::{DeepCopy, Item, Keyed, List, Name, Path};
 use jr_value::Property;
-use std::alloc::AllocError;
+use std::alloc::{AllocError, Global};
 
 type Properties = Keyed<Name, Property>;
 
@@ -40,20 +40,22 @@ fn take_nodes(writes: &mut Keyed<Item, Write>, from: &Tree, to: &Tree) -> Result
 {
     for (path, node) in from.nodes.inner() {
         if !to.has(path) {
-            take_node(writes, path, node)?;
+            take_node(writes, from.alloc, path, node)?;
         }
     }
     Ok(())
 }
 
-fn take_node(writes: &mut Keyed<Item, Write>, path: &Path, node: &Node) -> Result<(), AllocError>
+fn take_node(
+    writes: &mut Keyed<Item, Write>,
+    alloc: Global,
+    path: &Path,
+    node: &Node,
+) -> Result<(), AllocError>
     ensures { OnOk result (writes.new ≡ with_writes writes.old (taking (path.now, node.now))) }
 {
     add(writes, Write::Gone(path.copy()?))?;
-    for (name, _) in node.props.inner() {
-        add(writes, Write::Unset(path.copy()?, name.copy()?))?;
-    }
-    Ok(())
+    unset_properties(writes, path, &node.props, &Keyed::new(alloc))
 }
 
 // What the nodes of the second tree have otherwise than in the first.
@@ -104,7 +106,7 @@ fn unset_properties(
 {
     for (name, _) in old.inner() {
         if !new.contains(name) {
-            add(writes, Write::Unset(path.copy()?, name.copy()?))?;
+            add(writes, unset(path, name)?)?;
         }
     }
     Ok(())
@@ -120,10 +122,7 @@ fn put_properties(
 {
     for (name, property) in new.inner() {
         if !has_same(old, name, property) {
-            add(
-                writes,
-                Write::Put(path.copy()?, name.copy()?, property.copy()?),
-            )?;
+            add(writes, put(path, name, property)?)?;
         }
     }
     Ok(())

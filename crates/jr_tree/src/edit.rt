@@ -1,6 +1,7 @@
 // Edits: lists of writes of items.
 ghost use Rattle.std.specs.Prelude.{◌≡◌, IfOk, map};
 ghost use Rattle.std.specs.Map.Iter.{deref};
+ghost use Rattle.jr_tree.specs.declared.edit.Write.TheVariants as write;
 ghost use Rattle.jr_tree.specs.Edits.{item_of, last_writes};
 
 use jr_path::{DeepCopy, Item, List, Name, Path};
@@ -95,15 +96,27 @@ impl Edit {
     }
 }
 
+// The write of a property that is put.
+pub(crate) fn put(path: &Path, name: &Name, property: &Property) -> Result<Write, AllocError>
+    ensures { IfOk result (λ made. made ≡ write.Put path.now name.now property.now) }
+{
+    Ok(Write::Put(path.copy()?, name.copy()?, property.copy()?))
+}
+
+// The write of a property that is unset.
+pub(crate) fn unset(path: &Path, name: &Name) -> Result<Write, AllocError>
+    ensures { IfOk result (λ made. made ≡ write.Unset path.now name.now) }
+{
+    Ok(Write::Unset(path.copy()?, name.copy()?))
+}
+
 impl DeepCopy for Write {
     fn copy(&self) -> Result<Write, AllocError> {
         match self {
             Write::Here(path) => Ok(Write::Here(path.copy()?)),
             Write::Gone(path) => Ok(Write::Gone(path.copy()?)),
-            Write::Put(path, name, property) => {
-                Ok(Write::Put(path.copy()?, name.copy()?, property.copy()?))
-            }
-            Write::Unset(path, name) => Ok(Write::Unset(path.copy()?, name.copy()?)),
+            Write::Put(path, name, property) => put(path, name, property),
+            Write::Unset(path, name) => unset(path, name),
         }
     }
 }

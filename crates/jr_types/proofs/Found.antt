@@ -14,12 +14,12 @@ use Rattle.jr_path.specs.declared.name.Name.{Name}
 use Rattle.jr_items.specs.Items.{same_name}
 use Rattle.jr_types.specs.declared.TypeDef.{TypeDef}
 use Rattle.jr_types.specs.declared.registry.Registered.{Registered}
-use Rattle.jr_types.specs.Registered.{ArePlaces, IsAlike, IsRegistered, IsUnder, definitions, place_named, types_at}
+use Rattle.jr_types.specs.Registered.{ArePlaces, IsAlike, IsRegistered, IsRegisteredUnder, definitions, place_of_type, types_at}
 use Rattle.jr_types.specs.Types.{type_named, lineage, lineage_among, supertypes_of}
 use Rattle.jr_types.proofs.Same.{same}
 
 -- the type of a name stands at its place
-at_place : (types : List TypeDef) (n : Name) → option_and_then (slice_get types) (place_named types n) ≡ type_named types n
+at_place : (types : List TypeDef) (n : Name) → option_and_then (slice_get types) (place_of_type types n) ≡ type_named types n
 at_place [] n = refl
 at_place (d ∷ ds) n = by (same_name d.name n) (at_place ds n)
   where
@@ -27,9 +27,9 @@ at_place (d ∷ ds) n = by (same_name d.name n) (at_place ds n)
     behind None = refl
     behind (Some k) = refl
 
-    by : (b : Bool) → option_and_then (slice_get ds) (place_named ds n) ≡ type_named ds n → option_and_then (slice_get (d ∷ ds)) (cond b (Some 0) (option_map suc (place_named ds n))) ≡ cond b (Some d) (type_named ds n)
+    by : (b : Bool) → option_and_then (slice_get ds) (place_of_type ds n) ≡ type_named ds n → option_and_then (slice_get (d ∷ ds)) (cond b (Some 0) (option_map suc (place_of_type ds n))) ≡ cond b (Some d) (type_named ds n)
     by true h = refl
-    by false h = behind (place_named ds n) ∙ h
+    by false h = behind (place_of_type ds n) ∙ h
 
 -- a type has the name under which it is found
 named : (types : List TypeDef) (n : Name) (d : TypeDef) → type_named types n ≡ Some d → d.name ≡ n
@@ -112,7 +112,7 @@ module _ (rs : List Registered) (places : List (Name × ℕ)) (types : List Type
   at : (k : ℕ) → Some k ≡ lookup (is_at (name_cmp n)) places → option_map definition (slice_get rs k) ≡ type_named types n
   at k e = sym (slice_get-map definition rs k) ∙ (ap (option_and_then (slice_get (definitions rs))) e ∙ told)
 
-  pub under : (k : ℕ) (o : Option Registered) → Some k ≡ lookup (is_at (name_cmp n)) places → o ≡ slice_get rs k → MatchOption o (type_named types n ≡ None) (IsUnder types n)
+  pub under : (k : ℕ) (o : Option Registered) → Some k ≡ lookup (is_at (name_cmp n)) places → o ≡ slice_get rs k → MatchOption o (type_named types n ≡ None) (IsRegisteredUnder types n)
   under k None e g = sym (ap (option_map definition) g ∙ at k e)
   under k (Some r) e g =
       let is : Some r.definition ≡ type_named types n = ap (option_map definition) g ∙ at k e in

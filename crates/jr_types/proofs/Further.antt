@@ -26,7 +26,7 @@ pushed f old new x o put same = ap (map f) put ∙ (behind old ∙ ap (λ o. map
     behind [] = refl
     behind (y ∷ ys) = ap (λ zs. f y ∷ zs) (behind ys)
 
-seen_behind : {X Y : Type 0} (f : X → Y) (xs : List X) (x : X) → map f (xs ++ x ∷ []) ≡ map f xs ++ f x ∷ []
+pub seen_behind : {X Y : Type 0} (f : X → Y) (xs : List X) (x : X) → map f (xs ++ x ∷ []) ≡ map f xs ++ f x ∷ []
 seen_behind f [] x = refl
 seen_behind f (y ∷ ys) x = ap (λ zs. f y ∷ zs) (seen_behind f ys x)
 

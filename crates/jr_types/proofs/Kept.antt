@@ -15,7 +15,7 @@ use Rattle.jr_path.proofs.Maps.{lookup-insert_entry}
 use Rattle.jr_items.specs.Items.{same_name}
 use Rattle.jr_types.specs.declared.TypeDef.{TypeDef}
 use Rattle.jr_types.specs.declared.registry.Registered.{Registered}
-use Rattle.jr_types.specs.Registered.{AreAbove, ArePlaces, AreWithin, IsAlike, IsRegistered, definitions, place_named, types_at}
+use Rattle.jr_types.specs.Registered.{AreAbove, ArePlaces, AreWithin, IsAlike, IsRegistered, definitions, place_of_type, types_at}
 use Rattle.jr_types.specs.Types.{type_named, lineage, lineage_among, supertypes_of}
 use Rattle.jr_types.specs.Rules.{type_fault}
 use Rattle.jr_types.proofs.Added.{lineage-added, named-added}
@@ -97,18 +97,18 @@ module _ (ts : List TypeDef) (d : TypeDef) (new : type_named ts d.name ≡ None)
 
   -- ---- the places
 
-  place_kept : (us : List TypeDef) (n : Name) (k : ℕ) → place_named us n ≡ Some k → place_named (us ++ d ∷ []) n ≡ Some k
+  place_kept : (us : List TypeDef) (n : Name) (k : ℕ) → place_of_type us n ≡ Some k → place_of_type (us ++ d ∷ []) n ≡ Some k
   place_kept [] n k h = absurd (none-some k h)
-  place_kept (u ∷ us) n k h = by (same_name u.name n) h (place_named us n) refl (place_kept us n)
+  place_kept (u ∷ us) n k h = by (same_name u.name n) h (place_of_type us n) refl (place_kept us n)
     where
-      by : (b : Bool) → cond b (Some 0) (option_map suc (place_named us n)) ≡ Some k → (o : Option ℕ) → place_named us n ≡ o
-          → ((j : ℕ) → place_named us n ≡ Some j → place_named (us ++ d ∷ []) n ≡ Some j)
-          → cond b (Some 0) (option_map suc (place_named (us ++ d ∷ []) n)) ≡ Some k
+      by : (b : Bool) → cond b (Some 0) (option_map suc (place_of_type us n)) ≡ Some k → (o : Option ℕ) → place_of_type us n ≡ o
+          → ((j : ℕ) → place_of_type us n ≡ Some j → place_of_type (us ++ d ∷ []) n ≡ Some j)
+          → cond b (Some 0) (option_map suc (place_of_type (us ++ d ∷ []) n)) ≡ Some k
       by true e o is rest = e
       by false e None is rest = absurd (none-some k (sym (ap (option_map suc) is) ∙ e))
       by false e (Some j) is rest = ap (option_map suc) (rest j is ∙ sym is) ∙ e
 
-  place_last : (us : List TypeDef) (n : Name) → place_named us n ≡ None → place_named (us ++ d ∷ []) n ≡ cond (same_name d.name n) (Some (length us)) None
+  place_last : (us : List TypeDef) (n : Name) → place_of_type us n ≡ None → place_of_type (us ++ d ∷ []) n ≡ cond (same_name d.name n) (Some (length us)) None
   place_last [] n h = refl
   place_last (u ∷ us) n h = by (same_name u.name n) h (place_last us n)
     where
@@ -120,17 +120,17 @@ module _ (ts : List TypeDef) (d : TypeDef) (new : type_named ts d.name ≡ None)
       unplaced None e = refl
       unplaced (Some j) e = absurd (none-some (suc j) (sym e))
 
-      by : (b : Bool) → cond b (Some 0) (option_map suc (place_named us n)) ≡ None
-          → (place_named us n ≡ None → place_named (us ++ d ∷ []) n ≡ cond (same_name d.name n) (Some (length us)) None)
-          → cond b (Some 0) (option_map suc (place_named (us ++ d ∷ []) n)) ≡ cond (same_name d.name n) (Some (suc (length us))) None
+      by : (b : Bool) → cond b (Some 0) (option_map suc (place_of_type us n)) ≡ None
+          → (place_of_type us n ≡ None → place_of_type (us ++ d ∷ []) n ≡ cond (same_name d.name n) (Some (length us)) None)
+          → cond b (Some 0) (option_map suc (place_of_type (us ++ d ∷ []) n)) ≡ cond (same_name d.name n) (Some (suc (length us))) None
       by true e rest = absurd (none-some 0 (sym e))
-      by false e rest = ap (option_map suc) (rest (unplaced (place_named us n) e)) ∙ one_more (same_name d.name n)
+      by false e rest = ap (option_map suc) (rest (unplaced (place_of_type us n) e)) ∙ one_more (same_name d.name n)
 
-  unplaced_new : (us : List TypeDef) (n : Name) → type_named us n ≡ None → place_named us n ≡ None
+  unplaced_new : (us : List TypeDef) (n : Name) → type_named us n ≡ None → place_of_type us n ≡ None
   unplaced_new [] n h = refl
   unplaced_new (u ∷ us) n h = by (same_name u.name n) h (unplaced_new us n)
     where
-      by : (b : Bool) → cond b (Some u) (type_named us n) ≡ None → (type_named us n ≡ None → place_named us n ≡ None) → cond b (Some 0) (option_map suc (place_named us n)) ≡ None
+      by : (b : Bool) → cond b (Some u) (type_named us n) ≡ None → (type_named us n ≡ None → place_of_type us n ≡ None) → cond b (Some 0) (option_map suc (place_of_type us n)) ≡ None
       by true e rest = absurd (none-some u (sym e))
       by false e rest = ap (option_map suc) (rest e)
 
@@ -138,19 +138,19 @@ module _ (ts : List TypeDef) (d : TypeDef) (new : type_named ts d.name ≡ None)
   other_name n h true e = absurd (false≢true (sym h ∙ (ap (same_name n) (same d.name n e) ∙ itself n)))
   other_name n h false e = refl
 
-  at_new : (n : Name) → n ≡ d.name → Some (length ts) ≡ place_named more n
-  at_new n e = sym (ap (place_named more) e ∙ (place_last ts d.name (unplaced_new ts d.name new) ∙ ap (λ b. cond b (Some (length ts)) None) (itself d.name)))
+  at_new : (n : Name) → n ≡ d.name → Some (length ts) ≡ place_of_type more n
+  at_new n e = sym (ap (place_of_type more) e ∙ (place_last ts d.name (unplaced_new ts d.name new) ∙ ap (λ b. cond b (Some (length ts)) None) (itself d.name)))
 
-  elsewhere : (n : Name) → same_name n d.name ≡ false → (o : Option ℕ) → place_named ts n ≡ o → place_named ts n ≡ place_named more n
+  elsewhere : (n : Name) → same_name n d.name ≡ false → (o : Option ℕ) → place_of_type ts n ≡ o → place_of_type ts n ≡ place_of_type more n
   elsewhere n h None e = e ∙ sym (place_last ts n e ∙ ap (λ b. cond b (Some (length ts)) None) (other_name n h (same_name d.name n) refl))
   elsewhere n h (Some k) e = e ∙ sym (place_kept ts n k e)
 
   pub placed_more : (places : List (Name × ℕ)) → ArePlaces ts places → ArePlaces more (insert_entry name_cmp places d.name (length ts))
   placed_more places h n = lookup-insert_entry name_cmp nat_list_cmp_total n d.name (length ts) places ∙ by (same_name n d.name) refl
     where
-      by : (b : Bool) → same_name n d.name ≡ b → cond b (Some (length ts)) (lookup (is_at (name_cmp n)) places) ≡ place_named more n
+      by : (b : Bool) → same_name n d.name ≡ b → cond b (Some (length ts)) (lookup (is_at (name_cmp n)) places) ≡ place_of_type more n
       by true k = at_new n (same n d.name k)
-      by false k = h n ∙ elsewhere n k (place_named ts n) refl
+      by false k = h n ∙ elsewhere n k (place_of_type ts n) refl
 
 is_new : (types : List TypeDef) (d : TypeDef) → type_fault types d ≡ None → type_named types d.name ≡ None
 is_new types d h = by (type_named types d.name) _ h

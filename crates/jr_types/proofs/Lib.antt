@@ -6,3 +6,4 @@ pub mod Lines
 pub mod Kept
 pub mod Further
 pub mod Chosen
+pub mod Wanted

@@ -27,13 +27,13 @@ abbrev pub definitions : List Registered → List TypeDef
 definitions registered = map (λ r. r.definition) registered
 
 -- the place of the type of that name
-abbrev pub place_named : List TypeDef → Name → Option ℕ
-place_named [] n = None
-place_named (d ∷ ds) n = cond (same_name d.name n) (Some 0) (option_map suc (place_named ds n))
+abbrev pub place_of_type : List TypeDef → Name → Option ℕ
+place_of_type [] n = None
+place_of_type (d ∷ ds) n = cond (same_name d.name n) (Some 0) (option_map suc (place_of_type ds n))
 
 -- under each name stands the place of the type of that name, and under no other a place
 abbrev pub ArePlaces : List TypeDef → List (Name × ℕ) → Type 0
-ArePlaces types places = (n : Name) → lookup (is_at (name_cmp n)) places ≡ place_named types n
+ArePlaces types places = (n : Name) → lookup (is_at (name_cmp n)) places ≡ place_of_type types n
 
 -- each of the places is one of the types'
 abbrev pub AreWithin : List TypeDef → List ℕ → Type 0
@@ -46,7 +46,7 @@ pub record IsRegistered (types : List TypeDef) (registered : Registered) : Type 
   pub line : IsAlike (types_at types registered.line) (lineage types registered.definition.name)
 
 -- this is registered under the name
-pub record IsUnder (types : List TypeDef) (n : Name) (registered : Registered) : Type 0 where
+pub record IsRegisteredUnder (types : List TypeDef) (n : Name) (registered : Registered) : Type 0 where
   pub definition : Some registered.definition ≡ type_named types n
   pub within : AreWithin types registered.line
   pub line : IsAlike (types_at types registered.line) (lineage types n)

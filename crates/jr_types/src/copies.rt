@@ -67,7 +67,7 @@ impl DeepCopy for TypeDef {
 }
 
 // Copies of two values.
-fn both<A: DeepCopy + Drop, B: DeepCopy>(a: &A, b: &B) -> Result<(A, B), AllocError>
+pub(crate) fn both<A: DeepCopy + Drop, B: DeepCopy>(a: &A, b: &B) -> Result<(A, B), AllocError>
     ensures { IfOk result (λ copies. copies ≡ (a.now, b.now)) }
 {
     Ok((a.copy()?, b.copy()?))

@@ -1,5 +1,5 @@
 // Which of the definitions count for an item.
-ghost use Rattle.std.specs.Prelude.{◌≡◌, ◌++◌, IfOk, OnOk, is_none, map};
+ghost use Rattle.std.specs.Prelude.{◌≡◌, ◌∷◌, ◌++◌, [], IfOk, OnOk, if◌then◌else◌, is_none, map};
 ghost use Rattle.std.specs.List.{filter, flat_map};
 ghost use Rattle.jr_types.specs.Said.{counting_children, counting_props};
 ghost use Rattle.jr_types.specs.Types.{fits, is_named};
@@ -36,9 +36,7 @@ fn props_named<'a>(
 {
     let mut named = Vec::new(alloc);
     for def in props {
-        if is_of(&def.name, name) {
-            named.push(*def)?;
-        }
+        add_if(&mut named, *def, is_of(&def.name, name))?;
     }
     Ok(named)
 }
@@ -50,9 +48,7 @@ fn residual_props<'a>(alloc: Global, props: &[&'a PropDef]) -> Result<Vec<&'a Pr
 {
     let mut residual = Vec::new(alloc);
     for def in props {
-        if def.name.is_none() {
-            residual.push(*def)?;
-        }
+        add_if(&mut residual, *def, def.name.is_none())?;
     }
     Ok(residual)
 }
@@ -84,9 +80,7 @@ fn children_named<'a>(
 {
     let mut named = Vec::new(alloc);
     for def in children {
-        if is_of(&def.name, name) {
-            named.push(*def)?;
-        }
+        add_if(&mut named, *def, is_of(&def.name, name))?;
     }
     Ok(named)
 }
@@ -101,9 +95,7 @@ fn residual_children<'a>(
 {
     let mut residual = Vec::new(alloc);
     for def in children {
-        if def.name.is_none() {
-            residual.push(*def)?;
-        }
+        add_if(&mut residual, *def, def.name.is_none())?;
     }
     Ok(residual)
 }
@@ -133,6 +125,29 @@ pub fn children_of<'a>(
     Ok(children)
 }
 
+// Puts a definition behind others, where it is wanted.
+pub(crate) fn add_if<'a, T>(
+    list: &mut Vec<&'a T>,
+    def: &'a T,
+    is_wanted: bool,
+) -> Result<(), AllocError>
+    ensures { OnOk result (map (λ d. d.now) list.new.items
+        ≡ map (λ d. d.now) list.old.items ++ (if is_wanted then def.now ∷ [] else [])) }
+{
+    if is_wanted {
+        return add_one(list, def);
+    }
+    Ok(())
+}
+
+fn add_one<'a, T>(list: &mut Vec<&'a T>, def: &'a T) -> Result<(), AllocError>
+    ensures { OnOk result (map (λ d. d.now) list.new.items
+        ≡ map (λ d. d.now) list.old.items ++ def.now ∷ []) }
+{
+    list.push(def)?;
+    Ok(())
+}
+
 // Puts definitions behind others.
 fn add_children<'a>(
     list: &mut Vec<&'a ChildDef>,
@@ -142,7 +157,7 @@ fn add_children<'a>(
         ≡ map (λ d. d.now) list.old.items ++ children.now) }
 {
     for child in children {
-        list.push(child)?;
+        add_one(list, child)?;
     }
     Ok(())
 }
@@ -156,7 +171,7 @@ pub(crate) fn add_props<'a>(
         ≡ map (λ d. d.now) list.old.items ++ props.now) }
 {
     for prop in props {
-        list.push(prop)?;
+        add_one(list, prop)?;
     }
     Ok(())
 }
@@ -172,9 +187,7 @@ pub fn fitting_props<'a>(
 {
     let mut fitting = Vec::new(alloc);
     for def in counting {
-        if def.fits(property) {
-            fitting.push(*def)?;
-        }
+        add_if(&mut fitting, *def, def.fits(property))?;
     }
     Ok(fitting)
 }

@@ -9,7 +9,7 @@ ghost use Rattle.jr_types.specs.Registered.{IsAlike};
 ghost use Rattle.jr_types.specs.Said.{types_said};
 ghost use Rattle.jr_types.specs.Types.{child_def, child_defs, fits_child, prop_def, prop_defs, types_of};
 
-use crate::counting::{children_of, counting_children, counting_props, fitting_props};
+use crate::counting::{add_if, children_of, counting_children, counting_props, fitting_props};
 use crate::{ChildDef, PropDef, Registry, TypeDef};
 use jr_path::Name;
 use jr_tree::Node;
@@ -122,9 +122,7 @@ fn telling_children<'a>(
 {
     let mut telling = Vec::new(alloc);
     for def in counting {
-        if def.default_type.is_some() {
-            telling.push(*def)?;
-        }
+        add_if(&mut telling, *def, def.default_type.is_some())?;
     }
     Ok(telling)
 }

@@ -9,8 +9,9 @@ ghost use Rattle.jr_items.specs.Items.{same_name};
 ghost use Rattle.jr_types.specs.Types.{is_a, order_def, subtypes, type_named, lineage};
 ghost use Rattle.std.specs.Prelude.{None};
 ghost use Rattle.jr_types.specs.Rules.{is_mixin};
-ghost use Rattle.jr_types.specs.Registered.{AreWithin, IsAlike, IsUnder, types_at};
+ghost use Rattle.jr_types.specs.Registered.{AreWithin, IsAlike, IsRegisteredUnder, types_at};
 
+use crate::copies::both;
 use crate::{OnParentVersion, PropDef, TypeDef};
 use jr_items::OwnName;
 use jr_path::{DeepCopy, Keyed, List, Name};
@@ -128,7 +129,7 @@ impl Registry {
     // What is registered under that name.
     fn registered(&self, name: &Name) -> Option<&Registered>
         ensures { MatchOption (option_copied result) (type_named self.now name.now ≡ None)
-            (IsUnder self.now name.now) }
+            (IsRegisteredUnder self.now name.now) }
     {
         match self.places.get(name) {
             Some(place) => self.types.as_slice().get(*place as usize),
@@ -180,9 +181,8 @@ impl Registry {
     pub fn copy(&self) -> Result<Registry, AllocError>
         ensures { IfOk result (λ copy. copy ≡ self.now) }
     {
+        let (types, places) = both(&self.types, &self.places)?;
         let (primary_type, mixin_types, order) = asked(self.alloc)?;
-        let types = self.types.copy()?;
-        let places = self.places.copy()?;
         Ok(Registry {
             alloc: self.alloc,
             types,

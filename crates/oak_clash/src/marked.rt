@@ -1,5 +1,9 @@
 // The marked nodes of a commit, and its commit root.
-ghost use Rattle.std.specs.Prelude.{◌≡◌, ◌≤◌, IfOk, length, take};
+ghost use Rattle.std.specs.Prelude.{◌≡◌, ◌≤◌, [], true, IfOk, OnOk, length, take};
+ghost use Rattle.std.specs.BTreeMap.{insert_entry};
+ghost use Rattle.std.specs.List.{fold};
+ghost use Rattle.std.specs.Map.{keys_of};
+ghost use Rattle.jr_path.specs.Names.{path_cmp};
 ghost use Rattle.oak_clash.specs.Clashes.{common, commit_root, marked_paths};
 
 use crate::MarkAt;
@@ -40,12 +44,33 @@ pub fn commit_root(alloc: Global, marks: &[MarkAt]) -> Result<Path, AllocError>
 pub fn marked_paths(alloc: Global, marks: &[MarkAt]) -> Result<List<Path>, AllocError>
     ensures { IfOk result (λ paths. paths ≡ marked_paths marks.now) }
 {
+    keys(alloc, marked(alloc, marks)?)
+}
+
+// The marked nodes as keys.
+fn marked(alloc: Global, marks: &[MarkAt]) -> Result<Keyed<Path, bool>, AllocError>
+    ensures { IfOk result (λ marked. marked ≡ fold (λ es m. insert_entry path_cmp es m.path true) [] marks.now) }
+{
     let mut marked = Keyed::new(alloc);
     for mark in marks {
-        marked.put(mark.path.copy()?, true)?;
+        put_marked(&mut marked, mark)?;
     }
+    Ok(marked)
+}
+
+// Puts the node of a mark among the marked ones.
+fn put_marked(marked: &mut Keyed<Path, bool>, mark: &MarkAt) -> Result<(), AllocError>
+    ensures { OnOk result (marked.new ≡ insert_entry path_cmp marked.old mark.now.path true) }
+{
+    marked.put(mark.path.copy()?, true)
+}
+
+// The keys of a map, in their order.
+fn keys(alloc: Global, map: Keyed<Path, bool>) -> Result<List<Path>, AllocError>
+    ensures { IfOk result (λ paths. paths ≡ keys_of map) }
+{
     let mut paths = List::new(alloc);
-    for (path, _) in marked.into_inner() {
+    for (path, _) in map.into_inner() {
         paths.push(path)?;
     }
     Ok(paths)

@@ -1,7 +1,12 @@
 // The changes of a document.
-ghost use Rattle.std.specs.Prelude.{◌≡◌, OnOk, not, nat_eq, ◌==◌, length, filter, fold};
-ghost use Rattle.oak_doc.specs.Updates.{changed, pruned, undone, with_values, with_revision, without_revision, values_of_property, props_without_revision};
-ghost use Rattle.oak_doc.specs.declared.update.Change.TheVariants.{Collision, Prop, Undo, List as Listed, Checkpoint, Attach};
+ghost use Rattle.std.specs.Prelude.{◌≡◌, OnOk, ◌∷◌, cond, is_some, not, nat_eq, ◌==◌, length, filter, fold};
+ghost use Rattle.std.specs.BTreeMap.{insert_entry, is_at};
+ghost use Rattle.std.specs.Map.{lookup};
+ghost use Rattle.std.specs.Option.{option_map_or};
+ghost use Rattle.std.specs.Ordering.{nat_cmp};
+ghost use Rattle.jr_path.specs.Names.{name_cmp};
+ghost use Rattle.oak_doc.specs.Updates.{changed, pruned, undone, with_values, with_revision, without_revision, of_revision, values_of_property, props_without_revision};
+ghost use Rattle.oak_doc.specs.declared.update.Change.TheVariants.{Undo};
 
 use crate::{Change, Document, EntryKey, Field, PrevEntry};
 use jr_path::{DeepCopy, Item, Keyed, List, Name, Text};
@@ -34,10 +39,12 @@ pub(crate) fn apply_change(
         Change::Deleted(r, gone) => document.deleted.put(*r, *gone),
         Change::CommitRoot(r, depth) => document.commit_root.put(*r, *depth),
         Change::Revisions(r) => document.revisions.put(*r, ()),
-        Change::Collision(other, r, item) => note_collision(document, *other, *r, item),
+        Change::Collision(other, r, item) => {
+            note_collision(&mut document.collisions, *other, *r, item)
+        }
         Change::Touched(r) => document.touched.put(*r, ()),
         Change::Guard(r) => document.guard.put(*r, ()),
-        Change::Prop(name, r, value) => put_copy(alloc, document, name, *r, value),
+        Change::Prop(name, r, value) => put_copy(alloc, &mut document.props, name, *r, value),
         Change::Undo(r) => {
             drop_revision(document, r);
             Ok(())
@@ -46,7 +53,7 @@ pub(crate) fn apply_change(
             drop_entries(document, keys);
             Ok(())
         }
-        Change::List(entry) => list_first(document, *entry),
+        Change::List(entry) => list_first(&mut document.prev, *entry),
         Change::Unlist(number) => {
             unlist(&mut document.prev, *number);
             Ok(())
@@ -59,12 +66,14 @@ pub(crate) fn apply_change(
             document.sweep_rev.raise(*r);
             Ok(())
         }
-        Change::Checkpoint(id, pin) => keep_checkpoint(document, id, *pin),
+        Change::Checkpoint(id, pin) => keep_checkpoint(&mut document.checkpoints, id, *pin),
         Change::Release(id) => {
             document.checkpoints.remove(id);
             Ok(())
         }
-        Change::Attach(session, id) => attach(document, *session, id),
+        Change::Attach(session, id) => {
+            attach(&mut document.readers, &document.checkpoints, *session, id)
+        }
         Change::Detach(session) => {
             document.readers.remove(session);
             Ok(())
@@ -74,56 +83,66 @@ pub(crate) fn apply_change(
 
 // Notes that the revision clashes with the other one in the item, unless the other has a note.
 fn note_collision(
-    document: &mut Document,
+    collisions: &mut Keyed<Revision, (Revision, Item)>,
     other: Revision,
     r: Revision,
     item: &Item,
 ) -> Result<(), AllocError>
-    ensures { OnOk result (document.new ≡ changed document.old (Collision other r item.now)) }
+    ensures { OnOk result (collisions.new ≡ cond (is_some (of_revision collisions.old other)) collisions.old
+        (with_revision collisions.old other (r, item.now))) }
 {
-    if document.collisions.contains(&other) {
+    if collisions.contains(&other) {
         return Ok(());
     }
     let item = item.copy()?;
-    document.collisions.put(other, (r, item))
+    collisions.put(other, (r, item))
 }
 
 // Puts a copy of a property's value at a revision.
 fn put_copy(
     alloc: Global,
-    document: &mut Document,
+    props: &mut Keyed<Name, Values>,
     name: &Name,
     r: Revision,
     value: &Option<Property>,
 ) -> Result<(), AllocError>
-    ensures { OnOk result (document.new ≡ changed document.old (Prop name.now r value.now)) }
+    ensures { OnOk result (props.new ≡ with_values props.old name.now
+        (with_revision (values_of_property props.old name.now) r value.now)) }
 {
-    let value = value.copy()?;
-    put_value(alloc, &mut document.props, name, r, value)
+    put_value(alloc, props, name, r, value.copy()?)
 }
 
 // Lists a previous document before those that are listed.
-fn list_first(document: &mut Document, entry: PrevEntry) -> Result<(), AllocError>
-    ensures { OnOk result (document.new ≡ changed document.old (Listed entry)) }
+fn list_first(prev: &mut List<PrevEntry>, entry: PrevEntry) -> Result<(), AllocError>
+    ensures { OnOk result (prev.new ≡ entry ∷ prev.old) }
 {
-    document.prev.inner_mut().insert(0, entry)?;
+    prev.inner_mut().insert(0, entry)?;
     Ok(())
 }
 
 // Keeps a checkpoint under a copy of its id.
-fn keep_checkpoint(document: &mut Document, id: &Text, pin: Pin) -> Result<(), AllocError>
-    ensures { OnOk result (document.new ≡ changed document.old (Checkpoint id.now pin)) }
+fn keep_checkpoint(
+    checkpoints: &mut Keyed<Text, Pin>,
+    id: &Text,
+    pin: Pin,
+) -> Result<(), AllocError>
+    ensures { OnOk result (checkpoints.new ≡ insert_entry name_cmp checkpoints.old id.now pin) }
 {
-    let id = id.copy()?;
-    document.checkpoints.put(id, pin)
+    checkpoints.put(id.copy()?, pin)
 }
 
 // Copies the checkpoint of an id, where there is one, under the session's number.
-fn attach(document: &mut Document, session: u32, id: &Text) -> Result<(), AllocError>
-    ensures { OnOk result (document.new ≡ changed document.old (Attach session id.now)) }
+fn attach(
+    readers: &mut Keyed<u32, Pin>,
+    checkpoints: &Keyed<Text, Pin>,
+    session: u32,
+    id: &Text,
+) -> Result<(), AllocError>
+    ensures { OnOk result (readers.new ≡ option_map_or (λ pin. insert_entry nat_cmp readers.old session pin)
+        (lookup (is_at (name_cmp id.now)) checkpoints.now) readers.old) }
 {
-    match document.checkpoints.get(id) {
-        Some(pin) => document.readers.put(session, *pin),
+    match checkpoints.get(id) {
+        Some(pin) => readers.put(session, *pin),
         None => Ok(()),
     }
 }

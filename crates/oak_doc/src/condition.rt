@@ -1,5 +1,5 @@
 // The conditions of an update.
-ghost use Rattle.std.specs.Prelude.{◌≡◌, IfOk};
+ghost use Rattle.std.specs.Prelude.{◌≡◌, IfOk, None, Some};
 ghost use Rattle.std.specs.Option.{option_copied};
 ghost use Rattle.oak_doc.specs.Updates.{holds, kept};
 
@@ -11,16 +11,32 @@ use std::alloc::AllocError;
 pub(crate) fn is_held(before: Option<&Document>, cond: Cond) -> bool
     ensures { result ≡ holds (option_copied before.entry) cond }
 {
-    match (cond, before) {
-        (Cond::NoCollision(r), Some(document)) => !document.collisions.contains(&r),
-        (Cond::NotCommitted(r), Some(document)) => !document.revisions.contains(&r),
-        (Cond::NoCollision(_) | Cond::NotCommitted(_), None) => true,
-        (Cond::Unchanged(number), Some(document)) => {
-            document.mod_count == number && number != u64::MAX
-        }
-        (Cond::Unchanged(_), None) => false,
-        (Cond::Exists, _) => before.is_some(),
-        (Cond::Missing, _) => before.is_none(),
+    match before {
+        Some(document) => is_held_by(document, cond),
+        None => is_held_by_none(cond),
+    }
+}
+
+// Whether a condition holds of the document.
+fn is_held_by(document: &Document, cond: Cond) -> bool
+    ensures { result ≡ holds (Some document.now) cond }
+{
+    match cond {
+        Cond::NoCollision(r) => !document.collisions.contains(&r),
+        Cond::NotCommitted(r) => !document.revisions.contains(&r),
+        Cond::Unchanged(number) => document.mod_count == number && number != u64::MAX,
+        Cond::Exists => true,
+        Cond::Missing => false,
+    }
+}
+
+// Whether a condition holds where there is no document.
+fn is_held_by_none(cond: Cond) -> bool
+    ensures { result ≡ holds None cond }
+{
+    match cond {
+        Cond::NoCollision(_) | Cond::NotCommitted(_) | Cond::Missing => true,
+        Cond::Unchanged(_) | Cond::Exists => false,
     }
 }
 

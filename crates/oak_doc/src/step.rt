@@ -1,12 +1,13 @@
 // One update of one document.
+ghost use Rattle.std.specs.Prelude.{◌≡◌, IfOk, OnOk, fold};
 ghost use Rattle.std.specs.Option.{option_copied};
-ghost use Rattle.oak_doc.specs.Updates.{Answers, updated};
+ghost use Rattle.oak_doc.specs.Updates.{Answers, after_changes, changed, updated};
 
 use crate::change::apply_change;
 use crate::condition::{is_held, kept_against};
-use crate::{Document, OpFault, UpdateOp};
-use jr_path::DeepCopy;
-use std::alloc::Global;
+use crate::{Change, Document, OpFault, UpdateOp};
+use jr_path::{DeepCopy, List};
+use std::alloc::{AllocError, Global};
 
 /// One update of one document, or of none: the document after it, with the number as its `_modCount`.
 /// Refused where there is no document and none is to be made, and else where the condition is false.
@@ -26,13 +27,37 @@ pub fn apply_op(
             return Err(OpFault::Unmet(cond, kept_against(before, cond)?));
         }
     }
+    Ok(changed_document(alloc, before, op, number)?)
+}
+
+// The document, or an empty one, after the changes of the update, with the number.
+fn changed_document(
+    alloc: Global,
+    before: Option<&Document>,
+    op: &UpdateOp,
+    number: u64,
+) -> Result<Document, AllocError>
+    ensures { IfOk result (λ document. document ≡ after_changes (option_copied before.entry) op.now number) }
+{
     let mut document = match before {
         Some(document) => document.copy()?,
         None => Document::empty(alloc, op.id.copy()?),
     };
-    for change in op.changes.inner() {
-        apply_change(alloc, &mut document, change)?;
-    }
+    apply_changes(alloc, &mut document, &op.changes)?;
     document.mod_count = number;
     Ok(document)
+}
+
+// The changes of a document, in their order.
+fn apply_changes(
+    alloc: Global,
+    document: &mut Document,
+    changes: &List<Change>,
+) -> Result<(), AllocError>
+    ensures { OnOk result (document.new ≡ fold changed document.old changes.now) }
+{
+    for change in changes.inner() {
+        apply_change(alloc, document, change)?;
+    }
+    Ok(())
 }

@@ -1,17 +1,31 @@
 // The revisions that a cluster node drew above its head's own entry.
-ghost use Rattle.std.specs.Prelude.{◌≡◌, ◌∷◌, filter};
+ghost use Rattle.std.specs.Prelude.{◌≡◌, ◌∷◌, ◌++◌, [], false, filter, OnErr, OnOk};
 ghost use Rattle.std.specs.List.Sorted.{IsStrictlySortedBy};
 ghost use Rattle.jr_rev.specs.Revisions.{revision_cmp, is_before};
 ghost use Rattle.oak_node.specs.Memory.{revisions_in};
 ghost use Rattle.oak_node.specs.Heads.{with_end, local_from, last_drawn};
 
 use jr_rev::Revision;
+use std::alloc::AllocError;
 
 /// A revision that a cluster node drew, and whether it has ended.
 #[derive(Clone, Copy, PartialEq, Eq)]
 pub struct Drawn {
     pub revision: Revision,
     pub ended: bool,
+}
+
+// Puts a revision behind those drawn before, in flight.
+pub(crate) fn put_in_flight(drawn: &mut Vec<Drawn>, revision: Revision) -> Result<(), AllocError>
+    ensures ok { OnOk result
+        (drawn.new.items ≡ drawn.old.items ++ record { revision = revision; ended = false } ∷ []) }
+    ensures err { OnErr result (drawn.new.items ≡ drawn.old.items) }
+{
+    drawn.push(Drawn {
+        revision,
+        ended: false,
+    })?;
+    Ok(())
 }
 
 // Ends a revision, gives the head's own entry from then on, and keeps what is above it.

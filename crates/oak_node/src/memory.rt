@@ -1,5 +1,5 @@
 // The memory of one cluster node.
-ghost use Rattle.std.specs.Prelude.{◌≡◌, ◌-◌, ◌^◌, ◌<◌, ◌≤◌, IfOk, OnOk, OnErr, IsOk, IsSome, IsSomeAnd, IsTrue};
+ghost use Rattle.std.specs.Prelude.{◌≡◌, ◌-◌, ◌^◌, ◌<◌, ◌≤◌, ◌∷◌, ◌++◌, [], false, IfOk, OnOk, OnErr, IsOk, IsSome, IsSomeAnd, IsTrue};
 ghost use Rattle.std.specs.Bool.{OnFalse};
 ghost use Rattle.jr_rev.specs.Revisions.{is_before};
 ghost use Rattle.jr_rev.specs.Vectors.{entry, start_of};
@@ -7,10 +7,10 @@ ghost use Rattle.oak_node.specs.Memory.{IsMemory, begun, own_entry};
 ghost use Rattle.oak_node.specs.Heads.{greatest_time, known_time, next_draw, with_draw, finished, learned};
 ghost use Rattle.oak_node.specs.Heads.{IsInFlight, HasEnded, IsAwaited};
 ghost use Rattle.oak_node.specs.Pins.{pin_of, pin_now, with_pin, without_pin};
-ghost use Rattle.oak_node.specs.Notes.{with_note, with_notes, without_seen, IsPending};
+ghost use Rattle.oak_node.specs.Notes.{notes_of, with_note, with_notes, without_seen, IsPending};
 ghost use Rattle.oak_node.specs.Stops.{with_stop, with_recovery};
 
-use crate::drawn::{Drawn, last, settle};
+use crate::drawn::{Drawn, last, put_in_flight, settle};
 use crate::pending::{Note, Pending, due_paths, put_note, put_notes};
 use crate::pins;
 use jr_path::{List, Path};
@@ -121,10 +121,7 @@ impl NodeMem {
         ensures err { OnErr result (self.new ≡ self.old) }
     {
         let revision = self.next_draw();
-        self.above.push(Drawn {
-            revision,
-            ended: false,
-        })?;
+        put_in_flight(&mut self.above, revision)?;
         self.last_time = revision.time;
         Ok(revision)
     }
@@ -138,13 +135,9 @@ impl NodeMem {
             ≡ with_notes (next_draw self.old) (with_draw self.old (next_draw self.old)) paths.now) }
         ensures err { OnErr result (self.new ≡ self.old) }
     {
-        let noted = self.notes.len();
         let revision = self.next_draw();
-        put_notes(&mut self.notes, paths, revision)?;
-        if self.draw().is_err() {
-            self.notes.truncate(noted);
-            return Err(AllocError);
-        }
+        put_drawn(&mut self.above, &mut self.notes, paths, revision)?;
+        self.last_time = revision.time;
         Ok(revision)
     }
 
@@ -353,6 +346,31 @@ fn start_of(cluster: u32) -> Revision
         time: 0,
         counter: 0,
         cluster,
+    }
+}
+
+// Notes the paths with a revision, and puts it behind those drawn before, in flight. Where memory is
+// refused nothing changes.
+fn put_drawn(
+    above: &mut Vec<Drawn>,
+    notes: &mut Vec<Note>,
+    paths: &[Path],
+    revision: Revision,
+) -> Result<(), AllocError>
+    ensures noted { OnOk result (notes.new.items ≡ notes.old.items ++ notes_of revision paths.now) }
+    ensures drawn { OnOk result
+        (above.new.items ≡ above.old.items ++ record { revision = revision; ended = false } ∷ []) }
+    ensures notes { OnErr result (notes.new.items ≡ notes.old.items) }
+    ensures above { OnErr result (above.new.items ≡ above.old.items) }
+{
+    let noted = notes.len();
+    put_notes(notes, paths, revision)?;
+    match put_in_flight(above, revision) {
+        Ok(()) => Ok(()),
+        Err(error) => {
+            notes.truncate(noted);
+            Err(error)
+        }
     }
 }
 

@@ -1,9 +1,10 @@
 // The paths that a cluster node noted, and what is taken of them to be published.
-ghost use Rattle.std.specs.Prelude.{◌≡◌, ◌↔◌, ◌∷◌, ◌++◌, [], IfOk, OnErr, OnOk, Contains};
+ghost use Rattle.std.specs.Prelude.{◌≡◌, ◌↔◌, ◌∷◌, ◌++◌, [], IfOk, OnErr, OnOk, Contains, List as Seq};
 ghost use Rattle.std.specs.List.Sorted.{IsStrictlySortedBy};
 ghost use Rattle.jr_path.specs.Names.{path_cmp};
 ghost use Rattle.oak_node.specs.Notes.{notes_of};
 ghost use Rattle.oak_node.specs.Seen.{seen_paths};
+ghost use Rattle.oak_node.specs.declared.pending.Note.{Note};
 
 use jr_path::{DeepCopy, List, Path};
 use jr_rev::{RevVec, Revision};
@@ -57,11 +58,22 @@ pub(crate) fn put_notes(
     ensures err { OnErr result (notes.new.items ≡ notes.old.items) }
 {
     let noted = notes.len();
-    for path in paths {
-        if let Err(error) = put_note(notes, path, r) {
+    match put_each(notes, paths, r) {
+        Ok(()) => Ok(()),
+        Err(error) => {
             notes.truncate(noted);
-            return Err(error);
+            Err(error)
         }
+    }
+}
+
+// Notes paths with a revision, as many as memory is given for.
+fn put_each(notes: &mut Vec<Note>, paths: &[Path], r: Revision) -> Result<(), AllocError>
+    ensures ok { OnOk result (notes.new.items ≡ notes.old.items ++ notes_of r paths.now) }
+    ensures front { (more : Seq Note) × (notes.new.items ≡ notes.old.items ++ more) }
+{
+    for path in paths {
+        put_note(notes, path, r)?;
     }
     Ok(())
 }

@@ -1,5 +1,5 @@
 // Pins, in the order of their owners.
-ghost use Rattle.std.specs.Prelude.{◌≡◌, MatchResult, OnOk, OnErr, IsOk, IsSome};
+ghost use Rattle.std.specs.Prelude.{◌≡◌, ◌<◌, ◌≤◌, MatchResult, OnOk, OnErr, IsOk, IsSome, length, set, insert};
 ghost use Rattle.std.specs.BTreeMap.{is_at, insert_entry};
 ghost use Rattle.std.specs.List.Sorted.{IsStrictlySortedBy};
 ghost use Rattle.std.specs.Map.{lookup, keys_of, remove_entry};
@@ -28,10 +28,12 @@ pub(crate) fn put(pins: &mut Vec<(u32, Pin)>, owner: u32, pin: &Pin) -> Result<(
     ensures kept { IsSome (lookup (is_at (nat_cmp owner)) pins.old.items) → IsOk result }
 {
     match place(pins, owner) {
-        Ok(at) => pins[at] = (owner, *pin),
-        Err(at) => pins.insert(at, (owner, *pin))?,
+        Ok(at) => {
+            set_at(pins, at, owner, pin);
+            Ok(())
+        }
+        Err(at) => insert_at(pins, at, owner, pin),
     }
-    Ok(())
 }
 
 // Puts the owner's pin in the place of the one that it has.
@@ -43,7 +45,7 @@ pub(crate) fn replace(pins: &mut Vec<(u32, Pin)>, owner: u32, pin: &Pin)
     let Ok(at) = place(pins, owner) else {
         unreachable!();
     };
-    pins[at] = (owner, *pin);
+    set_at(pins, at, owner, pin);
 }
 
 // Drops the owner's pin, where it has one.
@@ -54,6 +56,24 @@ pub(crate) fn remove(pins: &mut Vec<(u32, Pin)>, owner: u32)
     if let Ok(at) = place(pins, owner) {
         pins.remove(at);
     }
+}
+
+// Puts the owner's pin in the place of what stands there.
+fn set_at(pins: &mut Vec<(u32, Pin)>, at: usize, owner: u32, pin: &Pin)
+    requires { at < length pins.old.items }
+    ensures { pins.new.items ≡ set pins.old.items at (owner, pin.now) }
+{
+    pins[at] = (owner, *pin);
+}
+
+// Puts the owner's pin in a new place.
+fn insert_at(pins: &mut Vec<(u32, Pin)>, at: usize, owner: u32, pin: &Pin) -> Result<(), AllocError>
+    requires { at ≤ length pins.old.items }
+    ensures ok { OnOk result (pins.new.items ≡ insert pins.old.items at (owner, pin.now)) }
+    ensures err { OnErr result (pins.new.items ≡ pins.old.items) }
+{
+    pins.insert(at, (owner, *pin))?;
+    Ok(())
 }
 
 // Where the owner's pin stands, or where it would go.

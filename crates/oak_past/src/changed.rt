@@ -2,6 +2,7 @@
 ghost use Rattle.std.specs.Prelude.{◌≡◌, ◌&&◌, IfOk, OnOk, is_some, map, reverse};
 ghost use Rattle.std.specs.BTreeMap.{insert_entry};
 ghost use Rattle.std.specs.List.{filter, fold};
+ghost use Rattle.std.specs.Map.{values_of};
 ghost use Rattle.jr_rev.specs.Revisions.{is_before};
 ghost use Rattle.jr_rev.specs.Vectors.{sees};
 ghost use Rattle.jr_tree.specs.Edits.{item_cmp, item_of};
@@ -106,14 +107,35 @@ fn item_changes(
     ensures { IfOk result (λ changes. changes ≡ item_changes tree.now writes.now) }
 {
     let mut changes = Keyed::new(alloc);
-    for write in writes {
-        put_change(&mut changes, tree, write)?;
-    }
-    let mut list = Vec::new(alloc);
+    put_changes(&mut changes, tree, writes)?;
+    list_of(alloc, changes)
+}
+
+// The item changes, in the order of the items.
+fn list_of(alloc: Global, changes: Keyed<Item, ItemChange>) -> Result<List<ItemChange>, AllocError>
+    ensures { IfOk result (λ list. list ≡ values_of changes) }
+{
+    let mut list = List::new(alloc);
     for (_, change) in changes.into_inner() {
         list.push(change)?;
     }
-    Ok(List::of(list))
+    Ok(list)
+}
+
+// Puts the changes of some writes, each in the place of an earlier one of its item.
+fn put_changes(
+    changes: &mut Keyed<Item, ItemChange>,
+    tree: &Tree,
+    writes: &[Write],
+) -> Result<(), AllocError>
+    ensures { OnOk result (changes.new ≡ fold
+        (λ es w. insert_entry item_cmp es (item_of w) (item_change tree.now w))
+        changes.old writes.now) }
+{
+    for write in writes {
+        put_change(changes, tree, write)?;
+    }
+    Ok(())
 }
 
 // Puts the change of a write in the place of an earlier one of its item.

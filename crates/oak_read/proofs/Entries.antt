@@ -8,7 +8,7 @@ use Rattle.std.specs.List.{filter, filter_map, flat_map, cons_option}
 use Rattle.std.proofs.lemmas.Cmp.{upto}
 use Rattle.std.proofs.lemmas.List.{take_more, map-append}
 use Rattle.std.proofs.lemmas.List.Concat.{flat_map-append}
-use Rattle.std.proofs.lemmas.List.Elements.{filter_map-append}
+use Rattle.std.proofs.lemmas.List.Elements.{filter-append, filter_map-append}
 use Rattle.jr_rev.specs.declared.revision.Revision.{Revision}
 use Rattle.jr_rev.specs.Revisions.{revision_cmp, is_before}
 use Rattle.jr_rev.proofs.Order.{revision_total}
@@ -52,17 +52,19 @@ module _ {X : Type 0} where
       by None is = refl
       by (Some b) is = ap Some (sym (latest_two e b (latest ys)))
 
-  latest_alone : (o : Option (Revision × X)) → latest (option_to_list o ++ []) ≡ o
+  -- with no further entries the latest stays
+  pub latest_alone : (o : Option (Revision × X)) → latest (option_to_list o ++ []) ≡ o
   latest_alone None = refl
   latest_alone (Some b) = refl
 
-  -- the first of the entries that are left is taken, and the later of it and the best so far is kept
-  pub latest_taken : (p : Revision × X → Bool) (best : Option (Revision × X)) (e next : Revision × X) (before rest : List (Revision × X)) (all : Option (Revision × X)) → before ≡ e ∷ rest → p e ≡ true → Some next ≡ latest (option_to_list best ++ e ∷ []) → latest (option_to_list best ++ filter p before) ≡ all → latest (next ∷ filter p rest) ≡ all
-  latest_taken p best e next before rest all first passes later all_is =
+  -- the first of the entries that are left is taken into account
+  pub latest_step : (p : Revision × X → Bool) (best next : Option (Revision × X)) (e : Revision × X) (before rest : List (Revision × X)) (all : Option (Revision × X)) → before ≡ e ∷ rest → next ≡ latest (option_to_list best ++ filter p (e ∷ [])) → latest (option_to_list best ++ filter p before) ≡ all → latest (option_to_list next ++ filter p rest) ≡ all
+  latest_step p best next e before rest all first later all_is =
       ap (λ o. latest (option_to_list o ++ filter p rest)) later
-      ∙ latest-append (option_to_list best ++ e ∷ []) (filter p rest)
-      ∙ ap latest (append_assoc (option_to_list best) (e ∷ []) (filter p rest))
-      ∙ (rw (first, passes) at all_is)
+      ∙ latest-append (option_to_list best ++ filter p (e ∷ [])) (filter p rest)
+      ∙ ap latest (append_assoc (option_to_list best) (filter p (e ∷ [])) (filter p rest))
+      ∙ ap (λ ys. latest (option_to_list best ++ ys)) (sym (filter-append p (e ∷ []) rest))
+      ∙ (rw first at all_is)
 
   -- the entries of one more document
   pub latest_more : {A : Type 0} (c : Document → List (Revision × X)) (f : A → Document) (xs : List A) (i : ℕ) (x : A) (best next : Option (Revision × X)) → i < length xs → x ≡ get_or xs i x → best ≡ latest (flat_map c (map f (take i xs))) → next ≡ latest (option_to_list best ++ c (f x)) → next ≡ latest (flat_map c (map f (take (i + 1) xs)))
@@ -75,11 +77,6 @@ module _ {X : Type 0} where
       ∙ ap (λ ys. latest (flat_map c (map f (take i xs)) ++ ys)) (sym (append-nil (c (f x))))
       ∙ ap latest (sym (flat_map-append c (map f (take i xs)) (f x ∷ [])))
       ∙ ap (λ ds. latest (flat_map c ds)) (sym mapped)
-
-  -- a document without entries
-  pub latest_none : {A : Type 0} (c : Document → List (Revision × X)) (f : A → Document) (xs : List A) (i : ℕ) (x : A) (best next : Option (Revision × X)) → i < length xs → x ≡ get_or xs i x → best ≡ latest (flat_map c (map f (take i xs))) → c (f x) ≡ [] → next ≡ best → next ≡ latest (flat_map c (map f (take (i + 1) xs)))
-  latest_none c f xs i x best next within is so_far none same =
-      latest_more c f xs i x best next within is so_far (same ∙ sym (latest_alone best) ∙ ap (λ ys. latest (option_to_list best ++ ys)) (sym none))
 
 listed_alone : {C : Type 0} (o : Option C) → option_to_list o ≡ cons_option o []
 listed_alone None = refl

@@ -4,7 +4,9 @@ ghost use Rattle.std.specs.List.{Contains};
 ghost use Rattle.std.specs.List.Sorted.{IsStrictlySortedBy};
 ghost use Rattle.std.specs.Map.{keys_of};
 ghost use Rattle.jr_path.specs.Ids.{id_cmp};
-ghost use Rattle.jr_path.specs.Names.{name_cmp};
+ghost use Rattle.std.specs.Option.{option_map};
+ghost use Rattle.jr_path.specs.Names.{last_name, name_cmp};
+ghost use Rattle.jr_path.specs.declared.path.DocId.TheVariants.{Node};
 ghost use Rattle.jr_tree.specs.Trees.{born_of, is_child_of};
 ghost use Rattle.oak_read.specs.Meaning.{documents_in, found_node, child_found, found_children};
 
@@ -57,17 +59,39 @@ pub(crate) fn child_found(
     ensures { IfOk result (λ child. child ≡ child_found (documents_in documents.now)
         pin.now.sweep pin.now.base path.now id.now) }
 {
-    let DocId::Node(at) = id else {
-        return Ok(None);
-    };
+    match id {
+        DocId::Node(at) => child_at(alloc, documents, pin, path, at),
+        _ => Ok(None),
+    }
+}
+
+// The name of the node at the second path, with the revision that added it, where it is found and is a
+// child of the first path's node.
+pub(crate) fn child_at(
+    alloc: Global,
+    documents: &Keyed<DocId, Document>,
+    pin: &Pin,
+    path: &Path,
+    at: &Path,
+) -> Result<Option<(Name, Option<Revision>)>, AllocError>
+    ensures { IfOk result (λ child. child ≡ child_found (documents_in documents.now)
+        pin.now.sweep pin.now.base path.now (Node at.now)) }
+{
     if !is_child(path, at) {
         return Ok(None);
     }
     let Some(node) = find_node(alloc, documents, pin, at)? else {
         return Ok(None);
     };
+    named(at, node.born)
+}
+
+// The last name of a path, with the revision that added its node.
+fn named(at: &Path, born: Option<Revision>) -> Result<Option<(Name, Option<Revision>)>, AllocError>
+    ensures { IfOk result (λ named. named ≡ option_map (λ n. (n, born)) (last_name at.now)) }
+{
     match at.last_name() {
-        Some(name) => Ok(Some((name.copy()?, node.born))),
+        Some(name) => Ok(Some((name.copy()?, born))),
         None => Ok(None),
     }
 }

@@ -24,11 +24,30 @@ pub(crate) fn latest_with<'a, V>(
 {
     let mut best = best;
     for (r, value) in entries.iter() {
-        if counts(alloc, documents, pin, document, *r)? {
-            best = Some(later(best, *r, value));
-        }
+        best = entry_with(alloc, documents, pin, document, *r, value, best)?;
     }
     Ok(best)
+}
+
+// The latest of the best so far and an entry of a document, where that counts.
+fn entry_with<'a, V>(
+    alloc: Global,
+    documents: &Keyed<DocId, Document>,
+    pin: &Pin,
+    document: &Document,
+    r: Revision,
+    value: &'a V,
+    best: Option<(Revision, &'a V)>,
+) -> Result<Option<(Revision, &'a V)>, AllocError>
+    ensures { IfOk result (λ next. shown next ≡ latest (option_to_list (shown best.entry)
+        ++ counting_among (documents_in documents.now) pin.now.sweep pin.now.base document.now
+        ((r, value.now) ∷ []))) }
+{
+    if counts(alloc, documents, pin, document, r)? {
+        Ok(Some(later(best, r, value)))
+    } else {
+        Ok(best)
+    }
 }
 
 // The later of the best so far and an entry; of one revision the best so far.

@@ -1,13 +1,15 @@
 // The node at a path.
-ghost use Rattle.std.specs.Prelude.{◌≡◌, ◌++◌, IfOk, OnOk, map, fold, option_to_list};
+ghost use Rattle.std.specs.Prelude.{◌≡◌, ◌++◌, Some, IfOk, OnOk, map, fold, option_to_list};
+ghost use Rattle.std.specs.BTreeMap.{insert_entry};
 ghost use Rattle.std.specs.List.{filter_map};
 ghost use Rattle.std.specs.Map.{keys_of};
 ghost use Rattle.std.specs.Map.Iter.{deref};
 ghost use Rattle.std.specs.Option.{option_copied, option_flatten, option_map};
-ghost use Rattle.jr_path.specs.declared.path.DocId.TheVariants.{Prev};
+ghost use Rattle.jr_path.specs.Names.{name_cmp};
+ghost use Rattle.jr_path.specs.declared.path.DocId.TheVariants.{Prev, Node as node_id};
 ghost use Rattle.oak_doc.specs.Updates.{values_of_property};
-ghost use Rattle.oak_read.specs.Meaning.{documents_in, entry_of, value_of, properties_in, found_node};
-ghost use Rattle.oak_read.specs.Shown.{with_previous, with_property};
+ghost use Rattle.oak_read.specs.Meaning.{documents_in, entry_of, value_of, properties_in, found_node, latest};
+ghost use Rattle.oak_read.specs.Shown.{counting_among, node_over, shown, with_previous, with_property};
 
 use crate::latest::latest_with;
 use jr_path::{DeepCopy, DocId, Keyed, Name, Path};
@@ -28,14 +30,57 @@ pub fn find_node(
     ensures { IfOk result (λ node. node
         ≡ found_node (documents_in documents.now) pin.now.sweep pin.now.base path.now) }
 {
-    let Some(document) = document_at(documents, DocId::Node(path.copy()?)) else {
-        return Ok(None);
-    };
+    match node_document(documents, path)? {
+        Some(document) => node_of(alloc, documents, pin, path, document),
+        None => Ok(None),
+    }
+}
+
+// The node at a path whose document this is.
+fn node_of(
+    alloc: Global,
+    documents: &Keyed<DocId, Document>,
+    pin: &Pin,
+    path: &Path,
+    document: &Document,
+) -> Result<Option<Node>, AllocError>
+    ensures { IfOk result (λ node. node ≡ node_over (documents_in documents.now)
+        pin.now.sweep pin.now.base (with_previous (documents_in documents.now) path.now document.now)) }
+{
     let all = documents_at(alloc, documents, path, document)?;
-    let Some((added, false)) = deleted_at(alloc, documents, pin, &all)? else {
+    node_over(alloc, documents, pin, &all)
+}
+
+// The node over its documents.
+fn node_over(
+    alloc: Global,
+    documents: &Keyed<DocId, Document>,
+    pin: &Pin,
+    all: &[&Document],
+) -> Result<Option<Node>, AllocError>
+    ensures { IfOk result (λ node. node ≡ node_over (documents_in documents.now)
+        pin.now.sweep pin.now.base (map deref all.now)) }
+{
+    let Some((added, false)) = deleted_at(alloc, documents, pin, all)? else {
         return Ok(None);
     };
-    let props = properties_in(alloc, documents, pin, &all)?;
+    node_added(alloc, documents, pin, all, added)
+}
+
+// The node that a revision added, over its documents.
+fn node_added(
+    alloc: Global,
+    documents: &Keyed<DocId, Document>,
+    pin: &Pin,
+    all: &[&Document],
+    added: Revision,
+) -> Result<Option<Node>, AllocError>
+    ensures { IfOk result (λ node. node ≡ Some (record {
+      props = properties_in (documents_in documents.now) pin.now.sweep pin.now.base (map deref all.now);
+      born = Some added;
+    })) }
+{
+    let props = properties_in(alloc, documents, pin, all)?;
     Ok(Some(Node {
         props,
         born: Some(added),
@@ -66,6 +111,18 @@ pub(crate) fn document_at(documents: &Keyed<DocId, Document>, id: DocId) -> Opti
     documents.get(&id)
 }
 
+// The document of the node at a path.
+pub(crate) fn node_document<'a>(
+    documents: &'a Keyed<DocId, Document>,
+    path: &Path,
+) -> Result<Option<&'a Document>, AllocError>
+    ensures { IfOk result (λ found. option_copied found
+        ≡ documents_in documents.now (node_id path.now)) }
+{
+    let id = DocId::Node(path.copy()?);
+    Ok(document_at(documents, id))
+}
+
 // The document of a path and the previous documents that it lists and that are there.
 pub(crate) fn documents_at<'a>(
     alloc: Global,
@@ -77,9 +134,22 @@ pub(crate) fn documents_at<'a>(
         ≡ with_previous (documents_in documents.now) path.now document.now) }
 {
     let mut all = Vec::new(alloc);
-    all.push(document)?;
-    add_previous(documents, path, document.prev.inner(), &mut all)?;
+    add_documents(documents, path, document, &mut all)?;
     Ok(all)
+}
+
+// Adds the document of a path and the previous documents that it lists and that are there.
+fn add_documents<'a>(
+    documents: &'a Keyed<DocId, Document>,
+    path: &Path,
+    document: &'a Document,
+    all: &mut Vec<&'a Document>,
+) -> Result<(), AllocError>
+    ensures { OnOk result (map deref all.new.items ≡ map deref all.old.items
+        ++ with_previous (documents_in documents.now) path.now document.now) }
+{
+    all.push(document)?;
+    add_previous(documents, path, document.prev.inner(), all)
 }
 
 // Adds the listed previous documents of a path that are there.
@@ -144,13 +214,30 @@ fn property_at<'a>(
 {
     let mut best = None;
     for document in all {
-        if let Some(values) = document.props.get(name) {
-            best = latest_with(alloc, documents, pin, document, values, best)?;
-        }
+        best = value_with(alloc, documents, pin, document, name, best)?;
     }
     match best {
         Some((_, Some(property))) => Ok(Some(property)),
         _ => Ok(None),
+    }
+}
+
+// The latest of the best so far and the values of a property in a document that count.
+fn value_with<'a>(
+    alloc: Global,
+    documents: &Keyed<DocId, Document>,
+    pin: &Pin,
+    document: &'a Document,
+    name: &Name,
+    best: Option<(Revision, &'a Option<Property>)>,
+) -> Result<Option<(Revision, &'a Option<Property>)>, AllocError>
+    ensures { IfOk result (λ next. shown next ≡ latest (option_to_list (shown best.entry)
+        ++ counting_among (documents_in documents.now) pin.now.sweep pin.now.base document.now
+        (values_of_property document.now.props name.now))) }
+{
+    match document.props.get(name) {
+        Some(values) => latest_with(alloc, documents, pin, document, values, best),
+        None => Ok(best),
     }
 }
 
@@ -168,9 +255,47 @@ fn add_properties(
         found.old (keys_of document.now.props)) }
 {
     for (name, _) in document.props.iter() {
-        if let Some(property) = property_at(alloc, documents, pin, all, name)? {
-            found.put(name.copy()?, property.copy()?)?;
-        }
+        add_property(alloc, documents, pin, all, name, found)?;
     }
     Ok(())
+}
+
+// Adds the property of a name, where it has a value that counts.
+fn add_property(
+    alloc: Global,
+    documents: &Keyed<DocId, Document>,
+    pin: &Pin,
+    all: &[&Document],
+    name: &Name,
+    found: &mut Keyed<Name, Property>,
+) -> Result<(), AllocError>
+    ensures { OnOk result (found.new ≡ with_property (documents_in documents.now)
+        pin.now.sweep pin.now.base (map deref all.now) found.old name.now) }
+{
+    match property_at(alloc, documents, pin, all, name)? {
+        Some(property) => put_copy(found, name, property),
+        None => Ok(()),
+    }
+}
+
+// Puts a copy of a property under a copy of its name.
+fn put_copy(
+    found: &mut Keyed<Name, Property>,
+    name: &Name,
+    property: &Property,
+) -> Result<(), AllocError>
+    ensures { OnOk result (found.new ≡ insert_entry name_cmp found.old name.now property.now) }
+{
+    put_named(found, name.copy()?, property)
+}
+
+// Puts a copy of a property under a name.
+fn put_named(
+    found: &mut Keyed<Name, Property>,
+    name: Name,
+    property: &Property,
+) -> Result<(), AllocError>
+    ensures { OnOk result (found.new ≡ insert_entry name_cmp found.old name property.now) }
+{
+    found.put(name, property.copy()?)
 }

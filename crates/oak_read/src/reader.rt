@@ -1,12 +1,17 @@
 // The reading automaton.
-ghost use Rattle.std.specs.Prelude.{◌≡◌, ◌↔◌, IfOk, IsTrue, OnErr, OnOk, Some, codes};
+ghost use Rattle.std.specs.Prelude.{◌≡◌, ◌↔◌, ◌∷◌, ◌++◌, [], IfOk, IsTrue, OnErr, OnOk, Some, codes, false, is_some, option_to_list};
+ghost use Rattle.std.specs.BTreeMap.{is_at};
+ghost use Rattle.std.specs.Map.{lookup};
+ghost use Rattle.jr_path.specs.declared.path.DocId.TheVariants.{Node as node_id};
 ghost use Rattle.jr_path.specs.Ids.{id_cmp};
+ghost use Rattle.oak_read.specs.Meaning.{child_found, documents_in};
+ghost use Rattle.oak_read.specs.Kept.{child_noted, node_read};
 ghost use Rattle.oak_read.specs.Reading.{ReadsChildren, ReadsNode, child_at, children_reader, due, ended, fed, fed_main, fed_next, node_reader, noted, on_main, on_previous, on_roots, passed_by, settled};
 ghost use Rattle.oak_doc.specs.declared.asks.Ask.TheVariants as ask;
 ghost use Rattle.oak_doc.specs.declared.asks.Reply.TheVariants.{Found};
 ghost use Rattle.oak_read.specs.declared.reader.Step.TheVariants.{Done};
 
-use crate::children::{child_found, is_child};
+use crate::children::{child_at, is_child};
 use crate::node::find_node;
 use crate::wanted::{Left, previous_wanted, roots_wanted};
 use jr_path::{DeepCopy, DocId, Keyed, List, Name, Path};
@@ -98,12 +103,13 @@ impl Reader {
     pub fn children(alloc: Global, path: &Path, pin: &Pin) -> Result<Reader, AllocError>
         ensures { IfOk result (λ reader. reader ≡ children_reader alloc pin.now path.now) }
     {
+        let at = first_child(alloc, path)?;
         let parent = path.copy()?;
         Ok(Reader {
             alloc,
             pin: *pin,
             parent: Some(parent),
-            at: path.child(&least_name(alloc)?)?,
+            at,
             known: Keyed::new(alloc),
             names: List::new(alloc),
             step: Step::Main,
@@ -115,10 +121,10 @@ impl Reader {
         ensures { IfOk result (λ ask. ask ≡ due self.now) }
     {
         match &self.step {
-            Step::Main => Ok(Ask::Find(DocId::Node(self.at.copy()?))),
-            Step::Next => Ok(Ask::NextAfter(Some(DocId::Node(self.at.copy()?)))),
-            Step::Previous(left) => Ok(Ask::Find(left.first.copy()?)),
-            Step::Roots(left) => Ok(Ask::Find(left.first.copy()?)),
+            Step::Main => find_node_of(&self.at),
+            Step::Next => next_behind(&self.at),
+            Step::Previous(left) => find_first(left),
+            Step::Roots(left) => find_first(left),
             Step::Done(_) => Ok(Ask::Done),
         }
     }
@@ -188,14 +194,34 @@ impl Reader {
         ensures ok { OnOk result (self.new ≡ fed_next self.old found) }
         ensures err { OnErr result (self.new ≡ self.old) }
     {
-        let Some(document) = found else {
-            self.end();
-            return Ok(());
-        };
-        let Some(at) = self.child_at(&document.id)? else {
-            self.end();
-            return Ok(());
-        };
+        match found {
+            Some(document) => self.feed_behind(document),
+            None => {
+                self.end();
+                Ok(())
+            }
+        }
+    }
+
+    // Takes a document behind that of the node.
+    fn feed_behind(&mut self, document: Document) -> Result<(), AllocError>
+        ensures ok { OnOk result (self.new ≡ fed_next self.old (Some document)) }
+        ensures err { OnErr result (self.new ≡ self.old) }
+    {
+        match self.child_at(&document.id)? {
+            Some(at) => self.note_child(at, document),
+            None => {
+                self.end();
+                Ok(())
+            }
+        }
+    }
+
+    // Takes the document of a child.
+    fn note_child(&mut self, at: Path, document: Document) -> Result<(), AllocError>
+        ensures ok { OnOk result (self.new ≡ child_noted self.old at document) }
+        ensures err { OnErr result (self.new ≡ self.old) }
+    {
         let id = document.id.copy()?;
         let before = mem::replace(&mut self.at, at);
         match self.note(id, document) {
@@ -258,14 +284,26 @@ impl Reader {
         ensures err { OnErr result (self.new ≡ self.old) }
     {
         if self.known.contains(&id) {
-            return self.settle();
+            self.settle()
+        } else {
+            self.keep(&id, document)
         }
+    }
+
+    // Keeps a document of an id that isn't known, and goes on.
+    fn keep(&mut self, id: &DocId, document: Document) -> Result<(), AllocError>
+        requires { is_some (lookup (is_at (id_cmp id.now)) self.old.known) ≡ false }
+        ensures ok { OnOk result (self.new ≡ settled (noted self.old id.now (Some document))) }
+        ensures err { OnErr result (self.new ≡ self.old) }
+    {
         self.known.put(id.copy()?, document)?;
-        if let Err(error) = self.settle() {
-            self.known.remove(&id);
-            return Err(error);
+        match self.settle() {
+            Ok(()) => Ok(()),
+            Err(error) => {
+                self.known.remove(id);
+                Err(error)
+            }
         }
-        Ok(())
     }
 
     // Goes on to the next document that is due.
@@ -330,18 +368,79 @@ impl Reader {
         ensures ok { OnOk result (self.new ≡ on_roots self.old) }
         ensures err { OnErr result (self.new ≡ self.old) }
     {
-        let Some(parent) = &self.parent else {
-            let node = find_node(self.alloc, &self.known, &self.pin, &self.at)?;
-            self.step = Step::Done(ReadOut::Node(node));
-            return Ok(());
-        };
-        let id = DocId::Node(self.at.copy()?);
-        if let Some(child) = child_found(self.alloc, &self.known, &self.pin, parent, &id)? {
-            self.names.push(child)?;
+        match &self.parent {
+            None => self.conclude_node(),
+            Some(parent) => {
+                add_child(
+                    self.alloc,
+                    &self.known,
+                    &self.pin,
+                    parent,
+                    &self.at,
+                    &mut self.names,
+                )?;
+                self.step = Step::Next;
+                Ok(())
+            }
         }
-        self.step = Step::Next;
+    }
+
+    // All that the node takes is known, and it is wanted itself.
+    fn conclude_node(&mut self) -> Result<(), AllocError>
+        ensures ok { OnOk result (self.new ≡ node_read self.old) }
+        ensures err { OnErr result (self.new ≡ self.old) }
+    {
+        let node = find_node(self.alloc, &self.known, &self.pin, &self.at)?;
+        self.step = Step::Done(ReadOut::Node(node));
         Ok(())
     }
+}
+
+// Adds the name of the node at the second path, where it is found and is a child of the first path's node.
+fn add_child(
+    alloc: Global,
+    known: &Keyed<DocId, Document>,
+    pin: &Pin,
+    parent: &Path,
+    at: &Path,
+    names: &mut List<(Name, Option<Revision>)>,
+) -> Result<(), AllocError>
+    ensures ok { OnOk result (names.new ≡ names.old ++ option_to_list
+        (child_found (documents_in known.now) pin.now.sweep pin.now.base parent.now (node_id at.now))) }
+    ensures err { OnErr result (names.new ≡ names.old) }
+{
+    match child_at(alloc, known, pin, parent, at)? {
+        Some(child) => names.push(child),
+        None => Ok(()),
+    }
+}
+
+// Asks for the document of the node at a path.
+fn find_node_of(at: &Path) -> Result<Ask, AllocError>
+    ensures { IfOk result (λ asking. asking ≡ ask.Find (node_id at.now)) }
+{
+    Ok(Ask::Find(DocId::Node(at.copy()?)))
+}
+
+// Asks for the document behind that of the node at a path.
+fn next_behind(at: &Path) -> Result<Ask, AllocError>
+    ensures { IfOk result (λ asking. asking ≡ ask.NextAfter (Some (node_id at.now))) }
+{
+    Ok(Ask::NextAfter(Some(DocId::Node(at.copy()?))))
+}
+
+// Asks for the first of the documents that are still to be read.
+fn find_first(left: &Left) -> Result<Ask, AllocError>
+    ensures { IfOk result (λ asking. asking ≡ ask.Find left.now.first) }
+{
+    Ok(Ask::Find(left.first.copy()?))
+}
+
+// The path of the first name that a child of a node can have.
+fn first_child(alloc: Global, path: &Path) -> Result<Path, AllocError>
+    ensures { IfOk result (λ first. first ≡ path.now ++ codes "!" ∷ []) }
+{
+    path.child(&least_name(alloc)?)
 }
 
 // The first of all names: no name begins with a space or a control character.

@@ -6,10 +6,12 @@ ghost use Rattle.std.specs.Map.{keys_of};
 ghost use Rattle.std.specs.Map.Iter.{deref};
 ghost use Rattle.jr_path.specs.declared.path.DocId.TheVariants.{Prev};
 ghost use Rattle.jr_rev.specs.Vectors.{sees};
+ghost use Rattle.oak_read.specs.Meaning.{documents_in};
+ghost use Rattle.oak_read.specs.Shown.{with_previous};
 ghost use Rattle.oak_read.specs.Wanted.{asked_roots, left_of, previous_wanted, property_roots, roots_of, roots_wanted, with_unknown};
 
 use crate::committed::commit_root_of;
-use crate::node::{document_at, documents_at};
+use crate::node::{documents_at, node_document};
 use jr_path::{DeepCopy, DocId, Keyed, Path};
 use jr_rev::{Pin, Revision};
 use oak_doc::{Document, PrevEntry};
@@ -58,7 +60,7 @@ pub(crate) fn previous_wanted(
     ensures { IfOk result (λ wanted. wanted ≡ previous_wanted known.now path.now) }
 {
     let mut wanted = Keyed::new(alloc);
-    if let Some(document) = document_at(known, DocId::Node(path.copy()?)) {
+    if let Some(document) = node_document(known, path)? {
         add_listed(known, path, document.prev.as_slice(), &mut wanted)?;
     }
     Ok(wanted)
@@ -93,11 +95,28 @@ pub(crate) fn roots_wanted(
         ≡ roots_wanted pin.now.sweep pin.now.base known.now whole path.now) }
 {
     let mut wanted = Keyed::new(alloc);
-    if let Some(document) = document_at(known, DocId::Node(path.copy()?)) {
-        let all = documents_at(alloc, known, path, document)?;
-        add_roots_of_all(alloc, known, pin, whole, &all, &mut wanted)?;
+    if let Some(document) = node_document(known, path)? {
+        add_roots_at(alloc, known, pin, whole, path, document, &mut wanted)?;
     }
     Ok(wanted)
+}
+
+// Adds the commit roots that are asked for the document of a path and the previous documents that it lists.
+fn add_roots_at(
+    alloc: Global,
+    known: &Keyed<DocId, Document>,
+    pin: &Pin,
+    whole: bool,
+    path: &Path,
+    document: &Document,
+    wanted: &mut Keyed<DocId, ()>,
+) -> Result<(), AllocError>
+    ensures { OnOk result (wanted.new ≡ fold (with_unknown known.now) wanted.old
+        (flat_map (roots_of pin.now.sweep pin.now.base whole)
+        (with_previous (documents_in known.now) path.now document.now))) }
+{
+    let all = documents_at(alloc, known, path, document)?;
+    add_roots_of_all(alloc, known, pin, whole, &all, wanted)
 }
 
 // Adds the commit roots that are asked for some documents.

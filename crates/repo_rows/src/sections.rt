@@ -4,31 +4,32 @@ use crate::plays::add_play;
 use crate::runs::{add_meaning, add_octets, add_option, add_status, add_unread};
 use crate::{cases, scripts, workers};
 use rows::{Out, cut};
-use std::alloc::Global;
 use std::sync::Wait;
 use std::thread::Threads;
 
-// A line for each line; those behind `== laws` are of laws.
-pub(crate) fn answers<R: Threads + Wait + Sync>(rt: &R, alloc: Global, input: &[u8]) -> Out {
-    let mut out = Out::new(alloc);
-    let mut is_of_laws = false;
-    for line in str::from_utf8(input).unwrap_or("").lines() {
-        if line == "== laws" {
-            is_of_laws = true;
-        }
-        add_line(rt, line, is_of_laws, &mut out);
-        out.put("\n");
-    }
-    out
+/// Whether the lines are of laws.
+#[derive(Drop)]
+pub struct Repo {
+    is_of_laws: bool,
 }
 
-fn add_line<R: Threads + Wait + Sync>(rt: &R, line: &str, is_of_laws: bool, out: &mut Out) {
-    if line == "== laws" {
-        out.put(line);
-    } else if is_of_laws {
-        cases::add(line, out);
-    } else {
-        add_of(rt, line, out);
+impl Repo {
+    /// Before any line. It takes no memory.
+    pub fn new() -> Repo {
+        Repo { is_of_laws: false }
+    }
+
+    /// Puts out what comes of a line. Lines behind `== laws` are of laws.
+    pub fn add<R: Threads + Wait + Sync>(&mut self, rt: &R, line: &str, out: &mut Out) {
+        if line == "== laws" {
+            self.is_of_laws = true;
+            return out.put(line);
+        }
+        if self.is_of_laws {
+            cases::add(line, out);
+        } else {
+            add_of(rt, line, out);
+        }
     }
 }
 

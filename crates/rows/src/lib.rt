@@ -1,15 +1,12 @@
-//! What programs of rows share: their frame, the text that they write, and what stands in texts and
-//! in JSON.
+//! What rows share: the text that they write, and what stands in texts and in JSON.
 #![tactic(auto)]
 
 mod edits;
-mod frame;
 mod json;
 mod out;
 mod texts;
 
 pub use edits::edit_of;
-pub use frame::{Rows, answer_all};
 pub use json::{items_in, items_of, large, small, text_at, text_in};
 pub use out::Out;
 pub use texts::{cut, number, revision, short, vector};

@@ -19,21 +19,18 @@ pub fn holds(alloc: Global, tuple: &Tuple<'_>, condition: &Condition) -> Result<
     ensures { IfOk result (λ so. so ≡ holds tuple.now condition.now) }
 {
     match condition {
-        Condition::Not(inner) => Ok(!holds(alloc, tuple, inner)?),
-        Condition::And(first, second) => {
-            if holds(alloc, tuple, first)? {
-                holds(alloc, tuple, second)
-            } else {
-                Ok(false)
-            }
-        }
-        Condition::Or(first, second) => {
-            if holds(alloc, tuple, first)? {
-                Ok(true)
-            } else {
-                holds(alloc, tuple, second)
-            }
-        }
+        Condition::Not(inner) => match holds(alloc, tuple, inner) {
+            Ok(so) => Ok(!so),
+            refused => refused,
+        },
+        Condition::And(first, second) => match holds(alloc, tuple, first) {
+            Ok(true) => holds(alloc, tuple, second),
+            answer => answer,
+        },
+        Condition::Or(first, second) => match holds(alloc, tuple, first) {
+            Ok(false) => holds(alloc, tuple, second),
+            answer => answer,
+        },
         Condition::Has(property) => Ok(tuple.property(property).is_some()),
         Condition::Compare(operand, operator, value) => {
             is_compared(alloc, tuple, operand, *operator, value)

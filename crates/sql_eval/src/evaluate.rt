@@ -1,17 +1,21 @@
 // The rows of a query.
-ghost use Rattle.std.specs.Prelude.{◌≡◌, true, IfOk, map};
+ghost use Rattle.std.specs.Prelude.{◌≡◌, ◌∷◌, ◌++◌, [], true, IfOk, OnOk, map};
 ghost use Rattle.std.specs.List.{filter};
-ghost use Rattle.std.specs.Option.{option_copied, option_map_or};
+ghost use Rattle.std.specs.Map.Iter.{deref_pair};
+ghost use Rattle.std.specs.Option.{option_copied, option_map, option_map_or};
 ghost use Rattle.sql_eval.specs.Conditions.{holds};
+ghost use Rattle.sql_eval.specs.declared.row.Cell.TheVariants as cell;
 ghost use Rattle.sql_eval.specs.Rows.{AreRows, AreRowsOf, cell_of, filtered, row_of, that_pass};
 
 use crate::condition::holds;
 use crate::join::tuples_of;
+use crate::lists::push;
 use crate::row::{Cell, Row};
 use crate::sorting::{sort_by_paths, sorted_by_orders};
-use crate::tuple::Tuple;
+use crate::tuple::{Spot, Tuple};
 use jr_path::{DeepCopy, List, Name};
 use jr_tree::Tree;
+use jr_value::Property;
 use sql_query::{Column, Condition, Query};
 use std::alloc::{AllocError, Global};
 
@@ -83,7 +87,7 @@ fn that_hold<'a>(
     let mut tuples = Vec::new(alloc);
     for tuple in all {
         if holds(alloc, &tuple, condition)? {
-            tuples.push(tuple)?;
+            push(&mut tuples, tuple)?;
         }
     }
     Ok(tuples)
@@ -94,7 +98,7 @@ fn rows_of(alloc: Global, columns: &[Column], tuples: &[Tuple<'_>]) -> Result<Ve
 {
     let mut rows = Vec::new(alloc);
     for tuple in tuples {
-        rows.push(row_of(alloc, columns, tuple)?)?;
+        push(&mut rows, row_of(alloc, columns, tuple)?)?;
     }
     Ok(rows)
 }
@@ -104,7 +108,7 @@ fn row_of(alloc: Global, columns: &[Column], tuple: &Tuple<'_>) -> Result<Row, A
 {
     let mut cells = Vec::new(alloc);
     for column in columns {
-        cells.push(cell_of(tuple, column)?)?;
+        push(&mut cells, cell_of(tuple, column)?)?;
     }
     Ok(Row {
         cells: List::of(cells),
@@ -115,13 +119,27 @@ fn cell_of(tuple: &Tuple<'_>, column: &Column) -> Result<Cell, AllocError>
     ensures { IfOk result (λ cell. cell ≡ cell_of tuple.now column.now) }
 {
     match column {
-        Column::Node(selector) => match tuple.spot(*selector) {
-            Some((path, _)) => Ok(Cell::Node(path.copy()?)),
-            None => Ok(Cell::Null),
-        },
-        Column::Property(property) => match tuple.property(property) {
-            Some(value) => Ok(Cell::Value(value.copy()?)),
-            None => Ok(Cell::Null),
-        },
+        Column::Node(selector) => node_cell(tuple.spot(*selector)),
+        Column::Property(property) => property_cell(tuple.property(property)),
+    }
+}
+
+// The path of a node, where there is one.
+fn node_cell(spot: Option<Spot<'_>>) -> Result<Cell, AllocError>
+    ensures { IfOk result (λ made. made ≡ option_map_or (λ e. cell.Node e.0) (option_map deref_pair spot.entry) cell.Null) }
+{
+    match spot {
+        Some((path, _)) => Ok(Cell::Node(path.copy()?)),
+        None => Ok(Cell::Null),
+    }
+}
+
+// A property, where there is one.
+fn property_cell(property: Option<&Property>) -> Result<Cell, AllocError>
+    ensures { IfOk result (λ made. made ≡ option_map_or cell.Value (option_copied property.entry) cell.Null) }
+{
+    match property {
+        Some(property) => Ok(Cell::Value(property.copy()?)),
+        None => Ok(Cell::Null),
     }
 }

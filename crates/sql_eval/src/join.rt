@@ -1,14 +1,16 @@
 // The nodes of a selector, and joins.
 ghost use Rattle.std.specs.Prelude.{◌≡◌, ◌+◌, ◌∷◌, ◌++◌, [], None, Some, IfOk, OnOk, codes, map, not, length};
-ghost use Rattle.std.specs.List.{filter, flat_map, list_any};
+ghost use Rattle.std.specs.List.{filter, flat_map, list_any, repeat, zip};
 ghost use Rattle.std.specs.Map.Iter.{deref_pair};
 ghost use Rattle.std.specs.Option.{option_copied, option_map};
 ghost use Rattle.std.specs.Ordering.{eq_by_cmp};
 ghost use Rattle.jr_path.specs.Names.{name_cmp};
+ghost use Rattle.sql_query.specs.declared.query.On.TheVariants.{Equal};
 ghost use Rattle.sql_eval.specs.Conditions.{is_child, is_descendant, is_same, property_of, spot_of};
-ghost use Rattle.sql_eval.specs.Joins.{is_lonely_spot, is_lonely_tuple, is_name_among, is_typed, joined, joins, lonely_spots, lonely_tuples, nodes_of_type, pairs, paths_pass, tuples_of, type_properties, with_spot};
+ghost use Rattle.sql_eval.specs.Joins.{is_lonely_spot, is_lonely_tuple, is_name_among, is_typed, joined, joined_all, joins, lonely, lonely_spots, lonely_tuples, nodes_of_type, pairs, paths_pass, tuples_of, type_properties, with_spot};
 
 use crate::condition::{is_spot_child, is_spot_descendant, is_spot_same};
+use crate::lists::push;
 use crate::tuple::{Spot, Tuple, property_in};
 use jr_path::Name;
 use jr_tree::{Node, Tree};
@@ -21,9 +23,18 @@ use std::alloc::{AllocError, Global};
 pub fn type_properties(alloc: Global) -> Result<Vec<Name>, AllocError>
     ensures { IfOk result (λ names. names.items ≡ type_properties) }
 {
+    let primary = Name::of(alloc, "jcr:primaryType")?;
+    let mixins = Name::of(alloc, "jcr:mixinTypes")?;
+    both(alloc, primary, mixins)
+}
+
+// Two names.
+fn both(alloc: Global, first: Name, second: Name) -> Result<Vec<Name>, AllocError>
+    ensures { IfOk result (λ names. names.items ≡ first ∷ second ∷ []) }
+{
     let mut names = Vec::new(alloc);
-    names.push(Name::of(alloc, "jcr:primaryType")?)?;
-    names.push(Name::of(alloc, "jcr:mixinTypes")?)?;
+    push(&mut names, first)?;
+    push(&mut names, second)?;
     Ok(names)
 }
 
@@ -40,7 +51,7 @@ pub(crate) fn nodes_of_type<'a>(
     let mut spots = Vec::new(alloc);
     for (path, node) in tree.iter() {
         if has_type(properties, set, node) {
-            spots.push((path, node))?;
+            push(&mut spots, (path, node))?;
         }
     }
     Ok(spots)
@@ -125,24 +136,33 @@ pub fn joins<'a>(on: &On, left: &Tuple<'a>, right: Spot<'a>) -> bool
     ensures { result ≡ joins on.now (with_spot left.now (deref_pair right.entry)) }
 {
     match on {
-        On::Equal(first, second) => {
-            let values = values_in(property_of(left, right, first));
-            let others = values_in(property_of(left, right, second));
-            some_equal(values, others)
-        }
-        On::Same(first, second) => {
-            let spot = spot_in(left, right, *first);
-            are_same(spot, spot_in(left, right, *second))
-        }
-        On::Child(first, second) => {
-            let spot = spot_in(left, right, *first);
-            is_child_of(spot, spot_in(left, right, *second))
-        }
-        On::Descendant(first, second) => {
-            let spot = spot_in(left, right, *first);
-            is_descendant_of(spot, spot_in(left, right, *second))
-        }
+        On::Equal(first, second) => share_value(left, right, first, second),
+        On::Same(first, second) => are_same(
+            spot_in(left, right, *first),
+            spot_in(left, right, *second),
+        ),
+        On::Child(first, second) => is_child_of(
+            spot_in(left, right, *first),
+            spot_in(left, right, *second),
+        ),
+        On::Descendant(first, second) => is_descendant_of(
+            spot_in(left, right, *first),
+            spot_in(left, right, *second),
+        ),
     }
+}
+
+// Whether two properties share a value.
+fn share_value<'a>(
+    left: &Tuple<'a>,
+    right: Spot<'a>,
+    first: &PropertyOf,
+    second: &PropertyOf,
+) -> bool
+    ensures { result ≡ joins (Equal first.now second.now) (with_spot left.now (deref_pair right.entry)) }
+{
+    let values = values_in(property_of(left, right, first));
+    some_equal(values, values_in(property_of(left, right, second)))
 }
 
 fn are_same(spot: Option<Spot<'_>>, other: Option<Spot<'_>>) -> bool
@@ -191,12 +211,26 @@ pub(crate) fn joined<'a>(
 {
     let mut tuples = Vec::new(alloc);
     add_pairs(alloc, &mut tuples, &join.on, left, right)?;
-    match join.kind {
-        JoinKind::Inner => {}
-        JoinKind::LeftOuter => add_lonely_tuples(alloc, &mut tuples, &join.on, left, right)?,
-        JoinKind::RightOuter => add_lonely_spots(alloc, &mut tuples, &join.on, count, left, right)?,
-    }
+    add_lonely(alloc, &mut tuples, join, count, left, right)?;
     Ok(tuples)
+}
+
+// What an outer join has besides the pairs.
+fn add_lonely<'a>(
+    alloc: Global,
+    tuples: &mut Vec<Tuple<'a>>,
+    join: &Join,
+    count: usize,
+    left: &[Tuple<'a>],
+    right: &[Spot<'a>],
+) -> Result<(), AllocError>
+    ensures { OnOk result (tuples.new.items ≡ tuples.old.items ++ lonely join.now.kind join.now.on count left.now (map deref_pair right.now)) }
+{
+    match join.kind {
+        JoinKind::Inner => Ok(()),
+        JoinKind::LeftOuter => add_lonely_tuples(alloc, tuples, &join.on, left, right),
+        JoinKind::RightOuter => add_lonely_spots(alloc, tuples, &join.on, count, left, right),
+    }
 }
 
 fn add_pairs<'a>(
@@ -225,10 +259,22 @@ fn add_pairs_of<'a>(
 {
     for spot in right {
         if joins(on, left, *spot) {
-            tuples.push(left.with(alloc, Some(*spot))?)?;
+            add_with(alloc, tuples, left, Some(*spot))?;
         }
     }
     Ok(())
+}
+
+// A tuple with one more selector.
+fn add_with<'a>(
+    alloc: Global,
+    tuples: &mut Vec<Tuple<'a>>,
+    left: &Tuple<'a>,
+    spot: Option<Spot<'a>>,
+) -> Result<(), AllocError>
+    ensures { OnOk result (tuples.new.items ≡ tuples.old.items ++ (left.now ++ option_map deref_pair spot.entry ∷ []) ∷ []) }
+{
+    push(tuples, left.with(alloc, spot)?)
 }
 
 fn add_lonely_tuples<'a>(
@@ -242,7 +288,7 @@ fn add_lonely_tuples<'a>(
 {
     for tuple in left {
         if is_lonely_tuple(on, tuple, right) {
-            tuples.push(tuple.with(alloc, None)?)?;
+            add_with(alloc, tuples, tuple, None)?;
         }
     }
     Ok(())
@@ -279,10 +325,22 @@ fn add_lonely_spots<'a>(
 {
     for spot in right {
         if is_lonely_spot(on, left, *spot) {
-            tuples.push(Tuple::behind(alloc, count, *spot)?)?;
+            add_behind(alloc, tuples, count, *spot)?;
         }
     }
     Ok(())
+}
+
+// A node behind so many missing ones.
+fn add_behind<'a>(
+    alloc: Global,
+    tuples: &mut Vec<Tuple<'a>>,
+    count: usize,
+    spot: Spot<'a>,
+) -> Result<(), AllocError>
+    ensures { OnOk result (tuples.new.items ≡ tuples.old.items ++ (repeat count (None ∷ []) ++ Some (deref_pair spot.entry) ∷ []) ∷ []) }
+{
+    push(tuples, Tuple::behind(alloc, count, spot)?)
 }
 
 fn is_lonely_spot<'a>(on: &On, left: &[Tuple<'a>], right: Spot<'a>) -> bool
@@ -317,20 +375,68 @@ pub(crate) fn tuples_of<'a>(
         return Ok(Vec::new(alloc));
     };
     let properties = type_properties(alloc)?;
-    let mut tuples = singles(alloc, &nodes_of_type(alloc, tree, &properties, first)?)?;
+    let mut tuples = first_tuples(alloc, tree, &properties, first)?;
+    join_all(alloc, tree, &properties, joins, others, &mut tuples)?;
+    Ok(tuples)
+}
+
+// The nodes of the first selector, each as a tuple.
+fn first_tuples<'a>(
+    alloc: Global,
+    tree: &'a Tree,
+    properties: &[Name],
+    set: &[Name],
+) -> Result<Vec<Tuple<'a>>, AllocError>
+    requires { properties.now ≡ type_properties }
+    ensures { IfOk result (λ tuples. tuples.items ≡ map (λ e. Some e ∷ []) (nodes_of_type tree.now set.now)) }
+{
+    let spots = nodes_of_type(alloc, tree, properties, set)?;
+    let tuples = singles(alloc, &spots)?;
+    Ok(tuples)
+}
+
+// Joins the tuples of the first selector with the nodes of all others, from left to right.
+fn join_all<'a>(
+    alloc: Global,
+    tree: &'a Tree,
+    properties: &[Name],
+    joins: &[Join],
+    sets: &[Vec<Name>],
+    tuples: &mut Vec<Tuple<'a>>,
+) -> Result<(), AllocError>
+    requires { properties.now ≡ type_properties }
+    ensures { OnOk result (tuples.new.items ≡ joined_all tree.now 1 tuples.old.items (zip joins.now (map (λ set. set.items) sets.now))) }
+{
     let mut count = 1;
     let mut joins_left = joins;
-    let mut sets_left = others;
+    let mut sets_left = sets;
     while let [join, more_joins @ ..] = joins_left {
         let [set, more_sets @ ..] = sets_left else {
             break;
         };
-        tuples = joined_with(alloc, tree, &properties, join, count, &tuples, set)?;
+        join_one(alloc, tree, properties, join, count, set, tuples)?;
         count += 1;
         joins_left = more_joins;
         sets_left = more_sets;
     }
-    Ok(tuples)
+    Ok(())
+}
+
+// Joins tuples with the nodes of one more selector.
+fn join_one<'a>(
+    alloc: Global,
+    tree: &'a Tree,
+    properties: &[Name],
+    join: &Join,
+    count: usize,
+    set: &[Name],
+    tuples: &mut Vec<Tuple<'a>>,
+) -> Result<(), AllocError>
+    requires { properties.now ≡ type_properties }
+    ensures { OnOk result (tuples.new.items ≡ joined join.now count tuples.old.items (nodes_of_type tree.now set.now)) }
+{
+    *tuples = joined_with(alloc, tree, properties, join, count, tuples, set)?;
+    Ok(())
 }
 
 // Tuples joined with the nodes of one more selector.
@@ -356,7 +462,17 @@ pub fn singles<'a>(alloc: Global, spots: &[Spot<'a>]) -> Result<Vec<Tuple<'a>>, 
 {
     let mut tuples = Vec::new(alloc);
     for spot in spots {
-        tuples.push(Tuple::new(alloc).with(alloc, Some(*spot))?)?;
+        add_single(alloc, &mut tuples, *spot)?;
     }
     Ok(tuples)
+}
+
+fn add_single<'a>(
+    alloc: Global,
+    tuples: &mut Vec<Tuple<'a>>,
+    spot: Spot<'a>,
+) -> Result<(), AllocError>
+    ensures { OnOk result (tuples.new.items ≡ tuples.old.items ++ (Some (deref_pair spot.entry) ∷ []) ∷ []) }
+{
+    add_with(alloc, tuples, &Tuple::new(alloc), Some(spot))
 }

@@ -1,7 +1,8 @@
 // What rows are ordered by.
-ghost use Rattle.std.specs.Prelude.{◌≡◌, IfOk, map};
+ghost use Rattle.std.specs.Prelude.{◌≡◌, ◌∷◌, ◌++◌, [], IfOk, OnOk, map};
 ghost use Rattle.sql_eval.specs.Keys.{key_in, key_of, ranked_cmp, ranked_of};
 
+use crate::lists::push;
 use crate::operand::{Operated, operand_of};
 use crate::order::{Ordered, lists_cmp};
 use crate::tuple::Tuple;
@@ -48,18 +49,36 @@ fn keys_of<'a>(
 {
     let mut keys = Vec::new(alloc);
     for order in orders {
-        keys.push(key_of(alloc, tuple, order)?)?;
+        add_key(alloc, &mut keys, tuple, order)?;
     }
     Ok(keys)
+}
+
+fn add_key<'a>(
+    alloc: Global,
+    keys: &mut Vec<Key<'a>>,
+    tuple: &Tuple<'a>,
+    order: &Order,
+) -> Result<(), AllocError>
+    ensures { OnOk result (keys.new.items ≡ keys.old.items ++ key_of tuple.now order.now ∷ []) }
+{
+    push(keys, key_of(alloc, tuple, order)?)
 }
 
 fn key_of<'a>(alloc: Global, tuple: &Tuple<'a>, order: &Order) -> Result<Key<'a>, AllocError>
     ensures { IfOk result (λ key. key ≡ key_of tuple.now order.now) }
 {
     let operated = operand_of(alloc, tuple, &order.operand)?;
-    match order.direction {
-        Direction::Ascending => Ok(Key::Rising(operated)),
-        Direction::Descending => Ok(Key::Falling(operated)),
+    Ok(key_in(order.direction, operated))
+}
+
+// What an order looks at, in its direction.
+fn key_in(direction: Direction, operated: Operated<'_>) -> Key<'_>
+    ensures { result ≡ key_in direction operated.entry }
+{
+    match direction {
+        Direction::Ascending => Key::Rising(operated),
+        Direction::Descending => Key::Falling(operated),
     }
 }
 

@@ -7,6 +7,7 @@ mod evaluate;
 mod join;
 mod key;
 mod laws;
+mod lists;
 mod operand;
 mod order;
 mod row;

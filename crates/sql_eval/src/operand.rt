@@ -95,16 +95,23 @@ impl<'a> Operated<'a> {
             None => Ok(Operated::made(None)),
         }
     }
+}
 
-    // The lengths of its values.
-    fn lengths(&self, alloc: Global) -> Result<Operated<'a>, AllocError>
-        ensures { IfOk result (λ lengths. lengths ≡ option_map lengths_of self.now) }
-    {
-        match self.property() {
-            Some(property) => Ok(Operated::made(Some(lengths_of(alloc, property)?))),
-            None => Ok(Operated::made(None)),
-        }
+// The lengths of the values of a property, where there is one.
+fn lengths<'a>(alloc: Global, property: Option<&Property>) -> Result<Operated<'a>, AllocError>
+    ensures { IfOk result (λ lengths. lengths ≡ option_map lengths_of (option_copied property.entry)) }
+{
+    match property {
+        Some(property) => Ok(Operated::made(Some(lengths_of(alloc, property)?))),
+        None => Ok(Operated::made(None)),
     }
+}
+
+// With the letters of ASCII in one case.
+fn turned<'a>(alloc: Global, operated: Operated<'a>, case: Case) -> Result<Operated<'a>, AllocError>
+    ensures { IfOk result (λ turned. turned ≡ option_map (in_case (cased case)) operated.entry) }
+{
+    operated.in_case(alloc, case)
 }
 
 /// What an operand is in a tuple (JSR 283, 6.7.26 to 6.7.33).
@@ -117,11 +124,11 @@ pub(crate) fn operand_of<'a>(
 {
     match operand {
         Operand::Property(property) => Ok(Operated::kept(tuple.property(property))),
-        Operand::Length(property) => Operated::kept(tuple.property(property)).lengths(alloc),
+        Operand::Length(property) => lengths(alloc, tuple.property(property)),
         Operand::Name(selector) => named(alloc, tuple.spot(*selector)),
         Operand::LocalName(selector) => locally_named(alloc, tuple.spot(*selector)),
-        Operand::Lower(inner) => operand_of(alloc, tuple, inner)?.in_case(alloc, Case::Lower),
-        Operand::Upper(inner) => operand_of(alloc, tuple, inner)?.in_case(alloc, Case::Upper),
+        Operand::Lower(inner) => turned(alloc, operand_of(alloc, tuple, inner)?, Case::Lower),
+        Operand::Upper(inner) => turned(alloc, operand_of(alloc, tuple, inner)?, Case::Upper),
     }
 }
 

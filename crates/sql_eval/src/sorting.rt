@@ -1,9 +1,10 @@
 // Tuples in order.
-ghost use Rattle.std.specs.Prelude.{◌≡◌, IfOk, OnOk, map};
+ghost use Rattle.std.specs.Prelude.{◌≡◌, ◌∷◌, ◌++◌, [], IfOk, OnOk, map};
 ghost use Rattle.sql_eval.specs.Keys.{ranked_of};
 ghost use Rattle.sql_eval.specs.Rows.{IsStablySorted, by_orders, by_paths};
 
 use crate::key::{Ranked, keys_cmp, ranked_of};
+use crate::lists::push;
 use crate::tuple::{Tuple, paths_cmp};
 use sql_query::Order;
 use std::alloc::{AllocError, Global};
@@ -39,9 +40,20 @@ fn ranked<'a>(
 {
     let mut ranked = Vec::new(alloc);
     for tuple in tuples {
-        ranked.push(ranked_of(alloc, orders, tuple)?)?;
+        add_ranked(alloc, &mut ranked, orders, tuple)?;
     }
     Ok(ranked)
+}
+
+fn add_ranked<'a>(
+    alloc: Global,
+    ranked: &mut Vec<Ranked<'a>>,
+    orders: &[Order],
+    tuple: Tuple<'a>,
+) -> Result<(), AllocError>
+    ensures { OnOk result (ranked.new.items ≡ ranked.old.items ++ ranked_of orders.now tuple.entry ∷ []) }
+{
+    push(ranked, ranked_of(alloc, orders, tuple)?)
 }
 
 // The tuples without their keys.
@@ -50,7 +62,7 @@ fn tuples_in<'a>(alloc: Global, ranked: Vec<Ranked<'a>>) -> Result<Vec<Tuple<'a>
 {
     let mut tuples = Vec::new(alloc);
     for one in ranked {
-        tuples.push(one.tuple)?;
+        push(&mut tuples, one.tuple)?;
     }
     Ok(tuples)
 }

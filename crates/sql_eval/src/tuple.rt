@@ -6,6 +6,7 @@ ghost use Rattle.std.specs.Option.{option_copied, option_map};
 ghost use Rattle.sql_eval.specs.Conditions.{property_in, property_of, spot_of};
 ghost use Rattle.sql_eval.specs.Rows.{by_paths};
 
+use crate::lists::push;
 use crate::order::{Ordered, lists_cmp};
 use jr_path::{Name, Path};
 use jr_tree::Node;
@@ -73,11 +74,8 @@ impl<'a> Tuple<'a> {
     pub fn with(&self, alloc: Global, spot: Option<Spot<'a>>) -> Result<Tuple<'a>, AllocError>
         ensures { IfOk result (λ tuple. tuple ≡ self.now ++ option_map deref_pair spot.entry ∷ []) }
     {
-        let mut spots = Vec::new(alloc);
-        for own in &self.spots {
-            spots.push(*own)?;
-        }
-        spots.push(spot)?;
+        let mut spots = Vec::from_slice(alloc, &self.spots)?;
+        push(&mut spots, spot)?;
         Ok(Tuple { spots })
     }
 
@@ -87,9 +85,9 @@ impl<'a> Tuple<'a> {
     {
         let mut spots: Vec<Option<Spot<'a>>> = Vec::new(alloc);
         for _ in 0..missing {
-            spots.push(None)?;
+            push(&mut spots, None)?;
         }
-        spots.push(Some(spot))?;
+        push(&mut spots, Some(spot))?;
         Ok(Tuple { spots })
     }
 }

@@ -1,6 +1,6 @@
 // A place in the pieces of a query, and the reading of one piece.
-ghost use Rattle.std.specs.Prelude.{◌≡◌};
-ghost use Rattle.sql_pieces.specs.Reading.{Reads, after, call_first, name_at, paired, place, sign_at, sign_first, word_at, word_first};
+ghost use Rattle.std.specs.Prelude.{◌≡◌, Err, IfErr, IfOk, Ok, OnOk};
+ghost use Rattle.sql_pieces.specs.Reading.{Reads, ReadsAs, after, call_first, name_at, paired, place, sign_at, sign_first, word_at, word_first};
 
 use jr_path::{DeepCopy, Name};
 use jr_value::Kind;
@@ -30,6 +30,18 @@ pub(crate) fn both<A: Drop, B>(value: A, outcome: Result<B, SqlFault>) -> Result
 {
     match outcome {
         Ok(other) => Ok((value, other)),
+        Err(fault) => Err(fault),
+    }
+}
+
+// A value, once what comes behind it is read.
+pub(crate) fn kept<A: Drop>(value: A, outcome: Result<(), SqlFault>) -> Result<A, SqlFault>
+    ensures same { IfOk result (λ kept. kept ≡ value) }
+    ensures ok { OnOk result (outcome ≡ Ok tt) }
+    ensures err { IfErr result (λ fault. outcome ≡ Err fault) }
+{
+    match outcome {
+        Ok(()) => Ok(value),
         Err(fault) => Err(fault),
     }
 }
@@ -89,6 +101,23 @@ impl<'a> Cursor<'a> {
         }
         self.advance();
         Ok(())
+    }
+
+    // Reads `(` behind a function's word.
+    pub(crate) fn open(&mut self) -> Result<(), SqlFault>
+        ensures { Reads result self.new (sign_at Sign.Open (after self.old)) }
+    {
+        self.advance();
+        self.sign(Sign::Open)
+    }
+
+    // Reads `)` behind a value, and gives the value back.
+    pub(crate) fn closed<A: Drop>(&mut self, value: A) -> Result<A, SqlFault>
+        ensures same { IfOk result (λ closed. closed ≡ value) }
+        ensures read { ReadsAs (λ _. tt) result self.new (sign_at Sign.Close self.old) }
+    {
+        let close = self.sign(Sign::Close);
+        kept(value, close)
     }
 
     // Reads a keyword.

@@ -50,8 +50,7 @@ impl<'a> Cursor<'a> {
             return Err(self.fault());
         };
         self.advance();
-        let place = place_or(names, name, at)?;
-        Ok(place)
+        place_or(names, name, at)
     }
 
     // property = [name .] name

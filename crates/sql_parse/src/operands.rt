@@ -1,8 +1,9 @@
 // Operands and values.
-ghost use Rattle.std.specs.Prelude.{◌≡◌, ◌≤◌};
+ghost use Rattle.std.specs.Prelude.{◌≡◌, ◌≤◌, IfErr, IfOk};
 ghost use Rattle.sql_parse.specs.Grammar.{cast_at, cast_value, first_kind, kind_at, literal_at, operand_at, operand_call, operator_at, operator_first, operator_in, plain_operand, property_call, selector_call, static_at, text_at};
 ghost use Rattle.sql_pieces.specs.Reading.{Reads, ReadsAs};
 ghost use Rattle.sql_query.specs.Trees.{look_of};
+ghost use Rattle.sql_query.specs.Trees as tree;
 
 use crate::cursor::{Cursor, both};
 use crate::names::only_or;
@@ -52,33 +53,46 @@ fn first_kind(first: Option<Kind>, kind: Kind) -> Option<Kind>
     }
 }
 
+// LOWER of an operand, where it has memory.
+fn lower(alloc: Global, operand: Operand) -> Result<Operand, SqlFault>
+    ensures ok { IfOk result (λ lower. look_of lower ≡ tree.Lower (look_of operand)) }
+    ensures err { IfErr result (λ fault. fault ≡ SqlFault.Memory) }
+{
+    let operand = Box::new(alloc, operand)?;
+    Ok(Operand::Lower(operand))
+}
+
+// UPPER of an operand, where it has memory.
+fn upper(alloc: Global, operand: Operand) -> Result<Operand, SqlFault>
+    ensures ok { IfOk result (λ upper. look_of upper ≡ tree.Upper (look_of operand)) }
+    ensures err { IfErr result (λ fault. fault ≡ SqlFault.Memory) }
+{
+    let operand = Box::new(alloc, operand)?;
+    Ok(Operand::Upper(operand))
+}
+
 impl<'a> Cursor<'a> {
     // ( property ), behind a function's word
     fn property_call(&mut self, names: &[Name]) -> Result<PropertyOf, SqlFault>
         ensures { Reads result self.new (property_call names.now self.old) }
     {
-        self.advance();
-        self.sign(Sign::Open)?;
+        self.open()?;
         let property = self.property(names)?;
-        let close = self.sign(Sign::Close);
-        let (property, ()) = both(property, close)?;
-        Ok(property)
+        self.closed(property)
     }
 
     // ( [name] ), behind a function's word
     fn selector_call(&mut self, names: &[Name]) -> Result<u32, SqlFault>
         ensures { Reads result self.new (selector_call names.now self.old) }
     {
-        self.advance();
-        self.sign(Sign::Open)?;
+        self.open()?;
         if self.is_sign(Sign::Close) {
             let selector = only_or(names, self.place())?;
             self.advance();
             return Ok(selector);
         }
         let selector = self.declared(names)?;
-        self.sign(Sign::Close)?;
-        Ok(selector)
+        self.closed(selector)
     }
 
     // property | LENGTH(property) | NAME([name]) | LOCALNAME([name])
@@ -86,19 +100,15 @@ impl<'a> Cursor<'a> {
         ensures { ReadsAs look_of result self.new (plain_operand names.now self.old) }
     {
         if self.is_call("LENGTH") {
-            let property = self.property_call(names)?;
-            return Ok(Operand::Length(property));
+            return self.property_call(names).map(Operand::Length);
         }
         if self.is_call("NAME") {
-            let selector = self.selector_call(names)?;
-            return Ok(Operand::Name(selector));
+            return self.selector_call(names).map(Operand::Name);
         }
         if self.is_call("LOCALNAME") {
-            let selector = self.selector_call(names)?;
-            return Ok(Operand::LocalName(selector));
+            return self.selector_call(names).map(Operand::LocalName);
         }
-        let property = self.property(names)?;
-        Ok(Operand::Property(property))
+        self.property(names).map(Operand::Property)
     }
 
     // ( operand ), behind a function's word
@@ -113,12 +123,9 @@ impl<'a> Cursor<'a> {
         requires { level ≤ DEEPEST }
         ensures { ReadsAs look_of result self.new (operand_call (operand_at names.now room.now) self.old) }
     {
-        self.advance();
-        self.sign(Sign::Open)?;
+        self.open()?;
         let operand = self.operand(alloc, names, room, level + 1)?;
-        let close = self.sign(Sign::Close);
-        let (operand, ()) = both(operand, close)?;
-        Ok(operand)
+        self.closed(operand)
     }
 
     // operand = property | LENGTH(property) | NAME([name]) | LOCALNAME([name]) | LOWER(operand) | UPPER(operand).
@@ -142,16 +149,13 @@ impl<'a> Cursor<'a> {
         }
         if self.is_call("LOWER") {
             let operand = self.operand_call(alloc, names, room, level)?;
-            let operand = Box::new(alloc, operand)?;
-            return Ok(Operand::Lower(operand));
+            return lower(alloc, operand);
         }
         if self.is_call("UPPER") {
             let operand = self.operand_call(alloc, names, room, level)?;
-            let operand = Box::new(alloc, operand)?;
-            return Ok(Operand::Upper(operand));
+            return upper(alloc, operand);
         }
-        let operand = self.plain_operand(names)?;
-        Ok(operand)
+        self.plain_operand(names)
     }
 
     // op = = | <> | < | <= | > | >= | LIKE

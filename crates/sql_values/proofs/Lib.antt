@@ -1,2 +1,3 @@
 pub mod Cased
+pub mod Parts
 pub mod Rests

@@ -1,8 +1,8 @@
 -- A text is matched with a pattern row by row, from the pattern's end.
-use Rattle.std.proofs.Common.{◌≡◌, ℕ, suc, ◌-◌, Bool, true, false, ◌&&◌, ◌||◌, List, [], ◌∷◌, map, length, take, ◌≤◌, refl, sym, ap, ◌∙◌, arith}
+use Rattle.std.proofs.Common.{◌≡◌, ℕ, suc, ◌-◌, Bool, true, false, ◌&&◌, ◌||◌, List, [], ◌∷◌, map, length, refl, sym, ap, ◌∙◌, arith}
 use Rattle.std.specs.Prelude.{Some, reverse, slice_get}
 use Rattle.std.specs.List.{fold, zip}
-use Rattle.std.proofs.lemmas.List.{reverse-reverse, take_all}
+use Rattle.std.proofs.lemmas.List.{reverse-reverse}
 use Rattle.std.proofs.lemmas.List.Sums.{fold-append}
 use Rattle.std.proofs.lemmas.Grind.{reverse_onto}
 use mathlib.Core.List.{reverse_aux}
@@ -11,7 +11,7 @@ use Rattle.sql_values.specs.declared.like.Part.TheVariants.{AnyText, AnyCharacte
 use Rattle.std.specs.Str.{chars}
 use Rattle.std.specs.Option.{unwrap_or}
 use Rattle.sql_values.specs.Patterns.{is_like, matches, parts_of}
-use Rattle.sql_values.specs.Matching.{empty_row, next_row, rest_row, takes}
+use Rattle.sql_values.specs.Matching.{all_rows, empty_row, last_of, next_row, rest_row, takes}
 
 -- which rests of a text are of the pattern, the shortest first: cs is the first, and the text's other characters are given backwards
 abbrev pub rests : List Part → List ℕ → List ℕ → List Bool
@@ -76,9 +76,6 @@ last_is ps text row h =
     ∙ ap (λ t. Some (matches ps t)) (reverse-reverse text)
 
 -- the last entry of the row after all parts says whether the whole text is of the pattern
-pub whole : (text pattern : List ℕ) (ps qs : List Part) (before : List ℕ) (row : List Bool) (n : ℕ) → ps ≡ parts_of (chars pattern) → qs ≡ reverse ps → before ≡ reverse (chars text) → row ≡ fold (λ row p. next_row p before row) (empty_row before) (take n qs) → length qs ≤ n → unwrap_or (slice_get row (length row - 1)) false ≡ is_like text pattern
-whole text pattern ps qs before row n h q b r end =
-    let is : row ≡ rests ps [] (reverse (chars text)) =
-    r ∙ ap (fold (λ row p. next_row p before row) (empty_row before)) (take_all n qs end ∙ q) ∙ all_parts ps before ∙ ap (rests ps []) b
-    in
-    ap (λ o. unwrap_or o false) (last_is ps (chars text) row is) ∙ ap (λ parts. matches parts (chars text)) h
+pub whole : (text pattern : List ℕ) → last_of (all_rows (reverse (parts_of (chars pattern))) (reverse (chars text))) ≡ is_like text pattern
+whole text pattern =
+    ap (λ o. unwrap_or o false) (last_is (parts_of (chars pattern)) (chars text) _ (all_parts (parts_of (chars pattern)) (reverse (chars text))))

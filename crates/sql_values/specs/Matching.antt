@@ -1,7 +1,8 @@
 -- How a text is matched with a pattern: from the pattern's end, which rests of the text are of it. A row says so of
 -- each rest, the shortest first, so the text's characters are taken backwards.
-use Rattle.std.specs.Prelude.{ℕ, Bool, true, false, ◌&&◌, ◌||◌, ◌==◌, List, [], ◌∷◌, map}
-use Rattle.std.specs.List.{zip}
+use Rattle.std.specs.Prelude.{ℕ, ◌-◌, Bool, true, false, ◌&&◌, ◌||◌, ◌==◌, List, [], ◌∷◌, length, map, slice_get}
+use Rattle.std.specs.List.{fold, zip}
+use Rattle.std.specs.Option.{unwrap_or}
 use Rattle.sql_values.specs.declared.like.Part.{Part}
 use Rattle.sql_values.specs.declared.like.Part.TheVariants.{AnyText, AnyCharacter, Exactly}
 
@@ -29,3 +30,11 @@ abbrev pub next_row : Part → List ℕ → List Bool → List Bool
 next_row AnyText cs ms = rest_row false ms
 next_row AnyCharacter cs ms = taken_row (takes AnyCharacter) cs ms
 next_row (Exactly d) cs ms = taken_row (takes (Exactly d)) cs ms
+
+-- after all parts, which are given from the last to the first
+abbrev pub all_rows : List Part → List ℕ → List Bool
+all_rows ps cs = fold (λ row p. next_row p cs row) (empty_row cs) ps
+
+-- the last of a row
+abbrev pub last_of : List Bool → Bool
+last_of row = unwrap_or (slice_get row (length row - 1)) false

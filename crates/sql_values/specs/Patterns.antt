@@ -19,6 +19,15 @@ parts_after false (c ∷ cs) = cond (c == 92) (parts_after true cs) (plain_part 
 abbrev pub parts_of : List ℕ → List Part
 parts_of cs = parts_after false cs
 
+-- the part that a character begins, with those behind it, and what is left behind that part
+abbrev pub first_part : ℕ → List ℕ → Part
+first_part c [] = plain_part c
+first_part c (d ∷ ds) = cond (c == 92) (Exactly d) (plain_part c)
+
+abbrev pub behind_part : ℕ → List ℕ → List ℕ
+behind_part c [] = []
+behind_part c (d ∷ ds) = cond (c == 92) ds (d ∷ ds)
+
 -- some rest of the characters passes
 abbrev pub some_rest : (List ℕ → Bool) → List ℕ → Bool
 some_rest p [] = p []

@@ -1,5 +1,5 @@
 // Texts as characters, the sizes of values, and texts with their letters in one case.
-ghost use Rattle.std.specs.Prelude.{◌≡◌, ◌≤◌, pos, IfOk, length, map, string_bytes};
+ghost use Rattle.std.specs.Prelude.{◌≡◌, ◌≤◌, ℕ, List as Seq, pos, IfOk, length, map, string_bytes};
 ghost use Rattle.std.specs.Char.{to_ascii_lowercase, to_ascii_uppercase};
 ghost use Rattle.std.specs.Str.{chars};
 ghost use Rattle.jr_value.specs.declared.value.Value.TheVariants as value;
@@ -38,13 +38,13 @@ fn size_of(alloc: Global, value: &Value) -> Result<i64, AllocError>
     match value {
         Value::Str(text) => Ok(count(text.as_str())),
         Value::Binary(bytes) => Ok(bytes.inner().len() as i64),
-        Value::Long(number) => Ok(count_number(alloc, *number)?),
-        Value::Date(time) => Ok(count_number(alloc, *time)?),
+        Value::Long(number) => count_number(alloc, *number),
+        Value::Date(time) => count_number(alloc, *time),
         Value::Boolean(truth) => Ok(count(if *truth { "true" } else { "false" })),
         Value::Name(name) => Ok(count(name.as_str())),
-        Value::Path(path) => Ok(count(path.text()?.as_str())),
-        Value::Reference(id) => Ok(count(identifier_text(alloc, *id)?.as_str())),
-        Value::WeakReference(id) => Ok(count(identifier_text(alloc, *id)?.as_str())),
+        Value::Path(path) => count_in(path.text()),
+        Value::Reference(id) => count_in(identifier_text(alloc, *id)),
+        Value::WeakReference(id) => count_in(identifier_text(alloc, *id)),
         Value::Uri(text) => Ok(count(text.as_str())),
     }
 }
@@ -53,8 +53,14 @@ fn size_of(alloc: Global, value: &Value) -> Result<i64, AllocError>
 fn count_number(alloc: Global, number: i64) -> Result<i64, AllocError>
     ensures { IfOk result (λ size. size ≡ pos (size_of (value.Long number))) }
 {
-    let text = format!(in alloc; "{number}")?;
-    Ok(count(text.as_str()))
+    count_in(format!(in alloc; "{number}"))
+}
+
+// How many characters a text has that was made.
+fn count_in(text: Result<String, AllocError>) -> Result<i64, AllocError>
+    ensures { (bytes : Seq ℕ) → IfOk text (λ made. string_bytes made ≡ bytes) → IfOk result (λ size. size ≡ pos (length (chars bytes))) }
+{
+    Ok(count(text?.as_str()))
 }
 
 /// The size of each value of a property, as a LONG (JSR 283, 6.7.27 Length).
@@ -74,7 +80,9 @@ fn sizes_of(alloc: Global, values: &[Value]) -> Result<Vec<Value>, AllocError>
     ensures { IfOk result (λ sizes. sizes.items ≡ map (λ x. long_of (size_of x)) values.now) }
 {
     let mut sizes = Vec::new(alloc);
-    for value in values {
+    let mut left = values;
+    while let [value, rest @ ..] = left {
+        left = rest;
         sizes.push(Value::Long(size_of(alloc, value)?))?;
     }
     Ok(sizes)
@@ -105,7 +113,9 @@ fn all_with_case(alloc: Global, case: Case, values: &[Value]) -> Result<Vec<Valu
     ensures { IfOk result (λ all. all.items ≡ map (with_characters (cased case)) values.now) }
 {
     let mut all = Vec::new(alloc);
-    for value in values {
+    let mut left = values;
+    while let [value, rest @ ..] = left {
+        left = rest;
         all.push(with_case(alloc, case, value)?)?;
     }
     Ok(all)
@@ -115,20 +125,20 @@ fn with_case(alloc: Global, case: Case, value: &Value) -> Result<Value, AllocErr
     ensures { IfOk result (λ changed. changed ≡ with_characters (cased case) value.now) }
 {
     match value {
-        Value::Str(text) => Ok(Value::Str(Text::of(text_with_case(alloc, case, text.as_str())?))),
-        Value::Name(name) => Ok(Value::Name(name_with_case(alloc, case, name)?)),
-        Value::Path(path) => Ok(Value::Path(path_with_case(alloc, case, path)?)),
-        Value::Uri(text) => Ok(Value::Uri(Text::of(text_with_case(alloc, case, text.as_str())?))),
-        other => Ok(other.copy()?),
+        Value::Str(text) => text_with_case(alloc, case, text.as_str()).map(Value::Str),
+        Value::Name(name) => name_with_case(alloc, case, name).map(Value::Name),
+        Value::Path(path) => path_with_case(alloc, case, path).map(Value::Path),
+        Value::Uri(text) => text_with_case(alloc, case, text.as_str()).map(Value::Uri),
+        other => other.copy(),
     }
 }
 
-fn text_with_case(alloc: Global, case: Case, text: &str) -> Result<String, AllocError>
-    ensures { IfOk result (λ changed. string_bytes changed ≡ map (cased case) text.now) }
+fn text_with_case(alloc: Global, case: Case, text: &str) -> Result<Text, AllocError>
+    ensures { IfOk result (λ changed. changed ≡ map (cased case) text.now) }
 {
     match case {
-        Case::Lower => text.to_ascii_lowercase(alloc),
-        Case::Upper => text.to_ascii_uppercase(alloc),
+        Case::Lower => text.to_ascii_lowercase(alloc).map(Text::of),
+        Case::Upper => text.to_ascii_uppercase(alloc).map(Text::of),
     }
 }
 
@@ -146,7 +156,9 @@ fn path_with_case(alloc: Global, case: Case, path: &Path) -> Result<Path, AllocE
     ensures { IfOk result (λ changed. changed ≡ map (map (cased case)) path.now) }
 {
     let mut changed = Path::root(alloc);
-    for name in path.names() {
+    let mut left = path.names();
+    while let [name, rest @ ..] = left {
+        left = rest;
         changed = changed.child(&name_with_case(alloc, case, name)?)?;
     }
     Ok(changed)

@@ -2,11 +2,14 @@
 ghost use Rattle.std.specs.Prelude.{◌≡◌, IfOk, List as Seq};
 ghost use Rattle.std.specs.List.{list_any};
 ghost use Rattle.std.specs.Option.{option_copied, option_map_or};
+ghost use Rattle.jr_path.specs.Ids.{path_text};
 ghost use Rattle.jr_value.specs.Values.{kind_number};
 ghost use Rattle.sql_query.specs.declared.query.Operator.TheVariants as op;
+ghost use Rattle.sql_values.specs.Patterns.{is_like};
 ghost use Rattle.sql_values.specs.Values.{compares, is_ordered, kinds_first, order_is, value_like, values_in, values_of};
 
 use crate::like::is_like;
+use jr_path::Path;
 use jr_value::{Kind, Property, Value};
 use sql_query::Operator;
 use std::alloc::{AllocError, Global};
@@ -23,7 +26,7 @@ fn compares(
     ensures { IfOk result (λ so. so ≡ compares operator value.now other.now) }
 {
     match operator {
-        Operator::Like => Ok(value_like(alloc, value, other)?),
+        Operator::Like => value_like(alloc, value, other),
         _ => Ok(is_ordered(operator, value.compare(other))),
     }
 }
@@ -56,16 +59,25 @@ fn value_like(alloc: Global, value: &Value, pattern: &Value) -> Result<bool, All
     ensures { IfOk result (λ like. like ≡ value_like value.now pattern.now) }
 {
     match (value, pattern) {
-        (Value::Str(text), Value::Str(like)) => Ok(is_like(alloc, text.as_str(), like.as_str())?),
-        (Value::Name(name), Value::Name(like)) => Ok(is_like(alloc, name.as_str(), like.as_str())?),
-        (Value::Path(path), Value::Path(like)) => {
-            let text = path.text()?;
-            let like = like.text()?;
-            Ok(is_like(alloc, text.as_str(), like.as_str())?)
-        }
-        (Value::Uri(text), Value::Uri(like)) => Ok(is_like(alloc, text.as_str(), like.as_str())?),
+        (Value::Str(text), Value::Str(like)) => is_like(alloc, text.as_str(), like.as_str()),
+        (Value::Name(name), Value::Name(like)) => is_like(alloc, name.as_str(), like.as_str()),
+        (Value::Path(path), Value::Path(like)) => path_like(alloc, path, like),
+        (Value::Uri(text), Value::Uri(like)) => is_like(alloc, text.as_str(), like.as_str()),
         _ => Ok(false),
     }
+}
+
+// Whether the text of a path is like that of a pattern.
+fn path_like(alloc: Global, path: &Path, pattern: &Path) -> Result<bool, AllocError>
+    ensures { IfOk result (λ like. like ≡ is_like (path_text path.now) (path_text pattern.now)) }
+{
+    text_like(alloc, path.text()?.as_str(), pattern)
+}
+
+fn text_like(alloc: Global, text: &str, pattern: &Path) -> Result<bool, AllocError>
+    ensures { IfOk result (λ like. like ≡ is_like text.now (path_text pattern.now)) }
+{
+    is_like(alloc, text, pattern.text()?.as_str())
 }
 
 /// The values of a property.

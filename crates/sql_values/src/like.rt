@@ -1,9 +1,9 @@
 // The patterns of LIKE.
-ghost use Rattle.std.specs.Prelude.{◌≡◌, ◌∷◌, ◌&&◌, ◌-◌, IfOk, false, length, map, slice_get};
+ghost use Rattle.std.specs.Prelude.{◌≡◌, ◌≤◌, ◌++◌, ◌∷◌, ◌&&◌, [], IfOk, OnOk, false, length, map, reverse};
 ghost use Rattle.std.specs.List.{zip};
-ghost use Rattle.std.specs.Option.{unwrap_or};
-ghost use Rattle.sql_values.specs.Patterns.{is_like, parts_of, plain_part};
-ghost use Rattle.sql_values.specs.Matching.{empty_row, next_row, rest_row, taken_row, takes};
+ghost use Rattle.std.specs.Str.{chars};
+ghost use Rattle.sql_values.specs.Patterns.{behind_part, first_part, is_like, parts_of, plain_part};
+ghost use Rattle.sql_values.specs.Matching.{all_rows, empty_row, last_of, next_row, rest_row, taken_row, takes};
 
 use crate::characters::characters;
 use std::alloc::{AllocError, Global};
@@ -31,23 +31,40 @@ impl Part {
 
 /// Whether a text is like a pattern (JSR 283, 6.7.16 Comparison): `%` is any text, `_` one character of Unicode, and
 /// `\` takes the next character as it is. It takes time and memory by the product of the two lengths at most.
+#[tactic(auto, using(crate::proofs::Rests::whole))]
 pub(crate) fn is_like(alloc: Global, text: &str, pattern: &str) -> Result<bool, AllocError>
     ensures { IfOk result (λ like. like ≡ is_like text.now pattern.now) }
 {
-    let mut parts = parts_of(alloc, &characters(alloc, pattern)?)?;
-    parts.reverse();
-    let mut backwards = characters(alloc, text)?;
-    backwards.reverse();
-    let mut row = empty_row(alloc, &backwards)?;
-    for part in &parts {
-        row = next_row(alloc, *part, &backwards, &row)?;
+    let backwards = backwards(alloc, text)?;
+    let parts = parts_backwards(alloc, &characters(alloc, pattern)?)?;
+    all_match(alloc, &parts, &backwards)
+}
+
+// The characters of a text, the last first.
+fn backwards(alloc: Global, text: &str) -> Result<Vec<char>, AllocError>
+    ensures { IfOk result (λ all. all.items ≡ reverse (chars text.now)) }
+{
+    let mut all = characters(alloc, text)?;
+    all.reverse();
+    Ok(all)
+}
+
+// Whether the characters are of the pattern with these parts, both with the last first.
+fn all_match(alloc: Global, parts: &[Part], backwards: &[char]) -> Result<bool, AllocError>
+    ensures { IfOk result (λ like. like ≡ last_of (all_rows parts.now backwards.now)) }
+{
+    let mut row = empty_row(alloc, backwards)?;
+    let mut left = parts;
+    while let [part, rest @ ..] = left {
+        left = rest;
+        row = next_row(alloc, *part, backwards, &row)?;
     }
     Ok(last(&row))
 }
 
 // The last of a row.
 fn last(row: &[bool]) -> bool
-    ensures { result ≡ unwrap_or (slice_get row.now (length row.now - 1)) false }
+    ensures { result ≡ last_of row.now }
 {
     match row.last() {
         Some(matched) => *matched,
@@ -55,28 +72,46 @@ fn last(row: &[bool]) -> bool
     }
 }
 
-// The parts of a pattern's characters.
-fn parts_of(alloc: Global, characters: &[char]) -> Result<Vec<Part>, AllocError>
-    ensures { IfOk result (λ parts. parts.items ≡ parts_of characters.now) }
+// The parts of a pattern's characters, the last first.
+#[tactic(auto, using(crate::proofs::Parts::more_parts))]
+fn parts_backwards(alloc: Global, characters: &[char]) -> Result<Vec<Part>, AllocError>
+    ensures { IfOk result (λ parts. parts.items ≡ reverse (parts_of characters.now)) }
 {
     let mut parts = Vec::new(alloc);
-    let mut escaped = false;
     let mut left = characters;
     while let [character, rest @ ..] = left {
-        left = rest;
-        if escaped {
-            parts.push(Part::Exactly(*character))?;
-            escaped = false;
-        } else if *character == '\\' {
-            escaped = true;
-        } else {
-            parts.push(plain_part(*character))?;
-        }
+        parts.push(first_part(*character, rest))?;
+        left = behind_part(*character, rest);
     }
-    if escaped {
-        parts.push(Part::Exactly('\\'))?;
-    }
+    parts.reverse();
     Ok(parts)
+}
+
+// The part that a character begins, with those behind it.
+fn first_part(character: char, rest: &[char]) -> Part
+    ensures { result ≡ first_part character rest.now }
+{
+    match rest {
+        [next, ..] => {
+            if character == '\\' {
+                Part::Exactly(*next)
+            } else {
+                plain_part(character)
+            }
+        }
+        [] => plain_part(character),
+    }
+}
+
+// What is left behind the part that a character begins.
+fn behind_part(character: char, rest: &[char]) -> &[char]
+    ensures left { result.now ≡ behind_part character rest.now }
+    ensures bound { length result.now ≤ length rest.now }
+{
+    match rest {
+        [_, more @ ..] => { if character == '\\' { more } else { rest } }
+        [] => rest,
+    }
 }
 
 // The part of a character with no `\` before it.
@@ -94,12 +129,30 @@ fn plain_part(character: char) -> Part
 fn empty_row(alloc: Global, backwards: &[char]) -> Result<Vec<bool>, AllocError>
     ensures { IfOk result (λ row. row.items ≡ empty_row backwards.now) }
 {
+    let mut row = row_of(alloc, true)?;
+    push_unmatched(&mut row, backwards)?;
+    Ok(row)
+}
+
+// The row of one rest.
+fn row_of(alloc: Global, matched: bool) -> Result<Vec<bool>, AllocError>
+    ensures { IfOk result (λ row. row.items ≡ matched ∷ []) }
+{
     let mut row = Vec::new(alloc);
-    row.push(true)?;
-    for _ in backwards {
+    row.push(matched)?;
+    Ok(row)
+}
+
+// Appends a rest that isn't matched for each character.
+fn push_unmatched(row: &mut Vec<bool>, backwards: &[char]) -> Result<(), AllocError>
+    ensures { OnOk result (row.new.items ≡ row.old.items ++ map (λ c. false) backwards.now) }
+{
+    let mut left = backwards;
+    while let [_, rest @ ..] = left {
+        left = rest;
         row.push(false)?;
     }
-    Ok(row)
+    Ok(())
 }
 
 // Which rests of a text, the shortest first, are of a pattern with one more part before the others.
@@ -122,6 +175,14 @@ fn rest_row(alloc: Global, row: &[bool]) -> Result<Vec<bool>, AllocError>
     ensures { IfOk result (λ next. next.items ≡ rest_row false row.now) }
 {
     let mut next = Vec::new(alloc);
+    push_rests(&mut next, row)?;
+    Ok(next)
+}
+
+// Appends for each rest whether it or a shorter one is matched.
+fn push_rests(next: &mut Vec<bool>, row: &[bool]) -> Result<(), AllocError>
+    ensures { OnOk result (next.new.items ≡ next.old.items ++ rest_row false row.now) }
+{
     let mut any = false;
     let mut left = row;
     while let [matched, rest @ ..] = left {
@@ -129,7 +190,7 @@ fn rest_row(alloc: Global, row: &[bool]) -> Result<Vec<bool>, AllocError>
         any = *matched || any;
         next.push(any)?;
     }
-    Ok(next)
+    Ok(())
 }
 
 // The part takes one character.
@@ -141,8 +202,20 @@ fn taken_row(
 ) -> Result<Vec<bool>, AllocError>
     ensures { IfOk result (λ next. next.items ≡ taken_row (takes part) backwards.now row.now) }
 {
-    let mut next = Vec::new(alloc);
-    next.push(false)?;
+    let mut next = row_of(alloc, false)?;
+    push_taken(&mut next, part, backwards, row)?;
+    Ok(next)
+}
+
+// Appends for each character whether the part takes it and the rest behind it is matched.
+fn push_taken(
+    next: &mut Vec<bool>,
+    part: Part,
+    backwards: &[char],
+    row: &[bool],
+) -> Result<(), AllocError>
+    ensures { OnOk result (next.new.items ≡ next.old.items ++ map (λ e. takes part e.0 && e.1) (zip backwards.now row.now)) }
+{
     let mut left = backwards;
     let mut right = row;
     while let [character, characters @ ..] = left {
@@ -153,5 +226,5 @@ fn taken_row(
         left = characters;
         right = rest;
     }
-    Ok(next)
+    Ok(())
 }

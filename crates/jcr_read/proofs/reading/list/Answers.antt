@@ -1,7 +1,7 @@
 use Rattle.jcr_trans.specs.Answers.{ShowsNames}
 use Rattle.jr_overlay.specs.Overlays.{sighted}
 use Rattle.jr_tree.specs.declared.tree.Node.{Node}
-use Rattle.jcr_write.specs.Order.{ordered}
+use Rattle.jr_order.specs.Order.{ordered}
 use Rattle.jcr_read.proofs.Replied.{replies_same}
 use Rattle.jcr_read.proofs.reading.list.Goals as goal
 

@@ -15,4 +15,4 @@ unreachable-requires c =
 pub returns : goal.returns
 returns c =
     let place = subst (λ (es : List (ℕ × Pin)). IsPlaceOf es c.args.owner c.in-Ok.at) c.deref.ensures.value c.in-Ok.ensures in
-    set_found c.args.owner c.args.pin.now c.args.pins.now.items c.in-Ok.at place.within (front_of c.args.owner c.args.pins.now.items c.in-Ok.at c.requires.ordered place.within place.there) place.there
+    c.set_at.ensures ∙ set_found c.args.owner c.args.pin.now c.args.pins.now.items c.in-Ok.at place.within (front_of c.args.owner c.args.pins.now.items c.in-Ok.at c.requires.ordered place.within place.there) place.there

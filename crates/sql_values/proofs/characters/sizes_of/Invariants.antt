@@ -1,7 +1,10 @@
-use Rattle.std.proofs.Common.{◌≡◌, map, take}
+use Rattle.std.proofs.Common.{◌≡◌, ◌++◌, length, map}
 use Rattle.sql_values.specs.Texts.{long_of, size_of}
 use Rattle.sql_values.proofs.characters.sizes_of.Given as goal
 
--- the sizes so far
-abbrev pub invariant-loop-value : goal.invariant-loop-value
-invariant-loop-value l = l.sizes.items ≡ map (λ x. long_of (size_of x)) (take l.value-index l.values)
+-- the sizes so far, and those that are left
+abbrev pub invariant-loop-left : goal.invariant-loop-left
+invariant-loop-left l = l.sizes.items ++ map (λ x. long_of (size_of x)) l.left ≡ map (λ x. long_of (size_of x)) l.values
+
+abbrev pub decreases-loop-left : goal.decreases-loop-left
+decreases-loop-left l = length l.left

@@ -1,6 +1,6 @@
 use Rattle.std.proofs.Common.{subst}
 use Rattle.jr_rev.specs.declared.vector.RevVec.{RevVec}
-use Rattle.core_calls.specs.Alone.{IsNextAlone}
+use Rattle.jr_rev.specs.Alone.{IsNextAlone}
 use Rattle.jcr_session.proofs.Ending.{follows_commit, leaves_base}
 use Rattle.jcr_session.proofs.run.SessionRun.move_behind.Goals as goal
 

@@ -1,4 +1,4 @@
-use Rattle.std.proofs.Common.{◌≡◌, map, ap, sym, ◌∙◌}
+use Rattle.std.proofs.Common.{◌≡◌, map, ap, refl, ◌∙◌}
 use Rattle.std.specs.FinMap.{is_sorted}
 use Rattle.std.specs.Map.Iter.{deref}
 use Rattle.jr_path.specs.Names.{path_cmp}
@@ -9,10 +9,10 @@ use Rattle.jr_tree.proofs.tree.Tree.apply.Goals as goal
 use Rattle.jr_tree.proofs.tree.Tree.apply.Goals.{After-drop-last-2}
 
 -- the nodes are those of the tree after the edit
-done : (c : After-drop-last-2) → c.merge.new.nodes ≡ applied c.args.born c.self.inside.nodes c.args.edit.now.writes
+done : (c : After-drop-last-2) → c.make.new.nodes ≡ applied c.args.born c.self.inside.nodes c.args.edit.now.writes
 done c =
-    applied_apart c.args.born c.self.inside.nodes c.args.edit.now.writes _ _ _ _ c.self.invariant (ap (map deref) c.deref.ensures.value ∙ c.in_ok-last.ensures) (ap (map deref) (c.deref-2.ensures.value ∙ sym c.deref.ensures.value)) c.in_ok-part.ensures
-    c.in_ok-merge.ensures.ok
+    applied_apart c.args.born c.self.inside.nodes c.args.edit.now.writes _ _ _ _ c.self.invariant (ap (map deref) c.deref.ensures.value ∙ c.in_ok-last.ensures) refl refl
+    c.in_ok-make.ensures.ok
 
 pub invariant_of-self-2 : goal.invariant_of-self-2
 invariant_of-self-2 c = ap (is_sorted path_cmp) (done c) ∙ order-applied c.args.born c.self.inside.nodes c.args.edit.now.writes c.self.invariant

@@ -8,4 +8,4 @@ pub invariant_of-self-2 : goal.invariant_of-self-2
 invariant_of-self-2 c =
     let next = c.next_draw-revision.ensures ∙ ap next_draw (sym c.self.view_is) in
     let time : c.next_draw-revision.result.time ≡ known_time (state_of c.self.inside) + 1 = ap (λ q. q.time) next in
-    draw_memory (state_of c.self.inside) _ _ c.self.invariant (omega (arith, time)) (ap (λ q. q.cluster) next) c.in_ok-push.ensures.items
+    draw_memory (state_of c.self.inside) _ _ c.self.invariant (omega (arith, time)) (ap (λ q. q.cluster) next) c.in_ok-put_in_flight.ensures.ok

@@ -3,4 +3,4 @@ use Rattle.sql_eval.proofs.Missing.{missing_more}
 use Rattle.sql_eval.proofs.tuple.Tuple.behind.Goals as goal
 
 pub loop-preserved : goal.loop-preserved
-loop-preserved c = missing_more deref_pair _ _ _ c.loop.invariant c.in_ok-push.ensures.items
+loop-preserved c = missing_more deref_pair _ _ _ c.loop.invariant c.in_ok-push.ensures

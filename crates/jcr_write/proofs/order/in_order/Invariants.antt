@@ -1,7 +1,0 @@
-use Rattle.std.proofs.Common.{◌≡◌, ◌++◌, map, drop}
-use Rattle.jcr_write.specs.Order.{in_order}
-use Rattle.jcr_write.proofs.order.in_order.Given as goal
-
--- what is left leads there
-abbrev pub invariant-loop-name : goal.invariant-loop-name
-invariant-loop-name l = l.names ++ in_order (map (λ n. n.now) (drop l.name-index l.listed)) l.rest ≡ in_order (map (λ n. n.now) l.listed) l.initial.rest

@@ -1,7 +1,0 @@
-use Rattle.std.proofs.Common.{◌≡◌, ◌++◌, map}
-use Rattle.jcr_write.specs.Order.{by_birth}
-use Rattle.jcr_write.proofs.order.push_by_birth.Given as goal
-
--- what is left leads there
-abbrev pub invariant-loop-birth : goal.invariant-loop-birth
-invariant-loop-birth l = l.names ++ map (λ e. e.0.name) l.birth-iterator ≡ l.initial.names ++ by_birth l.rest
