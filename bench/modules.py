@@ -2,7 +2,8 @@
 
 A check writes each module that it has checked to a folder of its own among the temporary files, which goes with it. `watch` notes
 these files each second until it is stopped; `show` prints, for each crate, the seconds from one to the next by part of a function's
-proof (`Lts` is the borrow checker's part, `Tie` what ties it to the contract, `Proof` the goals), and the functions that take most.
+proof (`Lts` is the borrow checker's part, `Tie` what ties it to the contract, `Proof` the goals), and the functions that take most,
+each in the dearest of its checks.
 Checks with several jobs write several files at once, so the figures are those of runs with one job (RT_JOBS=4 rt ci). As:
 
     python3 bench/modules.py watch modules.log & RT_JOBS=4 rt ci; kill %1; python3 bench/modules.py show modules.log
@@ -51,12 +52,14 @@ def checks(log):
 def show(log):
     parts, functions = collections.defaultdict(collections.Counter), collections.Counter()
     for modules in checks(log):
+        once = collections.Counter()
         for name, seconds in modules:
             found = re.match(r"Rattle-(\w+)-proofs\.(.+)\.(%s)\b" % PARTS, name)
             if found:
                 crate, function, part = found.groups()
                 parts[crate][part] += seconds
-                functions[crate, function] += seconds
+                once[crate, function] += seconds
+        functions |= once
     for crate, by_part in sorted(parts.items(), key=lambda it: -it[1].total()):
         print("%-16s %6.0f  %s" % (crate, by_part.total(), ", ".join("%s %.0f" % it for it in by_part.most_common(5))))
     for (crate, function), seconds in functions.most_common(MOST):

@@ -3,13 +3,13 @@ use crate::scripts::put_fault;
 use jcr_trans::{Command, TreeNode};
 use jr_args::{Fault, command, pointer};
 use jr_path::{Path, Text};
-use rows::Out;
+use rows::{Out, json_of};
 use serde_json::Value as Json;
 use std::alloc::AllocError;
 
 // The rule that is broken and its place, or the name of the command and the paths of its nodes.
 pub(crate) fn add(text: &str, out: &mut Out) {
-    let json = out.json(text);
+    let json = json_of(text, out);
     match &json {
         Some(json) => add_json(json, out),
         None => out.put("no JSON"),

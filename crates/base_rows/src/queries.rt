@@ -4,7 +4,7 @@ use jr_json::property_text;
 use jr_path::{DeepCopy, List, Name, Path};
 use jr_tree::{Node, Tree};
 use jr_value::Value;
-use rows::{Out, cut, short};
+use rows::{Out, cut, json_of, property_or_false, short};
 use serde_json::Value as Json;
 use sql_eval::{Cell, Row, rows as plain_rows, rows_text};
 use sql_lex::{LexFault, Token, TokenKind, lex};
@@ -48,7 +48,7 @@ fn add_property(text: &str, tree: &mut Tree, out: &mut Out) {
     let (path, rest) = cut(text);
     let (name, text) = cut(rest);
     let path = out.path_or_root(path);
-    let json = out.json(text);
+    let json = json_of(text, out);
     put_json(&path, name, &json, tree, out);
     drop(json);
 }
@@ -61,7 +61,7 @@ fn put_json(path: &Path, name: &str, json: &Option<Json>, tree: &mut Tree, out: 
 }
 
 fn put_property(path: &Path, name: &str, json: &Json, tree: &mut Tree, out: &mut Out) {
-    let property = out.property_or_false(json);
+    let property = property_or_false(json, out);
     match out.name(name) {
         Some(name) => out.note(tree.put(path, name, property)),
         None => {

@@ -4,7 +4,7 @@ use jr_json::{ValueFault, read_property};
 use jr_path::{DeepCopy, DocId, Name, Path, PathFault};
 use jr_rev::{BadRevision, RevVec, Revision};
 use jr_value::{Kind, Property};
-use rows::{Out, cut, number, short};
+use rows::{Out, cut, json_of, number, short};
 use serde_json::Value as Json;
 use std::alloc::AllocError;
 
@@ -156,7 +156,7 @@ fn put_vector(vector: &Result<RevVec, BadRevision>, out: &mut Out) {
 }
 
 fn add_value(text: &str, out: &mut Out) {
-    let json = out.json(text);
+    let json = json_of(text, out);
     add_json(&json, out);
     drop(json);
 }

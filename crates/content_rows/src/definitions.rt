@@ -3,14 +3,14 @@ use cnd_print::print_cnd;
 use jr_cnd::{Cnd, NoCnd, read_cnd};
 use jr_path::{DeepCopy, List};
 use jr_types::{Registry, TypeDef};
-use rows::Out;
+use rows::{Out, json_of};
 use serde_json::Value as Json;
 use std::alloc::AllocError;
 
 // The canonical text of the text that is given as JSON, with `again` where it reads back as it
 // prints, or the kind of fault and its offset.
 pub(crate) fn add(given: &str, out: &mut Out) {
-    let json = out.json(given);
+    let json = json_of(given, out);
     add_given(&json, out);
     drop(json);
 }

@@ -6,12 +6,12 @@ use jcr_observe::{Filter, events, events_text};
 use jr_path::{Item, List};
 use jr_rev::Revision;
 use jr_tree::{CommitChanges, ItemChange};
-use rows::{Out, cut, items_of, short, text_at};
+use rows::{Out, cut, items_of, json_of, short, text_at};
 use serde_json::Value as Json;
 
 // PATH `deep` MASK (another word for a shallow filter)
 pub(crate) fn add(asked: &str, given: &str, out: &mut Out) {
-    let json = out.json(given);
+    let json = json_of(given, out);
     match &json {
         Some(json) => add_asked(asked, items_of(json), out),
         None => out.put("no commits"),

@@ -10,7 +10,7 @@ use jr_path::{DeepCopy, List, Path};
 use jr_tree::{Edit, Refusal, Tree};
 use jr_types::Registry;
 use oak_clash::{Mark, MarkAt};
-use rows::{Out, cut, edit_of};
+use rows::{Out, cut, edit_of, json_of};
 use serde_json::Value as Json;
 use std::alloc::{AllocError, Global};
 
@@ -49,7 +49,7 @@ fn add_edit(types: &Registry, tree: &Tree, word: &str, asked: (&str, &str), out:
 }
 
 fn edit_in(text: &str, tree: &Tree, out: &mut Out) -> Edit {
-    let json = out.json(text);
+    let json = json_of(text, out);
     let edit = edit_read(&json, tree, out);
     drop(json);
     match edit {

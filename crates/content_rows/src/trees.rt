@@ -2,7 +2,7 @@
 use jr_items::OwnName;
 use jr_path::{DeepCopy, Path};
 use jr_tree::{Node, Tree};
-use rows::Out;
+use rows::{Out, json_of, property_or_false};
 use serde_json::{Map, Value as Json};
 use std::alloc::{AllocError, Global};
 
@@ -17,7 +17,7 @@ pub(crate) fn tree_of(text: &str, out: &mut Out) -> Tree {
 
 // Puts the nodes of a text; those for which no type is given have one where it is asked for.
 pub(crate) fn add_nodes(tree: &mut Tree, is_typed: bool, text: &str, out: &mut Out) {
-    let json = out.json(text);
+    let json = json_of(text, out);
     match &json {
         Some(json) => add_object(tree, is_typed, json, out),
         None => out.is_broken = true,
@@ -70,7 +70,7 @@ fn put_properties(tree: &mut Tree, path: &Path, members: &Map<String, Json>, out
 
 // Puts a property.
 pub(crate) fn put_property(tree: &mut Tree, path: &Path, name: &str, json: &Json, out: &mut Out) {
-    let property = out.property_or_false(json);
+    let property = property_or_false(json, out);
     match out.name(name) {
         Some(name) => out.note(tree.put(path, name, property)),
         None => {

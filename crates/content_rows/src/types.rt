@@ -8,7 +8,7 @@ use jr_path::{DeepCopy, Name, Path};
 use jr_rules::{TypesOut, check};
 use jr_tree::Tree;
 use jr_types::{Registry, TypeDef, TypeFault};
-use rows::{Out, cut, items_of};
+use rows::{Out, cut, items_of, json_of};
 use serde_json::Value as Json;
 use std::alloc::AllocError;
 
@@ -34,7 +34,7 @@ fn add_type(types: &mut Registry, definitions: &str, out: &mut Out) {
 // Registers the definitions of a list, and tells whether all are; puts the refusal of the first
 // that isn't.
 pub(crate) fn register(types: &mut Registry, definitions: &str, out: &mut Out) -> bool {
-    let json = out.json(definitions);
+    let json = json_of(definitions, out);
     let is_done = register_read(types, &json, out);
     drop(json);
     is_done

@@ -13,7 +13,7 @@ use jr_rev::RevVec;
 use jr_tree::{Edit, Node, Refusal, Tree, Who, Write};
 use jr_types::Registry;
 use jr_value::Property;
-use rows::{Out, text_at, vector};
+use rows::{Out, json_of, text_at, vector};
 use serde_json::Value as Json;
 use std::alloc::{AllocError, Global};
 
@@ -30,7 +30,7 @@ struct Site {
 // STEPS: a list of lists, of which each begins with a word
 pub(crate) fn add(types: &mut Registry, steps: &str, given: &str, out: &mut Out) {
     let mut site = site_on(tree_of(given, out), out.alloc);
-    let steps = out.json(steps);
+    let steps = json_of(steps, out);
     add_steps(&mut site, types, items_read(&steps), out);
     drop(steps);
     drop(site);

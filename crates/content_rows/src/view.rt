@@ -23,7 +23,7 @@ use jr_rev::{RevVec, Revision};
 use jr_tree::{Edit, Node, Refusal, Tree, Who};
 use jr_types::Registry;
 use jr_value::{Property, Value};
-use rows::{Out, text_at};
+use rows::{Out, json_of, text_at};
 use serde_json::Value as Json;
 use std::alloc::{AllocError, Global};
 
@@ -45,7 +45,7 @@ struct Site {
 pub(crate) fn add(types: &mut Registry, steps: &str, given: &str, out: &mut Out) {
     let tree = tree_of(given, out);
     let mut site = site_on(based(&tree, out), out.alloc);
-    let steps = out.json(steps);
+    let steps = json_of(steps, out);
     add_steps(&mut site, types, items_read(&steps), out);
     drop(steps);
     drop(site);

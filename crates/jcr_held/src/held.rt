@@ -2,7 +2,7 @@
 ghost use Rattle.std.specs.Prelude.{◌≡◌, IsFalse, IsTrue, None, OnErr, OnOk, Some, false, true};
 ghost use Rattle.std.specs.Option.{unwrap_or};
 ghost use Rattle.std.specs.FinMap.{is_sorted};
-ghost use Rattle.jr_path.specs.Names.{name_cmp, path_cmp};
+ghost use Rattle.jr_path.specs.Names.{name_cmp};
 ghost use Rattle.jr_tree.specs.Edits.{IsProper, applied};
 ghost use Rattle.jr_tree.specs.Trees.{IsTree, Nodes, dated_children_of, node_at};
 ghost use Rattle.jr_part.specs.Parts.{LacksNothing, nothing_known, with_children, with_node};
@@ -14,16 +14,15 @@ ghost use Rattle.jcr_law.specs.Calls.{call_after, call_moved};
 ghost use Rattle.jcr_held.specs.Alike.{AreAlike, moved_to, with_drawn};
 ghost use Rattle.jcr_held.specs.Accepts.{TokensFit, drops_pending, without_pending};
 ghost use Rattle.jcr_held.specs.Begins.{IsFirstCall, IsNewHeld};
-ghost use Rattle.jcr_held.specs.Follows.{Follows};
 ghost use Rattle.jcr_held.specs.Holds.{Holds};
 ghost use Rattle.jcr_held.specs.declared.references.References.TheVariants as references;
 
+use crate::loaded::Loaded;
 use crate::looking::Place;
 use crate::references::References;
 use jcr_ref::MAX_IDS;
 use jcr_trans::Command;
 use jcr_view::Pending;
-use jr_part::{Need, Part, puts_agree};
 use jr_path::{List, Name, Path, Text};
 use jr_rev::{RevVec, Revision};
 use jr_tree::{Edit, Node, Who};
@@ -37,7 +36,7 @@ pub struct Held {
     pub(crate) alloc: Global,
     pub(crate) types: Registry,
     pub(crate) who: Who,
-    pub(crate) part: Part,
+    pub(crate) part: Loaded,
     pub(crate) pending: Pending,
     // What is pending is over an earlier base, and is to be made again over this one.
     pub(crate) is_kept: bool,
@@ -92,7 +91,7 @@ impl Held {
                 ids: 0,
                 base,
             },
-            part: Part::new(alloc),
+            part: Loaded::new(alloc),
             pending: Pending::new(alloc),
             is_kept: false,
             references: References::Unasked,
@@ -119,7 +118,7 @@ impl Held {
         ensures same { AreAlike (moved_to self.old base) self.new }
     {
         self.who.base = base;
-        self.part = Part::new(self.alloc);
+        self.part = Loaded::new(self.alloc);
         self.is_kept = true;
         self.references = References::Unasked;
         self.left.clear();
@@ -146,7 +145,7 @@ impl Held {
         self.is_kept = true;
         self.references = References::Named;
         self.left.clear();
-        follow(self.alloc, &mut self.part, edit, by)
+        self.part.follow(self.alloc, edit, by)
     }
 
     /// Puts the node at a path of the tree at the base, or that none is there. A refusal leaves all
@@ -229,42 +228,6 @@ impl Held {
     {
         self.who.ids = self.who.ids.saturating_add(drawn).min(MAX_IDS);
         self.left.clear();
-    }
-}
-
-// The part follows an edit by a revision, where the whole tree is known. It answers whether it is
-// known still; else nothing is.
-fn follow(alloc: Global, part: &mut Part, edit: &Edit, by: Revision) -> bool
-    ensures follows { Follows part.old part.new by edit.now.writes result }
-    ensures order { IsTrue (is_sorted path_cmp part.new.nodes) }
-{
-    let is_whole = follow_or_forget(alloc, part, edit, by);
-    part.in_order();
-    is_whole
-}
-
-fn follow_or_forget(alloc: Global, part: &mut Part, edit: &Edit, by: Revision) -> bool
-    ensures { Follows part.old part.new by edit.now.writes result }
-{
-    puts_agree();
-    match part.lacks(&Need::All) {
-        Ok(None) => follow_whole(part, edit, by),
-        _ => {
-            *part = Part::new(alloc);
-            false
-        }
-    }
-}
-
-// The same where nothing lacks.
-fn follow_whole(part: &mut Part, edit: &Edit, by: Revision) -> bool
-    requires { LacksNothing part.old need.All }
-    ensures { Follows part.old part.new by edit.now.writes result }
-{
-    puts_agree();
-    match part.apply(edit, Some(by)) {
-        Ok(()) => true,
-        Err(_) => false,
     }
 }
 

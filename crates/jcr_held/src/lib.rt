@@ -6,6 +6,7 @@
 mod committing;
 mod held;
 mod laws;
+mod loaded;
 mod loading;
 mod looking;
 mod references;

@@ -17,11 +17,12 @@ ghost use Rattle.jcr_held.specs.Unread.{IsWanted, unread};
 
 use crate::Held;
 use crate::committing::commits;
+use crate::loaded::Loaded;
 use crate::looking::{leave_needs, load_left};
 use crate::references::{References, ask};
 use jcr_trans::Command;
 use jcr_view::{each_round_learns, is_viewed, rebases_count};
-use jr_part::{Need, Part};
+use jr_part::Need;
 use std::alloc::{AllocError, Global};
 
 impl Held {
@@ -54,7 +55,12 @@ impl Held {
         ensures wanted { (c : Call) (m : Command) → Holds c self.old
             → IfOk result (λ load. IfSome load (IsWanted c self.new m)) }
     {
-        load_left(&self.part, &self.pending, self.is_kept, &mut self.left)
+        load_left(
+            self.part.as_part(),
+            &self.pending,
+            self.is_kept,
+            &mut self.left,
+        )
     }
 
     // What to read next where nothing is left to be looked at.
@@ -106,7 +112,7 @@ impl Held {
         ensures fewer { (c : Call) (m : Command) → unread c self.new m ≤ unread c self.old m }
     {
         rebases_count();
-        self.pending.rebase(&self.part)?;
+        self.pending.rebase(self.part.as_part())?;
         self.is_kept = false;
         Ok(None)
     }
@@ -192,7 +198,7 @@ impl Held {
             (needs_of self.now.who self.now.part self.now.pending command.now) (need.All ∷ [])) }
     {
         if is_viewed(command) {
-            self.pending.needs(command, &self.part, &self.who)
+            self.pending.needs(command, self.part.as_part(), &self.who)
         } else {
             whole_tree(self.alloc)
         }
@@ -228,7 +234,7 @@ impl Held {
 }
 
 // Nothing lacks of these needs: where the first is the whole tree, that is noted.
-fn note_known(part: &mut Part, needs: &[Need])
+fn note_known(part: &mut Loaded, needs: &[Need])
     requires { All (LacksNothing part.old) needs.now }
     ensures { part.new ≡ part.old }
 {
@@ -238,7 +244,7 @@ fn note_known(part: &mut Part, needs: &[Need])
     }
 }
 
-fn note(part: &mut Part, need: &Need)
+fn note(part: &mut Loaded, need: &Need)
     requires { LacksNothing part.old need.now }
     ensures { part.new ≡ part.old }
 {
@@ -258,7 +264,7 @@ fn whole_tree(alloc: Global) -> Result<Vec<Need>, AllocError>
 }
 
 // What lacks first of the first need of which something lacks; None where nothing lacks.
-fn first_lacking(part: &Part, needs: &[Need]) -> Result<Option<Need>, AllocError>
+fn first_lacking(part: &Loaded, needs: &[Need]) -> Result<Option<Need>, AllocError>
     ensures known { IfOk result (λ load. load ≡ None → All (LacksNothing part.now) needs.now) }
     ensures one { IfOk result (λ load. IfSome load (λ n. IsTrue (is_of_one_node n))) }
     ensures lacks { IfOk result (λ load. IfSome load (IsLackingOf part.now needs.now)) }

@@ -97,7 +97,7 @@ impl Held {
         whole_trees_are_asked_for();
         match self
             .pending
-            .run(command, &self.part, &self.types, &mut self.who)
+            .run(command, self.part.as_part(), &self.types, &mut self.who)
         {
             Ok(text) => Ok(text),
             Err(refusal) => cause_text(self.alloc, &refusal),

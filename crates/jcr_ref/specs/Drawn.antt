@@ -1,7 +1,6 @@
 -- What a session's commands make of themselves: dates, and identifiers up to the limit.
-use Rattle.std.specs.Prelude.{ℕ, zero, suc, ◌+◌, ◌-◌, ◌^◌, ℤ, pos, min, max, nat_lt, codes, Option}
+use Rattle.std.specs.Prelude.{ℕ, zero, suc, ◌-◌, ◌^◌, ℤ, pos, min, max, nat_lt, codes, Option}
 use Rattle.std.specs.Option.{option_map_or}
-use Rattle.jr_rev.specs.declared.revision.Revision.{Revision}
 use Rattle.jr_rev.specs.Vectors.{Entries, entry}
 use Rattle.jr_tree.specs.declared.shared.Refusal.{Refusal}
 use Rattle.jr_items.specs.Refusals.{over_limit, when}

@@ -229,6 +229,7 @@ fn push_typed(
     Ok(())
 }
 
+// Puts that a node is there behind the writes.
 fn push_here(writes: &mut List<Write>, path: &Path) -> Result<(), AllocError>
     ensures { OnOk result (writes.new ≡ writes.old ++ Here path.now ∷ []) }
 {
@@ -329,6 +330,7 @@ fn names_in(alloc: Global, places: Keyed<Place, bool>) -> Result<Vec<Name>, Allo
     Ok(names)
 }
 
+// Puts the name of a place behind the names.
 fn push_name(names: &mut Vec<Name>, place: Place) -> Result<(), AllocError>
     ensures { OnOk result (names.new.items ≡ names.old.items ++ place.name ∷ []) }
 {

@@ -1,5 +1,5 @@
 -- The definitions of items of the built-in types.
-use Rattle.std.specs.Prelude.{ℕ, Bool, List, [], ◌∷◌, Option, option_to_list}
+use Rattle.std.specs.Prelude.{Bool, [], ◌∷◌, Option, option_to_list}
 use Rattle.std.specs.Option.{option_map}
 use Rattle.jr_path.specs.declared.name.Name.{Name}
 use Rattle.jr_value.specs.declared.value.Kind.{Kind}

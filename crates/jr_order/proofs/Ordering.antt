@@ -1,25 +1,18 @@
 -- Children put in order, one after the other.
-use Rattle.std.proofs.Common.{◌≡◌, ℕ, suc, ◌+◌, ◌<◌, Bool, true, false, cond, get_or, map, List, [], ◌∷◌, ◌++◌, length, take, drop, Option, None, Some, refl, sym, ap, ◌∙◌, append_assoc, append-nil, arith}
+use Rattle.std.proofs.Common.{◌≡◌, ℕ, ◌+◌, ◌<◌, Bool, true, false, cond, get_or, map, List, [], ◌∷◌, ◌++◌, length, take, drop, Option, None, Some, refl, sym, ap, ◌∙◌, append_assoc, append-nil}
 use Rattle.std.specs.Map.{remove_entry}
 use Rattle.std.specs.BTreeMap.{is_at}
 use Rattle.std.specs.List.{cons_option, filter_map}
 use Rattle.std.proofs.lemmas.List.{map-append, take_more}
 use Rattle.std.proofs.lemmas.List.Elements.{filter_map-append}
-use Rattle.std.proofs.Math.Seq.{drop-cons}
 use denote.Ref.{Bor}
+use Rattle.basics.proofs.Lists.{drop_next}
 use Rattle.jr_path.specs.Names.{name_cmp}
 use Rattle.jr_path.specs.declared.name.Name.{Name}
 use Rattle.jr_value.specs.declared.value.Value.{Value}
 use Rattle.jr_items.specs.Items.{name_in}
 use Rattle.jr_part.specs.Parts.{ChildNames, has_name}
 use Rattle.jr_order.specs.Order.{in_order}
-
--- what is left from the i-th on
-pub drop_next : {X : Type 0} (xs : List X) (i : ℕ) (x : X) → i < length xs → x ≡ get_or xs i x
-    → drop i xs ≡ x ∷ drop (i + 1) xs
-drop_next xs i x below at =
-    let on : suc i ≡ i + 1 = omega arith in
-    drop-cons xs i x below ∙ (ap (λ y. y ∷ drop (suc i) xs) (sym at) ∙ ap (λ n. x ∷ drop n xs) on)
 
 -- a listed name comes next, where it is a child's
 next : (b : Bool) (names : List Name) (n : Name) (ns : List Name) (there gone : ChildNames)

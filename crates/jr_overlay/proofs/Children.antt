@@ -1,26 +1,23 @@
 -- The children of a node in a view: those of the tree, with each change of a child.
 use Rattle.std.proofs.Common.{◌≡◌, ◌⊎◌, inl, inr, Bool, true, false, cond, Some, None, Option, [], ◌∷◌, ◌++◌, is_some, refl, sym, ap, ◌∙◌}
-use Rattle.std.specs.declared.cmp.Ordering.{Ordering}
-use Rattle.std.specs.declared.cmp.Ordering.TheVariants.{Less, Equal, Greater}
-use Rattle.std.specs.Option.{option_map, option_map_or, unwrap_or}
-use Rattle.std.specs.Ordering.{eq_by_cmp, is_eq, ordering_then}
+use Rattle.std.specs.Option.{option_map_or, unwrap_or}
+use Rattle.std.specs.Ordering.{eq_by_cmp}
 use Rattle.std.specs.Map.{lookup, remove_entry}
 use Rattle.std.specs.BTreeMap.{is_at, insert_entry}
 use Rattle.std.specs.FinMap.{is_sorted}
-use Rattle.std.specs.List.{cons_option, fold, list_all}
-use Rattle.std.proofs.lemmas.Cmp.{eq_by_cmp_equiv, nat_list_cmp_total}
+use Rattle.std.specs.List.{fold}
+use Rattle.std.proofs.lemmas.Cmp.{nat_list_cmp_total}
 use mathlib.Core.Bool.{false≢true}
 use Rattle.jr_path.specs.Names.{last_name, name_cmp, path_cmp}
 use Rattle.jr_path.specs.declared.name.Name.{Name}
 use Rattle.jr_path.specs.declared.path.Path.{Path}
-use Rattle.jr_path.proofs.Maps.{name_exact, path_total, lookup-insert_entry}
-use Rattle.jr_path.proofs.Parts.{last_name-child, parent_of-child}
+use Rattle.jr_path.proofs.Maps.{name_exact, lookup-insert_entry}
+use Rattle.jr_path.proofs.Parts.{last_name-child}
 use Rattle.jr_rev.specs.declared.revision.Revision.{Revision}
 use Rattle.jr_tree.specs.declared.tree.Node.{Node}
-use Rattle.jr_tree.specs.Trees.{IsTree, Nodes, dated_children_of, has_parent, is_child_of, node_at}
+use Rattle.jr_tree.specs.Trees.{IsTree, Nodes, dated_children_of, is_child_of, node_at}
 use Rattle.jr_tree.proofs.AtPath.{InOrder}
-use Rattle.jr_tree.proofs.Entries.{first, lookup-remove, same_lists, second, sorted_insert, sorted_remove}
-use Rattle.jr_tree.proofs.Pointwise.{same_path}
+use Rattle.jr_tree.proofs.Entries.{lookup-remove, same_lists, sorted_insert, sorted_remove}
 use Rattle.jr_part.specs.Parts.{AgreesWith, ChildNames, Knowledge, list_at}
 use Rattle.jr_part.proofs.Children.{children_sorted}
 use Rattle.jr_part.proofs.Named.{apart, born_in, child_or_not, own_child, same_names}

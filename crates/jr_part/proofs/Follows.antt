@@ -20,9 +20,8 @@ use Rattle.jr_tree.specs.Items.{here_of, written}
 use Rattle.jr_tree.specs.Trees.{IsTree, Nodes, dated_children_of, node_at}
 use Rattle.jr_tree.proofs.EditLaw.{has_applied}
 use Rattle.jr_tree.proofs.Entries.{first, second}
-use Rattle.jr_part.specs.declared.need.Need.{Need}
 use Rattle.jr_part.specs.declared.need.Need.TheVariants as need
-use Rattle.jr_part.specs.Parts.{AgreesWith, AsksBelow, ChildNames, HaveRisingNames, IsReached, Knowledge, LacksNothing, has_name, is_absent, known_at, knows, leads_down, list_at, lists_child}
+use Rattle.jr_part.specs.Parts.{AgreesWith, ChildNames, HaveRisingNames, IsReached, Knowledge, LacksNothing, has_name, is_absent, known_at, leads_down, list_at, lists_child}
 use Rattle.jr_part.specs.Follows.{followed, with_begun}
 use Rattle.jr_part.proofs.Lists.{after_rising, after_write, begun_names, begun_none, begun_rising, begun_some, listed_after, named_all, named_in, names_at, names_follow}
 use Rattle.jr_part.proofs.Named.{none_without}

@@ -1,5 +1,4 @@
 pub mod Above
-pub mod Absent
 pub mod Among
 pub mod Children
 pub mod Follows

@@ -1,6 +1,6 @@
 -- What is known of a tree once an edit was made of it: nodes that come begin without children, and
 -- the name of each child that comes or goes is put among the names of the node above, or taken away.
-use Rattle.std.specs.Prelude.{cond, List, [], ◌∷◌, Option, None, Some, is_some, ◌≡◌, ℕ, ◌<◌, ◌≤◌, length}
+use Rattle.std.specs.Prelude.{cond, List, [], Option, is_some, ◌≡◌, ℕ, ◌<◌, ◌≤◌, length}
 use Rattle.std.specs.Option.{option_map_or}
 use Rattle.std.specs.declared.cmp.Ordering.TheVariants.{Less, Greater}
 use Rattle.std.specs.List.{AllWithin, HoldsAt, fold}

@@ -143,7 +143,3 @@ with_node k p None =
 -- with the children of p in the place of earlier ones
 abbrev pub with_children : Knowledge → Path → ChildNames → Knowledge
 with_children k p names = record k { lists = insert_entry path_cmp k.lists p names }
-
--- nothing of the whole tree lacks, where a mark says so
-abbrev pub IsMarked : Knowledge → (is_whole : Bool) → Type 0
-IsMarked k is_whole = IsTrue is_whole → LacksNothing k need.All

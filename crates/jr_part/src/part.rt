@@ -28,8 +28,6 @@ pub struct Part {
     tree: Tree,
     absent: Keyed<Path, ()>,
     lists: Lists,
-    // Nothing of the whole tree lacks. It may be false though nothing does.
-    is_whole: bool,
 }
 
 // By hand, so that its parts are let go in one call.
@@ -40,7 +38,6 @@ impl Drop for Part {
             tree,
             absent,
             lists,
-            is_whole: _,
         } = self;
         drop(tree);
         drop(absent);
@@ -49,14 +46,13 @@ impl Drop for Part {
 }
 
 impl Model for Part {
-    ghost use Rattle.jr_part.specs.Parts.{HaveRisingNames, IsMarked, Knowledge};
+    ghost use Rattle.jr_part.specs.Parts.{HaveRisingNames, Knowledge};
 
     ghost Value = { Knowledge };
 
     ghost view = { λ p. record { nodes = p.tree; absent = p.absent; lists = p.lists } };
 
-    ghost invariant = { λ p. HaveRisingNames p.lists
-        × IsMarked (record { nodes = p.tree; absent = p.absent; lists = p.lists }) p.is_whole };
+    ghost invariant = { λ p. HaveRisingNames p.lists };
 }
 
 impl Part {
@@ -69,7 +65,6 @@ impl Part {
             tree: Tree::new(alloc),
             absent: Keyed::new(alloc),
             lists: Keyed::new(alloc),
-            is_whole: false,
         }
     }
 
@@ -119,7 +114,6 @@ impl Part {
         ensures ok { OnOk result (self.new ≡ with_node self.old path.now (Some node)) }
         ensures err { OnErr result (self.new ≡ self.old) }
     {
-        self.is_whole = false;
         self.tree.insert(path.copy()?, node)?;
         self.absent.remove(path);
         Ok(())
@@ -141,7 +135,6 @@ impl Part {
         ensures err { OnErr result (self.new ≡ self.old) }
     {
         let tree = self.tree_without(path)?;
-        self.is_whole = false;
         self.absent.put(path.copy()?, ())?;
         self.tree = tree;
         Ok(())
@@ -166,7 +159,6 @@ impl Part {
         ensures ok { OnOk result (self.new ≡ with_children self.old path.now names) }
         ensures err { OnErr result (self.new ≡ self.old) }
     {
-        self.is_whole = false;
         self.lists.put(path.copy()?, names)
     }
 
@@ -183,7 +175,6 @@ impl Part {
         ensures err { OnErr result (self.new ≡ nothing_known) }
     {
         self.in_order();
-        self.is_whole = false;
         match follow(
             &mut self.tree,
             &mut self.absent,
@@ -192,10 +183,7 @@ impl Part {
             edit,
             by,
         ) {
-            Ok(()) => {
-                self.note_whole();
-                Ok(())
-            }
+            Ok(()) => Ok(()),
             Err(refused) => {
                 self.tree = Tree::new(self.alloc);
                 self.absent = Keyed::new(self.alloc);
@@ -205,24 +193,15 @@ impl Part {
         }
     }
 
-    /// Nothing of the whole tree lacks, and nothing will until a node or a list of children is put:
-    /// `lacks` answers so at once. An edit, and a path that is known to have no node, leave it so. What
-    /// is known stays the same.
-    pub fn note_whole(&mut self)
-        requires { LacksNothing self.old need.All }
-        ensures { self.new ≡ self.old }
-    {
-        self.is_whole = true;
-    }
-
     /// The first answer, a Node or a Children, in path order and a Node before the Children of its path,
     /// that the need asks for and that isn't known yet; None where nothing lacks. A Subtree asks for its
     /// node and, where that is there, for its children and the subtree of each; All is the Subtree of
     /// the root.
     ///
-    /// A Node and a Children are looked up; a Subtree goes over all that is known at and below its path,
-    /// up to the answer; All is answered at once where `note_whole` noted that nothing lacks. So who loads a subtree of many nodes asks for the Node and then the Children of
-    /// one path after another, from its path down as the names come, and for the Subtree at the end.
+    /// A Node and a Children are looked up; a Subtree and All go over all that is known at and below
+    /// their path, up to the answer. So who loads a subtree of many nodes asks for the Node and then the
+    /// Children of one path after another, from its path down as the names come, and for the Subtree at
+    /// the end.
     pub fn lacks(&self, need: &Need) -> Result<Option<Need>, AllocError>
         ensures { IfOk result (Lacks self.now need.now) }
     {
@@ -230,17 +209,8 @@ impl Part {
             Need::Node(path) => self.lacks_node(path),
             Need::Children(path) => self.lacks_children(path),
             Need::Subtree(path) => self.lacks_below(path),
-            Need::All => self.lacks_of_all(),
+            Need::All => self.lacks_below(&Path::root(self.alloc)),
         }
-    }
-
-    fn lacks_of_all(&self) -> Result<Option<Need>, AllocError>
-        ensures { IfOk result (Lacks self.now need.All) }
-    {
-        if self.is_whole {
-            return Ok(None);
-        }
-        self.lacks_below(&Path::root(self.alloc))
     }
 
     fn lacks_node(&self, path: &Path) -> Result<Option<Need>, AllocError>

@@ -1,5 +1,5 @@
 -- A kind has its word, and an identifier its text.
-use Rattle.std.proofs.Common.{◌≡◌, ℕ, zero, suc, ◌<◌, ◌^◌, List, [], ◌∷◌, Bool, true, false, Option, None, Some, All, refl, sym, ap, ◌∙◌, arith, cond, inl}
+use Rattle.std.proofs.Common.{◌≡◌, ℕ, zero, suc, ◌<◌, ◌^◌, List, [], ◌∷◌, Bool, true, false, Option, Some, All, refl, sym, ap, ◌∙◌, arith, cond, inl}
 use Rattle.std.proofs.lemmas.List.Elements.{All-nil, All-cons}
 use Rattle.std.specs.Prelude.{option_map, unwrap_or}
 use Rattle.std.specs.Int.{from_be_bytes, to_be_bytes, byte_at, bytes_high_first, w128}

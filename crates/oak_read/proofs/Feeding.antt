@@ -1,7 +1,6 @@
--- What a reader keeps after a reply, and after a refusal.
-use Rattle.std.proofs.Common.{◌≡◌, true, false, cond, List, [], ◌∷◌, Option, Some, refl, sym, ap, ◌∙◌}
+-- What a reader keeps after a refusal.
+use Rattle.std.proofs.Common.{◌≡◌, true, false, cond, List, [], ◌∷◌, Some, refl, sym, ap, ◌∙◌}
 use Rattle.std.specs.Prelude.{is_some}
-use Rattle.std.specs.Option.{option_map_or}
 use Rattle.std.specs.declared.cmp.Ordering.{Ordering}
 use Rattle.std.specs.declared.cmp.Ordering.TheVariants.{Less, Equal, Greater}
 use Rattle.std.specs.Cmp.{IsTotalOrder}
@@ -11,12 +10,10 @@ use Rattle.std.specs.BTreeMap.{insert_entry, is_at}
 use Rattle.std.proofs.lemmas.Bool.{false≢true}
 use Rattle.std.proofs.lemmas.Cmp.{tied_itself}
 use Rattle.jr_path.specs.Ids.{id_cmp}
-use Rattle.jr_path.specs.declared.path.Path.{Path}
 use Rattle.jr_path.specs.declared.path.DocId.{DocId}
 use Rattle.jr_path.proofs.Orders.{id_total}
 use Rattle.oak_doc.specs.declared.document.Document.{Document}
 use Rattle.oak_read.specs.Wanted.{Known}
-use Rattle.oak_read.specs.Reading.{child_at, ended, fed_next, noted, settled}
 use Rattle.oak_read.specs.declared.reader.Reader.{Reader}
 
 -- what is put at a new key and removed again leaves what there was
@@ -42,10 +39,3 @@ restored old left put removed key x d none copied is_put is_left is_removed =
     ∙ ap (remove_entry (is_at (id_cmp x))) (is_put ∙ ap (λ k. insert_entry id_cmp old.known k d) copied)
     ∙ put_removed id_cmp id_total old.known x d none in
     ap {A = Reader} {B = Reader} (λ r. record r { known = removed }) is_left ∙ ap {A = Known} {B = Reader} (λ k. record old { known = k }) again
-
--- the document of a child is taken
-pub child_taken : (r left : Reader) (found : Option Document) (d : Document) (o : Option Path) (q : Path) (x : DocId) → found ≡ Some d → o ≡ child_at r.parent d.id → o ≡ Some q → x ≡ d.id → left ≡ settled (noted (record r { at = q }) x (Some d)) → left ≡ fed_next r found
-child_taken r left found d o q x is_found is_at is_child is_id is_left =
-    is_left
-    ∙ ap (λ y. settled (noted (record r { at = q }) y (Some d))) is_id
-    ∙ sym (ap (fed_next r) is_found ∙ ap (λ o'. option_map_or (λ q'. settled (noted (record r { at = q' }) d.id (Some d))) o' (ended r)) (sym is_at ∙ is_child))

@@ -8,7 +8,7 @@ use jr_rev::{RevVec, Revision};
 use jr_script::{Script, read_script};
 use jr_tree::{Edit, Tree};
 use oak_machine::{Events, Journal, Start};
-use rows::{Out, items_in, items_of, small, text_in};
+use rows::{Out, items_in, items_of, json_of, small, text_in};
 use serde_json::Value as Json;
 
 // NAME | SCRIPT | CASE: the name, and whether the law lets each text be said. A case has `earlier`:
@@ -20,7 +20,7 @@ pub(crate) fn add(line: &str, out: &mut Out) {
     let (script, case) = cut(rest);
     out.put(name);
     out.put(":");
-    let case = out.json(case);
+    let case = json_of(case, out);
     match &case {
         Some(case) => add_script(script, case, out),
         None => out.put(" no case"),

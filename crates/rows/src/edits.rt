@@ -1,7 +1,7 @@
 // Edits: lists of writes ["here",P], ["gone",P], ["put",P,N,V], ["unset",P,N]; ["add",P] or
 // ["add",P,TYPE] is a node with its type, and ["remove",P] a node of a tree that goes with each of
 // its properties.
-use crate::json::{items_of, text_at};
+use crate::json::{items_of, property_of, text_at};
 use crate::out::Out;
 use jr_items::OwnName;
 use jr_path::{DeepCopy, List, Name, Path};
@@ -151,7 +151,7 @@ fn push_value(
     value: &Json,
     out: &mut Out,
 ) -> bool {
-    let property = out.property(value);
+    let property = property_of(value, out);
     match out.name(name) {
         Some(name) => push_some(writes, path, name, property, out),
         None => {

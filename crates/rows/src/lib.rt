@@ -7,6 +7,8 @@ mod out;
 mod texts;
 
 pub use edits::edit_of;
-pub use json::{items_in, items_of, large, small, text_at, text_in};
+pub use json::{
+    items_in, items_of, json_of, large, property_of, property_or_false, small, text_at, text_in,
+};
 pub use out::Out;
 pub use texts::{cut, number, revision, short, vector};

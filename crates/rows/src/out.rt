@@ -1,9 +1,8 @@
 // The text that is written.
-use jr_json::{ValueFault, property_text, read_property};
+use jr_json::property_text;
 use jr_path::{DocId, List, Name, Path, PathFault};
 use jr_rev::{RevVec, Revision, revision_text};
-use jr_value::{Property, Value};
-use serde_json::Value as Json;
+use jr_value::Property;
 use std::alloc::{AllocError, Global};
 
 /// The text so far; and whether memory was refused, or a row can't be read: then the program ends
@@ -167,47 +166,6 @@ impl Out {
 
     fn note_path(&mut self, fault: &PathFault) {
         if let PathFault::Memory = fault {
-            self.is_broken = true;
-        }
-    }
-
-    /// The JSON that a text is; none where it is none.
-    pub fn json(&mut self, text: &str) -> Option<Json> {
-        match Json::from_str(self.alloc, text) {
-            Ok(json) => Some(json),
-            Err(error) => {
-                if error.is_memory() {
-                    self.is_broken = true;
-                }
-                None
-            }
-        }
-    }
-
-    /// The property that JSON is; none where it is none.
-    pub fn property(&mut self, json: &Json) -> Option<Property> {
-        match read_property(self.alloc, json) {
-            Ok(property) => Some(property),
-            Err(fault) => {
-                self.note_value(&fault);
-                None
-            }
-        }
-    }
-
-    /// The property that JSON is; that of `false` where it is none, and the row then can't be read.
-    pub fn property_or_false(&mut self, json: &Json) -> Property {
-        match read_property(self.alloc, json) {
-            Ok(property) => property,
-            Err(_) => {
-                self.is_broken = true;
-                Property::Single(Value::Boolean(false))
-            }
-        }
-    }
-
-    fn note_value(&mut self, fault: &ValueFault) {
-        if let ValueFault::Memory = fault {
             self.is_broken = true;
         }
     }

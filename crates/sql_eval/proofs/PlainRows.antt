@@ -1,6 +1,6 @@
 -- The JSON of rows has no float, so the text that is written for it is the compact one.
 use Rattle.std.proofs.Common.{◌≡◌, Bool, false, ◌||◌, List, [], ◌∷◌, map, refl, ap, ◌∙◌}
-use Rattle.serde_json.specs.Data.{Data, Items}
+use Rattle.serde_json.specs.Data.{Data}
 use Rattle.serde_json.specs.View.{items_of}
 use Rattle.serde_json.specs.Written.{has_float, items_have_float}
 use Rattle.jr_json.proofs.NoFloat.{property_plain}

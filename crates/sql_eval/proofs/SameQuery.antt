@@ -1,5 +1,5 @@
 -- Queries that are the same but for where their parts lie in memory have the same rows.
-use Rattle.std.proofs.Common.{◌≡◌, ℕ, Bool, not, cond, ◌&&◌, ◌||◌, List, [], ◌∷◌, Option, None, Some, map, filter, refl, sym, ap, subst, ◌∙◌}
+use Rattle.std.proofs.Common.{◌≡◌, Bool, not, ◌&&◌, ◌||◌, List, [], ◌∷◌, Option, None, Some, map, filter, refl, sym, ap, subst, ◌∙◌}
 use Rattle.std.specs.Prelude.{is_some}
 use Rattle.std.specs.Option.{option_map}
 use Rattle.std.specs.Ordering.{on, ordering_then}
@@ -12,10 +12,8 @@ use Rattle.jr_value.specs.declared.value.Property.TheVariants.{Single}
 use Rattle.jr_value.specs.declared.value.Value.TheVariants as value
 use Rattle.sql_query.specs.Trees.{Asked, By, Look, Test, asked_of, by_of, look_of, test_of}
 use Rattle.sql_query.specs.Trees as tree
-use Rattle.sql_query.specs.declared.query.Column.{Column}
 use Rattle.sql_query.specs.declared.query.Condition.{Condition}
 use Rattle.sql_query.specs.declared.query.Condition.TheVariants as condition
-use Rattle.sql_query.specs.declared.query.Join.{Join}
 use Rattle.sql_query.specs.declared.query.Operand.{Operand}
 use Rattle.sql_query.specs.declared.query.Operand.TheVariants as operand
 use Rattle.sql_query.specs.declared.query.Order.{Order}

@@ -8,6 +8,7 @@ use Rattle.std.specs.List.{AllByRecursion, Contains, cons_option, filter, list_a
 use Rattle.std.proofs.lemmas.List.{take_more}
 use Rattle.std.proofs.lemmas.List.Elements.{Contains-append_left, Contains-append_right, filter-append, filter_map-append}
 use Rattle.std.proofs.lemmas.List.Folds.{list_any-from_Any}
+use Rattle.basics.proofs.Lists.{drop_next}
 use Rattle.sql_query.specs.declared.query.On.{On}
 use Rattle.sql_eval.specs.Conditions.{Spot, Tuple}
 use Rattle.sql_eval.specs.Joins.{joins, pairs, with_spot}
@@ -68,11 +69,6 @@ module _ (on : On) (link : Linked) (index : List (Sought × ℕ)) (ks : List Sou
       at_place (m ∷ ms) each (suc k) l at = at_place ms each.1 k l at
 
 -- ---- one element more
-
-pub drop_next : {X : Type 0} (xs : List X) (i : ℕ) (x : X) → i < length xs → x ≡ get_or xs i x → drop i xs ≡ x ∷ drop (i + 1) xs
-drop_next [] i x h e = absurd (omega (arith, h))
-drop_next (y ∷ ys) zero x h e = λ i. sym e i ∷ ys
-drop_next (y ∷ ys) (suc i) x h e = let next : suc i + 1 ≡ suc (i + 1) = omega arith in drop_next ys i x (omega (arith, h)) e ∙ ap (λ k. x ∷ drop k (y ∷ ys)) (sym next)
 
 pub entries_more : {A X : Type 0} (keys : X → List Sought) (f : A → X) (xs : List A) (i : ℕ) (x : A) (place : ℕ) (old new total : List (Sought × ℕ)) (ks : List Sought) → i < length xs → x ≡ get_or xs i x
     → new ≡ old ++ map (λ s. (s, place)) ks → ks ≡ keys (f x) → old ++ placed keys place (map f (drop i xs)) ≡ total → new ++ placed keys (place + 1) (map f (drop (i + 1) xs)) ≡ total

@@ -11,7 +11,7 @@ use Rattle.sql_values.specs.declared.like.Part.TheVariants.{AnyText, AnyCharacte
 use Rattle.std.specs.Str.{chars}
 use Rattle.std.specs.Option.{unwrap_or}
 use Rattle.sql_values.specs.Patterns.{is_like, matches, parts_of}
-use Rattle.sql_values.specs.Matching.{all_rows, empty_row, last_of, next_row, rest_row, takes}
+use Rattle.sql_values.specs.Matching.{parts_row, empty_row, whole_matches, next_row, rest_row, takes}
 
 -- which rests of a text are of the pattern, the shortest first: cs is the first, and the text's other characters are given backwards
 abbrev pub rests : List Part → List ℕ → List ℕ → List Bool
@@ -76,6 +76,6 @@ last_is ps text row h =
     ∙ ap (λ t. Some (matches ps t)) (reverse-reverse text)
 
 -- the last entry of the row after all parts says whether the whole text is of the pattern
-pub whole : (text pattern : List ℕ) → last_of (all_rows (reverse (parts_of (chars pattern))) (reverse (chars text))) ≡ is_like text pattern
+pub whole : (text pattern : List ℕ) → whole_matches (parts_row (reverse (parts_of (chars pattern))) (reverse (chars text))) ≡ is_like text pattern
 whole text pattern =
     ap (λ o. unwrap_or o false) (last_is (parts_of (chars pattern)) (chars text) _ (all_parts (parts_of (chars pattern)) (reverse (chars text))))

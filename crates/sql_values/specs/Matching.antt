@@ -32,9 +32,9 @@ next_row AnyCharacter cs ms = taken_row (takes AnyCharacter) cs ms
 next_row (Exactly d) cs ms = taken_row (takes (Exactly d)) cs ms
 
 -- after all parts, which are given from the last to the first
-abbrev pub all_rows : List Part → List ℕ → List Bool
-all_rows ps cs = fold (λ row p. next_row p cs row) (empty_row cs) ps
+abbrev pub parts_row : List Part → List ℕ → List Bool
+parts_row ps cs = fold (λ row p. next_row p cs row) (empty_row cs) ps
 
--- the last of a row
-abbrev pub last_of : List Bool → Bool
-last_of row = unwrap_or (slice_get row (length row - 1)) false
+-- whether the whole text, the longest of the rests, is of the pattern
+abbrev pub whole_matches : List Bool → Bool
+whole_matches row = unwrap_or (slice_get row (length row - 1)) false

@@ -3,7 +3,7 @@ ghost use Rattle.std.specs.Prelude.{◌≡◌, ◌≤◌, ◌++◌, ◌∷◌, �
 ghost use Rattle.std.specs.List.{zip};
 ghost use Rattle.std.specs.Str.{chars};
 ghost use Rattle.sql_values.specs.Patterns.{behind_part, first_part, is_like, parts_of, plain_part};
-ghost use Rattle.sql_values.specs.Matching.{all_rows, empty_row, last_of, next_row, rest_row, taken_row, takes};
+ghost use Rattle.sql_values.specs.Matching.{parts_row, empty_row, whole_matches, next_row, rest_row, taken_row, takes};
 
 use crate::characters::characters;
 use std::alloc::{AllocError, Global};
@@ -51,7 +51,7 @@ fn backwards(alloc: Global, text: &str) -> Result<Vec<char>, AllocError>
 
 // Whether the characters are of the pattern with these parts, both with the last first.
 fn all_match(alloc: Global, parts: &[Part], backwards: &[char]) -> Result<bool, AllocError>
-    ensures { IfOk result (λ like. like ≡ last_of (all_rows parts.now backwards.now)) }
+    ensures { IfOk result (λ like. like ≡ whole_matches (parts_row parts.now backwards.now)) }
 {
     let mut row = empty_row(alloc, backwards)?;
     let mut left = parts;
@@ -62,9 +62,9 @@ fn all_match(alloc: Global, parts: &[Part], backwards: &[char]) -> Result<bool, 
     Ok(last(&row))
 }
 
-// The last of a row.
+// Whether the whole text, the longest of the rests, is of the pattern.
 fn last(row: &[bool]) -> bool
-    ensures { result ≡ last_of row.now }
+    ensures { result ≡ whole_matches row.now }
 {
     match row.last() {
         Some(matched) => *matched,

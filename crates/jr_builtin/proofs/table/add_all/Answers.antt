@@ -1,4 +1,3 @@
-use Rattle.std.proofs.Common.{rules}
 use Rattle.jr_builtin.proofs.Added.{may_be_added, one_more}
 use Rattle.jr_builtin.proofs.table.add_all.Goals as goal
 

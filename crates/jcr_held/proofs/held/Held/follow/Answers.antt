@@ -12,7 +12,7 @@ pub returns-clause-holds : goal.returns-clause-holds
 returns-clause-holds c = λ d h settled proper refers.
     let tree = (view_settled d c.args.self.now settled h).0.tree in
     let after = proper_tree (Some c.args.by) d.base c.args.edit.now.writes proper in
-    holds_alike (call_moved d c.args.base (applied (Some c.args.by) d.base c.args.edit.now.writes)) (record (moved_to c.args.self.now c.args.base) { part = c.follow.new.part; references = references.Named }) _ (record {
+    holds_alike (call_moved d c.args.base (applied (Some c.args.by) d.base c.args.edit.now.writes)) (record (moved_to c.args.self.now c.args.base) { part = c.follow.new.self; references = references.Named }) _ (record {
       types = refl;
       who = refl;
       part = refl;
@@ -20,7 +20,7 @@ returns-clause-holds c = λ d h settled proper refers.
       is_kept = refl;
       references = refl;
       tokens = refl;
-    }) (holds_moved_knowing d c.args.self.now c.args.base (applied (Some c.args.by) d.base c.args.edit.now.writes) c.follow.new.part h settled after c.follow.ensures.order
+    }) (holds_moved_knowing d c.args.self.now c.args.base (applied (Some c.args.by) d.base c.args.edit.now.writes) c.follow.new.self h settled after c.follow.ensures.order
     (λ agrees. c.follow.ensures.follows.agrees d.base tree proper agrees)
     (references_dated c.args.by d.base c.args.edit.now.writes refers))
 

@@ -1,4 +1,7 @@
-use Rattle.std.proofs.Common.{refl}
+use Rattle.std.proofs.Common.{refl, subst}
+use Rattle.std.specs.Prelude.{IfOk, IfSome}
+use Rattle.jr_part.specs.Parts.{Knowledge}
+use Rattle.jcr_held.specs.Looking.{IsMetFirst}
 use Rattle.jcr_held.proofs.Unread.{loads_wanted}
 use Rattle.jcr_held.proofs.held.Held.load_on.Goals as goal
 
@@ -12,4 +15,5 @@ returns-clause-wanted c = λ d m h.
       is_kept = refl;
       references = refl;
       tokens = refl;
-    }) h c.load_left.result c.load_left.ensures
+    }) h c.load_left.result
+    (subst (λ (k : Knowledge). IfOk c.load_left.result (λ load. IfSome load (IsMetFirst k c.args.self.now.pending c.args.self.now.is_kept))) c.as_part.ensures c.load_left.ensures)

@@ -8,4 +8,4 @@ pub returns-clause-nodes : goal.returns-clause-nodes
 returns-clause-nodes c = subst (λ (k : Knowledge). is_sorted path_cmp k.nodes ≡ true) c.self.view_is c.len.ensures.sorted
 
 pub returns-clause-lists : goal.returns-clause-lists
-returns-clause-lists c = subst (λ (k : Knowledge). HaveRisingNames k.lists) c.self.view_is c.self.invariant.0
+returns-clause-lists c = subst (λ (k : Knowledge). HaveRisingNames k.lists) c.self.view_is c.self.invariant

@@ -2,13 +2,13 @@ use Rattle.std.proofs.Common.{Some, subst, sym}
 use Rattle.std.proofs.lemmas.Bool.{false≢true}
 use Rattle.jr_tree.specs.Edits.{applied}
 use Rattle.jr_part.specs.Parts.{AgreesWith, Knowledge}
-use Rattle.jcr_held.proofs.held.follow_whole.Goals as goal
+use Rattle.jcr_held.proofs.loaded.Loaded.follow_whole.Goals as goal
 
 pub returns-in-Ok : goal.returns-in-Ok
 returns-in-Ok c = record {
   whole = λ is. c.in-Ok.ensures.whole;
   nothing = λ is. absurd (false≢true (sym is));
-  agrees = λ t tree proper agrees. c.in-Ok.ensures.agrees t tree proper agrees;
+  agrees = λ t tree proper agrees. c.in-Ok.ensures.agrees t tree proper (subst (AgreesWith t) (sym c.self.view_is) agrees);
 }
 
 pub returns-in-Err : goal.returns-in-Err

@@ -1,0 +1,190 @@
+// What a session has loaded of the tree at its base.
+ghost use Rattle.std.specs.Prelude.{◌≡◌, IfOk, IsTrue, None, OnErr, OnOk, is_some};
+ghost use Rattle.std.specs.FinMap.{is_sorted};
+ghost use Rattle.jr_path.specs.Names.{name_cmp, path_cmp};
+ghost use Rattle.jr_tree.specs.Trees.{IsTree, Nodes, node_at};
+ghost use Rattle.jr_part.specs.Parts.{AgreesWith, Lacks, LacksNothing, nothing_known, with_children, with_node};
+ghost use Rattle.jr_part.specs.declared.need.Need.TheVariants as need;
+ghost use Rattle.jcr_held.specs.Follows.{Follows};
+
+use jr_part::{Need, Part, puts_agree};
+use jr_path::{List, Name, Path};
+use jr_rev::Revision;
+use jr_tree::{Edit, Node, Tree};
+use std::alloc::{AllocError, Global};
+use std::marker::Model;
+
+/// A part of the tree, with a mark where nothing of the whole tree lacks, so that a command that asks
+/// for all of it goes over nothing. The mark may be missing though nothing lacks.
+pub(crate) struct Loaded {
+    part: Part,
+    is_whole: bool,
+}
+
+// By hand, so that its parts are let go in one call.
+impl Drop for Loaded {
+    fn drop(self) {
+        let Loaded { part, is_whole: _ } = self;
+        drop(part);
+    }
+}
+
+impl Model for Loaded {
+    ghost use Rattle.jr_part.specs.Parts.{Knowledge};
+    ghost use Rattle.jcr_held.specs.Marks.{IsMarked};
+
+    ghost Value = { Knowledge };
+
+    ghost view = { λ l. l.part };
+
+    ghost invariant = { λ l. IsMarked l.part l.is_whole };
+}
+
+impl Loaded {
+    // Nothing is loaded. It takes no memory.
+    pub(crate) fn new(alloc: Global) -> Loaded
+        ensures { result ≡ nothing_known }
+    {
+        Loaded {
+            part: Part::new(alloc),
+            is_whole: false,
+        }
+    }
+
+    // The part of the tree, lent.
+    pub(crate) fn as_part(&self) -> &Part
+        ensures { result.now ≡ self.now }
+    {
+        &self.part
+    }
+
+    // The tree, all of which is loaded.
+    pub(crate) fn whole(&self) -> &Tree
+        requires { LacksNothing self.now need.All }
+        ensures nodes { result.now ≡ self.now.nodes }
+        ensures whole { (t : Nodes) → IsTree t → AgreesWith t self.now → result.now ≡ t }
+    {
+        self.part.whole()
+    }
+
+    // Its nodes stand in path order. It does nothing: callers learn the fact.
+    pub(crate) fn in_order(&self)
+        ensures nodes { IsTrue (is_sorted path_cmp self.now.nodes) }
+    {
+        self.part.in_order();
+    }
+
+    // Puts the node at a path, or that none is there. A refusal leaves all as it was. Where no node was
+    // known to be there and none is, the mark stays.
+    pub(crate) fn put_node(&mut self, path: &Path, node: Option<Node>) -> Result<(), AllocError>
+        ensures ok { OnOk result (self.new ≡ with_node self.old path.now node) }
+        ensures err { OnErr result (self.new ≡ self.old) }
+    {
+        match node {
+            Some(node) => self.put_unmarked(path, Some(node)),
+            None => self.put_absent(path),
+        }
+    }
+
+    fn put_unmarked(&mut self, path: &Path, node: Option<Node>) -> Result<(), AllocError>
+        ensures ok { OnOk result (self.new ≡ with_node self.old path.now node) }
+        ensures err { OnErr result (self.new ≡ self.old) }
+    {
+        self.is_whole = false;
+        self.part.put_node(path, node)
+    }
+
+    fn put_absent(&mut self, path: &Path) -> Result<(), AllocError>
+        ensures ok { OnOk result (self.new ≡ with_node self.old path.now None) }
+        ensures err { OnErr result (self.new ≡ self.old) }
+    {
+        if self.has(path) {
+            return self.put_unmarked(path, None);
+        }
+        self.part.put_node(path, None)
+    }
+
+    // Whether a node is known to be at a path.
+    fn has(&self, path: &Path) -> bool
+        ensures { result ≡ is_some (node_at self.now.nodes path.now) }
+    {
+        match self.part.node(path) {
+            Some(Some(_)) => true,
+            Some(None) | None => false,
+        }
+    }
+
+    // Puts the names of the children of the node at a path. A refusal leaves all as it was.
+    pub(crate) fn put_children(
+        &mut self,
+        path: &Path,
+        names: List<(Name, Option<Revision>)>,
+    ) -> Result<(), AllocError>
+        requires rising { IsTrue (is_sorted name_cmp names) }
+        ensures ok { OnOk result (self.new ≡ with_children self.old path.now names) }
+        ensures err { OnErr result (self.new ≡ self.old) }
+    {
+        self.is_whole = false;
+        self.part.put_children(path, names)
+    }
+
+    // What lacks first of a need. The whole tree is gone over only where the mark is missing.
+    pub(crate) fn lacks(&self, need: &Need) -> Result<Option<Need>, AllocError>
+        ensures { IfOk result (Lacks self.now need.now) }
+    {
+        match need {
+            Need::All if self.is_whole => Ok(None),
+            _ => self.part.lacks(need),
+        }
+    }
+
+    // Nothing of the whole tree lacks, which is marked. What is loaded stays the same.
+    pub(crate) fn note_whole(&mut self)
+        requires { LacksNothing self.old need.All }
+        ensures { self.new ≡ self.old }
+    {
+        self.is_whole = true;
+    }
+
+    // It follows an edit by a revision, where the whole tree is loaded. It answers whether that is
+    // loaded still; else nothing is.
+    pub(crate) fn follow(&mut self, alloc: Global, edit: &Edit, by: Revision) -> bool
+        ensures follows { Follows self.old self.new by edit.now.writes result }
+        ensures order { IsTrue (is_sorted path_cmp self.new.nodes) }
+    {
+        let is_whole = self.follow_or_forget(alloc, edit, by);
+        self.in_order();
+        is_whole
+    }
+
+    fn follow_or_forget(&mut self, alloc: Global, edit: &Edit, by: Revision) -> bool
+        ensures { Follows self.old self.new by edit.now.writes result }
+    {
+        puts_agree();
+        match self.lacks(&Need::All) {
+            Ok(None) => self.follow_whole(edit, by),
+            _ => {
+                *self = Loaded::new(alloc);
+                false
+            }
+        }
+    }
+
+    // The same where nothing lacks.
+    fn follow_whole(&mut self, edit: &Edit, by: Revision) -> bool
+        requires { LacksNothing self.old need.All }
+        ensures { Follows self.old self.new by edit.now.writes result }
+    {
+        puts_agree();
+        match self.part.apply(edit, Some(by)) {
+            Ok(()) => {
+                self.is_whole = true;
+                true
+            }
+            Err(_) => {
+                self.is_whole = false;
+                false
+            }
+        }
+    }
+}
