@@ -5,7 +5,7 @@ pub mod Comes
 pub mod Follows
 pub mod Holds
 pub mod Looking
-pub mod Marks
 pub mod References
 pub mod Sees
 pub mod Unread
+pub mod Whole

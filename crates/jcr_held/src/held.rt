@@ -17,7 +17,7 @@ ghost use Rattle.jcr_held.specs.Begins.{IsFirstCall, IsNewHeld};
 ghost use Rattle.jcr_held.specs.Holds.{Holds};
 ghost use Rattle.jcr_held.specs.declared.references.References.TheVariants as references;
 
-use crate::loaded::Loaded;
+use crate::held_part::HeldPart;
 use crate::looking::Place;
 use crate::references::References;
 use jcr_ref::MAX_IDS;
@@ -36,7 +36,7 @@ pub struct Held {
     pub(crate) alloc: Global,
     pub(crate) types: Registry,
     pub(crate) who: Who,
-    pub(crate) part: Loaded,
+    pub(crate) part: HeldPart,
     pub(crate) pending: Pending,
     // What is pending is over an earlier base, and is to be made again over this one.
     pub(crate) is_kept: bool,
@@ -91,7 +91,7 @@ impl Held {
                 ids: 0,
                 base,
             },
-            part: Loaded::new(alloc),
+            part: HeldPart::new(alloc),
             pending: Pending::new(alloc),
             is_kept: false,
             references: References::Unasked,
@@ -118,7 +118,7 @@ impl Held {
         ensures same { AreAlike (moved_to self.old base) self.new }
     {
         self.who.base = base;
-        self.part = Loaded::new(self.alloc);
+        self.part = HeldPart::new(self.alloc);
         self.is_kept = true;
         self.references = References::Unasked;
         self.left.clear();

@@ -5,8 +5,8 @@
 
 mod committing;
 mod held;
+mod held_part;
 mod laws;
-mod loaded;
 mod loading;
 mod looking;
 mod references;

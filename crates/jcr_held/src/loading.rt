@@ -17,7 +17,7 @@ ghost use Rattle.jcr_held.specs.Unread.{IsWanted, unread};
 
 use crate::Held;
 use crate::committing::commits;
-use crate::loaded::Loaded;
+use crate::held_part::HeldPart;
 use crate::looking::{leave_needs, load_left};
 use crate::references::{References, ask};
 use jcr_trans::Command;
@@ -234,7 +234,7 @@ impl Held {
 }
 
 // Nothing lacks of these needs: where the first is the whole tree, that is noted.
-fn note_known(part: &mut Loaded, needs: &[Need])
+fn note_known(part: &mut HeldPart, needs: &[Need])
     requires { All (LacksNothing part.old) needs.now }
     ensures { part.new ≡ part.old }
 {
@@ -244,7 +244,7 @@ fn note_known(part: &mut Loaded, needs: &[Need])
     }
 }
 
-fn note(part: &mut Loaded, need: &Need)
+fn note(part: &mut HeldPart, need: &Need)
     requires { LacksNothing part.old need.now }
     ensures { part.new ≡ part.old }
 {
@@ -264,7 +264,7 @@ fn whole_tree(alloc: Global) -> Result<Vec<Need>, AllocError>
 }
 
 // What lacks first of the first need of which something lacks; None where nothing lacks.
-fn first_lacking(part: &Loaded, needs: &[Need]) -> Result<Option<Need>, AllocError>
+fn first_lacking(part: &HeldPart, needs: &[Need]) -> Result<Option<Need>, AllocError>
     ensures known { IfOk result (λ load. load ≡ None → All (LacksNothing part.now) needs.now) }
     ensures one { IfOk result (λ load. IfSome load (λ n. IsTrue (is_of_one_node n))) }
     ensures lacks { IfOk result (λ load. IfSome load (IsLackingOf part.now needs.now)) }

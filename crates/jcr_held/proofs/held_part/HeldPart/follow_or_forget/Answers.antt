@@ -2,7 +2,7 @@ use Rattle.std.proofs.Common.{Some, subst, sym}
 use Rattle.std.proofs.lemmas.Bool.{false≢true}
 use Rattle.jr_tree.specs.Edits.{applied}
 use Rattle.jr_part.specs.Parts.{AgreesWith, Knowledge}
-use Rattle.jcr_held.proofs.loaded.Loaded.follow_or_forget.Goals as goal
+use Rattle.jcr_held.proofs.held_part.HeldPart.follow_or_forget.Goals as goal
 
 pub returns : goal.returns
 returns c = record {

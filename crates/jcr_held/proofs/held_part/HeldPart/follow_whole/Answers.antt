@@ -2,7 +2,7 @@ use Rattle.std.proofs.Common.{Some, subst, sym}
 use Rattle.std.proofs.lemmas.Bool.{false≢true}
 use Rattle.jr_tree.specs.Edits.{applied}
 use Rattle.jr_part.specs.Parts.{AgreesWith, Knowledge}
-use Rattle.jcr_held.proofs.loaded.Loaded.follow_whole.Goals as goal
+use Rattle.jcr_held.proofs.held_part.HeldPart.follow_whole.Goals as goal
 
 pub returns-in-Ok : goal.returns-in-Ok
 returns-in-Ok c = record {

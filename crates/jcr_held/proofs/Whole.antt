@@ -1,4 +1,4 @@
--- The mark stays where a path that had no node is known to have none.
+-- The whole tree is known still, where a path that had no node is known to have none.
 use Rattle.std.proofs.Common.{◌≡◌, Bool, true, false, cond, Some, None, Option, ◌++◌, ◌∷◌, ◌&&◌, [], List, is_some, refl, sym, ap, ◌∙◌, subst}
 use Rattle.std.specs.Prelude.{Result, Ok, Err, OnOk, OnErr}
 use Rattle.std.specs.Map.{lookup}
@@ -66,7 +66,7 @@ module _ (k : Knowledge) (p : Path) where
       by (Some x) h = absurd (false≢true (sym h))
 
 -- whether or not it was put that no node is there, nothing lacks where nothing lacked
-pub marked_still : {A E : Type 0} (k new : Knowledge) (p : Path) (r : Result A E) → is_some (node_at k.nodes p) ≡ false
+pub whole_if_put : {A E : Type 0} (k new : Knowledge) (p : Path) (r : Result A E) → is_some (node_at k.nodes p) ≡ false
     → OnOk r (new ≡ with_node k p None) → OnErr r (new ≡ k) → LacksNothing k need.All → LacksNothing new need.All
-marked_still k new p (Ok x) none ok err nothing = subst (λ (x : Knowledge). LacksNothing x need.All) (same_nodes k p none ∙ sym ok) (whole_still k p nothing)
-marked_still k new p (Err e) none ok err nothing = subst (λ (x : Knowledge). LacksNothing x need.All) (sym err) nothing
+whole_if_put k new p (Ok x) none ok err nothing = subst (λ (x : Knowledge). LacksNothing x need.All) (same_nodes k p none ∙ sym ok) (whole_still k p nothing)
+whole_if_put k new p (Err e) none ok err nothing = subst (λ (x : Knowledge). LacksNothing x need.All) (sym err) nothing

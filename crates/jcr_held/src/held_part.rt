@@ -1,4 +1,4 @@
-// What a session has loaded of the tree at its base.
+// The part of the tree at its base that a session has read.
 ghost use Rattle.std.specs.Prelude.{◌≡◌, IfOk, IsTrue, None, OnErr, OnOk, is_some};
 ghost use Rattle.std.specs.FinMap.{is_sorted};
 ghost use Rattle.jr_path.specs.Names.{name_cmp, path_cmp};
@@ -14,38 +14,38 @@ use jr_tree::{Edit, Node, Tree};
 use std::alloc::{AllocError, Global};
 use std::marker::Model;
 
-/// A part of the tree, with a mark where nothing of the whole tree lacks, so that a command that asks
-/// for all of it goes over nothing. The mark may be missing though nothing lacks.
-pub(crate) struct Loaded {
+/// A part of the tree, with a note where nothing of the whole tree lacks, so that a command that asks
+/// for all of it goes over nothing. The note may be missing though nothing lacks.
+pub(crate) struct HeldPart {
     part: Part,
     is_whole: bool,
 }
 
 // By hand, so that its parts are let go in one call.
-impl Drop for Loaded {
+impl Drop for HeldPart {
     fn drop(self) {
-        let Loaded { part, is_whole: _ } = self;
+        let HeldPart { part, is_whole: _ } = self;
         drop(part);
     }
 }
 
-impl Model for Loaded {
+impl Model for HeldPart {
     ghost use Rattle.jr_part.specs.Parts.{Knowledge};
-    ghost use Rattle.jcr_held.specs.Marks.{IsMarked};
+    ghost use Rattle.jcr_held.specs.Whole.{IsWholeIf};
 
     ghost Value = { Knowledge };
 
     ghost view = { λ l. l.part };
 
-    ghost invariant = { λ l. IsMarked l.part l.is_whole };
+    ghost invariant = { λ l. IsWholeIf l.part l.is_whole };
 }
 
-impl Loaded {
-    // Nothing is loaded. It takes no memory.
-    pub(crate) fn new(alloc: Global) -> Loaded
+impl HeldPart {
+    // Nothing is known. It takes no memory.
+    pub(crate) fn new(alloc: Global) -> HeldPart
         ensures { result ≡ nothing_known }
     {
-        Loaded {
+        HeldPart {
             part: Part::new(alloc),
             is_whole: false,
         }
@@ -58,7 +58,7 @@ impl Loaded {
         &self.part
     }
 
-    // The tree, all of which is loaded.
+    // The tree, where nothing of it lacks.
     pub(crate) fn whole(&self) -> &Tree
         requires { LacksNothing self.now need.All }
         ensures nodes { result.now ≡ self.now.nodes }
@@ -75,18 +75,19 @@ impl Loaded {
     }
 
     // Puts the node at a path, or that none is there. A refusal leaves all as it was. Where no node was
-    // known to be there and none is, the mark stays.
+    // known to be there and none is, the note stays.
     pub(crate) fn put_node(&mut self, path: &Path, node: Option<Node>) -> Result<(), AllocError>
         ensures ok { OnOk result (self.new ≡ with_node self.old path.now node) }
         ensures err { OnErr result (self.new ≡ self.old) }
     {
         match node {
-            Some(node) => self.put_unmarked(path, Some(node)),
+            Some(node) => self.put_unnoted(path, Some(node)),
             None => self.put_absent(path),
         }
     }
 
-    fn put_unmarked(&mut self, path: &Path, node: Option<Node>) -> Result<(), AllocError>
+    // Puts what is at a path, and takes the note away.
+    fn put_unnoted(&mut self, path: &Path, node: Option<Node>) -> Result<(), AllocError>
         ensures ok { OnOk result (self.new ≡ with_node self.old path.now node) }
         ensures err { OnErr result (self.new ≡ self.old) }
     {
@@ -94,12 +95,13 @@ impl Loaded {
         self.part.put_node(path, node)
     }
 
+    // Puts that no node is at a path.
     fn put_absent(&mut self, path: &Path) -> Result<(), AllocError>
         ensures ok { OnOk result (self.new ≡ with_node self.old path.now None) }
         ensures err { OnErr result (self.new ≡ self.old) }
     {
         if self.has(path) {
-            return self.put_unmarked(path, None);
+            return self.put_unnoted(path, None);
         }
         self.part.put_node(path, None)
     }
@@ -128,7 +130,7 @@ impl Loaded {
         self.part.put_children(path, names)
     }
 
-    // What lacks first of a need. The whole tree is gone over only where the mark is missing.
+    // What lacks first of a need. The whole tree is gone over only where the note is missing.
     pub(crate) fn lacks(&self, need: &Need) -> Result<Option<Need>, AllocError>
         ensures { IfOk result (Lacks self.now need.now) }
     {
@@ -138,7 +140,7 @@ impl Loaded {
         }
     }
 
-    // Nothing of the whole tree lacks, which is marked. What is loaded stays the same.
+    // Nothing of the whole tree lacks, which is noted. What is known stays the same.
     pub(crate) fn note_whole(&mut self)
         requires { LacksNothing self.old need.All }
         ensures { self.new ≡ self.old }
@@ -146,8 +148,8 @@ impl Loaded {
         self.is_whole = true;
     }
 
-    // It follows an edit by a revision, where the whole tree is loaded. It answers whether that is
-    // loaded still; else nothing is.
+    // It follows an edit by a revision, where the whole tree is known. It answers whether that is known
+    // still; else nothing is.
     pub(crate) fn follow(&mut self, alloc: Global, edit: &Edit, by: Revision) -> bool
         ensures follows { Follows self.old self.new by edit.now.writes result }
         ensures order { IsTrue (is_sorted path_cmp self.new.nodes) }
@@ -164,7 +166,7 @@ impl Loaded {
         match self.lacks(&Need::All) {
             Ok(None) => self.follow_whole(edit, by),
             _ => {
-                *self = Loaded::new(alloc);
+                *self = HeldPart::new(alloc);
                 false
             }
         }
